@@ -1,0 +1,6 @@
+//! Spans of keys.
+#![tactic(auto)]
+
+mod span;
+
+pub use span::Span;
