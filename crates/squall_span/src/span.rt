@@ -19,9 +19,9 @@ pub struct Span {
 
 impl Model for Span {
     ghost use Rattle.std.specs.Prelude.{◌<◌};
-    ghost use Rattle.squall_span.specs.Spans.{Span as Value};
+    ghost use Rattle.squall_span.specs.Spans.{Interval};
 
-    ghost Value = { Value };
+    ghost Value = { Interval };
 
     ghost view = { λ s. record { lo = s.lo; hi = s.hi } };
 
