@@ -125,7 +125,7 @@ impl PartialEq for Bound {
     ghost laws = { Prim.search (comparing, rules) };
 
     fn eq(&self, other: &Bound) -> bool {
-        self.rank == other.rank
+        other.rank == self.rank
     }
 }
 
@@ -153,6 +153,6 @@ impl Ord for Bound {
     ghost matches_eq = { Prim.search (comparing, rules) };
 
     fn cmp(&self, other: &Bound) -> Ordering {
-        self.rank.cmp(&other.rank)
+        u64::cmp(&self.rank, &other.rank)
     }
 }

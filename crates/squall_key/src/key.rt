@@ -116,7 +116,7 @@ impl PartialEq for Key {
     ghost laws = { Prim.search (comparing, rules) };
 
     fn eq(&self, other: &Key) -> bool {
-        self.rank == other.rank
+        other.rank == self.rank
     }
 }
 
@@ -144,6 +144,6 @@ impl Ord for Key {
     ghost matches_eq = { Prim.search (comparing, rules) };
 
     fn cmp(&self, other: &Key) -> Ordering {
-        self.rank.cmp(&other.rank)
+        u64::cmp(&self.rank, &other.rank)
     }
 }

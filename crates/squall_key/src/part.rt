@@ -67,7 +67,7 @@ impl PartialEq for PartId {
     ghost laws = { Prim.search (comparing, rules) };
 
     fn eq(&self, other: &PartId) -> bool {
-        self.number == other.number
+        other.number == self.number
     }
 }
 
@@ -95,6 +95,6 @@ impl Ord for PartId {
     ghost matches_eq = { Prim.search (comparing, rules) };
 
     fn cmp(&self, other: &PartId) -> Ordering {
-        self.number.cmp(&other.number)
+        u32::cmp(&self.number, &other.number)
     }
 }

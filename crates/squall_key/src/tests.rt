@@ -1,0 +1,63 @@
+use super::*;
+use std::test::Fail;
+
+#[test]
+fn last_key(rt: HostRuntime) -> Result<(), Fail> {
+    let key = Key::new(4294967294, 4294967295).ok_or("last key")?;
+    assert_eq!(rt; key.rank(), 18446744069414584319);
+    assert_eq!(rt; (key.root(), key.second()), (4294967294, 4294967295));
+    assert_eq!(rt; Key::new(4294967295, 0), None);
+    Ok(())
+}
+
+#[test]
+fn top(rt: HostRuntime) -> Result<(), Fail> {
+    assert_eq!(rt; Bound::new(4294967295, 0), Some(Bound::TOP));
+    assert_eq!(rt; Bound::new(4294967295, 1), None);
+    assert_eq!(rt; Bound::TOP.to_string(rt.alloc())?.as_str(), "end");
+    assert_eq!(rt; Bound::TOP.rank(), 18446744069414584320);
+    assert_eq!(rt; (Bound::TOP.root(), Bound::TOP.second()), (4294967295, 0));
+    Ok(())
+}
+
+#[test]
+fn ranks(rt: HostRuntime) -> Result<(), Fail> {
+    assert_eq!(rt; Key::of_rank(8589934599), Key::new(2, 7));
+    assert_eq!(rt; Key::of_rank(18446744069414584320), None);
+    assert_eq!(rt; Bound::of_rank(18446744069414584320), Some(Bound::TOP));
+    assert_eq!(rt; Bound::of_rank(18446744069414584321), None);
+    let key = Key::new(2, 7).ok_or("key")?;
+    assert_eq!(rt; Some(Bound::of_key(key)), Bound::new(2, 7));
+    assert!(rt; Key::new(1, 4294967295) < Some(key));
+    assert!(rt; Bound::of_key(key) < Bound::TOP);
+    Ok(())
+}
+
+#[test]
+fn texts(rt: HostRuntime) -> Result<(), Fail> {
+    assert_eq!(rt; Bound::read("end"), Some(Bound::TOP));
+    assert_eq!(rt; Bound::read("4294967295:0"), Some(Bound::TOP));
+    assert_eq!(rt; Bound::read("02:7"), Bound::new(2, 7));
+    assert_eq!(rt; Key::read("02:7"), Key::new(2, 7));
+    assert_eq!(rt; Key::read("0000000002:0000000007"), Key::new(2, 7));
+    for text in ["end", "2:", ":7", "2", "", "2:7:1", "+2:7", "2: 7", "4294967295:0", "00000000002:7", "2:4294967296"] {
+        assert_eq!(rt; Key::read(text), None, "{text}");
+    }
+    for text in ["END", "4294967295:1", "2:4294967296"] {
+        assert_eq!(rt; Bound::read(text), None, "{text}");
+    }
+    let key = Key::new(2, 7).ok_or("key")?;
+    assert_eq!(rt; key.to_string(rt.alloc())?.as_str(), "2:7");
+    assert_eq!(rt; Bound::of_key(key).to_string(rt.alloc())?.as_str(), "2:7");
+    Ok(())
+}
+
+#[test]
+fn parts(rt: HostRuntime) -> Result<(), Fail> {
+    let part = PartId::new(9999).ok_or("last partition")?;
+    assert_eq!(rt; part.get(), 9999);
+    assert_eq!(rt; part.to_string(rt.alloc())?.as_str(), "9999");
+    assert_eq!(rt; PartId::new(10000), None);
+    assert!(rt; PartId::new(7) < Some(part));
+    Ok(())
+}

@@ -1,0 +1,6 @@
+//! Reports of what was loaded where.
+#![tactic(auto)]
+
+mod report;
+
+pub use report::{Report, ReportKind};
