@@ -1,0 +1,18 @@
+-- Where a key is to be asked for while data moves (this project's rule: a key goes to its new partition only after its
+-- load there, or that partition's completion, was reported; Squall, SIGMOD 2015, may send it earlier).
+use Rattle.std.specs.Prelude.{ℕ, not, ◌||◌, Bool, if◌then◌else◌}
+use Rattle.squall_plan.specs.Ranges.{owner_of}
+use Rattle.squall_course.specs.Change.{Change}
+use Rattle.squall_course.specs.Subplans.{moves, sub_of}
+use Rattle.squall_report.specs.Facts.{Fact, LoadedKey, DonePart}
+
+-- its load at its new partition, under the course's number and in its own sub-plan, is said, or that partition's completion
+-- of that sub-plan
+abbrev pub has_come : Change → (Fact → Bool) → ℕ → Bool
+has_come c says k =
+    says (LoadedKey c.number (sub_of c.old c.new k) (owner_of c.new k) k)
+    || says (DonePart c.number (sub_of c.old c.new k) (owner_of c.new k))
+
+-- the new owner of a key that does not move or has come, and else its old owner
+abbrev pub route : Change → (Fact → Bool) → ℕ → ℕ
+route c says k = if not (moves c.old c.new k) || has_come c says k then owner_of c.new k else owner_of c.old k

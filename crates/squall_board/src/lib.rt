@@ -1,0 +1,6 @@
+//! Boards: what was reported, and where it sends each key.
+#![tactic(auto)]
+
+mod board;
+
+pub use board::Board;

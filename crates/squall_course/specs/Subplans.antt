@@ -1,0 +1,39 @@
+-- Moving keys and their sub-plans, from an old and a new plan (moving between two plans: Squall, SIGMOD 2015; that a source
+-- has at most one destination in a sub-plan is this project's rule).
+use Rattle.std.specs.Prelude.{◌≡◌, ℕ, ◌<◌, ◌==◌, ◌&&◌, not, nat_lt, min, max, Bool, List, filter, length, Option, Some, None, if◌then◌else◌}
+use Rattle.std.specs.List.{list_any, range_with_len, position_or_len}
+use Rattle.squall_key.specs.Keys.{top, part_limit}
+use Rattle.squall_span.specs.Spans.{Interval}
+use Rattle.squall_plan.specs.declared.range.PlanRange.{PlanRange}
+use Rattle.squall_plan.specs.Ranges.{owner_of}
+
+-- the key moves: its owners differ
+abbrev pub moves : List PlanRange → List PlanRange → ℕ → Bool
+moves old new k = not (owner_of old k == owner_of new k)
+
+-- some key goes from the source to the destination
+abbrev pub IsFed : List PlanRange → List PlanRange → ℕ → ℕ → Type 0
+IsFed old new source dest = (k : ℕ) × (k < top) × (owner_of old k ≡ source) × (owner_of new k ≡ dest)
+
+-- the spans share a key
+abbrev pub shares : Interval → Interval → Bool
+shares a b = nat_lt (max a.lo b.lo) (min a.hi b.hi)
+
+-- a range of the source shares a key with a range of the destination: for plans the same as `IsFed`
+abbrev pub feeds : List PlanRange → List PlanRange → ℕ → ℕ → Bool
+feeds old new source dest = list_any (λ r. (r.part == source) && list_any (λ s. (s.part == dest) && shares r.span s.span) new) old
+
+-- another partition to which keys of the source go
+abbrev pub is_dest : List PlanRange → List PlanRange → ℕ → ℕ → Bool
+is_dest old new source dest = not (dest == source) && feeds old new source dest
+
+-- the destinations of a source, in rising number
+unfoldable pub dests : List PlanRange → List PlanRange → ℕ → List ℕ
+dests old new source = filter (λ dest. is_dest old new source dest) (range_with_len 0 part_limit)
+
+-- the sub-plan of a moving key: the place of its destination among those of its source, from 0
+abbrev pub sub_of : List PlanRange → List PlanRange → ℕ → ℕ
+sub_of old new k = position_or_len (λ dest. dest == owner_of new k) (dests old new (owner_of old k))
+
+abbrev pub subplan_of : List PlanRange → List PlanRange → ℕ → Option ℕ
+subplan_of old new k = if moves old new k then Some (sub_of old new k) else None

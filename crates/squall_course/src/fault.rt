@@ -1,0 +1,36 @@
+//! Why there is no course.
+
+ghost use Rattle.std.specs.Prelude.{◌≡◌};
+ghost use Rattle.squall_course.specs.declared.fault.CourseFault.TheVariants.{NoMemory};
+
+use std::alloc::{AllocError, AllocFailed};
+use std::error::Error;
+use std::fmt;
+
+/// Why two plans make no course.
+#[derive(Clone, Copy, Debug, PartialEq, Eq)]
+pub enum CourseFault {
+    /// The number is 0: reconfigurations count from 1.
+    ZeroNumber,
+    /// There was not the memory for it.
+    NoMemory,
+}
+
+impl fmt::Display for CourseFault {
+    fn fmt<W: fmt::Write>(&self, f: &mut fmt::Formatter<W>) -> fmt::Result {
+        match self {
+            CourseFault::ZeroNumber => write!(f, "the number of a course is 0"),
+            CourseFault::NoMemory => write!(f, "no memory"),
+        }
+    }
+}
+
+impl Error for CourseFault {}
+
+impl From<AllocError> for CourseFault {
+    ghost from_gives = { λ _ e. e ≡ NoMemory };
+
+    fn from(_e: AllocError) -> CourseFault {
+        CourseFault::NoMemory
+    }
+}
