@@ -1,6 +1,6 @@
 -- What is known of bytes over several reads and writes.
-use Rattle.std.proofs.Common.{◌≡◌, ℕ, ◌+◌, ◌-◌, ◌<◌, ◌≤◌, List, [], ◌∷◌, ◌++◌, zero, suc, length, take, drop, Option, None, Some, Result, Ok, Err, true, sym, subst, ◌∙◌, ap, arith, refl}
-use Rattle.std.proofs.lemmas.List.{append_assoc, append-nil, length-drop, drop-drop}
+use Rattle.std.proofs.Common.{◌≡◌, ℕ, ◌+◌, ◌-◌, ◌<◌, ◌≤◌, List, ◌++◌, length, take, drop, Option, Result, Ok, Err, true, sym, subst, ◌∙◌, ap, arith}
+use Rattle.std.proofs.lemmas.List.{length-drop, drop-drop}
 use Rattle.std.proofs.lemmas.Bool.Decides.{nat_tests}
 use Rattle.squall_device.specs.Counts.{counted, is_idle, one_more, times_more, IsCountedSince}
 use Rattle.std.proofs.Math.Seq.{take-add}
@@ -14,8 +14,7 @@ send_step a b c bytes rest next n within is sent less took next_is =
     let len : length next ≡ length rest - n = ap length next_is ∙ length-drop n rest in
     let far : length bytes - length next ≡ k + n = omega arith in
     let here : next ≡ drop (k + n) bytes = next_is ∙ ap (drop n) is ∙ drop-drop n k bytes in
-    let both : take k bytes ++ take n rest ≡ take (k + n) bytes = ap (λ w. take k bytes ++ take n w) is ∙ sym (take-add k n bytes) in
-    (
+    let both : take k bytes ++ take n rest ≡ take (k + n) bytes = ap (λ w. take k bytes ++ take n w) is ∙ sym (take-add k n bytes) in (
       omega arith,
       here ∙ ap (λ m. drop m bytes) (sym far),
       subst (λ w. Appends a c w) (both ∙ ap (λ m. take m bytes) (sym far)) (Appends-trans a b c _ _ sent took),

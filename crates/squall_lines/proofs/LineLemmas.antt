@@ -1,5 +1,5 @@
 -- Lines, at an LF and at the end.
-use Rattle.std.proofs.Common.{◌≡◌, ℕ, ◌+◌, ◌<◌, zero, suc, List, [], ◌∷◌, ◌++◌, length, false, cond, eqb, sym, ◌∙◌, ap, arith, refl}
+use Rattle.std.proofs.Common.{◌≡◌, ℕ, ◌<◌, zero, suc, List, [], ◌∷◌, ◌++◌, length, false, eqb, ap, arith, refl}
 use Rattle.std.proofs.lemmas.Bool.{ne_eqb}
 use Rattle.squall_lines.specs.Lines.{lines_of, onto_first, whole_lines, onto_whole, IsOneLine}
 

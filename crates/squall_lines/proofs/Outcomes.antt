@@ -1,8 +1,8 @@
 -- How a run ends.
-use Rattle.std.proofs.Common.{◌≡◌, ℕ, ◌<◌, ◌+◌, List, [], ◌∷◌, ◌++◌, length, take, drop, Option, None, Some, Result, Ok, Err, Bool, true, false, sym, ◌∙◌, ap, subst, refl, arith}
-use Rattle.std.proofs.lemmas.List.{append_assoc, append-nil, take-append-drop}
+use Rattle.std.proofs.Common.{◌≡◌, ℕ, ◌<◌, List, [], ◌∷◌, ◌++◌, length, Option, Result, Ok, Err, true, false, sym, ◌∙◌, ap, subst, refl, arith}
+use Rattle.std.proofs.lemmas.List.{append-nil}
 use Rattle.std.specs.List.{concat}
-use Rattle.std.specs.Io.KnownBytes.{Appends, Consumes, Keeps, ReadConsumes}
+use Rattle.std.specs.Io.KnownBytes.{Appends, Consumes, Keeps}
 use Rattle.squall_lines.specs.declared.Flow.{Flow}
 use Rattle.squall_lines.specs.declared.Flow.TheVariants.{On, End}
 use Rattle.squall_lines.specs.declared.Ended.{Ended}
@@ -10,11 +10,11 @@ use Rattle.squall_lines.specs.declared.Ended.TheVariants.{Fine, Refused}
 use Rattle.squall_lines.specs.declared.RunFault.{RunFault}
 use Rattle.squall_lines.specs.declared.RunFault.TheVariants.{Read, Write, NoMemory}
 use Rattle.squall_lines.specs.Lines.{lines_of, whole_lines, IsOneLine}
-use Rattle.squall_lines.specs.Script.{Script, Says, silence, after, text_of, IsFront, IsOutcome}
-use Rattle.squall_lines.specs.Running.{Running, Begins, Finishes, StopsBy, TookBlock}
+use Rattle.squall_lines.specs.Script.{Script, Says, silence, after, text_of, IsOutcome}
+use Rattle.squall_lines.specs.Running.{Running, Finishes, StopsBy}
 use Rattle.squall_lines.proofs.LineLemmas.{lines_of-last, whole_lines-none}
-use Rattle.std.proofs.KnownBytes.{Appends-nil, Appends-trans, Appends-kept, Consumes-nil, Consumes-trans, Consumes-kept}
-use Rattle.squall_lines.proofs.RunningLemmas.{Running-refl, Running-more, Running-trans, Begins-now, Begins-later, Finishes-later, StopsBy-later, text_of-running, all_said}
+use Rattle.std.proofs.KnownBytes.{Appends-nil, Appends-trans, Consumes-nil, Consumes-trans, Consumes-kept}
+use Rattle.squall_lines.proofs.RunningLemmas.{Running-refl, Running-more, Running-trans, Begins-now, Finishes-later, StopsBy-later, text_of-running, all_said}
 
 -- the one answer to a last line
 module _ (now next : List (List ℕ) → Script) (line text : List ℕ) (one : IsOneLine line) (some : 0 < length line) where
@@ -56,17 +56,25 @@ module _ (first now next : List (List ℕ) → Script) (reader reader' reader'' 
   EndsAs-read quiet keeps =
       let u = r.running in
       let whole : whole_lines r.read ≡ u.whole = ap whole_lines u.split ∙ u.closed carry ∙ ap (λ w. u.whole ++ w) (whole_lines-none carry r.one) ∙ append-nil u.whole in
-      let said : first (lines_of u.whole) ≡ after u.done silence = ap (λ w. first (lines_of w)) (sym (append-nil u.whole)) ∙ u.said [] ∙ ap (after u.done) quiet in
-      (r.read, r.sent, Consumes-kept reader reader' reader'' r.read r.consumes keeps, r.appends,
-        u.written ∙ ap concat (sym (append-nil u.done)) ∙ sym (ap text_of said) ∙ ap (λ w. text_of (first (lines_of w))) (sym whole))
+      let said : first (lines_of u.whole) ≡ after u.done silence = ap (λ w. first (lines_of w)) (sym (append-nil u.whole)) ∙ u.said [] ∙ ap (after u.done) quiet in (
+        r.read,
+        r.sent,
+        Consumes-kept reader reader' reader'' r.read r.consumes keeps,
+        r.appends,
+        u.written ∙ ap concat (sym (append-nil u.done)) ∙ sym (ap text_of said) ∙ ap (λ w. text_of (first (lines_of w))) (sym whole),
+      )
 
   pub EndsAs-now : now [] ≡ silence → EndsAs (Err Read) first reader reader' writer writer'
   EndsAs-now quiet =
       let u = r.running in
       let whole : whole_lines r.read ≡ u.whole = ap whole_lines u.split ∙ u.closed carry ∙ ap (λ w. u.whole ++ w) (whole_lines-none carry r.one) ∙ append-nil u.whole in
-      let said : first (lines_of u.whole) ≡ after u.done silence = ap (λ w. first (lines_of w)) (sym (append-nil u.whole)) ∙ u.said [] ∙ ap (after u.done) quiet in
-      (r.read, r.sent, r.consumes, r.appends,
-        u.written ∙ ap concat (sym (append-nil u.done)) ∙ sym (ap text_of said) ∙ ap (λ w. text_of (first (lines_of w))) (sym whole))
+      let said : first (lines_of u.whole) ≡ after u.done silence = ap (λ w. first (lines_of w)) (sym (append-nil u.whole)) ∙ u.said [] ∙ ap (after u.done) quiet in (
+        r.read,
+        r.sent,
+        r.consumes,
+        r.appends,
+        u.written ∙ ap concat (sym (append-nil u.done)) ∙ sym (ap text_of said) ∙ ap (λ w. text_of (first (lines_of w))) (sym whole),
+      )
 
   -- what was left is answered
   outcome : (result : Result Ended RunFault) (more : List ℕ) → (result ≡ Err Read → ⊥) → IsOutcome result now carry more → IsOutcome result first r.read (r.sent ++ more)

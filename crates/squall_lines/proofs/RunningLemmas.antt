@@ -1,14 +1,14 @@
 -- How a run goes on.
-use Rattle.std.proofs.Common.{◌≡◌, ℕ, ◌+◌, List, [], ◌∷◌, ◌++◌, length, take, drop, Bool, true, false, Result, Ok, Err, sym, ◌∙◌, ap, subst, refl}
-use Rattle.std.proofs.lemmas.List.{append_assoc, append-nil, take-append-drop, take_at}
+use Rattle.std.proofs.Common.{◌≡◌, ℕ, ◌+◌, List, [], ◌∷◌, ◌++◌, length, take, sym, ◌∙◌, ap, subst, refl}
+use Rattle.std.proofs.lemmas.List.{append_assoc, append-nil}
 use Rattle.std.proofs.Math.Seq.{take-append-add}
 use Rattle.std.specs.List.{concat}
 use Rattle.squall_lines.specs.declared.Flow.TheVariants.{On, End}
 use Rattle.squall_lines.specs.declared.RunFault.TheVariants.{Read, Write, NoMemory}
 use Rattle.squall_lines.specs.Lines.{lines_of, whole_lines, IsOneLine}
-use Rattle.squall_lines.specs.Script.{Script, Says, after, last_word, silence, text_of, IsFront}
+use Rattle.squall_lines.specs.Script.{Script, Says, after, last_word, text_of, IsFront}
 use Rattle.squall_lines.specs.Running.{Running, Begins, Finishes, StopsBy}
-use Rattle.squall_lines.proofs.LineLemmas.{lines_of-line, lines_of-last, whole_lines-line, whole_lines-none}
+use Rattle.squall_lines.proofs.LineLemmas.{lines_of-line, whole_lines-line}
 
 pub concat-append : (xs ys : List (List ℕ)) → concat (xs ++ ys) ≡ concat xs ++ concat ys
 concat-append [] ys = refl
@@ -63,8 +63,8 @@ module _ (a b c : List (List ℕ) → Script) where
   Begins-later read left text more r s = (
     length r.done + s.0,
     ap (λ w. w ++ more) r.written ∙ ap (λ w. concat r.done ++ w) s.1 ∙ sym (concat-append r.done _)
-    ∙ ap concat (sym (take-append-add r.done (b (lines_of left)).answers s.0))
-    ∙ ap (λ (w : Script). concat (take (length r.done + s.0) w.answers)) (sym (all_said read left text r)),
+        ∙ ap concat (sym (take-append-add r.done (b (lines_of left)).answers s.0))
+        ∙ ap (λ (w : Script). concat (take (length r.done + s.0) w.answers)) (sym (all_said read left text r)),
   )
 
   pub Begins-now : (read left text : List ℕ) → Running a b read left text → Begins a read text

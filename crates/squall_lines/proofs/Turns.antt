@@ -1,5 +1,5 @@
 -- What holds between two lines of a block.
-use Rattle.std.proofs.Common.{◌≡◌, ℕ, ◌<◌, zero, suc, List, [], ◌∷◌, ◌++◌, length, take, drop, Option, true, sym, ◌∙◌, ap, subst, arith, refl}
+use Rattle.std.proofs.Common.{◌≡◌, ℕ, ◌<◌, List, [], ◌∷◌, ◌++◌, length, take, drop, Option, sym, ◌∙◌, ap, subst, arith}
 use Rattle.std.proofs.lemmas.List.{append_assoc, append-nil, take-append-drop}
 use Rattle.std.specs.Io.KnownBytes.{Appends}
 use Rattle.squall_lines.specs.declared.Flow.TheVariants.{On, End}
@@ -35,11 +35,11 @@ module _ (first now next : List (List ℕ) → Script) (old new last : Option (L
     sent = t.sent;
     appends = t.appends;
     running =
-      let step = Running-line now next next (carry ++ line) others text (IsOneLine-append carry line t.one one) says in
-      let left_is : carry ++ rest ≡ (carry ++ line) ++ 10 ∷ others = ap (λ w. carry ++ w) is ∙ sym (append_assoc carry line (10 ∷ others)) in
-      let both = Running-trans first now next read (carry ++ rest) others (t.sent ++ out) text t.running (subst (λ w. Running now next w others text) (sym left_is) step) in
-      let texts : (t.sent ++ out) ++ text ≡ t.sent ++ out' = append_assoc t.sent out text ∙ ap (λ w. t.sent ++ w) (sym out_is) in
-      subst (λ w. Running first next read (w ++ others) (t.sent ++ out')) (sym carry_is) (subst (Running first next read others) texts both);
+        let step = Running-line now next next (carry ++ line) others text (IsOneLine-append carry line t.one one) says in
+        let left_is : carry ++ rest ≡ (carry ++ line) ++ 10 ∷ others = ap (λ w. carry ++ w) is ∙ sym (append_assoc carry line (10 ∷ others)) in
+        let both = Running-trans first now next read (carry ++ rest) others (t.sent ++ out) text t.running (subst (λ w. Running now next w others text) (sym left_is) step) in
+        let texts : (t.sent ++ out) ++ text ≡ t.sent ++ out' = append_assoc t.sent out text ∙ ap (λ w. t.sent ++ w) (sym out_is) in
+        subst (λ w. Running first next read (w ++ others) (t.sent ++ out')) (sym carry_is) (subst (Running first next read others) texts both);
     begun = t.begun;
     one = subst IsOneLine (sym carry_is) (λ k l. absurd (omega arith));
   }
@@ -72,10 +72,13 @@ module _ (first now next : List (List ℕ) → Script) (old new last : Option (L
   Told-fails out n t sends = (
     t.sent ++ take n out,
     Appends-trans old new last t.sent (take n out) t.appends sends,
-    (drop n out ++ t.front.0, t.front.1
-    ∙ ap (λ w. (t.sent ++ w) ++ t.front.0) (sym (take-append-drop n out))
-    ∙ ap (λ w. w ++ t.front.0) (sym (append_assoc t.sent (take n out) (drop n out)))
-    ∙ append_assoc (t.sent ++ take n out) (drop n out) t.front.0),
+    (
+      drop n out ++ t.front.0,
+      t.front.1
+          ∙ ap (λ w. (t.sent ++ w) ++ t.front.0) (sym (take-append-drop n out))
+          ∙ ap (λ w. w ++ t.front.0) (sym (append_assoc t.sent (take n out) (drop n out)))
+          ∙ append_assoc (t.sent ++ take n out) (drop n out) t.front.0,
+    ),
   )
 
   -- a bad line with its LF

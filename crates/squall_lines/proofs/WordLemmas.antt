@@ -1,10 +1,10 @@
 -- The first word of a line.
-use Rattle.std.proofs.Common.{◌≡◌, ℕ, ◌-◌, ◌<◌, ◌≤◌, Bool, true, false, List, [], ◌∷◌, length, take, drop, get_or, one-add, subst, sym, ◌∙◌, ap, arith, refl}
+use Rattle.std.proofs.Common.{◌≡◌, ℕ, ◌-◌, ◌<◌, Bool, true, false, List, [], ◌∷◌, length, take, drop, get_or, one-add, subst, sym, ◌∙◌, ap, arith, refl}
 use Rattle.std.proofs.lemmas.List.{take_rest, take_all, drop_all}
 use Rattle.std.proofs.lemmas.List.Sums.{position_or_len_is}
 use Rattle.std.specs.List.{slice_split, before_first, onto_first, position_or_len}
 use Rattle.std.specs.Prelude.{filter}
-use Rattle.squall_lines.specs.Words.{is_blank, is_letter, from_first, words_of, has_some, first_word, after_word}
+use Rattle.squall_lines.specs.Words.{is_blank, is_letter, from_first, words_of, has_some}
 
 -- where the first byte stands that passes a test
 module _ (test : ℕ → Bool) (bytes : List ℕ) where
@@ -116,8 +116,8 @@ pub first_word_is : (line rest word after : List ℕ) → rest ≡ from_first is
 first_word_is line rest word after rest_is some word_is after_is =
     let first = subst IsFirstWord (sym rest_is) (next_word line (omega (arith, ap length rest_is))) in (
       sym (words_of-after_blanks line) ∙ ap words_of (sym rest_is) ∙ first.words
-      ∙ ap (λ (w : List ℕ). w ∷ words_of (from_first is_blank rest)) (sym word_is)
-      ∙ ap (λ (w : List ℕ). word ∷ words_of w) (sym after_is),
+          ∙ ap (λ (w : List ℕ). w ∷ words_of (from_first is_blank rest)) (sym word_is)
+          ∙ ap (λ (w : List ℕ). word ∷ words_of w) (sym after_is),
       omega (arith, first.filled, ap length word_is),
     )
 

@@ -3,3 +3,4 @@ pub mod Script
 pub mod Running
 pub mod Words
 pub use Rattle.squall_device.specs.Counts
+pub mod Sample

@@ -1,7 +1,6 @@
 -- How far a run has come.
-use Rattle.std.specs.Prelude.{◌≡◌, ℕ, List, [], ◌∷◌, ◌++◌, take, Bool, true, false, Result, Ok, Err, Option}
+use Rattle.std.specs.Prelude.{◌≡◌, ℕ, List, ◌++◌, take, true, Result, Ok, Err}
 use Rattle.std.specs.List.{concat}
-use Rattle.std.specs.Io.KnownBytes.{Appends}
 use Rattle.squall_lines.specs.declared.Flow.{Flow}
 use Rattle.squall_lines.specs.declared.Flow.TheVariants.{On, End}
 use Rattle.squall_lines.specs.declared.RunFault.{RunFault}

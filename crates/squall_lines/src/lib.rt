@@ -8,6 +8,7 @@
 ghost use Rattle.std.specs.Prelude.{◌≡◌, ◌⊎◌, ℕ, List, ◌+◌, ◌≤◌, length, Ok, Err, IfOk};
 ghost use Rattle.std.specs.Io.KnownBytes.{Appends, Consumes, IsAtEnd};
 ghost use Rattle.squall_device.specs.Counts.{IsCountedSince, times_more};
+ghost use Rattle.squall_lines.specs.Script.{IsOutcome};
 
 use squall_device::{Sink, Source};
 use std::alloc::{AllocError, Global};
@@ -20,8 +21,6 @@ pub mod words;
 
 use block::{take_block, take_last};
 use machine::Machine;
-
-ghost use Rattle.squall_lines.specs.Script.{IsOutcome};
 
 /// Whether a run goes on after a line.
 #[derive(Clone, Copy, Debug, PartialEq, Eq)]
@@ -58,6 +57,7 @@ pub enum RunFault {
 impl From<AllocError> for RunFault {
     ghost use Rattle.squall_lines.specs.declared.RunFault.TheVariants.{NoMemory};
     ghost use Rattle.std.specs.Prelude.{◌≡◌};
+
     ghost from_gives = { λ _ e. e ≡ NoMemory };
 
     fn from(_e: AllocError) -> RunFault {
@@ -77,7 +77,7 @@ pub const LONGEST_LINE: usize = 1048576;
 /// How many bytes are kept at most of a line whose LF did not come yet: a longest line, and a CR
 /// that may still be part of its line end. With one byte more the line is too long for certain,
 /// and goes to the machine at once.
-pub const LONGEST_PIECE: usize = 1048577;
+pub const LONGEST_PIECE: usize = LONGEST_LINE + 1;
 
 /// Room for a block of `size` bytes.
 fn block_room(alloc: Global, size: usize) -> Result<Vec<u8>, AllocError>
@@ -135,3 +135,5 @@ pub fn run<S: Source, K: Sink, M: Machine>(
     Err(RunFault::Read)
 }
 
+#[cfg(test)]
+mod tests;

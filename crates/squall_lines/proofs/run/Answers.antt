@@ -1,6 +1,4 @@
-use Rattle.std.specs.Prelude.{string_bytes}
-use Rattle.std.proofs.Common.{◌++◌, ◌∙◌, [], sym, subst, inl, Err, length, take, ap, arith, refl}
-use Rattle.std.proofs.lemmas.Bool.Decides.{nat_tests}
+use Rattle.std.proofs.Common.{◌∙◌, [], sym, subst, inl, Err, length, take, ap, arith, refl}
 use Rattle.std.proofs.lemmas.Result.{err_from_is_err_and}
 use Rattle.squall_lines.proofs.Bytes.{counted_now, idle_counted, used_more, not_idle, error_is}
 use Rattle.squall_lines.proofs.Outcomes.{Reading, Reading-start, EndsAs-read, EndsAs-now, EndsAs-last, EndsAs-no_memory, Reading-block, EndsAs-refused, EndsAs-stopped}
