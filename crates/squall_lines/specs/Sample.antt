@@ -1,0 +1,15 @@
+-- What the machine of the tests says.
+use Rattle.std.specs.Prelude.{ℕ, List, [], ◌∷◌, ◌++◌, length, slice_index, codes, decimal, nat_lt, ◌==◌, if◌then◌else◌}
+use Rattle.squall_lines.specs.Script.{Script, silence, after, last_word}
+
+-- the answer to a line that is not bad: its length, or nothing where it is empty
+abbrev pub sample_answer : List ℕ → List ℕ
+sample_answer [] = []
+sample_answer (b ∷ bs) = decimal (length (b ∷ bs)) ++ 10 ∷ []
+
+-- a line that begins with `x` is bad, and so is one that is too long
+abbrev pub sample_says : List (List ℕ) → Script
+sample_says [] = silence
+sample_says (line ∷ lines) =
+    if nat_lt 1048577 (length line) then last_word (codes "long\n")
+    else (if slice_index line 0 == 120 then last_word (codes "no\n") else after (sample_answer line ∷ []) (sample_says lines))

@@ -1,0 +1,111 @@
+// The lines of one block, and what is left at the end of the input.
+ghost use Rattle.std.specs.Prelude.{◌≡◌, ◌≢◌, ◌⊎◌, ℕ, List, [], ◌∷◌, ◌++◌, ◌<◌, length, string_bytes, Ok, Err, IfOk, IfSome, IfNone, OnOk};
+ghost use Rattle.std.specs.Io.KnownBytes.{Appends};
+ghost use Rattle.squall_device.specs.Counts.{IsCountedSince};
+ghost use Rattle.squall_lines.specs.Lines.{IsOneLine};
+ghost use Rattle.squall_lines.specs.Script.{Says, IsOutcome};
+ghost use Rattle.squall_lines.specs.Running.{TookBlock};
+
+use super::machine::Machine;
+use super::output::flush;
+use super::{BLOCK_SIZE, Ended, Flow, LONGEST_PIECE, RunFault};
+use memchr::memchr;
+use squall_device::Sink;
+use std::alloc::AllocError;
+
+/// Gives the machine the line that the piece ends: what was kept of it, and then the piece.
+fn take_line<M: Machine>(
+    machine: &mut M,
+    carry: &mut Vec<u8>,
+    out: &mut String,
+    piece: &[u8],
+) -> Result<Flow, AllocError>
+    ensures said { IfOk result (λ flow. (text : List ℕ) × (string_bytes out.new ≡ string_bytes out.old ++ text)
+        × Says flow text (M.says machine.old) (M.says machine.new) (carry.old.items ++ piece.now)) }
+    ensures carry { OnOk result (carry.new.items ≡ []) }
+{
+    if carry.is_empty() {
+        return machine.take(piece, out);
+    }
+    carry.extend_from_slice(piece)?;
+    let flow = machine.take(carry.as_slice(), out)?;
+    carry.clear();
+    Ok(flow)
+}
+
+/// The bytes before the first LF, and those after it.
+fn first_line(bytes: &[u8]) -> Option<(&[u8], &[u8])>
+    ensures line { IfSome result (λ r. (bytes.now ≡ r.0.now ++ 10 ∷ r.1.now) × IsOneLine r.0.now) }
+    ensures shorter { IfSome result (λ r. length r.1.now < length bytes.now) }
+    ensures none { IfNone result (IsOneLine bytes.now) }
+{
+    let at = memchr(b'\n', bytes)?;
+    Some((&bytes[..at], &bytes[at + 1..]))
+}
+
+/// Answers the lines that end in the block, and sends the answers. What follows the last LF is
+/// kept, unless it is too long to be a line.
+pub fn take_block<M: Machine, K: Sink>(
+    machine: &mut M,
+    carry: &mut Vec<u8>,
+    out: &mut String,
+    writer: &mut K,
+    block: &[u8],
+) -> Result<Flow, RunFault>
+    requires carry { IsOneLine carry.old.items }
+    requires out { string_bytes out.old ≡ [] }
+    ensures took { (sent : List ℕ) × Appends (K.contents writer.old) (K.contents writer.new) sent
+        × TookBlock result (M.says machine.old) (M.says machine.new) (carry.old.items ++ block.now) carry.new.items sent }
+    ensures out { OnOk result (string_bytes out.new ≡ []) }
+    ensures uncounted { OnOk result ((K.faults writer.new ≡ K.faults writer.old) × (K.empties writer.new ≡ K.empties writer.old)) }
+    ensures counted { result ≡ Err RunFault.Write → IsCountedSince (K.faults writer.old) (K.faults writer.new) ⊎ IsCountedSince (K.empties writer.old) (K.empties writer.new) }
+{
+    let mut rest = block;
+    while let Some((line, others)) = first_line(rest) {
+        rest = others;
+        match take_line(machine, carry, out, line)? {
+            Flow::End => {
+                flush(writer, out)?;
+                return Ok(Flow::End);
+            }
+            Flow::On => {
+                if out.len() >= BLOCK_SIZE {
+                    flush(writer, out)?;
+                }
+            }
+        }
+    }
+    carry.extend_from_slice(rest)?;
+    if carry.len() > LONGEST_PIECE {
+        machine.take(carry.as_slice(), out)?;
+        flush(writer, out)?;
+        return Ok(Flow::End);
+    }
+    flush(writer, out)?;
+    Ok(Flow::On)
+}
+
+/// Answers what is left at the end of the input, a last line with no LF.
+pub fn take_last<M: Machine, K: Sink>(
+    machine: &mut M,
+    carry: &[u8],
+    out: &mut String,
+    writer: &mut K,
+) -> Result<Ended, RunFault>
+    requires carry { IsOneLine carry.now }
+    requires out { string_bytes out.old ≡ [] }
+    ensures took { (sent : List ℕ) × Appends (K.contents writer.old) (K.contents writer.new) sent
+        × IsOutcome result (M.says machine.old) carry.now sent }
+    ensures only { result ≢ Err RunFault.Read }
+    ensures counted { result ≡ Err RunFault.Write → IsCountedSince (K.faults writer.old) (K.faults writer.new) ⊎ IsCountedSince (K.empties writer.old) (K.empties writer.new) }
+{
+    if carry.is_empty() {
+        return Ok(Ended::Fine);
+    }
+    let flow = machine.take(carry, out)?;
+    flush(writer, out)?;
+    match flow {
+        Flow::On => Ok(Ended::Fine),
+        Flow::End => Ok(Ended::Refused),
+    }
+}

@@ -1,0 +1,139 @@
+//! Runs a machine over the lines of a source, and writes what the machine says to a sink.
+//!
+//! The input is read in blocks. A line that lies whole in a block is given to the machine where it
+//! stands, and only a line that a block cuts is copied. The answers to a block are written before
+//! the next block is read, so that a reader who waits for an answer gets it.
+#![tactic(auto)]
+
+ghost use Rattle.std.specs.Prelude.{◌≡◌, ◌⊎◌, ℕ, List, ◌+◌, ◌≤◌, length, Ok, Err, IfOk};
+ghost use Rattle.std.specs.Io.KnownBytes.{Appends, Consumes, IsAtEnd};
+ghost use Rattle.squall_device.specs.Counts.{IsCountedSince, times_more};
+ghost use Rattle.squall_lines.specs.Script.{IsOutcome};
+
+use squall_device::{Sink, Source};
+use std::alloc::{AllocError, Global};
+use thiserror::Error;
+
+mod block;
+pub mod machine;
+mod output;
+pub mod words;
+
+use block::{take_block, take_last};
+use machine::Machine;
+
+/// Whether a run goes on after a line.
+#[derive(Clone, Copy, Debug, PartialEq, Eq)]
+pub enum Flow {
+    /// The next line is to come.
+    On,
+    /// The line was bad, and no further line is read.
+    End,
+}
+
+/// How a run ended that nothing stopped.
+#[derive(Clone, Copy, Debug, PartialEq, Eq)]
+pub enum Ended {
+    /// Each line of the input was answered.
+    Fine,
+    /// A line was bad. It was answered, and so was each line before it.
+    Refused,
+}
+
+/// What stopped a run before its end.
+#[derive(Clone, Copy, Debug, PartialEq, Eq, Error)]
+pub enum RunFault {
+    /// A read failed, or there were too many of them.
+    #[error("read failed")]
+    Read,
+    /// A write failed, or took no byte.
+    #[error("write failed")]
+    Write,
+    /// There was no memory for a line or an answer.
+    #[error("no memory")]
+    NoMemory,
+}
+
+impl From<AllocError> for RunFault {
+    ghost use Rattle.squall_lines.specs.declared.RunFault.TheVariants.{NoMemory};
+    ghost use Rattle.std.specs.Prelude.{◌≡◌};
+
+    ghost from_gives = { λ _ e. e ≡ NoMemory };
+
+    fn from(_e: AllocError) -> RunFault {
+        RunFault::NoMemory
+    }
+}
+
+/// How many bytes one read asks for. Answers of more bytes than this are written at once.
+pub const BLOCK_SIZE: usize = 65536;
+
+/// How many reads one run makes at most, so that it ends whatever the source does.
+pub const MOST_READS: u32 = 16777216;
+
+/// How many bytes a line has at most, without its line end.
+pub const LONGEST_LINE: usize = 1048576;
+
+/// How many bytes are kept at most of a line whose LF did not come yet: a longest line, and a CR
+/// that may still be part of its line end. With one byte more the line is too long for certain,
+/// and goes to the machine at once.
+pub const LONGEST_PIECE: usize = LONGEST_LINE + 1;
+
+/// Room for a block of `size` bytes.
+fn block_room(alloc: Global, size: usize) -> Result<Vec<u8>, AllocError>
+    ensures { IfOk result (λ room. length room.items ≡ size) }
+{
+    vec![in alloc; 0u8; size]
+}
+
+/// Runs the machine over the lines of what `reader` gives, and writes what it says to `writer`.
+///
+/// A bad line ends the run. So does an error: a fault of the reader (or more than `MOST_READS`
+/// reads, each of some bytes), after the lines that came with their LF are answered; a fault of
+/// the writer, or a write that took no byte, after it took a front of the answers; or want of
+/// memory, after some first lines are answered, each whole.
+pub fn run<S: Source, K: Sink, M: Machine>(
+    alloc: Global,
+    machine: &mut M,
+    reader: &mut S,
+    writer: &mut K,
+) -> Result<Ended, RunFault>
+    // What is written is what the machine says to the lines of what was read.
+    ensures text { (read : List ℕ) × (written : List ℕ)
+        × Consumes (S.remaining reader.old) (S.remaining reader.new) read
+        × Appends (K.contents writer.old) (K.contents writer.new) written
+        × IsOutcome result (M.says machine.old) read written }
+
+    // `Fine` comes only where a read found the end, and nothing is left.
+    ensures fine { result ≡ Ok Ended.Fine → IsCountedSince (S.ends reader.old) (S.ends reader.new) }
+    ensures all { result ≡ Ok Ended.Fine → IsAtEnd (S.remaining reader.new) }
+
+    // When each fault comes.
+    ensures unread { result ≡ Err RunFault.Read → IsCountedSince (S.faults reader.old) (S.faults reader.new)
+        ⊎ (times_more MOST_READS (S.reads reader.old) ≤ S.reads reader.new) }
+    ensures unwritten { result ≡ Err RunFault.Write → IsCountedSince (K.faults writer.old) (K.faults writer.new)
+        ⊎ IsCountedSince (K.empties writer.old) (K.empties writer.new) }
+
+    ensures reads { S.reads reader.new ≤ S.reads reader.old + MOST_READS }
+{
+    let mut room = block_room(alloc, BLOCK_SIZE)?;
+    let block = room.as_mut_slice();
+    let mut carry = Vec::new(alloc);
+    let mut out = String::new(alloc);
+    for turn in 0..MOST_READS {
+        let Ok(n) = reader.read(block) else {
+            return Err(RunFault::Read);
+        };
+        if n == 0 {
+            return take_last(machine, carry.as_slice(), &mut out, writer);
+        }
+        match take_block(machine, &mut carry, &mut out, writer, &block[..n])? {
+            Flow::On => {}
+            Flow::End => return Ok(Ended::Refused),
+        }
+    }
+    Err(RunFault::Read)
+}
+
+#[cfg(test)]
+mod tests;

@@ -1,0 +1,42 @@
+// Sends what is to go out to a sink.
+ghost use Rattle.std.specs.Prelude.{◌≡◌, ◌⊎◌, ℕ, [], length, take, string_bytes, IfErr, OnOk, OnErr};
+ghost use Rattle.std.specs.Io.KnownBytes.{Appends};
+ghost use Rattle.squall_device.specs.Counts.{IsCountedSince};
+
+use super::RunFault;
+use squall_device::{DeviceFault, Sink};
+
+/// Writes all the bytes. After a fault the writer took a front of them, and it failed or took no
+/// byte of some.
+fn send<K: Sink>(writer: &mut K, bytes: &[u8]) -> Result<(), DeviceFault>
+    ensures ok { OnOk result (Appends (K.contents writer.old) (K.contents writer.new) bytes.now) }
+    ensures err { OnErr result ((n : ℕ) × Appends (K.contents writer.old) (K.contents writer.new) (take n bytes.now)) }
+    ensures uncounted { OnOk result ((K.faults writer.new ≡ K.faults writer.old) × (K.empties writer.new ≡ K.empties writer.old)) }
+    ensures counted { OnErr result (IsCountedSince (K.faults writer.old) (K.faults writer.new) ⊎ IsCountedSince (K.empties writer.old) (K.empties writer.new)) }
+{
+    let mut rest = bytes;
+    while !rest.is_empty() {
+        let n = writer.write(rest)?;
+        if n == 0 {
+            return Err(DeviceFault);
+        }
+        rest = &rest[n..];
+    }
+    Ok(())
+}
+
+/// Writes the text, and empties it. After a fault the writer took a front of the text.
+pub fn flush<K: Sink>(writer: &mut K, out: &mut String) -> Result<(), RunFault>
+    ensures ok { OnOk result (Appends (K.contents writer.old) (K.contents writer.new) (string_bytes out.old)) }
+    ensures empty { OnOk result (string_bytes out.new ≡ []) }
+    ensures err { OnErr result ((n : ℕ) × Appends (K.contents writer.old) (K.contents writer.new) (take n (string_bytes out.old))) }
+    ensures only { IfErr result (λ e. e ≡ RunFault.Write) }
+    ensures uncounted { OnOk result ((K.faults writer.new ≡ K.faults writer.old) × (K.empties writer.new ≡ K.empties writer.old)) }
+    ensures counted { OnErr result (IsCountedSince (K.faults writer.old) (K.faults writer.new) ⊎ IsCountedSince (K.empties writer.old) (K.empties writer.new)) }
+{
+    if send(writer, out.as_bytes()).is_err() {
+        return Err(RunFault::Write);
+    }
+    out.clear();
+    Ok(())
+}
