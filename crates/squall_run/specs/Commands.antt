@@ -1,0 +1,65 @@
+-- What the words of a scenario line say (this project's scenario language).
+use Rattle.std.specs.Prelude.{ℕ, List, [], ◌∷◌, length, slice_index, Option, None, Some, codes, nat_lt, ◌==◌, if◌then◌else◌}
+use Rattle.std.specs.Option.{option_map, option_map_or, option_and_then}
+use Rattle.std.specs.Str.{bytes_eq}
+use Rattle.squall_key.specs.Numbers.{number_of}
+use Rattle.squall_key.specs.Keys.{key_of, bound_of}
+use Rattle.squall_lines.specs.Words.{words_of, only_word}
+use Rattle.squall_run.specs.declared.command.Command.{Command}
+use Rattle.squall_run.specs.declared.command.Command.TheVariants.{Skip, Old, New, Loaded, Done, Route, Bad}
+use Rattle.squall_run.specs.declared.reason.Reason.TheVariants.{Long, Word}
+
+-- the number that the first word writes, and the words after it
+abbrev pub number_first : List (List ℕ) → Option (ℕ × List (List ℕ))
+number_first [] = None
+number_first (word ∷ words) = option_map (λ n. (n, words)) (number_of word)
+
+-- the two words of a list of two
+abbrev pub two_words : List (List ℕ) → Option (List ℕ × List ℕ)
+two_words [] = None
+two_words (word ∷ words) = option_map (λ other. (word, other)) (only_word words)
+
+-- the three numbers that the first words write, and the words after them
+abbrev pub cell_first : List (List ℕ) → Option (ℕ × ℕ × ℕ × List (List ℕ))
+cell_first words =
+    option_and_then (λ (n : ℕ × List (List ℕ)). option_and_then (λ (s : ℕ × List (List ℕ)). option_map (λ (p : ℕ × List (List ℕ)). (n.0, s.0, p.0, p.1))
+    (number_first s.1)) (number_first n.1)) (number_first words)
+
+-- the two bounds that the words write
+abbrev pub two_bounds : List (List ℕ) → Option (ℕ × ℕ)
+two_bounds words = option_and_then (λ (w : List ℕ × List ℕ). option_and_then (λ lo. option_map (λ hi. (lo, hi)) (bound_of w.1)) (bound_of w.0)) (two_words words)
+
+-- loaded N S P LO HI
+abbrev pub loaded_line : List (List ℕ) → Option Command
+loaded_line words = option_and_then (λ (c : ℕ × ℕ × ℕ × List (List ℕ)). option_map (λ (b : ℕ × ℕ). Loaded c.0 c.1 c.2 b.0 b.1) (two_bounds c.3)) (cell_first words)
+
+-- done N S P
+abbrev pub done_in : ℕ × ℕ × ℕ × List (List ℕ) → Option Command
+done_in (n, s, p, []) = Some (Done n s p)
+done_in (n, s, p, word ∷ words) = None
+
+abbrev pub done_line : List (List ℕ) → Option Command
+done_line words = option_and_then done_in (cell_first words)
+
+-- route K
+abbrev pub route_line : List (List ℕ) → Option Command
+route_line words = option_map Route (option_and_then key_of (only_word words))
+
+-- the line kind that the first word names: the words after it must have its form, but for the kinds whose text is the rest of
+-- the line
+abbrev pub command_by : List ℕ → List (List ℕ) → Option Command
+command_by name words = if bytes_eq name (codes "old") then Some Old
+    else (if bytes_eq name (codes "new") then Some New
+    else (if bytes_eq name (codes "loaded") then loaded_line words
+    else (if bytes_eq name (codes "done") then done_line words
+    else (if bytes_eq name (codes "route") then route_line words
+    else None))))
+
+-- a line without words, or whose first word begins with #, is skipped
+abbrev pub of_words : List (List ℕ) → Command
+of_words [] = Skip
+of_words (name ∷ words) = if slice_index name 0 == 35 then Skip else option_map_or (λ c. c) (command_by name words) (Bad Word)
+
+-- what a line says, its line end taken off
+abbrev pub command_of : List ℕ → Command
+command_of line = if nat_lt 1048576 (length line) then Bad Long else of_words (words_of line)

@@ -1,0 +1,146 @@
+//! What a line says.
+
+ghost use Rattle.std.specs.Prelude.{◌≡◌, ℕ};
+ghost use Rattle.std.specs.Option.{option_map};
+ghost use Rattle.squall_lines.specs.Words.{words_of};
+ghost use Rattle.squall_run.specs.Commands.{number_first, two_words, cell_first, two_bounds, loaded_line, done_line, route_line, command_by, command_of};
+
+use crate::reason::Reason;
+use squall_key::{Bound, Key, read_number};
+use squall_lines::LONGEST_LINE;
+use squall_lines::words::{next_word, only_word};
+
+/// What a line says. The text of `Old` and `New` is the rest of their line.
+#[derive(Clone, Copy, Debug)]
+pub(crate) enum Command {
+    /// Nothing: a line without words, or a remark.
+    Skip,
+    Old,
+    New,
+    Loaded {
+        number: u32,
+        sub: u32,
+        part: u32,
+        lo: Bound,
+        hi: Bound,
+    },
+    Done {
+        number: u32,
+        sub: u32,
+        part: u32,
+    },
+    Route(Key),
+    Bad(Reason),
+}
+
+/// The number that the first word writes, and what stands after it.
+fn number_first(rest: &[u8]) -> Option<(u32, &[u8])>
+    ensures { option_map (λ r. (r.0, words_of r.1.now)) result ≡ number_first (words_of rest.now) }
+{
+    let (word, rest) = next_word(rest)?;
+    Some((read_number(word)?, rest))
+}
+
+/// The two words that there are.
+fn two_words(rest: &[u8]) -> Option<(&[u8], &[u8])>
+    ensures { option_map (λ r. (r.0.now, r.1.now)) result ≡ two_words (words_of rest.now) }
+{
+    let (first, rest) = next_word(rest)?;
+    let second = only_word(rest)?;
+    Some((first, second))
+}
+
+/// The numbers of a reconfiguration, a sub-plan and a partition, and what stands after them.
+fn cell_first(rest: &[u8]) -> Option<(u32, u32, u32, &[u8])>
+    ensures { option_map (λ r. (r.0, r.1, r.2, words_of r.3.now)) result ≡ cell_first (words_of rest.now) }
+{
+    let (number, rest) = number_first(rest)?;
+    let (sub, rest) = number_first(rest)?;
+    let (part, rest) = number_first(rest)?;
+    Some((number, sub, part, rest))
+}
+
+/// The two bounds that are written.
+fn two_bounds(rest: &[u8]) -> Option<(Bound, Bound)>
+    ensures { result ≡ two_bounds (words_of rest.now) }
+{
+    let (lo, hi) = two_words(rest)?;
+    let lo = Bound::read_bytes(lo)?;
+    let hi = Bound::read_bytes(hi)?;
+    Some((lo, hi))
+}
+
+/// `loaded N S P LO HI`
+fn loaded_line(rest: &[u8]) -> Option<Command>
+    ensures { result ≡ loaded_line (words_of rest.now) }
+{
+    let (number, sub, part, rest) = cell_first(rest)?;
+    let (lo, hi) = two_bounds(rest)?;
+    Some(Command::Loaded {
+        number,
+        sub,
+        part,
+        lo,
+        hi,
+    })
+}
+
+/// `done N S P`
+fn done_line(rest: &[u8]) -> Option<Command>
+    ensures { result ≡ done_line (words_of rest.now) }
+{
+    let (number, sub, part, rest) = cell_first(rest)?;
+    match next_word(rest) {
+        None => Some(Command::Done { number, sub, part }),
+        Some(_) => None,
+    }
+}
+
+/// `route K`
+fn route_line(rest: &[u8]) -> Option<Command>
+    ensures { result ≡ route_line (words_of rest.now) }
+{
+    let key = Key::read_bytes(only_word(rest)?)?;
+    Some(Command::Route(key))
+}
+
+/// The command that the first word names, where what stands after it has that command's form.
+fn command_by(name: &[u8], rest: &[u8]) -> Option<Command>
+    ensures { result ≡ command_by name.now (words_of rest.now) }
+{
+    if name == b"old".as_slice() {
+        return Some(Command::Old);
+    }
+    if name == b"new".as_slice() {
+        return Some(Command::New);
+    }
+    if name == b"loaded".as_slice() {
+        return loaded_line(rest);
+    }
+    if name == b"done".as_slice() {
+        return done_line(rest);
+    }
+    if name == b"route".as_slice() {
+        return route_line(rest);
+    }
+    None
+}
+
+/// What the line says, its line end taken off.
+pub(crate) fn read_line(line: &[u8]) -> Command
+    ensures { result ≡ command_of line.now }
+{
+    if line.len() > LONGEST_LINE {
+        return Command::Bad(Reason::Long);
+    }
+    let Some((name, rest)) = next_word(line) else {
+        return Command::Skip;
+    };
+    if name.first() == Some(&b'#') {
+        return Command::Skip;
+    }
+    match command_by(name, rest) {
+        Some(command) => command,
+        None => Command::Bad(Reason::Word),
+    }
+}

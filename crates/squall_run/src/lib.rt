@@ -1,0 +1,54 @@
+//! Scenarios: lines that set up plans, bring reports and ask for routes, and their answers.
+#![tactic(auto)]
+
+ghost use Rattle.std.specs.Prelude.{◌≡◌, ◌⊎◌, ◌+◌, ◌≤◌, ℕ, List, Ok, Err};
+ghost use Rattle.std.specs.Io.KnownBytes.{Appends, Consumes, IsAtEnd};
+ghost use Rattle.squall_device.specs.Counts.{IsCountedSince, times_more};
+ghost use Rattle.squall_lines.specs.Script.{IsOutcome};
+ghost use Rattle.squall_run.specs.Text.{script_of};
+
+mod command;
+mod reason;
+mod replies;
+mod scenario;
+
+pub use squall_device::{DeviceFault, Reader, Sink, Source, Writer};
+pub use squall_lines::{Ended, MOST_READS, RunFault};
+
+use std::alloc::Global;
+
+/// Answers the lines of a scenario: reads them from `reader` to the end of the input, or to a bad
+/// line, and writes the answers to `writer`. The answers to the lines that one read brings are
+/// written before the next read.
+///
+/// `Fine` says that each line was answered, `Refused` that the last answer is a bad line. A fault
+/// stops the run: `Read` where a read failed, or more than [`MOST_READS`] would be needed, after
+/// the lines that came with their LF are answered; `Write` where a write failed or took no byte,
+/// after a front of the answers was written; `NoMemory` after some first lines are answered, each
+/// whole. What was read stays read.
+pub fn run_text<S: Source, K: Sink>(
+    alloc: Global,
+    reader: &mut S,
+    writer: &mut K,
+) -> Result<Ended, RunFault>
+    // What is written is the text of what was read, and nothing else.
+    ensures text { (read : List ℕ) × (written : List ℕ)
+        × Consumes (S.remaining reader.old) (S.remaining reader.new) read
+        × Appends (K.contents writer.old) (K.contents writer.new) written
+        × IsOutcome result script_of read written }
+
+    // Fine comes only where a read found the end, and nothing is left.
+    ensures fine { result ≡ Ok Ended.Fine → IsCountedSince (S.ends reader.old) (S.ends reader.new) }
+    ensures all { result ≡ Ok Ended.Fine → IsAtEnd (S.remaining reader.new) }
+
+    // When each fault comes.
+    ensures unread { result ≡ Err RunFault.Read → IsCountedSince (S.faults reader.old) (S.faults reader.new)
+        ⊎ (times_more MOST_READS (S.reads reader.old) ≤ S.reads reader.new) }
+    ensures unwritten { result ≡ Err RunFault.Write → IsCountedSince (K.faults writer.old) (K.faults writer.new)
+        ⊎ IsCountedSince (K.empties writer.old) (K.empties writer.new) }
+
+    ensures reads { S.reads reader.new ≤ S.reads reader.old + MOST_READS }
+{
+    let mut scenario = scenario::start(alloc);
+    squall_lines::run(alloc, &mut scenario, reader, writer)
+}

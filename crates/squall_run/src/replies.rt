@@ -1,0 +1,177 @@
+//! What a scenario answers to a line.
+
+ghost use Rattle.std.specs.Prelude.{◌≡◌, ◌++◌, ℕ, List, IfOk, string_bytes, refl};
+ghost use Rattle.squall_lines.specs.Words.{after_first_word};
+ghost use Rattle.squall_lines.specs.declared.Flow.TheVariants.{End};
+ghost use Rattle.squall_plan.specs.Form.{plan_of_text};
+ghost use Rattle.squall_span.specs.Spans.{span_at};
+ghost use Rattle.squall_run.specs.Replies.{Answers, old_reply, new_reply, load_of, report_reply, route_reply, reply_to, reply_to_line, bad_line, IsAnswer, says};
+
+use crate::command::{Command, read_line};
+use crate::reason::Reason;
+use crate::scenario::{Scenario, Stage};
+use squall_course::Course;
+use squall_key::{Bound, Key};
+use squall_lines::Flow;
+use squall_lines::machine::Machine;
+use squall_lines::words::{after_blanks, next_word, without_cr};
+use squall_plan::{Plan, PlanFault};
+use squall_report::Report;
+use squall_span::Span;
+use std::alloc::{AllocError, Global};
+
+/// What stands after the first word of the line and the blanks that follow it.
+fn argument(line: &[u8]) -> &[u8]
+    ensures { result.now ≡ after_first_word line.now }
+{
+    match next_word(line) {
+        Some((_, rest)) => after_blanks(rest),
+        None => &[],
+    }
+}
+
+/// The plan of the text, or its fault.
+fn read_plan(alloc: Global, text: &[u8]) -> Result<Result<Plan, PlanFault>, AllocError>
+    ensures { IfOk result (λ plan. plan_of_text text.now ≡ plan) }
+{
+    match Plan::read(alloc, text) {
+        Ok(plan) => Ok(Ok(plan)),
+        Err(PlanFault::NoMemory) => Err(AllocError),
+        Err(fault) => Ok(Err(fault)),
+    }
+}
+
+/// Takes the old plan, which comes before all else.
+fn old_plan(scenario: &mut Scenario, text: &[u8], out: &mut String) -> Result<Option<Reason>, AllocError>
+    ensures { Answers result (string_bytes out.old) (string_bytes out.new) scenario.old scenario.new (old_reply scenario.old scenario.old.stage text.now) }
+{
+    let Stage::Unplanned = &scenario.stage else {
+        return Ok(Some(Reason::Order));
+    };
+    let plan = match read_plan(*out.allocator(), text)? {
+        Ok(plan) => plan,
+        Err(fault) => return Ok(Some(Reason::Plan(fault))),
+    };
+    let ranges = plan.ranges().len();
+    write!(out, "old {ranges}\n")?;
+    scenario.stage = Stage::Planned(plan);
+    Ok(None)
+}
+
+/// The course of number 1 between the plans.
+fn first_course(alloc: Global, old: &Plan, new: &Plan) -> Result<Course, AllocError>
+    ensures { IfOk result (λ course. course ≡ record { number = 1; old = old.now; new = new.now }) }
+{
+    match Course::new(alloc, 1, old, new) {
+        Ok(course) => Ok(course),
+        Err(_) => Err(AllocError),
+    }
+}
+
+/// Takes the new plan, which comes right after the old one.
+fn new_plan(scenario: &mut Scenario, text: &[u8], out: &mut String) -> Result<Option<Reason>, AllocError>
+    ensures { Answers result (string_bytes out.old) (string_bytes out.new) scenario.old scenario.new (new_reply scenario.old scenario.old.stage text.now) }
+{
+    let Stage::Planned(old) = &scenario.stage else {
+        return Ok(Some(Reason::Order));
+    };
+    let alloc = *out.allocator();
+    let plan = match read_plan(alloc, text)? {
+        Ok(plan) => plan,
+        Err(fault) => return Ok(Some(Reason::Plan(fault))),
+    };
+    let course = first_course(alloc, old, &plan)?;
+    let ranges = plan.ranges().len();
+    write!(out, "new {ranges}\n")?;
+    scenario.stage = Stage::Running(course);
+    Ok(None)
+}
+
+/// The report of a load, where its numbers lie within their limits and the span has a key.
+fn load_report(number: u32, sub: u32, part: u32, lo: Bound, hi: Bound) -> Option<Report>
+    ensures { result ≡ load_of (span_at lo hi) number sub part }
+{
+    let span = Span::new(lo, hi)?;
+    Report::loaded(number, sub, part, span)
+}
+
+/// Takes the report, where there is one, once both plans are read.
+fn take_report(scenario: &mut Scenario, report: Option<Report>, out: &mut String) -> Result<Option<Reason>, AllocError>
+    ensures { Answers result (string_bytes out.old) (string_bytes out.new) scenario.old scenario.new (report_reply scenario.old scenario.old.stage report) }
+{
+    let Stage::Running(_) = &scenario.stage else {
+        return Ok(Some(Reason::Order));
+    };
+    let Some(report) = report else {
+        return Ok(Some(Reason::Limit));
+    };
+    scenario.board.take(&report)?;
+    write!(out, "taken\n")?;
+    Ok(None)
+}
+
+/// Says which partition to ask for the key, once both plans are read.
+fn route(scenario: &Scenario, key: Key, out: &mut String) -> Result<Option<Reason>, AllocError>
+    ensures { Answers result (string_bytes out.old) (string_bytes out.new) scenario.now scenario.now (route_reply scenario.now scenario.now.stage key) }
+{
+    let Stage::Running(course) = &scenario.stage else {
+        return Ok(Some(Reason::Order));
+    };
+    let part = scenario.board.route(course, key);
+    write!(out, "route {key} {part}\n")?;
+    Ok(None)
+}
+
+/// Does what a line says, and adds the answer to `out`, or tells why the line is bad.
+fn obey(scenario: &mut Scenario, command: Command, text: &[u8], out: &mut String) -> Result<Option<Reason>, AllocError>
+    ensures { Answers result (string_bytes out.old) (string_bytes out.new) scenario.old scenario.new (reply_to scenario.old command text.now) }
+{
+    match command {
+        Command::Skip => Ok(None),
+        Command::Old => old_plan(scenario, text, out),
+        Command::New => new_plan(scenario, text, out),
+        Command::Loaded {
+            number,
+            sub,
+            part,
+            lo,
+            hi,
+        } => take_report(scenario, load_report(number, sub, part, lo, hi), out),
+        Command::Done { number, sub, part } => {
+            take_report(scenario, Report::done(number, sub, part), out)
+        }
+        Command::Route(key) => route(scenario, key, out),
+        Command::Bad(reason) => Ok(Some(reason)),
+    }
+}
+
+/// Tells why the line of that number is bad.
+fn bad_line(number: u64, reason: Reason, out: &mut String) -> Result<Flow, AllocError>
+    ensures { IfOk result (λ flow. (flow ≡ End) × (string_bytes out.new ≡ string_bytes out.old ++ bad_line number reason)) }
+{
+    write!(out, "bad line {number}: {reason}\n")?;
+    Ok(Flow::End)
+}
+
+/// Answers the line, whose line end is taken off, or says why it is bad.
+fn answer(scenario: &mut Scenario, line: &[u8], out: &mut String) -> Result<Flow, AllocError>
+    ensures { IfOk result (λ flow. (text : List ℕ) × (string_bytes out.new ≡ string_bytes out.old ++ text)
+        × IsAnswer flow text scenario.new scenario.old.line (reply_to_line scenario.old line.now)) }
+{
+    match obey(scenario, read_line(line), argument(line), out) {
+        Ok(None) => Ok(Flow::On),
+        Ok(Some(reason)) => bad_line(scenario.line, reason, out),
+        Err(error) => Err(error),
+    }
+}
+
+impl Machine for Scenario {
+    ghost says = { says };
+
+    ghost says_nothing = { λ s. refl };
+
+    fn take(&mut self, line: &[u8], out: &mut String) -> Result<Flow, AllocError> {
+        self.line = self.line.saturating_add(1);
+        answer(self, without_cr(line), out)
+    }
+}

@@ -1,0 +1,41 @@
+//! The state of a scenario: what its lines have set up so far.
+
+ghost use Rattle.std.specs.Prelude.{◌≡◌};
+ghost use Rattle.squall_run.specs.Text.{at_start};
+
+use squall_board::Board;
+use squall_course::Course;
+use squall_plan::Plan;
+use std::alloc::Global;
+
+/// How far the plans of a scenario are read.
+#[derive(Drop)]
+pub(crate) enum Stage {
+    /// No plan.
+    Unplanned,
+    /// The old plan.
+    Planned(Plan),
+    /// Both plans: the course from the old one to the new one.
+    Running(Course),
+}
+
+/// A scenario after some lines.
+#[derive(Drop)]
+pub(crate) struct Scenario {
+    /// How many lines there were, bad and skipped ones too.
+    pub(crate) line: u64,
+    pub(crate) stage: Stage,
+    /// What was reported.
+    pub(crate) board: Board,
+}
+
+/// A scenario before its first line.
+pub(crate) fn start(alloc: Global) -> Scenario
+    ensures { result ≡ at_start }
+{
+    Scenario {
+        line: 0,
+        stage: Stage::Unplanned,
+        board: Board::new(alloc),
+    }
+}
