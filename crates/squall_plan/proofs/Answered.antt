@@ -1,13 +1,13 @@
 -- Ranges have one answer.
-use Rattle.std.proofs.Common.{◌≡◌, ℕ, ◌+◌, ◌<◌, ◌≤◌, List, [], ◌∷◌, Option, Some, None, Result, Ok, Err, length, refl, sym, ap, ◌∙◌, arith, inl, inr}
+use Rattle.std.proofs.Common.{◌≡◌, ℕ, ◌<◌, ◌≤◌, List, [], ◌∷◌, Option, Some, None, Result, Ok, Err, length, refl, sym, ap, ◌∙◌, arith, inl, inr}
 use Rattle.std.specs.Prelude.{◌≢◌}
 use Rattle.std.proofs.lemmas.Bool.{cases_lt, lt-ltb, le-ltb}
 use Rattle.squall_key.specs.Keys.{top}
 use Rattle.squall_plan.specs.declared.range.PlanRange.{PlanRange}
 use Rattle.squall_plan.specs.declared.fault.PlanFault.{PlanFault}
 use Rattle.squall_plan.specs.declared.fault.PlanFault.TheVariants.{Json, Shape, BadPart, BadBound, EmptyRange, TooMany, Overlap, Gap, NoMemory}
-use Rattle.squall_plan.specs.Ranges.{holders, owner_of, AreRanges, AreApart, ArePlan, IsLeastShared, IsLeastFree, IsPlanOf}
-use Rattle.squall_plan.specs.Arranged.{range_limit, IsArranged, Gives, by_low, clash, hole, joined, plan_of_rising, plan_of_ranges}
+use Rattle.squall_plan.specs.Ranges.{holders, AreRanges, ArePlan, IsLeastShared, IsLeastFree}
+use Rattle.squall_plan.specs.Arranged.{range_limit, IsArranged, Gives, by_low, clash, hole, plan_of_rising, plan_of_ranges}
 use Rattle.squall_plan.proofs.Sweeps.{has_above}
 use Rattle.squall_plan.proofs.Canonical.{same_list}
 use Rattle.squall_plan.proofs.Sorted.{Sorts, by_low_sorts, is_shared, is_free, is_plan}

@@ -1,11 +1,10 @@
 -- A plan has one canonical list.
-use Rattle.std.proofs.Common.{◌≡◌, ℕ, ◌+◌, ◌<◌, ◌≤◌, List, [], ◌∷◌, refl, sym, ap, subst, ◌∙◌, arith, inl, inr}
+use Rattle.std.proofs.Common.{◌≡◌, ℕ, ◌<◌, ◌≤◌, List, [], ◌∷◌, refl, sym, ◌∙◌, arith, inl, inr}
 use Rattle.std.specs.Prelude.{◌≢◌}
 use Rattle.std.proofs.lemmas.Bool.{cases_lt}
-use Rattle.squall_key.specs.Keys.{top, part_limit}
-use Rattle.squall_span.specs.Spans.{Interval}
+use Rattle.squall_key.specs.Keys.{top}
 use Rattle.squall_plan.specs.declared.range.PlanRange.{PlanRange}
-use Rattle.squall_plan.specs.Ranges.{range_has, holders, owner_of, IsTiling, Differ, DifferFrom, IsCanonical}
+use Rattle.squall_plan.specs.Ranges.{owner_of, IsTiling, Differ, DifferFrom, IsCanonical}
 use Rattle.squall_plan.proofs.Sweeps.{has_inside, has_above}
 
 pub tiling_ends : (from : ℕ) (rs : List PlanRange) → IsTiling from rs → from ≤ top
@@ -46,7 +45,7 @@ same_from from (a ∷ xs) [] ta tb da db same = absurd (omega (arith, tb, ta.0, 
 same_from from (a ∷ xs) (b ∷ ys) ta tb da db same =
     let high : a.span.hi ≤ top = tiling_ends a.span.hi xs ta.2 in
     let part : a.part ≡ b.part =
-        sym (owner_first from a xs (omega (arith, ta.0)) (omega (arith, ta.0, ta.1))) ∙ same from (omega arith) (omega (arith, ta.0, ta.1)) ∙ owner_first from b ys (omega (arith, tb.0)) (omega (arith, tb.0, tb.1)) in
+    sym (owner_first from a xs (omega (arith, ta.0)) (omega (arith, ta.0, ta.1))) ∙ same from (omega arith) (omega (arith, ta.0, ta.1)) ∙ owner_first from b ys (omega (arith, tb.0)) (omega (arith, tb.0, tb.1)) in
     let hi : a.span.hi ≡ b.span.hi = elim (cases_lt a.span.hi b.span.hi) [
       | inl lt ↦ absurd (no_lower from a b xs ys ta tb da same part lt)
       | inr le ↦ elim (cases_lt b.span.hi a.span.hi) [
@@ -57,7 +56,7 @@ same_from from (a ∷ xs) (b ∷ ys) ta tb da db same =
     let first : a ≡ b = same_range a b (ta.0 ∙ sym tb.0) hi part in
     let tb' : IsTiling a.span.hi ys = rw hi tb.2 in
     let rest : xs ≡ ys = same_from a.span.hi xs ys ta.2 tb' (differ_tail a xs da) (differ_tail b ys db)
-        (λ k from' below. sym (owner_later k a xs from') ∙ same k (omega (arith, ta.0, ta.1)) below ∙ owner_later k b ys (omega (arith, hi))) in
+    (λ k from' below. sym (owner_later k a xs from') ∙ same k (omega (arith, ta.0, ta.1)) below ∙ owner_later k b ys (omega (arith, hi))) in
     rw (first, rest) refl
 
 pub same_list : (ps qs : List PlanRange) → IsCanonical ps → IsCanonical qs → ((k : ℕ) → k < top → owner_of ps k ≡ owner_of qs k) → ps ≡ qs

@@ -1,5 +1,5 @@
 -- Values of a text, their data, and what they list.
-use Rattle.std.proofs.Common.{◌≡◌, ℕ, suc, ◌+◌, ◌<◌, ◌≤◌, Bool, true, false, cond, List, [], ◌∷◌, map, length, Option, Some, None, Result, Ok, Err, refl, sym, ap, ◌∙◌, arith, inl, inr, Bor, Vec, Global, option_map}
+use Rattle.std.proofs.Common.{◌≡◌, ℕ, ◌+◌, ◌<◌, ◌≤◌, Bool, cond, List, [], ◌∷◌, map, length, Option, Some, None, Ok, Err, refl, sym, ap, arith, inl, inr, Bor, Vec, Global, option_map}
 use Rattle.std.specs.Prelude.{position, is_none}
 use Rattle.std.specs.List.{filter_map, prefix_len, cons_option}
 use Rattle.std.specs.Str.{is_utf8, IsUtf8}

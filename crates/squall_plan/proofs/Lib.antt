@@ -6,3 +6,4 @@ pub mod Canonical
 pub mod Sorted
 pub mod Answered
 pub mod Texts
+pub mod Equal

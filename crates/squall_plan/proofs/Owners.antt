@@ -1,10 +1,9 @@
 -- Who has a key.
-use Rattle.std.proofs.Common.{◌≡◌, ℕ, ◌+◌, ◌<◌, ◌≤◌, Bool, true, false, cond, eqb, List, [], ◌∷◌, Option, Some, None, length, get_or, refl, sym, ap, subst, ◌∙◌, arith, inl, inr}
-use Rattle.std.specs.Prelude.{option_map, ◌≢◌}
-use Rattle.std.specs.List.{find, sum_by}
-use Rattle.std.specs.List.Sorted.{IsPermutation, IsNonDecreasingBy}
+use Rattle.std.proofs.Common.{◌≡◌, ℕ, ◌+◌, ◌<◌, ◌≤◌, cond, eqb, List, [], ◌∷◌, refl, sym, ◌∙◌, arith, inl, inr}
+use Rattle.std.specs.Prelude.{◌≢◌}
+use Rattle.std.specs.List.Sorted.{IsPermutation}
 use Rattle.std.proofs.lemmas.Bool.{cases_Bool, cases_lt, eqb-true}
-use Rattle.std.proofs.lemmas.List.Sorted.{sum_by-IsPermutation, All-permutation}
+use Rattle.std.proofs.lemmas.List.Sorted.{sum_by-IsPermutation}
 use Rattle.std.proofs.lemmas.List.Recursion.{is_sum_by}
 use Rattle.std.proofs.lemmas.Bool.Decides.{nat_tests}
 use Rattle.squall_plan.specs.declared.range.PlanRange.{PlanRange}
@@ -57,7 +56,6 @@ holders-IsPermutation k rs ss p = is_sum_by (holders k) (λ r. one (range_has k 
 pub parts-IsPermutation : (k : ℕ) (rs ss : List PlanRange) → IsPermutation rs ss → parts k ss ≡ parts k rs
 parts-IsPermutation k rs ss p = is_sum_by (parts k) (part_if k) refl (λ _ _. refl) ss ∙ sum_by-IsPermutation (part_if k) rs ss p ∙ sym (is_sum_by (parts k) (part_if k) refl (λ _ _. refl) rs)
 
-
 -- ---- neighbours of one partition joined
 
 pub joined_tiles : (from : ℕ) (run : PlanRange) (rs : List PlanRange) → IsTiling from (run ∷ rs) → IsTiling from (joined_from run rs)
@@ -72,28 +70,28 @@ joined_differ run [] = (tt, λ s ne. (ne, tt))
 joined_differ run (r ∷ rs) = elim (cases_Bool (eqb r.part run.part)) [
   | inl is ↦ rw is (joined_differ (ended_at run r.span.hi) rs)
   | inr is ↦
-    let ne : run.part ≢ r.part = grind (arith, nat_tests) in
-    let rest = (joined_differ r rs).1 run ne in
-    rw is (rest, λ s other. (other, rest))
+      let ne : run.part ≢ r.part = grind (arith, nat_tests) in
+      let rest = (joined_differ r rs).1 run ne in
+      rw is (rest, λ s other. (other, rest))
 ]
 
 pub joined_owner : (from : ℕ) (run : PlanRange) (rs : List PlanRange) (k : ℕ) → IsTiling from (run ∷ rs) → owner_of (joined_from run rs) k ≡ owner_of (run ∷ rs) k
 joined_owner from run [] k t = refl
 joined_owner from run (r ∷ rs) k t = elim (cases_Bool (eqb r.part run.part)) [
   | inl is ↦
-    let part-is : r.part ≡ run.part = eqb-true r.part run.part is in
-    let longer = joined_owner from (ended_at run r.span.hi) rs k (t.0, omega (arith, t.1, t.2.0, t.2.1), t.2.2) in
-    let both : owner_of (ended_at run r.span.hi ∷ rs) k ≡ owner_of (run ∷ r ∷ rs) k = elim (cases_lt k run.span.lo) [
-      | inl lt ↦ rw (has_below k (ended_at run r.span.hi) lt, has_below k run lt, has_below k r (omega (arith, t.1, t.2.0))) refl
-      | inr le ↦ elim (cases_lt k run.span.hi) [
-        | inl first ↦ rw (has_inside k (ended_at run r.span.hi) le (omega (arith, t.2.0, t.2.1)), has_inside k run le first) refl
-        | inr past ↦ elim (cases_lt k r.span.hi) [
-          | inl second ↦ rw (has_inside k (ended_at run r.span.hi) le second, has_above k run past, has_inside k r (omega (arith, t.2.0)) second) (sym part-is)
-          | inr beyond ↦ rw (has_above k (ended_at run r.span.hi) beyond, has_above k run past, has_above k r beyond) refl
+      let part-is : r.part ≡ run.part = eqb-true r.part run.part is in
+      let longer = joined_owner from (ended_at run r.span.hi) rs k (t.0, omega (arith, t.1, t.2.0, t.2.1), t.2.2) in
+      let both : owner_of (ended_at run r.span.hi ∷ rs) k ≡ owner_of (run ∷ r ∷ rs) k = elim (cases_lt k run.span.lo) [
+        | inl lt ↦ rw (has_below k (ended_at run r.span.hi) lt, has_below k run lt, has_below k r (omega (arith, t.1, t.2.0))) refl
+        | inr le ↦ elim (cases_lt k run.span.hi) [
+          | inl first ↦ rw (has_inside k (ended_at run r.span.hi) le (omega (arith, t.2.0, t.2.1)), has_inside k run le first) refl
+          | inr past ↦ elim (cases_lt k r.span.hi) [
+            | inl second ↦ rw (has_inside k (ended_at run r.span.hi) le second, has_above k run past, has_inside k r (omega (arith, t.2.0)) second) (sym part-is)
+            | inr beyond ↦ rw (has_above k (ended_at run r.span.hi) beyond, has_above k run past, has_above k r beyond) refl
+          ]
         ]
-      ]
-    ] in
-    rw is (longer ∙ both)
+      ] in
+      rw is (longer ∙ both)
   | inr is ↦ rw is (elim (cases_Bool (range_has k run)) [
     | inl h ↦ rw h refl
     | inr h ↦ rw h (joined_owner run.span.hi r rs k t.2)
@@ -104,7 +102,7 @@ pub joined_ranges : (from : ℕ) (run : PlanRange) (rs : List PlanRange) → IsT
 joined_ranges from run [] t full = full
 joined_ranges from run (r ∷ rs) t full = elim (cases_Bool (eqb r.part run.part)) [
   | inl is ↦
-    rw is (joined_ranges from (ended_at run r.span.hi) rs (t.0, omega (arith, t.1, t.2.0, t.2.1), t.2.2) ((omega (arith, t.1, t.2.0, t.2.1), full.1.0.1, full.0.2), full.1.1))
+      rw is (joined_ranges from (ended_at run r.span.hi) rs (t.0, omega (arith, t.1, t.2.0, t.2.1), t.2.2) ((omega (arith, t.1, t.2.0, t.2.1), full.1.0.1, full.0.2), full.1.1))
   | inr is ↦ rw is (full.0, joined_ranges run.span.hi r rs t.2 full.1)
 ]
 

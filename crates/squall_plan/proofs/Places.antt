@@ -1,10 +1,10 @@
 -- Where in a tiling a key lies.
-use Rattle.std.proofs.Common.{◌≡◌, ℕ, zero, suc, ◌+◌, ◌<◌, ◌≤◌, Bool, true, false, leb, List, [], ◌∷◌, Option, Some, length, get_or, refl, ◌∙◌, arith}
+use Rattle.std.proofs.Common.{◌≡◌, ℕ, zero, suc, ◌<◌, ◌≤◌, true, false, leb, List, [], ◌∷◌, length, get_or, refl, arith}
 use Rattle.std.specs.List.Sorted.{IsNonDecreasingBy, IsPartitionPoint}
 use Rattle.std.proofs.lemmas.Bool.{leb-true, leb-false}
 use Rattle.squall_plan.specs.declared.range.PlanRange.{PlanRange}
 use Rattle.squall_key.specs.Keys.{top}
-use Rattle.squall_plan.specs.Ranges.{range_has, owner_of, IsTiling, IsPlace}
+use Rattle.squall_plan.specs.Ranges.{IsTiling, IsPlace}
 use Rattle.squall_plan.proofs.Sweeps.{has_inside, has_above}
 
 abbrev hi_of : PlanRange → ℕ

@@ -1,16 +1,13 @@
 -- Ranges in any order, and the same by rising low bound.
-use Rattle.std.proofs.Common.{◌≡◌, ℕ, suc, ◌+◌, ◌<◌, ◌≤◌, Bool, true, false, cond, ltb, List, [], ◌∷◌, Option, Some, None, Result, Ok, Err, length, get_or, refl, sym, ap, subst, ◌∙◌, arith, inl, inr}
-use Rattle.std.specs.List.{AllByRecursion, All}
+use Rattle.std.proofs.Common.{◌≡◌, ℕ, suc, ◌+◌, ◌<◌, ◌≤◌, List, [], ◌∷◌, Some, None, length, get_or, refl, sym, ◌∙◌, arith, inl, inr}
 use Rattle.std.specs.List.Sorted.{IsPermutation, IsNonDecreasingBy}
 use Rattle.std.proofs.lemmas.Bool.{cases_lt, lt-ltb, le-ltb}
 use Rattle.std.proofs.lemmas.List.Sorted.{All-permutation}
 use Rattle.std.proofs.lemmas.List.Elements.{All-from_recursion, recursion_from_All}
-use Rattle.squall_key.specs.Keys.{top, part_limit}
+use Rattle.squall_key.specs.Keys.{top}
 use Rattle.squall_plan.specs.declared.range.PlanRange.{PlanRange}
-use Rattle.squall_plan.specs.declared.fault.PlanFault.{PlanFault}
-use Rattle.squall_plan.specs.declared.fault.PlanFault.TheVariants.{Overlap, Gap}
 use Rattle.squall_plan.specs.Ranges.{range_has, holders, owner_of, IsRange, AreRanges, AreApart, ArePlan, IsTiling, IsCanonical, IsLeastShared, IsLeastFree, IsPlanOf}
-use Rattle.squall_plan.specs.Arranged.{range_limit, IsArranged, put_range, by_low, clash, hole, joined, plan_of_rising, fault_or}
+use Rattle.squall_plan.specs.Arranged.{put_range, by_low, clash, hole, joined}
 use Rattle.squall_plan.proofs.Sweeps.{one, RiseFrom, Before, Filled, clash_some, clash_none, hole_some, hole_none}
 use Rattle.squall_plan.proofs.Owners.{part_if, parts, owner_is_parts, tiling_holds, holders-IsPermutation, parts-IsPermutation, joined_tiles, joined_differ, joined_owner, joined_ranges}
 
@@ -98,12 +95,14 @@ is_shared rs ss k s e =
 
 pub is_free : (rs ss : List PlanRange) (k : ℕ) → Sorts rs ss → clash 0 ss ≡ None → hole 0 ss ≡ Some k → AreApart rs × IsLeastFree rs k
 is_free rs ss k s apart e =
-    let found = hole_some nothing 0 0 ss k filled_first s.rises apart e in
-    (λ j. omega (arith, clash_none nothing 0 0 ss at_first s.rises apart j, s.held j), record {
-      below = found.0;
-      free = omega (arith, found.1, s.held k);
-      before = λ j lt. omega (arith, found.2 j lt, s.held j);
-    })
+    let found = hole_some nothing 0 0 ss k filled_first s.rises apart e in (
+      λ j. omega (arith, clash_none nothing 0 0 ss at_first s.rises apart j, s.held j),
+      record {
+        below = found.0;
+        free = omega (arith, found.1, s.held k);
+        before = λ j lt. omega (arith, found.2 j lt, s.held j);
+      },
+    )
 
 pub is_tiling : (rs ss : List PlanRange) → Sorts rs ss → clash 0 ss ≡ None → hole 0 ss ≡ None → IsTiling 0 ss
 is_tiling rs ss s apart whole = hole_none 0 0 ss (omega arith) s.rises apart whole
@@ -124,7 +123,7 @@ is_plan rs ss s apart whole =
       plan = once;
       canonical = joined_canonical ss tiles;
       owners = λ k lt.
-        joined_owners ss k tiles ∙ owner_is_parts k ss (omega (arith, s.held k, once k lt)) ∙ s.owned k ∙ sym (owner_is_parts k rs (omega (arith, once k lt)));
+          joined_owners ss k tiles ∙ owner_is_parts k ss (omega (arith, s.held k, once k lt)) ∙ s.owned k ∙ sym (owner_is_parts k rs (omega (arith, once k lt)));
     }
 
 pub joined_are_ranges : (ss : List PlanRange) → IsTiling 0 ss → AreRanges ss → AreRanges (joined ss)

@@ -1,5 +1,5 @@
 -- What the sweeps over ranges by rising low end find.
-use Rattle.std.proofs.Common.{◌≡◌, ℕ, ◌+◌, ◌<◌, ◌≤◌, Bool, true, false, cond, ltb, List, [], ◌∷◌, Option, Some, None, refl, sym, ap, subst, ◌∙◌, arith, inl, inr}
+use Rattle.std.proofs.Common.{◌≡◌, ℕ, ◌+◌, ◌<◌, ◌≤◌, Bool, true, false, cond, List, [], ◌∷◌, Some, None, refl, subst, arith, inl, inr}
 use Rattle.std.proofs.lemmas.Bool.{cases_lt, lt-ltb, le-ltb}
 use Rattle.std.proofs.lemmas.Bool.Decides.{nat_tests}
 use Rattle.squall_plan.specs.declared.range.PlanRange.{PlanRange}
@@ -61,15 +61,15 @@ pub clash_some : (c : ℕ → ℕ) (low reach : ℕ) (rs : List PlanRange) (k : 
 clash_some c low reach [] k b rise e = absurd cc
 clash_some c low reach (r ∷ rs) k b rise e = elim (cases_lt r.span.lo reach) [
   | inl lt ↦
-    let e1 : Some r.span.lo ≡ Some k = rw (lt-ltb r.span.lo reach lt) at e in
-    let k-is : r.span.lo ≡ k = cc in
-    let two : 2 ≤ c r.span.lo + holders r.span.lo (r ∷ rs) = rw (has_inside r.span.lo r (omega arith) rise.1) (omega (arith, b.last r.span.lo rise.0 lt)) in
-    let less : (j : ℕ) → j < r.span.lo → c j + holders j (r ∷ rs) ≤ 1 = λ j below. rw (has_below j r below, holders_below j r.span.lo rs rise.3 below) (omega (arith, b.once j)) in
-    subst (λ (x : ℕ). (2 ≤ c x + holders x (r ∷ rs)) × ((j : ℕ) → j < x → c j + holders j (r ∷ rs) ≤ 1)) k-is (two, less)
+      let e1 : Some r.span.lo ≡ Some k = rw (lt-ltb r.span.lo reach lt) at e in
+      let k-is : r.span.lo ≡ k = cc in
+      let two : 2 ≤ c r.span.lo + holders r.span.lo (r ∷ rs) = rw (has_inside r.span.lo r (omega arith) rise.1) (omega (arith, b.last r.span.lo rise.0 lt)) in
+      let less : (j : ℕ) → j < r.span.lo → c j + holders j (r ∷ rs) ≤ 1 = λ j below. rw (has_below j r below, holders_below j r.span.lo rs rise.3 below) (omega (arith, b.once j)) in
+      subst (λ (x : ℕ). (2 ≤ c x + holders x (r ∷ rs)) × ((j : ℕ) → j < x → c j + holders j (r ∷ rs) ≤ 1)) k-is (two, less)
   | inr le ↦
-    let e1 : clash r.span.hi rs ≡ Some k = rw (le-ltb r.span.lo reach le) at e in
-    let rest = clash_some (with_range c r) r.span.lo r.span.hi rs k (Before-more c low reach r b le rise.1) rise.3 e1 in
-    (omega (arith, rest.0), λ j below. omega (arith, rest.1 j below))
+      let e1 : clash r.span.hi rs ≡ Some k = rw (le-ltb r.span.lo reach le) at e in
+      let rest = clash_some (with_range c r) r.span.lo r.span.hi rs k (Before-more c low reach r b le rise.1) rise.3 e1 in
+      (omega (arith, rest.0), λ j below. omega (arith, rest.1 j below))
 ]
 
 pub clash_none : (c : ℕ → ℕ) (low reach : ℕ) (rs : List PlanRange) → Before c low reach → RiseFrom low rs → clash reach rs ≡ None
@@ -77,12 +77,12 @@ pub clash_none : (c : ℕ → ℕ) (low reach : ℕ) (rs : List PlanRange) → B
 clash_none c low reach [] b rise e j = omega (arith, b.once j)
 clash_none c low reach (r ∷ rs) b rise e j = elim (cases_lt r.span.lo reach) [
   | inl lt ↦
-    let e1 : Some r.span.lo ≡ None = rw (lt-ltb r.span.lo reach lt) at e in
-    absurd cc
+      let e1 : Some r.span.lo ≡ None = rw (lt-ltb r.span.lo reach lt) at e in
+      absurd cc
   | inr le ↦
-    let e1 : clash r.span.hi rs ≡ None = rw (le-ltb r.span.lo reach le) at e in
-    let rest = clash_none (with_range c r) r.span.lo r.span.hi rs (Before-more c low reach r b le rise.1) rise.3 e1 j in
-    omega (arith, rest)
+      let e1 : clash r.span.hi rs ≡ None = rw (le-ltb r.span.lo reach le) at e in
+      let rest = clash_none (with_range c r) r.span.lo r.span.hi rs (Before-more c low reach r b le rise.1) rise.3 e1 j in
+      omega (arith, rest)
 ]
 
 -- ---- no two of the ranges share a key
@@ -107,54 +107,54 @@ pub hole_some : (c : ℕ → ℕ) (low reach : ℕ) (rs : List PlanRange) (k : �
     → (k < top) × (c k + holders k rs ≡ 0) × ((j : ℕ) → j < k → 1 ≤ c j + holders j rs)
 hole_some c low reach [] k f rise apart e = elim (cases_lt reach top) [
   | inl lt ↦
-    let e1 : Some reach ≡ Some k = rw (lt-ltb reach top lt) at e in
-    let k-is : reach ≡ k = cc in
-    subst (λ (x : ℕ). (x < top) × (c x + 0 ≡ 0) × ((j : ℕ) → j < x → 1 ≤ c j + 0)) k-is (lt, omega (arith, f.none reach (omega arith)), λ j below. omega (arith, f.met j below))
+      let e1 : Some reach ≡ Some k = rw (lt-ltb reach top lt) at e in
+      let k-is : reach ≡ k = cc in
+      subst (λ (x : ℕ). (x < top) × (c x + 0 ≡ 0) × ((j : ℕ) → j < x → 1 ≤ c j + 0)) k-is (lt, omega (arith, f.none reach (omega arith)), λ j below. omega (arith, f.met j below))
   | inr le ↦
-    let e1 : None ≡ Some k = rw (le-ltb reach top le) at e in
-    absurd cc
+      let e1 : None ≡ Some k = rw (le-ltb reach top le) at e in
+      absurd cc
 ]
 hole_some c low reach (r ∷ rs) k f rise apart e = elim (cases_lt r.span.lo reach) [
   | inl lt ↦
-    let bad : Some r.span.lo ≡ None = rw (lt-ltb r.span.lo reach lt) at apart in
-    absurd cc
+      let bad : Some r.span.lo ≡ None = rw (lt-ltb r.span.lo reach lt) at apart in
+      absurd cc
   | inr le ↦
-    let apart1 : clash r.span.hi rs ≡ None = rw (le-ltb r.span.lo reach le) at apart in
-    elim (cases_lt reach r.span.lo) [
-      | inl lt ↦
-        let e1 : Some reach ≡ Some k = rw (lt-ltb reach r.span.lo lt) at e in
-        let k-is : reach ≡ k = cc in
-        let zero : c reach + holders reach (r ∷ rs) ≡ 0 = rw (has_below reach r lt, holders_below reach r.span.lo rs rise.3 lt) (omega (arith, f.none reach (omega arith))) in
-        let some : (j : ℕ) → j < reach → 1 ≤ c j + holders j (r ∷ rs) = λ j below. omega (arith, f.met j below) in
-        let high : reach < top = omega (arith, rise.1, rise.2) in
-        subst (λ (x : ℕ). (x < top) × (c x + holders x (r ∷ rs) ≡ 0) × ((j : ℕ) → j < x → 1 ≤ c j + holders j (r ∷ rs))) k-is (high, zero, some)
-      | inr up ↦
-        let e1 : hole r.span.hi rs ≡ Some k = rw (le-ltb reach r.span.lo up) at e in
-        let rest = hole_some (with_range c r) r.span.lo r.span.hi rs k (Filled-more c reach r f (omega arith) rise.1 rise.2) rise.3 apart1 e1 in
-        (rest.0, omega (arith, rest.1), λ j below. omega (arith, rest.2 j below))
-    ]
+      let apart1 : clash r.span.hi rs ≡ None = rw (le-ltb r.span.lo reach le) at apart in
+      elim (cases_lt reach r.span.lo) [
+        | inl lt ↦
+            let e1 : Some reach ≡ Some k = rw (lt-ltb reach r.span.lo lt) at e in
+            let k-is : reach ≡ k = cc in
+            let zero : c reach + holders reach (r ∷ rs) ≡ 0 = rw (has_below reach r lt, holders_below reach r.span.lo rs rise.3 lt) (omega (arith, f.none reach (omega arith))) in
+            let some : (j : ℕ) → j < reach → 1 ≤ c j + holders j (r ∷ rs) = λ j below. omega (arith, f.met j below) in
+            let high : reach < top = omega (arith, rise.1, rise.2) in
+            subst (λ (x : ℕ). (x < top) × (c x + holders x (r ∷ rs) ≡ 0) × ((j : ℕ) → j < x → 1 ≤ c j + holders j (r ∷ rs))) k-is (high, zero, some)
+        | inr up ↦
+            let e1 : hole r.span.hi rs ≡ Some k = rw (le-ltb reach r.span.lo up) at e in
+            let rest = hole_some (with_range c r) r.span.lo r.span.hi rs k (Filled-more c reach r f (omega arith) rise.1 rise.2) rise.3 apart1 e1 in
+            (rest.0, omega (arith, rest.1), λ j below. omega (arith, rest.2 j below))
+      ]
 ]
 
 -- with no hole, the ranges tile
 pub hole_none : (low reach : ℕ) (rs : List PlanRange) → reach ≤ top → RiseFrom low rs → clash reach rs ≡ None → hole reach rs ≡ None → IsTiling reach rs
 hole_none low reach [] high rise apart e = elim (cases_lt reach top) [
   | inl lt ↦
-    let e1 : Some reach ≡ None = rw (lt-ltb reach top lt) at e in
-    absurd cc
+      let e1 : Some reach ≡ None = rw (lt-ltb reach top lt) at e in
+      absurd cc
   | inr le ↦ omega arith
 ]
 hole_none low reach (r ∷ rs) high rise apart e = elim (cases_lt r.span.lo reach) [
   | inl lt ↦
-    let bad : Some r.span.lo ≡ None = rw (lt-ltb r.span.lo reach lt) at apart in
-    absurd cc
+      let bad : Some r.span.lo ≡ None = rw (lt-ltb r.span.lo reach lt) at apart in
+      absurd cc
   | inr le ↦
-    let apart1 : clash r.span.hi rs ≡ None = rw (le-ltb r.span.lo reach le) at apart in
-    elim (cases_lt reach r.span.lo) [
-      | inl lt ↦
-        let e1 : Some reach ≡ None = rw (lt-ltb reach r.span.lo lt) at e in
-        absurd cc
-      | inr up ↦
-        let e1 : hole r.span.hi rs ≡ None = rw (le-ltb reach r.span.lo up) at e in
-        (omega arith, rise.1, hole_none r.span.lo r.span.hi rs rise.2 rise.3 apart1 e1)
-    ]
+      let apart1 : clash r.span.hi rs ≡ None = rw (le-ltb r.span.lo reach le) at apart in
+      elim (cases_lt reach r.span.lo) [
+        | inl lt ↦
+            let e1 : Some reach ≡ None = rw (lt-ltb reach r.span.lo lt) at e in
+            absurd cc
+        | inr up ↦
+            let e1 : hole r.span.hi rs ≡ None = rw (le-ltb reach r.span.lo up) at e in
+            (omega arith, rise.1, hole_none r.span.lo r.span.hi rs rise.2 rise.3 apart1 e1)
+      ]
 ]

@@ -1,5 +1,5 @@
 -- The plan of a text (this project's text form: JSON, an object whose member `plan` lists entries `part`, `from`, `to`).
-use Rattle.std.specs.Prelude.{◌≡◌, ℕ, ◌^◌, ◌&&◌, nat_lt, Bool, false, List, [], ◌∷◌, codes, Option, Some, None, option_map, option_and_then, is_none, Result, Ok, Err, if◌then◌else◌, position}
+use Rattle.std.specs.Prelude.{ℕ, ◌^◌, ◌&&◌, nat_lt, Bool, false, List, [], ◌∷◌, codes, Option, Some, None, option_map, option_and_then, is_none, Result, Ok, Err, if◌then◌else◌, position}
 use Rattle.std.specs.Option.{option_map_or}
 use Rattle.std.specs.List.{filter_map}
 use Rattle.std.specs.Str.{is_utf8, bytes_eq}

@@ -2,6 +2,7 @@
 pub use Rattle.squall_key.specs.Keys
 pub use Rattle.squall_span.specs.Spans
 pub mod Ranges
+pub mod Equal
 pub mod Arranged
 pub mod Form
 pub mod Faults

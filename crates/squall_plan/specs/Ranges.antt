@@ -1,5 +1,5 @@
 -- Lists of ranges, and what it is to be a plan (a plan assigns ranges of keys to partitions: Squall, SIGMOD 2015).
-use Rattle.std.specs.Prelude.{◌≡◌, ℕ, ◌+◌, ◌<◌, ◌≤◌, Bool, List, [], ◌∷◌, Option, if◌then◌else◌, ◌≢◌, length, slice_index_or}
+use Rattle.std.specs.Prelude.{◌≡◌, ℕ, ◌+◌, ◌<◌, ◌≤◌, Bool, List, [], ◌∷◌, if◌then◌else◌, ◌≢◌, length, slice_index_or}
 use Rattle.std.specs.Option.{option_map_or}
 use Rattle.std.specs.List.{find, AllByRecursion}
 use Rattle.squall_key.specs.Keys.{top, part_limit}

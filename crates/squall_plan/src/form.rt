@@ -86,9 +86,7 @@ fn range_in(entry: &Entry) -> Option<PlanRange>
 fn first_misformed(values: &[Value]) -> Option<usize>
     ensures { result ≡ lacking (λ v. entry_of (view v)) values.now }
 {
-    values
-        .iter()
-        .position(|value| read_entry(value).is_none())
+    values.iter().position(|value| read_entry(value).is_none())
 }
 
 fn first_bad_part(entries: &[Entry]) -> Option<usize>

@@ -2,9 +2,10 @@
 
 ghost use Rattle.std.specs.Prelude.{◌≡◌, ◌<◌, ◌≤◌, IfOk, length};
 ghost use Rattle.squall_plan.specs.Ranges.{IsTiling, IsPlace, IsCanonical, IsRange, AreRanges, owner_of};
+ghost use Rattle.squall_plan.specs.Equal.{are_same_ranges, ranges_equal};
 ghost use Rattle.squall_plan.specs.Arranged.{Gives, IsArranged, range_limit, plan_of_ranges};
 ghost use Rattle.squall_plan.specs.Form.{Follows, ranges_of_text, plan_of_text};
-ghost use Rattle.squall_key.specs.Keys.{top};
+ghost use Rattle.std.specs.Cmp.{partial_equiv_from_equiv};
 
 use crate::fault::PlanFault;
 use crate::form::read_text;
@@ -137,4 +138,19 @@ impl Plan {
         let ranges = Vec::from_slice(alloc, &self.ranges)?;
         Ok(Plan { ranges })
     }
+}
+
+/// Plans are equal where their lists of ranges are, and so where each key has the same owner.
+impl PartialEq for Plan {
+    ghost eq = { are_same_ranges };
+
+    ghost laws = { partial_equiv_from_equiv ranges_equal };
+
+    fn eq(&self, other: &Plan) -> bool {
+        self.ranges == other.ranges
+    }
+}
+
+impl Eq for Plan {
+    ghost laws = { ranges_equal };
 }

@@ -1,4 +1,4 @@
-use Rattle.std.proofs.Common.{rules, ◌≡◌, ◌∙◌, Some, None, ap, Ok, sym}
+use Rattle.std.proofs.Common.{rules, ◌∙◌, ap, Ok}
 use Rattle.squall_plan.proofs.Entries.{entries_bad, entries_good}
 use Rattle.squall_plan.proofs.form.read_entries.Goals as goal
 

@@ -1,4 +1,3 @@
-use Rattle.std.proofs.Common.{rules, sym}
 use Rattle.squall_plan.proofs.Entries.{listed_values}
 use Rattle.squall_plan.proofs.form.read_listed.Goals as goal
 

@@ -1,5 +1,4 @@
-use Rattle.std.proofs.Common.{rules, arith, sym, ◌∙◌, ap, option_and_then}
-use Rattle.squall_plan.specs.Form.{pair_in}
+use Rattle.std.proofs.Common.{rules, sym}
 use Rattle.squall_plan.proofs.Entries.{pair_short, pair_long}
 use Rattle.squall_plan.proofs.form.read_pair.Goals as goal
 

@@ -1,4 +1,4 @@
-use Rattle.std.proofs.Common.{rules, refl, sym, ◌≡◌, ◌∙◌}
+use Rattle.std.proofs.Common.{rules}
 use Rattle.squall_plan.proofs.Sorted.{sorted, is_shared, is_free, is_plan, is_tiling, joined_canonical, joined_are_ranges, sorted_are_ranges}
 use Rattle.squall_plan.proofs.plan.arrange.Goals as goal
 
