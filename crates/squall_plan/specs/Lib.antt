@@ -1,0 +1,8 @@
+-- what the clauses here cite of the crates below
+pub use Rattle.squall_key.specs.Keys
+pub use Rattle.squall_span.specs.Spans
+pub mod Ranges
+pub mod Equal
+pub mod Arranged
+pub mod Form
+pub mod Faults

@@ -1,0 +1,49 @@
+//! Laws of plans, each the contract of a function that does nothing.
+
+ghost use Rattle.std.specs.Prelude.{◌≡◌, ◌≢◌, ◌↔◌, ℕ, ◌<◌, ◌≤◌, true, List, length, Result, Err};
+ghost use Rattle.squall_key.specs.Keys.{top, part_limit};
+ghost use Rattle.squall_plan.specs.declared.range.PlanRange.{PlanRange};
+ghost use Rattle.squall_plan.specs.declared.fault.PlanFault.{PlanFault};
+ghost use Rattle.squall_plan.specs.declared.fault.PlanFault.TheVariants.{NoMemory};
+ghost use Rattle.squall_plan.specs.Ranges.{owner_of, AreRanges, ArePlan, IsCanonical};
+ghost use Rattle.squall_plan.specs.Equal.{are_same_ranges};
+ghost use Rattle.squall_plan.specs.Arranged.{range_limit, IsArranged, plan_of_ranges};
+ghost use Rattle.squall_plan.specs.Form.{plan_of_text};
+
+/// Two canonical lists with the same owners are the same list.
+pub fn one_list()
+    ensures { (ps qs : List PlanRange) → IsCanonical ps → IsCanonical qs
+        → ((k : ℕ) → k < top → owner_of ps k ≡ owner_of qs k) → ps ≡ qs }
+{}
+
+/// Lists that are found equal are the same list.
+pub fn equal_lists_are_same()
+    ensures { (rs ss : List PlanRange) → are_same_ranges rs ss ≡ true ↔ rs ≡ ss }
+{}
+
+/// Ranges that are a plan, and not too many, are refused for want of memory alone.
+pub fn one_answer()
+    ensures { (rs : List PlanRange) (e : PlanFault) → AreRanges rs → ArePlan rs → length rs ≤ range_limit
+        → IsArranged rs (Err e) → e ≡ NoMemory }
+{}
+
+/// The answer as a function is the answer by its meaning.
+pub fn answer_has_meaning()
+    ensures { (rs : List PlanRange) → AreRanges rs → IsArranged rs (plan_of_ranges rs) }
+{}
+
+/// As a function of ranges or of a text, the answer is never want of memory.
+pub fn answer_needs_no_memory()
+    ensures ranges { (rs : List PlanRange) → AreRanges rs → plan_of_ranges rs ≢ Err NoMemory }
+    ensures text { (text : List ℕ) → plan_of_text text ≢ Err NoMemory }
+{}
+
+/// In a canonical list each key lies in exactly one range.
+pub fn canonical_is_plan()
+    ensures { (ps : List PlanRange) → IsCanonical ps → ArePlan ps }
+{}
+
+/// The owner of a key in ranges is a partition that there can be.
+pub fn owner_is_part()
+    ensures { (rs : List PlanRange) (k : ℕ) → AreRanges rs → owner_of rs k < part_limit }
+{}
