@@ -1,7 +1,8 @@
 -- Lines, at an LF and at the end.
 use Rattle.std.proofs.Common.{◌≡◌, ℕ, ◌<◌, zero, suc, List, [], ◌∷◌, ◌++◌, length, false, eqb, ap, arith, refl}
 use Rattle.std.proofs.lemmas.Bool.{ne_eqb}
-use Rattle.squall_lines.specs.Lines.{lines_of, onto_first, whole_lines, onto_whole, IsOneLine}
+use Rattle.std.specs.List.{onto_first}
+use Rattle.squall_lines.specs.Lines.{lines_of, whole_lines, onto_whole, IsOneLine}
 
 IsOneLine-rest : (x : ℕ) (a : List ℕ) → IsOneLine (x ∷ a) → IsOneLine a
 IsOneLine-rest x a h = λ k l. h (suc k) (omega arith)

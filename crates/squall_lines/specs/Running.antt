@@ -1,4 +1,4 @@
--- How far a run has come.
+-- How far a run has come, for the functions that make up a run.
 use Rattle.std.specs.Prelude.{◌≡◌, ℕ, List, ◌++◌, take, true, Result, Ok, Err}
 use Rattle.std.specs.List.{concat}
 use Rattle.squall_lines.specs.declared.Flow.{Flow}
@@ -8,30 +8,34 @@ use Rattle.squall_lines.specs.declared.RunFault.TheVariants.{Read, Write, NoMemo
 use Rattle.squall_lines.specs.Lines.{lines_of, whole_lines, IsOneLine}
 use Rattle.squall_lines.specs.Script.{Script, after, text_of, IsFront}
 
--- Of the bytes read all but those left are answered by the text, and the rest is for now to answer.
+-- Of the bytes read all but those left are answered, by the text. The first machine stood at the
+-- start; the machine now answers what is left, and whatever follows it.
 pub record Running (first now : List (List ℕ) → Script) (read left text : List ℕ) : Type 0 where
+  -- the bytes that are answered, and the answers
   pub whole : List ℕ
   pub done : List (List ℕ)
   pub split : read ≡ whole ++ left
+  -- the answered bytes end where a line ends
   pub closed : (tail : List ℕ) → whole_lines (whole ++ tail) ≡ whole ++ whole_lines tail
   pub said : (tail : List ℕ) → first (lines_of (whole ++ tail)) ≡ after done (now (lines_of tail))
   pub written : text ≡ concat done
 
--- the text answers some first lines, each whole
+-- the text is the answers to some first lines, each whole
 abbrev pub Begins : (List (List ℕ) → Script) → List ℕ → List ℕ → Type 0
 Begins says read text = (n : ℕ) × (text ≡ concat (take n (says (lines_of read)).answers))
 
--- the text answers all, and the last line was bad
+-- the text is all that is said, and a line was bad
 abbrev pub Finishes : (List (List ℕ) → Script) → List ℕ → List ℕ → Type 0
 Finishes says read text = (text ≡ text_of (says (lines_of read))) × ((says (lines_of read)).refused ≡ true)
 
--- what was sent when a fault came
+-- what was sent of what is said when a fault came, none of which is a read's
 abbrev pub StopsBy : RunFault → (List (List ℕ) → Script) → List ℕ → List ℕ → Type 0
 StopsBy Read says read sent = ⊥
 StopsBy Write says read sent = IsFront sent (text_of (says (lines_of read)))
 StopsBy NoMemory says read sent = Begins says read sent
 
--- what a run over a block did
+-- What a block of input came to, for an old machine and the new one that it left: it goes on with
+-- the start of a line left, or a bad line was answered, or a fault came.
 abbrev pub TookBlock : Result Flow RunFault → (List (List ℕ) → Script) → (List (List ℕ) → Script) → List ℕ → List ℕ → List ℕ → Type 0
 TookBlock (Ok On) old new read left sent = Running old new read left sent × IsOneLine left
 TookBlock (Ok End) old new read left sent = Finishes old read sent

@@ -1,4 +1,4 @@
-// The lines of one block, and what is left at the end of the input.
+//! The lines of one block, and what is left at the end of the input.
 ghost use Rattle.std.specs.Prelude.{◌≡◌, ◌≢◌, ◌⊎◌, ℕ, List, [], ◌∷◌, ◌++◌, ◌<◌, length, string_bytes, Ok, Err, IfOk, IfSome, IfNone, OnOk};
 ghost use Rattle.std.specs.Io.KnownBytes.{Appends};
 ghost use Rattle.squall_device.specs.Counts.{IsCountedSince};

@@ -65,7 +65,8 @@ impl From<AllocError> for RunFault {
     }
 }
 
-/// How many bytes one read asks for. Answers of more bytes than this are written at once.
+/// How many bytes one read asks for. Answers that have grown to as many bytes are written before
+/// the next line is answered.
 pub const BLOCK_SIZE: usize = 65536;
 
 /// How many reads one run makes at most, so that it ends whatever the source does.
@@ -87,11 +88,16 @@ fn block_room(alloc: Global, size: usize) -> Result<Vec<u8>, AllocError>
 }
 
 /// Runs the machine over the lines of what `reader` gives, and writes what it says to `writer`.
+/// How far the answers have got is known by what the run returns:
 ///
-/// A bad line ends the run. So does an error: a fault of the reader (or more than `MOST_READS`
-/// reads, each of some bytes), after the lines that came with their LF are answered; a fault of
-/// the writer, or a write that took no byte, after it took a front of the answers; or want of
-/// memory, after some first lines are answered, each whole.
+/// - `Fine`: the input was read to its end, and each line is answered.
+/// - `Refused`: a line was bad. It is answered, as is each line before it, and no read follows.
+/// - `Read`: a read failed, or `MOST_READS` reads came to no end. The lines that were read with
+///   their LF are answered.
+/// - `Write`: a write failed, or took no byte. The writer has a front of the answers.
+/// - `NoMemory`: some first lines are answered, each whole.
+///
+/// After `Refused` and after a fault nothing is known of the machine.
 pub fn run<S: Source, K: Sink, M: Machine>(
     alloc: Global,
     machine: &mut M,
@@ -104,7 +110,7 @@ pub fn run<S: Source, K: Sink, M: Machine>(
         × Appends (K.contents writer.old) (K.contents writer.new) written
         × IsOutcome result (M.says machine.old) read written }
 
-    // `Fine` comes only where a read found the end, and nothing is left.
+    // `Fine` comes only where a read found the end, and then nothing is left.
     ensures fine { result ≡ Ok Ended.Fine → IsCountedSince (S.ends reader.old) (S.ends reader.new) }
     ensures all { result ≡ Ok Ended.Fine → IsAtEnd (S.remaining reader.new) }
 

@@ -1,4 +1,4 @@
-// What answers lines.
+//! What answers lines.
 ghost use Rattle.std.specs.Prelude.{◌≡◌, ℕ, List, [], ◌++◌, ◌<◌, length, IfOk, string_bytes};
 ghost use Rattle.squall_lines.specs.declared.Flow.TheVariants.{End};
 ghost use Rattle.squall_lines.specs.declared.TheConstants.{LONGEST_PIECE};

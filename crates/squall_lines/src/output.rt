@@ -1,4 +1,4 @@
-// Sends what is to go out to a sink.
+//! Sends what is to go out to a sink.
 ghost use Rattle.std.specs.Prelude.{◌≡◌, ◌⊎◌, ℕ, [], length, take, string_bytes, IfErr, OnOk, OnErr};
 ghost use Rattle.std.specs.Io.KnownBytes.{Appends};
 ghost use Rattle.squall_device.specs.Counts.{IsCountedSince};

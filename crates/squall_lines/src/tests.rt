@@ -136,12 +136,19 @@ fn texts_are_answered(rt: HostRuntime) -> Result<(), Fail> {
 fn one_byte_per_read(rt: HostRuntime) -> Result<(), Fail> {
     for reads_left in 0..20u64 {
         let mut sample = Sample;
-        let mut reader = Reader::new(Drip { bytes: INPUT.as_slice(), reads_left });
+        let mut reader = Reader::new(Drip {
+            bytes: INPUT.as_slice(),
+            reads_left,
+        });
         let mut out = Vec::new(rt.alloc());
         let mut writer = Writer::new(&mut out);
         let result = run(rt.alloc(), &mut sample, &mut reader, &mut writer);
         // Thirteen reads give a byte, and the next one finds the end.
-        let wanted = if reads_left < 14 { Err(RunFault::Read) } else { Ok(Ended::Fine) };
+        let wanted = if reads_left < 14 {
+            Err(RunFault::Read)
+        } else {
+            Ok(Ended::Fine)
+        };
         let written = match reads_left {
             0..=2 => 0,
             3..=9 => 2,
@@ -160,13 +167,28 @@ fn one_byte_per_write(rt: HostRuntime) -> Result<(), Fail> {
         for fails in [false, true] {
             let mut sample = Sample;
             let mut reader = Reader::new(INPUT.as_slice());
-            let mut dropper = Dropper { taken: Vec::new(rt.alloc()), writes_left, fails };
+            let mut dropper = Dropper {
+                taken: Vec::new(rt.alloc()),
+                writes_left,
+                fails,
+            };
             let mut writer = Writer::new(&mut dropper);
             let result = run(rt.alloc(), &mut sample, &mut reader, &mut writer);
-            let wanted = if writes_left < 6 { Err(RunFault::Write) } else { Ok(Ended::Fine) };
-            let written = if writes_left < 6 { writes_left as usize } else { 6 };
+            let wanted = if writes_left < 6 {
+                Err(RunFault::Write)
+            } else {
+                Ok(Ended::Fine)
+            };
+            let written = if writes_left < 6 {
+                writes_left as usize
+            } else {
+                6
+            };
             assert_eq!(rt; result, wanted, "at {writes_left}");
-            assert!(rt; dropper.taken.as_slice() == &OUTPUT[..written], "at {writes_left}");
+            assert!(rt;
+                dropper.taken.as_slice() == &OUTPUT[..written],
+                "at {writes_left}"
+            );
         }
     }
     Ok(())
@@ -176,11 +198,17 @@ fn one_byte_per_write(rt: HostRuntime) -> Result<(), Fail> {
 fn long_lines(rt: HostRuntime) -> Result<(), Fail> {
     let mut text = repeated(rt.alloc(), b"a", LONGEST_PIECE)?;
     let mut out = Vec::new(rt.alloc());
-    assert_eq!(rt; run_text(rt.alloc(), text.as_slice(), &mut out), Ok(Ended::Fine));
+    assert_eq!(rt;
+        run_text(rt.alloc(), text.as_slice(), &mut out),
+        Ok(Ended::Fine)
+    );
     assert!(rt; out.as_slice() == b"1048577\n".as_slice());
     text.extend_from_slice(b"a")?;
     out.clear();
-    assert_eq!(rt; run_text(rt.alloc(), text.as_slice(), &mut out), Ok(Ended::Refused));
+    assert_eq!(rt;
+        run_text(rt.alloc(), text.as_slice(), &mut out),
+        Ok(Ended::Refused)
+    );
     assert!(rt; out.as_slice() == b"long\n".as_slice());
     Ok(())
 }
@@ -190,7 +218,10 @@ fn many_lines(rt: HostRuntime) -> Result<(), Fail> {
     let text = repeated(rt.alloc(), b"a\n", 100000)?;
     let wanted = repeated(rt.alloc(), b"1\n", 100000)?;
     let mut out = Vec::new(rt.alloc());
-    assert_eq!(rt; run_text(rt.alloc(), text.as_slice(), &mut out), Ok(Ended::Fine));
+    assert_eq!(rt;
+        run_text(rt.alloc(), text.as_slice(), &mut out),
+        Ok(Ended::Fine)
+    );
     assert!(rt; out == wanted);
     Ok(())
 }
@@ -215,7 +246,12 @@ fn words_of_a_line(rt: HostRuntime) {
 
 #[test]
 fn faults_have_a_text(rt: HostRuntime) -> Result<(), Fail> {
-    let text = format!(in rt.alloc(); "{}, {}, {}", RunFault::Read, RunFault::Write, RunFault::NoMemory)?;
+    let text = format!(in rt.alloc();
+        "{}, {}, {}",
+        RunFault::Read,
+        RunFault::Write,
+        RunFault::NoMemory
+    )?;
     assert_eq!(rt; text.as_str(), "read failed, write failed, no memory");
     Ok(())
 }

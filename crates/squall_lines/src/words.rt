@@ -1,4 +1,4 @@
-// Words of a line: what stands between spaces and tabs.
+//! Words of a line: what stands between spaces and tabs.
 ghost use Rattle.std.specs.Prelude.{◌≡◌, ℕ, List, [], ◌∷◌, ◌<◌, false, length, IfSome, IfNone};
 ghost use Rattle.std.specs.List.{before_first};
 ghost use Rattle.std.specs.Option.{option_map};
