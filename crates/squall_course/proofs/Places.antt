@@ -117,10 +117,10 @@ pub no_sub : (old new : List PlanRange) (k : ℕ) → owner_of old k ≡ owner_o
 no_sub old new k same = rw (same, eq_refl (owner_of new k)) refl
 
 -- the same, of plans and owners under other names
-pub sub_is : (c : Change) (i j ps qs : List PlanRange) (k source dest n : ℕ) → i ≡ c.old → j ≡ c.new → ps ≡ i → qs ≡ j → IsCanonical i → IsCanonical j
+pub sub_is : (c : Change) (i j ps qs : List PlanRange) (k source dest n : ℕ) → i ≡ c.old → j ≡ c.new → ps ≡ i → qs ≡ j → IsCanonical ps → IsCanonical qs
     → k < top → source ≡ owner_of c.old k → dest ≡ owner_of c.new k → dest < part_limit → source ≢ dest → n ≡ few (λ lower. is_dest ps qs source lower) 0 dest → Some n ≡ subplan_of c.old c.new k
 sub_is c i j ps qs k source dest n a b e f t u below s d named apart count =
     let old : ps ≡ c.old = e ∙ a in
     let new : qs ≡ c.new = f ∙ b in
-    let done = sub_is_count c.old c.new k (rw a at t.tiles) (rw b at u.tiles) below (rw d at named) (λ same. apart (s ∙ same ∙ sym d)) in
+    let done = sub_is_count c.old c.new k (rw old at t.tiles) (rw new at u.tiles) below (rw d at named) (λ same. apart (s ∙ same ∙ sym d)) in
     ap Some (rw (old, new, s, d) at count) ∙ sym done
