@@ -52,3 +52,6 @@ pub fn run_text<S: Source, K: Sink>(
     let mut scenario = scenario::start(alloc);
     squall_lines::run(alloc, &mut scenario, reader, writer)
 }
+
+#[cfg(test)]
+mod tests;

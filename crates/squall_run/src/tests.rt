@@ -1,0 +1,203 @@
+use super::*;
+use std::io;
+use std::io::{ErrorKind, Read, Write};
+use std::test::Fail;
+
+const OLD: &str = "old {\"plan\":[{\"part\":1,\"from\":[0,0],\"to\":[3,0]},{\"part\":2,\"from\":[3,0],\"to\":[5,0]},{\"part\":3,\"from\":[5,0],\"to\":[9,0]},{\"part\":4,\"from\":[9,0],\"to\":\"end\"}]}\n";
+const NEW: &str = "new {\"plan\":[{\"part\":1,\"from\":[0,0],\"to\":[2,0]},{\"part\":2,\"from\":[3,0],\"to\":[5,0]},{\"part\":3,\"from\":[2,0],\"to\":[3,0]},{\"part\":3,\"from\":[5,0],\"to\":[6,0]},{\"part\":4,\"from\":[6,0],\"to\":\"end\"}]}\n";
+const LINES: [&str; 9] = [
+    OLD,
+    NEW,
+    "route 2:0\n",
+    "loaded 1 0 3 2:0 3:0\n",
+    "route 2:0\n",
+    "done 1 0 4\n",
+    "route 6:0\n",
+    "route 8:4294967295\n",
+    "route 3:0\n",
+];
+const ANSWERS: [&str; 9] = [
+    "old 4\n",
+    "new 5\n",
+    "route 2:0 1\n",
+    "taken\n",
+    "route 2:0 3\n",
+    "taken\n",
+    "route 6:0 4\n",
+    "route 8:4294967295 4\n",
+    "route 3:0 2\n",
+];
+
+/// The texts, one after another.
+fn joined(alloc: Global, texts: &[&str]) -> Result<String, Fail> {
+    let mut all = String::new(alloc);
+    for text in texts {
+        all.push_str(text)?;
+    }
+    Ok(all)
+}
+
+/// The answers to the lines that end in the first bytes of the input.
+fn answers_to(alloc: Global, front: &[u8]) -> Result<String, Fail> {
+    let mut all = String::new(alloc);
+    let ends = front.iter().filter(|b| **b == b'\n').count();
+    for answer in ANSWERS.iter().take(ends) {
+        all.push_str(answer)?;
+    }
+    Ok(all)
+}
+
+/// Gives one byte a read, and fails at read `fails`, counted from 0.
+#[derive(Drop)]
+struct Drip<'a> {
+    bytes: &'a [u8],
+    fails: usize,
+}
+
+impl Read for Drip<'_> {
+    fn read(&mut self, buf: &mut [u8]) -> io::Result<usize> {
+        if self.fails == 0 {
+            return Err(io::Error::from(ErrorKind::Other));
+        }
+        self.fails -= 1;
+        match (self.bytes, buf) {
+            ([first, rest @ ..], [place, ..]) => {
+                *place = *first;
+                self.bytes = rest;
+                Ok(1)
+            }
+            _ => Ok(0),
+        }
+    }
+}
+
+/// Gives one LF a read, for ever.
+#[derive(Drop)]
+struct Feeds;
+
+impl Read for Feeds {
+    fn read(&mut self, buf: &mut [u8]) -> io::Result<usize> {
+        match buf {
+            [place, ..] => {
+                *place = b'\n';
+                Ok(1)
+            }
+            [] => Ok(0),
+        }
+    }
+}
+
+/// Takes one byte a write, and from write `fails` on fails, or takes nothing.
+#[derive(Drop)]
+struct Drops {
+    taken: Vec<u8>,
+    fails: usize,
+    takes_nothing: bool,
+}
+
+impl Write for Drops {
+    fn write(&mut self, buf: &[u8]) -> io::Result<usize> {
+        if self.fails == 0 {
+            if self.takes_nothing {
+                return Ok(0);
+            }
+            return Err(io::Error::from(ErrorKind::Other));
+        }
+        self.fails -= 1;
+        match buf {
+            [first, ..] => {
+                self.taken.push(*first)?;
+                Ok(1)
+            }
+            [] => Ok(0),
+        }
+    }
+
+    fn flush(&mut self) -> io::Result<()> {
+        Ok(())
+    }
+}
+
+#[test]
+fn whole_input(rt: HostRuntime) -> Result<(), Fail> {
+    let alloc = rt.alloc();
+    let input = joined(alloc, LINES.as_slice())?;
+    let answers = joined(alloc, ANSWERS.as_slice())?;
+    let mut out = Vec::new(alloc);
+    let mut reader = Reader::new(input.as_bytes());
+    let mut writer = Writer::new(&mut out);
+    assert_eq!(rt; run_text(alloc, &mut reader, &mut writer), Ok(Ended::Fine));
+    assert!(rt; out.as_slice() == answers.as_bytes());
+    Ok(())
+}
+
+#[test]
+fn bad_line(rt: HostRuntime) -> Result<(), Fail> {
+    let alloc = rt.alloc();
+    let mut out = Vec::new(alloc);
+    let mut reader = Reader::new(b"\n# a remark\nroute 2:0\nbogus\n".as_slice());
+    let mut writer = Writer::new(&mut out);
+    assert_eq!(rt; run_text(alloc, &mut reader, &mut writer), Ok(Ended::Refused));
+    assert!(rt; out.as_slice() == b"bad line 3: order\n".as_slice());
+    Ok(())
+}
+
+#[test]
+fn a_reader_of_one_byte_that_fails(rt: HostRuntime) -> Result<(), Fail> {
+    let alloc = rt.alloc();
+    let input = joined(alloc, LINES.as_slice())?;
+    let bytes = input.as_bytes();
+    for fails in 0..bytes.len() + 2 {
+        let mut out = Vec::new(alloc);
+        let mut reader = Reader::new(Drip { bytes, fails });
+        let mut writer = Writer::new(&mut out);
+        let outcome = run_text(alloc, &mut reader, &mut writer);
+        let wanted = if fails <= bytes.len() {
+            Err(RunFault::Read)
+        } else {
+            Ok(Ended::Fine)
+        };
+        assert_eq!(rt; outcome, wanted, "at {fails}");
+        let front = if fails < bytes.len() { &bytes[..fails] } else { bytes };
+        let answers = answers_to(alloc, front)?;
+        assert!(rt; out.as_slice() == answers.as_bytes(), "at {fails}");
+    }
+    Ok(())
+}
+
+#[test]
+fn a_writer_of_one_byte_that_stops(rt: HostRuntime) -> Result<(), Fail> {
+    let alloc = rt.alloc();
+    let input = joined(alloc, LINES.as_slice())?;
+    let answers = joined(alloc, ANSWERS.as_slice())?;
+    let bytes = answers.as_bytes();
+    for fails in 0..bytes.len() + 1 {
+        let mut reader = Reader::new(input.as_bytes());
+        let takes_nothing = fails % 2 == 0;
+        let mut drops = Drops {
+            taken: Vec::new(alloc),
+            fails,
+            takes_nothing,
+        };
+        let mut writer = Writer::new(&mut drops);
+        let outcome = run_text(alloc, &mut reader, &mut writer);
+        let wanted = if fails < bytes.len() {
+            Err(RunFault::Write)
+        } else {
+            Ok(Ended::Fine)
+        };
+        assert_eq!(rt; outcome, wanted, "at {fails}");
+        assert!(rt; drops.taken.as_slice() == &bytes[..fails], "at {fails}");
+    }
+    Ok(())
+}
+
+#[test]
+fn line_feeds_for_ever(rt: HostRuntime) {
+    let alloc = rt.alloc();
+    let mut out = Vec::new(alloc);
+    let mut reader = Reader::new(Feeds);
+    let mut writer = Writer::new(&mut out);
+    assert_eq!(rt; run_text(alloc, &mut reader, &mut writer), Err(RunFault::Read));
+    assert!(rt; out.is_empty());
+}
