@@ -8,10 +8,12 @@ ghost use Rattle.squall_lines.specs.Script.{IsOutcome};
 ghost use Rattle.squall_run.specs.Text.{script_of};
 
 mod command;
+mod laws;
 mod reason;
 mod replies;
 mod scenario;
 
+pub use laws::{fine_has_no_bad_line, refused_ends_in_a_bad_line};
 pub use squall_device::{DeviceFault, Reader, Sink, Source, Writer};
 pub use squall_lines::{Ended, MOST_READS, RunFault};
 
