@@ -37,6 +37,7 @@ pub record Reading (first now : List (List ℕ) → Script) (reader reader' writ
   pub running : Running first now read carry sent
   pub one : IsOneLine carry
 
+-- a run ends with this result
 abbrev pub EndsAs : Result Ended RunFault → (List (List ℕ) → Script) → (reader reader' writer writer' : Option (List ℕ)) → Type 0
 EndsAs result first reader reader' writer writer' = (read : List ℕ) × (written : List ℕ) × Consumes reader reader' read × Appends writer writer' written × IsOutcome result first read written
 

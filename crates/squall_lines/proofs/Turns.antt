@@ -10,6 +10,8 @@ use Rattle.squall_lines.proofs.LineLemmas.{lines_of-last, IsOneLine-append}
 use Rattle.std.proofs.KnownBytes.{Appends-trans}
 use Rattle.squall_lines.proofs.RunningLemmas.{Running-line, Running-trans, Begins-now, Finishes-line, Finishes-last, Finishes-later, text_of-running}
 
+-- What was sent is the answers to some first lines, and with what is to go out it answers all that
+-- was read but what is left, which begins with the bytes carried over.
 pub record Turn (first now : List (List ℕ) → Script) (old new : Option (List ℕ)) (read left out carry : List ℕ) : Type 0 where
   pub sent : List ℕ
   pub appends : Appends old new sent

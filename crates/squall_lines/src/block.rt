@@ -57,8 +57,10 @@ pub fn take_block<M: Machine, K: Sink>(
     ensures took { (sent : List ℕ) × Appends (K.contents writer.old) (K.contents writer.new) sent
         × TookBlock result (M.says machine.old) (M.says machine.new) (carry.old.items ++ block.now) carry.new.items sent }
     ensures out { OnOk result (string_bytes out.new ≡ []) }
-    ensures uncounted { OnOk result ((K.faults writer.new ≡ K.faults writer.old) × (K.empties writer.new ≡ K.empties writer.old)) }
-    ensures counted { result ≡ Err RunFault.Write → IsCountedSince (K.faults writer.old) (K.faults writer.new) ⊎ IsCountedSince (K.empties writer.old) (K.empties writer.new) }
+    ensures uncounted { OnOk result ((K.faults writer.new ≡ K.faults writer.old)
+        × (K.empties writer.new ≡ K.empties writer.old)) }
+    ensures counted { result ≡ Err RunFault.Write → IsCountedSince (K.faults writer.old) (K.faults writer.new)
+        ⊎ IsCountedSince (K.empties writer.old) (K.empties writer.new) }
 {
     let mut rest = block;
     while let Some((line, others)) = first_line(rest) {
@@ -97,7 +99,8 @@ pub fn take_last<M: Machine, K: Sink>(
     ensures took { (sent : List ℕ) × Appends (K.contents writer.old) (K.contents writer.new) sent
         × IsOutcome result (M.says machine.old) carry.now sent }
     ensures only { result ≢ Err RunFault.Read }
-    ensures counted { result ≡ Err RunFault.Write → IsCountedSince (K.faults writer.old) (K.faults writer.new) ⊎ IsCountedSince (K.empties writer.old) (K.empties writer.new) }
+    ensures counted { result ≡ Err RunFault.Write → IsCountedSince (K.faults writer.old) (K.faults writer.new)
+        ⊎ IsCountedSince (K.empties writer.old) (K.empties writer.new) }
 {
     if carry.is_empty() {
         return Ok(Ended::Fine);

@@ -97,7 +97,7 @@ fn block_room(alloc: Global, size: usize) -> Result<Vec<u8>, AllocError>
 /// - `Write`: a write failed, or took no byte. The writer has a front of the answers.
 /// - `NoMemory`: some first lines are answered, each whole.
 ///
-/// After `Refused` and after a fault nothing is known of the machine.
+/// Nothing is known of the machine afterwards.
 pub fn run<S: Source, K: Sink, M: Machine>(
     alloc: Global,
     machine: &mut M,

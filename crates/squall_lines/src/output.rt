@@ -11,8 +11,10 @@ use squall_device::{DeviceFault, Sink};
 fn send<K: Sink>(writer: &mut K, bytes: &[u8]) -> Result<(), DeviceFault>
     ensures ok { OnOk result (Appends (K.contents writer.old) (K.contents writer.new) bytes.now) }
     ensures err { OnErr result ((n : ℕ) × Appends (K.contents writer.old) (K.contents writer.new) (take n bytes.now)) }
-    ensures uncounted { OnOk result ((K.faults writer.new ≡ K.faults writer.old) × (K.empties writer.new ≡ K.empties writer.old)) }
-    ensures counted { OnErr result (IsCountedSince (K.faults writer.old) (K.faults writer.new) ⊎ IsCountedSince (K.empties writer.old) (K.empties writer.new)) }
+    ensures uncounted { OnOk result ((K.faults writer.new ≡ K.faults writer.old)
+        × (K.empties writer.new ≡ K.empties writer.old)) }
+    ensures counted { OnErr result (IsCountedSince (K.faults writer.old) (K.faults writer.new)
+        ⊎ IsCountedSince (K.empties writer.old) (K.empties writer.new)) }
 {
     let mut rest = bytes;
     while !rest.is_empty() {
@@ -31,8 +33,10 @@ pub fn flush<K: Sink>(writer: &mut K, out: &mut String) -> Result<(), RunFault>
     ensures empty { OnOk result (string_bytes out.new ≡ []) }
     ensures err { OnErr result ((n : ℕ) × Appends (K.contents writer.old) (K.contents writer.new) (take n (string_bytes out.old))) }
     ensures only { IfErr result (λ e. e ≡ RunFault.Write) }
-    ensures uncounted { OnOk result ((K.faults writer.new ≡ K.faults writer.old) × (K.empties writer.new ≡ K.empties writer.old)) }
-    ensures counted { OnErr result (IsCountedSince (K.faults writer.old) (K.faults writer.new) ⊎ IsCountedSince (K.empties writer.old) (K.empties writer.new)) }
+    ensures uncounted { OnOk result ((K.faults writer.new ≡ K.faults writer.old)
+        × (K.empties writer.new ≡ K.empties writer.old)) }
+    ensures counted { OnErr result (IsCountedSince (K.faults writer.old) (K.faults writer.new)
+        ⊎ IsCountedSince (K.empties writer.old) (K.empties writer.new)) }
 {
     if send(writer, out.as_bytes()).is_err() {
         return Err(RunFault::Write);
