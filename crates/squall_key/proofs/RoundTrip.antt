@@ -1,7 +1,7 @@
 -- What is printed is read again.
-use Rattle.std.proofs.Common.{◌≡◌, ℕ, zero, suc, ◌+◌, ◌-◌, ◌*◌, ◌/◌, ◌%◌, ◌^◌, ◌<◌, ◌≤◌, Bool, true, false, not, List, [], ◌∷◌, ◌++◌, length, length-append, take, drop, Option, None, Some, eqb, ltb, cond, inl, inr, sym, ◌∙◌, ap, arith, refl, rules}
-use Rattle.std.specs.Prelude.{◌⊎◌, ◌↔◌, ◌&&◌, codes, nat_lt, nat_le}
-use Rattle.std.specs.Option.{option_and_then, option_map}
+use Rattle.std.proofs.Common.{◌≡◌, ℕ, ◌+◌, ◌-◌, ◌^◌, ◌<◌, ◌≤◌, Bool, true, false, not, List, [], ◌∷◌, ◌++◌, length, length-append, take, drop, None, Some, eqb, ltb, cond, inl, inr, arith, refl}
+use Rattle.std.specs.Prelude.{◌⊎◌, ◌↔◌, ◌&&◌, codes}
+use Rattle.std.specs.Option.{option_map}
 use Rattle.std.specs.Bool.{Decides}
 use Rattle.std.proofs.lemmas.Slice.Eq.{bytes_eq-Decides}
 use Rattle.std.specs.Char.{is_ascii_digit}
@@ -15,7 +15,7 @@ use Rattle.std.proofs.lemmas.Fmt.{digits_decimal, digits_value-decimal, decimal_
 use Rattle.std.proofs.Math.Seq.{take-append_seam, drop-append-add}
 use Rattle.std.proofs.lemmas.Str.Parse.{IsNumeralModel, numerals_by_value, tells_all_ascii_digits}
 use Rattle.squall_key.specs.Numbers.{is_number, number_of}
-use Rattle.squall_key.specs.Keys.{top, rank_of, root_of, second_of, is_colon, at_colon, pair_of, key_at, bound_at, key_of, text_of_key, bound_of, text_of_bound}
+use Rattle.squall_key.specs.Keys.{top, rank_of, root_of, second_of, is_colon, at_colon, pair_of, key_of, text_of_key, bound_of, text_of_bound}
 
 own : IsNumeralModel (λ ds. all_ascii_digits ds ≡ true) (digits_value 10)
 own = numerals_by_value _ tells_all_ascii_digits
@@ -94,6 +94,6 @@ bound_of-text bound high = elim (cases_lt bound top) [
 pub rank_order : (root second other_root other_second : ℕ) → second < 2 ^ 32 → other_second < 2 ^ 32
     → (rank_of root second < rank_of other_root other_second) ↔ ((root < other_root) ⊎ ((root ≡ other_root) × (second < other_second)))
 rank_order r s r2 s2 l l2 = (
-    λ less. elim (cases_lt r r2) [ | inl lower ↦ inl lower | inr from ↦ inr (omega arith, omega arith) ],
-    λ order. omega arith,
-  )
+  λ less. elim (cases_lt r r2) [ inl lower ↦ inl lower | inr from ↦ inr (omega arith, omega arith) ],
+  λ order. omega arith,
+)

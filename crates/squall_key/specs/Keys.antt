@@ -1,5 +1,5 @@
 -- Keys, bounds and partitions as numbers (profile of this project; a plan assigns ranges of keys to partitions: Squall, SIGMOD 2015).
-use Rattle.std.specs.Prelude.{◌≡◌, ℕ, ◌+◌, ◌*◌, ◌/◌, ◌%◌, ◌^◌, ◌<◌, ◌≤◌, ◌-◌, Bool, ◌&&◌, ◌||◌, ◌==◌, List, [], ◌∷◌, ◌++◌, Option, None, Some, nat_lt, nat_le, if◌then◌else◌, codes, position, take, drop}
+use Rattle.std.specs.Prelude.{ℕ, ◌+◌, ◌*◌, ◌/◌, ◌%◌, ◌^◌, ◌-◌, Bool, ◌==◌, List, ◌∷◌, ◌++◌, Option, None, Some, nat_lt, nat_le, if◌then◌else◌, codes, position, take, drop}
 use Rattle.std.specs.Option.{option_and_then, option_map}
 use Rattle.std.specs.Fmt.{decimal}
 use Rattle.std.specs.Str.{bytes_eq}

@@ -6,18 +6,15 @@ ghost use Rattle.squall_key.specs.Keys.{top, rank_of, key_of, text_of_key, bound
 /// What is printed for a key is read as that key.
 pub fn printed_key_is_read()
     ensures { (key : ℕ) → key < top → key_of (text_of_key key) ≡ Some key }
-{
-}
+{}
 
 /// What is printed for a bound is read as that bound.
 pub fn printed_bound_is_read()
     ensures { (bound : ℕ) → bound ≤ top → bound_of (text_of_bound bound) ≡ Some bound }
-{
-}
+{}
 
 /// Ranks order pairs by root, then by second.
 pub fn rank_is_in_order()
     ensures { (root second other_root other_second : ℕ) → second < 2 ^ 32 → other_second < 2 ^ 32
         → (rank_of root second < rank_of other_root other_second) ↔ ((root < other_root) ⊎ ((root ≡ other_root) × (second < other_second))) }
-{
-}
+{}

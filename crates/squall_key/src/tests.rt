@@ -40,7 +40,19 @@ fn texts(rt: HostRuntime) -> Result<(), Fail> {
     assert_eq!(rt; Bound::read("02:7"), Bound::new(2, 7));
     assert_eq!(rt; Key::read("02:7"), Key::new(2, 7));
     assert_eq!(rt; Key::read("0000000002:0000000007"), Key::new(2, 7));
-    for text in ["end", "2:", ":7", "2", "", "2:7:1", "+2:7", "2: 7", "4294967295:0", "00000000002:7", "2:4294967296"] {
+    for text in [
+        "end",
+        "2:",
+        ":7",
+        "2",
+        "",
+        "2:7:1",
+        "+2:7",
+        "2: 7",
+        "4294967295:0",
+        "00000000002:7",
+        "2:4294967296",
+    ] {
         assert_eq!(rt; Key::read(text), None, "{text}");
     }
     for text in ["END", "4294967295:1", "2:4294967296"] {

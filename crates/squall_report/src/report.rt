@@ -18,7 +18,11 @@ pub enum ReportKind {
         span: Span,
     },
     /// The partition has all the keys that the sub-plan brings it.
-    Done { number: u32, sub: u32, part: u32 },
+    Done {
+        number: u32,
+        sub: u32,
+        part: u32,
+    },
 }
 
 /// A report whose numbers lie within their limits: a reconfiguration from 1 on, a sub-plan and a

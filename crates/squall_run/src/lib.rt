@@ -16,7 +16,6 @@ mod scenario;
 pub use laws::{fine_has_no_bad_line, refused_ends_in_a_bad_line};
 pub use squall_device::{DeviceFault, Reader, Sink, Source, Writer};
 pub use squall_lines::{Ended, MOST_READS, RunFault};
-
 use std::alloc::Global;
 
 /// Answers the lines of a scenario: reads them from `reader` to the end of the input, or to a bad

@@ -1,4 +1,4 @@
-use Rattle.std.proofs.Common.{arith, refl, sym, ◌∙◌}
+use Rattle.std.proofs.Common.{refl, sym, ◌∙◌}
 use Rattle.squall_key.proofs.Digits.{read_more, no_number}
 use Rattle.squall_key.proofs.number.read_number.Goals as goal
 
