@@ -10,8 +10,8 @@ mod sweep;
 
 pub use fault::PlanFault;
 pub use laws::{
-    answer_has_meaning, answer_needs_no_memory, canonical_is_plan, equal_lists_are_same,
-    one_answer, one_list, owner_is_part,
+    answer_has_meaning, answer_is_canonical, answer_needs_no_memory, canonical_is_plan,
+    equal_lists_are_same, one_answer, one_list, owner_is_part,
 };
 pub use plan::Plan;
 pub use range::PlanRange;
