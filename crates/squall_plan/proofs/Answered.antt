@@ -1,16 +1,16 @@
 -- Ranges have one answer.
-use Rattle.std.proofs.Common.{◌≡◌, ℕ, ◌<◌, ◌≤◌, List, [], ◌∷◌, Option, Some, None, Result, Ok, Err, length, refl, sym, ap, ◌∙◌, arith, inl, inr}
+use Rattle.std.proofs.Common.{◌≡◌, ℕ, ◌<◌, ◌≤◌, List, [], ◌∷◌, Option, Some, None, Result, Ok, Err, length, refl, subst, sym, ap, ◌∙◌, arith, inl, inr}
 use Rattle.std.specs.Prelude.{◌≢◌}
 use Rattle.std.proofs.lemmas.Bool.{cases_lt, lt-ltb, le-ltb}
 use Rattle.squall_key.specs.Keys.{top}
 use Rattle.squall_plan.specs.declared.range.PlanRange.{PlanRange}
 use Rattle.squall_plan.specs.declared.fault.PlanFault.{PlanFault}
 use Rattle.squall_plan.specs.declared.fault.PlanFault.TheVariants.{Json, Shape, BadPart, BadBound, EmptyRange, TooMany, Overlap, Gap, NoMemory}
-use Rattle.squall_plan.specs.Ranges.{holders, AreRanges, ArePlan, IsLeastShared, IsLeastFree}
-use Rattle.squall_plan.specs.Arranged.{range_limit, IsArranged, Gives, by_low, clash, hole, plan_of_rising, plan_of_ranges}
-use Rattle.squall_plan.proofs.Sweeps.{has_above}
+use Rattle.squall_plan.specs.Ranges.{IsCanonical, holders, AreRanges, ArePlan, IsLeastShared, IsLeastFree}
+use Rattle.squall_plan.specs.Arranged.{range_limit, IsArranged, Gives, by_low, clash, hole, joined, plan_of_rising, plan_of_ranges}
+use Rattle.squall_plan.proofs.Sweeps.{RiseFrom, has_above, hole_none}
 use Rattle.squall_plan.proofs.Canonical.{same_list}
-use Rattle.squall_plan.proofs.Sorted.{Sorts, by_low_sorts, is_shared, is_free, is_plan}
+use Rattle.squall_plan.proofs.Sorted.{by_low_ranges, joined_are_ranges, Sorts, by_low_sorts, is_shared, is_free, is_plan}
 
 above_all : (k : ℕ) (rs : List PlanRange) → AreRanges rs → top ≤ k → holders k rs ≡ 0
 above_all k [] full le = refl
@@ -107,3 +107,27 @@ given rs (Err e) full a = let f = function_is rs full in given_fault rs e (plan_
 pub many : (rs : List PlanRange) → range_limit < length rs → plan_of_ranges rs ≡ Err TooMany
 unfolding plan_of_ranges
 many rs lt = rw (lt-ltb range_limit (length rs) lt) refl
+
+-- ---- a plan as the function gives it
+
+rising_ranges : (ss ps : List PlanRange) (c h : Option ℕ) → AreRanges ss → RiseFrom 0 ss → clash 0 ss ≡ c → hole 0 ss ≡ h → plan_of_rising ss ≡ Ok ps → AreRanges ps
+rising_ranges ss ps (Some k) h full rises ec eh e = let bad : Err (Overlap k) ≡ Ok ps = rw ec at e in absurd cc
+rising_ranges ss ps None (Some k) full rises ec eh e = let bad : Err (Gap k) ≡ Ok ps = rw (ec, eh) at e in absurd cc
+rising_ranges ss ps None None full rises ec eh e =
+    let made : Ok (joined ss) ≡ Ok ps = rw (ec, eh) at e in
+    let is : joined ss ≡ ps = cc in
+    subst AreRanges is (joined_are_ranges ss (hole_none 0 0 ss (omega arith) rises ec eh) full)
+
+ranges_of_plan : (rs ps : List PlanRange) → AreRanges rs → plan_of_ranges rs ≡ Ok ps → AreRanges ps
+unfolding plan_of_ranges
+ranges_of_plan rs ps full e = elim (cases_lt range_limit (length rs)) [
+  | inl lt ↦ let bad : Err TooMany ≡ Ok ps = rw (lt-ltb range_limit (length rs) lt) at e in absurd cc
+  | inr le ↦
+      let made : plan_of_rising (by_low rs) ≡ Ok ps = rw (le-ltb range_limit (length rs) le) at e in
+      rising_ranges (by_low rs) ps (clash 0 (by_low rs)) (hole 0 (by_low rs)) (by_low_ranges rs full) (by_low_sorts rs full).rises refl refl made
+]
+
+pub canonical_of_plan : (rs ps : List PlanRange) → AreRanges rs → plan_of_ranges rs ≡ Ok ps → IsCanonical ps × AreRanges ps
+canonical_of_plan rs ps full e =
+    let meaning : IsArranged rs (Ok ps) = subst (IsArranged rs) e (function_is rs full).0 in
+    (meaning.1.canonical, ranges_of_plan rs ps full e)

@@ -8,7 +8,7 @@ use Rattle.std.proofs.lemmas.List.Recursion.{is_sum_by}
 use Rattle.std.proofs.lemmas.Bool.Decides.{nat_tests}
 use Rattle.squall_plan.specs.declared.range.PlanRange.{PlanRange}
 use Rattle.squall_key.specs.Keys.{top, part_limit}
-use Rattle.squall_plan.specs.Ranges.{range_has, holders, owner_of, AreRanges, IsTiling, Differ, DifferFrom}
+use Rattle.squall_plan.specs.Ranges.{range_has, holders, owner_of, AreRanges, AreParts, IsTiling, Differ, DifferFrom}
 use Rattle.squall_plan.specs.Arranged.{ended_at, joined_from}
 use Rattle.squall_plan.proofs.Sweeps.{one, has_inside, has_below, has_above}
 
@@ -108,9 +108,13 @@ joined_ranges from run (r ∷ rs) t full = elim (cases_Bool (eqb r.part run.part
 
 -- ---- partitions
 
-pub owner_low : (rs : List PlanRange) (k : ℕ) → AreRanges rs → owner_of rs k < part_limit
+pub are_parts : (rs : List PlanRange) → AreRanges rs → AreParts rs
+are_parts [] full = tt
+are_parts (r ∷ rs) full = (full.0.2, are_parts rs full.1)
+
+pub owner_low : (rs : List PlanRange) (k : ℕ) → AreParts rs → owner_of rs k < part_limit
 owner_low [] k full = omega arith
 owner_low (r ∷ rs) k full = elim (cases_Bool (range_has k r)) [
-  | inl is ↦ rw is full.0.2
+  | inl is ↦ rw is full.0
   | inr is ↦ rw is (owner_low rs k full.1)
 ]

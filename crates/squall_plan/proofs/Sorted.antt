@@ -74,6 +74,17 @@ by_low_sorts (r ∷ rs) full =
       rises = put_rises 0 r (by_low rs) (omega arith) full.0.0 full.0.1 rest.rises;
     }
 
+put_ranges : (r : PlanRange) (rs : List PlanRange) → IsRange r → AreRanges rs → AreRanges (put_range r rs)
+put_ranges r [] full rest = (full, tt)
+put_ranges r (s ∷ ss) full rest = elim (cases_lt s.span.lo r.span.lo) [
+  | inl lt ↦ rw (lt-ltb s.span.lo r.span.lo lt) (rest.0, put_ranges r ss full rest.1)
+  | inr le ↦ rw (le-ltb s.span.lo r.span.lo le) (full, (rest.0, rest.1))
+]
+
+pub by_low_ranges : (rs : List PlanRange) → AreRanges rs → AreRanges (by_low rs)
+by_low_ranges [] full = tt
+by_low_ranges (r ∷ rs) full = put_ranges r (by_low rs) full.0 (by_low_ranges rs full.1)
+
 -- ---- what is found in them
 
 abbrev nothing : ℕ → ℕ

@@ -11,10 +11,10 @@ use Rattle.squall_plan.specs.declared.range.PlanRange.{PlanRange}
 use Rattle.squall_plan.specs.declared.form.Entry.{Entry}
 use Rattle.squall_plan.specs.declared.fault.PlanFault.{PlanFault}
 use Rattle.squall_plan.specs.declared.fault.PlanFault.TheVariants.{Json, Shape, BadPart, BadBound, EmptyRange, TooMany, Overlap, Gap, NoMemory}
-use Rattle.squall_plan.specs.Ranges.{IsRange, AreRanges}
+use Rattle.squall_plan.specs.Ranges.{IsRange, AreRanges, IsCanonical}
 use Rattle.squall_plan.specs.Arranged.{IsArranged, Gives, fault_or, plan_of_ranges}
 use Rattle.squall_plan.specs.Form.{lacking, part_of, bound_in, bounds_of, range_of, ranges_in, entry_of, entries_of, listed_in, then_with, or_fault, ranges_of_data, data_of, ranges_of_text, plan_of_text, Follows}
-use Rattle.squall_plan.proofs.Answered.{function_is}
+use Rattle.squall_plan.proofs.Answered.{function_is, canonical_of_plan}
 
 -- ---- listed ranges are ranges
 
@@ -111,6 +111,14 @@ then_never (Err e) ne = λ q. ne cc
 pub text_never : (text : List ℕ) → plan_of_text text ≢ Err NoMemory
 unfolding plan_of_text
 text_never text = then_never (ranges_of_text text) (read_listed (data_of text))
+
+then_canonical : (r : Result (List PlanRange) PlanFault) (ps : List PlanRange) → IsListed r → then_with plan_of_ranges r ≡ Ok ps → IsCanonical ps × AreRanges ps
+then_canonical (Ok rs) ps full e = canonical_of_plan rs ps full e
+then_canonical (Err f) ps ne e = absurd cc
+
+pub text_canonical : (text : List ℕ) (ps : List PlanRange) → plan_of_text text ≡ Ok ps → IsCanonical ps × AreRanges ps
+unfolding plan_of_text
+text_canonical text ps e = then_canonical (ranges_of_text text) ps (read_listed (data_of text)) e
 
 -- ---- an answer on its way up
 

@@ -26,6 +26,10 @@ IsRange r = (r.span.lo < r.span.hi) × (r.span.hi ≤ top) × (r.part < part_lim
 abbrev pub AreRanges : List PlanRange → Type 0
 AreRanges rs = AllByRecursion IsRange rs
 
+-- each of a partition that there can be
+abbrev pub AreParts : List PlanRange → Type 0
+AreParts rs = AllByRecursion (λ r. r.part < part_limit) rs
+
 -- each key lies in exactly one range
 abbrev pub ArePlan : List PlanRange → Type 0
 ArePlan rs = (k : ℕ) → k < top → holders k rs ≡ 1

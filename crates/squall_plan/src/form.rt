@@ -14,7 +14,7 @@ use squall_key::{Bound, PartId};
 use squall_span::Span;
 use std::alloc::{AllocError, Global};
 
-/// An entry as it stands in the text.
+/// An entry as it stands in the text: its numbers, where the text `end` is the pair of the top.
 #[derive(Clone, Copy)]
 pub(crate) struct Entry {
     pub part: u64,

@@ -1,11 +1,11 @@
 //! Laws of plans, each the contract of a function that does nothing.
 
-ghost use Rattle.std.specs.Prelude.{◌≡◌, ◌≢◌, ◌↔◌, ℕ, ◌<◌, ◌≤◌, true, List, length, Result, Err};
+ghost use Rattle.std.specs.Prelude.{◌≡◌, ◌≢◌, ◌↔◌, ℕ, ◌<◌, ◌≤◌, true, List, length, Result, Ok, Err};
 ghost use Rattle.squall_key.specs.Keys.{top, part_limit};
 ghost use Rattle.squall_plan.specs.declared.range.PlanRange.{PlanRange};
 ghost use Rattle.squall_plan.specs.declared.fault.PlanFault.{PlanFault};
 ghost use Rattle.squall_plan.specs.declared.fault.PlanFault.TheVariants.{NoMemory};
-ghost use Rattle.squall_plan.specs.Ranges.{owner_of, AreRanges, ArePlan, IsCanonical};
+ghost use Rattle.squall_plan.specs.Ranges.{owner_of, AreRanges, AreParts, ArePlan, IsCanonical};
 ghost use Rattle.squall_plan.specs.Equal.{are_same_ranges};
 ghost use Rattle.squall_plan.specs.Arranged.{range_limit, IsArranged, plan_of_ranges};
 ghost use Rattle.squall_plan.specs.Form.{plan_of_text};
@@ -38,12 +38,19 @@ pub fn answer_needs_no_memory()
     ensures text { (text : List ℕ) → plan_of_text text ≢ Err NoMemory }
 {}
 
+/// As a function of ranges or of a text, a plan is a canonical list of ranges.
+pub fn answer_is_canonical()
+    ensures ranges { (rs ps : List PlanRange) → AreRanges rs → plan_of_ranges rs ≡ Ok ps → IsCanonical ps × AreRanges ps }
+    ensures text { (text : List ℕ) (ps : List PlanRange) → plan_of_text text ≡ Ok ps → IsCanonical ps × AreRanges ps }
+{}
+
 /// In a canonical list each key lies in exactly one range.
 pub fn canonical_is_plan()
     ensures { (ps : List PlanRange) → IsCanonical ps → ArePlan ps }
 {}
 
-/// The owner of a key in ranges is a partition that there can be.
+/// The owner of a key is a partition that there can be, where those of all ranges are.
 pub fn owner_is_part()
-    ensures { (rs : List PlanRange) (k : ℕ) → AreRanges rs → owner_of rs k < part_limit }
+    ensures parts { (rs : List PlanRange) (k : ℕ) → AreParts rs → owner_of rs k < part_limit }
+    ensures ranges { (rs : List PlanRange) → AreRanges rs → AreParts rs }
 {}

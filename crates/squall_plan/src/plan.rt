@@ -39,7 +39,7 @@ impl Model for Plan {
     ghost invariant = { λ p. IsCanonical p.ranges.items × AreRanges p.ranges.items };
 }
 
-/// Does nothing: what the types keep of a range.
+/// Changes nothing: after it a proof knows what the types keep of a range.
 fn know_range(range: &PlanRange)
     ensures { IsRange range.now }
 {
@@ -48,7 +48,7 @@ fn know_range(range: &PlanRange)
     let _part = range.part.get();
 }
 
-/// Does nothing: what the types keep of ranges.
+/// Changes nothing: after it a proof knows what the types keep of each range.
 fn know_ranges(ranges: &[PlanRange])
     ensures { AreRanges ranges.now }
 {
@@ -100,8 +100,8 @@ impl Plan {
     /// The plan of ranges in any order.
     ///
     /// The first of these faults that is present: `TooMany` above 4096 ranges, `Overlap` with the
-    /// least key that is in two of them, `Gap` with the least key that is in none. `NoMemory`
-    /// where memory ran out.
+    /// least key that is in two of them, `Gap` with the least key that is in none; or `NoMemory`
+    /// where memory ran out. There is no other fault.
     pub fn from_ranges(alloc: Global, ranges: &[PlanRange]) -> Result<Plan, PlanFault>
         ensures answer { Gives result (plan_of_ranges ranges.now) }
         ensures meaning { IsArranged ranges.now result }
@@ -114,7 +114,7 @@ impl Plan {
         arrange(alloc, &mut sorted)
     }
 
-    /// The partition of a key.
+    /// The partition that owns the key.
     pub fn owner(&self, key: Key) -> PartId
         ensures { result ≡ owner_of self.now key }
     {
