@@ -1,0 +1,25 @@
+//! Values that only grow: join semilattices, and maps, pairs and sets of keys as such.
+//!
+//! A join of two values is the least value that has all that either has. Joins come in any
+//! order, and any number of times, to the same value.
+#![tactic(auto)]
+
+mod basic;
+mod join;
+mod laws;
+mod map;
+mod merge;
+mod pair;
+mod set;
+
+pub use basic::{Flag, Max};
+pub use join::Join;
+pub use laws::{
+    a_joined_map_joins_each_value, equal_lookups_make_equal_maps, facts_lift_through_maps,
+    facts_lift_through_pairs, joins_are_least_upper_bounds,
+};
+pub use map::{JoinMap, MapKey};
+pub use pair::Pair;
+
+#[cfg(test)]
+mod tests;

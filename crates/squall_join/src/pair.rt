@@ -1,0 +1,86 @@
+//! Pairs.
+
+ghost use Rattle.std.specs.Prelude.{◌≡◌};
+ghost use Rattle.squall_join.specs.Pairs.{pair_of, pair_is, pair_join, pair_laws};
+
+use crate::Join;
+use std::alloc::{AllocError, Global};
+
+/// Two values, which are joined each for itself.
+#[derive(Debug, PartialEq, Eq, Drop)]
+pub struct Pair<A, B> {
+    /// The first value.
+    pub first: A,
+    /// The second value.
+    pub second: B,
+}
+
+impl<A, B> Pair<A, B> {
+    /// The pair of two values.
+    pub fn new(first: A, second: B) -> Pair<A, B>
+        ensures { result ≡ pair_of first second }
+    {
+        Pair { first, second }
+    }
+}
+
+impl<A: Join, B: Join> Join for Pair<A, B> {
+    ghost is_value = { pair_is A.is_value B.is_value };
+
+    ghost bottom = { pair_of A.bottom B.bottom };
+
+    ghost join = { pair_join A.join B.join };
+
+    ghost laws = { pair_laws A.laws B.laws };
+
+    fn known(&self) {
+        self.first.known();
+        self.second.known();
+    }
+
+    fn bottom(alloc: Global) -> Pair<A, B> {
+        Pair {
+            first: A::bottom(alloc),
+            second: B::bottom(alloc),
+        }
+    }
+
+    fn is_bottom(&self) -> bool {
+        self.first.is_bottom() && self.second.is_bottom()
+    }
+
+    fn covers(&self, other: &Pair<A, B>) -> bool {
+        self.first.covers(&other.first) && self.second.covers(&other.second)
+    }
+
+    fn joined(&self, alloc: Global, other: &Pair<A, B>) -> Result<Pair<A, B>, AllocError> {
+        Ok(Pair {
+            first: self.first.joined(alloc, &other.first)?,
+            second: self.second.joined(alloc, &other.second)?,
+        })
+    }
+
+    fn copied(&self, alloc: Global) -> Result<Pair<A, B>, AllocError> {
+        Ok(Pair {
+            first: self.first.copied(alloc)?,
+            second: self.second.copied(alloc)?,
+        })
+    }
+
+    /// Joins one half in place where the other half of the argument is the least value. Else it
+    /// makes the join of the first halves, which takes their place once nothing can fail.
+    fn join_in(&mut self, alloc: Global, other: &Pair<A, B>) -> Result<(), AllocError> {
+        if other.second.is_bottom() {
+            self.second.known();
+            return self.first.join_in(alloc, &other.first);
+        }
+        if other.first.is_bottom() {
+            self.first.known();
+            return self.second.join_in(alloc, &other.second);
+        }
+        let first = self.first.joined(alloc, &other.first)?;
+        self.second.join_in(alloc, &other.second)?;
+        self.first = first;
+        Ok(())
+    }
+}
