@@ -4,11 +4,19 @@
 //! and 4 where memory was wanting. What stopped it stands on standard error.
 #![tactic(auto)]
 
+ghost use Rattle.std.specs.Prelude.{◌≡◌, Ok, Err};
+
 use squall_run::{Ended, Reader, RunFault, Writer, run_text};
 use std::process::ExitCode;
 
 /// The status of a run.
-fn status(outcome: Result<Ended, RunFault>) -> u8 {
+fn status(outcome: Result<Ended, RunFault>) -> u8
+    ensures fine { outcome ≡ Ok Ended.Fine → result ≡ 0 }
+    ensures refused { outcome ≡ Ok Ended.Refused → result ≡ 1 }
+    ensures unread { outcome ≡ Err RunFault.Read → result ≡ 3 }
+    ensures unwritten { outcome ≡ Err RunFault.Write → result ≡ 3 }
+    ensures no_memory { outcome ≡ Err RunFault.NoMemory → result ≡ 4 }
+{
     match outcome {
         Ok(Ended::Fine) => 0,
         Ok(Ended::Refused) => 1,

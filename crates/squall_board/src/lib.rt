@@ -4,3 +4,6 @@
 mod board;
 
 pub use board::Board;
+
+#[cfg(test)]
+mod tests;

@@ -4,3 +4,6 @@
 mod report;
 
 pub use report::{Report, ReportKind};
+
+#[cfg(test)]
+mod tests;
