@@ -5,3 +5,4 @@ pub mod Sets
 pub mod Entries
 pub mod MapLaws
 pub mod Facts
+pub mod Flats

@@ -5,6 +5,7 @@
 #![tactic(auto)]
 
 mod basic;
+mod flat;
 mod join;
 mod laws;
 mod map;
@@ -13,6 +14,7 @@ mod pair;
 mod set;
 
 pub use basic::{Flag, Max};
+pub use flat::{Exact, Flat};
 pub use join::Join;
 pub use laws::{
     a_joined_map_joins_each_value, equal_lookups_make_equal_maps, facts_lift_through_maps,

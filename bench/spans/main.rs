@@ -1,0 +1,138 @@
+//! The same in Rust, over a sorted vector.
+
+use std::time::Instant;
+
+const COUNT: u32 = 100000;
+
+#[derive(Clone, Copy)]
+struct Span {
+    lo: u64,
+    hi: u64,
+}
+
+#[derive(Default)]
+struct SpanSet {
+    spans: Vec<Span>,
+}
+
+impl SpanSet {
+    fn insert(&mut self, span: Span) {
+        let from = self.spans.partition_point(|s| s.hi < span.lo);
+        let to = self.spans.partition_point(|s| s.lo <= span.hi);
+        if from == to {
+            self.spans.insert(from, span);
+            return;
+        }
+        self.spans[from] = Span {
+            lo: span.lo.min(self.spans[from].lo),
+            hi: span.hi.max(self.spans[to - 1].hi),
+        };
+        self.spans.drain(from + 1..to);
+    }
+
+    fn has(&self, key: u64) -> bool {
+        let at = self.spans.partition_point(|s| s.hi <= key);
+        self.spans.get(at).is_some_and(|s| s.lo <= key)
+    }
+
+    fn count(&self) -> u64 {
+        self.spans.iter().map(|s| s.hi - s.lo).sum()
+    }
+
+    fn union(&self, other: &SpanSet) -> SpanSet {
+        let mut out: Vec<Span> = Vec::new();
+        let (mut a, mut b) = (&self.spans[..], &other.spans[..]);
+        loop {
+            let next = match (a, b) {
+                ([x, xs @ ..], [y, ..]) if x.lo <= y.lo => {
+                    a = xs;
+                    *x
+                }
+                (_, [y, ys @ ..]) => {
+                    b = ys;
+                    *y
+                }
+                ([x, xs @ ..], []) => {
+                    a = xs;
+                    *x
+                }
+                ([], []) => return SpanSet { spans: out },
+            };
+            match out.last_mut() {
+                Some(last) if next.lo <= last.hi => last.hi = last.hi.max(next.hi),
+                _ => out.push(next),
+            }
+        }
+    }
+
+    fn meet(&self, other: &SpanSet) -> SpanSet {
+        let mut out = Vec::new();
+        let (a, b) = (&self.spans, &other.spans);
+        let (mut i, mut j) = (0, 0);
+        while i < a.len() && j < b.len() {
+            let lo = a[i].lo.max(b[j].lo);
+            let hi = a[i].hi.min(b[j].hi);
+            if lo < hi {
+                out.push(Span { lo, hi });
+            }
+            if a[i].hi < b[j].hi {
+                i += 1;
+            } else {
+                j += 1;
+            }
+        }
+        SpanSet { spans: out }
+    }
+}
+
+fn next(state: u64) -> u64 {
+    state
+        .wrapping_mul(6364136223846793005)
+        .wrapping_add(1442695040888963407)
+}
+
+fn filled(seed: u64) -> SpanSet {
+    let mut set = SpanSet::default();
+    let mut state = seed;
+    for _ in 0..COUNT {
+        state = next(state);
+        let lo = state >> 24;
+        let hi = lo + 1 + ((state >> 4) & 1048575);
+        set.insert(Span { lo, hi });
+    }
+    set
+}
+
+fn found(set: &SpanSet, seed: u64) -> u64 {
+    let mut state = seed;
+    let mut found = 0;
+    for _ in 0..COUNT {
+        state = next(state);
+        found += u64::from(set.has(state >> 24));
+    }
+    found
+}
+
+fn main() {
+    for _ in 0..3 {
+        let start = Instant::now();
+        let first = filled(1);
+        let inserts = start.elapsed().as_micros();
+        let second = filled(2);
+        let start = Instant::now();
+        let keys = found(&first, 3);
+        let lookups = start.elapsed().as_micros();
+        let start = Instant::now();
+        let both = first.union(&second);
+        let union = start.elapsed().as_micros();
+        let start = Instant::now();
+        let common = first.meet(&second);
+        let meet = start.elapsed().as_micros();
+        println!(
+            "inserts {inserts} us, has {lookups} us, union {union} us, meet {meet} us ({} {keys} {} {})",
+            first.spans.len(),
+            both.count(),
+            common.count()
+        );
+    }
+}

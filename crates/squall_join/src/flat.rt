@@ -1,0 +1,121 @@
+//! At most one value: two different ones clash.
+
+ghost use Rattle.std.specs.Prelude.{◌≡◌, ◌==◌, IfOk, Bool};
+ghost use Rattle.squall_join.specs.Flats.{IsExactEq, flat_bottom, flat_is, flat_join, flat_laws, number_exact};
+
+use crate::Join;
+use std::alloc::{AllocError, Global};
+
+/// A type whose values are told apart by a test, and copied.
+pub trait Exact: Drop {
+    /// What holds of each value of the type.
+    ghost is_one: { Self → Type 0 } = { λ _. Unit {0} };
+
+    /// The test that tells two values apart.
+    ghost eq: { Self → Self → Bool };
+
+    /// Shows what holds of each value of the type. It does nothing.
+    fn known(&self)
+        ensures { is_one self.now };
+
+    /// Whether both are one value.
+    fn is_same(&self, other: &Self) -> bool
+        ensures { result ≡ eq self.now other.now };
+
+    /// A copy. An error says that memory ran out.
+    fn copied(&self, alloc: Global) -> Result<Self, AllocError>
+        ensures { IfOk result (λ v. v ≡ self.now) };
+
+    /// The test is exact.
+    ghost exact: { IsExactEq is_one eq };
+}
+
+impl Exact for u32 {
+    ghost eq = { ◌==◌ };
+
+    ghost exact = { number_exact };
+
+    fn known(&self) {}
+
+    fn is_same(&self, other: &u32) -> bool {
+        *self == *other
+    }
+
+    fn copied(&self, _alloc: Global) -> Result<u32, AllocError> {
+        Ok(*self)
+    }
+}
+
+/// Nothing yet, one value, or a clash of different values. The least value is `Unknown`, and
+/// different values join to `Clash`.
+#[derive(Debug, Drop)]
+pub enum Flat<T> {
+    /// No value yet.
+    Unknown,
+    /// One value.
+    One(T),
+    /// Different values came together.
+    Clash,
+}
+
+impl<T: Exact> Join for Flat<T> {
+    ghost is_value = { flat_is T.is_one };
+
+    ghost bottom = { flat_bottom };
+
+    ghost join = { flat_join T.eq };
+
+    ghost laws = { flat_laws T.exact };
+
+    fn known(&self) {
+        if let Flat::One(x) = self {
+            x.known();
+        }
+    }
+
+    fn bottom(_alloc: Global) -> Self {
+        Flat::Unknown
+    }
+
+    fn is_bottom(&self) -> bool {
+        matches!(self, Flat::Unknown)
+    }
+
+    fn covers(&self, other: &Self) -> bool {
+        match (self, other) {
+            (_, Flat::Unknown) => true,
+            (Flat::Clash, _) => true,
+            (Flat::One(x), Flat::One(y)) => x.is_same(y),
+            _ => false,
+        }
+    }
+
+    fn copied(&self, alloc: Global) -> Result<Self, AllocError> {
+        match self {
+            Flat::Unknown => Ok(Flat::Unknown),
+            Flat::One(x) => Ok(Flat::One(x.copied(alloc)?)),
+            Flat::Clash => Ok(Flat::Clash),
+        }
+    }
+
+    fn joined(&self, alloc: Global, other: &Self) -> Result<Self, AllocError> {
+        match (self, other) {
+            (Flat::Unknown, _) => other.copied(alloc),
+            (Flat::One(x), Flat::Unknown) => Ok(Flat::One(x.copied(alloc)?)),
+            (Flat::One(x), Flat::One(y)) => {
+                if x.is_same(y) {
+                    Ok(Flat::One(x.copied(alloc)?))
+                } else {
+                    Ok(Flat::Clash)
+                }
+            }
+            _ => Ok(Flat::Clash),
+        }
+    }
+
+    fn join_in(&mut self, alloc: Global, other: &Self) -> Result<(), AllocError> {
+        let joined = self.joined(alloc, other)?;
+        *self = joined;
+        Ok(())
+    }
+}
