@@ -1,9 +1,9 @@
 -- What a search finds among sorted entries, and what an edit at that place does.
-use Rattle.std.proofs.Common.{◌≡◌, ℕ, zero, suc, ◌+◌, ◌<◌, ◌≤◌, Bool, true, false, cond, T, List, [], ◌∷◌, ◌++◌, length, get_or, set, take, drop, Option, None, Some, Result, Ok, Err, IfOk, IfErr, refl, sym, ap, subst, ◌∙◌, arith, add-one, inl, inr, ◌⊎◌, ◌≢◌, OnOk, OnErr, append-nil, append_assoc, ◌-◌, length-drop}
+use Rattle.std.proofs.Common.{◌≡◌, ℕ, zero, suc, ◌+◌, ◌<◌, ◌≤◌, true, false, cond, T, List, [], ◌∷◌, ◌++◌, length, get_or, set, take, drop, None, Some, Result, Ok, Err, IfOk, IfErr, refl, sym, ap, subst, ◌∙◌, arith, inl, inr, ◌⊎◌, ◌≢◌, OnOk, OnErr, append-nil, append_assoc, ◌-◌, length-drop}
 use Rattle.std.specs.declared.cmp.Ordering.{Ordering}
 use Rattle.std.specs.declared.cmp.Ordering.TheVariants.{Less, Equal, Greater}
-use Rattle.std.specs.Ordering.{is_lt, is_eq, ordering_reverse, eq_by_cmp, ordering_index}
-use Rattle.std.specs.List.{AllByRecursion, insert}
+use Rattle.std.specs.Ordering.{is_eq, ordering_reverse, eq_by_cmp, ordering_index}
+use Rattle.std.specs.List.{insert}
 use Rattle.std.specs.List.Sorted.{IsSearchInRange, IsBinarySearchResult, IsNonDecreasingBy}
 use Rattle.std.specs.Cmp.{IsTotalOrder}
 use Rattle.std.specs.FinMap.Entries.{by_order, is_sorted, below_all, find}
@@ -12,8 +12,8 @@ use Rattle.std.proofs.lemmas.Cmp.{tied_back, alike_right, tied_itself}
 use Rattle.std.proofs.lemmas.List.{set-get_or, get_or_default, drop_all, take_all}
 use Rattle.std.proofs.lemmas.Map.Lookups.{CmpEqualImpliesEq}
 use Rattle.squall_join.specs.Laws.{JoinLaws}
-use Rattle.squall_join.specs.Entries.{join_found, merge_step, merged, IsKept, IsMap, IsAt, IsGap, CoversEntry}
-use Rattle.squall_join.specs.MapLaws.{first, second, less, equal, join_found_none, find_merged, same_map, merged_is, find_tied_below, turned}
+use Rattle.squall_join.specs.Entries.{join_found, merge_step, merged, IsMap, IsAt, IsGap, CoversEntry}
+use Rattle.squall_join.specs.MapLaws.{first, second, less, equal, join_found_none, find_merged, same_map, merged_is}
 
 take_rest : {X : Type 0} (xs : List X) (i : ℕ) → take (length xs - i) (drop i xs) ≡ drop i xs
 take_rest xs i = take_all _ (drop i xs) (omega (arith, length-drop i xs))

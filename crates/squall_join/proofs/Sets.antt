@@ -1,5 +1,5 @@
 -- When a set covers another.
-use Rattle.std.proofs.Common.{◌≡◌, ℕ, ◌<◌, ◌≤◌, Bool, true, false, ◌||◌, List, [], ◌∷◌, length, get_or, refl, sym, ap, subst, ◌∙◌, arith}
+use Rattle.std.proofs.Common.{◌≡◌, ℕ, Bool, true, false, ◌||◌, List, [], ◌∷◌, length, get_or, refl, sym, ap, ◌∙◌, arith}
 use Rattle.std.specs.Prelude.{◌↔◌}
 use Rattle.squall_span.specs.Spans.{Interval, has, IsCanonical, insert_span, union}
 use Rattle.squall_span.specs.SpanLaws.{canonical-union, has-union, same_spans}

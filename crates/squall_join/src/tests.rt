@@ -2,7 +2,7 @@
 
 mod tolerant;
 
-use crate::{Flag, Join, JoinMap, Max, Pair};
+use crate::{Flag, Flat, Join, JoinMap, Max, Pair};
 use squall_key::Bound;
 use squall_span::{Span, SpanSet};
 use std::alloc::{AllocError, Global};
@@ -85,5 +85,17 @@ fn each_type_through_the_bound(rt: HostRuntime) -> Result<(), Fail> {
     let first = Pair::new(few, Max::new(2));
     let second = Pair::new(more, Max::new(1));
     joins(&rt, alloc, &first, &second)?;
+    Ok(())
+}
+
+#[test]
+fn flat_values(rt: HostRuntime) -> Result<(), Fail> {
+    let alloc = rt.alloc();
+    let one: Flat<u32> = Flat::One(7);
+    let other: Flat<u32> = Flat::One(8);
+    assert!(rt; matches!(one.joined(alloc, &Flat::One(7))?, Flat::One(7)));
+    assert!(rt; matches!(one.joined(alloc, &Flat::Unknown)?, Flat::One(7)));
+    assert!(rt; matches!(one.joined(alloc, &other)?, Flat::Clash));
+    joins(&rt, alloc, &one, &other)?;
     Ok(())
 }

@@ -1,5 +1,5 @@
 -- What comparisons of bounds say, and the first of a list.
-use Rattle.std.proofs.Common.{◌≡◌, ℕ, ◌<◌, ◌≤◌, max, min, Bool, true, false, List, [], ◌∷◌, Option, None, Some, refl, sym, ap, arith}
+use Rattle.std.proofs.Common.{◌≡◌, ℕ, ◌<◌, ◌≤◌, max, min, true, false, List, [], ◌∷◌, Some, sym, ap, arith}
 use Rattle.std.specs.Prelude.{slice_get, nat_lt, ◌==◌}
 use Rattle.std.specs.Ordering.{nat_cmp, is_le, is_lt, ord_max, ord_min}
 use Rattle.std.proofs.lemmas.Bool.Decides.{nat_tests}

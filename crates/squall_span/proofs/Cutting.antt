@@ -1,11 +1,11 @@
 -- The two parts of a set that is cut at a bound.
-use Rattle.std.proofs.Common.{◌≡◌, ℕ, zero, suc, ◌+◌, ◌-◌, ◌<◌, ◌≤◌, Bool, true, false, List, [], ◌∷◌, ◌++◌, length, get_or, set, take, drop, refl, sym, ap, subst, ◌∙◌, arith, inl, inr, ◌||◌, nat_lt, nat_le}
+use Rattle.std.proofs.Common.{◌≡◌, ℕ, zero, suc, ◌+◌, ◌<◌, ◌≤◌, Bool, true, false, List, [], ◌∷◌, ◌++◌, length, get_or, set, take, drop, refl, sym, ap, subst, ◌∙◌, arith, inl, inr, ◌||◌, nat_lt, nat_le}
 use Rattle.std.specs.Prelude.{◌&&◌}
 use Rattle.std.proofs.lemmas.Bool.{cases_lt}
 use Rattle.std.proofs.lemmas.List.{drop_all, get_or_read}
 use Rattle.std.proofs.lemmas.Bool.Decides.{nat_tests}
 use Rattle.squall_span.specs.Spans.{Interval, interval, span_has, has, Beyond, IsCanonical, EndsBy, EndsBeyond}
-use Rattle.squall_span.specs.SpanLaws.{has_below, outside_above, outside_below, inside, or_false, or_assoc}
+use Rattle.squall_span.specs.SpanLaws.{has_below, or_false, or_assoc}
 use Rattle.squall_span.specs.Places.{Ended, IsCut}
 use Rattle.squall_span.proofs.Places.{ended_same, ended_ends, ended_front, canonical_drop, from_place}
 use Rattle.squall_span.proofs.Sweeping.{has_ended, has_early}

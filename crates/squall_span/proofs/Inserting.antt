@@ -1,5 +1,5 @@
 -- What an insert leaves, at the places that a search found.
-use Rattle.std.proofs.Common.{◌≡◌, ℕ, zero, suc, ◌+◌, ◌-◌, ◌<◌, ◌≤◌, max, min, Bool, true, false, List, [], ◌∷◌, ◌++◌, length, get_or, set, take, drop, refl, sym, ap, subst, ◌∙◌, arith, inl, inr, length-append}
+use Rattle.std.proofs.Common.{◌≡◌, ℕ, zero, suc, ◌+◌, ◌-◌, ◌<◌, ◌≤◌, max, min, List, [], ◌∷◌, ◌++◌, length, get_or, set, take, drop, refl, sym, ap, subst, ◌∙◌, arith, inl, inr}
 use Rattle.std.proofs.lemmas.Bool.{cases_lt}
 use Rattle.std.proofs.lemmas.List.{get_or_default, take_more_set, take_all, drop-set-lt, length-set, length-drop, append_assoc}
 use Rattle.std.proofs.lemmas.List.Edits.{take-paste}
@@ -9,7 +9,7 @@ use Rattle.squall_span.specs.Spans.{Interval, interval, has, span_has, Beyond, I
 use Rattle.squall_span.specs.SpanLaws.{canonical-insert, has-insert}
 use Rattle.squall_span.specs.Places.{Apart, Started}
 use Rattle.squall_span.proofs.Merging.{insert_after, insert_touching, insert_before}
-use Rattle.squall_span.proofs.Places.{canonical_at, starts_above, ends_rise, starts_rise}
+use Rattle.squall_span.proofs.Places.{canonical_at, starts_above}
 
 apart_tail : (x : Interval) (xs : List Interval) (bound i : ℕ) → Apart (x ∷ xs) bound (suc i) → Apart xs bound i
 apart_tail x xs bound i e = record {

@@ -1,10 +1,9 @@
 -- The steps of a merge of two lists of spans.
-use Rattle.std.proofs.Common.{◌≡◌, ℕ, zero, suc, ◌+◌, ◌-◌, ◌<◌, ◌≤◌, max, min, Bool, true, false, List, [], ◌∷◌, ◌++◌, length, get_or, set, take, drop, refl, sym, ap, subst, ◌∙◌, arith, inl, inr, ◌||◌}
-use Rattle.std.specs.Prelude.{◌⊎◌}
+use Rattle.std.proofs.Common.{◌≡◌, ℕ, zero, suc, ◌+◌, ◌<◌, ◌≤◌, max, Bool, true, false, List, [], ◌∷◌, ◌++◌, length, get_or, set, refl, sym, ap, subst, ◌∙◌, arith, inl, inr, ◌||◌}
 use Rattle.std.proofs.lemmas.Bool.Decides.{nat_tests}
 use Rattle.squall_span.specs.Spans.{Interval, interval, span_has, has, Beyond, IsCanonical, StartsBy, EndsBy, hull, insert_span, union}
 use Rattle.squall_span.specs.Sweeps.{StartsNoEarlier, IsLower}
-use Rattle.squall_span.specs.SpanLaws.{canonical-insert, canonical-union, has-insert, has-union, same_spans, insert_cases, or_comm, or_assoc, or_false}
+use Rattle.squall_span.specs.SpanLaws.{canonical-insert, canonical-union, has-insert, has-union, same_spans, insert_cases, or_comm, or_false}
 
 pub insert_after : (s t : Interval) (ts : List Interval) → s.lo < s.hi → t.lo < t.hi → t.hi < s.lo → insert_span s (t ∷ ts) ≡ t ∷ insert_span s ts
 insert_after s t ts p q lt = grind (arith, nat_tests)

@@ -1,10 +1,10 @@
 -- What a binary search finds among the spans of a set.
-use Rattle.std.proofs.Common.{◌≡◌, ℕ, zero, suc, ◌+◌, ◌<◌, ◌≤◌, Bool, true, false, ◌||◌, List, [], ◌∷◌, ◌++◌, length, get_or, take, drop, refl, sym, ap, subst, ◌∙◌, arith}
+use Rattle.std.proofs.Common.{◌≡◌, ℕ, zero, suc, ◌+◌, ◌<◌, ◌≤◌, false, ◌||◌, List, [], ◌∷◌, length, get_or, take, drop, refl, sym, ap, subst, ◌∙◌, arith}
 use Rattle.std.specs.List.Sorted.{IsNonDecreasingBy}
 use Rattle.std.proofs.lemmas.List.{drop_more, drop_all}
 use Rattle.squall_span.specs.Spans.{Interval, span_has, has, Beyond, IsCanonical, EndsBy, EndsBeyond}
-use Rattle.squall_span.specs.SpanLaws.{outside_above, outside_below, has_below, or_false}
-use Rattle.squall_span.specs.Places.{Ended, Apart, Started}
+use Rattle.squall_span.specs.SpanLaws.{outside_above, has_below, or_false}
+use Rattle.squall_span.specs.Places.{Ended}
 
 pub starts_above : (h : ℕ) (xs : List Interval) (j : ℕ) (d : Interval) → Beyond h xs → IsCanonical xs → j < length xs → h < (get_or xs j d).lo
 starts_above h [] j d b c lt = absurd (omega arith)

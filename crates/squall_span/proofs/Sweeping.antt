@@ -1,9 +1,9 @@
 -- The steps of one pass over two sets.
-use Rattle.std.proofs.Common.{◌≡◌, ℕ, zero, suc, ◌+◌, ◌-◌, ◌<◌, ◌≤◌, max, min, Bool, true, false, List, [], ◌∷◌, ◌++◌, length, refl, sym, ap, subst, ◌∙◌, arith, inl, inr, ◌||◌}
-use Rattle.std.specs.Prelude.{◌⊎◌, not, ◌&&◌}
+use Rattle.std.proofs.Common.{◌≡◌, ℕ, ◌<◌, ◌≤◌, Bool, true, false, List, [], ◌∷◌, refl, sym, ap, subst, ◌∙◌, arith, inl, inr, ◌||◌}
+use Rattle.std.specs.Prelude.{◌⊎◌, ◌&&◌}
 use Rattle.std.proofs.lemmas.Bool.{cases_lt, false≢true}
-use Rattle.squall_span.specs.Spans.{Interval, interval, span_has, has, Beyond, IsCanonical, StartsBy, EndsBy, EndsFrom, EndsBeyond, insert_span}
-use Rattle.squall_span.specs.SpanLaws.{canonical-insert, has-insert, has_below, outside_above, outside_below, inside, or_false}
+use Rattle.squall_span.specs.Spans.{Interval, interval, span_has, has, IsCanonical, StartsBy, EndsBy, EndsFrom, EndsBeyond, insert_span}
+use Rattle.squall_span.specs.SpanLaws.{canonical-insert, has-insert, has_below, outside_above, outside_below, inside}
 use Rattle.squall_span.specs.declared.sweep.Keep.{Keep}
 use Rattle.squall_span.specs.declared.sweep.Keep.TheVariants.{Both, FirstAlone}
 use Rattle.squall_span.specs.Sweeps.{kept}

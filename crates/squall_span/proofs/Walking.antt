@@ -1,8 +1,8 @@
 -- The steps of a walk along two sets.
-use Rattle.std.proofs.Common.{◌≡◌, ℕ, zero, suc, ◌+◌, ◌-◌, ◌<◌, ◌≤◌, max, min, Bool, true, false, List, [], ◌∷◌, refl, sym, ap, subst, ◌∙◌, arith, inl, inr, ◌||◌}
+use Rattle.std.proofs.Common.{◌≡◌, ℕ, ◌+◌, ◌-◌, ◌<◌, ◌≤◌, Bool, true, false, List, [], ◌∷◌, refl, sym, ap, ◌∙◌, arith, inl, inr, ◌||◌}
 use Rattle.std.proofs.lemmas.Bool.{cases_lt, false≢true}
 use Rattle.squall_span.specs.Spans.{Interval, span_has, has, Beyond, IsCanonical}
-use Rattle.squall_span.specs.SpanLaws.{has_below, has_after, has_in, outside_above, outside_below, inside, or_comm}
+use Rattle.squall_span.specs.SpanLaws.{has_after, has_in, outside_below}
 use Rattle.squall_span.proofs.Sweeping.{has_early}
 
 -- the first of the spans starts at most one key after k

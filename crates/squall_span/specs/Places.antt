@@ -1,4 +1,4 @@
--- Places in the list of a set's spans.
+-- Places in the list of a set's spans (this project).
 use Rattle.std.specs.Prelude.{◌≡◌, ℕ, ◌<◌, ◌≤◌, ◌&&◌, nat_lt, nat_le, List, length, slice_index_or}
 use Rattle.squall_span.specs.Spans.{Interval, has, IsCanonical}
 

@@ -1,13 +1,13 @@
 -- Laws of sets of keys: a set has one list of spans, and the keys of each operation (this project).
-use Rattle.std.specs.Prelude.{◌≡◌, ℕ, ◌+◌, ◌<◌, ◌≤◌, min, max, Bool, true, false, ◌&&◌, ◌||◌, nat_lt, nat_le, List, [], ◌∷◌, cond, refl}
-use Rattle.std.proofs.Common.{sym, ap, subst, ◌∙◌, arith, inl, inr}
+use Rattle.std.specs.Prelude.{◌≡◌, ℕ, ◌+◌, ◌<◌, ◌≤◌, min, max, Bool, true, false, ◌||◌, nat_lt, List, [], ◌∷◌, cond, refl}
+use Rattle.std.proofs.Common.{sym, ap, ◌∙◌, arith, inl, inr}
 use Rattle.std.proofs.lemmas.Bool.{cases_lt}
 use Rattle.std.proofs.lemmas.Bool.Decides.{nat_tests}
 use Rattle.std.proofs.Common.{rules}
 use Rattle.std.specs.Cmp.{IsEquivalence, IsPartialEquivalence, partial_equiv_from_equiv}
 use Rattle.std.specs.Cmp.Lexicographic.{lists_equiv}
 use Rattle.std.specs.Cmp.Rules.{comparing}
-use Rattle.squall_span.specs.Spans.{interval_eq, spans_eq, Interval, interval, span_has, has, Beyond, IsCanonical, EndsBy, StartsBy, EndsFrom, EndsBeyond, hull, insert_span, union}
+use Rattle.squall_span.specs.Spans.{interval_eq, spans_eq, Interval, interval, span_has, has, Beyond, IsCanonical, hull, insert_span, union}
 
 pub or_assoc : (a b c : Bool) → ((a || b) || c) ≡ (a || (b || c))
 or_assoc true b c = refl

@@ -1,4 +1,4 @@
--- One pass over two sets.
+-- One pass over two sets (this project).
 use Rattle.std.specs.Prelude.{◌≡◌, ◌≤◌, Bool, ◌&&◌, not, List, [], ◌∷◌, ◌⊎◌}
 use Rattle.squall_span.specs.declared.sweep.Keep.{Keep}
 use Rattle.squall_span.specs.declared.sweep.Keep.TheVariants.{Both, FirstAlone}

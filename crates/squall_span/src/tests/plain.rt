@@ -59,25 +59,52 @@ fn mask_of(set: &SpanSet) -> u32 {
     mask
 }
 
+fn union_of(alloc: Global, first: &SpanSet, second: &SpanSet) -> Result<u32, AllocError> {
+    let set = first.union(alloc, second)?;
+    Ok(mask_of(&set))
+}
+
+fn meet_of(alloc: Global, first: &SpanSet, second: &SpanSet) -> Result<u32, AllocError> {
+    let set = first.meet(alloc, second)?;
+    Ok(mask_of(&set))
+}
+
+fn minus_of(alloc: Global, first: &SpanSet, second: &SpanSet) -> Result<u32, AllocError> {
+    let set = first.minus(alloc, second)?;
+    Ok(mask_of(&set))
+}
+
 #[test]
 fn sets_of_two(rt: HostRuntime) -> Result<(), Fail> {
     let mut state = 1u32;
     for _ in 0..ROUNDS {
         let a = mask(state);
-        state = next(state);
-        let b = mask(state);
-        state = next(state);
+        let b = mask(next(state));
+        state = next(next(state));
         let first = made(&rt, rt.alloc(), a)?;
         let second = made(&rt, rt.alloc(), b)?;
-        assert!(rt; mask_of(&first) == a);
-        assert!(rt; mask_of(&first.union(rt.alloc(), &second)?) == a | b);
-        assert!(rt; mask_of(&first.meet(rt.alloc(), &second)?) == a & b);
-        assert!(rt; mask_of(&first.minus(rt.alloc(), &second)?) == a & !b);
+        let either = union_of(rt.alloc(), &first, &second)?;
+        let both = meet_of(rt.alloc(), &first, &second)?;
+        let alone = minus_of(rt.alloc(), &first, &second)?;
+        assert!(rt; mask_of(&first) == a && either == a | b && both == a & b && alone == a & !b);
         assert!(rt; first.covers(&second) == (b & !a == 0));
-        assert!(rt; first.covers(&first.meet(rt.alloc(), &second)?));
         assert!(rt; (first == second) == (a == b));
-        assert!(rt; first.union(rt.alloc(), &second)? == made(&rt, rt.alloc(), a | b)?);
-        assert!(rt; first.minus(rt.alloc(), &second)? == made(&rt, rt.alloc(), a & !b)?);
+    }
+    Ok(())
+}
+
+#[test]
+fn one_list_for_the_same_keys(rt: HostRuntime) -> Result<(), Fail> {
+    let mut state = 6u32;
+    for _ in 0..ROUNDS {
+        let a = mask(state);
+        let b = mask(next(state));
+        state = next(next(state));
+        let first = made(&rt, rt.alloc(), a)?;
+        let second = made(&rt, rt.alloc(), b)?;
+        let either = first.union(rt.alloc(), &second)?;
+        let wanted = made(&rt, rt.alloc(), a | b)?;
+        assert!(rt; either == wanted);
     }
     Ok(())
 }

@@ -1,6 +1,6 @@
-use Rattle.std.proofs.Common.{◌≡◌, ◌≤◌, ◌<◌, ◌-◌, ℕ, List, [], ◌∷◌, ◌++◌, length, take, drop, set, sym, ap, ◌∙◌, arith, subst}
+use Rattle.std.proofs.Common.{◌≡◌, List, [], ◌∷◌, ◌++◌, take, drop, set, ap, ◌∙◌}
 use Rattle.std.proofs.lemmas.List.{take_rest}
-use Rattle.squall_span.specs.Spans.{Interval, interval}
+use Rattle.squall_span.specs.Spans.{Interval}
 use Rattle.squall_span.proofs.Compared.{below_by, from_by}
 use Rattle.squall_span.proofs.Cutting.{cut_past, cut_before, cut_across}
 use Rattle.squall_span.proofs.edit.cut.Goals as goal

@@ -1,8 +1,8 @@
-use Rattle.std.proofs.Common.{◌≡◌, ℕ, ◌+◌, ◌-◌, ◌<◌, ◌≤◌, List, ◌∷◌, ◌++◌, length, get_or, set, take, drop, max, min, sym, ap, subst, ◌∙◌, arith}
-use Rattle.squall_span.specs.Spans.{Interval, interval, IsCanonical, insert_span}
-use Rattle.squall_span.specs.Places.{Apart, Started}
+use Rattle.std.proofs.Common.{◌≡◌, ◌-◌, ◌<◌, List, take, max, min, sym, ap, subst, ◌∙◌, arith}
+use Rattle.squall_span.specs.Spans.{Interval}
+use Rattle.squall_span.specs.Places.{Started}
 use Rattle.squall_span.proofs.Compared.{max_is, min_is}
-use Rattle.squall_span.proofs.Inserting.{Found, found, insert_between, insert_found, moved_back}
+use Rattle.squall_span.proofs.Inserting.{found, insert_between, insert_found, moved_back}
 use Rattle.squall_span.proofs.edit.insert.Goals as goal
 
 pub returns-then-from-to-clause-value : goal.returns-then-from-to-clause-value

@@ -1,5 +1,3 @@
-use Rattle.std.proofs.Common.{sym, ap, ◌∙◌}
-use Rattle.squall_span.specs.Spans.{insert_span}
 use Rattle.squall_span.proofs.Merging.{merging_step, merging_done}
 use Rattle.squall_span.proofs.sweep.merge.Goals as goal
 

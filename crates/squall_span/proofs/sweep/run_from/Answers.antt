@@ -1,4 +1,4 @@
-use Rattle.std.proofs.Common.{◌≡◌, List, ◌∷◌, ap, sym, subst, ◌∙◌, arith}
+use Rattle.std.proofs.Common.{List, ap, subst, ◌∙◌, arith}
 use Rattle.squall_span.specs.Spans.{Interval, has, IsCanonical}
 use Rattle.squall_span.proofs.Compared.{first_is}
 use Rattle.squall_span.proofs.Sweeping.{has_early}

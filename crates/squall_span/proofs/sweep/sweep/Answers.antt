@@ -1,6 +1,6 @@
-use Rattle.std.proofs.Common.{◌≡◌, ℕ, ◌+◌, ◌-◌, ◌<◌, ◌≤◌, List, [], ◌∷◌, length, take, drop, max, min, true, false, inl, inr, sym, ap, subst, ◌∙◌, arith}
+use Rattle.std.proofs.Common.{◌≡◌, ◌-◌, ◌<◌, ◌≤◌, List, [], length, take, drop, min, inl, inr, sym, ap, subst, ◌∙◌, arith}
 use Rattle.std.proofs.lemmas.List.{take_rest, nil_from_length}
-use Rattle.squall_span.specs.Spans.{Interval, interval, insert_span, has, IsCanonical, EndsBeyond, StartsBy}
+use Rattle.squall_span.specs.Spans.{Interval, insert_span, StartsBy}
 use Rattle.squall_span.proofs.Compared.{first_is, min_is, some_by, none_by}
 use Rattle.squall_span.proofs.Places.{ended_same, ended_ends, canonical_drop}
 use Rattle.squall_span.proofs.Sweeping.{Sweeping, sweeping_none, sweeping_step, sweeping_done, starts_ended}

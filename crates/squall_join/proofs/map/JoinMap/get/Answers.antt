@@ -1,4 +1,4 @@
-use Rattle.std.proofs.Common.{Some, List, get_or, sym, ap, ◌∙◌}
+use Rattle.std.proofs.Common.{Some, get_or, sym, ap, ◌∙◌}
 use Rattle.squall_join.proofs.Places.{find_at, find_gap}
 use Rattle.squall_join.proofs.map.JoinMap.get.Goals as goal
 

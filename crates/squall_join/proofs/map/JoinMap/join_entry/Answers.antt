@@ -1,6 +1,4 @@
-use Rattle.std.proofs.Common.{sym, subst, ◌∙◌, ap}
-use Rattle.squall_join.specs.Entries.{merged, IsMap, IsAt, IsGap}
-use Rattle.squall_join.proofs.Places.{in_place, EditsAt, in_gap}
+use Rattle.squall_join.proofs.Places.{in_place, in_gap}
 use Rattle.squall_join.proofs.map.JoinMap.join_entry.Goals as goal
 
 pub invariant_of-self : goal.invariant_of-self

@@ -1,6 +1,5 @@
-use Rattle.std.proofs.Common.{rules, sym, subst, IfOk, IfErr}
+use Rattle.std.proofs.Common.{rules}
 use Rattle.std.proofs.lemmas.List.Sorted.{answers_always}
-use Rattle.squall_join.specs.Entries.{IsAt, IsGap}
 use Rattle.squall_join.proofs.Places.{searched}
 use Rattle.squall_join.proofs.map.JoinMap.search.Goals as goal
 

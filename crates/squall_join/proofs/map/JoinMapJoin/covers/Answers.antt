@@ -1,4 +1,4 @@
-use Rattle.std.proofs.Common.{sym, ap, ◌∙◌, subst, ◌<◌, ◌≡◌, length, get_or, arith, refl}
+use Rattle.std.proofs.Common.{arith, refl}
 use Rattle.squall_join.proofs.Places.{not_found_not_covered, not_below_not_covered, covers_entry, covers_from_entries, elements_more}
 use Rattle.squall_join.specs.Entries.{CoversEntry}
 use Rattle.squall_join.proofs.map.JoinMapJoin.covers.Goals as goal

@@ -1,4 +1,3 @@
-use Rattle.std.proofs.Common.{sym, ap, ◌∙◌}
 use Rattle.squall_join.specs.MapLaws.{merged_is}
 use Rattle.squall_join.proofs.map.JoinMapJoin.joined.Goals as goal
 

@@ -1,5 +1,5 @@
-use Rattle.std.proofs.Common.{◌≡◌, ◌≤◌, ◌<◌, ℕ, List, length, sym, ap, ◌∙◌, arith, subst}
-use Rattle.squall_span.specs.Spans.{Interval, has, IsCanonical}
+use Rattle.std.proofs.Common.{List, sym, ap, ◌∙◌, arith, subst}
+use Rattle.squall_span.specs.Spans.{Interval, has}
 use Rattle.squall_span.specs.Places.{Ended}
 use Rattle.squall_span.proofs.Compared.{lt_no}
 use Rattle.squall_span.proofs.Places.{has_found, has_none}

@@ -1,5 +1,4 @@
 use Rattle.std.proofs.Common.{arith}
-use Rattle.squall_span.specs.Spans.{Interval, has, span_has, IsCanonical, insert_span}
 use Rattle.squall_span.proofs.Inserting.{kept_canonical, inserted_keys}
 use Rattle.squall_span.proofs.set.SpanSet.insert.Goals as goal
 

@@ -1,5 +1,5 @@
-use Rattle.std.proofs.Common.{◌≡◌, ℕ, List, sym, ap, subst, ◌∙◌, ◌||◌}
-use Rattle.squall_span.specs.Spans.{Interval, has, IsCanonical, union}
+use Rattle.std.proofs.Common.{List, sym, ap, subst, ◌∙◌, ◌||◌}
+use Rattle.squall_span.specs.Spans.{Interval, has, IsCanonical}
 use Rattle.squall_span.specs.SpanLaws.{canonical-union, has-union}
 use Rattle.squall_span.proofs.set.SpanSet.union.Goals as goal
 
