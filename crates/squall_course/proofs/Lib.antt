@@ -8,3 +8,4 @@ pub mod Moved
 pub mod Gathered
 pub mod Started
 pub mod Received
+pub mod Counted

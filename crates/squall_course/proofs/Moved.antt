@@ -31,10 +31,10 @@ below r k lt = grind (arith, nat_tests)
 pub within : (s : Interval) (k : ℕ) → span_has s k ≡ true → (s.lo ≤ k) × (k < s.hi)
 within s k e = grind (arith, nat_tests)
 
-owner_here : (r : PlanRange) (rs : List PlanRange) (k : ℕ) → r.span.lo ≤ k → k < r.span.hi → owner_of (r ∷ rs) k ≡ r.part
+pub owner_here : (r : PlanRange) (rs : List PlanRange) (k : ℕ) → r.span.lo ≤ k → k < r.span.hi → owner_of (r ∷ rs) k ≡ r.part
 owner_here r rs k le lt = rw (inside r k le lt) refl
 
-owner_later : (r : PlanRange) (rs : List PlanRange) (k : ℕ) → r.span.hi ≤ k → owner_of (r ∷ rs) k ≡ owner_of rs k
+pub owner_later : (r : PlanRange) (rs : List PlanRange) (k : ℕ) → r.span.hi ≤ k → owner_of (r ∷ rs) k ≡ owner_of rs k
 owner_later r rs k le = rw (above r k le) refl
 
 -- a range of a plan: it has keys, its partition has them, and another has the key at its end
@@ -89,7 +89,7 @@ Ends old new m = m.span.hi < top → (m.source ≢ owner_of old m.span.hi) ⊎ (
 abbrev Moved : List PlanRange → List PlanRange → Move → Type 0
 Moved old new m = IsMove old new m × Ends old new m
 
-shared_lt : (a b : Interval) → shares a b ≡ true → max a.lo b.lo < min a.hi b.hi
+pub shared_lt : (a b : Interval) → shares a b ≡ true → max a.lo b.lo < min a.hi b.hi
 shared_lt a b e = grind (arith, nat_tests)
 
 moved_one : (old new : List PlanRange) (r s : PlanRange) → Owns old r → Owns new s → shares r.span s.span ≡ true → eqb r.part s.part ≡ false

@@ -1,0 +1,211 @@
+-- What the sub-plans of two plans are, and that no way needs fewer.
+use Rattle.std.proofs.Common.{◌≡◌, ℕ, zero, suc, ◌+◌, ◌<◌, ◌≤◌, max, min, Bool, true, false, eqb, List, [], ◌∷◌, length, get_or, Option, Some, refl, sym, ap, ◌∙◌, arith, inl, inr}
+use Rattle.std.specs.Prelude.{◌||◌, ◌&&◌, not, ◌≢◌, filter, ◌↔◌}
+use Rattle.std.specs.List.{list_any, AllByRecursion, range_with_len}
+use Rattle.std.proofs.lemmas.Bool.{cases_Bool, cases_lt, cases_eq, and_parts, or_parts, or_cases, not-true, eqb-true, eqb-false, ne_eqb, eq-eqb, false≢true}
+use Rattle.std.proofs.lemmas.Option.{slice_get-get_or}
+use Rattle.squall_key.specs.Keys.{top, part_limit}
+use Rattle.squall_plan.specs.declared.range.PlanRange.{PlanRange}
+use Rattle.squall_plan.specs.Ranges.{owner_of, range_has, IsTiling, IsCanonical}
+use Rattle.squall_course.specs.Subplans.{shares, feeds, is_dest, dests, moves, sub_of, most_dests, subplan_count, dest_of, IsFed, IsSplit}
+use Rattle.squall_course.specs.Tables.{Up, ArePlans}
+use Rattle.squall_course.proofs.Rising.{is_in, eq_refl, place_within, at_place}
+use Rattle.squall_course.proofs.Tabled.{dests_in, dests_up}
+use Rattle.squall_course.proofs.Places.{feeds_key, moving_dest}
+use Rattle.squall_course.proofs.Moved.{Owns, owns, shared_lt, owner_here, owner_later}
+
+member : (old new : List PlanRange) (k : ℕ) → ArePlans old new → k < top → moves old new k ≡ true → is_in (owner_of new k) (dests old new (owner_of old k)) ≡ true
+member old new k plans below is =
+    dests_in old new (owner_of old k) (owner_of new k) plans.new_ranges
+    ∙ moving_dest old new k plans.old_canonical.tiles plans.new_canonical.tiles below (not-true _ is)
+
+-- the destination of a moving key's source in its sub-plan is the key's new owner
+pub key_goes : (old new : List PlanRange) (k : ℕ) → ArePlans old new → k < top → moves old new k ≡ true → dest_of old new (sub_of old new k) (owner_of old k) ≡ Some (owner_of new k)
+key_goes old new k plans below is =
+    let here = member old new k plans below is in
+    slice_get-get_or (dests old new (owner_of old k)) (sub_of old new k) 0 (place_within (owner_of new k) (dests old new (owner_of old k)) here)
+    ∙ ap Some (at_place (owner_of new k) 0 (dests old new (owner_of old k)) here)
+
+same_some : (a b : ℕ) → Some a ≡ Some b → a ≡ b
+same_some a b e = cc
+
+pub one_dest : (old new : List PlanRange) (j k : ℕ) → ArePlans old new → j < top → k < top → moves old new j ≡ true → moves old new k ≡ true
+    → owner_of old j ≡ owner_of old k → sub_of old new j ≡ sub_of old new k → owner_of new j ≡ owner_of new k
+one_dest old new j k plans lt lt2 is is2 source sub =
+    same_some _ _ (sym (key_goes old new j plans lt is) ∙ ap (dest_of old new (sub_of old new j)) source ∙ ap (λ n. dest_of old new n (owner_of old k)) sub ∙ key_goes old new k plans lt2 is2)
+
+owner_counted : (old new : List PlanRange) (from k : ℕ) (rs : List PlanRange) → IsTiling from rs → from ≤ k → k < top → length (dests old new (owner_of rs k)) ≤ most_dests old new rs
+owner_counted old new from k [] t le lt = absurd (omega (arith, t))
+owner_counted old new from k (r ∷ rs) t le lt = elim (cases_lt k r.span.hi) [
+  | inl here ↦ rw (owner_here r rs k (omega (arith, t.0)) here) (omega arith)
+  | inr past ↦ let rest = owner_counted old new r.span.hi k rs t.2 past lt in rw (owner_later r rs k past) (omega (arith, rest))
+]
+
+pub sub_counted : (old new : List PlanRange) (k : ℕ) → ArePlans old new → k < top → moves old new k ≡ true → sub_of old new k < subplan_count old new
+sub_counted old new k plans below is =
+    let place = place_within (owner_of new k) (dests old new (owner_of old k)) (member old new k plans below is) in
+    let most = owner_counted old new 0 k old plans.old_canonical.tiles (omega arith) below in
+    omega (arith, place, most)
+
+-- ---- who feeds whom, by keys
+
+inner_key : (new : List PlanRange) (r : PlanRange) (q : ℕ) (ss : List PlanRange) → AllByRecursion (Owns new) ss → list_any (λ s. eqb s.part q && shares r.span s.span) ss ≡ true → (k : ℕ) × (r.span.lo ≤ k) × (k < r.span.hi) × (owner_of new k ≡ q)
+inner_key new r q [] o is = absurd (false≢true is)
+inner_key new r q (s ∷ ss) o is = elim (or_cases (eqb s.part q && shares r.span s.span) (list_any (λ t. eqb t.part q && shares r.span t.span) ss) is) [
+  | inl here ↦
+      let parts = and_parts (eqb s.part q) (shares r.span s.span) here in
+      let lt = shared_lt r.span s.span parts.1 in
+      (max r.span.lo s.span.lo, omega arith, omega arith, o.0.owner (max r.span.lo s.span.lo) (omega arith) (omega arith) ∙ eqb-true s.part q parts.0)
+  | inr later ↦ inner_key new r q ss o.1 later
+]
+
+fed_key : (old new : List PlanRange) (p q : ℕ) (rs : List PlanRange) → AllByRecursion (Owns old) rs → AllByRecursion (Owns new) new → list_any (λ r. eqb r.part p && list_any (λ s. eqb s.part q && shares r.span s.span) new) rs ≡ true → IsFed old new p q
+fed_key old new p q [] o n is = absurd (false≢true is)
+fed_key old new p q (r ∷ rs) o n is = elim (or_cases (eqb r.part p && list_any (λ s. eqb s.part q && shares r.span s.span) new) (list_any (λ u. eqb u.part p && list_any (λ s. eqb s.part q && shares u.span s.span) new) rs) is) [
+  | inl here ↦
+      let parts = and_parts (eqb r.part p) (list_any (λ s. eqb s.part q && shares r.span s.span) new) here in
+      let at = inner_key new r q new n parts.1 in
+      (at.0, omega (arith, at.2, o.0.high), o.0.owner at.0 at.1 at.2 ∙ eqb-true r.part p parts.0, at.3)
+  | inr later ↦ fed_key old new p q rs o.1 n later
+]
+
+pub fed : (old new : List PlanRange) (p q : ℕ) → ArePlans old new → (feeds old new p q ≡ true) ↔ IsFed old new p q
+fed old new p q plans = (
+  (λ is. fed_key old new p q old (owns 0 old plans.old_canonical.tiles plans.old_canonical.differ) (owns 0 new plans.new_canonical.tiles plans.new_canonical.differ) is),
+  (λ key. rw (← key.2, ← key.3) (feeds_key old new key.0 plans.old_canonical.tiles plans.new_canonical.tiles key.1)))
+
+-- ---- no fewer sub-plans
+
+abbrev Distinct : List ℕ → Type 0
+Distinct [] = Unit {0}
+Distinct (v ∷ vs) = (is_in v vs ≡ false) × Distinct vs
+
+abbrev Below : ℕ → List ℕ → Type 0
+Below n vs = AllByRecursion (λ v. v < n) vs
+
+abbrev without : ℕ → List ℕ → List ℕ
+without n vs = filter (λ v. not (eqb v n)) vs
+
+out_of : (n q : ℕ) (vs : List ℕ) → is_in q vs ≡ false → is_in q (without n vs) ≡ false
+out_of n q [] e = refl
+out_of n q (v ∷ vs) e = elim (cases_Bool (eqb v n)) [
+  | inl is ↦ rw is (out_of n q vs (rest e))
+  | inr apart ↦ rw apart (rw (first e) (out_of n q vs (rest e)))
+]
+  where
+    first : (eqb v q || is_in q vs) ≡ false → eqb v q ≡ false
+    first e = (or_parts (eqb v q) (is_in q vs) e).0
+    rest : (eqb v q || is_in q vs) ≡ false → is_in q vs ≡ false
+    rest e = (or_parts (eqb v q) (is_in q vs) e).1
+
+without_distinct : (n : ℕ) (vs : List ℕ) → Distinct vs → Distinct (without n vs)
+without_distinct n [] d = tt
+without_distinct n (v ∷ vs) d = elim (cases_Bool (eqb v n)) [
+  | inl is ↦ rw is (without_distinct n vs d.1)
+  | inr apart ↦ rw apart (out_of n v vs d.0, without_distinct n vs d.1)
+]
+
+without_below : (n : ℕ) (vs : List ℕ) → Below (suc n) vs → Below n (without n vs)
+without_below n [] b = tt
+without_below n (v ∷ vs) b = elim (cases_eq v n) [
+  | inl same ↦ rw (eq-eqb v n same) (without_below n vs b.1)
+  | inr apart ↦ rw (ne_eqb v n apart) (omega (arith, b.0), without_below n vs b.1)
+]
+
+without_none : (n : ℕ) (vs : List ℕ) → is_in n vs ≡ false → length vs ≤ length (without n vs)
+without_none n [] e = omega arith
+without_none n (v ∷ vs) e =
+    let parts = or_parts (eqb v n) (is_in n vs) e in
+    rw parts.0 (omega (arith, without_none n vs parts.1))
+
+without_one : (n : ℕ) (vs : List ℕ) → Distinct vs → length vs ≤ length (without n vs) + 1
+without_one n [] d = omega arith
+without_one n (v ∷ vs) d = elim (cases_eq v n) [
+  | inl same ↦
+      let none : is_in n vs ≡ false = rw same at d.0 in
+      rw (eq-eqb v n same) (omega (arith, without_none n vs none))
+  | inr apart ↦ rw (ne_eqb v n apart) (omega (arith, without_one n vs d.1))
+]
+
+few_distinct : (n : ℕ) (vs : List ℕ) → Distinct vs → Below n vs → length vs ≤ n
+few_distinct n [] d b = omega arith
+few_distinct zero (v ∷ vs) d b = absurd (omega (arith, b.0))
+few_distinct (suc n) (v ∷ vs) d b =
+    let all = few_distinct n (without n (v ∷ vs)) (without_distinct n (v ∷ vs) d) (without_below n (v ∷ vs) b) in
+    omega (arith, all, without_one n (v ∷ vs) d)
+
+filter_all : (t : ℕ → Bool) (xs : List ℕ) → AllByRecursion (λ d. t d ≡ true) (filter t xs)
+filter_all t [] = tt
+filter_all t (x ∷ xs) = elim (cases_Bool (t x)) [
+  | inl is ↦ rw is (is, filter_all t xs)
+  | inr out ↦ rw out (filter_all t xs)
+]
+
+dests_all : (old new : List PlanRange) (p : ℕ) → AllByRecursion (λ d. is_dest old new p d ≡ true) (dests old new p)
+unfolding dests
+dests_all old new p = filter_all (λ d. is_dest old new p d) (range_with_len 0 part_limit)
+
+-- the number of a moving key of the source, whose destination is the given one or a higher one
+pub record Given (old new : List PlanRange) (s : ℕ → ℕ) (p from v : ℕ) : Type 0 where
+  pub key : ℕ
+  pub below : key < top
+  pub moving : moves old new key ≡ true
+  pub source : owner_of old key ≡ p
+  pub dest : from ≤ owner_of new key
+  pub number : s key ≡ v
+
+given_weaker : (old new : List PlanRange) (s : ℕ → ℕ) (p from low : ℕ) (vs : List ℕ) → low ≤ from → AllByRecursion (Given old new s p from) vs → AllByRecursion (Given old new s p low) vs
+given_weaker old new s p from low [] le g = tt
+given_weaker old new s p from low (v ∷ vs) le g = (record { key = g.0.key; below = g.0.below; moving = g.0.moving; source = g.0.source; dest = omega (arith, g.0.dest); number = g.0.number }, given_weaker old new s p from low vs le g.1)
+
+new_number : (old new : List PlanRange) (s : ℕ → ℕ) (n p d k : ℕ) (vs : List ℕ) → IsSplit old new s n → k < top → moves old new k ≡ true → owner_of old k ≡ p → owner_of new k ≡ d → AllByRecursion (Given old new s p (d + 1)) vs → is_in (s k) vs ≡ false
+new_number old new s n p d k [] split lt is source dest g = refl
+new_number old new s n p d k (v ∷ vs) split lt is source dest g =
+    let apart : eqb v (s k) ≡ false = ne_eqb v (s k) (λ e.
+      let same = split.single g.0.key k g.0.below lt g.0.moving is (g.0.source ∙ sym source) (g.0.number ∙ e) in
+      omega (arith, same, dest, g.0.dest)) in
+    rw apart (new_number old new s n p d k vs split lt is source dest g.1)
+
+-- distinct numbers, as many as the destinations
+pub record Numbers (old new : List PlanRange) (s : ℕ → ℕ) (n p from count : ℕ) : Type 0 where
+  pub list : List ℕ
+  pub long : length list ≡ count
+  pub distinct : Distinct list
+  pub below : Below n list
+  pub given : AllByRecursion (Given old new s p from) list
+
+numbers : (old new : List PlanRange) (s : ℕ → ℕ) (n p from : ℕ) (ds : List ℕ) → ArePlans old new → IsSplit old new s n → Up from ds → AllByRecursion (λ d. is_dest old new p d ≡ true) ds → Numbers old new s n p from (length ds)
+numbers old new s n p from [] plans split u all = record { list = []; long = refl; distinct = tt; below = tt; given = tt }
+numbers old new s n p from (d ∷ ds) plans split u all =
+    let rest = numbers old new s n p (d + 1) ds plans split u.1 all.1 in
+    let parts = and_parts (not (eqb d p)) (feeds old new p d) all.0 in
+    let key = (fed old new p d plans).0 parts.1 in
+    let differ : eqb (owner_of old key.0) (owner_of new key.0) ≡ false = ne_eqb _ _ (λ e. eqb-false d p (not-true _ parts.0) (sym key.3 ∙ sym e ∙ key.2)) in
+    let moving : moves old new key.0 ≡ true = rw differ refl in
+    record {
+      list = s key.0 ∷ rest.list;
+      long = ap suc rest.long;
+      distinct = (new_number old new s n p d key.0 rest.list split key.1 moving key.2 key.3 rest.given, rest.distinct);
+      below = (split.below key.0 key.1 moving, rest.below);
+      given = (record { key = key.0; below = key.1; moving = moving; source = key.2; dest = omega (arith, u.0, key.3); number = refl }, given_weaker old new s p (d + 1) from rest.list (omega (arith, u.0)) rest.given);
+    }
+
+dests_fit : (old new : List PlanRange) (s : ℕ → ℕ) (n p : ℕ) → ArePlans old new → IsSplit old new s n → length (dests old new p) ≤ n
+dests_fit old new s n p plans split =
+    let all = numbers old new s n p 0 (dests old new p) plans split (dests_up old new p) (dests_all old new p) in
+    let few = few_distinct n all.list all.distinct all.below in
+    omega (arith, few, all.long)
+
+most_fit : (old new : List PlanRange) (s : ℕ → ℕ) (n : ℕ) (rs : List PlanRange) → ArePlans old new → IsSplit old new s n → most_dests old new rs ≤ n
+most_fit old new s n [] plans split = omega arith
+most_fit old new s n (r ∷ rs) plans split = omega (arith, dests_fit old new s n r.part plans split, most_fit old new s n rs plans split)
+
+pub no_fewer : (old new : List PlanRange) (s : ℕ → ℕ) (n : ℕ) → ArePlans old new → IsSplit old new s n → subplan_count old new ≤ n
+no_fewer old new s n plans split = most_fit old new s n old plans split
+
+-- the numbers by `sub_of` are such a way
+pub sub_splits : (old new : List PlanRange) → ArePlans old new → IsSplit old new (sub_of old new) (subplan_count old new)
+sub_splits old new plans = record {
+  below = λ k lt is. sub_counted old new k plans lt is;
+  single = λ j k lt lt2 is is2 source sub. one_dest old new j k plans lt lt2 is is2 source sub;
+}
