@@ -57,10 +57,14 @@ job_of (Some p) = job_in p.0 p.1
 abbrev pub words_of : List (Bor (List ℕ)) → List Text
 words_of words = map (λ w. w.now) words
 
--- why nothing is done: help was asked for, or the words are refused, or they name no job
+-- the words have no fault, and ask for the job
+abbrev pub Asks : List Text → Job → Type 0
+Asks words job = (fault_of squall_app words ≡ []) × (job_of (subcommand_of squall_app words) ≡ Some job)
+
+-- why nothing is done: the words ask for help, or they ask for no job, or memory was wanting
 abbrev pub Refuses : List Text → LineFault → Type 0
 Refuses words Help = IsAmong DisplayHelp (fault_of squall_app words)
-Refuses words Bad = (fault_of squall_app words ≡ [] → job_of (subcommand_of squall_app words) ≡ None)
+Refuses words Bad = (job : Job) → Asks words job → ⊥
 Refuses words NoMemory = Unit {0}
 
 -- what was looked for, or that it is not there, unless memory ran out

@@ -2,10 +2,12 @@
 //! for nothing that there is.
 #![tactic(auto)]
 
+mod laws;
 mod line;
 mod parser;
 mod task;
 
+pub use laws::standard_input;
 pub use line::{command, message};
 pub use task::{LineFault, Task};
 

@@ -2,7 +2,7 @@
 
 ghost use Rattle.std.specs.Prelude.{◌≡◌, ◌≢◌, ◌↔◌, [], string_bytes, IfOk, IfErr, Some};
 ghost use Rattle.clap.specs.Words.{kind_of, found_of, rows_of, first_of, subcommand_of, subcommand_rows_of, fault_of};
-ghost use Rattle.squall_command.specs.Line.{squall_app, job_of, job_in, job_seen, words_of, Refuses, IsRead};
+ghost use Rattle.squall_command.specs.Line.{squall_app, job_of, job_in, job_seen, words_of, Asks, Refuses, IsRead};
 ghost use Rattle.squall_command.specs.declared.task.LineFault.TheVariants.{Help, NoMemory};
 
 use crate::parser::parser;
@@ -68,11 +68,8 @@ fn fault_in(error: &Error) -> LineFault
 /// `Help` where they ask for help, by `-h`, `--help` or `help`; `Bad` where they are no such
 /// command line; `NoMemory` where memory ran out. [`message`] is then what to show.
 pub fn command<'a>(alloc: Global, words: &'a [&'a str]) -> Result<Task, LineFault>
-    // The task and its files are those of the definition.
-    ensures task { IfOk result (λ task. job_of (subcommand_of squall_app (words_of words.entry.now)) ≡ Some (job_seen task)) }
-
-    // Words that have a fault bring no task.
-    ensures faultless { IfOk result (λ task. fault_of squall_app (words_of words.entry.now) ≡ []) }
+    // The task and its files are what the definition says of the words.
+    ensures task { IfOk result (λ task. Asks (words_of words.entry.now) (job_seen task)) }
 
     // When each fault comes.
     ensures refused { IfErr result (Refuses (words_of words.entry.now)) }

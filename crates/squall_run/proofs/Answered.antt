@@ -13,10 +13,10 @@ bad_text : (why : Reason) (o o1 o2 said : List ℕ) (line line1 : ℕ) (s1 : Sce
     → (text : List ℕ) × (o2 ≡ o ++ text) × IsAnswer End text s1 line reply
 bad_text why o o1 o2 said line line1 s1 (Goes text t) grown same h e = absurd h
 bad_text why o o1 o2 said line line1 s1 (Ends reason) grown same h e = (
-    bad_line line1 why,
-    e ∙ ap (λ w. w ++ bad_line line1 why) (grown ∙ ap (λ w. o ++ w) h.0 ∙ append-nil o),
-    ap (λ n. bad_line n why) same ∙ ap (bad_line line) h.1,
-  )
+  bad_line line1 why,
+  e ∙ ap (λ w. w ++ bad_line line1 why) (grown ∙ ap (λ w. o ++ w) h.0 ∙ append-nil o),
+  ap (λ n. bad_line n why) same ∙ ap (bad_line line) h.1,
+)
 
 pub answered_bad : (r : Result Flow AllocError) (why : Reason) (o o1 o2 : List ℕ) (s s1 : Scenario) (reply : Reply) → Answers (Ok (Some why)) o o1 s s1 reply
     → IfOk r (λ flow. (flow ≡ End) × (o2 ≡ o1 ++ bad_line s1.line why)) → IfOk r (λ flow. (text : List ℕ) × (o2 ≡ o ++ text) × IsAnswer flow text s1 s.line reply)

@@ -31,7 +31,7 @@ fn argument(line: &[u8]) -> &[u8]
 }
 
 /// The plan of the text, or its fault.
-fn read_plan(alloc: Global, text: &[u8]) -> Result<Result<Plan, PlanFault>, AllocError>
+pub(crate) fn read_plan(alloc: Global, text: &[u8]) -> Result<Result<Plan, PlanFault>, AllocError>
     ensures { IfOk result (λ plan. plan_of_text text.now ≡ plan) }
 {
     match Plan::read(alloc, text) {
@@ -42,7 +42,11 @@ fn read_plan(alloc: Global, text: &[u8]) -> Result<Result<Plan, PlanFault>, Allo
 }
 
 /// Takes the old plan, which comes before all else.
-fn old_plan(scenario: &mut Scenario, text: &[u8], out: &mut String) -> Result<Option<Reason>, AllocError>
+fn old_plan(
+    scenario: &mut Scenario,
+    text: &[u8],
+    out: &mut String,
+) -> Result<Option<Reason>, AllocError>
     ensures { Answers result (string_bytes out.old) (string_bytes out.new) scenario.old scenario.new (old_reply scenario.old scenario.old.stage text.now) }
 {
     let Stage::Unplanned = &scenario.stage else {
@@ -69,7 +73,11 @@ fn first_course(alloc: Global, old: &Plan, new: &Plan) -> Result<Course, AllocEr
 }
 
 /// Takes the new plan, which comes right after the old one.
-fn new_plan(scenario: &mut Scenario, text: &[u8], out: &mut String) -> Result<Option<Reason>, AllocError>
+fn new_plan(
+    scenario: &mut Scenario,
+    text: &[u8],
+    out: &mut String,
+) -> Result<Option<Reason>, AllocError>
     ensures { Answers result (string_bytes out.old) (string_bytes out.new) scenario.old scenario.new (new_reply scenario.old scenario.old.stage text.now) }
 {
     let Stage::Planned(old) = &scenario.stage else {
@@ -96,7 +104,11 @@ fn load_report(number: u32, sub: u32, part: u32, lo: Bound, hi: Bound) -> Option
 }
 
 /// Takes the report, where there is one, once both plans are read.
-fn take_report(scenario: &mut Scenario, report: Option<Report>, out: &mut String) -> Result<Option<Reason>, AllocError>
+fn take_report(
+    scenario: &mut Scenario,
+    report: Option<Report>,
+    out: &mut String,
+) -> Result<Option<Reason>, AllocError>
     ensures { Answers result (string_bytes out.old) (string_bytes out.new) scenario.old scenario.new (report_reply scenario.old scenario.old.stage report) }
 {
     let Stage::Running(_) = &scenario.stage else {
@@ -123,7 +135,12 @@ fn route(scenario: &Scenario, key: Key, out: &mut String) -> Result<Option<Reaso
 }
 
 /// Does what a line says, and adds the answer to `out`, or tells why the line is bad.
-fn obey(scenario: &mut Scenario, command: Command, text: &[u8], out: &mut String) -> Result<Option<Reason>, AllocError>
+fn obey(
+    scenario: &mut Scenario,
+    command: Command,
+    text: &[u8],
+    out: &mut String,
+) -> Result<Option<Reason>, AllocError>
     ensures { Answers result (string_bytes out.old) (string_bytes out.new) scenario.old scenario.new (reply_to scenario.old command text.now) }
 {
     match command {

@@ -3,8 +3,12 @@ use std::io;
 use std::io::{ErrorKind, Read, Write};
 use std::test::Fail;
 
-const OLD: &str = "old {\"plan\":[{\"part\":1,\"from\":[0,0],\"to\":[3,0]},{\"part\":2,\"from\":[3,0],\"to\":[5,0]},{\"part\":3,\"from\":[5,0],\"to\":[9,0]},{\"part\":4,\"from\":[9,0],\"to\":\"end\"}]}\n";
-const NEW: &str = "new {\"plan\":[{\"part\":1,\"from\":[0,0],\"to\":[2,0]},{\"part\":2,\"from\":[3,0],\"to\":[5,0]},{\"part\":3,\"from\":[2,0],\"to\":[3,0]},{\"part\":3,\"from\":[5,0],\"to\":[6,0]},{\"part\":4,\"from\":[6,0],\"to\":\"end\"}]}\n";
+const OLD: &str =
+    "old {\"plan\":[{\"part\":1,\"from\":[0,0],\"to\":[3,0]},{\"part\":2,\"from\":[3,0],\"to\":[5,0]},{\"part\":3,\"from\":[5,0],\"to\":[9,0]},{\"part\":4,\"from\":[9,0],\"to\":\"end\"}]}\n";
+
+const NEW: &str =
+    "new {\"plan\":[{\"part\":1,\"from\":[0,0],\"to\":[2,0]},{\"part\":2,\"from\":[3,0],\"to\":[5,0]},{\"part\":3,\"from\":[2,0],\"to\":[3,0]},{\"part\":3,\"from\":[5,0],\"to\":[6,0]},{\"part\":4,\"from\":[6,0],\"to\":\"end\"}]}\n";
+
 const LINES: [&str; 9] = [
     OLD,
     NEW,
@@ -16,6 +20,7 @@ const LINES: [&str; 9] = [
     "route 8:4294967295\n",
     "route 3:0\n",
 ];
+
 const ANSWERS: [&str; 9] = [
     "old 4\n",
     "new 5\n",
@@ -137,7 +142,10 @@ fn bad_line(rt: HostRuntime) -> Result<(), Fail> {
     let mut out = Vec::new(alloc);
     let mut reader = Reader::new(b"\n# a remark\nroute 2:0\nbogus\n".as_slice());
     let mut writer = Writer::new(&mut out);
-    assert_eq!(rt; run_text(alloc, &mut reader, &mut writer), Ok(Ended::Refused));
+    assert_eq!(rt;
+        run_text(alloc, &mut reader, &mut writer),
+        Ok(Ended::Refused)
+    );
     assert!(rt; out.as_slice() == b"bad line 3: order\n".as_slice());
     Ok(())
 }
@@ -158,7 +166,11 @@ fn a_reader_of_one_byte_that_fails(rt: HostRuntime) -> Result<(), Fail> {
             Ok(Ended::Fine)
         };
         assert_eq!(rt; outcome, wanted, "at {fails}");
-        let front = if fails < bytes.len() { &bytes[..fails] } else { bytes };
+        let front = if fails < bytes.len() {
+            &bytes[..fails]
+        } else {
+            bytes
+        };
         let answers = answers_to(alloc, front)?;
         assert!(rt; out.as_slice() == answers.as_bytes(), "at {fails}");
     }
@@ -198,6 +210,9 @@ fn line_feeds_for_ever(rt: HostRuntime) {
     let mut out = Vec::new(alloc);
     let mut reader = Reader::new(Feeds);
     let mut writer = Writer::new(&mut out);
-    assert_eq!(rt; run_text(alloc, &mut reader, &mut writer), Err(RunFault::Read));
+    assert_eq!(rt;
+        run_text(alloc, &mut reader, &mut writer),
+        Err(RunFault::Read)
+    );
     assert!(rt; out.is_empty());
 }
