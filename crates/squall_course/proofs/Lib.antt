@@ -1,1 +1,10 @@
+pub mod Sweeps
+pub mod Pushed
+pub mod Rising
+pub mod Rows
+pub mod Tabled
 pub mod Places
+pub mod Moved
+pub mod Gathered
+pub mod Started
+pub mod Received

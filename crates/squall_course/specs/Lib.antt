@@ -4,3 +4,6 @@ pub use Rattle.squall_span.specs.Spans
 pub use Rattle.squall_plan.specs.Ranges
 pub mod Subplans
 pub mod Change
+pub mod Moves
+pub mod Tables
+pub mod Statuses

@@ -1,7 +1,7 @@
 -- Moving keys and their sub-plans, from an old and a new plan (moving between two plans: Squall, SIGMOD 2015; that a source
 -- has at most one destination in a sub-plan is this project's rule).
-use Rattle.std.specs.Prelude.{◌≡◌, ℕ, ◌<◌, ◌==◌, ◌&&◌, not, nat_lt, min, max, Bool, List, filter, length, Option, Some, None, if◌then◌else◌}
-use Rattle.std.specs.List.{list_any, range_with_len, position_or_len}
+use Rattle.std.specs.Prelude.{◌≡◌, ℕ, ◌<◌, ◌==◌, ◌&&◌, not, nat_lt, min, max, Bool, List, [], ◌∷◌, filter, length, Option, Some, None, if◌then◌else◌}
+use Rattle.std.specs.List.{list_any, range_with_len, position_or_len, slice_get}
 use Rattle.squall_key.specs.Keys.{top, part_limit}
 use Rattle.squall_span.specs.Spans.{Interval}
 use Rattle.squall_plan.specs.declared.range.PlanRange.{PlanRange}
@@ -31,9 +31,26 @@ is_dest old new source dest = not (dest == source) && feeds old new source dest
 unfoldable pub dests : List PlanRange → List PlanRange → ℕ → List ℕ
 dests old new source = filter (λ dest. is_dest old new source dest) (range_with_len 0 part_limit)
 
--- the sub-plan of a moving key: the place of its destination among those of its source, from 0
+-- the sub-plan in which a source feeds a destination: its place among those of the source, from 0
+abbrev pub sub_at : List PlanRange → List PlanRange → ℕ → ℕ → ℕ
+sub_at old new source dest = position_or_len (λ d. d == dest) (dests old new source)
+
+-- the sub-plan of a moving key
 abbrev pub sub_of : List PlanRange → List PlanRange → ℕ → ℕ
-sub_of old new k = position_or_len (λ dest. dest == owner_of new k) (dests old new (owner_of old k))
+sub_of old new k = sub_at old new (owner_of old k) (owner_of new k)
 
 abbrev pub subplan_of : List PlanRange → List PlanRange → ℕ → Option ℕ
 subplan_of old new k = if moves old new k then Some (sub_of old new k) else None
+
+-- the destination of a source in a sub-plan
+abbrev pub dest_of : List PlanRange → List PlanRange → ℕ → ℕ → Option ℕ
+dest_of old new sub source = slice_get (dests old new source) sub
+
+-- the greatest number of destinations of a partition of the ranges
+abbrev pub most_dests : List PlanRange → List PlanRange → List PlanRange → ℕ
+most_dests old new [] = 0
+most_dests old new (r ∷ rs) = max (length (dests old new r.part)) (most_dests old new rs)
+
+-- how many sub-plans there are: the greatest number of destinations of a source
+abbrev pub subplan_count : List PlanRange → List PlanRange → ℕ
+subplan_count old new = most_dests old new old

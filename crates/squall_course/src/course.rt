@@ -1,17 +1,21 @@
 //! Courses.
 
-ghost use Rattle.std.specs.Prelude.{◌≡◌, ◌≢◌, ◌+◌, ◌<◌, ◌≤◌, ◌==◌, ◌&&◌, not, ℕ, true, filter, length, IfOk, IfErr, IfSome, SomeIff, option_map};
-ghost use Rattle.std.specs.List.{list_any, range_with_len};
+ghost use Rattle.std.specs.Prelude.{◌≡◌, ◌≢◌, ◌≤◌, ℕ, IfOk, IfErr};
 ghost use Rattle.squall_course.specs.declared.fault.CourseFault.TheVariants.{ZeroNumber, NoMemory};
-ghost use Rattle.squall_key.specs.Keys.{part_limit};
+ghost use Rattle.squall_span.specs.Spans.{has};
 ghost use Rattle.squall_plan.specs.Ranges.{owner_of};
-ghost use Rattle.squall_course.specs.Subplans.{shares, feeds, is_dest, subplan_of};
+ghost use Rattle.squall_course.specs.Subplans.{subplan_of, subplan_count, dest_of};
+ghost use Rattle.squall_course.specs.Moves.{moves_of, AreMoves, is_incoming, is_outgoing, receivers_of};
 
 use crate::fault::CourseFault;
+use crate::feed::Table;
+use crate::gather;
+use crate::moving::Move;
+use crate::piece::pieces;
 use squall_key::{Key, PartId};
-use squall_plan::{Plan, PlanRange};
-use squall_span::Span;
-use std::alloc::Global;
+use squall_plan::Plan;
+use squall_span::SpanSet;
+use std::alloc::{AllocError, Global};
 use std::marker::Model;
 
 /// A change from an old plan to a new one, under the number of its reconfiguration.
@@ -24,61 +28,24 @@ pub struct Course {
     number: u32,
     old: Plan,
     new: Plan,
+    table: Table,
+    moves: Vec<Move>,
+    subplans: u32,
 }
 
 impl Model for Course {
     ghost use Rattle.std.specs.Prelude.{◌≤◌};
+    ghost use Rattle.std.specs.Prelude.{◌≡◌};
     ghost use Rattle.squall_course.specs.Change.{Change};
+    ghost use Rattle.squall_course.specs.Subplans.{subplan_count};
+    ghost use Rattle.squall_course.specs.Moves.{moves_of};
+    ghost use Rattle.squall_course.specs.Tables.{IsTable, ArePlans};
 
     ghost Value = { Change };
 
     ghost view = { λ c. record { number = c.number; old = c.old; new = c.new } };
 
-    ghost invariant = { λ c. 1 ≤ c.number };
-}
-
-/// Whether the spans share a key.
-fn share(a: Span, b: Span) -> bool
-    ensures { result ≡ shares a b }
-{
-    a.lo().max(b.lo()) < a.hi().min(b.hi())
-}
-
-/// Whether the span shares a key with a range of the partition.
-fn meets(span: Span, ranges: &[PlanRange], dest: u32) -> bool
-    ensures { result ≡ list_any (λ s. (s.part == dest) && shares span s.span) ranges.now }
-{
-    ranges
-        .iter()
-        .any(|range| range.part.get() == dest && share(span, range.span))
-}
-
-/// Whether a key goes from the source to the destination.
-fn feeds(old: &[PlanRange], new: &[PlanRange], source: u32, dest: u32) -> bool
-    ensures { result ≡ feeds old.now new.now source dest }
-{
-    old.iter()
-        .any(|range| range.part.get() == source && meets(range.span, new, dest))
-}
-
-/// Whether keys of the source go to the other partition.
-fn is_dest(old: &[PlanRange], new: &[PlanRange], source: u32, dest: u32) -> bool
-    ensures { result ≡ is_dest old.now new.now source dest }
-{
-    dest != source && feeds(old, new, source, dest)
-}
-
-/// How many destinations of the source are lower than the given one.
-fn lower_dests(old: &[PlanRange], new: &[PlanRange], source: u32, dest: u32) -> u32
-    ensures { result ≡ length (filter (λ lower. is_dest old.now new.now source lower) (range_with_len 0 dest)) }
-{
-    let mut count = 0;
-    for lower in 0..dest {
-        if is_dest(old, new, source, lower) {
-            count += 1;
-        }
-    }
-    count
+    ghost invariant = { λ c. (1 ≤ c.number) × ArePlans c.old c.new × IsTable c.old c.new c.table × (c.moves.items ≡ moves_of c.old c.new) × (c.subplans ≡ subplan_count c.old c.new) };
 }
 
 impl Course {
@@ -94,7 +61,18 @@ impl Course {
         }
         let old = old.copied(alloc)?;
         let new = new.copied(alloc)?;
-        Ok(Course { number, old, new })
+        let pieces = pieces(alloc, old.ranges(), new.ranges())?;
+        let table = Table::of(alloc, &pieces)?;
+        let moves = table.number(alloc, &pieces)?;
+        let subplans = table.most(old.ranges()) as u32;
+        Ok(Course {
+            number,
+            old,
+            new,
+            table,
+            moves,
+            subplans,
+        })
     }
 
     /// The number of the reconfiguration, from 1 on.
@@ -126,11 +104,58 @@ impl Course {
     {
         // The proof learns that the rank lies below the top, so that both plans have the key.
         let _ = key.rank();
-        let source = self.old_owner(key).get();
-        let dest = self.new_owner(key).get();
+        let source = self.old_owner(key);
+        let dest = self.new_owner(key);
         if source == dest {
             return None;
         }
-        Some(lower_dests(self.old.ranges(), self.new.ranges(), source, dest))
+        Some(self.table.sub(source, dest))
+    }
+
+    /// The moves by rising key: the longest spans whose keys have one source, another dest and one
+    /// sub-plan. A key that moves is in exactly one of them, and no other key is in one.
+    pub fn moves(&self) -> &[Move]
+        ensures list { result.now ≡ moves_of self.now.old self.now.new }
+        ensures meaning { AreMoves self.now.old self.now.new result.now }
+    {
+        &self.moves
+    }
+
+    /// How many sub-plans there are: the greatest number of destinations of a source.
+    pub fn subplans(&self) -> u32
+        ensures { result ≡ subplan_count self.now.old self.now.new }
+    {
+        self.subplans
+    }
+
+    /// The partition to which keys of `part` go in the sub-plan: the destination with that place
+    /// among those of `part`. None where it has no more than `sub` of them.
+    pub fn dest(&self, sub: u32, part: PartId) -> Option<PartId>
+        ensures { result ≡ dest_of self.now.old self.now.new sub part }
+    {
+        let feed = self.table.row(part).get(sub as usize)?;
+        Some(feed.dest)
+    }
+
+    /// The keys that move to `part` in the sub-plan. The error comes where memory ran out.
+    pub fn incoming(&self, alloc: Global, sub: u32, part: PartId) -> Result<SpanSet, AllocError>
+        ensures { IfOk result (λ set. (k : ℕ) → has set k ≡ is_incoming self.now.old self.now.new sub part k) }
+    {
+        gather::incoming(alloc, &self.moves, sub, part)
+    }
+
+    /// The keys that move away from `part` in the sub-plan. The error comes where memory ran out.
+    pub fn outgoing(&self, alloc: Global, sub: u32, part: PartId) -> Result<SpanSet, AllocError>
+        ensures { IfOk result (λ set. (k : ℕ) → has set k ≡ is_outgoing self.now.old self.now.new sub part k) }
+    {
+        gather::outgoing(alloc, &self.moves, sub, part)
+    }
+
+    /// The partitions to which keys move in the sub-plan, in rising number. The error comes where
+    /// memory ran out.
+    pub fn receivers(&self, alloc: Global, sub: u32) -> Result<Vec<PartId>, AllocError>
+        ensures { IfOk result (λ v. v.items ≡ receivers_of (moves_of self.now.old self.now.new) sub) }
+    {
+        gather::receivers(alloc, &self.moves, sub)
     }
 }

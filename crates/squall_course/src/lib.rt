@@ -3,6 +3,16 @@
 
 mod course;
 mod fault;
+mod feed;
+mod gather;
+mod moving;
+mod piece;
+mod status;
 
 pub use course::Course;
 pub use fault::CourseFault;
+pub use moving::Move;
+pub use status::Status;
+
+#[cfg(test)]
+mod tests;

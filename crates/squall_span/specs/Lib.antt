@@ -1,1 +1,4 @@
 pub mod Spans
+pub mod SpanLaws
+pub mod Places
+pub mod Sweeps

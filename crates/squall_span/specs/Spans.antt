@@ -1,11 +1,16 @@
--- Spans of keys, and lists of them.
-use Rattle.std.specs.Prelude.{ℕ, ◌<◌, Bool, false, ◌&&◌, ◌||◌, nat_lt, nat_le, List, [], ◌∷◌, ◌++◌, Option, None, Some, if◌then◌else◌}
+-- Spans of keys, and sets of keys as lists of spans (half-open ranges of keys: Squall, SIGMOD 2015).
+use Rattle.std.specs.Prelude.{ℕ, ◌+◌, ◌-◌, ◌<◌, ◌≤◌, min, max, suc, zero, Bool, true, false, not, ◌&&◌, ◌||◌, ◌==◌, nat_lt, nat_le, List, [], ◌∷◌, ◌++◌, Option, None, Some, if◌then◌else◌}
+use Rattle.std.specs.Cmp.Lexicographic.{pointwise}
 use Rattle.squall_key.specs.Keys.{text_of_bound}
 
 -- the keys from lo on, below hi
 pub record Interval : Type 0 where
   pub lo : ℕ
   pub hi : ℕ
+
+-- the span of two bounds
+abbrev pub interval : ℕ → ℕ → Interval
+interval lo hi = record { lo = lo; hi = hi }
 
 -- the span of two bounds that has a key
 abbrev pub span_at : ℕ → ℕ → Option Interval
@@ -23,3 +28,74 @@ has (s ∷ ss) k = span_has s k || has ss k
 -- a span as it is printed: [lo,hi)
 abbrev pub text_of_span : Interval → List ℕ
 text_of_span s = 91 ∷ text_of_bound s.lo ++ 44 ∷ text_of_bound s.hi ++ 41 ∷ []
+
+-- ---- the one list of spans of a set of keys (this project)
+
+-- the first span, if there is one, starts beyond h
+abbrev pub Beyond : ℕ → List Interval → Type 0
+Beyond h [] = Unit {0}
+Beyond h (s ∷ ss) = h < s.lo
+
+-- no span is empty, and each starts beyond the end of the one before it
+abbrev pub IsCanonical : List Interval → Type 0
+IsCanonical [] = Unit {0}
+IsCanonical (s ∷ ss) = (s.lo < s.hi) × Beyond s.hi ss × IsCanonical ss
+
+-- each span ends at h or before
+abbrev pub EndsBy : ℕ → List Interval → Type 0
+EndsBy h [] = Unit {0}
+EndsBy h (s ∷ ss) = (s.hi ≤ h) × EndsBy h ss
+
+-- each span starts at h or before
+abbrev pub StartsBy : ℕ → List Interval → Type 0
+StartsBy h [] = Unit {0}
+StartsBy h (s ∷ ss) = (s.lo ≤ h) × StartsBy h ss
+
+-- the first span, if there is one, ends at h or later
+abbrev pub EndsFrom : ℕ → List Interval → Type 0
+EndsFrom h [] = Unit {0}
+EndsFrom h (s ∷ ss) = h ≤ s.hi
+
+-- the first span, if there is one, ends beyond h
+abbrev pub EndsBeyond : ℕ → List Interval → Type 0
+EndsBeyond h [] = Unit {0}
+EndsBeyond h (s ∷ ss) = h < s.hi
+
+-- the two spans are one
+abbrev pub interval_eq : Interval → Interval → Bool
+interval_eq s t = (s.lo == t.lo) && (s.hi == t.hi)
+
+-- the two lists have the same spans in the same order
+abbrev pub spans_eq : List Interval → List Interval → Bool
+spans_eq = pointwise interval_eq
+
+-- ---- the operations on sets
+
+-- the span from the lower start to the higher end of two
+abbrev pub hull : Interval → Interval → Interval
+hull s t = interval (min s.lo t.lo) (max s.hi t.hi)
+
+-- the set with the keys of one span more: spans that overlap or touch it join it
+abbrev pub insert_span : Interval → List Interval → List Interval
+insert_span s [] = s ∷ []
+insert_span s (t ∷ ts) = if nat_lt s.hi t.lo then s ∷ t ∷ ts else if nat_lt t.hi s.lo then t ∷ insert_span s ts else insert_span (hull s t) ts
+
+-- the keys of either set
+abbrev pub union : List Interval → List Interval → List Interval
+union ss [] = ss
+union ss (t ∷ ts) = insert_span t (union ss ts)
+
+-- the front of the first span: at most so many keys
+abbrev pub first_keys : ℕ → List Interval → Option Interval
+first_keys most [] = None
+first_keys most (s ∷ ss) = if most == 0 then None else Some (interval s.lo (min s.hi (s.lo + most)))
+
+-- the lengths of the spans, summed
+abbrev pub total_length : List Interval → ℕ
+total_length [] = 0
+total_length (s ∷ ss) = (s.hi - s.lo) + total_length ss
+
+-- how many numbers below n the test takes
+unfoldable pub how_many : (ℕ → Bool) → ℕ → ℕ
+how_many test zero = 0
+how_many test (suc n) = (if test n then 1 else 0) + how_many test n

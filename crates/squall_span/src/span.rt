@@ -1,8 +1,8 @@
 //! A span of keys.
 
-ghost use Rattle.std.specs.Prelude.{◌≡◌, ◌≤◌, ◌<◌, Some};
+ghost use Rattle.std.specs.Prelude.{◌≡◌, ◌+◌, ◌-◌, ◌≤◌, ◌<◌, Some};
 ghost use Rattle.squall_key.specs.Keys.{top};
-ghost use Rattle.squall_span.specs.Spans.{span_at, span_has, text_of_span};
+ghost use Rattle.squall_span.specs.Spans.{interval, span_at, span_has, text_of_span};
 
 use squall_key::{Bound, Key};
 use std::fmt;
@@ -53,6 +53,23 @@ impl Span {
         ensures high { result ≤ top }
     {
         self.hi
+    }
+
+    /// The span from `lo` on, below `hi`.
+    pub(crate) fn between(lo: Bound, hi: Bound) -> Span
+        requires { lo < hi }
+        ensures { result ≡ interval lo hi }
+    {
+        Span { lo, hi }
+    }
+
+    /// How many keys lie in the span.
+    pub fn count(self) -> u64
+        ensures value { result ≡ self.hi - self.lo }
+        ensures some { 0 < result }
+        ensures fits { self.lo + result ≤ top }
+    {
+        self.hi.rank() - self.lo.rank()
     }
 
     /// Whether the key lies in the span.

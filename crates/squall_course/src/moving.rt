@@ -1,0 +1,14 @@
+//! A move.
+
+use squall_key::PartId;
+use squall_span::Span;
+
+/// The keys of `span` go from `source` to `dest` in the sub-plan `sub`. Contracts see `span` as
+/// its two bounds, `lo` and `hi`, and the partitions as their numbers.
+#[derive(Clone, Copy, Debug, PartialEq, Eq)]
+pub struct Move {
+    pub span: Span,
+    pub source: PartId,
+    pub dest: PartId,
+    pub sub: u32,
+}

@@ -1,0 +1,44 @@
+//! How far keys have come.
+
+ghost use Rattle.squall_course.specs.Statuses.{IsFirst, IsStatus};
+
+use squall_key::Bound;
+use squall_span::{Span, SpanSet};
+
+/// How many keys of a span are in a set.
+#[derive(Clone, Copy, Debug, PartialEq, Eq)]
+pub enum Status {
+    /// None is.
+    NotStarted,
+    /// Some are, and some are not.
+    Partial,
+    /// Each is.
+    Complete,
+}
+
+/// The first span that ends beyond the bound.
+fn first_beyond(set: &SpanSet, from: Bound) -> Option<Span>
+    ensures { IsFirst set.now from result }
+{
+    let spans = set.spans();
+    let first = spans.partition_point(|span| span.hi() <= from);
+    spans.get(first).copied()
+}
+
+impl Status {
+    /// How many keys of the span are in the set.
+    pub fn of(span: &Span, set: &SpanSet) -> Status
+        ensures { IsStatus span.now set.now result }
+    {
+        let Some(first) = first_beyond(set, span.lo()) else {
+            return Status::NotStarted;
+        };
+        if span.hi() <= first.lo() {
+            return Status::NotStarted;
+        }
+        if span.lo() < first.lo() || first.hi() < span.hi() {
+            return Status::Partial;
+        }
+        Status::Complete
+    }
+}

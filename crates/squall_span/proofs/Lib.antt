@@ -1,0 +1,9 @@
+pub mod Compared
+pub mod Places
+pub mod Merging
+pub mod Sweeping
+pub mod Walking
+pub mod Inserting
+pub mod Cutting
+pub mod Counting
+pub mod Equality

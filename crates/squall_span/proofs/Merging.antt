@@ -1,0 +1,133 @@
+-- The steps of a merge of two lists of spans.
+use Rattle.std.proofs.Common.{◌≡◌, ℕ, zero, suc, ◌+◌, ◌-◌, ◌<◌, ◌≤◌, max, min, Bool, true, false, List, [], ◌∷◌, ◌++◌, length, get_or, set, take, drop, refl, sym, ap, subst, ◌∙◌, arith, inl, inr, ◌||◌}
+use Rattle.std.specs.Prelude.{◌⊎◌}
+use Rattle.std.proofs.lemmas.Bool.Decides.{nat_tests}
+use Rattle.squall_span.specs.Spans.{Interval, interval, span_has, has, Beyond, IsCanonical, StartsBy, EndsBy, hull, insert_span, union}
+use Rattle.squall_span.specs.Sweeps.{StartsNoEarlier, IsLower}
+use Rattle.squall_span.specs.SpanLaws.{canonical-insert, canonical-union, has-insert, has-union, same_spans, insert_cases, or_comm, or_assoc, or_false}
+
+pub insert_after : (s t : Interval) (ts : List Interval) → s.lo < s.hi → t.lo < t.hi → t.hi < s.lo → insert_span s (t ∷ ts) ≡ t ∷ insert_span s ts
+insert_after s t ts p q lt = grind (arith, nat_tests)
+
+pub insert_touching : (s t : Interval) (ts : List Interval) → t.lo ≤ s.hi → s.lo ≤ t.hi → insert_span s (t ∷ ts) ≡ insert_span (hull s t) ts
+insert_touching s t ts f g = grind (arith, nat_tests)
+
+pub insert_before : (s t : Interval) (ts : List Interval) → s.hi < t.lo → insert_span s (t ∷ ts) ≡ s ∷ t ∷ ts
+insert_before s t ts lt = grind (arith, nat_tests)
+
+pub starts_weaker : (g h : ℕ) (ss : List Interval) → g ≤ h → StartsBy g ss → StartsBy h ss
+starts_weaker g h [] le b = tt
+starts_weaker g h (s ∷ ss) le b = (omega (arith, b.0), starts_weaker g h ss le b.1)
+
+-- where all start by the new one, it joins the last span or comes after it
+pub insert_last : (s : Interval) (xs : List Interval) (n : ℕ) (d : Interval) → length xs ≡ suc n → IsCanonical xs → s.lo < s.hi → StartsBy s.lo xs → s.lo ≤ (get_or xs n d).hi → insert_span s xs ≡ set xs n (interval (get_or xs n d).lo (max (get_or xs n d).hi s.hi))
+insert_last s [] n d e c p h touching = absurd (omega arith)
+insert_last s (t ∷ []) zero d e c p h touching = insert_touching s t [] (omega (arith, h.0)) touching ∙ (λ i. interval (lo i) (hi i) ∷ [])
+  where
+    lo : (hull s t).lo ≡ t.lo
+    lo = omega (arith, h.0)
+
+    hi : (hull s t).hi ≡ max t.hi s.hi
+    hi = omega arith
+insert_last s (t ∷ []) (suc n) d e c p h touching = absurd (omega arith)
+insert_last s (t ∷ u ∷ us) zero d e c p h touching = absurd (omega arith)
+insert_last s (t ∷ u ∷ us) (suc n) d e c p h touching = insert_after s t (u ∷ us) p c.0 (omega (arith, c.1, h.1.0)) ∙ ap (λ l. t ∷ l) (insert_last s (u ∷ us) n d (omega arith) c.2 p h.1 touching)
+
+pub insert_end : (s : Interval) (xs : List Interval) → IsCanonical xs → s.lo < s.hi → StartsBy s.lo xs → ((n : ℕ) (d : Interval) → length xs ≡ suc n → (get_or xs n d).hi < s.lo) → insert_span s xs ≡ xs ++ (s ∷ [])
+insert_end s [] c p h after = refl
+insert_end s (t ∷ []) c p h after = insert_after s t [] p c.0 (after 0 t refl)
+insert_end s (t ∷ u ∷ us) c p h after = insert_after s t (u ∷ us) p c.0 (omega (arith, c.1, h.1.0)) ∙ ap (λ l. t ∷ l) (insert_end s (u ∷ us) c.2 p h.1 (λ n d e. after (suc n) d (omega arith)))
+
+pub starts_insert : (h : ℕ) (s : Interval) (xs : List Interval) → s.lo ≤ h → StartsBy h xs → StartsBy h (insert_span s xs)
+starts_insert h s [] le b = (le, tt)
+starts_insert h s (t ∷ ts) le b = insert_cases (StartsBy h) s t ts (λ _. (le, b)) (λ _ _. (b.0, starts_insert h s ts le b.1)) (λ _ _. starts_insert h (hull s t) ts (omega arith) b.1)
+
+pub ends_insert : (h : ℕ) (s : Interval) (xs : List Interval) → s.hi ≤ h → EndsBy h xs → EndsBy h (insert_span s xs)
+ends_insert h s [] le b = (le, tt)
+ends_insert h s (t ∷ ts) le b = insert_cases (EndsBy h) s t ts (λ _. (le, b)) (λ _ _. (b.0, ends_insert h s ts le b.1)) (λ _ _. ends_insert h (hull s t) ts (omega (arith, b.0)) b.1)
+
+-- the spans start by the first of a list
+abbrev pub StartsByFirst : List Interval → List Interval → Type 0
+StartsByFirst [] out = Unit {0}
+StartsByFirst (s ∷ ss) out = StartsBy s.lo out
+
+-- what is done of a merge of x and y, with a and b still to come
+pub record Merging (x y out a b : List Interval) : Type 0 where
+  pub canonical : IsCanonical out
+  pub canonical_a : IsCanonical a
+  pub canonical_b : IsCanonical b
+  pub keys : (k : ℕ) → (has out k || (has a k || has b k)) ≡ (has x k || has y k)
+  pub starts_a : StartsByFirst a out
+  pub starts_b : StartsByFirst b out
+
+starts_by_none : (xs : List Interval) → StartsByFirst xs []
+starts_by_none [] = tt
+starts_by_none (x ∷ xs) = tt
+
+pub merging_none : (x y : List Interval) → IsCanonical x → IsCanonical y → Merging x y [] x y
+merging_none x y c d = record {
+  canonical = tt;
+  canonical_a = c;
+  canonical_b = d;
+  keys = λ k. refl;
+  starts_a = starts_by_none x;
+  starts_b = starts_by_none y;
+}
+
+merging_swap : (x y out a b : List Interval) → Merging x y out a b → Merging y x out b a
+merging_swap x y out a b m = record {
+  canonical = m.canonical;
+  canonical_a = m.canonical_b;
+  canonical_b = m.canonical_a;
+  keys = λ k. ap (λ t. has out k || t) (or_comm (has b k) (has a k)) ∙ m.keys k ∙ or_comm (has x k) (has y k);
+  starts_a = m.starts_b;
+  starts_b = m.starts_a;
+}
+
+shuffle : (x o r q : Bool) → ((x || o) || (r || q)) ≡ (o || ((x || r) || q))
+shuffle true true r q = refl
+shuffle true false r q = refl
+shuffle false o r q = refl
+
+starts_after : (s : Interval) (xs out : List Interval) → Beyond s.hi xs → s.lo < s.hi → StartsBy s.lo out → StartsByFirst xs (insert_span s out)
+starts_after s [] out b p h = tt
+starts_after s (t ∷ ts) out b p h = starts_insert t.lo s out (omega (arith, b)) (starts_weaker s.lo t.lo out (omega (arith, b)) h)
+
+starts_beside : (s : Interval) (ys out : List Interval) → StartsNoEarlier s ys → StartsByFirst ys out → StartsByFirst ys (insert_span s out)
+starts_beside s [] out e h = tt
+starts_beside s (t ∷ ts) out e h = starts_insert t.lo s out e h
+
+merging_first : (x y out xs b : List Interval) (s : Interval) → StartsNoEarlier s b → Merging x y out (s ∷ xs) b → Merging x y (insert_span s out) xs b
+merging_first x y out xs b s e m = record {
+  canonical = canonical-insert s out m.canonical_a.0 m.canonical;
+  canonical_a = m.canonical_a.2;
+  canonical_b = m.canonical_b;
+  keys = λ k. ap (λ h. h || (has xs k || has b k)) (has-insert s out k m.canonical_a.0 m.canonical) ∙ shuffle (span_has s k) (has out k) (has xs k) (has b k) ∙ m.keys k;
+  starts_a = starts_after s xs out m.canonical_a.1 m.canonical_a.0 m.starts_a;
+  starts_b = starts_beside s b out e m.starts_b;
+}
+
+pub merging_step : (x y out new a b xs ys : List Interval) (s : Interval) → IsLower a b s xs ys → new ≡ insert_span s out → Merging x y out a b → Merging x y new xs ys
+merging_step x y out new a b xs ys s (inl h) e m =
+    subst (λ o. Merging x y o xs ys) (sym e) (subst (Merging x y (insert_span s out) xs) h.1 (merging_first x y out xs b s h.2 (subst (λ l. Merging x y out l b) h.0 m)))
+merging_step x y out new a b xs ys s (inr h) e m =
+    subst (λ o. Merging x y o xs ys) (sym e) (merging_swap y x (insert_span s out) ys xs
+    (subst (Merging y x (insert_span s out) ys) h.1 (merging_first y x out ys a s h.2 (merging_swap x y out a (s ∷ ys) (subst (λ l. Merging x y out a l) h.0 m)))))
+
+-- the next span starts no earlier than those that are there
+pub merging_starts : (x y out a b xs ys : List Interval) (s : Interval) → IsLower a b s xs ys → Merging x y out a b → StartsBy s.lo out
+merging_starts x y out a b xs ys s (inl h) m = subst (λ l. StartsByFirst l out) h.0 m.starts_a
+merging_starts x y out a b xs ys s (inr h) m = subst (λ l. StartsByFirst l out) h.0 m.starts_b
+
+merging_end : (x y out a b : List Interval) → IsCanonical x → IsCanonical y → length a + length b ≡ 0 → Merging x y out a b → out ≡ union x y
+merging_end x y out [] [] c d e m = same_spans out (union x y) m.canonical (canonical-union x y c d) (λ k. sym (or_false (has out k)) ∙ m.keys k ∙ sym (has-union x y k c d))
+merging_end x y out [] (t ∷ ts) c d e m = absurd (omega arith)
+merging_end x y out (s ∷ ss) b c d e m = absurd (omega arith)
+
+pub merging_done : (x y out a b : List Interval) → IsCanonical x → IsCanonical y → length a + length b ≡ 0 → Merging x y out a b → out ≡ union x y
+merging_done = merging_end
+
+-- one list is shorter by the step
+pub lower_shorter : (a b xs ys : List Interval) (s : Interval) → IsLower a b s xs ys → length xs + length ys < length a + length b
+lower_shorter a b xs ys s (inl h) = omega (arith, ap length h.0, ap length h.1)
+lower_shorter a b xs ys s (inr h) = omega (arith, ap length h.0, ap length h.1)

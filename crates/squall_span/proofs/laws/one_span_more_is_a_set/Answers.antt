@@ -1,0 +1,8 @@
+use Rattle.squall_span.specs.SpanLaws.{canonical-insert, has-insert}
+use Rattle.squall_span.proofs.laws.one_span_more_is_a_set.Goals as goal
+
+pub returns-clause-set : goal.returns-clause-set
+returns-clause-set c = canonical-insert
+
+pub returns-clause-keys : goal.returns-clause-keys
+returns-clause-keys c s a k p h = has-insert s a k p h

@@ -1,0 +1,176 @@
+-- Laws of sets of keys: a set has one list of spans, and the keys of each operation (this project).
+use Rattle.std.specs.Prelude.{◌≡◌, ℕ, ◌+◌, ◌<◌, ◌≤◌, min, max, Bool, true, false, ◌&&◌, ◌||◌, nat_lt, nat_le, List, [], ◌∷◌, cond, refl}
+use Rattle.std.proofs.Common.{sym, ap, subst, ◌∙◌, arith, inl, inr}
+use Rattle.std.proofs.lemmas.Bool.{cases_lt}
+use Rattle.std.proofs.lemmas.Bool.Decides.{nat_tests}
+use Rattle.std.proofs.Common.{rules}
+use Rattle.std.specs.Cmp.{IsEquivalence, IsPartialEquivalence, partial_equiv_from_equiv}
+use Rattle.std.specs.Cmp.Lexicographic.{lists_equiv}
+use Rattle.std.specs.Cmp.Rules.{comparing}
+use Rattle.squall_span.specs.Spans.{interval_eq, spans_eq, Interval, interval, span_has, has, Beyond, IsCanonical, EndsBy, StartsBy, EndsFrom, EndsBeyond, hull, insert_span, union}
+
+pub or_assoc : (a b c : Bool) → ((a || b) || c) ≡ (a || (b || c))
+or_assoc true b c = refl
+or_assoc false b c = refl
+
+pub or_comm : (a b : Bool) → (a || b) ≡ (b || a)
+or_comm true true = refl
+or_comm true false = refl
+or_comm false true = refl
+or_comm false false = refl
+
+pub or_idem : (a : Bool) → (a || a) ≡ a
+or_idem true = refl
+or_idem false = refl
+
+pub or_false : (a : Bool) → (a || false) ≡ a
+or_false true = refl
+or_false false = refl
+
+pub outside_below : (s : Interval) (k : ℕ) → k < s.lo → span_has s k ≡ false
+outside_below s k lt = grind (arith, nat_tests)
+
+pub outside_above : (s : Interval) (k : ℕ) → s.hi ≤ k → span_has s k ≡ false
+outside_above s k le = grind (arith, nat_tests)
+
+pub inside : (s : Interval) (k : ℕ) → s.lo ≤ k → k < s.hi → span_has s k ≡ true
+inside s k le lt = grind (arith, nat_tests)
+
+beyond_weaker : (g h : ℕ) (ss : List Interval) → g ≤ h → Beyond h ss → Beyond g ss
+beyond_weaker g h [] le b = tt
+beyond_weaker g h (s ∷ ss) le b = omega (arith, b)
+
+-- no key up to h
+pub has_below : (h k : ℕ) (ss : List Interval) → Beyond h ss → IsCanonical ss → k ≤ h → has ss k ≡ false
+has_below h k [] b c le = refl
+has_below h k (s ∷ ss) b c le =
+    ap (λ x. x || has ss k) (outside_below s k (omega (arith, b))) ∙ has_below s.hi k ss c.1 c.2 (omega (arith, b, c.0))
+
+pub has_hull : (s t : Interval) (k : ℕ) → s.lo < s.hi → t.lo < t.hi → t.lo ≤ s.hi → s.lo ≤ t.hi → span_has (hull s t) k ≡ (span_has s k || span_has t k)
+has_hull s t k p q f g =
+    elim (cases_lt k (min s.lo t.lo)) [
+      | inl below ↦ outside_below (hull s t) k below ∙ sym (ap (λ x. x || span_has t k) (outside_below s k (omega arith)) ∙ outside_below t k (omega arith))
+      | inr from ↦ elim (cases_lt k (max s.hi t.hi)) [
+        | inr above ↦ outside_above (hull s t) k above ∙ sym (ap (λ x. x || span_has t k) (outside_above s k (omega arith)) ∙ outside_above t k (omega arith))
+        | inl upto ↦ inside (hull s t) k from upto ∙ sym (grind (arith, nat_tests))
+      ]
+    ]
+
+pub insert_cases : (P : List Interval → Type 0) (s t : Interval) (ts : List Interval) → (s.hi < t.lo → P (s ∷ t ∷ ts)) → (t.lo ≤ s.hi → t.hi < s.lo → P (t ∷ insert_span s ts)) → (t.lo ≤ s.hi → s.lo ≤ t.hi → P (insert_span (hull s t) ts)) → P (insert_span s (t ∷ ts))
+insert_cases P s t ts before after touching =
+    elim (nat_lt s.hi t.lo) as (λ b. nat_lt s.hi t.lo ≡ b → P (cond b (s ∷ t ∷ ts) (cond (nat_lt t.hi s.lo) (t ∷ insert_span s ts) (insert_span (hull s t) ts)))) [
+      | true ↦ λ e. before (grind (arith, nat_tests))
+      | false ↦ λ e. elim (nat_lt t.hi s.lo) as (λ b. nat_lt t.hi s.lo ≡ b → P (cond b (t ∷ insert_span s ts) (insert_span (hull s t) ts))) [
+        | true ↦ λ f. after (grind (arith, nat_tests)) (grind (arith, nat_tests))
+        | false ↦ λ f. touching (grind (arith, nat_tests)) (grind (arith, nat_tests))
+      ] refl
+    ] refl
+
+pub beyond-insert : (h : ℕ) (s : Interval) (ss : List Interval) → h < s.lo → Beyond h ss → IsCanonical ss → Beyond h (insert_span s ss)
+beyond-insert h s [] p b c = p
+beyond-insert h s (t ∷ ts) p b c = insert_cases (Beyond h) s t ts (λ _. p) (λ _ _. b) (λ f g. beyond-insert h (hull s t) ts (omega arith) (beyond_weaker h t.hi ts (omega (arith, c.0)) c.1) c.2)
+
+pub canonical-insert : (s : Interval) (ss : List Interval) → s.lo < s.hi → IsCanonical ss → IsCanonical (insert_span s ss)
+canonical-insert s [] p c = (p, tt, tt)
+canonical-insert s (t ∷ ts) p c = insert_cases IsCanonical s t ts
+    (λ before. (p, before, c))
+    (λ f after. (c.0, beyond-insert t.hi s ts after c.1 c.2, canonical-insert s ts p c.2))
+    (λ f g. canonical-insert (hull s t) ts (omega (arith, c.0)) c.2)
+
+pub has-insert : (s : Interval) (ss : List Interval) (k : ℕ) → s.lo < s.hi → IsCanonical ss → has (insert_span s ss) k ≡ (span_has s k || has ss k)
+has-insert s [] k p c = refl
+has-insert s (t ∷ ts) k p c = insert_cases (λ l. has l k ≡ (span_has s k || has (t ∷ ts) k)) s t ts
+    (λ before. refl)
+    (λ f after. ap (λ x. span_has t k || x) (has-insert s ts k p c.2) ∙ swap (span_has t k) (span_has s k) (has ts k))
+    (λ f g. has-insert (hull s t) ts k (omega (arith, c.0)) c.2 ∙ ap (λ x. x || has ts k) (has_hull s t k p c.0 f g) ∙ or_assoc (span_has s k) (span_has t k) (has ts k))
+  where
+    swap : (a b d : Bool) → (a || (b || d)) ≡ (b || (a || d))
+    swap a b d = sym (or_assoc a b d) ∙ ap (λ x. x || d) (or_comm a b) ∙ or_assoc b a d
+
+pub canonical-union : (a b : List Interval) → IsCanonical a → IsCanonical b → IsCanonical (union a b)
+canonical-union a [] c d = c
+canonical-union a (t ∷ ts) c d = canonical-insert t (union a ts) d.0 (canonical-union a ts c d.2)
+
+-- exactly the keys of either
+pub has-union : (a b : List Interval) (k : ℕ) → IsCanonical a → IsCanonical b → has (union a b) k ≡ (has a k || has b k)
+has-union a [] k c d = sym (or_false (has a k))
+has-union a (t ∷ ts) k c d =
+    has-insert t (union a ts) k d.0 (canonical-union a ts c d.2)
+    ∙ ap (λ x. span_has t k || x) (has-union a ts k c d.2)
+    ∙ sym (or_assoc (span_has t k) (has a k) (has ts k)) ∙ ap (λ x. x || has ts k) (or_comm (span_has t k) (has a k)) ∙ or_assoc (has a k) (span_has t k) (has ts k)
+
+pub has_first : (s : Interval) (ss : List Interval) → s.lo < s.hi → has (s ∷ ss) s.lo ≡ true
+has_first s ss p = ap (λ x. x || has ss s.lo) (inside s s.lo (omega arith) p)
+
+pub has_in : (s : Interval) (ss : List Interval) (k : ℕ) → s.lo ≤ k → k < s.hi → has (s ∷ ss) k ≡ true
+has_in s ss k p q = ap (λ x. x || has ss k) (inside s k p q)
+
+pub has_after : (s : Interval) (ss : List Interval) (k : ℕ) → s.hi ≤ k → has (s ∷ ss) k ≡ has ss k
+has_after s ss k p = ap (λ x. x || has ss k) (outside_above s k p)
+
+-- a list that starts later differs
+starts_later : (s t : Interval) (ss ts : List Interval) → IsCanonical (s ∷ ss) → IsCanonical (t ∷ ts) → s.lo < t.lo → has (s ∷ ss) s.lo ≡ has (t ∷ ts) s.lo → ⊥
+starts_later s t ss ts c d lt is =
+    let yes = has_first s ss c.0 in
+    let no = has_below s.lo s.lo (t ∷ ts) lt d (omega arith) in
+    let h : true ≡ false = sym yes ∙ is ∙ no in
+    cc
+
+ends_later : (s t : Interval) (ss ts : List Interval) → IsCanonical (s ∷ ss) → IsCanonical (t ∷ ts) → s.lo ≡ t.lo → s.hi < t.hi → has (s ∷ ss) s.hi ≡ has (t ∷ ts) s.hi → ⊥
+ends_later s t ss ts c d same lt is =
+    let no : has (s ∷ ss) s.hi ≡ false = has_after s ss s.hi (omega arith) ∙ has_below s.hi s.hi ss c.1 c.2 (omega arith) in
+    let yes : has (t ∷ ts) s.hi ≡ true = has_in t ts s.hi (omega (arith, c.0)) lt in
+    let h : true ≡ false = sym yes ∙ sym is ∙ no in
+    cc
+
+same_span : (s t : Interval) → s.lo ≡ t.lo → s.hi ≡ t.hi → s ≡ t
+same_span s t p q = λ i. interval (p i) (q i)
+
+-- the same keys make the same list
+pub same_spans : (a b : List Interval) → IsCanonical a → IsCanonical b → ((k : ℕ) → has a k ≡ has b k) → a ≡ b
+same_spans [] [] c d is = refl
+same_spans [] (t ∷ ts) c d is = let h : false ≡ true = is t.lo ∙ has_first t ts d.0 in absurd (let bad : ⊥ = cc in bad)
+same_spans (s ∷ ss) [] c d is = let h : true ≡ false = sym (has_first s ss c.0) ∙ is s.lo in absurd (let bad : ⊥ = cc in bad)
+same_spans (s ∷ ss) (t ∷ ts) c d is =
+    elim (cases_lt s.lo t.lo) [
+      | inl lt ↦ absurd (starts_later s t ss ts c d lt (is s.lo))
+      | inr ge ↦ elim (cases_lt t.lo s.lo) [
+        | inl lt ↦ absurd (starts_later t s ts ss d c lt (sym (is t.lo)))
+        | inr ge' ↦ elim (cases_lt s.hi t.hi) [
+          | inl lt ↦ absurd (ends_later s t ss ts c d (omega arith) lt (is s.hi))
+          | inr le ↦ elim (cases_lt t.hi s.hi) [
+            | inl lt ↦ absurd (ends_later t s ts ss d c (omega arith) lt (sym (is t.hi)))
+            | inr le' ↦
+                let los : s.lo ≡ t.lo = omega arith in
+                let his : s.hi ≡ t.hi = omega arith in
+                let rest = same_spans ss ts c.2 d.2 (λ k. elim (cases_lt k (s.hi + 1)) [
+                  | inl upto ↦ has_below s.hi k ss c.1 c.2 (omega arith) ∙ sym (has_below t.hi k ts d.1 d.2 (omega arith))
+                  | inr above ↦ sym (has_after s ss k (omega arith)) ∙ is k ∙ has_after t ts k (omega arith)
+                ]) in
+                λ i. same_span s t los his i ∷ rest i
+          ]
+        ]
+      ]
+    ]
+
+-- the union is associative, commutative and idempotent, and the empty set is neutral
+pub union_assoc : (x y z : List Interval) → IsCanonical x → IsCanonical y → IsCanonical z → union (union x y) z ≡ union x (union y z)
+union_assoc x y z a b c = same_spans _ _ (canonical-union (union x y) z (canonical-union x y a b) c) (canonical-union x (union y z) a (canonical-union y z b c)) (λ k.
+    has-union (union x y) z k (canonical-union x y a b) c ∙ ap (λ u. u || has z k) (has-union x y k a b) ∙ or_assoc (has x k) (has y k) (has z k)
+    ∙ sym (has-union x (union y z) k a (canonical-union y z b c) ∙ ap (λ u. has x k || u) (has-union y z k b c)))
+
+pub union_comm : (x y : List Interval) → IsCanonical x → IsCanonical y → union x y ≡ union y x
+union_comm x y a b = same_spans _ _ (canonical-union x y a b) (canonical-union y x b a) (λ k. has-union x y k a b ∙ or_comm (has x k) (has y k) ∙ sym (has-union y x k b a))
+
+pub union_idem : (x : List Interval) → IsCanonical x → union x x ≡ x
+union_idem x a = same_spans _ _ (canonical-union x x a a) a (λ k. has-union x x k a a ∙ or_idem (has x k))
+
+-- `==` on spans and on lists of them
+interval_eq-equivalence : IsEquivalence interval_eq
+interval_eq-equivalence = search (comparing, rules)
+
+pub spans_eq-equivalence : IsEquivalence spans_eq
+spans_eq-equivalence = lists_equiv interval_eq-equivalence
+
+pub spans_eq-laws : IsPartialEquivalence spans_eq
+spans_eq-laws = partial_equiv_from_equiv spans_eq-equivalence

@@ -1,0 +1,50 @@
+//! Edits of the spans of a set.
+
+ghost use Rattle.std.specs.Prelude.{◌≡◌, IfOk, OnOk, OnErr};
+ghost use Rattle.squall_span.specs.Places.{IsCut};
+ghost use Rattle.squall_span.specs.Spans.{IsCanonical, insert_span};
+
+use crate::search::{apart, ended, started};
+use crate::span::Span;
+use squall_key::Bound;
+use std::alloc::{AllocError, Global};
+
+/// Adds the keys of a span.
+pub(crate) fn insert(spans: &mut Vec<Span>, span: Span) -> Result<(), AllocError>
+    requires { IsCanonical spans.old.items }
+    ensures value { OnOk result (spans.new.items ≡ insert_span span spans.old.items) }
+    ensures err { OnErr result (spans.new.items ≡ spans.old.items) }
+{
+    let from = apart(spans, span.lo());
+    let to = started(spans, span.hi());
+    if from == to {
+        spans.insert(from, span)?;
+        return Ok(());
+    }
+    let lo = span.lo().min(spans[from].lo());
+    let hi = span.hi().max(spans[to - 1].hi());
+    let left = spans.len() - (to - from - 1);
+    spans[from] = Span::between(lo, hi);
+    spans.copy_within(to.., from + 1);
+    spans.truncate(left);
+    Ok(())
+}
+
+/// The spans of the keys below the bound, and those of the others.
+pub(crate) fn cut(
+    alloc: Global,
+    spans: &[Span],
+    bound: Bound,
+) -> Result<(Vec<Span>, Vec<Span>), AllocError>
+    requires { IsCanonical spans.now }
+    ensures { IfOk result (λ sets. IsCut spans.now bound sets.0.items sets.1.items) }
+{
+    let at = ended(spans, bound);
+    let mut below = Vec::from_slice(alloc, &spans[..at])?;
+    let mut others = Vec::from_slice(alloc, &spans[at..])?;
+    if at < spans.len() && spans[at].lo() < bound {
+        below.push(Span::between(spans[at].lo(), bound))?;
+        others[0] = Span::between(bound, spans[at].hi());
+    }
+    Ok((below, others))
+}

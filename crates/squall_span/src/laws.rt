@@ -1,0 +1,31 @@
+//! Laws of sets of keys, each the contract of a function that does nothing.
+
+ghost use Rattle.std.specs.Prelude.{◌≡◌, ◌↔◌, ℕ, ◌<◌, ◌||◌, true, List};
+ghost use Rattle.squall_span.specs.Spans.{Interval, has, span_has, IsCanonical, EndsBy, insert_span, union, total_length, how_many, spans_eq};
+
+/// Sets with the same keys have the same list of spans.
+pub fn same_keys_make_the_same_set()
+    ensures { (a b : List Interval) → IsCanonical a → IsCanonical b → ((k : ℕ) → has a k ≡ has b k) → a ≡ b }
+{}
+
+/// The lengths of the spans, summed, are how many keys the set has.
+pub fn lengths_count_the_keys()
+    ensures { (set : List Interval) (n : ℕ) → IsCanonical set → EndsBy n set → how_many (has set) n ≡ total_length set }
+{}
+
+/// One span more is a set again, of its keys and those of the set.
+pub fn one_span_more_is_a_set()
+    ensures set { (s : Interval) (a : List Interval) → s.lo < s.hi → IsCanonical a → IsCanonical (insert_span s a) }
+    ensures keys { (s : Interval) (a : List Interval) (k : ℕ) → s.lo < s.hi → IsCanonical a → has (insert_span s a) k ≡ (span_has s k || has a k) }
+{}
+
+/// A union is a set again, of the keys of either.
+pub fn a_union_is_a_set()
+    ensures set { (a b : List Interval) → IsCanonical a → IsCanonical b → IsCanonical (union a b) }
+    ensures keys { (a b : List Interval) (k : ℕ) → IsCanonical a → IsCanonical b → has (union a b) k ≡ (has a k || has b k) }
+{}
+
+/// `==` on sets says whether they are equal.
+pub fn equality_is_exact()
+    ensures { (a b : List Interval) → (spans_eq a b ≡ true) ↔ (a ≡ b) }
+{}

@@ -1,0 +1,32 @@
+//! Searches among the spans of a set.
+
+ghost use Rattle.std.specs.Prelude.{◌≡◌, ℕ, ◌≤◌, length, take, drop};
+ghost use Rattle.squall_span.specs.Spans.{IsCanonical};
+ghost use Rattle.squall_span.specs.Places.{Ended, Apart, Started};
+
+use crate::span::Span;
+use squall_key::Bound;
+
+/// How many spans end at the bound or before it.
+pub(crate) fn ended(spans: &[Span], bound: Bound) -> usize
+    requires { IsCanonical spans.now }
+    ensures { Ended spans.now bound result }
+{
+    spans.partition_point(|span| span.hi() <= bound)
+}
+
+/// How many spans end before the bound, and do not touch it.
+pub(crate) fn apart(spans: &[Span], bound: Bound) -> usize
+    requires { IsCanonical spans.now }
+    ensures { Apart spans.now bound result }
+{
+    spans.partition_point(|span| span.hi() < bound)
+}
+
+/// How many spans start at the bound or before it.
+pub(crate) fn started(spans: &[Span], bound: Bound) -> usize
+    requires { IsCanonical spans.now }
+    ensures { Started spans.now bound result }
+{
+    spans.partition_point(|span| span.lo() <= bound)
+}

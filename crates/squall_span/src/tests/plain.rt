@@ -1,0 +1,156 @@
+//! Each operation against a plain program, on sets of the 24 least keys as bits of a number.
+
+use crate::{Span, SpanSet};
+use squall_key::{Bound, Key};
+use std::alloc::{AllocError, Global};
+use std::process::Abort;
+use std::test::Fail;
+
+const ROUNDS: u32 = 150;
+
+const ALL: u32 = 16777215;
+
+/// The next pseudo-random number.
+fn next(state: u32) -> u32 {
+    state.wrapping_mul(1664525).wrapping_add(1013904223)
+}
+
+/// A pseudo-random set.
+fn mask(state: u32) -> u32 {
+    (state >> 7) & ALL
+}
+
+fn bound(rt: &impl Abort, rank: u32) -> Bound {
+    Bound::of_rank(u64::from(rank)).expect(rt, "a bound")
+}
+
+fn span(rt: &impl Abort, lo: u32, hi: u32) -> Span {
+    Span::new(bound(rt, lo), bound(rt, hi)).expect(rt, "a span")
+}
+
+/// The set of the keys that the mask has, by one insert for each.
+fn made(rt: &impl Abort, alloc: Global, mask: u32) -> Result<SpanSet, AllocError> {
+    let mut set = SpanSet::empty(alloc);
+    for key in 0..24u32 {
+        if (mask >> key) & 1 == 1 {
+            set.insert(span(rt, key, key + 1))?;
+        }
+    }
+    Ok(set)
+}
+
+/// The keys from lo on, below hi.
+fn between(lo: u64, hi: u64) -> u32 {
+    let mut mask = 0u32;
+    for key in 0..24u32 {
+        if lo <= u64::from(key) && u64::from(key) < hi {
+            mask |= 1 << key;
+        }
+    }
+    mask
+}
+
+/// The keys of the spans of a set.
+fn mask_of(set: &SpanSet) -> u32 {
+    let mut mask = 0u32;
+    for span in set.spans() {
+        mask |= between(span.lo().rank(), span.hi().rank());
+    }
+    mask
+}
+
+#[test]
+fn sets_of_two(rt: HostRuntime) -> Result<(), Fail> {
+    let mut state = 1u32;
+    for _ in 0..ROUNDS {
+        let a = mask(state);
+        state = next(state);
+        let b = mask(state);
+        state = next(state);
+        let first = made(&rt, rt.alloc(), a)?;
+        let second = made(&rt, rt.alloc(), b)?;
+        assert!(rt; mask_of(&first) == a);
+        assert!(rt; mask_of(&first.union(rt.alloc(), &second)?) == a | b);
+        assert!(rt; mask_of(&first.meet(rt.alloc(), &second)?) == a & b);
+        assert!(rt; mask_of(&first.minus(rt.alloc(), &second)?) == a & !b);
+        assert!(rt; first.covers(&second) == (b & !a == 0));
+        assert!(rt; first.covers(&first.meet(rt.alloc(), &second)?));
+        assert!(rt; (first == second) == (a == b));
+        assert!(rt; first.union(rt.alloc(), &second)? == made(&rt, rt.alloc(), a | b)?);
+        assert!(rt; first.minus(rt.alloc(), &second)? == made(&rt, rt.alloc(), a & !b)?);
+    }
+    Ok(())
+}
+
+#[test]
+fn sets_of_one(rt: HostRuntime) -> Result<(), Fail> {
+    let mut state = 2u32;
+    for _ in 0..ROUNDS {
+        let a = mask(state);
+        let at = state % 25;
+        state = next(state);
+        let set = made(&rt, rt.alloc(), a)?;
+        let (below, others) = set.split_at(rt.alloc(), bound(&rt, at))?;
+        assert!(rt; mask_of(&below) == a & between(0, u64::from(at)));
+        assert!(rt; mask_of(&others) == a & between(u64::from(at), 24));
+        assert!(rt; set.count() == u64::from(a.count_ones()));
+        assert!(rt; set.is_empty() == (a == 0));
+        assert!(rt; set.copied(rt.alloc())? == set);
+    }
+    Ok(())
+}
+
+#[test]
+fn keys_of_one(rt: HostRuntime) -> Result<(), Fail> {
+    let mut state = 3u32;
+    for _ in 0..ROUNDS {
+        let a = mask(state);
+        state = next(state);
+        let set = made(&rt, rt.alloc(), a)?;
+        for rank in 0..24u32 {
+            let key = Key::of_rank(u64::from(rank)).expect(&rt, "a key");
+            assert!(rt; set.has(key) == ((a >> rank) & 1 == 1));
+        }
+    }
+    Ok(())
+}
+
+#[test]
+fn inserts(rt: HostRuntime) -> Result<(), Fail> {
+    let mut state = 4u32;
+    for _ in 0..ROUNDS {
+        let a = mask(state);
+        let lo = state % 20;
+        let length = (state >> 20) % 6 + 1;
+        state = next(state);
+        let mut set = made(&rt, rt.alloc(), a)?;
+        set.insert(span(&rt, lo, lo + length))?;
+        let wanted = (a | between(u64::from(lo), u64::from(lo + length))) & ALL;
+        assert!(rt; mask_of(&set) == wanted);
+    }
+    Ok(())
+}
+
+#[test]
+fn first_keys(rt: HostRuntime) -> Result<(), Fail> {
+    let mut state = 5u32;
+    for _ in 0..ROUNDS {
+        let a = mask(state);
+        let most = (state >> 28) % 5;
+        state = next(state);
+        let set = made(&rt, rt.alloc(), a)?;
+        match set.first_keys(u64::from(most)) {
+            None => assert!(rt; a == 0 || most == 0),
+            Some(span) => {
+                assert!(rt; span.lo().rank() == u64::from(a.trailing_zeros()));
+                let keys = between(span.lo().rank(), span.hi().rank());
+                assert!(rt; keys & !a == 0);
+                let room = span.count() == u64::from(most);
+                assert!(rt;
+                    room || a & between(span.hi().rank(), span.hi().rank().saturating_add(1)) == 0
+                );
+            }
+        }
+    }
+    Ok(())
+}

@@ -1,0 +1,126 @@
+//! Each call that allocates, which may answer that memory ran out and then changes nothing.
+
+use crate::{Span, SpanSet};
+use squall_key::Bound;
+use std::alloc::{AllocError, Global};
+use std::process::Abort;
+use std::test::Fail;
+
+fn bound(rt: &impl Abort, rank: u64) -> Bound {
+    Bound::of_rank(rank).expect(rt, "a bound")
+}
+
+fn span(rt: &impl Abort, lo: u64, hi: u64) -> Span {
+    Span::new(bound(rt, lo), bound(rt, hi)).expect(rt, "a span")
+}
+
+/// A set of a few spans, from a key on.
+fn few(rt: &impl Abort, alloc: Global, from: u64) -> Result<SpanSet, AllocError> {
+    let mut set = SpanSet::empty(alloc);
+    for place in 0..6u64 {
+        let lo = from.saturating_add(10 * place);
+        set.insert(span(rt, lo, lo.saturating_add(6)))?;
+    }
+    Ok(set)
+}
+
+#[test]
+fn tolerant_insert(rt: HostRuntime) -> Result<(), Fail> {
+    let mut set = SpanSet::empty(rt.alloc());
+    for place in 0..20u64 {
+        let Ok(before) = set.copied(rt.alloc()) else {
+            return Ok(());
+        };
+        if set.insert(span(&rt, 10 * place, 10 * place + 5)).is_err() {
+            assert!(rt; set == before);
+            return Ok(());
+        }
+        assert!(rt; set.covers(&before) && !before.covers(&set));
+    }
+    Ok(())
+}
+
+#[test]
+fn tolerant_of(rt: HostRuntime) -> Result<(), Fail> {
+    let one = span(&rt, 3, 9);
+    if let Ok(set) = SpanSet::of(rt.alloc(), &one) {
+        assert!(rt; set.count() == 6);
+    }
+    Ok(())
+}
+
+#[test]
+fn tolerant_copied(rt: HostRuntime) -> Result<(), Fail> {
+    let Ok(set) = few(&rt, rt.alloc(), 0) else {
+        return Ok(());
+    };
+    let Ok(before) = few(&rt, rt.alloc(), 0) else {
+        return Ok(());
+    };
+    if let Ok(copy) = set.copied(rt.alloc()) {
+        assert!(rt; copy == before);
+    }
+    assert!(rt; set == before);
+    Ok(())
+}
+
+#[test]
+fn tolerant_union(rt: HostRuntime) -> Result<(), Fail> {
+    let (Ok(set), Ok(before), Ok(other)) = (
+        few(&rt, rt.alloc(), 0),
+        few(&rt, rt.alloc(), 0),
+        few(&rt, rt.alloc(), 8),
+    ) else {
+        return Ok(());
+    };
+    if let Ok(both) = set.union(rt.alloc(), &other) {
+        assert!(rt; both.count() == 52);
+    }
+    assert!(rt; set == before);
+    Ok(())
+}
+
+#[test]
+fn tolerant_minus(rt: HostRuntime) -> Result<(), Fail> {
+    let (Ok(set), Ok(before), Ok(other)) = (
+        few(&rt, rt.alloc(), 0),
+        few(&rt, rt.alloc(), 0),
+        few(&rt, rt.alloc(), 3),
+    ) else {
+        return Ok(());
+    };
+    if let Ok(rest) = set.minus(rt.alloc(), &other) {
+        assert!(rt; rest.count() == 18);
+    }
+    assert!(rt; set == before);
+    Ok(())
+}
+
+#[test]
+fn tolerant_meet(rt: HostRuntime) -> Result<(), Fail> {
+    let (Ok(set), Ok(before), Ok(other)) = (
+        few(&rt, rt.alloc(), 0),
+        few(&rt, rt.alloc(), 0),
+        few(&rt, rt.alloc(), 3),
+    ) else {
+        return Ok(());
+    };
+    if let Ok(met) = set.meet(rt.alloc(), &other) {
+        assert!(rt; met.count() == 18);
+    }
+    assert!(rt; set == before);
+    Ok(())
+}
+
+#[test]
+fn tolerant_split_at(rt: HostRuntime) -> Result<(), Fail> {
+    let (Ok(set), Ok(before)) = (few(&rt, rt.alloc(), 0), few(&rt, rt.alloc(), 0)) else {
+        return Ok(());
+    };
+    if let Ok((below, others)) = set.split_at(rt.alloc(), bound(&rt, 23)) {
+        assert!(rt; below.count() == 15);
+        assert!(rt; others.count() == 21);
+    }
+    assert!(rt; set == before);
+    Ok(())
+}
