@@ -7,6 +7,9 @@ use Rattle.squall_plan.specs.declared.range.PlanRange.{PlanRange}
 use Rattle.squall_plan.specs.declared.fault.PlanFault.{PlanFault}
 use Rattle.squall_plan.specs.Faults.{text_of_fault}
 use Rattle.squall_plan.specs.Form.{plan_of_text}
+use Rattle.squall_course.specs.declared.moving.Move.{Move}
+use Rattle.squall_course.specs.Moves.{moves_of}
+use Rattle.squall_course.specs.Subplans.{subplan_count}
 use Rattle.squall_lines.specs.Script.{IsFront}
 use Rattle.squall_lines.specs.declared.Ended.{Ended}
 use Rattle.squall_lines.specs.declared.Ended.TheVariants.{Fine, Refused}
@@ -28,7 +31,7 @@ range_line r = codes "range " ++ (decimal r.part ++ (codes " " ++ (text_of_span 
 abbrev pub range_lines : List PlanRange → List ℕ
 range_lines rs = flat_map range_line rs
 
--- why there is no plan
+-- why there is no plan; `which` says of which, and ends in a blank where it says anything
 abbrev pub refusal : List ℕ → PlanFault → List ℕ
 refusal which fault = codes "refused " ++ (which ++ (text_of_fault fault ++ codes "\n"))
 
@@ -40,6 +43,34 @@ check_of_plan (Err fault) = record { text = refusal [] fault; refused = true }
 -- what `check` says of the plan of a text
 abbrev pub check_of : List ℕ → Said
 check_of text = check_of_plan (plan_of_text text)
+
+-- ---- course
+
+-- the line of a move: its keys, where they come from and go to, and its sub-plan
+abbrev pub move_line : Move → List ℕ
+move_line m = codes "move " ++ (text_of_span m.span ++ (codes " " ++ (decimal m.source ++ (codes " to " ++ (decimal m.dest ++ (codes " sub " ++ (decimal m.sub ++ codes "\n")))))))
+
+-- the lines of moves, one after another
+abbrev pub move_lines : List Move → List ℕ
+move_lines ms = flat_map move_line ms
+
+-- how many moves and sub-plans there are
+abbrev pub count_lines : ℕ → ℕ → List ℕ
+count_lines moves subplans = codes "moves " ++ (decimal moves ++ (codes "\nsub-plans " ++ (decimal subplans ++ codes "\n")))
+
+-- how many moves and sub-plans there are between two plans, and the moves by rising key
+abbrev pub course_lines : List PlanRange → List PlanRange → List ℕ
+course_lines old new = count_lines (length (moves_of old new)) (subplan_count old new) ++ move_lines (moves_of old new)
+
+-- the course between two plans, or the fault of the old one, or else that of the new one
+abbrev pub course_of_plans : Result (List PlanRange) PlanFault → Result (List PlanRange) PlanFault → Said
+course_of_plans (Ok old) (Ok new) = record { text = course_lines old new; refused = false }
+course_of_plans (Ok old) (Err fault) = record { text = refusal (codes "new ") fault; refused = true }
+course_of_plans (Err fault) new = record { text = refusal (codes "old ") fault; refused = true }
+
+-- what `course` says of the plans of two texts
+abbrev pub course_of : List ℕ → List ℕ → Said
+course_of old new = course_of_plans (plan_of_text old) (plan_of_text new)
 
 -- ---- what code has done
 

@@ -9,6 +9,7 @@ ghost use Rattle.squall_run.specs.Text.{script_of};
 
 mod check;
 mod command;
+mod course;
 mod files;
 mod laws;
 mod program;
@@ -18,6 +19,7 @@ mod scenario;
 mod told;
 
 pub use check::check_text;
+pub use course::course_text;
 pub use files::Files;
 pub use laws::{fine_has_no_bad_line, refused_ends_in_a_bad_line};
 pub use program::perform;

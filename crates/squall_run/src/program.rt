@@ -1,13 +1,14 @@
 //! What the words of a command line bring about.
 
-ghost use Rattle.std.specs.Prelude.{◌≡◌, ◌≢◌, ℕ, Err, codes, string_bytes};
+ghost use Rattle.std.specs.Prelude.{◌≡◌, ◌≢◌, Err, IfErr, codes};
 ghost use Rattle.std.specs.Io.KnownBytes.{Appends, Consumes};
 ghost use Rattle.squall_command.specs.Line.{words_of, job_seen, check, run, Asks, Refuses};
 ghost use Rattle.squall_command.specs.declared.task.LineFault.TheVariants.{Bad};
 ghost use Rattle.squall_run.specs.Status.{status_of, RunsWith, ChecksWith};
 
 use crate::check::check_source;
-use crate::files::Files;
+use crate::course::course_text;
+use crate::files::{Files, read_all};
 use crate::run_text;
 use squall_command::{LineFault, Task, command, message};
 use squall_device::{Sink, Source};
@@ -117,6 +118,56 @@ fn run_file<F: Files, S: Source, O: Sink, E: Sink>(
     }
 }
 
+/// The bytes of a file. Where they can't be had it says why, and gives the status.
+fn read_named<F: Files, S: Source, E: Sink>(
+    alloc: Global,
+    name: &str,
+    files: &mut F,
+    input: &mut S,
+    err: &mut E,
+) -> Result<Vec<u8>, u8>
+    ensures { IfErr result (λ status. status ≢ 2) }
+{
+    let read = if name == "-" {
+        read_all(alloc, input)
+    } else {
+        match files.open(name) {
+            Some(mut file) => read_all(alloc, &mut file),
+            None => return Err(tell_unopened(name, err)),
+        }
+    };
+    match read {
+        Ok(bytes) => Ok(bytes),
+        Err(fault) => Err(tell_fault(fault, err)),
+    }
+}
+
+/// Shows the course between the plans of two files. Where both are standard input, the second one
+/// finds nothing left there.
+fn course_files<F: Files, S: Source, O: Sink, E: Sink>(
+    alloc: Global,
+    old: &str,
+    new: &str,
+    files: &mut F,
+    input: &mut S,
+    out: &mut O,
+    err: &mut E,
+) -> u8
+    ensures { result ≢ 2 }
+{
+    let old_text = match read_named(alloc, old, files, input, err) {
+        Ok(text) => text,
+        Err(status) => return status,
+    };
+    if old == "-" && new == "-" {
+        return tell_outcome(course_text(alloc, &old_text, &[], out), err);
+    }
+    match read_named(alloc, new, files, input, err) {
+        Ok(new_text) => tell_outcome(course_text(alloc, &old_text, &new_text, out), err),
+        Err(status) => status,
+    }
+}
+
 /// Does the task.
 fn obey<F: Files, S: Source, O: Sink, E: Sink>(
     alloc: Global,
@@ -132,7 +183,15 @@ fn obey<F: Files, S: Source, O: Sink, E: Sink>(
 {
     match task {
         Task::Check(plan) => check_file(alloc, plan.as_str(), files, input, out, err),
-        Task::Course(_, _) => DEVICE,
+        Task::Course(old, new) => course_files(
+            alloc,
+            old.as_str(),
+            new.as_str(),
+            files,
+            input,
+            out,
+            err,
+        ),
         Task::Run(file) => run_file(alloc, file.as_str(), files, input, out, err),
     }
 }

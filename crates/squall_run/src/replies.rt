@@ -63,7 +63,7 @@ fn old_plan(
 }
 
 /// The course of number 1 between the plans.
-fn first_course(alloc: Global, old: &Plan, new: &Plan) -> Result<Course, AllocError>
+pub(crate) fn first_course(alloc: Global, old: &Plan, new: &Plan) -> Result<Course, AllocError>
     ensures { IfOk result (λ course. course ≡ record { number = 1; old = old.now; new = new.now }) }
 {
     match Course::new(alloc, 1, old, new) {

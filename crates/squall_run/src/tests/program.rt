@@ -1,7 +1,12 @@
 use super::{ANSWERS, Drip, Drops, Feeds, LINES, joined};
-use crate::{Ended, Files, Reader, RunFault, Sink, Source, Writer, check_text, perform};
+use crate::{
+    Ended, Files, Reader, RunFault, Sink, Source, Writer, check_text, course_text, perform,
+};
 use std::alloc::Global;
 use std::test::Fail;
+
+const OLD_PLAN: &str =
+    "{\"plan\":[{\"part\":1,\"from\":[0,0],\"to\":[3,0]},{\"part\":2,\"from\":[3,0],\"to\":[5,0]},{\"part\":3,\"from\":[5,0],\"to\":[9,0]},{\"part\":4,\"from\":[9,0],\"to\":\"end\"}]}";
 
 const NEW_PLAN: &str =
     "{\"plan\":[{\"part\":1,\"from\":[0,0],\"to\":[2,0]},{\"part\":2,\"from\":[3,0],\"to\":[5,0]},{\"part\":3,\"from\":[2,0],\"to\":[3,0]},{\"part\":3,\"from\":[5,0],\"to\":[6,0]},{\"part\":4,\"from\":[6,0],\"to\":\"end\"}]}";
@@ -75,6 +80,60 @@ fn check_of_a_plan(rt: HostRuntime) -> Result<(), Fail> {
     let outcome = check_text(alloc, NEW_PLAN.as_bytes(), &mut writer);
     assert_eq!(rt; outcome, Ok(Ended::Fine));
     assert!(rt; out.as_slice() == NEW_CHECKED.as_bytes());
+    Ok(())
+}
+
+#[test]
+fn course_between_plans(rt: HostRuntime) -> Result<(), Fail> {
+    let alloc = rt.alloc();
+    let mut out = Vec::new(alloc);
+    let mut writer = Writer::new(&mut out);
+    let outcome = course_text(alloc, OLD_PLAN.as_bytes(), NEW_PLAN.as_bytes(), &mut writer);
+    assert_eq!(rt; outcome, Ok(Ended::Fine));
+    let wanted = "moves 2\nsub-plans 1\nmove [2:0,3:0) 1 to 3 sub 0\nmove [6:0,9:0) 3 to 4 sub 0\n";
+    assert!(rt; out.as_slice() == wanted.as_bytes());
+    Ok(())
+}
+
+#[test]
+fn courses_of_files(rt: HostRuntime) -> Result<(), Fail> {
+    let alloc = rt.alloc();
+    let same = "moves 0\nsub-plans 0\n";
+    let course = brings(
+        alloc,
+        &["squall", "course", "new.json", "-"],
+        given(NEW_PLAN),
+        same,
+        "",
+    )?;
+    assert_eq!(rt; course, Some(0));
+    let no_old = "refused old Gap 3:5\n";
+    let course = brings(
+        alloc,
+        &["squall", "course", "-", "-"],
+        given(GAP),
+        no_old,
+        "",
+    )?;
+    assert_eq!(rt; course, Some(1));
+    let no_new = "refused new Json\n";
+    let course = brings(
+        alloc,
+        &["squall", "course", "-", "-"],
+        given(NEW_PLAN),
+        no_new,
+        "",
+    )?;
+    assert_eq!(rt; course, Some(1));
+    let no_file = "squall: cannot open x\n";
+    let course = brings(
+        alloc,
+        &["squall", "course", "-", "x"],
+        given(GAP),
+        "",
+        no_file,
+    )?;
+    assert_eq!(rt; course, Some(3));
     Ok(())
 }
 
