@@ -1,37 +1,75 @@
-//! The program: answers the scenario on standard input.
+//! The program: does what its words ask for, over the files of the system.
 //!
-//! Its status is 0 where each line was answered, 1 where a line was bad, 3 where a device failed
-//! and 4 where memory was wanting. What stopped it stands on standard error.
+//! Its status is 0 where all went well, 1 where the input was refused, 2 where the words ask for
+//! nothing that there is, 3 where a device failed and 4 where memory was wanting. What stopped it
+//! stands on standard error.
 #![tactic(auto)]
 
-ghost use Rattle.std.specs.Prelude.{◌≡◌, Ok, Err};
-
-use squall_run::{Ended, Reader, RunFault, Writer, run_text};
+use squall_run::{Files, Reader, Writer, perform};
+use std::fs::File;
+use std::io::ErrorKind;
 use std::process::ExitCode;
+use std::{env, io};
 
-/// The status of a run.
-fn status(outcome: Result<Ended, RunFault>) -> u8
-    ensures fine { outcome ≡ Ok Ended.Fine → result ≡ 0 }
-    ensures refused { outcome ≡ Ok Ended.Refused → result ≡ 1 }
-    ensures unread { outcome ≡ Err RunFault.Read → result ≡ 3 }
-    ensures unwritten { outcome ≡ Err RunFault.Write → result ≡ 3 }
-    ensures no_memory { outcome ≡ Err RunFault.NoMemory → result ≡ 4 }
-{
-    match outcome {
-        Ok(Ended::Fine) => 0,
-        Ok(Ended::Refused) => 1,
-        Err(RunFault::Read | RunFault::Write) => 3,
-        Err(RunFault::NoMemory) => 4,
+/// The files of the system.
+#[derive(Drop)]
+struct SystemFiles<'a> {
+    rt: &'a HostRuntime,
+}
+
+impl Files for SystemFiles<'_> {
+    type File = Reader<File>;
+
+    fn open(&mut self, name: &str) -> Option<Reader<File>> {
+        match File::open(self.rt, name) {
+            Ok(file) => Some(Reader::new(file)),
+            Err(_) => None,
+        }
     }
 }
 
-fn main(rt: HostRuntime) -> ExitCode {
-    let mut reader = Reader::new(rt.stdin());
-    let mut writer = Writer::new(rt.stdout());
-    let outcome = run_text(rt.alloc(), &mut reader, &mut writer);
-    if let Err(fault) = outcome {
-        // Where standard error fails too, the status alone tells.
-        let _ = eprintln!(rt; "squall: {fault}");
+/// The words that the program was started with.
+fn words_given(rt: &HostRuntime) -> io::Result<Vec<String>> {
+    let mut words = Vec::new(rt.alloc());
+    for word in env::args(rt)? {
+        words.push(word)?;
     }
-    ExitCode::from(status(outcome))
+    Ok(words)
+}
+
+/// Does what the words ask for, and gives the status.
+fn run(rt: &HostRuntime) -> io::Result<u8> {
+    let given = words_given(rt)?;
+    let mut words = Vec::new(rt.alloc());
+    for word in &given {
+        words.push(word.as_str())?;
+    }
+    let mut files = SystemFiles { rt };
+    let mut input = Reader::new(rt.stdin());
+    let mut out = Writer::new(rt.stdout());
+    let mut err = Writer::new(rt.stderr());
+    Ok(perform(
+        rt.alloc(),
+        &words,
+        &mut files,
+        &mut input,
+        &mut out,
+        &mut err,
+    ))
+}
+
+fn main(rt: HostRuntime) -> ExitCode {
+    let status = match run(&rt) {
+        Ok(status) => status,
+        Err(error) if error.kind() == ErrorKind::OutOfMemory => {
+            // Where standard error fails too, the status alone tells.
+            let _ = eprintln!(rt; "squall: no memory");
+            4
+        }
+        Err(_) => {
+            let _ = eprintln!(rt; "squall: the words are no UTF-8");
+            2
+        }
+    };
+    ExitCode::from(status)
 }

@@ -21,6 +21,7 @@ pub mod words;
 
 use block::{take_block, take_last};
 use machine::Machine;
+pub use output::send_text;
 
 /// Whether a run goes on after a line.
 #[derive(Clone, Copy, Debug, PartialEq, Eq)]

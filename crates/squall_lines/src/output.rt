@@ -27,6 +27,23 @@ fn send<K: Sink>(writer: &mut K, bytes: &[u8]) -> Result<(), DeviceFault>
     Ok(())
 }
 
+/// Writes the text. After a fault, which is always `Write`, the writer took a front of the text,
+/// and it failed or took no byte of some.
+pub fn send_text<K: Sink>(writer: &mut K, text: &str) -> Result<(), RunFault>
+    ensures ok { OnOk result (Appends (K.contents writer.old) (K.contents writer.new) text.now) }
+    ensures err { OnErr result ((n : ℕ) × Appends (K.contents writer.old) (K.contents writer.new) (take n text.now)) }
+    ensures only { IfErr result (λ e. e ≡ RunFault.Write) }
+    ensures uncounted { OnOk result ((K.faults writer.new ≡ K.faults writer.old)
+        × (K.empties writer.new ≡ K.empties writer.old)) }
+    ensures counted { OnErr result (IsCountedSince (K.faults writer.old) (K.faults writer.new)
+        ⊎ IsCountedSince (K.empties writer.old) (K.empties writer.new)) }
+{
+    match send(writer, text.as_bytes()) {
+        Ok(()) => Ok(()),
+        Err(DeviceFault) => Err(RunFault::Write),
+    }
+}
+
 /// Writes the text, and empties it. After a fault the writer took a front of the text.
 pub fn flush<K: Sink>(writer: &mut K, out: &mut String) -> Result<(), RunFault>
     ensures ok { OnOk result (Appends (K.contents writer.old) (K.contents writer.new) (string_bytes out.old)) }

@@ -1,2 +1,3 @@
 pub mod Answered
 pub mod Refusals
+pub mod Sent

@@ -7,13 +7,22 @@ ghost use Rattle.squall_device.specs.Counts.{IsCountedSince, times_more};
 ghost use Rattle.squall_lines.specs.Script.{IsOutcome};
 ghost use Rattle.squall_run.specs.Text.{script_of};
 
+mod check;
 mod command;
+mod course;
+mod files;
 mod laws;
+mod program;
 mod reason;
 mod replies;
 mod scenario;
+mod told;
 
+pub use check::check_text;
+pub use course::course_text;
+pub use files::Files;
 pub use laws::{fine_has_no_bad_line, refused_ends_in_a_bad_line};
+pub use program::perform;
 pub use squall_device::{DeviceFault, Reader, Sink, Source, Writer};
 pub use squall_lines::{Ended, MOST_READS, RunFault};
 use std::alloc::Global;

@@ -31,7 +31,7 @@ fn argument(line: &[u8]) -> &[u8]
 }
 
 /// The plan of the text, or its fault.
-fn read_plan(alloc: Global, text: &[u8]) -> Result<Result<Plan, PlanFault>, AllocError>
+pub(crate) fn read_plan(alloc: Global, text: &[u8]) -> Result<Result<Plan, PlanFault>, AllocError>
     ensures { IfOk result (λ plan. plan_of_text text.now ≡ plan) }
 {
     match Plan::read(alloc, text) {
@@ -63,7 +63,7 @@ fn old_plan(
 }
 
 /// The course of number 1 between the plans.
-fn first_course(alloc: Global, old: &Plan, new: &Plan) -> Result<Course, AllocError>
+pub(crate) fn first_course(alloc: Global, old: &Plan, new: &Plan) -> Result<Course, AllocError>
     ensures { IfOk result (λ course. course ≡ record { number = 1; old = old.now; new = new.now }) }
 {
     match Course::new(alloc, 1, old, new) {

@@ -1,0 +1,15 @@
+//! The words of the command line: what they ask for, and what is shown where they ask for help or
+//! for nothing that there is.
+#![tactic(auto)]
+
+mod laws;
+mod line;
+mod parser;
+mod task;
+
+pub use laws::standard_input;
+pub use line::{command, message};
+pub use task::{LineFault, Task};
+
+#[cfg(test)]
+mod tests;

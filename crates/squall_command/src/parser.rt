@@ -1,0 +1,85 @@
+//! The commands of the program, with their help, as `clap` reads them.
+
+ghost use Rattle.std.specs.Prelude.{◌≡◌, IfOk, false, codes};
+ghost use Rattle.clap.specs.Words.{app_of, shape_of, rule_of, new_app};
+ghost use Rattle.clap.specs.declared.builder.command.Command.TheViews.{out-Command as fields_of};
+ghost use Rattle.squall_command.specs.Line.{squall_app, check_shape, course_shape, run_shape, file_rule};
+
+use clap::{Arg, ArgAction, Command};
+use std::alloc::{AllocError, Global};
+
+const ABOUT: &str =
+    "Says where each key is while a database moves from one partition plan to another.";
+
+const AFTER_HELP: &str =
+    "Without a command the scenario on standard input is run. A file named - is standard input.
+
+Example:
+  squall check new.json
+  squall course old.json new.json
+  squall run scenario.txt";
+
+/// A file's name, which has to be there.
+fn file<'a>(alloc: Global, name: &'a str, help: &'a str) -> Arg<'a>
+    ensures rule { rule_of result ≡ file_rule name.entry.now }
+    ensures global { result.global ≡ false }
+{
+    Arg::new(alloc, name)
+        .required(true)
+        .action(ArgAction::Set)
+        .help(help)
+}
+
+/// `check PLAN`
+fn check_command<'a>(alloc: Global) -> Result<Command<'a>, AllocError>
+    ensures shape { IfOk result (λ c. shape_of c ≡ check_shape) }
+    ensures globals { IfOk result (λ c. (fields_of c).has_globals ≡ false) }
+{
+    Command::new(alloc, "check")
+        .about("Checks a plan: shows its ranges by rising key, or the fault that makes it no plan")
+        .arg(file(alloc, "PLAN", "The file of the plan, or -"))
+}
+
+/// `course OLD NEW`
+fn course_command<'a>(alloc: Global) -> Result<Command<'a>, AllocError>
+    ensures shape { IfOk result (λ c. shape_of c ≡ course_shape) }
+    ensures globals { IfOk result (λ c. (fields_of c).has_globals ≡ false) }
+{
+    Command::new(alloc, "course")
+        .about(
+            "Shows which ranges move between two plans, from and to which partition, and in which sub-plan",
+        )
+        .arg(file(alloc, "OLD", "The file of the old plan, or -"))?
+        .arg(file(alloc, "NEW", "The file of the new plan, or -"))
+}
+
+/// `run FILE`
+fn run_command<'a>(alloc: Global) -> Result<Command<'a>, AllocError>
+    ensures shape { IfOk result (λ c. shape_of c ≡ run_shape) }
+    ensures globals { IfOk result (λ c. (fields_of c).has_globals ≡ false) }
+{
+    Command::new(alloc, "run")
+        .about(
+            "Answers the lines of a scenario: plans, reports of what was loaded, and questions for routes",
+        )
+        .arg(file(alloc, "FILE", "The file of the scenario, or -"))
+}
+
+/// The program without its commands.
+fn program<'a>(alloc: Global) -> Command<'a>
+    ensures { app_of result ≡ new_app (codes "squall") }
+{
+    Command::new(alloc, "squall")
+        .about(ABOUT)
+        .after_help(AFTER_HELP)
+}
+
+/// The program's command line.
+pub(crate) fn parser<'a>(alloc: Global) -> Result<Command<'a>, AllocError>
+    ensures { IfOk result (λ c. app_of c ≡ squall_app) }
+{
+    program(alloc)
+        .subcommand(check_command(alloc)?)?
+        .subcommand(course_command(alloc)?)?
+        .subcommand(run_command(alloc)?)
+}

@@ -1,0 +1,95 @@
+//! What the command `check` says of a plan.
+
+ghost use Rattle.std.specs.Prelude.{◌≡◌, ◌≢◌, ◌++◌, ◌⊎◌, [], ℕ, List, IfOk, OnOk, Err, string_bytes};
+ghost use Rattle.std.specs.Io.KnownBytes.{Appends, Consumes};
+ghost use Rattle.squall_device.specs.Counts.{IsCountedSince};
+ghost use Rattle.squall_run.specs.Said.{range_lines, refusal, check_of, IsReady, IsTold};
+
+use crate::files::read_all;
+use crate::replies::read_plan;
+use crate::told::tell;
+use squall_device::{Sink, Source};
+use squall_lines::{Ended, RunFault};
+use squall_plan::{PlanFault, PlanRange};
+use std::alloc::{AllocError, Global};
+
+/// Adds the lines of the ranges.
+fn add_ranges(ranges: &[PlanRange], out: &mut String) -> Result<(), AllocError>
+    ensures { OnOk result (string_bytes out.new ≡ string_bytes out.old ++ range_lines ranges.now) }
+{
+    for range in ranges {
+        let part = range.part;
+        let span = range.span;
+        write!(out, "range {part} {span}\n")?;
+    }
+    Ok(())
+}
+
+/// Adds why the text of a plan is none. `which` says which plan it is, and ends in a blank where
+/// it says anything.
+pub(crate) fn add_refusal(
+    which: &str,
+    fault: PlanFault,
+    out: &mut String,
+) -> Result<Ended, AllocError>
+    ensures { IfOk result (λ ended. (ended ≡ Ended.Refused) × (string_bytes out.new ≡ string_bytes out.old ++ refusal which.now fault)) }
+{
+    write!(out, "refused {which}{fault}\n")?;
+    Ok(Ended::Refused)
+}
+
+/// Puts what the check says into the empty text.
+fn check(alloc: Global, plan: &[u8], out: &mut String) -> Result<Ended, AllocError>
+    requires { string_bytes out.old ≡ [] }
+    ensures { IfOk result (λ ended. IsReady ended (string_bytes out.new) (check_of plan.now)) }
+{
+    let plan = match read_plan(alloc, plan) {
+        Ok(Ok(plan)) => plan,
+        Ok(Err(fault)) => return add_refusal("", fault, out),
+        Err(error) => return Err(error),
+    };
+    add_ranges(plan.ranges(), out)?;
+    let ranges = plan.ranges().len();
+    write!(out, "plan {ranges}\n")?;
+    Ok(Ended::Fine)
+}
+
+/// Checks the plan of a text: writes a line `range P [LO,HI)` for each range by rising key,
+/// neighbours of one partition joined, and then `plan N`, N the number of these ranges. Where the
+/// text is no plan it writes `refused FAULT`, and the answer is `Refused`.
+///
+/// `Write` where a write failed or took no byte, after a front of the text was written;
+/// `NoMemory` before anything was written. There is no other fault.
+pub fn check_text<K: Sink>(alloc: Global, plan: &[u8], writer: &mut K) -> Result<Ended, RunFault>
+    // What is written is what the definition says of the text.
+    ensures text { (written : List ℕ) × Appends (K.contents writer.old) (K.contents writer.new) written
+        × IsTold result (check_of plan.now) written }
+
+    // When each fault comes.
+    ensures unread { result ≢ Err RunFault.Read }
+    ensures unwritten { result ≡ Err RunFault.Write → IsCountedSince (K.faults writer.old) (K.faults writer.new)
+        ⊎ IsCountedSince (K.empties writer.old) (K.empties writer.new) }
+{
+    let mut out = String::new(alloc);
+    let ended = check(alloc, plan, &mut out)?;
+    tell(writer, ended, out.as_str())
+}
+
+/// Checks the plan of what the source gives up to its end. `Read` where [`read_all`] says so,
+/// before anything was written.
+pub(crate) fn check_source<S: Source, K: Sink>(
+    alloc: Global,
+    source: &mut S,
+    writer: &mut K,
+) -> Result<Ended, RunFault>
+    ensures { (read : List ℕ) × (written : List ℕ)
+        × Consumes (S.remaining source.old) (S.remaining source.new) read
+        × Appends (K.contents writer.old) (K.contents writer.new) written
+        × IsTold result (check_of read) written }
+{
+    match read_all(alloc, source) {
+        Ok(plan) => check_text(alloc, &plan, writer),
+        Err(RunFault::NoMemory) => Err(RunFault::NoMemory),
+        Err(_) => Err(RunFault::Read),
+    }
+}

@@ -1,0 +1,92 @@
+//! What the command `course` says of two plans.
+
+ghost use Rattle.std.specs.Prelude.{◌≡◌, ◌≢◌, ◌++◌, ◌⊎◌, [], ℕ, List, IfOk, OnOk, Err, string_bytes};
+ghost use Rattle.std.specs.Io.KnownBytes.{Appends};
+ghost use Rattle.squall_device.specs.Counts.{IsCountedSince};
+ghost use Rattle.squall_run.specs.Said.{move_lines, count_lines, course_lines, course_of, IsReady, IsTold};
+
+use crate::check::add_refusal;
+use crate::replies::{first_course, read_plan};
+use crate::told::tell;
+use squall_course::{Course, Move};
+use squall_device::Sink;
+use squall_lines::{Ended, RunFault};
+use std::alloc::{AllocError, Global};
+
+/// Adds the lines of the moves.
+fn add_moves(moves: &[Move], out: &mut String) -> Result<(), AllocError>
+    ensures { OnOk result (string_bytes out.new ≡ string_bytes out.old ++ move_lines moves.now) }
+{
+    for change in moves {
+        let span = change.span;
+        let source = change.source;
+        let dest = change.dest;
+        let sub = change.sub;
+        write!(out, "move {span} {source} to {dest} sub {sub}\n")?;
+    }
+    Ok(())
+}
+
+/// Adds how many moves and sub-plans there are.
+fn add_counts(moves: usize, subplans: u32, out: &mut String) -> Result<(), AllocError>
+    ensures { OnOk result (string_bytes out.new ≡ string_bytes out.old ++ count_lines moves subplans) }
+{
+    write!(out, "moves {moves}\nsub-plans {subplans}\n")?;
+    Ok(())
+}
+
+/// Adds how many moves and sub-plans there are, and the moves.
+fn add_course(course: &Course, out: &mut String) -> Result<(), AllocError>
+    ensures { OnOk result (string_bytes out.new ≡ string_bytes out.old ++ course_lines course.now.old course.now.new) }
+{
+    let moves = course.moves();
+    add_counts(moves.len(), course.subplans(), out)?;
+    add_moves(moves, out)
+}
+
+/// Puts what is to be said of the course into the empty text.
+fn course(alloc: Global, old: &[u8], new: &[u8], out: &mut String) -> Result<Ended, AllocError>
+    requires { string_bytes out.old ≡ [] }
+    ensures { IfOk result (λ ended. IsReady ended (string_bytes out.new) (course_of old.now new.now)) }
+{
+    let old = match read_plan(alloc, old) {
+        Ok(Ok(plan)) => plan,
+        Ok(Err(fault)) => return add_refusal("old ", fault, out),
+        Err(error) => return Err(error),
+    };
+    let new = match read_plan(alloc, new) {
+        Ok(Ok(plan)) => plan,
+        Ok(Err(fault)) => return add_refusal("new ", fault, out),
+        Err(error) => return Err(error),
+    };
+    let course = first_course(alloc, &old, &new)?;
+    add_course(&course, out)?;
+    Ok(Ended::Fine)
+}
+
+/// Shows the course between the plans of two texts: writes `moves M` and `sub-plans S`, how many
+/// moves and sub-plans there are, and then a line `move [LO,HI) P to Q sub S` for each move by
+/// rising key: the keys go from partition P to partition Q in sub-plan S. Where a text is no plan
+/// it writes `refused old FAULT`, or else `refused new FAULT`, and the answer is `Refused`.
+///
+/// `Write` where a write failed or took no byte, after a front of the text was written;
+/// `NoMemory` before anything was written. There is no other fault.
+pub fn course_text<K: Sink>(
+    alloc: Global,
+    old: &[u8],
+    new: &[u8],
+    writer: &mut K,
+) -> Result<Ended, RunFault>
+    // What is written is what the definition says of the texts.
+    ensures text { (written : List ℕ) × Appends (K.contents writer.old) (K.contents writer.new) written
+        × IsTold result (course_of old.now new.now) written }
+
+    // When each fault comes.
+    ensures unread { result ≢ Err RunFault.Read }
+    ensures unwritten { result ≡ Err RunFault.Write → IsCountedSince (K.faults writer.old) (K.faults writer.new)
+        ⊎ IsCountedSince (K.empties writer.old) (K.empties writer.new) }
+{
+    let mut out = String::new(alloc);
+    let ended = course(alloc, old, new, &mut out)?;
+    tell(writer, ended, out.as_str())
+}
