@@ -5,6 +5,7 @@ ghost use Rattle.squall_course.specs.declared.fault.CourseFault.TheVariants.{Zer
 ghost use Rattle.squall_span.specs.Spans.{has};
 ghost use Rattle.squall_plan.specs.Ranges.{owner_of};
 ghost use Rattle.squall_course.specs.Subplans.{subplan_of, subplan_count, dest_of};
+ghost use Rattle.squall_course.specs.Statuses.{IsStatus};
 ghost use Rattle.squall_course.specs.Moves.{moves_of, AreMoves, is_incoming, is_outgoing, receivers_of};
 
 use crate::fault::CourseFault;
@@ -12,9 +13,10 @@ use crate::feed::Table;
 use crate::gather;
 use crate::moving::Move;
 use crate::piece::pieces;
+use crate::status::Status;
 use squall_key::{Key, PartId};
 use squall_plan::Plan;
-use squall_span::SpanSet;
+use squall_span::{Span, SpanSet};
 use std::alloc::{AllocError, Global};
 use std::marker::Model;
 
@@ -157,5 +159,13 @@ impl Course {
         ensures { IfOk result (λ v. v.items ≡ receivers_of (moves_of self.now.old self.now.new) sub) }
     {
         gather::receivers(alloc, &self.moves, sub)
+    }
+
+    /// How many keys of the span are in the set, none, some or all: for keys that are to be loaded
+    /// and those that are.
+    pub fn status(&self, span: &Span, set: &SpanSet) -> Status
+        ensures { IsStatus span.now set.now result }
+    {
+        Status::of(span, set)
     }
 }
