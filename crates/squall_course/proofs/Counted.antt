@@ -1,15 +1,15 @@
 -- What the sub-plans of two plans are, and that no way needs fewer.
-use Rattle.std.proofs.Common.{◌≡◌, ℕ, zero, suc, ◌+◌, ◌<◌, ◌≤◌, max, min, Bool, true, false, eqb, List, [], ◌∷◌, length, get_or, Option, Some, refl, sym, ap, ◌∙◌, arith, inl, inr}
-use Rattle.std.specs.Prelude.{◌||◌, ◌&&◌, not, ◌≢◌, filter, ◌↔◌}
+use Rattle.std.proofs.Common.{◌≡◌, ℕ, zero, suc, ◌+◌, ◌<◌, ◌≤◌, max, Bool, true, false, eqb, List, [], ◌∷◌, length, Some, refl, sym, ap, ◌∙◌, arith, inl, inr}
+use Rattle.std.specs.Prelude.{◌||◌, ◌&&◌, not, filter, ◌↔◌}
 use Rattle.std.specs.List.{list_any, AllByRecursion, range_with_len}
 use Rattle.std.proofs.lemmas.Bool.{cases_Bool, cases_lt, cases_eq, and_parts, or_parts, or_cases, not-true, eqb-true, eqb-false, ne_eqb, eq-eqb, false≢true}
 use Rattle.std.proofs.lemmas.Option.{slice_get-get_or}
 use Rattle.squall_key.specs.Keys.{top, part_limit}
 use Rattle.squall_plan.specs.declared.range.PlanRange.{PlanRange}
-use Rattle.squall_plan.specs.Ranges.{owner_of, range_has, IsTiling, IsCanonical}
+use Rattle.squall_plan.specs.Ranges.{owner_of, IsTiling}
 use Rattle.squall_course.specs.Subplans.{shares, feeds, is_dest, dests, moves, sub_of, most_dests, subplan_count, dest_of, IsFed, IsSplit}
 use Rattle.squall_course.specs.Tables.{Up, ArePlans}
-use Rattle.squall_course.proofs.Rising.{is_in, eq_refl, place_within, at_place}
+use Rattle.squall_course.proofs.Rising.{is_in, place_within, at_place}
 use Rattle.squall_course.proofs.Tabled.{dests_in, dests_up}
 use Rattle.squall_course.proofs.Places.{feeds_key, moving_dest}
 use Rattle.squall_course.proofs.Moved.{Owns, owns, shared_lt, owner_here, owner_later}
@@ -72,7 +72,8 @@ fed_key old new p q (r ∷ rs) o n is = elim (or_cases (eqb r.part p && list_any
 pub fed : (old new : List PlanRange) (p q : ℕ) → ArePlans old new → (feeds old new p q ≡ true) ↔ IsFed old new p q
 fed old new p q plans = (
   (λ is. fed_key old new p q old (owns 0 old plans.old_canonical.tiles plans.old_canonical.differ) (owns 0 new plans.new_canonical.tiles plans.new_canonical.differ) is),
-  (λ key. rw (← key.2, ← key.3) (feeds_key old new key.0 plans.old_canonical.tiles plans.new_canonical.tiles key.1)))
+  (λ key. rw (← key.2, ← key.3) (feeds_key old new key.0 plans.old_canonical.tiles plans.new_canonical.tiles key.1)),
+)
 
 -- ---- no fewer sub-plans
 
@@ -95,6 +96,7 @@ out_of n q (v ∷ vs) e = elim (cases_Bool (eqb v n)) [
   where
     first : (eqb v q || is_in q vs) ≡ false → eqb v q ≡ false
     first e = (or_parts (eqb v q) (is_in q vs) e).0
+
     rest : (eqb v q || is_in q vs) ≡ false → is_in q vs ≡ false
     rest e = (or_parts (eqb v q) (is_in q vs) e).1
 
@@ -162,8 +164,8 @@ new_number : (old new : List PlanRange) (s : ℕ → ℕ) (n p d k : ℕ) (vs : 
 new_number old new s n p d k [] split lt is source dest g = refl
 new_number old new s n p d k (v ∷ vs) split lt is source dest g =
     let apart : eqb v (s k) ≡ false = ne_eqb v (s k) (λ e.
-      let same = split.single g.0.key k g.0.below lt g.0.moving is (g.0.source ∙ sym source) (g.0.number ∙ e) in
-      omega (arith, same, dest, g.0.dest)) in
+    let same = split.single g.0.key k g.0.below lt g.0.moving is (g.0.source ∙ sym source) (g.0.number ∙ e) in
+    omega (arith, same, dest, g.0.dest)) in
     rw apart (new_number old new s n p d k vs split lt is source dest g.1)
 
 -- distinct numbers, as many as the destinations

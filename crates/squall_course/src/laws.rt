@@ -5,45 +5,52 @@ ghost use Rattle.squall_key.specs.Keys.{top};
 ghost use Rattle.squall_plan.specs.declared.range.PlanRange.{PlanRange};
 ghost use Rattle.squall_plan.specs.Ranges.{owner_of};
 ghost use Rattle.squall_course.specs.Subplans.{moves, feeds, IsFed, sub_of, subplan_count, dest_of, IsSplit};
-ghost use Rattle.squall_course.specs.Moves.{moves_of, AreMoves};
+ghost use Rattle.squall_course.specs.Moves.{moves_of, AreMoves, receivers_of, is_incoming};
+ghost use Rattle.std.specs.List.{Contains};
+ghost use Rattle.squall_course.specs.declared.moving.Move.{Move};
 ghost use Rattle.squall_course.specs.Tables.{ArePlans};
 
 /// The moves as a function of the plans are the moves by their meaning.
 pub fn moves_have_meaning()
     ensures { (old new : List PlanRange) → ArePlans old new → AreMoves old new (moves_of old new) }
-{
-}
+{}
+
+/// Two plans have one list of moves.
+pub fn one_list_of_moves()
+    ensures { (old new : List PlanRange) (ms : List Move) → ArePlans old new → AreMoves old new ms → ms ≡ moves_of old new }
+{}
+
+/// A partition receives in a sub-plan where a key moves to it in that sub-plan.
+pub fn receivers_have_keys()
+    ensures { (old new : List PlanRange) (sub part : ℕ) → ArePlans old new
+        → (Contains (receivers_of (moves_of old new) sub) part) ↔ ((k : ℕ) × (k < top) × (is_incoming old new sub part k ≡ true)) }
+{}
 
 /// By the test of ranges a source feeds a destination where a key goes from the one to the other.
 pub fn feeds_is_a_key()
     ensures { (old new : List PlanRange) (p q : ℕ) → ArePlans old new → (feeds old new p q ≡ true) ↔ IsFed old new p q }
-{
-}
+{}
 
 /// In a sub-plan a source has one destination at most: the moving keys of one source and one
 /// sub-plan have one new owner.
 pub fn one_destination_in_a_subplan()
     ensures { (old new : List PlanRange) (j k : ℕ) → ArePlans old new → j < top → k < top → moves old new j ≡ true → moves old new k ≡ true
         → owner_of old j ≡ owner_of old k → sub_of old new j ≡ sub_of old new k → owner_of new j ≡ owner_of new k }
-{
-}
+{}
 
 /// The destination of a moving key's source in the key's sub-plan is the key's new owner.
 pub fn key_goes_to_the_destination()
     ensures { (old new : List PlanRange) (k : ℕ) → ArePlans old new → k < top → moves old new k ≡ true
         → dest_of old new (sub_of old new k) (owner_of old k) ≡ Some (owner_of new k) }
-{
-}
+{}
 
 /// The sub-plan of a moving key is below the number of sub-plans.
 pub fn subplans_are_counted()
     ensures { (old new : List PlanRange) (k : ℕ) → ArePlans old new → k < top → moves old new k ≡ true → sub_of old new k < subplan_count old new }
-{
-}
+{}
 
 /// No way to number the moving keys, with one destination at most for a source and a number, has
 /// fewer numbers.
 pub fn no_fewer_subplans()
     ensures { (old new : List PlanRange) (number : ℕ → ℕ) (n : ℕ) → ArePlans old new → IsSplit old new number n → subplan_count old new ≤ n }
-{
-}
+{}
