@@ -1,15 +1,15 @@
 -- What the sub-plans of two plans are, and that no way needs fewer.
-use Rattle.std.proofs.Common.{◌≡◌, ℕ, zero, suc, ◌+◌, ◌<◌, ◌≤◌, max, min, Bool, true, false, eqb, List, [], ◌∷◌, length, get_or, Option, Some, refl, sym, ap, ◌∙◌, arith, inl, inr}
-use Rattle.std.specs.Prelude.{◌||◌, ◌&&◌, not, ◌≢◌, filter, ◌↔◌}
+use Rattle.std.proofs.Common.{◌≡◌, ℕ, zero, suc, ◌+◌, ◌<◌, ◌≤◌, max, Bool, true, false, eqb, List, [], ◌∷◌, length, Some, refl, sym, ap, ◌∙◌, arith, inl, inr}
+use Rattle.std.specs.Prelude.{◌||◌, ◌&&◌, not, filter, ◌↔◌}
 use Rattle.std.specs.List.{list_any, AllByRecursion, range_with_len}
 use Rattle.std.proofs.lemmas.Bool.{cases_Bool, cases_lt, cases_eq, and_parts, or_parts, or_cases, not-true, eqb-true, eqb-false, ne_eqb, eq-eqb, false≢true}
 use Rattle.std.proofs.lemmas.Option.{slice_get-get_or}
 use Rattle.squall_key.specs.Keys.{top, part_limit}
 use Rattle.squall_plan.specs.declared.range.PlanRange.{PlanRange}
-use Rattle.squall_plan.specs.Ranges.{owner_of, range_has, IsTiling, IsCanonical}
+use Rattle.squall_plan.specs.Ranges.{owner_of, IsTiling}
 use Rattle.squall_course.specs.Subplans.{shares, feeds, is_dest, dests, moves, sub_of, most_dests, subplan_count, dest_of, IsFed, IsSplit}
 use Rattle.squall_course.specs.Tables.{Up, ArePlans}
-use Rattle.squall_course.proofs.Rising.{is_in, eq_refl, place_within, at_place}
+use Rattle.squall_course.proofs.Rising.{is_in, place_within, at_place}
 use Rattle.squall_course.proofs.Tabled.{dests_in, dests_up}
 use Rattle.squall_course.proofs.Places.{feeds_key, moving_dest}
 use Rattle.squall_course.proofs.Moved.{Owns, owns, shared_lt, owner_here, owner_later}

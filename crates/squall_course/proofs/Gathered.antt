@@ -1,5 +1,5 @@
 -- What the moves of a sub-plan bring and take.
-use Rattle.std.proofs.Common.{◌≡◌, ℕ, ◌<◌, Bool, true, false, eqb, List, [], ◌∷◌, refl, sym, ap, ◌∙◌, arith, inl, inr}
+use Rattle.std.proofs.Common.{◌≡◌, ℕ, Bool, true, false, eqb, List, [], ◌∷◌, refl, ap, ◌∙◌, inl, inr}
 use Rattle.std.specs.Prelude.{◌||◌, ◌&&◌}
 use Rattle.std.specs.List.{list_any, AllByRecursion}
 use Rattle.std.proofs.lemmas.Bool.{cases_Bool, and_right}
@@ -7,7 +7,7 @@ use Rattle.squall_plan.specs.declared.range.PlanRange.{PlanRange}
 use Rattle.squall_plan.specs.Ranges.{owner_of}
 use Rattle.squall_course.specs.declared.moving.Move.{Move}
 use Rattle.squall_course.specs.Change.{Change}
-use Rattle.squall_course.specs.Subplans.{moves, sub_of}
+use Rattle.squall_course.specs.Subplans.{sub_of}
 use Rattle.squall_course.specs.Moves.{move_has, in_moves, goes_to, leaves, is_incoming, is_outgoing, moves_of, IsMove, AreMoves}
 use Rattle.squall_course.specs.Tables.{ArePlans}
 use Rattle.squall_course.proofs.Moved.{are_moves}

@@ -9,3 +9,4 @@ pub mod Gathered
 pub mod Started
 pub mod Received
 pub mod Counted
+pub mod Unique

@@ -1,8 +1,8 @@
 -- The moves between two plans, by their meaning.
-use Rattle.std.proofs.Common.{◌≡◌, ℕ, ◌+◌, ◌<◌, ◌≤◌, min, max, Bool, true, false, cond, eqb, List, [], ◌∷◌, ◌++◌, map, refl, sym, ap, ◌∙◌, arith, inl, inr}
+use Rattle.std.proofs.Common.{◌≡◌, ℕ, ◌<◌, ◌≤◌, min, max, Bool, true, false, eqb, List, [], ◌∷◌, ◌++◌, map, refl, sym, ap, ◌∙◌, arith, inl, inr}
 use Rattle.std.specs.Prelude.{◌||◌, ◌&&◌, not, ◌≢◌, ◌⊎◌}
 use Rattle.std.specs.List.{list_any, AllByRecursion}
-use Rattle.std.proofs.lemmas.Bool.{cases_Bool, cases_lt, and_parts, and_right, ne_eqb, eqb-true, eqb-false}
+use Rattle.std.proofs.lemmas.Bool.{cases_Bool, cases_lt, and_right, eqb-false}
 use Rattle.std.proofs.lemmas.Bool.Decides.{nat_tests}
 use Rattle.std.proofs.lemmas.List.Folds.{list_any-append}
 use Rattle.squall_key.specs.Keys.{top}
@@ -14,7 +14,6 @@ use Rattle.squall_course.specs.declared.moving.Move.{Move}
 use Rattle.squall_course.specs.Subplans.{shares, moves}
 use Rattle.squall_course.specs.Moves.{piece, listed, row, pieces, overlap, numbered, moves_of, move_has, in_moves, IsMove, Rise, LongestFrom, AreLongest, AreMoves}
 use Rattle.squall_course.specs.Tables.{Follow}
-use Rattle.squall_course.proofs.Rising.{eq_refl}
 use Rattle.squall_course.proofs.Sweeps.{follow_tiling}
 
 -- ---- ranges and their owners

@@ -1,8 +1,8 @@
 -- A moving key shows that its owners share a key.
-use Rattle.std.proofs.Common.{◌≡◌, ℕ, ◌<◌, ◌≤◌, Bool, true, false, eqb, List, [], ◌∷◌, Option, Some, None, refl, sym, ap, ◌∙◌, arith, inl, inr}
-use Rattle.std.specs.Prelude.{◌&&◌, ◌||◌, not}
+use Rattle.std.proofs.Common.{◌≡◌, ℕ, ◌<◌, ◌≤◌, Bool, true, false, eqb, List, [], ◌∷◌, Some, refl, sym, ap, ◌∙◌, arith, inl, inr}
+use Rattle.std.specs.Prelude.{◌&&◌, ◌||◌}
 use Rattle.std.specs.List.{list_any, find}
-use Rattle.std.proofs.lemmas.Bool.{cases_Bool, cases_lt, ne_eqb, eq-eqb, eqb-false}
+use Rattle.std.proofs.lemmas.Bool.{cases_Bool, cases_lt, ne_eqb, eqb-false}
 use Rattle.std.proofs.lemmas.Bool.Decides.{nat_tests}
 use Rattle.squall_key.specs.Keys.{top}
 use Rattle.squall_span.specs.Spans.{Interval, span_has}
@@ -10,7 +10,7 @@ use Rattle.squall_plan.specs.declared.range.PlanRange.{PlanRange}
 use Rattle.squall_plan.specs.Ranges.{owner_of, range_has, IsTiling}
 use Rattle.squall_course.specs.declared.feed.Feed.{Feed}
 use Rattle.squall_course.specs.Change.{Change}
-use Rattle.squall_course.specs.Subplans.{shares, feeds, is_dest, sub_at, subplan_of}
+use Rattle.squall_course.specs.Subplans.{shares, feeds, is_dest, subplan_of}
 use Rattle.squall_course.specs.Tables.{lower_feeds, IsTable, ArePlans}
 use Rattle.squall_course.proofs.Rising.{eq_refl}
 use Rattle.squall_course.proofs.Tabled.{sub_is_place}

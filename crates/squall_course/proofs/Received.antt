@@ -1,15 +1,18 @@
 -- The partitions to which moves go.
-use Rattle.std.proofs.Common.{◌≡◌, ℕ, ◌+◌, ◌<◌, ◌≤◌, Bool, true, false, eqb, List, [], ◌∷◌, map, refl, sym, ap, ◌∙◌, arith, inl, inr, nat_cmp, Less}
-use Rattle.std.specs.Prelude.{filter, ◌||◌, ◌&&◌}
-use Rattle.std.specs.List.{list_any, AllByRecursion}
+use Rattle.std.proofs.Common.{◌≡◌, ℕ, ◌+◌, ◌<◌, Bool, true, eqb, List, [], ◌∷◌, map, length, get_or, refl, sym, ap, ◌∙◌, arith, inl, inr, nat_cmp, Less}
+use Rattle.std.specs.Prelude.{filter, ◌||◌, ◌&&◌, ◌↔◌}
+use Rattle.std.specs.List.{list_any, AllByRecursion, Contains}
 use Rattle.std.specs.List.Sorted.{IsStrictlySortedBy}
-use Rattle.std.proofs.lemmas.Bool.{cases_Bool, and_parts, or_cases, eqb-true, false≢true}
-use Rattle.squall_key.specs.Keys.{part_limit}
+use Rattle.std.proofs.lemmas.Bool.{cases_Bool, and_parts, or_cases, or_left, or_right, eqb-true, eq-eqb, false≢true}
+use Rattle.std.proofs.lemmas.List.Folds.{list_any_at, Any-from_list_any}
+use Rattle.squall_course.proofs.Gathered.{incoming_keys}
+use Rattle.squall_course.specs.Subplans.{moves}
+use Rattle.squall_key.specs.Keys.{top, part_limit}
 use Rattle.squall_plan.specs.declared.range.PlanRange.{PlanRange}
 use Rattle.squall_plan.specs.Ranges.{owner_of, range_has, AreRanges}
 use Rattle.squall_course.specs.declared.moving.Move.{Move}
 use Rattle.squall_course.specs.Change.{Change}
-use Rattle.squall_course.specs.Moves.{goes_to, receivers_of, moves_of, move_has, IsMove, AreMoves}
+use Rattle.squall_course.specs.Moves.{in_moves, is_incoming, goes_to, receivers_of, moves_of, move_has, IsMove, AreMoves}
 use Rattle.squall_course.specs.Tables.{Up, AreReceivers, ArePlans}
 use Rattle.squall_course.proofs.Rising.{is_in, same_rising, filter_up, in_filter}
 use Rattle.squall_course.proofs.Rows.{less_number}
@@ -66,3 +69,42 @@ course_receivers c i j ms ns sub ps a b plans listed same r =
     let listed1 : ms ≡ moves_of i j = same ∙ listed in
     let r1 : AreReceivers (moves_of i j) sub ps = rw listed1 at r in
     rw (← a, ← b) (receivers_are i j (moves_of i j) sub ps plans.new_ranges (are_moves i j plans.old_canonical plans.new_canonical) r1)
+
+-- a partition receives where a key moves to it
+
+contains_in : (q : ℕ) (xs : List ℕ) → Contains xs q → is_in q xs ≡ true
+contains_in q xs h = list_any_at (λ x. eqb x q) xs h.0 q h.1 (eq-eqb _ q h.2)
+
+in_contains : (q : ℕ) (xs : List ℕ) → is_in q xs ≡ true → Contains xs q
+in_contains q xs is = let any = Any-from_list_any (λ x. eqb x q) xs is in (any.0, any.2, same any.0 any.1 any.2 any.3 (eqb-true any.1 q any.4))
+  where
+    same : (k x : ℕ) → k < length xs → get_or xs k x ≡ x → x ≡ q → get_or xs k q ≡ q
+    same k x lt at e = rw e at at
+
+some_key : (old new : List PlanRange) (all ms : List Move) (sub part : ℕ) → AllByRecursion (IsMove old new) ms → ((k : ℕ) → in_moves k ms ≡ true → moves old new k ≡ true) → list_any (goes_to sub part) ms ≡ true → (k : ℕ) × (k < top) × (is_incoming old new sub part k ≡ true)
+some_key old new all [] sub part each moved is = absurd (false≢true is)
+some_key old new all (m ∷ ms) sub part each moved is = elim (or_cases (goes_to sub part m) (list_any (goes_to sub part) ms) is) [
+  | inl here ↦
+      let has = first_key m each.0.full in
+      let parts = and_parts (eqb m.sub sub) (eqb m.dest part) here in
+      let moving = moved m.span.lo (rw has refl) in
+      (m.span.lo, omega (arith, each.0.full, each.0.high), rw (moving, each.0.source m.span.lo has, each.0.dest m.span.lo has, sym each.0.sub, parts.0, parts.1) refl)
+  | inr later ↦ some_key old new all ms sub part each.1 (λ k in_them. moved k (or_right (move_has k m) (in_moves k ms) in_them)) later
+]
+
+some_move : (g h : Move → Bool) (ms : List Move) → list_any (λ m. g m && h m) ms ≡ true → list_any g ms ≡ true
+some_move g h [] is = absurd (false≢true is)
+some_move g h (m ∷ ms) is = elim (or_cases (g m && h m) (list_any (λ n. g n && h n) ms) is) [
+  | inl here ↦ or_left (g m) (list_any g ms) (and_parts (g m) (h m) here).0
+  | inr later ↦ or_right (g m) (list_any g ms) (some_move g h ms later)
+]
+
+pub receiver_keys : (old new : List PlanRange) (sub part : ℕ) → ArePlans old new → Contains (receivers_of (moves_of old new) sub) part ↔ ((k : ℕ) × (k < top) × (is_incoming old new sub part k ≡ true))
+unfolding receivers_of
+receiver_keys old new sub part plans =
+    let ms = moves_of old new in
+    let are = are_moves old new plans.old_canonical plans.new_canonical in
+    let members = in_filter (λ p. list_any (goes_to sub p) ms) part_limit part (receiver_low old new ms sub part plans.new_ranges are.each) in (
+      (λ h. some_key old new ms ms sub part are.each (λ k is. sym (are.all k) ∙ is) (sym members ∙ contains_in part _ h)),
+      (λ key. in_contains part _ (members ∙ some_move (goes_to sub part) (move_has key.0) ms (incoming_keys old new ms sub part key.0 are ∙ key.2))),
+    )

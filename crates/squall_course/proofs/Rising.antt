@@ -1,6 +1,6 @@
 -- Lists of numbers that rise.
 use Rattle.std.proofs.Common.{◌≡◌, ℕ, zero, suc, ◌+◌, ◌-◌, ◌<◌, ◌≤◌, Bool, true, false, cond, eqb, ltb, List, [], ◌∷◌, length, get_or, refl, sym, ap, ◌∙◌, arith, inl, inr}
-use Rattle.std.specs.Prelude.{filter, ◌||◌, ◌≢◌, not}
+use Rattle.std.specs.Prelude.{filter, ◌≢◌}
 use Rattle.std.specs.List.{list_any, range_with_len, position_or_len, prefix_len}
 use Rattle.squall_course.specs.Tables.{Up}
 use Rattle.std.proofs.lemmas.Bool.{cases_Bool, cases_lt, cases_eq, cases_order, ne_eqb, eq-eqb, lt-ltb, le-ltb, false≢true}

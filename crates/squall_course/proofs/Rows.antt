@@ -1,12 +1,11 @@
 -- The feeds of a source in a table.
 use Rattle.std.proofs.Common.{◌≡◌, ℕ, zero, suc, ◌+◌, ◌-◌, ◌<◌, ◌≤◌, Bool, true, false, cond, eqb, ltb, leb, List, [], ◌∷◌, length, get_or, take, drop, refl, sym, ap, ◌∙◌, arith, inl, inr, map, Ordering, Less, Equal, Greater, nat_cmp}
-use Rattle.std.specs.Prelude.{filter, ◌||◌, ◌&&◌, ◌≢◌, ◌⊎◌}
+use Rattle.std.specs.Prelude.{◌||◌, ◌&&◌}
 use Rattle.std.specs.List.{list_any, AllByRecursion, prefix_len, dedup, dedup_from}
 use Rattle.std.specs.List.Sorted.{IsNonDecreasingBy, IsStrictlySortedBy, IsPartitionPoint}
 use Rattle.std.specs.Ordering.{ordering_then}
-use Rattle.std.proofs.lemmas.Bool.Decides.{nat_tests}
 use Rattle.std.proofs.lemmas.List.Sorted.{IsNonDecreasingBy-drop}
-use Rattle.std.proofs.lemmas.Bool.{ltb-true, ltb-false, leb-true, leb-false, and_parts, cases_order, cases_Bool, cases_lt, lt-ltb, le-ltb, ne_eqb, eq-eqb, eqb-true, eqb-false}
+use Rattle.std.proofs.lemmas.Bool.{ltb-true, ltb-false, leb-true, leb-false, and_parts, cases_order, cases_Bool, cases_lt, lt-ltb, le-ltb, ne_eqb, eq-eqb, eqb-true}
 use Rattle.squall_course.specs.declared.feed.Feed.{Feed}
 use Rattle.squall_course.specs.declared.piece.Piece.{Piece}
 use Rattle.squall_course.specs.Tables.{Up, goes, feed_of, is_feed, Ahead, Sorted, feeds_of, lower_feeds}

@@ -1,5 +1,5 @@
 -- The first span of a set beyond a bound, and what it says of a span.
-use Rattle.std.proofs.Common.{◌≡◌, ℕ, zero, suc, ◌<◌, ◌≤◌, max, true, false, leb, List, [], ◌∷◌, length, get_or, Option, Some, None, refl, sym, ◌∙◌, arith, inl, inr, nat_cmp, is_lt, is_le}
+use Rattle.std.proofs.Common.{◌≡◌, ℕ, zero, suc, ◌<◌, ◌≤◌, max, true, false, leb, List, [], ◌∷◌, length, get_or, Option, Some, None, refl, ◌∙◌, arith, inl, inr, nat_cmp, is_lt, is_le}
 use Rattle.std.specs.Prelude.{◌⊎◌}
 use Rattle.std.specs.List.{slice_get}
 use Rattle.std.specs.List.Sorted.{IsNonDecreasingBy, IsPartitionPoint}

@@ -5,12 +5,25 @@ ghost use Rattle.squall_key.specs.Keys.{top};
 ghost use Rattle.squall_plan.specs.declared.range.PlanRange.{PlanRange};
 ghost use Rattle.squall_plan.specs.Ranges.{owner_of};
 ghost use Rattle.squall_course.specs.Subplans.{moves, feeds, IsFed, sub_of, subplan_count, dest_of, IsSplit};
-ghost use Rattle.squall_course.specs.Moves.{moves_of, AreMoves};
+ghost use Rattle.squall_course.specs.Moves.{moves_of, AreMoves, receivers_of, is_incoming};
+ghost use Rattle.std.specs.List.{Contains};
+ghost use Rattle.squall_course.specs.declared.moving.Move.{Move};
 ghost use Rattle.squall_course.specs.Tables.{ArePlans};
 
 /// The moves as a function of the plans are the moves by their meaning.
 pub fn moves_have_meaning()
     ensures { (old new : List PlanRange) → ArePlans old new → AreMoves old new (moves_of old new) }
+{}
+
+/// Two plans have one list of moves.
+pub fn one_list_of_moves()
+    ensures { (old new : List PlanRange) (ms : List Move) → ArePlans old new → AreMoves old new ms → ms ≡ moves_of old new }
+{}
+
+/// A partition receives in a sub-plan where a key moves to it in that sub-plan.
+pub fn receivers_have_keys()
+    ensures { (old new : List PlanRange) (sub part : ℕ) → ArePlans old new
+        → (Contains (receivers_of (moves_of old new) sub) part) ↔ ((k : ℕ) × (k < top) × (is_incoming old new sub part k ≡ true)) }
 {}
 
 /// By the test of ranges a source feeds a destination where a key goes from the one to the other.

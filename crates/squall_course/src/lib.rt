@@ -14,7 +14,7 @@ pub use course::Course;
 pub use fault::CourseFault;
 pub use laws::{
     feeds_is_a_key, key_goes_to_the_destination, moves_have_meaning, no_fewer_subplans,
-    one_destination_in_a_subplan, subplans_are_counted,
+    one_destination_in_a_subplan, one_list_of_moves, receivers_have_keys, subplans_are_counted,
 };
 pub use moving::Move;
 pub use status::Status;

@@ -1,4 +1,4 @@
-use Rattle.std.proofs.Common.{arith, sym, ◌∙◌, ◌<◌, ◌≤◌}
+use Rattle.std.proofs.Common.{arith, sym, ◌∙◌}
 use Rattle.squall_course.proofs.Pushed.{cmp_lt, cmp_ge, adds_step, adds_end, later_step, follow_on}
 use Rattle.squall_course.proofs.piece.push_row.Goals as goal
 

@@ -2,7 +2,7 @@ use Rattle.std.proofs.Common.{◌≡◌, leb, arith, rules}
 use Rattle.std.specs.List.{slice_get}
 use Rattle.std.proofs.lemmas.Grind.{common_steps}
 use Rattle.std.proofs.lemmas.Option.{gets}
-use Rattle.std.proofs.lemmas.List.Sorted.{IsPartitionPoint-from_clause, IsPartitionedBy-leb, IsNonDecreasingBy-from_default}
+use Rattle.std.proofs.lemmas.List.Sorted.{IsPartitionPoint-from_clause, IsPartitionedBy-leb}
 use Rattle.squall_course.proofs.Started.{rise_now, first_by_point}
 use Rattle.squall_course.proofs.status.first_beyond.Goals as goal
 

@@ -1,4 +1,4 @@
-use Rattle.std.proofs.Common.{◌∙◌, sym, arith}
+use Rattle.std.proofs.Common.{arith}
 use Rattle.squall_course.proofs.Sweeps.{follow_tiling}
 use Rattle.squall_course.proofs.Tabled.{is_table, moves_are, count_is, made_of, plans_of}
 use Rattle.squall_course.proofs.course.Course.new.Goals as goal

@@ -1,4 +1,4 @@
-use Rattle.std.proofs.Common.{◌≡◌, ℕ, ap, Vec, Global}
+use Rattle.std.proofs.Common.{◌≡◌, ap, Vec, Global}
 use Rattle.std.proofs.lemmas.Result.{IfOk-weaker}
 use Rattle.squall_key.specs.declared.part.PartId.{PartId}
 use Rattle.squall_course.specs.Change.{Change}
