@@ -1,8 +1,8 @@
 -- Why a command line is refused.
-use Rattle.std.proofs.Common.{◌≡◌, ◌∙◌, ℕ, List, [], Result, Ok, Err, true, refl, sym, ap, subst, inl, inr}
-use Rattle.std.specs.Prelude.{IfOk, IfErr, Option, ◌↔◌, ◌⊎◌, ◌≢◌}
+use Rattle.std.proofs.Common.{◌≡◌, ◌∙◌, ℕ, List, [], Result, Ok, Err, true, refl, sym, subst, inl, inr}
+use Rattle.std.specs.Prelude.{IfOk, IfErr, Option, ◌↔◌, ◌≢◌}
 use Rattle.std.specs.declared.alloc.AllocError.{AllocError}
-use Rattle.clap.specs.Words.{App, Text, Kinds, IsAmong, HasKind, FailsBy, fault_of, is_simple, is_simple_and_free, subcommand_of, kind_of}
+use Rattle.clap.specs.Words.{Text, Kinds, IsAmong, HasKind, fault_of, is_simple, is_simple_and_free, subcommand_of, kind_of}
 use Rattle.clap.specs.declared.error.Error.{Error}
 use Rattle.clap.specs.declared.error.kind.ErrorKind.{ErrorKind}
 use Rattle.clap.specs.declared.error.kind.ErrorKind.TheVariants as kind

@@ -1,5 +1,5 @@
 -- The command line, as `clap` defines simple commands.
-use Rattle.std.specs.Prelude.{◌≡◌, ◌⊎◌, ◌≢◌, ℕ, true, List, [], ◌∷◌, Option, Some, None, option_map, option_and_then, codes, map, string_bytes, if◌then◌else◌, Result, Ok, Err}
+use Rattle.std.specs.Prelude.{◌≡◌, ◌≢◌, ℕ, true, List, [], Option, Some, None, option_map, option_and_then, codes, map, string_bytes, if◌then◌else◌, Result, Ok, Err}
 use Rattle.std.specs.Str.{bytes_eq}
 use Rattle.std.specs.Borrow.{Bor}
 use Rattle.clap.specs.Words.{App, Shape, Rule, Row, Text, new_app, new_rule, with_rule, with_subcommand, subcommand_of, first_of, fault_of, IsAmong}

@@ -1,7 +1,6 @@
 //! What the words of a command line bring about.
 
 ghost use Rattle.std.specs.Prelude.{◌≡◌, ◌≢◌, Err, IfErr, codes};
-ghost use Rattle.std.specs.Io.KnownBytes.{Appends, Consumes};
 ghost use Rattle.squall_command.specs.Line.{words_of, job_seen, check, run, Asks, Refuses};
 ghost use Rattle.squall_command.specs.declared.task.LineFault.TheVariants.{Bad};
 ghost use Rattle.squall_run.specs.Status.{status_of, RunsWith, ChecksWith};

@@ -1,4 +1,4 @@
-use Rattle.std.proofs.Common.{rules, ◌≡◌, ap, ap₂, List, Bor, map, subst, refl, ◌∙◌, sym}
+use Rattle.std.proofs.Common.{◌≡◌, ap, subst, ◌∙◌, sym}
 use Rattle.clap.specs.Words.{App, HasKind, app_of, fault_of, is_simple, is_simple_and_free, subcommand_of}
 use Rattle.squall_command.specs.Line.{squall_app, words_of, job_of}
 use Rattle.squall_command.proofs.Refusals.{squall_is_free, squall_is_simple, asked, unasked, refused}
