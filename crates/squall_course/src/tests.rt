@@ -89,28 +89,66 @@ fn moves_are_numbered(rt: HostRuntime) -> Result<(), Fail> {
     let text = shown(rt.alloc(), &course)?;
     assert!(rt; text.as_str() == "[2:0,3:0) 1 to 3 sub 0;[6:0,9:0) 3 to 4 sub 0;");
     assert!(rt; course.subplans() == 1);
-    assert!(rt; course.dest(0, part(3)?) == Some(part(4)?));
-    assert!(rt; course.dest(1, part(3)?).is_none());
-    assert!(rt; course.subplan_of(key(2)?) == Some(0));
-    assert!(rt; course.subplan_of(key(3)?).is_none());
-    assert!(rt; course.old_owner(key(2)?) == part(1)?);
-    assert!(rt; course.new_owner(key(2)?) == part(3)?);
     Ok(())
 }
 
 #[test]
-fn keys_come_and_go(rt: HostRuntime) -> Result<(), Fail> {
+fn a_source_has_a_destination(rt: HostRuntime) -> Result<(), Fail> {
+    let course = old_to_new(rt.alloc())?;
+    let source = part(3)?;
+    let dest = part(4)?;
+    assert!(rt; course.dest(0, source) == Some(dest));
+    assert!(rt; course.dest(1, source).is_none());
+    Ok(())
+}
+
+#[test]
+fn keys_have_owners_and_subplans(rt: HostRuntime) -> Result<(), Fail> {
+    let course = old_to_new(rt.alloc())?;
+    let moving = key(2)?;
+    let still = key(3)?;
+    assert!(rt; course.subplan_of(moving) == Some(0));
+    assert!(rt; course.subplan_of(still).is_none());
+    assert!(rt; course.old_owner(moving).get() == 1);
+    assert!(rt; course.new_owner(moving).get() == 3);
+    Ok(())
+}
+
+#[test]
+fn keys_come(rt: HostRuntime) -> Result<(), Fail> {
     let course = old_to_new(rt.alloc())?;
     let incoming = course.incoming(rt.alloc(), 0, part(4)?)?;
     let text = spans(rt.alloc(), &incoming)?;
     assert!(rt; text.as_str() == "[6:0,9:0);");
+    Ok(())
+}
+
+#[test]
+fn keys_go(rt: HostRuntime) -> Result<(), Fail> {
+    let course = old_to_new(rt.alloc())?;
     let outgoing = course.outgoing(rt.alloc(), 0, part(1)?)?;
     let text = spans(rt.alloc(), &outgoing)?;
     assert!(rt; text.as_str() == "[2:0,3:0);");
+    Ok(())
+}
+
+#[test]
+fn no_keys_come_later(rt: HostRuntime) -> Result<(), Fail> {
+    let course = old_to_new(rt.alloc())?;
     let later = course.incoming(rt.alloc(), 1, part(4)?)?;
     assert!(rt; later.is_empty());
+    Ok(())
+}
+
+#[test]
+fn partitions_receive(rt: HostRuntime) -> Result<(), Fail> {
+    let course = old_to_new(rt.alloc())?;
     let receivers = course.receivers(rt.alloc(), 0)?;
-    assert!(rt; receivers.as_slice() == [part(3)?, part(4)?].as_slice());
+    let mut numbers = String::new(rt.alloc());
+    for part in &receivers {
+        write!(numbers, "{part};")?;
+    }
+    assert!(rt; numbers.as_str() == "3;4;");
     Ok(())
 }
 
@@ -162,14 +200,30 @@ fn one_source_feeds_4096(rt: HostRuntime) -> Result<(), Fail> {
     Ok(())
 }
 
+/// How many keys from 2:0 on, below 3:0, are in the set.
+fn status_in(set: &SpanSet) -> Result<Status, Fail> {
+    let wanted = span((2, 0), (3, 0))?;
+    Ok(Status::of(&wanted, set))
+}
+
 #[test]
 fn status_of_a_span(rt: HostRuntime) -> Result<(), Fail> {
-    let wanted = span((2, 0), (3, 0))?;
     let empty = SpanSet::empty(rt.alloc());
-    assert!(rt; Status::of(&wanted, &empty) == Status::NotStarted);
-    let some = SpanSet::of(rt.alloc(), &span((2, 0), (2, 7))?)?;
-    assert!(rt; Status::of(&wanted, &some) == Status::Partial);
-    let whole = SpanSet::of(rt.alloc(), &span((0, 0), (END, 0))?)?;
-    assert!(rt; Status::of(&wanted, &whole) == Status::Complete);
+    assert!(rt; status_in(&empty)? == Status::NotStarted);
+    let front = span((2, 0), (2, 7))?;
+    let some = SpanSet::of(rt.alloc(), &front)?;
+    assert!(rt; status_in(&some)? == Status::Partial);
+    let all = span((0, 0), (END, 0))?;
+    let whole = SpanSet::of(rt.alloc(), &all)?;
+    assert!(rt; status_in(&whole)? == Status::Complete);
+    Ok(())
+}
+
+#[test]
+fn status_under_a_course(rt: HostRuntime) -> Result<(), Fail> {
+    let course = old_to_new(rt.alloc())?;
+    let front = span((2, 0), (2, 7))?;
+    let some = SpanSet::of(rt.alloc(), &front)?;
+    assert!(rt; course.status(&front, &some) == Status::Complete);
     Ok(())
 }
