@@ -36,6 +36,12 @@ module _ {T : Type 0} where
   flat_join eq (One x) Clash = Clash
   flat_join eq Clash y = Clash
 
+-- the function's value of one value
+abbrev pub flat_map : {S T : Type 0} → (S → T) → Flat S → Flat T
+flat_map f Unknown = Unknown
+flat_map f (One x) = One (f x)
+flat_map f Clash = Clash
+
 module _ {T : Type 0} {P : T → Type 0} {eq : T → T → Bool} (e : IsExactEq P eq) where
   closed : (x y : Flat T) → flat_is P x → flat_is P y → flat_is P (flat_join eq x y)
   closed Unknown y a b = b

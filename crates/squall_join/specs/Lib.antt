@@ -4,5 +4,6 @@ pub mod Pairs
 pub mod Sets
 pub mod Entries
 pub mod MapLaws
+pub mod Looked
 pub mod Facts
 pub mod Flats

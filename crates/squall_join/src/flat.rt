@@ -1,7 +1,7 @@
 //! At most one value: two different ones clash.
 
 ghost use Rattle.std.specs.Prelude.{◌≡◌, ◌==◌, IfOk, Bool};
-ghost use Rattle.squall_join.specs.Flats.{IsExactEq, flat_bottom, flat_is, flat_join, flat_laws, number_exact};
+ghost use Rattle.squall_join.specs.Flats.{IsExactEq, flat_bottom, flat_is, flat_join, flat_laws, flat_map, number_exact};
 
 use crate::Join;
 use std::alloc::{AllocError, Global};
@@ -56,6 +56,19 @@ pub enum Flat<T> {
     One(T),
     /// Different values came together.
     Clash,
+}
+
+impl<T> Flat<T> {
+    /// The same with a reference to the one value.
+    pub fn as_ref(&self) -> Flat<&T>
+        ensures { flat_map (λ r. r.now) result ≡ self.now }
+    {
+        match self {
+            Flat::Unknown => Flat::Unknown,
+            Flat::One(x) => Flat::One(x),
+            Flat::Clash => Flat::Clash,
+        }
+    }
 }
 
 impl<T: Exact> Join for Flat<T> {

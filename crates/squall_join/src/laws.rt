@@ -4,6 +4,7 @@ ghost use Rattle.std.specs.Prelude.{◌≡◌, Bool, List, [], ◌||◌};
 ghost use Rattle.std.specs.FinMap.Entries.{find};
 ghost use Rattle.squall_join.specs.Laws.{JoinLaws, IsLeastUpperBound};
 ghost use Rattle.squall_join.specs.Entries.{join_found, merged, IsMap};
+ghost use Rattle.squall_join.specs.Looked.{looked};
 ghost use Rattle.squall_join.specs.Pairs.{pair_of, pair_is, pair_join};
 ghost use Rattle.squall_join.specs.Facts.{Factual, pair_says, map_says};
 
@@ -24,6 +25,13 @@ pub fn equal_lookups_make_equal_maps<K: MapKey, V: Join>()
 /// A joined map has at each key the join of both values.
 pub fn a_joined_map_joins_each_value<K: MapKey, V: Join>()
     ensures { (x y : List (K × V)) (q : K) → IsMap K.cmp V.is_value V.bottom x → IsMap K.cmp V.is_value V.bottom y → find K.cmp q (merged K.cmp V.join x y) ≡ join_found V.join (find K.cmp q x) (find K.cmp q y) }
+{}
+
+/// A joined map has at each key the join of what both have there, where an absent key has the
+/// least value. Maps that have the same at each key are equal.
+pub fn a_joined_map_joins_what_is_looked_up<K: MapKey, V: Join>()
+    ensures joined { (x y : List (K × V)) (q : K) → IsMap K.cmp V.is_value V.bottom x → IsMap K.cmp V.is_value V.bottom y → looked V.bottom (find K.cmp q (merged K.cmp V.join x y)) ≡ V.join (looked V.bottom (find K.cmp q x)) (looked V.bottom (find K.cmp q y)) }
+    ensures same { (x y : List (K × V)) → IsMap K.cmp V.is_value V.bottom x → IsMap K.cmp V.is_value V.bottom y → ((q : K) → looked V.bottom (find K.cmp q x) ≡ looked V.bottom (find K.cmp q y)) → x ≡ y }
 {}
 
 /// Where facts tell the values of each half apart, the facts of both halves tell pairs apart,

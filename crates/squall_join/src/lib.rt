@@ -12,16 +12,19 @@ mod map;
 mod merge;
 mod pair;
 mod set;
+mod shared;
 
 pub use basic::{Flag, Max};
 pub use flat::{Exact, Flat};
 pub use join::Join;
 pub use laws::{
-    a_joined_map_joins_each_value, equal_lookups_make_equal_maps, facts_lift_through_maps,
-    facts_lift_through_pairs, joins_are_least_upper_bounds,
+    a_joined_map_joins_each_value, a_joined_map_joins_what_is_looked_up,
+    equal_lookups_make_equal_maps, facts_lift_through_maps, facts_lift_through_pairs,
+    joins_are_least_upper_bounds,
 };
 pub use map::{JoinMap, MapKey};
 pub use pair::Pair;
+pub use shared::Shared;
 
 #[cfg(test)]
 mod tests;

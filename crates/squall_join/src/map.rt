@@ -92,6 +92,19 @@ impl<K: MapKey, V: Join> JoinMap<K, V> {
         Some((&entry.0, &entry.1))
     }
 
+    /// All entries, in the order of their keys.
+    pub fn entries(&self) -> &[(K, V)]
+        ensures entries { result.now ≡ self.now }
+        ensures map { IsMap K.cmp V.is_value V.bottom self.now }
+    {
+        &self.entries
+    }
+
+    /// The allocator that the map was made with.
+    pub fn allocator(&self) -> Global {
+        *self.entries.allocator()
+    }
+
     /// Where the key is, or where it would go.
     fn search(&self, key: K) -> Result<usize, usize>
         ensures found { IfOk result (IsAt K.cmp self.now key) }
