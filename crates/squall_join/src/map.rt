@@ -97,7 +97,7 @@ impl<K: MapKey, V: Join> JoinMap<K, V> {
         ensures entries { result.now ≡ self.now }
         ensures map { IsMap K.cmp V.is_value V.bottom self.now }
     {
-        &self.entries
+        self.entries.as_slice()
     }
 
     /// The allocator that the map was made with.

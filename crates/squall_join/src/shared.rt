@@ -9,7 +9,7 @@ use std::marker::Model;
 use std::sync::Arc;
 
 /// A value with several owners. Contracts see it as that value.
-#[derive(Drop)]
+#[derive(Debug, Drop)]
 pub struct Shared<T> {
     value: Arc<T, Global>,
 }

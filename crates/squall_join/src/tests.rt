@@ -1,5 +1,6 @@
 //! Tests of joins.
 
+mod shared;
 mod tolerant;
 
 use crate::{Flag, Flat, Join, JoinMap, Max, Pair};
