@@ -1,7 +1,12 @@
 -- what the clauses here cite of the crates below
 pub use Rattle.squall_key.specs.Keys
+pub use Rattle.squall_join.specs.Flats
 pub use Rattle.squall_plan.specs.Ranges
 pub use Rattle.squall_course.specs.Subplans
 pub use Rattle.squall_course.specs.Change
+pub use Rattle.squall_report.specs.Issues
 pub use Rattle.squall_report.specs.Facts
+pub use Rattle.squall_report.specs.Told
+pub mod Boards
+pub mod BoardLaws
 pub mod Route

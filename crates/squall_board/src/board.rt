@@ -1,104 +1,274 @@
-//! The board as a plain list of reports: the slow body that others are compared with.
+//! Boards as nested joins.
 
-ghost use Rattle.std.specs.Prelude.{◌≡◌, ◌++◌, ◌∷◌, [], ◌||◌, ℕ, OnOk, OnErr};
-ghost use Rattle.std.specs.List.{list_any};
-ghost use Rattle.squall_report.specs.Facts.{Fact, LoadedKey, DonePart, report_says, reports_say};
+ghost use Rattle.std.specs.Prelude.{◌≡◌, ◌≢◌, ◌≤◌, ◌<◌, ◌+◌, ◌++◌, ◌∷◌, [], List, ℕ, true, nat_lt, IfOk, OnOk, OnErr, IsTrue, ◌↔◌, option_copied};
+ghost use Rattle.std.specs.Arc.{arc_value};
+ghost use Rattle.squall_key.specs.Keys.{part_limit};
+ghost use Rattle.squall_join.specs.Flats.{flat_map};
+ghost use Rattle.squall_report.specs.declared.report.ReportKind.{ReportKind};
+ghost use Rattle.squall_report.specs.Issues.{PlanPair};
+ghost use Rattle.squall_report.specs.Facts.{Fact, LoadedKey, DonePart, OpenedSub, are_numbers};
+ghost use Rattle.squall_report.specs.Told.{TellsBoth, TellsAll, told_by_report, told_by};
+ghost use Rattle.squall_board.specs.Boards.{IsBoard, HasTaken, empty_board, board_join, reports_board, report_board, cell_board, opening_board, issue_board, cell_bottom, cell_of, opened_count, issued, says, told};
 ghost use Rattle.squall_board.specs.Route.{route};
 
 use squall_course::Course;
+use squall_join::{Flag, Flat, Join, JoinMap, Max, Pair, Shared};
 use squall_key::{Key, PartId};
-use squall_report::{Report, ReportKind};
+use squall_report::{Issue, Report, ReportKind};
+use squall_span::SpanSet;
 use std::alloc::{AllocError, Global};
 use std::marker::Model;
+use std::sync::Arc;
 
-/// What was reported, in the order in which it was taken. Contracts see a board as the list of
-/// its reports.
+/// The keys loaded at a partition in a sub-plan, and whether the partition is done.
+pub type CellParts = Pair<SpanSet, Flag>;
+
+/// Cells by partition.
+type Parts = JoinMap<u32, CellParts>;
+
+/// Cells by sub-plan and partition.
+type Subs = JoinMap<u32, Parts>;
+
+/// Cells by number, sub-plan and partition.
+type Cells = JoinMap<u32, Subs>;
+
+/// How many sub-plans are opened, by number.
+type Openings = JoinMap<u32, Max>;
+
+/// What is issued, by number.
+type Issues = JoinMap<u32, Flat<Shared<Issue>>>;
+
+/// What was reported: the sub-plans opened and the plans issued under each number, and what was
+/// loaded and is complete at each partition.
+///
+/// Boards are joined: a board that takes a report, or another board, tells what it told before and
+/// what it takes. So boards that have taken the same reports are equal, in whatever order,
+/// grouping and repetition.
 #[derive(Drop)]
 pub struct Board {
-    reports: Vec<Report>,
+    pub(crate) parts: Pair<Pair<Openings, Issues>, Cells>,
 }
+
+/// A board that is made to be merged into others.
+pub type Delta = Board;
 
 impl Model for Board {
-    ghost use Rattle.std.specs.Prelude.{List};
-    ghost use Rattle.squall_report.specs.declared.report.ReportKind.{ReportKind};
+    ghost use Rattle.squall_board.specs.Boards.{BoardValue, IsBoard};
 
-    ghost Value = { List ReportKind };
+    ghost Value = { BoardValue };
 
-    ghost view = { λ b. b.reports.items };
+    ghost view = { λ b. b.parts };
+
+    ghost invariant = { λ b. IsBoard b.parts };
 }
 
-/// Whether the report says the key loaded.
-fn is_load(report: &Report, number: u32, sub: u32, part: u32, key: Key) -> bool
-    ensures { result ≡ report_says report.now (LoadedKey number sub part key) }
+/// The board of one cell.
+pub(crate) fn cell_board(
+    alloc: Global,
+    number: u32,
+    sub: u32,
+    part: u32,
+    cell: CellParts,
+) -> Result<Board, AllocError>
+    requires numbers { are_numbers number sub part ≡ true }
+    requires kept { cell ≢ cell_bottom }
+    ensures { IfOk result (λ b. b ≡ cell_board number sub part cell) }
+{
+    cell.known();
+    let parts = JoinMap::single(alloc, part, cell)?;
+    let subs = JoinMap::single(alloc, sub, parts)?;
+    let cells = JoinMap::single(alloc, number, subs)?;
+    let first = Pair::new(JoinMap::empty(alloc), JoinMap::empty(alloc));
+    Ok(Board {
+        parts: Pair::new(first, cells),
+    })
+}
+
+/// The board of one count of opened sub-plans.
+pub(crate) fn opening_board(alloc: Global, number: u32, count: u32) -> Result<Board, AllocError>
+    requires number { 1 ≤ number }
+    requires count { (0 < count) × (count ≤ part_limit) }
+    ensures { IfOk result (λ b. b ≡ opening_board number count) }
+{
+    let openings = JoinMap::single(alloc, number, Max::new(count))?;
+    let first = Pair::new(openings, JoinMap::empty(alloc));
+    Ok(Board {
+        parts: Pair::new(first, JoinMap::empty(alloc)),
+    })
+}
+
+/// The board of what is issued under one number.
+pub(crate) fn issue_board(
+    alloc: Global,
+    number: u32,
+    issue: Flat<Shared<Issue>>,
+) -> Result<Board, AllocError>
+    requires { 1 ≤ number }
+    ensures { IfOk result (λ b. b ≡ issue_board number issue) }
+{
+    let issues = JoinMap::single(alloc, number, issue)?;
+    let first = Pair::new(JoinMap::empty(alloc), issues);
+    Ok(Board {
+        parts: Pair::new(first, JoinMap::empty(alloc)),
+    })
+}
+
+/// The board of one report.
+fn report_board(alloc: Global, report: &Report) -> Result<Board, AllocError>
+    ensures { IfOk result (λ b. b ≡ report_board report.now) }
 {
     match report.kind() {
         ReportKind::Loaded {
-            number: n,
-            sub: s,
-            part: p,
+            number,
+            sub,
+            part,
             span,
-        } => n == number && s == sub && p == part && span.has(key),
-        ReportKind::Done { .. } => false,
-    }
-}
-
-/// Whether the report says the partition done.
-fn is_completion(report: &Report, number: u32, sub: u32, part: u32) -> bool
-    ensures { result ≡ report_says report.now (DonePart number sub part) }
-{
-    match report.kind() {
-        ReportKind::Loaded { .. } => false,
-        ReportKind::Done {
-            number: n,
-            sub: s,
-            part: p,
-        } => n == number && s == sub && p == part,
+        } => {
+            let cell = Pair::new(SpanSet::of(alloc, &span)?, Flag::new(false));
+            cell_board(alloc, number, sub, part, cell)
+        }
+        ReportKind::Done { number, sub, part } => {
+            let cell = Pair::new(SpanSet::empty(alloc), Flag::new(true));
+            cell_board(alloc, number, sub, part, cell)
+        }
+        ReportKind::Opened { number, sub } => opening_board(alloc, number, sub + 1),
+        ReportKind::Issued { number, issue } => {
+            let issue = Shared::new(Arc::try_clone(issue)?);
+            issue_board(alloc, number, Flat::One(issue))
+        }
     }
 }
 
 impl Board {
-    /// The board of no report.
+    /// The board of no report. It allocates nothing.
     pub fn new(alloc: Global) -> Board
-        ensures { result ≡ [] }
+        ensures empty { result ≡ empty_board }
+        ensures taken { HasTaken result [] }
     {
+        let first = Pair::new(JoinMap::empty(alloc), JoinMap::empty(alloc));
         Board {
-            reports: Vec::new(alloc),
+            parts: Pair::new(first, JoinMap::empty(alloc)),
         }
     }
 
-    /// Takes a report. Where there is not the memory for it the board is as before.
+    /// The allocator that the board was made with.
+    pub(crate) fn allocator(&self) -> Global {
+        self.parts.second.allocator()
+    }
+
+    /// Changes nothing: after it a proof knows what the type keeps of a board.
+    pub(crate) fn known(&self)
+        ensures { IsBoard self.now }
+    {
+        let _parts = &self.parts;
+    }
+
+    /// Takes a report, in place: a binary search for each level of the cell, and at most one
+    /// insertion. The error comes where memory ran out, and then the board is as before.
     pub fn take(&mut self, report: &Report) -> Result<(), AllocError>
-        ensures ok { OnOk result ((fact : Fact) → reports_say self.new fact ≡ (reports_say self.old fact || report_says report.now fact)) }
-        ensures list { OnOk result (self.new ≡ self.old ++ report.now ∷ []) }
+        ensures board { OnOk result (self.new ≡ board_join self.old (report_board report.now)) }
+        ensures told { OnOk result (TellsBoth (told self.new) (told self.old) (told_by_report report.now)) }
+        ensures taken { OnOk result ((rs : List (ReportKind PlanPair)) → HasTaken self.old rs → HasTaken self.new (rs ++ report.now ∷ [])) }
         ensures err { OnErr result (self.new ≡ self.old) }
     {
-        self.reports.push(*report)?;
-        Ok(())
+        let delta = report_board(self.allocator(), report)?;
+        self.merge(&delta)
+    }
+
+    /// Takes each report of the list, or none of them. The error comes where memory ran out, and
+    /// then the board is as before.
+    pub fn take_all(&mut self, reports: &[Report]) -> Result<(), AllocError>
+        ensures told { OnOk result (TellsBoth (told self.new) (told self.old) (told_by reports.now)) }
+        ensures taken { OnOk result ((rs : List (ReportKind PlanPair)) → HasTaken self.old rs → HasTaken self.new (rs ++ reports.now)) }
+        ensures err { OnErr result (self.new ≡ self.old) }
+    {
+        let mut delta = Board::new(self.allocator());
+        for report in reports {
+            delta.take(report)?;
+        }
+        self.merge(&delta)
+    }
+
+    /// Takes all that the other board tells. The error comes where memory ran out, and then the
+    /// board is as before.
+    pub fn merge(&mut self, other: &Board) -> Result<(), AllocError>
+        ensures board { OnOk result (self.new ≡ board_join self.old other.now) }
+        ensures told { OnOk result (TellsBoth (told self.new) (told self.old) (told other.now)) }
+        ensures taken { OnOk result ((rs qs : List (ReportKind PlanPair)) → HasTaken self.old rs → HasTaken other.now qs → HasTaken self.new (rs ++ qs)) }
+        ensures err { OnErr result (self.new ≡ self.old) }
+    {
+        other.known();
+        let alloc = self.allocator();
+        self.parts.join_in(alloc, &other.parts)
+    }
+
+    /// Whether this board tells all that the other tells.
+    pub fn covers(&self, other: &Board) -> bool
+        ensures { IsTrue result ↔ TellsAll (told self.now) (told other.now) }
+    {
+        self.known();
+        other.known();
+        self.parts.covers(&other.parts)
+    }
+
+    /// The cell of the partition in that sub-plan of that number, by binary searches. None where
+    /// nothing was reported of it.
+    pub fn cell_at(&self, number: u32, sub: u32, part: u32) -> Option<&CellParts>
+        ensures { option_copied result ≡ cell_of self.now number sub part }
+    {
+        let subs = self.parts.second.get(&number)?;
+        let parts = subs.get(&sub)?;
+        parts.get(&part)
     }
 
     /// Whether a report said the key loaded at the partition, in that sub-plan of that number.
     pub fn says_loaded(&self, number: u32, sub: u32, part: u32, key: Key) -> bool
-        ensures { result ≡ reports_say self.now (LoadedKey number sub part key) }
+        ensures { result ≡ says self.now (LoadedKey number sub part key) }
     {
-        self.reports
-            .iter()
-            .any(|report| is_load(report, number, sub, part, key))
+        match self.cell_at(number, sub, part) {
+            Some(cell) => cell.first.has(key),
+            None => false,
+        }
     }
 
     /// Whether a report said the partition done, in that sub-plan of that number.
     pub fn says_done(&self, number: u32, sub: u32, part: u32) -> bool
-        ensures { result ≡ reports_say self.now (DonePart number sub part) }
+        ensures { result ≡ says self.now (DonePart number sub part) }
     {
-        self.reports
-            .iter()
-            .any(|report| is_completion(report, number, sub, part))
+        match self.cell_at(number, sub, part) {
+            Some(cell) => cell.second.get(),
+            None => false,
+        }
+    }
+
+    /// How many sub-plans of that number are opened: those below the result.
+    pub fn opened(&self, number: u32) -> u32
+        ensures count { result ≡ opened_count self.now number }
+        ensures facts { (sub : ℕ) → says self.now (OpenedSub number sub) ≡ nat_lt sub result }
+    {
+        match self.parts.first.first.get(&number) {
+            Some(count) => count.get(),
+            None => 0,
+        }
+    }
+
+    /// What is issued under that number: nothing, the issue of one pair of plans, or a clash where
+    /// different pairs were.
+    pub fn issuing(&self, number: u32) -> Flat<&Arc<Issue>>
+        ensures { flat_map (λ issue. arc_value issue.now) result ≡ issued self.now number }
+    {
+        match self.parts.first.second.get(&number) {
+            Some(Flat::One(issue)) => Flat::One(issue.as_arc()),
+            Some(Flat::Clash) => Flat::Clash,
+            Some(Flat::Unknown) | None => Flat::Unknown,
+        }
     }
 
     /// The partition to ask for the key while the course runs: its new one where it does not
     /// move, or where its load there or that partition's completion was reported for the key's own
     /// sub-plan of the course's number, and else its old one.
     pub fn route(&self, course: &Course, key: Key) -> PartId
-        ensures { result ≡ route course.now (reports_say self.now) key }
+        ensures { result ≡ route course.now (says self.now) key }
     {
         let old = course.old_owner(key);
         let new = course.new_owner(key);
@@ -112,5 +282,20 @@ impl Board {
         } else {
             old
         }
+    }
+
+    /// A copy, which tells the same. The error comes where memory ran out.
+    pub fn copied(&self, alloc: Global) -> Result<Board, AllocError>
+        ensures { IfOk result (λ b. b ≡ self.now) }
+    {
+        let parts = self.parts.copied(alloc)?;
+        Ok(Board { parts })
+    }
+
+    /// Whether both boards tell the same.
+    pub(crate) fn same(&self, other: &Board) -> bool
+        ensures { IsTrue result ↔ (self.now ≡ other.now) }
+    {
+        self.parts.same(&other.parts)
     }
 }

@@ -3,7 +3,7 @@
 
 mod board;
 
-pub use board::Board;
+pub use board::{Board, CellParts, Delta};
 
 #[cfg(test)]
 mod tests;

@@ -1,38 +1,83 @@
 -- What reports say.
-use Rattle.std.specs.Prelude.{ℕ, Bool, false, ◌&&◌, ◌==◌, nat_lt, nat_le, List, Option, None, Some, if◌then◌else◌}
+use Rattle.std.specs.Prelude.{ℕ, Bool, true, false, ◌&&◌, ◌==◌, nat_lt, nat_le, List, Option, None, Some, if◌then◌else◌}
 use Rattle.std.specs.List.{list_any}
 use Rattle.squall_key.specs.Keys.{part_limit}
 use Rattle.squall_span.specs.Spans.{Interval, span_has}
 use Rattle.squall_report.specs.declared.report.ReportKind.{ReportKind}
-use Rattle.squall_report.specs.declared.report.ReportKind.TheVariants.{Loaded, Done}
+use Rattle.squall_report.specs.declared.report.ReportKind.TheVariants.{Loaded, Done, Opened, Issued}
+use Rattle.squall_report.specs.Issues.{PlanPair}
 
--- A fact of a reconfiguration, under its number and its sub-plan: a key was loaded at a partition, or a
--- partition has all its keys (Squall: partitions report when they have all their data; the sub-plans and
--- numbers are this project's).
+-- A fact of a reconfiguration, under its number and its sub-plan: a key was loaded at a partition, a
+-- partition has all its keys, or the sub-plan is opened (Squall: partitions report when they have all their
+-- data, and the leader goes on; the sub-plans and numbers are this project's).
 pub data Fact : Type 0 where
   LoadedKey : (number sub part key : ℕ) → Fact
   DonePart : (number sub part : ℕ) → Fact
+  OpenedSub : (number sub : ℕ) → Fact
 
 abbrev pub is_cell : ℕ → ℕ → ℕ → ℕ → ℕ → ℕ → Bool
 is_cell number sub part n s p = (number == n) && ((sub == s) && (part == p))
 
--- what one report says: a load says each key of its span loaded, a completion says its partition done
-abbrev pub report_says : ReportKind → Fact → Bool
+-- what one report says: a load says each key of its span loaded, a completion says its partition done, an
+-- opening says each sub-plan up to its own opened, and an issue says no fact
+abbrev pub report_says : ReportKind PlanPair → Fact → Bool
 report_says (Loaded number sub part span) (LoadedKey n s p k) = is_cell number sub part n s p && span_has span k
 report_says (Loaded number sub part span) (DonePart n s p) = false
+report_says (Loaded number sub part span) (OpenedSub n s) = false
 report_says (Done number sub part) (LoadedKey n s p k) = false
 report_says (Done number sub part) (DonePart n s p) = is_cell number sub part n s p
+report_says (Done number sub part) (OpenedSub n s) = false
+report_says (Opened number sub) (LoadedKey n s p k) = false
+report_says (Opened number sub) (DonePart n s p) = false
+report_says (Opened number sub) (OpenedSub n s) = (number == n) && nat_le s sub
+report_says (Issued number issue) (LoadedKey n s p k) = false
+report_says (Issued number issue) (DonePart n s p) = false
+report_says (Issued number issue) (OpenedSub n s) = false
 
 -- what a list of reports says: what some report of it says
-abbrev pub reports_say : List ReportKind → Fact → Bool
+abbrev pub reports_say : List (ReportKind PlanPair) → Fact → Bool
 reports_say reports fact = list_any (λ report. report_says report fact) reports
 
--- the limits of a report's numbers: reconfigurations count from 1, sub-plans and partitions from 0 to 9999
+-- ---- limits: reconfigurations count from 1, sub-plans and partitions from 0 to 9999
+
+abbrev pub is_opening : ℕ → ℕ → Bool
+is_opening number sub = nat_le 1 number && nat_lt sub part_limit
+
 abbrev pub are_numbers : ℕ → ℕ → ℕ → Bool
 are_numbers number sub part = nat_le 1 number && (nat_lt sub part_limit && nat_lt part part_limit)
 
-abbrev pub loaded_of : ℕ → ℕ → ℕ → Interval → Option ReportKind
-loaded_of number sub part span = if are_numbers number sub part then Some (Loaded number sub part span) else None
+-- the numbers of the fact lie within their limits
+abbrev pub is_fact : Fact → Bool
+is_fact (LoadedKey n s p k) = are_numbers n s p
+is_fact (DonePart n s p) = are_numbers n s p
+is_fact (OpenedSub n s) = is_opening n s
 
-abbrev pub done_of : ℕ → ℕ → ℕ → Option ReportKind
-done_of number sub part = if are_numbers number sub part then Some (Done number sub part) else None
+-- the numbers of the report lie within their limits
+abbrev pub is_report : ReportKind PlanPair → Bool
+is_report (Loaded number sub part span) = are_numbers number sub part
+is_report (Done number sub part) = are_numbers number sub part
+is_report (Opened number sub) = is_opening number sub
+is_report (Issued number issue) = nat_le 1 number
+
+-- the report, where its numbers lie within their limits
+abbrev pub report_of : ReportKind PlanPair → Option (ReportKind PlanPair)
+report_of kind = if is_report kind then Some kind else None
+
+abbrev pub loaded_of : ℕ → ℕ → ℕ → Interval → Option (ReportKind PlanPair)
+loaded_of number sub part span = report_of (Loaded number sub part span)
+
+abbrev pub done_of : ℕ → ℕ → ℕ → Option (ReportKind PlanPair)
+done_of number sub part = report_of (Done number sub part)
+
+abbrev pub opened_of : ℕ → ℕ → Option (ReportKind PlanPair)
+opened_of number sub = report_of (Opened number sub)
+
+abbrev pub issued_of : ℕ → PlanPair → Option (ReportKind PlanPair)
+issued_of number issue = report_of (Issued number issue)
+
+-- what a report is, where another form of its issue stands in it
+abbrev pub kind_with : {I J : Type 0} → (I → J) → ReportKind I → ReportKind J
+kind_with f (Loaded number sub part span) = Loaded number sub part span
+kind_with f (Done number sub part) = Done number sub part
+kind_with f (Opened number sub) = Opened number sub
+kind_with f (Issued number issue) = Issued number (f issue)

@@ -1,2 +1,9 @@
+-- what the clauses here cite of the crates below
+pub use Rattle.squall_key.specs.Keys
+pub use Rattle.squall_span.specs.Spans
+pub use Rattle.squall_join.specs.Flats
+pub use Rattle.squall_plan.specs.Ranges
+pub mod Issues
 pub mod Facts
-pub mod Limits
+pub mod Told
+pub mod ToldLaws
