@@ -9,4 +9,5 @@ pub use Rattle.squall_report.specs.Facts
 pub use Rattle.squall_report.specs.Told
 pub mod Boards
 pub mod BoardLaws
+pub mod Listed
 pub mod Route

@@ -8,7 +8,7 @@ ghost use Rattle.squall_report.specs.declared.report.ReportKind.{ReportKind};
 ghost use Rattle.squall_report.specs.Issues.{PlanPair};
 ghost use Rattle.squall_report.specs.Facts.{Fact, LoadedKey, DonePart, OpenedSub, are_numbers};
 ghost use Rattle.squall_report.specs.Told.{TellsBoth, TellsAll, told_by_report, told_by};
-ghost use Rattle.squall_board.specs.Boards.{IsBoard, HasTaken, empty_board, board_join, reports_board, report_board, cell_board, opening_board, issue_board, cell_bottom, cell_of, opened_count, issued, says, told};
+ghost use Rattle.squall_board.specs.Boards.{IsBoard, HasTaken, empty_board, board_join, report_board, cell_board, opening_board, issue_board, cell_bottom, found_in, cell_of, opened_count, issued, says, told};
 ghost use Rattle.squall_board.specs.Route.{route};
 
 use squall_course::Course;
@@ -139,6 +139,27 @@ fn report_board(alloc: Global, report: &Report) -> Result<Board, AllocError>
     }
 }
 
+/// The board of a list of reports.
+fn reports_board(alloc: Global, reports: &[Report]) -> Result<Board, AllocError>
+    ensures { IfOk result (λ b. HasTaken b reports.now) }
+{
+    let mut board = Board::new(alloc);
+    for report in reports {
+        board.take(report)?;
+    }
+    Ok(board)
+}
+
+/// What the map, where there is one, has at the key.
+fn found_in<V: Join>(map: Option<&JoinMap<u32, V>>, key: u32) -> Option<&V>
+    ensures { option_copied result ≡ found_in key (option_copied map.entry) }
+{
+    match map {
+        Some(map) => map.get(&key),
+        None => None,
+    }
+}
+
 impl Board {
     /// The board of no report. It allocates nothing.
     pub fn new(alloc: Global) -> Board
@@ -182,10 +203,7 @@ impl Board {
         ensures taken { OnOk result ((rs : List (ReportKind PlanPair)) → HasTaken self.old rs → HasTaken self.new (rs ++ reports.now)) }
         ensures err { OnErr result (self.new ≡ self.old) }
     {
-        let mut delta = Board::new(self.allocator());
-        for report in reports {
-            delta.take(report)?;
-        }
+        let delta = reports_board(self.allocator(), reports)?;
         self.merge(&delta)
     }
 
@@ -216,9 +234,9 @@ impl Board {
     pub fn cell_at(&self, number: u32, sub: u32, part: u32) -> Option<&CellParts>
         ensures { option_copied result ≡ cell_of self.now number sub part }
     {
-        let subs = self.parts.second.get(&number)?;
-        let parts = subs.get(&sub)?;
-        parts.get(&part)
+        let subs = self.parts.second.get(&number);
+        let parts = found_in(subs, sub);
+        found_in(parts, part)
     }
 
     /// Whether a report said the key loaded at the partition, in that sub-plan of that number.

@@ -2,8 +2,10 @@
 #![tactic(auto)]
 
 mod board;
+mod opening;
 
 pub use board::{Board, CellParts, Delta};
+pub use opening::Opening;
 
 #[cfg(test)]
 mod tests;

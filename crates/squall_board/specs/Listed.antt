@@ -1,0 +1,109 @@
+-- What a board holds, as lists in rising order (this project).
+use Rattle.std.specs.Prelude.{◌≡◌, ℕ, ◌<◌, Bool, true, ◌||◌, ◌&&◌, not, List, [], ◌∷◌, Option, None, Some, ◌⊎◌, if◌then◌else◌}
+use Rattle.std.specs.List.{map, flat_map, list_any, is_empty, AllByRecursion}
+use Rattle.squall_span.specs.Spans.{Interval}
+use Rattle.squall_join.specs.declared.flat.Flat.{Flat}
+use Rattle.squall_join.specs.declared.flat.Flat.TheVariants.{Unknown}
+use Rattle.squall_join.specs.Pairs.{pair_of}
+use Rattle.squall_report.specs.Issues.{PlanPair}
+use Rattle.squall_report.specs.Facts.{Fact, LoadedKey, DonePart, OpenedSub, are_numbers}
+use Rattle.squall_report.specs.Told.{Told, both_issued}
+use Rattle.squall_board.specs.declared.opening.Opening.{Opening}
+use Rattle.squall_board.specs.Boards.{CellValue, Parts, Subs, Cells, BoardValue, says, issued, cell_says, count_says, one_issue}
+
+-- ---- cells
+
+-- what was reported of a partition in a sub-plan
+pub record CellEntry : Type 0 where
+  pub number : ℕ
+  pub sub : ℕ
+  pub part : ℕ
+  pub complete : Bool
+  pub spans : List Interval
+
+abbrev pub cell_entry : ℕ → ℕ → ℕ → CellValue → CellEntry
+cell_entry n s p cell = record { number = n; sub = s; part = p; complete = cell.second; spans = cell.first }
+
+abbrev pub entry_value : CellEntry → CellValue
+entry_value c = pair_of c.spans c.complete
+
+-- the numbers lie within their limits, and the cell says something
+abbrev pub is_entry : CellEntry → Bool
+is_entry c = are_numbers c.number c.sub c.part && (c.complete || not (is_empty c.spans))
+
+-- the cell, where it may stand on a board
+abbrev pub entry_of : ℕ → ℕ → ℕ → Bool → List Interval → Option CellEntry
+entry_of n s p complete spans = if is_entry (cell_entry n s p (pair_of spans complete)) then Some (cell_entry n s p (pair_of spans complete)) else None
+
+abbrev pub cells_of_parts : ℕ → ℕ → Parts → List CellEntry
+cells_of_parts n s parts = map (λ e. cell_entry n s e.0 e.1) parts
+
+abbrev pub cells_of_subs : ℕ → Subs → List CellEntry
+cells_of_subs n subs = flat_map (λ e. cells_of_parts n e.0 e.1) subs
+
+-- the cells of a board
+abbrev pub cells_of : BoardValue → List CellEntry
+cells_of b = flat_map (λ e. cells_of_subs e.0 e.1) b.second
+
+abbrev pub entry_says : CellEntry → Fact → Bool
+entry_says c f = cell_says c.number c.sub c.part (entry_value c) f
+
+-- what some cell of the list says
+abbrev pub entries_say : List CellEntry → Fact → Bool
+entries_say cs f = list_any (λ c. entry_says c f) cs
+
+-- by number, then by sub-plan, then by partition
+abbrev pub ComesBefore : CellEntry → CellEntry → Type 0
+ComesBefore c d = (c.number < d.number) ⊎ ((c.number ≡ d.number) × ((c.sub < d.sub) ⊎ ((c.sub ≡ d.sub) × (c.part < d.part))))
+
+abbrev pub CellsRise : List CellEntry → Type 0
+CellsRise [] = Unit {0}
+CellsRise (c ∷ cs) = AllByRecursion (ComesBefore c) cs × CellsRise cs
+
+-- the cells rise, and say of loads and completions what the board says
+pub record AreCells (b : BoardValue) (cs : List CellEntry) : Type 0 where
+  pub rise : CellsRise cs
+  pub loaded : (n s p k : ℕ) → says b (LoadedKey n s p k) ≡ entries_say cs (LoadedKey n s p k)
+  pub done : (n s p : ℕ) → says b (DonePart n s p) ≡ entries_say cs (DonePart n s p)
+
+-- ---- openings
+
+-- the counts of opened sub-plans of a board
+abbrev pub openings_of : BoardValue → List Opening
+openings_of b = map (λ e. record { number = e.0; count = e.1 }) b.first.first
+
+abbrev pub openings_say : List Opening → Fact → Bool
+openings_say os f = list_any (λ o. count_says o.number o.count f) os
+
+abbrev pub OpeningsRise : List Opening → Type 0
+OpeningsRise [] = Unit {0}
+OpeningsRise (o ∷ os) = AllByRecursion (λ q. o.number < q.number) os × OpeningsRise os
+
+-- the numbers rise, and the counts say of openings what the board says
+pub record AreOpenings (b : BoardValue) (os : List Opening) : Type 0 where
+  pub rise : OpeningsRise os
+  pub opened : (n s : ℕ) → says b (OpenedSub n s) ≡ openings_say os (OpenedSub n s)
+
+-- ---- issues
+
+-- what is issued, by number
+abbrev pub issues_of : BoardValue → List (ℕ × Flat PlanPair)
+issues_of b = b.first.second
+
+-- what the entries issue under a number
+abbrev pub entries_issue : List (ℕ × Flat PlanPair) → ℕ → Flat PlanPair
+entries_issue [] n = Unknown
+entries_issue (e ∷ es) n = both_issued (one_issue e.0 e.1 n) (entries_issue es n)
+
+abbrev pub IssuesRise : List (ℕ × Flat PlanPair) → Type 0
+IssuesRise [] = Unit {0}
+IssuesRise (e ∷ es) = AllByRecursion (λ d. e.0 < d.0) es × IssuesRise es
+
+-- the numbers rise, and the entries issue what the board issues
+pub record AreIssues (b : BoardValue) (es : List (ℕ × Flat PlanPair)) : Type 0 where
+  pub rise : IssuesRise es
+  pub issued : (n : ℕ) → issued b n ≡ entries_issue es n
+
+-- what openings, issues and cells tell together
+abbrev pub told_by_lists : List Opening → List (ℕ × Flat PlanPair) → List CellEntry → Told
+told_by_lists os es cs = record { says = λ f. openings_say os f || entries_say cs f; issues = entries_issue es }
