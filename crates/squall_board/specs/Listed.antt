@@ -1,6 +1,6 @@
 -- What a board holds, as lists in rising order (this project).
-use Rattle.std.specs.Prelude.{◌≡◌, ℕ, ◌<◌, Bool, true, ◌||◌, ◌&&◌, not, List, [], ◌∷◌, Option, None, Some, ◌⊎◌, if◌then◌else◌}
-use Rattle.std.specs.List.{map, flat_map, list_any, is_empty, AllByRecursion}
+use Rattle.std.specs.Prelude.{◌≡◌, ℕ, ◌<◌, Bool, true, false, ◌||◌, ◌&&◌, map, List, [], ◌∷◌, Option, None, Some, ◌⊎◌, if◌then◌else◌}
+use Rattle.std.specs.List.{flat_map, list_any, AllByRecursion}
 use Rattle.squall_span.specs.Spans.{Interval}
 use Rattle.squall_join.specs.declared.flat.Flat.{Flat}
 use Rattle.squall_join.specs.declared.flat.Flat.TheVariants.{Unknown}
@@ -27,9 +27,13 @@ cell_entry n s p cell = record { number = n; sub = s; part = p; complete = cell.
 abbrev pub entry_value : CellEntry → CellValue
 entry_value c = pair_of c.spans c.complete
 
+abbrev pub has_spans : List Interval → Bool
+has_spans [] = false
+has_spans (s ∷ ss) = true
+
 -- the numbers lie within their limits, and the cell says something
 abbrev pub is_entry : CellEntry → Bool
-is_entry c = are_numbers c.number c.sub c.part && (c.complete || not (is_empty c.spans))
+is_entry c = are_numbers c.number c.sub c.part && (c.complete || has_spans c.spans)
 
 -- the cell, where it may stand on a board
 abbrev pub entry_of : ℕ → ℕ → ℕ → Bool → List Interval → Option CellEntry
