@@ -1,9 +1,7 @@
 -- What an insert leaves, at the places that a search found.
 use Rattle.std.proofs.Common.{◌≡◌, ℕ, zero, suc, ◌+◌, ◌-◌, ◌<◌, ◌≤◌, max, min, List, [], ◌∷◌, ◌++◌, length, get_or, set, take, drop, refl, sym, ap, subst, ◌∙◌, arith, inl, inr}
 use Rattle.std.proofs.lemmas.Bool.{cases_lt}
-use Rattle.std.proofs.lemmas.List.{get_or_default, take_more_set, take_all, drop-set-lt, length-set, length-drop, append_assoc}
-use Rattle.std.proofs.lemmas.List.Edits.{take-paste}
-use lib.Seq.{paste}
+use Rattle.std.proofs.lemmas.List.{get_or_default, take_more_set, drop-set-lt, append_assoc}
 use Rattle.std.specs.Prelude.{Result, Ok, Err, OnOk, OnErr, ◌||◌}
 use Rattle.squall_span.specs.Spans.{Interval, interval, has, span_has, Beyond, IsCanonical, hull, insert_span}
 use Rattle.squall_span.specs.SpanLaws.{canonical-insert, has-insert}
@@ -117,15 +115,11 @@ found s xs ys zs i j lo hi e f g h p c a b =
       within = b2.within;
     }
 
--- what a write, a move and a cut leave
-pub moved_back : (xs : List Interval) (i j left n : ℕ) (h : Interval) → i < j → j ≤ length xs → left ≡ length xs - (j - i - 1) → n ≡ length xs - j → take left (paste (set xs i h) (i + 1) (drop j (set xs i h)) n) ≡ take i xs ++ (h ∷ drop j xs)
-moved_back xs i j left n h lt le is count =
-    let size : left ≡ i + 1 + n = omega arith in
-    let d = set xs i h in
-    ap (λ m. take m (paste d (i + 1) (drop j d) n)) size
-    ∙ take-paste d (i + 1) (drop j d) n (omega (arith, length-set xs i h)) (omega (arith, length-drop j d, length-set xs i h))
-    ∙ ap (λ l. l ++ take n (drop j d)) (take_more_set xs i h (omega arith))
-    ∙ ap (λ l. (take i xs ++ (h ∷ [])) ++ l) (take_all n (drop j d) (omega (arith, length-drop j d, length-set xs i h)) ∙ drop-set-lt j xs i h lt)
+-- what is left where one span is written and those after it, up to a place, are cut out
+pub become_one : (xs : List Interval) (i j : ℕ) (h : Interval) → i < j → j ≤ length xs → take (i + 1) (set xs i h) ++ drop j (set xs i h) ≡ take i xs ++ (h ∷ drop j xs)
+become_one xs i j h lt le =
+    ap (λ l. l ++ drop j (set xs i h)) (take_more_set xs i h (omega arith))
+    ∙ ap (λ l. (take i xs ++ (h ∷ [])) ++ l) (drop-set-lt j xs i h lt)
     ∙ append_assoc (take i xs) (h ∷ []) (drop j xs)
 
 -- the spans from the first place to the second become one with the new one
