@@ -11,3 +11,5 @@ pub mod Boards
 pub mod BoardLaws
 pub mod Listed
 pub mod Route
+pub mod Newest
+pub mod NewestLaws

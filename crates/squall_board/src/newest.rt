@@ -1,0 +1,56 @@
+//! The newest course that a board tells of.
+
+ghost use Rattle.std.specs.Prelude.{◌≡◌, option_map};
+ghost use Rattle.std.specs.Arc.{arc_value};
+ghost use Rattle.squall_board.specs.Boards.{issued};
+ghost use Rattle.squall_board.specs.Newest.{IsNewest, one_above, newest_in, newest_of};
+
+use crate::Board;
+use squall_course::Course;
+use squall_join::{Flat, Shared};
+use squall_report::Issue;
+use std::sync::Arc;
+
+/// The entry's number and issue, where it has one pair of plans and a number above `low`.
+fn one_above(entry: &(u32, Flat<Shared<Issue>>), low: u32) -> Option<(u32, &Arc<Issue>)>
+    ensures { option_map (λ e. (e.0, arc_value e.1.now)) result ≡ one_above low entry.now }
+{
+    match &entry.1 {
+        Flat::One(issue) => {
+            if low < entry.0 {
+                Some((entry.0, issue.as_arc()))
+            } else {
+                None
+            }
+        }
+        Flat::Unknown | Flat::Clash => None,
+    }
+}
+
+/// The last entry that has one pair of plans and a number above `low`.
+fn newest_in(issues: &[(u32, Flat<Shared<Issue>>)], low: u32) -> Option<(u32, &Arc<Issue>)>
+    ensures { option_map (λ e. (e.0, arc_value e.1.now)) result ≡ newest_in low issues.now }
+{
+    let mut at = issues.len();
+    while at > 0 {
+        at -= 1;
+        let found = one_above(&issues[at], low);
+        if found.is_some() {
+            return found;
+        }
+    }
+    None
+}
+
+impl Board {
+    /// The newest course after the given first one: the greatest number above the first course's
+    /// under which one pair of plans is issued, with its issue. A number under which different
+    /// pairs were issued is passed over. None where there is no such number.
+    pub fn newest(&self, first: &Course) -> Option<(u32, &Arc<Issue>)>
+        ensures newest { option_map (λ e. (e.0, arc_value e.1.now)) result ≡ newest_of self.now first.now.number }
+        ensures meaning { IsNewest (issued self.now) first.now.number (option_map (λ e. (e.0, arc_value e.1.now)) result) }
+    {
+        self.known();
+        newest_in(self.parts.first.second.entries(), first.number())
+    }
+}
