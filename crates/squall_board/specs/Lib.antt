@@ -11,5 +11,6 @@ pub mod Boards
 pub mod BoardLaws
 pub mod Listed
 pub mod Route
+pub mod Equal
 pub mod Newest
 pub mod NewestLaws

@@ -9,7 +9,9 @@ ghost use Rattle.squall_report.specs.Issues.{PlanPair};
 ghost use Rattle.squall_report.specs.Facts.{Fact, LoadedKey, DonePart, OpenedSub, are_numbers};
 ghost use Rattle.squall_report.specs.Told.{TellsBoth, TellsAll, told_by_report, told_by};
 ghost use Rattle.squall_board.specs.Boards.{IsBoard, HasTaken, empty_board, board_join, report_board, cell_board, opening_board, issue_board, cell_bottom, found_in, cell_of, opened_count, issued, says, told};
+ghost use Rattle.squall_board.specs.Equal.{is_same_board, boards_equal};
 ghost use Rattle.squall_board.specs.Route.{route};
+ghost use Rattle.std.specs.Cmp.{partial_equiv_from_equiv};
 
 use squall_course::Course;
 use squall_join::{Flag, Flat, Join, JoinMap, Max, Pair, Shared};
@@ -310,10 +312,19 @@ impl Board {
         Ok(Board { parts })
     }
 
-    /// Whether both boards tell the same.
-    pub(crate) fn same(&self, other: &Board) -> bool
-        ensures { IsTrue result ↔ (self.now ≡ other.now) }
-    {
+}
+
+/// Boards are equal where all that they hold is, and so where they tell the same.
+impl PartialEq for Board {
+    ghost eq = { is_same_board };
+
+    ghost laws = { partial_equiv_from_equiv boards_equal };
+
+    fn eq(&self, other: &Board) -> bool {
         self.parts.same(&other.parts)
     }
+}
+
+impl Eq for Board {
+    ghost laws = { boards_equal };
 }
