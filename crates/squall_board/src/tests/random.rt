@@ -1,0 +1,191 @@
+//! Lists of reports in any order, grouping and repetition, drawn by a seeded generator.
+
+ghost use Rattle.std.specs.Prelude.{◌<◌};
+
+use crate::Board;
+use crate::tests::{NEW, OLD, plain, plan};
+use squall_join::Flat;
+use squall_key::{Bound, Key};
+use squall_report::{Issue, Report};
+use squall_span::Span;
+use std::alloc::{AllocError, Global};
+use std::process::Abort;
+use std::sync::Arc;
+use std::test::Fail;
+
+/// A linear congruential generator (the multiplier of Knuth's MMIX).
+struct Random {
+    state: u64,
+}
+
+impl Random {
+    fn new(seed: u64) -> Random {
+        Random { state: seed }
+    }
+
+    /// The next number below n.
+    fn below(&mut self, n: u64) -> u64
+        requires { 0 < n }
+        ensures { result < n }
+    {
+        self.state = self
+            .state
+            .wrapping_mul(6364136223846793005)
+            .wrapping_add(1442695040888963407);
+        (self.state >> 33) % n
+    }
+
+    /// The same as a `u32`.
+    fn small(&mut self, n: u32) -> u32
+        requires { 0 < n }
+    {
+        u32::try_from(self.below(n as u64)).unwrap_or(0)
+    }
+}
+
+/// A span of up to six keys among the first 30 ranks.
+fn span(random: &mut Random) -> Option<Span> {
+    let lo = random.below(24);
+    let hi = lo + 1 + random.below(6);
+    Span::new(Bound::of_rank(lo)?, Bound::of_rank(hi)?)
+}
+
+/// A report of number 1 to 3, of a few sub-plans and partitions.
+fn report(random: &mut Random, issues: &[Arc<Issue>; 2]) -> Option<Report> {
+    let number = 1 + random.small(3);
+    let sub = random.small(2);
+    let part = random.small(3);
+    match random.below(8) {
+        0 => Report::done(number, sub, part),
+        1 => Report::opened(number, sub),
+        2 => Report::issued(number, Arc::try_clone(&issues[0]).ok()?),
+        3 => Report::issued(number, Arc::try_clone(&issues[1]).ok()?),
+        _ => Report::loaded(number, sub, part, span(random)?),
+    }
+}
+
+/// A list of reports.
+fn reports(
+    alloc: Global,
+    random: &mut Random,
+    issues: &[Arc<Issue>; 2],
+    count: usize,
+) -> Result<Vec<Report>, AllocError> {
+    let mut list = Vec::new(alloc);
+    for _ in 0..count {
+        if let Some(drawn) = report(random, issues) {
+            list.push(drawn)?;
+        }
+    }
+    Ok(list)
+}
+
+/// Brings the list into another order.
+fn shuffle(random: &mut Random, list: &mut [Report]) {
+    for at in 1..list.len() {
+        let other = (random.below(1 + at as u64)) as usize;
+        if other < list.len() {
+            list.swap(at, other);
+        }
+    }
+}
+
+/// The board that took the reports one by one.
+fn one_by_one(alloc: Global, list: &[Report]) -> Result<Board, AllocError> {
+    let mut board = Board::new(alloc);
+    for report in list {
+        board.take(report)?;
+    }
+    Ok(board)
+}
+
+/// The board that took the front of the list at once, merged the board of the rest, and took
+/// every report again that stands at an even place.
+fn in_groups(alloc: Global, list: &[Report], front: usize) -> Result<Board, AllocError> {
+    let (first, rest) = list.split_at(front.min(list.len()));
+    let mut board = Board::new(alloc);
+    board.take_all(first)?;
+    board.merge(&one_by_one(alloc, rest)?)?;
+    for report in list.iter().step_by(2) {
+        board.take(report)?;
+    }
+    Ok(board)
+}
+
+/// The board says of loads and completions in the sub-plan what the list says, at each key.
+fn same_cells(rt: &impl Abort, board: &Board, list: &[Report], number: u32, sub: u32) {
+    for part in 0..4u32 {
+        assert_eq!(rt; board.says_done(number, sub, part), plain::says_done(list, number, sub, part));
+        for rank in 0..31u64 {
+            if let Some(key) = Key::of_rank(rank) {
+                assert_eq!(rt; board.says_loaded(number, sub, part, key), plain::says_loaded(list, number, sub, part, key));
+            }
+        }
+    }
+}
+
+/// The board says of openings what the list says.
+fn same_openings(rt: &impl Abort, board: &Board, list: &[Report], number: u32) {
+    for sub in 0..4u32 {
+        assert_eq!(rt; sub < board.opened(number), plain::says_opened(list, number, sub));
+    }
+}
+
+/// Both are nothing, both a clash, or both one pair of the same plans.
+fn same_issue(first: &Flat<&Arc<Issue>>, second: &Flat<&Arc<Issue>>) -> bool {
+    match (first, second) {
+        (Flat::Unknown, Flat::Unknown) => true,
+        (Flat::One(x), Flat::One(y)) => ***x == ***y,
+        (Flat::Clash, Flat::Clash) => true,
+        _ => false,
+    }
+}
+
+/// The board tells what the list tells.
+fn tells_the_list(rt: &impl Abort, board: &Board, list: &[Report]) {
+    for number in 1..5u32 {
+        for sub in 0..3u32 {
+            same_cells(rt, board, list, number, sub);
+        }
+        same_openings(rt, board, list, number);
+        assert!(rt; same_issue(&board.issuing(number), &plain::issuing(list, number)));
+    }
+}
+
+/// One list in two orders and groupings.
+fn try_list(
+    rt: &impl Abort,
+    alloc: Global,
+    random: &mut Random,
+    issues: &[Arc<Issue>; 2],
+) -> Result<(), AllocError> {
+    let count = (random.below(24)) as usize;
+    let mut list = reports(alloc, random, issues, count)?;
+    let board = one_by_one(alloc, &list)?;
+    tells_the_list(rt, &board, &list);
+    shuffle(random, &mut list);
+    let other = in_groups(alloc, &list, count / 2)?;
+    assert!(rt; board == other && board.covers(&other));
+    Ok(())
+}
+
+/// Both issues: of the example plans, and back.
+fn two_issues(alloc: Global) -> Result<[Arc<Issue>; 2], Fail> {
+    let old = plan(alloc, OLD)?;
+    let new = plan(alloc, NEW)?;
+    Ok([
+        Issue::new(alloc, &old, &new)?,
+        Issue::new(alloc, &new, &old)?,
+    ])
+}
+
+#[test]
+fn any_order_grouping_and_repetition(rt: HostRuntime) -> Result<(), Fail> {
+    let alloc = rt.alloc();
+    let issues = two_issues(alloc)?;
+    let mut random = Random::new(20221122);
+    for _ in 0..200u32 {
+        try_list(&rt, alloc, &mut random, &issues)?;
+    }
+    Ok(())
+}
