@@ -1,5 +1,5 @@
 -- What reports say.
-use Rattle.std.specs.Prelude.{ℕ, Bool, true, false, ◌&&◌, ◌==◌, nat_lt, nat_le, List, Option, None, Some, if◌then◌else◌}
+use Rattle.std.specs.Prelude.{ℕ, Bool, false, ◌&&◌, ◌==◌, nat_lt, nat_le, List, Option, None, Some, if◌then◌else◌}
 use Rattle.std.specs.List.{list_any}
 use Rattle.squall_key.specs.Keys.{part_limit}
 use Rattle.squall_span.specs.Spans.{Interval, span_has}
@@ -15,6 +15,7 @@ pub data Fact : Type 0 where
   DonePart : (number sub part : ℕ) → Fact
   OpenedSub : (number sub : ℕ) → Fact
 
+-- the number, the sub-plan and the partition are the others
 abbrev pub is_cell : ℕ → ℕ → ℕ → ℕ → ℕ → ℕ → Bool
 is_cell number sub part n s p = (number == n) && ((sub == s) && (part == p))
 
@@ -40,9 +41,11 @@ reports_say reports fact = list_any (λ report. report_says report fact) reports
 
 -- ---- limits: reconfigurations count from 1, sub-plans and partitions from 0 to 9999
 
+-- the number of a reconfiguration and of a sub-plan lie within their limits
 abbrev pub is_opening : ℕ → ℕ → Bool
 is_opening number sub = nat_le 1 number && nat_lt sub part_limit
 
+-- so do those of a reconfiguration, a sub-plan and a partition
 abbrev pub are_numbers : ℕ → ℕ → ℕ → Bool
 are_numbers number sub part = nat_le 1 number && (nat_lt sub part_limit && nat_lt part part_limit)
 
@@ -75,7 +78,7 @@ opened_of number sub = report_of (Opened number sub)
 abbrev pub issued_of : ℕ → PlanPair → Option (ReportKind PlanPair)
 issued_of number issue = report_of (Issued number issue)
 
--- what a report is, where another form of its issue stands in it
+-- the same kind, with its issue in another form: a function gives that form
 abbrev pub kind_with : {I J : Type 0} → (I → J) → ReportKind I → ReportKind J
 kind_with f (Loaded number sub part span) = Loaded number sub part span
 kind_with f (Done number sub part) = Done number sub part

@@ -1,10 +1,10 @@
--- The pair of plans that is issued under the number of a later reconfiguration (this project).
-use Rattle.std.specs.Prelude.{◌≡◌, ℕ, Bool, true, ◌&&◌, List}
+-- The pair of plans that is issued under the number of a reconfiguration (this project).
+use Rattle.std.specs.Prelude.{◌≡◌, Bool, true, ◌&&◌, List}
 use Rattle.std.proofs.Common.{subst, arith, Decides}
 use Rattle.std.proofs.lemmas.Bool.Decides.{nat_tests}
 use Rattle.std.specs.Cmp.{IsEquivalence, and_equiv, on_equiv, first_so, second_so}
 use Rattle.std.specs.Cmp.Lexicographic.{pointwise_decides}
-use Rattle.squall_span.specs.Spans.{Interval, interval}
+use Rattle.squall_span.specs.Spans.{interval}
 use Rattle.squall_join.specs.Flats.{IsExactEq}
 use Rattle.squall_plan.specs.declared.range.PlanRange.{PlanRange}
 use Rattle.squall_plan.specs.Equal.{is_same_range, are_same_ranges, ranges_equal}
@@ -22,9 +22,6 @@ abbrev pub is_same_pair : PlanPair → PlanPair → Bool
 is_same_pair x y = are_same_ranges x.old y.old && are_same_ranges x.new y.new
 
 -- ---- the test tells pairs apart
-
-range_at : (i : Interval) (p : ℕ) → PlanRange
-range_at i p = record { span = i; part = p }
 
 same_range : (r s : PlanRange) → is_same_range r s ≡ true → r ≡ s
 same_range r s e =

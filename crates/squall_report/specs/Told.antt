@@ -19,7 +19,7 @@ pub record Told : Type 0 where
 abbrev pub both_issued : Flat PlanPair → Flat PlanPair → Flat PlanPair
 both_issued x y = flat_join is_same_pair x y
 
--- a issue issues its pair under its number, and no other report issues
+-- an issue issues its pair under its number, and no other report issues anything
 abbrev pub report_issues : ReportKind PlanPair → ℕ → Flat PlanPair
 report_issues (Loaded number sub part span) n = Unknown
 report_issues (Done number sub part) n = Unknown
@@ -55,7 +55,7 @@ pub record TellsBoth (c a b : Told) : Type 0 where
   pub facts : (f : Fact) → c.says f ≡ (a.says f || b.says f)
   pub issues : (n : ℕ) → c.issues n ≡ both_issued (a.issues n) (b.issues n)
 
--- a tells all that b tells
+-- a tells all that b tells: to join what b issues changes nothing of what a issues
 pub record TellsAll (a b : Told) : Type 0 where
   pub facts : (f : Fact) → b.says f ≡ true → a.says f ≡ true
   pub issues : (n : ℕ) → both_issued (a.issues n) (b.issues n) ≡ a.issues n

@@ -1,5 +1,5 @@
 -- Laws of what lists of reports tell.
-use Rattle.std.specs.Prelude.{◌≡◌, ◌≢◌, ℕ, ◌+◌, ◌<◌, ◌==◌, suc, zero, Bool, true, false, ◌||◌, cond, List, [], ◌∷◌, ◌++◌, length, slice_index_or, ◌⊎◌, refl}
+use Rattle.std.specs.Prelude.{◌≡◌, ◌≢◌, ℕ, ◌+◌, ◌==◌, suc, zero, Bool, true, false, ◌||◌, cond, List, [], ◌∷◌, ◌++◌, ◌⊎◌, refl}
 use Rattle.std.proofs.Common.{sym, ap, subst, ◌∙◌, arith, inl, inr, ⊎_elim}
 use Rattle.std.proofs.lemmas.Bool.{true≢false}
 use Rattle.std.proofs.lemmas.Bool.Decides.{nat_tests}
@@ -12,8 +12,8 @@ use Rattle.squall_join.specs.Flats.{flat_is, flat_laws}
 use Rattle.squall_report.specs.declared.report.ReportKind.{ReportKind}
 use Rattle.squall_report.specs.declared.report.ReportKind.TheVariants.{Loaded, Done, Opened, Issued}
 use Rattle.squall_report.specs.Issues.{PlanPair, is_same_pair, same_pairs_are_equal}
-use Rattle.squall_report.specs.Facts.{Fact, report_says, reports_say}
-use Rattle.squall_report.specs.Told.{Told, both_issued, report_issues, reports_issue, IsIssued, told_by_report, told_by, SameTold, TellsBoth, AreSameReports}
+use Rattle.squall_report.specs.Facts.{report_says, reports_say}
+use Rattle.squall_report.specs.Told.{both_issued, report_issues, reports_issue, IsIssued, told_by, SameTold, TellsBoth, AreSameReports}
 
 -- ---- what is issued
 

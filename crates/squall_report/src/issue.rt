@@ -1,4 +1,4 @@
-//! The plans of a later reconfiguration.
+//! The pair of plans of a reconfiguration.
 
 ghost use Rattle.std.specs.Prelude.{◌≡◌, IfOk};
 ghost use Rattle.std.specs.Arc.{arc_value};

@@ -11,7 +11,8 @@ use std::alloc::Global;
 use std::marker::Model;
 use std::sync::Arc;
 
-/// What a report says, with the number of its reconfiguration.
+/// What a report says, with the number of its reconfiguration. `I` is the form of an issue: a
+/// report holds it as a shared value, and shows a reference to it.
 #[derive(Drop)]
 pub enum ReportKind<I> {
     /// In the sub-plan the partition has loaded the keys of the span.
@@ -22,11 +23,21 @@ pub enum ReportKind<I> {
         span: Span,
     },
     /// The partition has all the keys that the sub-plan brings it.
-    Done { number: u32, sub: u32, part: u32 },
+    Done {
+        number: u32,
+        sub: u32,
+        part: u32,
+    },
     /// The sub-plan is opened, and all those before it.
-    Opened { number: u32, sub: u32 },
+    Opened {
+        number: u32,
+        sub: u32,
+    },
     /// The reconfiguration leads from one plan to another.
-    Issued { number: u32, issue: I },
+    Issued {
+        number: u32,
+        issue: I,
+    },
 }
 
 /// A report whose numbers lie within their limits: a reconfiguration from 1 on, a sub-plan and a
@@ -122,7 +133,7 @@ impl Report {
         Some(Report { kind })
     }
 
-    /// What the report says. An issue stays the report's own.
+    /// What the report says. An issue is lent, and stays the report's own.
     pub fn kind(&self) -> ReportKind<&Arc<Issue>>
         ensures kind { kind_with (λ issue. arc_value issue.now) result ≡ self.now }
         ensures limits { is_report self.now ≡ true }
