@@ -67,8 +67,8 @@ tells_both x y a b = record {
 pub same_board : (x y : BoardValue) → is_nested x → is_nested y → SameTold (told x) (told y) → x ≡ y
 same_board x y a b is = same_pair _ _ _ _
     (same_pair _ _ _ _
-      (openings_factual.same x.first.first y.first.first a.0.0 b.0.0 (λ q. is.facts (OpenedSub q.0 q.1)))
-      (same_looked_map nat_cmp_total exact_unsigned x.first.second y.first.second a.0.1 b.0.1 is.issues))
+    (openings_factual.same x.first.first y.first.first a.0.0 b.0.0 (λ q. is.facts (OpenedSub q.0 q.1)))
+    (same_looked_map nat_cmp_total exact_unsigned x.first.second y.first.second a.0.1 b.0.1 is.issues))
     (cells_factual.same x.second y.second a.1 b.1 (λ q. at_cell q.0 q.1.0 q.1.1.0 q.1.1.1))
   where
     at_cell : (n s p : ℕ) (f : ℕ ⊎ Unit {0}) → map_says nat_cmp (map_says nat_cmp (map_says nat_cmp (pair_says has flag_says))) x.second (n, (s, (p, f))) ≡ map_says nat_cmp (map_says nat_cmp (map_says nat_cmp (pair_says has flag_says))) y.second (n, (s, (p, f)))

@@ -107,9 +107,9 @@ boards_decide x y =
     both_decide (are_same_entries ◌==◌ x.first.first y.first.first) _ (x.first.first ≡ y.first.first) ((x.first.second ≡ y.first.second) × (x.second ≡ y.second)) (x ≡ y)
     (entries_decide ◌==◌ nat_decides x.first.first y.first.first)
     (both_decide (are_same_entries is_same_flat x.first.second y.first.second) _ (x.first.second ≡ y.first.second) (x.second ≡ y.second) _
-      (entries_decide is_same_flat flat_decides x.first.second y.first.second)
-      (entries_decide _ (entries_decide _ (entries_decide is_same_cell cell_decides)) x.second y.second)
-      (λ p q. (p, q)) (λ r. r.0) (λ r. r.1))
+    (entries_decide is_same_flat flat_decides x.first.second y.first.second)
+    (entries_decide _ (entries_decide _ (entries_decide is_same_cell cell_decides)) x.second y.second)
+    (λ p q. (p, q)) (λ r. r.0) (λ r. r.1))
     (λ p q. same_pair _ _ _ _ (same_pair _ _ _ _ p q.0) q.1)
     (ap (λ v. v.first.first))
     (λ e. (ap (λ v. v.first.second) e, ap (λ v. v.second) e))

@@ -311,7 +311,6 @@ impl Board {
         let parts = self.parts.copied(alloc)?;
         Ok(Board { parts })
     }
-
 }
 
 /// Boards are equal where all that they hold is, and so where they tell the same.

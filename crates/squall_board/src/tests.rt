@@ -40,13 +40,20 @@ pub(crate) fn load(lo: &str, hi: &str) -> Option<Report> {
     Report::loaded(1, 0, 3, span)
 }
 
-/// The report that number 1's sub-plan 0 is complete at the partition.
-pub(crate) fn done(part: u32) -> Option<Report> {
-    Report::done(1, 0, part)
+/// The board of these reports.
+pub(crate) fn board(alloc: Global, reports: &[Report]) -> Result<Board, Fail> {
+    let mut board = Board::new(alloc);
+    board.take_all(reports)?;
+    Ok(board)
+}
+
+/// The reports of a load at partition 3 and of the completion of partition 4.
+pub(crate) fn two_reports() -> Option<[Report; 2]> {
+    Some([load("2:0", "3:0")?, Report::done(1, 0, 4)?])
 }
 
 #[test]
-fn load(rt: HostRuntime) -> Result<(), Fail> {
+fn load_moves_the_route(rt: HostRuntime) -> Result<(), Fail> {
     let course = course(rt.alloc())?;
     let mut board = Board::new(rt.alloc());
     let key = Key::read("2:0").ok_or("key")?;
@@ -54,5 +61,102 @@ fn load(rt: HostRuntime) -> Result<(), Fail> {
     board.take(&load("2:0", "3:0").ok_or("load")?)?;
     assert!(rt; board.says_loaded(1, 0, 3, key) && !board.says_loaded(2, 0, 3, key));
     assert_eq!(rt; Some(board.route(&course, key)), PartId::new(3));
+    Ok(())
+}
+
+#[test]
+fn completion_moves_the_route(rt: HostRuntime) -> Result<(), Fail> {
+    let course = course(rt.alloc())?;
+    let board = board(rt.alloc(), &two_reports().ok_or("reports")?)?;
+    let far = Key::read("8:4294967295").ok_or("far key")?;
+    assert!(rt; board.says_done(1, 0, 4) && !board.says_done(1, 0, 3));
+    assert_eq!(rt; Some(board.route(&course, far)), PartId::new(4));
+    Ok(())
+}
+
+#[test]
+fn reports_of_others_move_nothing(rt: HostRuntime) -> Result<(), Fail> {
+    let course = course(rt.alloc())?;
+    let mut board = Board::new(rt.alloc());
+    let key = Key::read("2:0").ok_or("key")?;
+    for report in [
+        Report::done(2, 0, 3),
+        Report::done(1, 1, 3),
+        Report::done(1, 0, 4),
+    ] {
+        board.take(&report.ok_or("report")?)?;
+    }
+    assert_eq!(rt; Some(board.route(&course, key)), PartId::new(1));
+    Ok(())
+}
+
+#[test]
+fn openings(rt: HostRuntime) -> Result<(), Fail> {
+    let mut board = Board::new(rt.alloc());
+    board.take(&Report::opened(1, 1).ok_or("opening")?)?;
+    board.take(&Report::opened(1, 0).ok_or("earlier opening")?)?;
+    assert!(rt; board.opened(1) == 2 && board.opened(2) == 0);
+    Ok(())
+}
+
+#[test]
+fn lists_and_merges(rt: HostRuntime) -> Result<(), Fail> {
+    let reports = two_reports().ok_or("reports")?;
+    let all = board(rt.alloc(), &reports)?;
+    let mut merged = board(rt.alloc(), &reports[1..])?;
+    merged.merge(&board(rt.alloc(), &reports[..1])?)?;
+    assert!(rt; all == merged && all.covers(&merged) && merged.covers(&all));
+    Ok(())
+}
+
+#[test]
+fn copies_and_cuts(rt: HostRuntime) -> Result<(), Fail> {
+    let whole = [load("2:0", "3:0").ok_or("load")?];
+    let cut = [
+        load("2:7", "3:0").ok_or("end")?,
+        load("2:0", "2:7").ok_or("start")?,
+    ];
+    let whole = board(rt.alloc(), &whole)?;
+    assert!(rt; whole == board(rt.alloc(), &cut)?);
+    assert!(rt; whole.copied(rt.alloc())? == whole && whole != Board::new(rt.alloc()));
+    Ok(())
+}
+
+/// The report that the plan of a text follows that of another under the number.
+fn issue(alloc: Global, number: u32, old: &str, new: &str) -> Result<Report, Fail> {
+    let issue = Issue::new(alloc, &plan(alloc, old)?, &plan(alloc, new)?)?;
+    let report = Report::issued(number, issue).ok_or("issue")?;
+    Ok(report)
+}
+
+#[test]
+fn issues_and_clashes(rt: HostRuntime) -> Result<(), Fail> {
+    let alloc = rt.alloc();
+    let mut board = Board::new(alloc);
+    board.take(&issue(alloc, 2, OLD, NEW)?)?;
+    assert!(rt;
+        matches!(board.issuing(2), Flat::One(_)) && matches!(board.issuing(1), Flat::Unknown)
+    );
+    board.take(&issue(alloc, 2, OLD, NEW)?)?;
+    assert!(rt; matches!(board.issuing(2), Flat::One(_)));
+    board.take(&issue(alloc, 2, NEW, OLD)?)?;
+    assert!(rt; matches!(board.issuing(2), Flat::Clash));
+    Ok(())
+}
+
+#[test]
+fn newest_course(rt: HostRuntime) -> Result<(), Fail> {
+    let alloc = rt.alloc();
+    let course = course(alloc)?;
+    let reports = [
+        issue(alloc, 1, NEW, OLD)?,
+        issue(alloc, 3, NEW, OLD)?,
+        issue(alloc, 2, OLD, NEW)?,
+    ];
+    let mut board = board(alloc, &reports)?;
+    assert!(rt; board.newest(&course).is_some_and(|newest| newest.0 == 3));
+    board.take(&issue(alloc, 3, OLD, NEW)?)?;
+    assert!(rt; board.newest(&course).is_some_and(|newest| newest.0 == 2));
+    assert!(rt; Board::new(alloc).newest(&course).is_none());
     Ok(())
 }

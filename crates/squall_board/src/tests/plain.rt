@@ -69,21 +69,13 @@ pub(crate) fn says_done(reports: &[Report], number: u32, sub: u32, part: u32) ->
 pub(crate) fn says_opened(reports: &[Report], number: u32, sub: u32) -> bool
     ensures { result ≡ reports_say reports.now (OpenedSub number sub) }
 {
-    reports
-        .iter()
-        .any(|report| is_opening(report, number, sub))
+    reports.iter().any(|report| is_opening(report, number, sub))
 }
 
 /// What the report issues under the number.
 fn issue_of(report: &Report, number: u32) -> Option<&Arc<Issue>> {
     match report.kind() {
-        ReportKind::Issued { number: n, issue } => {
-            if n == number {
-                Some(issue)
-            } else {
-                None
-            }
-        }
+        ReportKind::Issued { number: n, issue } => { if n == number { Some(issue) } else { None } }
         _ => None,
     }
 }

@@ -14,6 +14,7 @@ use std::sync::Arc;
 use std::test::Fail;
 
 /// A linear congruential generator (the multiplier of Knuth's MMIX).
+#[derive(Drop)]
 struct Random {
     state: u64,
 }
@@ -115,10 +116,16 @@ fn in_groups(alloc: Global, list: &[Report], front: usize) -> Result<Board, Allo
 /// The board says of loads and completions in the sub-plan what the list says, at each key.
 fn same_cells(rt: &impl Abort, board: &Board, list: &[Report], number: u32, sub: u32) {
     for part in 0..4u32 {
-        assert_eq!(rt; board.says_done(number, sub, part), plain::says_done(list, number, sub, part));
+        assert_eq!(rt;
+            board.says_done(number, sub, part),
+            plain::says_done(list, number, sub, part)
+        );
         for rank in 0..31u64 {
             if let Some(key) = Key::of_rank(rank) {
-                assert_eq!(rt; board.says_loaded(number, sub, part, key), plain::says_loaded(list, number, sub, part, key));
+                assert_eq!(rt;
+                    board.says_loaded(number, sub, part, key),
+                    plain::says_loaded(list, number, sub, part, key)
+                );
             }
         }
     }
@@ -127,7 +134,10 @@ fn same_cells(rt: &impl Abort, board: &Board, list: &[Report], number: u32, sub:
 /// The board says of openings what the list says.
 fn same_openings(rt: &impl Abort, board: &Board, list: &[Report], number: u32) {
     for sub in 0..4u32 {
-        assert_eq!(rt; sub < board.opened(number), plain::says_opened(list, number, sub));
+        assert_eq!(rt;
+            sub < board.opened(number),
+            plain::says_opened(list, number, sub)
+        );
     }
 }
 
