@@ -102,9 +102,11 @@ fn openings(rt: HostRuntime) -> Result<(), Fail> {
 #[test]
 fn lists_and_merges(rt: HostRuntime) -> Result<(), Fail> {
     let reports = two_reports().ok_or("reports")?;
-    let all = board(rt.alloc(), &reports)?;
-    let mut merged = board(rt.alloc(), &reports[1..])?;
-    merged.merge(&board(rt.alloc(), &reports[..1])?)?;
+    let list = &reports[..];
+    let all = board(rt.alloc(), list)?;
+    let mut merged = board(rt.alloc(), &list[1..])?;
+    let first = board(rt.alloc(), &list[..1])?;
+    merged.merge(&first)?;
     assert!(rt; all == merged && all.covers(&merged) && merged.covers(&all));
     Ok(())
 }

@@ -106,7 +106,8 @@ fn in_groups(alloc: Global, list: &[Report], front: usize) -> Result<Board, Allo
     let (first, rest) = list.split_at(front.min(list.len()));
     let mut board = Board::new(alloc);
     board.take_all(first)?;
-    board.merge(&one_by_one(alloc, rest)?)?;
+    let other = one_by_one(alloc, rest)?;
+    board.merge(&other)?;
     for report in list.iter().step_by(2) {
         board.take(report)?;
     }
