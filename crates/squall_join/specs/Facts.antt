@@ -1,6 +1,6 @@
 -- A value as the set of its facts (this project).
-use Rattle.std.specs.Prelude.{◌≡◌, ℕ, ◌<◌, Bool, true, false, cond, not, ◌||◌, nat_lt, max, List, [], Option, None, Some, ◌⊎◌, refl}
-use Rattle.std.proofs.Common.{sym, ap, subst, ◌∙◌, arith, inl, inr}
+use Rattle.std.specs.Prelude.{◌≡◌, ℕ, ◌<◌, Bool, true, false, ◌||◌, nat_lt, max, List, [], Option, None, Some, ◌⊎◌, refl}
+use Rattle.std.proofs.Common.{sym, ap, ◌∙◌, arith, inl, inr}
 use Rattle.std.proofs.lemmas.Bool.{cases_lt}
 use Rattle.std.proofs.lemmas.Bool.Decides.{nat_tests}
 use Rattle.std.specs.declared.cmp.Ordering.{Ordering}
@@ -8,10 +8,7 @@ use Rattle.std.specs.Cmp.{IsTotalOrder}
 use Rattle.std.specs.FinMap.Entries.{find}
 use Rattle.std.proofs.lemmas.Map.Lookups.{CmpEqualImpliesEq}
 use Rattle.squall_join.specs.declared.pair.Pair.{Pair}
-use Rattle.squall_join.specs.declared.flat.Flat.{Flat}
-use Rattle.squall_join.specs.declared.flat.Flat.TheVariants.{Unknown, One, Clash}
 use Rattle.squall_join.specs.Laws.{JoinLaws}
-use Rattle.squall_join.specs.Flats.{IsExactEq, flat_bottom, flat_is, flat_join}
 use Rattle.squall_join.specs.Basic.{is_max}
 use Rattle.squall_join.specs.Pairs.{pair_of, pair_is, pair_join, same_pair}
 use Rattle.squall_join.specs.Entries.{join_found, merged, IsKept, IsMap}
@@ -67,100 +64,6 @@ set_factual = record {
   same = same_spans;
 }
 
--- the facts of one value or a clash: whether anything came, and for each p whether anything but p came
-abbrev pub flat_says : {T : Type 0} → (T → T → Bool) → Flat T → Option T → Bool
-flat_says eq Unknown f = false
-flat_says eq (One x) None = true
-flat_says eq (One x) (Some p) = not (eq x p)
-flat_says eq Clash f = true
-
-or_itself : (a : Bool) → a ≡ (a || a)
-or_itself true = refl
-or_itself false = refl
-
-or_false : (a : Bool) → a ≡ (a || false)
-or_false true = refl
-or_false false = refl
-
-or_true : (a : Bool) → true ≡ (a || true)
-or_true true = refl
-or_true false = refl
-
-true_false : true ≡ false → ⊥
-true_false e = cc
-
-not_true : (a : Bool) → false ≡ not a → a ≡ true
-not_true true e = refl
-not_true false e = absurd (true_false (sym e))
-
-module _ {T : Type 0} {P : T → Type 0} {eq : T → T → Bool} (e : IsExactEq P eq) where
-  -- of two different values one differs from p
-  one_differs : (x y p : T) → P x → P y → P p → eq x y ≡ false → true ≡ (not (eq x p) || not (eq y p))
-  one_differs x y p a b c n =
-      elim (eq x p) as (λ u. eq x p ≡ u → true ≡ (not u || not (eq y p))) [
-        | false ↦ λ u. refl
-        | true ↦ λ u. elim (eq y p) as (λ v. eq y p ≡ v → true ≡ not v) [
-          | false ↦ λ v. refl
-          | true ↦ λ v. let s : x ≡ y = e.same x p a c u ∙ sym (e.same y p b c v) in absurd (true_false (sym (subst (λ z. eq x z ≡ true) s (e.itself x a)) ∙ n))
-        ] refl
-      ] refl
-
-  joined_flat_says : (x y : Flat T) → flat_is P x → flat_is P y → (f : Option T) → Found P f → flat_says eq (flat_join eq x y) f ≡ (flat_says eq x f || flat_says eq y f)
-  joined_flat_says Unknown y a b f c = refl
-  joined_flat_says Clash y a b f c = refl
-  joined_flat_says (One x) Unknown a b None c = refl
-  joined_flat_says (One x) Unknown a b (Some p) c = or_false (not (eq x p))
-  joined_flat_says (One x) Clash a b None c = refl
-  joined_flat_says (One x) Clash a b (Some p) c = or_true (not (eq x p))
-  joined_flat_says (One x) (One y) a b None c = elim (eq x y) as (λ t. flat_says eq (cond t (One x) Clash) None ≡ true) [ true ↦ refl | false ↦ refl ]
-  joined_flat_says (One x) (One y) a b (Some p) c =
-      elim (eq x y) as (λ t. eq x y ≡ t → flat_says eq (cond t (One x) Clash) (Some p) ≡ (not (eq x p) || not (eq y p))) [
-        | true ↦ λ t. subst (λ z. not (eq x p) ≡ (not (eq x p) || not (eq z p))) (e.same x y a b t) (or_itself (not (eq x p)))
-        | false ↦ one_differs x y p a b c
-      ] refl
-
-  same_flat : (x y : Flat T) → flat_is P x → flat_is P y → ((f : Option T) → Found P f → flat_says eq x f ≡ flat_says eq y f) → x ≡ y
-  same_flat Unknown Unknown a b is = refl
-  same_flat Unknown (One y) a b is = absurd (true_false (sym (is None tt)))
-  same_flat Unknown Clash a b is = absurd (true_false (sym (is None tt)))
-  same_flat (One x) Unknown a b is = absurd (true_false (is None tt))
-  same_flat (One x) (One y) a b is = ap One (sym (e.same y x b a (not_true (eq y x) (sym (ap not (e.itself x a)) ∙ is (Some x) a))))
-  same_flat (One x) Clash a b is = absurd (true_false (sym (is (Some x) a) ∙ ap not (e.itself x a)))
-  same_flat Clash Unknown a b is = absurd (true_false (is None tt))
-  same_flat Clash (One y) a b is = absurd (true_false (is (Some y) b ∙ ap not (e.itself y b)))
-  same_flat Clash Clash a b is = refl
-
-any_fact : {T : Type 0} → (f : Option T) → Found (λ _. Unit {0}) f
-any_fact None = tt
-any_fact (Some p) = tt
-
--- where the test is exact on all values
-pub flat_factual : {T : Type 0} {eq : T → T → Bool} → IsExactEq (λ _. Unit {0}) eq → Factual (flat_is (λ _. Unit {0})) flat_bottom (flat_join eq) (flat_says eq)
-flat_factual e = record {
-  at_bottom = λ f. refl;
-  at_join = λ x y a b f. joined_flat_says e x y a b f (any_fact f);
-  same = λ x y a b is. same_flat e x y a b (λ f c. is f);
-}
-
-module _ {T : Type 0} (P : T → Type 0) (eq : T → T → Bool) where
-  -- the facts of one value or a clash, of which each that names a value names one with P
-  abbrev pub flat_says_among : Flat T → Option ((p : T) × P p) → Bool
-  flat_says_among x None = flat_says eq x None
-  flat_says_among x (Some f) = flat_says eq x (Some f.0)
-
-module _ {T : Type 0} {P : T → Type 0} {eq : T → T → Bool} (e : IsExactEq P eq) where
-  fact_among : (x y : Flat T) → ((f : Option ((p : T) × P p)) → flat_says_among P eq x f ≡ flat_says_among P eq y f) → (f : Option T) → Found P f → flat_says eq x f ≡ flat_says eq y f
-  fact_among x y is None c = is None
-  fact_among x y is (Some p) c = is (Some (p, c))
-
-  -- where the test is exact on the values with P
-  pub flat_factual_among : Factual (flat_is P) flat_bottom (flat_join eq) (flat_says_among P eq)
-  flat_factual_among = record {
-    at_bottom = elim [ None ↦ refl | Some f ↦ refl ];
-    at_join = λ x y a b. elim [ None ↦ joined_flat_says e x y a b None tt | Some f ↦ joined_flat_says e x y a b (Some f.0) f.1 ];
-    same = λ x y a b is. same_flat e x y a b (fact_among x y is);
-  }
-
 module _ {A B F G : Type 0} where
   -- the facts of a pair: those of the first half, and those of the second
   abbrev pub pair_says : (A → F → Bool) → (B → G → Bool) → Pair A B → F ⊎ G → Bool
@@ -190,6 +93,10 @@ module _ {K V F : Type 0} (R : K → K → Ordering) (says : V → F → Bool) w
 
   pub map_says_some : (es : List (K × V)) (k : K) (v : V) (f : F) → Some v ≡ find R k es → says v f ≡ map_says es (k, f)
   map_says_some es k v f e = ap (λ w. found_says says w f) e
+
+or_false : (a : Bool) → a ≡ (a || false)
+or_false true = refl
+or_false false = refl
 
 module _ {K V F : Type 0} {R : K → K → Ordering} (o : IsTotalOrder R) (exact : CmpEqualImpliesEq R) {is_value : V → Type 0} {bottom : V} {join : V → V → V} {says : V → F → Bool} (l : JoinLaws is_value bottom join) (m : Factual is_value bottom join says) where
   joined_says : (x y : Option V) → Found is_value x → Found is_value y → (f : F) → found_says says (join_found join x y) f ≡ (found_says says x f || found_says says y f)
