@@ -10,6 +10,7 @@ pub use Rattle.squall_report.specs.Told
 pub mod Boards
 pub mod BoardLaws
 pub mod Listed
+pub mod ListedLaws
 pub mod Route
 pub mod Equal
 pub mod Newest

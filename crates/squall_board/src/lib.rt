@@ -2,12 +2,18 @@
 #![tactic(auto)]
 
 mod board;
+mod cell;
 mod laws;
+mod list;
+mod listed;
 mod newest;
 mod opening;
+mod put;
 
 pub use board::{Board, CellParts, Delta};
+pub use cell::Cell;
 pub use laws::{boards_that_tell_the_same_are_equal, boards_with_the_same_reports_are_equal};
+pub use listed::{lists_make_an_equal_board, lists_tell_what_the_board_tells};
 pub use opening::Opening;
 
 #[cfg(test)]
