@@ -1,1 +1,3 @@
+mod listed;
+
 use super::*;
