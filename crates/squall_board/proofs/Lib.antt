@@ -1,2 +1,3 @@
-mod Lists
 mod Merged
+mod Lists
+mod PutAgain

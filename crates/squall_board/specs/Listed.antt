@@ -112,9 +112,10 @@ abbrev pub OpeningsRise : List Opening → Type 0
 OpeningsRise [] = Unit {0}
 OpeningsRise (o ∷ os) = AllByRecursion (λ q. o.number < q.number) os × OpeningsRise os
 
--- the numbers rise, and the counts say of openings what the board says
+-- the numbers rise, each opening lies within its limits, and the counts say of openings what the board says
 pub record AreOpenings (b : BoardValue) (os : List Opening) : Type 0 where
   pub rise : OpeningsRise os
+  pub within : AllByRecursion IsOpening os
   pub opened : (n s : ℕ) → says b (OpenedSub n s) ≡ openings_say os (OpenedSub n s)
 
 -- ---- issues
@@ -132,9 +133,10 @@ abbrev pub IssuesRise : List (ℕ × Flat PlanPair) → Type 0
 IssuesRise [] = Unit {0}
 IssuesRise (e ∷ es) = AllByRecursion (λ d. e.0 < d.0) es × IssuesRise es
 
--- the numbers rise, and the entries issue what the board issues
+-- the numbers rise, from 1 on, and the entries issue what the board issues
 pub record AreIssues (b : BoardValue) (es : List (ℕ × Flat PlanPair)) : Type 0 where
   pub rise : IssuesRise es
+  pub within : AllByRecursion (λ e. 1 ≤ e.0) es
   pub issued : (n : ℕ) → issued b n ≡ entries_issue es n
 
 -- what openings, issues and cells tell together

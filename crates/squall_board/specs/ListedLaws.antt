@@ -303,13 +303,6 @@ counts_rise : (counts : Openings) → KeysRise counts → OpeningsRise (openings
 counts_rise [] r = tt
 counts_rise (e ∷ es) r = (all_map opening_at (λ q. e.0 < q.number) es r.0, counts_rise es r.1)
 
--- the openings of a board rise, and say what it says
-pub openings_listed : (b : BoardValue) → IsBoard b → AreOpenings b (openings_of b)
-openings_listed b is = record {
-  rise = counts_rise b.first.first (keys_rise b.first.first is.nested.0.0.sorted);
-  opened = λ n s. says_some max_says b.first.first (keys_rise b.first.first is.nested.0.0.sorted) n s ∙ sym (any_map opening_at (λ o. count_says o.number o.count (OpenedSub n s)) b.first.first);
-}
-
 kept_count : (n count : ℕ) → count ≢ 0 → ((s : ℕ) → max_says count s ≡ true → is_opening n s ≡ true) → IsOpening (opening_at (n, count))
 kept_count n zero k h = absurd (k refl)
 kept_count n (suc m) k h =
@@ -323,6 +316,14 @@ openings_within b is = all_map opening_at IsOpening b.first.first
     (within max_says (λ n s. is_opening n s ≡ true) b.first.first (keys_rise b.first.first is.nested.0.0.sorted) (λ n s t. is.facts (OpenedSub n s) t))
     is.nested.0.0.kept
     (λ e said kept. kept_count e.0 e.1 kept.1 said))
+
+-- the openings of a board rise, lie within their limits, and say what it says
+pub openings_listed : (b : BoardValue) → IsBoard b → AreOpenings b (openings_of b)
+openings_listed b is = record {
+  rise = counts_rise b.first.first (keys_rise b.first.first is.nested.0.0.sorted);
+  within = openings_within b is;
+  opened = λ n s. says_some max_says b.first.first (keys_rise b.first.first is.nested.0.0.sorted) n s ∙ sym (any_map opening_at (λ o. count_says o.number o.count (OpenedSub n s)) b.first.first);
+}
 
 -- ---- issues
 
@@ -343,13 +344,6 @@ issues_rise : (es : List (ℕ × Flat PlanPair)) → KeysRise es → IssuesRise 
 issues_rise [] r = tt
 issues_rise (e ∷ es) r = (r.0, issues_rise es r.1)
 
--- what is issued rises, and is what the board issues
-pub issues_listed : (b : BoardValue) → IsBoard b → AreIssues b (issues_of b)
-issues_listed b is = record {
-  rise = issues_rise b.first.second (keys_rise b.first.second is.nested.0.1.sorted);
-  issued = issue_some b.first.second (keys_rise b.first.second is.nested.0.1.sorted);
-}
-
 issues_within_some : (es : List (ℕ × Flat PlanPair)) → KeysRise es → AllByRecursion (λ e. IsKept issue_is Unknown e.1) es → ((n : ℕ) → (1 ≤ n) ⊎ (entries_issue es n ≡ Unknown)) → AllByRecursion (λ e. 1 ≤ e.0) es
 issues_within_some [] r k h = tt
 issues_within_some (e ∷ es) r k h = (
@@ -364,6 +358,14 @@ issues_within_some (e ∷ es) r k h = (
 -- what a board holds issued is under numbers from 1 on
 pub issues_within : (b : BoardValue) → IsBoard b → AllByRecursion (λ e. 1 ≤ e.0) (issues_of b)
 issues_within b is = issues_within_some b.first.second (keys_rise b.first.second is.nested.0.1.sorted) is.nested.0.1.kept (λ n. ⊎_elim (λ le. inl le) (λ u. inr (sym (issue_some b.first.second (keys_rise b.first.second is.nested.0.1.sorted) n) ∙ u)) (is.issues n))
+
+-- what is issued rises, under numbers from 1 on, and is what the board issues
+pub issues_listed : (b : BoardValue) → IsBoard b → AreIssues b (issues_of b)
+issues_listed b is = record {
+  rise = issues_rise b.first.second (keys_rise b.first.second is.nested.0.1.sorted);
+  within = issues_within b is;
+  issued = issue_some b.first.second (keys_rise b.first.second is.nested.0.1.sorted);
+}
 
 -- ---- what the lists tell
 

@@ -39,6 +39,7 @@ impl Random {
     /// The same as a `u32`.
     fn small(&mut self, n: u32) -> u32
         requires { 0 < n }
+        ensures { result < n }
     {
         u32::try_from(self.below(n as u64)).unwrap_or(0)
     }
