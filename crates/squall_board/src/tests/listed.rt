@@ -117,7 +117,7 @@ fn cells_put_again(rt: HostRuntime) -> Result<(), Fail> {
     let board = loaded(rt.alloc()).ok_or("a board")?;
     let mut again = Board::new(rt.alloc());
     put_cells(&mut again, &board.cells()?)?;
-    assert!(rt; again.same(&board));
+    assert!(rt; again == board);
     Ok(())
 }
 
@@ -138,7 +138,7 @@ fn an_opening_put(rt: HostRuntime) -> Result<(), Fail> {
 fn all_put_again(rt: HostRuntime) -> Result<(), Fail> {
     let board = full(rt.alloc()).ok_or("a board")?;
     let again = put_again(&board)?;
-    assert!(rt; again.same(&board));
+    assert!(rt; again == board);
     assert!(rt; matches!(again.issuing(2), Flat::One(_)));
     Ok(())
 }
@@ -168,7 +168,7 @@ fn tolerant_cells(rt: HostRuntime) -> Result<(), Fail> {
     if let Ok(cells) = board.cells() {
         assert!(rt; cells.len() == 2);
     }
-    assert!(rt; board.same(&before));
+    assert!(rt; board == before);
     Ok(())
 }
 
@@ -180,7 +180,7 @@ fn tolerant_openings(rt: HostRuntime) -> Result<(), Fail> {
     if let Ok(openings) = board.openings() {
         assert!(rt; openings.len() == 1);
     }
-    assert!(rt; board.same(&before));
+    assert!(rt; board == before);
     Ok(())
 }
 
@@ -192,7 +192,7 @@ fn tolerant_issues(rt: HostRuntime) -> Result<(), Fail> {
     if let Ok(issues) = board.issues() {
         assert!(rt; issues.len() == 1);
     }
-    assert!(rt; board.same(&before));
+    assert!(rt; board == before);
     Ok(())
 }
 
@@ -206,7 +206,7 @@ fn tolerant_put_cell(rt: HostRuntime) -> Result<(), Fail> {
     if board.put_cell(&cell).is_ok() {
         assert!(rt; board.says_done(2, 1, 3) && board.covers(&before));
     } else {
-        assert!(rt; board.same(&before));
+        assert!(rt; board == before);
     }
     Ok(())
 }
