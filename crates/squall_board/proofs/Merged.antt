@@ -4,12 +4,14 @@ use Rattle.std.proofs.Common.{sym, ap, subst, ◌∙◌, take, get_or}
 use Rattle.std.proofs.lemmas.List.{take_more}
 use Rattle.std.proofs.lemmas.Result.{on_ok_weaker}
 use Rattle.std.specs.declared.alloc.AllocError.{AllocError}
+use Rattle.std.specs.Ordering.{nat_cmp}
+use Rattle.squall_join.specs.Pairs.{pair_of, same_pair}
+use Rattle.squall_join.specs.Entries.{merged}
 use Rattle.squall_report.specs.declared.report.ReportKind.{ReportKind}
 use Rattle.squall_report.specs.Issues.{PlanPair}
-use Rattle.squall_report.specs.Facts.{Fact}
-use Rattle.squall_report.specs.Told.{both_issued, told_by_report, told_by, SameTold, TellsBoth, TellsAll}
-use Rattle.squall_board.specs.Boards.{BoardValue, board_join, report_board, issued, says, told, IsBoard, HasTaken}
-use Rattle.squall_board.specs.BoardLaws.{board_laws, tells_both, same_board, join_is, joined_tells, report_tells, has_both, one_tells}
+use Rattle.squall_report.specs.Told.{both_issued, told_by_report, told_by, TellsBoth, TellsAll}
+use Rattle.squall_board.specs.Boards.{BoardValue, CellValue, Cells, Subs, cell_join, cell_board, board_join, report_board, issued, says, told, IsBoard, HasTaken}
+use Rattle.squall_board.specs.BoardLaws.{board_laws, tells_both, same_board, join_is, report_tells, has_both, one_tells}
 
 pub merged_is : (r : Result (Unit {0}) AllocError) (new x y : BoardValue) → OnOk r (new ≡ board_join x y) → OnErr r (new ≡ x) → IsBoard x → IsBoard y → IsBoard new
 merged_is (Ok u) new x y ok err a b = subst IsBoard (sym ok) (join_is x y a b)
@@ -22,6 +24,23 @@ merged_tells r new x y z w is too ok a b = on_ok_weaker r (λ (e : new ≡ board
 pub merged_taken : (r : Result (Unit {0}) AllocError) (new x y z w : BoardValue) → x ≡ z → y ≡ w → OnOk r (new ≡ board_join x y) → IsBoard x → IsBoard y
     → OnOk r ((rs qs : List (ReportKind PlanPair)) → HasTaken z rs → HasTaken w qs → HasTaken new (rs ++ qs))
 merged_taken r new x y z w is too ok a b = on_ok_weaker r (λ (both : TellsBoth (told new) (told z) (told w)) rs qs h g. has_both (told new) (told z) (told w) rs qs both h g) (merged_tells r new x y z w is too ok a b)
+
+-- ---- one cell, which is joined into the cells alone
+
+merged_none : {V : Type 0} (join : V → V → V) (es : List (ℕ × V)) → merged nat_cmp join es [] ≡ es
+merged_none join [] = refl
+merged_none join (e ∷ es) = refl
+
+-- the other halves stay as they are
+pub cell_put : (r : Result (Unit {0}) AllocError) (new : Cells) (x : BoardValue) (n s p : ℕ) (cell : CellValue) (added : Subs) → added ≡ (s, (p, cell) ∷ []) ∷ [] → OnOk r (new ≡ merged nat_cmp (merged nat_cmp (merged nat_cmp cell_join)) x.second ((n, added) ∷ []))
+    → OnOk r (pair_of x.first new ≡ board_join x (cell_board n s p cell))
+cell_put r new x n s p cell added is ok = on_ok_weaker r (λ (e : new ≡ merged nat_cmp (merged nat_cmp (merged nat_cmp cell_join)) x.second ((n, added) ∷ [])). same_pair _ _ _ _
+    (same_pair _ _ _ _ (sym (merged_none _ x.first.first)) (sym (merged_none _ x.first.second)))
+    (e ∙ ap (λ (subs : Subs). merged nat_cmp (merged nat_cmp (merged nat_cmp cell_join)) x.second ((n, subs) ∷ [])) is)) ok
+
+pub cell_not_put : (r : Result (Unit {0}) AllocError) (new : Cells) (x : BoardValue) → OnErr r (new ≡ x.second) → OnErr r (pair_of x.first new ≡ x)
+cell_not_put (Ok u) new x err = tt
+cell_not_put (Err e) new x err = ap (λ (cells : Cells). pair_of x.first cells) err
 
 -- the board of a report has taken that report
 report_taken : (r : ReportKind PlanPair) → HasTaken (report_board r) (r ∷ [])

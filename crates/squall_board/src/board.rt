@@ -1,23 +1,24 @@
 //! Boards as nested joins.
 
-ghost use Rattle.std.specs.Prelude.{◌≡◌, ◌≢◌, ◌≤◌, ◌<◌, ◌+◌, ◌++◌, ◌∷◌, [], List, ℕ, true, nat_lt, IfOk, OnOk, OnErr, IsTrue, ◌↔◌, option_copied};
+ghost use Rattle.std.specs.Prelude.{◌≡◌, ◌≤◌, ◌<◌, ◌+◌, ◌++◌, ◌∷◌, [], List, ℕ, true, false, nat_lt, IfOk, OnOk, OnErr, IsTrue, ◌↔◌, option_copied};
 ghost use Rattle.std.specs.Arc.{arc_value};
 ghost use Rattle.squall_key.specs.Keys.{part_limit};
 ghost use Rattle.squall_join.specs.Flats.{flat_map};
+ghost use Rattle.squall_join.specs.Pairs.{pair_of};
 ghost use Rattle.squall_report.specs.declared.report.ReportKind.{ReportKind};
 ghost use Rattle.squall_report.specs.Issues.{PlanPair};
 ghost use Rattle.squall_report.specs.Facts.{Fact, LoadedKey, DonePart, OpenedSub, are_numbers};
 ghost use Rattle.squall_report.specs.Told.{TellsBoth, TellsAll, told_by_report, told_by};
-ghost use Rattle.squall_board.specs.Boards.{IsBoard, HasTaken, empty_board, board_join, report_board, cell_board, opening_board, issue_board, cell_bottom, found_in, cell_of, opened_count, issued, says, told};
+ghost use Rattle.squall_board.specs.Boards.{IsBoard, HasTaken, empty_board, board_join, report_board, cell_board, opening_board, issue_board, found_in, cell_of, opened_count, issued, says, told};
 ghost use Rattle.squall_board.specs.Equal.{is_same_board, boards_equal};
 ghost use Rattle.squall_board.specs.Route.{route};
 ghost use Rattle.std.specs.Cmp.{partial_equiv_from_equiv};
 
 use squall_course::Course;
-use squall_join::{Flag, Flat, Join, JoinMap, Max, Pair, Shared};
+use squall_join::{Entry, Flag, Flat, Join, JoinMap, Max, Pair, Piece, Shared};
 use squall_key::{Key, PartId};
 use squall_report::{Issue, Report, ReportKind};
-use squall_span::SpanSet;
+use squall_span::{Span, SpanSet};
 use std::alloc::{AllocError, Global};
 use std::marker::Model;
 use std::sync::Arc;
@@ -64,26 +65,45 @@ impl Model for Board {
     ghost invariant = { λ b. IsBoard b.parts };
 }
 
-/// The board of one cell.
-pub(crate) fn cell_board(
-    alloc: Global,
-    number: u32,
-    sub: u32,
-    part: u32,
-    cell: CellParts,
-) -> Result<Board, AllocError>
-    requires numbers { are_numbers number sub part ≡ true }
-    requires kept { cell ≢ cell_bottom }
-    ensures { IfOk result (λ b. b ≡ cell_board number sub part cell) }
-{
-    cell.known();
-    let parts = JoinMap::single(alloc, part, cell)?;
-    let subs = JoinMap::single(alloc, sub, parts)?;
-    let cells = JoinMap::single(alloc, number, subs)?;
-    let first = Pair::new(JoinMap::empty(alloc), JoinMap::empty(alloc));
-    Ok(Board {
-        parts: Pair::new(first, cells),
-    })
+/// A load of a cell: the keys of a span.
+#[derive(Clone, Copy)]
+struct Load {
+    span: Span,
+}
+
+impl Piece<CellParts> for Load {
+    ghost whole = { λ load. pair_of (load.span ∷ []) false };
+
+    fn known(&self) {
+        let _lo = self.span.lo();
+    }
+
+    fn make(&self, alloc: Global) -> Result<CellParts, AllocError> {
+        let keys = SpanSet::of(alloc, &self.span)?;
+        Ok(Pair::new(keys, Flag::new(false)))
+    }
+
+    fn put_in(&self, _alloc: Global, target: &mut CellParts) -> Result<(), AllocError> {
+        target.first.insert(self.span)
+    }
+}
+
+/// The completion of a cell's partition.
+#[derive(Clone, Copy)]
+struct Completion;
+
+impl Piece<CellParts> for Completion {
+    ghost whole = { λ _. pair_of [] true };
+
+    fn known(&self) {}
+
+    fn make(&self, alloc: Global) -> Result<CellParts, AllocError> {
+        Ok(Pair::new(SpanSet::empty(alloc), Flag::new(true)))
+    }
+
+    fn put_in(&self, alloc: Global, target: &mut CellParts) -> Result<(), AllocError> {
+        target.second.join_in(alloc, &Flag::new(true))
+    }
 }
 
 /// The board of one count of opened sub-plans.
@@ -113,32 +133,6 @@ pub(crate) fn issue_board(
     Ok(Board {
         parts: Pair::new(first, JoinMap::empty(alloc)),
     })
-}
-
-/// The board of one report.
-fn report_board(alloc: Global, report: &Report) -> Result<Board, AllocError>
-    ensures { IfOk result (λ b. b ≡ report_board report.now) }
-{
-    match report.kind() {
-        ReportKind::Loaded {
-            number,
-            sub,
-            part,
-            span,
-        } => {
-            let cell = Pair::new(SpanSet::of(alloc, &span)?, Flag::new(false));
-            cell_board(alloc, number, sub, part, cell)
-        }
-        ReportKind::Done { number, sub, part } => {
-            let cell = Pair::new(SpanSet::empty(alloc), Flag::new(true));
-            cell_board(alloc, number, sub, part, cell)
-        }
-        ReportKind::Opened { number, sub } => opening_board(alloc, number, sub + 1),
-        ReportKind::Issued { number, issue } => {
-            let issue = Shared::new(Arc::try_clone(issue)?);
-            issue_board(alloc, number, Flat::One(issue))
-        }
-    }
 }
 
 /// The board of a list of reports.
@@ -194,8 +188,44 @@ impl Board {
         ensures taken { OnOk result ((rs : List (ReportKind PlanPair)) → HasTaken self.old rs → HasTaken self.new (rs ++ report.now ∷ [])) }
         ensures err { OnErr result (self.new ≡ self.old) }
     {
-        let delta = report_board(self.allocator(), report)?;
-        self.merge(&delta)
+        match report.kind() {
+            ReportKind::Loaded {
+                number,
+                sub,
+                part,
+                span,
+            } => self.put_cell(number, sub, part, Load { span }),
+            ReportKind::Done { number, sub, part } => self.put_cell(number, sub, part, Completion),
+            ReportKind::Opened { number, sub } => {
+                let delta = opening_board(self.allocator(), number, sub + 1)?;
+                self.merge(&delta)
+            }
+            ReportKind::Issued { number, issue } => {
+                let issue = Shared::new(Arc::try_clone(issue)?);
+                let delta = issue_board(self.allocator(), number, Flat::One(issue))?;
+                self.merge(&delta)
+            }
+        }
+    }
+
+    /// Joins a piece into a cell, or puts the cell that it stands for where there was none.
+    fn put_cell<P: Piece<CellParts>>(
+        &mut self,
+        number: u32,
+        sub: u32,
+        part: u32,
+        piece: P,
+    ) -> Result<(), AllocError>
+        requires { are_numbers number sub part ≡ true }
+        ensures board { OnOk result (self.new ≡ board_join self.old (cell_board number sub part (P.whole piece))) }
+        ensures told { OnOk result (TellsBoth (told self.new) (told self.old) (told (cell_board number sub part (P.whole piece)))) }
+        ensures taken { OnOk result ((rs qs : List (ReportKind PlanPair)) → HasTaken self.old rs → HasTaken (cell_board number sub part (P.whole piece)) qs → HasTaken self.new (rs ++ qs)) }
+        ensures err { OnErr result (self.new ≡ self.old) }
+    {
+        piece.known();
+        let alloc = self.allocator();
+        let entry = Entry::new(sub, Entry::new(part, piece));
+        self.parts.second.join_piece(alloc, number, &entry)
     }
 
     /// Takes each report of the list, or none of them. The error comes where memory ran out, and

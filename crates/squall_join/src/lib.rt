@@ -11,6 +11,7 @@ mod laws;
 mod map;
 mod merge;
 mod pair;
+mod piece;
 mod set;
 mod shared;
 
@@ -24,6 +25,7 @@ pub use laws::{
 };
 pub use map::{JoinMap, MapKey};
 pub use pair::Pair;
+pub use piece::{Entry, Piece};
 pub use shared::Shared;
 
 #[cfg(test)]

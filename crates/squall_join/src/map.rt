@@ -27,7 +27,7 @@ impl MapKey for u32 {
 /// each key the join of both values.
 #[derive(Drop)]
 pub struct JoinMap<K: MapKey, V: Join> {
-    entries: Vec<(K, V)>,
+    pub(crate) entries: Vec<(K, V)>,
 }
 
 impl<K: MapKey, V: Join> Model for JoinMap<K, V> {
@@ -106,7 +106,7 @@ impl<K: MapKey, V: Join> JoinMap<K, V> {
     }
 
     /// Where the key is, or where it would go.
-    fn search(&self, key: K) -> Result<usize, usize>
+    pub(crate) fn search(&self, key: K) -> Result<usize, usize>
         ensures found { IfOk result (IsAt K.cmp self.now key) }
         ensures absent { IfErr result (IsGap K.cmp self.now key) }
     {

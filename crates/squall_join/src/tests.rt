@@ -1,5 +1,6 @@
 //! Tests of joins.
 
+mod pieces;
 mod shared;
 mod tolerant;
 

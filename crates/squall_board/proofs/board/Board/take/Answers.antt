@@ -1,5 +1,20 @@
+use Rattle.std.proofs.Common.{◌≡◌, ap, rules}
+use Rattle.squall_board.specs.Boards.{report_board}
 use Rattle.squall_board.proofs.Merged.{took}
 use Rattle.squall_board.proofs.board.Board.take.Goals as goal
 
-pub returns-clause-taken : goal.returns-clause-taken
-returns-clause-taken c = took c.merge.result c.merge.new.self c.args.self.now c.in_ok-delta.delta c.args.report.now c.in_ok-delta.ensures c.merge.ensures.taken
+pub returns-in-Loaded-clause-taken : goal.returns-in-Loaded-clause-taken
+returns-in-Loaded-clause-taken c = took c.put_cell.result c.put_cell.new.self c.args.self.now _ c.args.report.now (ap report_board c.in-Loaded.ensures.kind) c.put_cell.ensures.taken
+
+pub returns-in-Done-clause-taken : goal.returns-in-Done-clause-taken
+returns-in-Done-clause-taken c = took c.put_cell-in-Done.result c.put_cell-in-Done.new.self c.args.self.now _ c.args.report.now (ap report_board c.in-Done.ensures.kind) c.put_cell-in-Done.ensures.taken
+
+pub returns-in_ok-delta-in-Opened-clause-taken : goal.returns-in_ok-delta-in-Opened-clause-taken
+returns-in_ok-delta-in-Opened-clause-taken c =
+    let is : c.in_ok-delta-in-Opened.delta ≡ report_board c.args.report.now = search rules in
+    took c.merge.result c.merge.new.self c.args.self.now c.in_ok-delta-in-Opened.delta c.args.report.now is c.merge.ensures.taken
+
+pub returns-in_ok-delta-in-Issued-clause-taken : goal.returns-in_ok-delta-in-Issued-clause-taken
+returns-in_ok-delta-in-Issued-clause-taken c =
+    let is : c.in_ok-delta-in-Issued.delta ≡ report_board c.args.report.now = search rules in
+    took c.merge-in-Issued.result c.merge-in-Issued.new.self c.args.self.now c.in_ok-delta-in-Issued.delta c.args.report.now is c.merge-in-Issued.ensures.taken
