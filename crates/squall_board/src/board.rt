@@ -1,6 +1,6 @@
 //! Boards as nested joins.
 
-ghost use Rattle.std.specs.Prelude.{◌≡◌, ◌≤◌, ◌<◌, ◌+◌, ◌++◌, ◌∷◌, [], List, ℕ, true, false, nat_lt, IfOk, OnOk, OnErr, IsTrue, ◌↔◌, option_copied};
+ghost use Rattle.std.specs.Prelude.{◌≡◌, ◌≢◌, ◌≤◌, ◌<◌, ◌+◌, ◌++◌, ◌∷◌, [], List, ℕ, true, false, nat_lt, IfOk, OnOk, OnErr, IsTrue, ◌↔◌, option_copied};
 ghost use Rattle.std.specs.Arc.{arc_value};
 ghost use Rattle.squall_key.specs.Keys.{part_limit};
 ghost use Rattle.squall_join.specs.Flats.{flat_map};
@@ -9,7 +9,7 @@ ghost use Rattle.squall_report.specs.declared.report.ReportKind.{ReportKind};
 ghost use Rattle.squall_report.specs.Issues.{PlanPair};
 ghost use Rattle.squall_report.specs.Facts.{Fact, LoadedKey, DonePart, OpenedSub, are_numbers};
 ghost use Rattle.squall_report.specs.Told.{TellsBoth, TellsAll, told_by_report, told_by};
-ghost use Rattle.squall_board.specs.Boards.{IsBoard, HasTaken, empty_board, board_join, report_board, cell_board, opening_board, issue_board, found_in, cell_of, opened_count, issued, says, told};
+ghost use Rattle.squall_board.specs.Boards.{IsBoard, HasTaken, empty_board, board_join, report_board, cell_board, opening_board, issue_board, cell_bottom, found_in, cell_of, opened_count, issued, says, told};
 ghost use Rattle.squall_board.specs.Equal.{is_same_board, boards_equal};
 ghost use Rattle.squall_board.specs.Route.{route};
 ghost use Rattle.std.specs.Cmp.{partial_equiv_from_equiv};
@@ -63,6 +63,28 @@ impl Model for Board {
     ghost view = { λ b. b.parts };
 
     ghost invariant = { λ b. IsBoard b.parts };
+}
+
+/// The board of one cell.
+pub(crate) fn cell_board(
+    alloc: Global,
+    number: u32,
+    sub: u32,
+    part: u32,
+    cell: CellParts,
+) -> Result<Board, AllocError>
+    requires numbers { are_numbers number sub part ≡ true }
+    requires kept { cell ≢ cell_bottom }
+    ensures { IfOk result (λ b. b ≡ cell_board number sub part cell) }
+{
+    cell.known();
+    let parts = JoinMap::single(alloc, part, cell)?;
+    let subs = JoinMap::single(alloc, sub, parts)?;
+    let cells = JoinMap::single(alloc, number, subs)?;
+    let first = Pair::new(JoinMap::empty(alloc), JoinMap::empty(alloc));
+    Ok(Board {
+        parts: Pair::new(first, cells),
+    })
 }
 
 /// A load of a cell: the keys of a span.
@@ -194,8 +216,8 @@ impl Board {
                 sub,
                 part,
                 span,
-            } => self.put_cell(number, sub, part, Load { span }),
-            ReportKind::Done { number, sub, part } => self.put_cell(number, sub, part, Completion),
+            } => self.put_piece(number, sub, part, Load { span }),
+            ReportKind::Done { number, sub, part } => self.put_piece(number, sub, part, Completion),
             ReportKind::Opened { number, sub } => {
                 let delta = opening_board(self.allocator(), number, sub + 1)?;
                 self.merge(&delta)
@@ -209,7 +231,7 @@ impl Board {
     }
 
     /// Joins a piece into a cell, or puts the cell that it stands for where there was none.
-    fn put_cell<P: Piece<CellParts>>(
+    fn put_piece<P: Piece<CellParts>>(
         &mut self,
         number: u32,
         sub: u32,

@@ -31,8 +31,10 @@ pub trait Piece<V: Join>: Drop {
 /// One entry of a map, whose value is given by a piece. It stands for the map of that entry.
 #[derive(Drop)]
 pub struct Entry<K, P> {
-    key: K,
-    piece: P,
+    /// The key.
+    pub key: K,
+    /// The piece of its value.
+    pub piece: P,
 }
 
 impl<K, P> Entry<K, P> {

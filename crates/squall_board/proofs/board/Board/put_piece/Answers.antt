@@ -3,7 +3,7 @@ use Rattle.squall_join.specs.Pairs.{pair_of}
 use Rattle.squall_board.specs.Boards.{BoardValue, cell_board, board_join}
 use Rattle.squall_board.specs.BoardLaws.{cell_board_is}
 use Rattle.squall_board.proofs.Merged.{merged_is, merged_tells, merged_taken, cell_put, cell_not_put}
-use Rattle.squall_board.proofs.board.Board.put_cell.Goals as goal
+use Rattle.squall_board.proofs.board.Board.put_piece.Goals as goal
 
 pub invariant_of-self : goal.invariant_of-self
 invariant_of-self g c = merged_is c.join_piece.result (pair_of c.self.inside.parts.first c.join_piece.new.self) c.self.inside.parts (cell_board c.args.number c.args.sub c.args.part (g.P.Piece.whole c.args.piece))
