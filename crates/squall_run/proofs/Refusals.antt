@@ -7,11 +7,12 @@ use Rattle.squall_plan.specs.declared.range.PlanRange.{PlanRange}
 use Rattle.squall_plan.specs.declared.fault.PlanFault.{PlanFault}
 use Rattle.squall_plan.specs.Form.{plan_of_text}
 use Rattle.squall_report.specs.declared.report.ReportKind.{ReportKind}
-use Rattle.squall_report.specs.Facts.{done_of}
+use Rattle.squall_report.specs.Issues.{PlanPair}
+use Rattle.squall_report.specs.Facts.{done_of, opened_of}
 use Rattle.squall_lines.specs.Script.{Script}
 use Rattle.squall_lines.specs.Words.{without_cr, after_first_word}
 use Rattle.squall_run.specs.declared.command.Command.{Command}
-use Rattle.squall_run.specs.declared.command.Command.TheVariants.{Skip, Old, New, Loaded, Done, Route, Bad}
+use Rattle.squall_run.specs.declared.command.Command.TheVariants.{Skip, Old, New, Loaded, Done, Opened, Route, Bad}
 use Rattle.squall_run.specs.declared.scenario.Stage.{Stage}
 use Rattle.squall_run.specs.declared.scenario.Stage.TheVariants.{Unplanned, Planned, Running}
 use Rattle.squall_run.specs.declared.scenario.Scenario.{Scenario}
@@ -56,11 +57,11 @@ new_good s Unplanned text = tt
 new_good s (Planned old) text = new_plan_good s old (plan_of_text text)
 new_good s (Running course) text = tt
 
-take_good : (s : Scenario) (report : Option ReportKind) → NotBad (take_reply s report)
+take_good : (s : Scenario) (report : Option (ReportKind PlanPair)) → NotBad (take_reply s report)
 take_good s None = tt
 take_good s (Some report) = λ e. omega (arith, e)
 
-report_good : (s : Scenario) (stage : Stage) (report : Option ReportKind) → NotBad (report_reply s stage report)
+report_good : (s : Scenario) (stage : Stage) (report : Option (ReportKind PlanPair)) → NotBad (report_reply s stage report)
 report_good s Unplanned report = tt
 report_good s (Planned old) report = tt
 report_good s (Running course) report = take_good s report
@@ -76,6 +77,7 @@ reply_good s Old text = old_good s s.stage text
 reply_good s New text = new_good s s.stage text
 reply_good s (Loaded number sub part lo hi) text = report_good s s.stage (load_of (span_at lo hi) number sub part)
 reply_good s (Done number sub part) text = report_good s s.stage (done_of number sub part)
+reply_good s (Opened number sub) text = report_good s s.stage (opened_of number sub)
 reply_good s (Route key) text = route_good s s.stage key
 reply_good s (Bad reason) text = tt
 

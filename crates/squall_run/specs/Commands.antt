@@ -6,7 +6,7 @@ use Rattle.squall_key.specs.Numbers.{number_of}
 use Rattle.squall_key.specs.Keys.{key_of, bound_of}
 use Rattle.squall_lines.specs.Words.{words_of, only_word}
 use Rattle.squall_run.specs.declared.command.Command.{Command}
-use Rattle.squall_run.specs.declared.command.Command.TheVariants.{Skip, Old, New, Loaded, Done, Route, Bad}
+use Rattle.squall_run.specs.declared.command.Command.TheVariants.{Skip, Old, New, Loaded, Done, Opened, Route, Bad}
 use Rattle.squall_run.specs.declared.reason.Reason.TheVariants.{Long, Word}
 
 -- the number that the first word writes, and the words after it
@@ -41,6 +41,10 @@ done_in (n, s, p, word ∷ words) = None
 abbrev pub done_line : List (List ℕ) → Option Command
 done_line words = option_and_then done_in (cell_first words)
 
+-- opened N S
+abbrev pub opened_line : List (List ℕ) → Option Command
+opened_line words = option_and_then (λ (n : ℕ × List (List ℕ)). option_map (λ s. Opened n.0 s) (option_and_then number_of (only_word n.1))) (number_first words)
+
 -- route K
 abbrev pub route_line : List (List ℕ) → Option Command
 route_line words = option_map Route (option_and_then key_of (only_word words))
@@ -52,8 +56,9 @@ command_by name words = if bytes_eq name (codes "old") then Some Old
     else (if bytes_eq name (codes "new") then Some New
     else (if bytes_eq name (codes "loaded") then loaded_line words
     else (if bytes_eq name (codes "done") then done_line words
+    else (if bytes_eq name (codes "opened") then opened_line words
     else (if bytes_eq name (codes "route") then route_line words
-    else None))))
+    else None)))))
 
 -- a line without words, or whose first word begins with #, is skipped
 abbrev pub of_words : List (List ℕ) → Command

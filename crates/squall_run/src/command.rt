@@ -3,7 +3,7 @@
 ghost use Rattle.std.specs.Prelude.{◌≡◌, ℕ};
 ghost use Rattle.std.specs.Option.{option_map};
 ghost use Rattle.squall_lines.specs.Words.{words_of};
-ghost use Rattle.squall_run.specs.Commands.{number_first, two_words, cell_first, two_bounds, loaded_line, done_line, route_line, command_by, command_of};
+ghost use Rattle.squall_run.specs.Commands.{number_first, two_words, cell_first, two_bounds, loaded_line, done_line, opened_line, route_line, command_by, command_of};
 
 use crate::reason::Reason;
 use squall_key::{Bound, Key, read_number};
@@ -28,6 +28,10 @@ pub(crate) enum Command {
         number: u32,
         sub: u32,
         part: u32,
+    },
+    Opened {
+        number: u32,
+        sub: u32,
     },
     Route(Key),
     Bad(Reason),
@@ -96,6 +100,15 @@ fn done_line(rest: &[u8]) -> Option<Command>
     }
 }
 
+/// `opened N S`
+fn opened_line(rest: &[u8]) -> Option<Command>
+    ensures { result ≡ opened_line (words_of rest.now) }
+{
+    let (number, rest) = number_first(rest)?;
+    let sub = read_number(only_word(rest)?)?;
+    Some(Command::Opened { number, sub })
+}
+
 /// `route K`
 fn route_line(rest: &[u8]) -> Option<Command>
     ensures { result ≡ route_line (words_of rest.now) }
@@ -119,6 +132,9 @@ fn command_by(name: &[u8], rest: &[u8]) -> Option<Command>
     }
     if name == b"done".as_slice() {
         return done_line(rest);
+    }
+    if name == b"opened".as_slice() {
+        return opened_line(rest);
     }
     if name == b"route".as_slice() {
         return route_line(rest);

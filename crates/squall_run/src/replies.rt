@@ -157,6 +157,9 @@ fn obey(
         Command::Done { number, sub, part } => {
             take_report(scenario, Report::done(number, sub, part), out)
         }
+        Command::Opened { number, sub } => {
+            take_report(scenario, Report::opened(number, sub), out)
+        }
         Command::Route(key) => route(scenario, key, out),
         Command::Bad(reason) => Ok(Some(reason)),
     }
