@@ -10,4 +10,5 @@ pub use Rattle.squall_report.specs.Told
 pub mod Boards
 pub mod BoardLaws
 pub mod Listed
+pub mod ListedLaws
 pub mod Route

@@ -1,7 +1,8 @@
 -- What a board holds, as lists in rising order (this project).
-use Rattle.std.specs.Prelude.{◌≡◌, ℕ, ◌<◌, Bool, true, false, ◌||◌, ◌&&◌, map, List, [], ◌∷◌, Option, None, Some, ◌⊎◌, if◌then◌else◌}
+use Rattle.std.specs.Prelude.{◌≡◌, ℕ, ◌<◌, ◌≤◌, Bool, true, false, ◌||◌, ◌&&◌, map, List, [], ◌∷◌, Option, None, Some, ◌⊎◌, if◌then◌else◌}
 use Rattle.std.specs.List.{flat_map, list_any, AllByRecursion}
-use Rattle.squall_span.specs.Spans.{Interval}
+use Rattle.squall_key.specs.Keys.{part_limit}
+use Rattle.squall_span.specs.Spans.{Interval, IsCanonical}
 use Rattle.squall_join.specs.declared.flat.Flat.{Flat}
 use Rattle.squall_join.specs.declared.flat.Flat.TheVariants.{Unknown}
 use Rattle.squall_join.specs.Pairs.{pair_of}
@@ -9,7 +10,7 @@ use Rattle.squall_report.specs.Issues.{PlanPair}
 use Rattle.squall_report.specs.Facts.{Fact, LoadedKey, DonePart, OpenedSub, are_numbers}
 use Rattle.squall_report.specs.Told.{Told, both_issued}
 use Rattle.squall_board.specs.declared.opening.Opening.{Opening}
-use Rattle.squall_board.specs.Boards.{CellValue, Parts, Subs, Cells, BoardValue, says, issued, cell_says, count_says, one_issue}
+use Rattle.squall_board.specs.Boards.{CellValue, Parts, Subs, Cells, Openings, BoardValue, says, issued, cell_says, count_says, one_issue}
 
 -- ---- cells
 
@@ -21,8 +22,11 @@ pub record CellEntry : Type 0 where
   pub complete : Bool
   pub spans : List Interval
 
+abbrev pub entry_with : ℕ → ℕ → ℕ → Bool → List Interval → CellEntry
+entry_with n s p complete spans = record { number = n; sub = s; part = p; complete = complete; spans = spans }
+
 abbrev pub cell_entry : ℕ → ℕ → ℕ → CellValue → CellEntry
-cell_entry n s p cell = record { number = n; sub = s; part = p; complete = cell.second; spans = cell.first }
+cell_entry n s p cell = entry_with n s p cell.second cell.first
 
 abbrev pub entry_value : CellEntry → CellValue
 entry_value c = pair_of c.spans c.complete
@@ -37,7 +41,12 @@ is_entry c = are_numbers c.number c.sub c.part && (c.complete || has_spans c.spa
 
 -- the cell, where it may stand on a board
 abbrev pub entry_of : ℕ → ℕ → ℕ → Bool → List Interval → Option CellEntry
-entry_of n s p complete spans = if is_entry (cell_entry n s p (pair_of spans complete)) then Some (cell_entry n s p (pair_of spans complete)) else None
+entry_of n s p complete spans = if is_entry (entry_with n s p complete spans) then Some (entry_with n s p complete spans) else None
+
+-- a cell: it may stand on a board, and its spans are the one list of its keys
+pub record IsCell (c : CellEntry) : Type 0 where
+  pub entry : is_entry c ≡ true
+  pub spans : IsCanonical c.spans
 
 abbrev pub cells_of_parts : ℕ → ℕ → Parts → List CellEntry
 cells_of_parts n s parts = map (λ e. cell_entry n s e.0 e.1) parts
@@ -45,9 +54,22 @@ cells_of_parts n s parts = map (λ e. cell_entry n s e.0 e.1) parts
 abbrev pub cells_of_subs : ℕ → Subs → List CellEntry
 cells_of_subs n subs = flat_map (λ e. cells_of_parts n e.0 e.1) subs
 
+abbrev pub cells_of_numbers : Cells → List CellEntry
+cells_of_numbers numbers = flat_map (λ e. cells_of_subs e.0 e.1) numbers
+
 -- the cells of a board
 abbrev pub cells_of : BoardValue → List CellEntry
-cells_of b = flat_map (λ e. cells_of_subs e.0 e.1) b.second
+cells_of b = cells_of_numbers b.second
+
+-- each entry of the nested maps is a cell
+abbrev pub AreCellsOfParts : ℕ → ℕ → Parts → Type 0
+AreCellsOfParts n s parts = AllByRecursion (λ e. IsCell (cell_entry n s e.0 e.1)) parts
+
+abbrev pub AreCellsOfSubs : ℕ → Subs → Type 0
+AreCellsOfSubs n subs = AllByRecursion (λ e. AreCellsOfParts n e.0 e.1) subs
+
+abbrev pub AreCellsOfNumbers : Cells → Type 0
+AreCellsOfNumbers numbers = AllByRecursion (λ e. AreCellsOfSubs e.0 e.1) numbers
 
 abbrev pub entry_says : CellEntry → Fact → Bool
 entry_says c f = cell_says c.number c.sub c.part (entry_value c) f
@@ -72,9 +94,16 @@ pub record AreCells (b : BoardValue) (cs : List CellEntry) : Type 0 where
 
 -- ---- openings
 
+-- a count of opened sub-plans that may stand on a board
+abbrev pub IsOpening : Opening → Type 0
+IsOpening o = (1 ≤ o.number) × (0 < o.count) × (o.count ≤ part_limit)
+
+abbrev pub openings_of_counts : Openings → List Opening
+openings_of_counts counts = map (λ e. record { number = e.0; count = e.1 }) counts
+
 -- the counts of opened sub-plans of a board
 abbrev pub openings_of : BoardValue → List Opening
-openings_of b = map (λ e. record { number = e.0; count = e.1 }) b.first.first
+openings_of b = openings_of_counts b.first.first
 
 abbrev pub openings_say : List Opening → Fact → Bool
 openings_say os f = list_any (λ o. count_says o.number o.count f) os

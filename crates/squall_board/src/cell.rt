@@ -1,0 +1,117 @@
+//! What was reported of a partition in a sub-plan.
+
+ghost use Rattle.std.specs.Prelude.{◌≡◌};
+ghost use Rattle.squall_report.specs.Facts.{are_numbers};
+ghost use Rattle.squall_board.specs.Listed.{IsCell, entry_with, entry_of};
+
+use squall_span::SpanSet;
+use std::marker::Model;
+
+/// What was reported of a partition in a sub-plan of a reconfiguration: the keys loaded there, and
+/// whether it is complete. A cell says something: it has a key, or is complete.
+///
+/// Contracts see a cell as its number, its sub-plan, its partition, whether it is complete, and the
+/// spans of its keys.
+#[derive(Drop)]
+pub struct Cell {
+    number: u32,
+    sub: u32,
+    part: u32,
+    complete: bool,
+    spans: SpanSet,
+}
+
+impl Model for Cell {
+    ghost use Rattle.squall_board.specs.Listed.{CellEntry, IsCell, entry_with};
+
+    ghost Value = { CellEntry };
+
+    ghost view = { λ c. entry_with c.number c.sub c.part c.complete c.spans };
+
+    ghost invariant = { λ c. IsCell (entry_with c.number c.sub c.part c.complete c.spans) };
+}
+
+/// Whether the numbers lie within their limits.
+fn are_numbers(number: u32, sub: u32, part: u32) -> bool
+    ensures { result ≡ are_numbers number sub part }
+{
+    number >= 1 && sub <= 9999 && part <= 9999
+}
+
+impl Cell {
+    /// The cell of that partition in that sub-plan of the reconfiguration of that number. None
+    /// where the number is 0, the sub-plan or the partition above 9999, or where the cell says
+    /// nothing: not complete, and no key.
+    pub fn new(number: u32, sub: u32, part: u32, complete: bool, spans: SpanSet) -> Option<Cell>
+        ensures { result ≡ entry_of number sub part complete spans }
+    {
+        let says_something = complete || !spans.is_empty();
+        if !are_numbers(number, sub, part) || !says_something {
+            return None;
+        }
+        let _canonical = spans.spans();
+        Some(Cell {
+            number,
+            sub,
+            part,
+            complete,
+            spans,
+        })
+    }
+
+    /// The reconfiguration's number, from 1 on.
+    pub fn number(&self) -> u32
+        ensures { result ≡ self.now.number }
+    {
+        self.number
+    }
+
+    /// The sub-plan, from 0 to 9999.
+    pub fn sub(&self) -> u32
+        ensures { result ≡ self.now.sub }
+    {
+        self.sub
+    }
+
+    /// The partition, from 0 to 9999.
+    pub fn part(&self) -> u32
+        ensures { result ≡ self.now.part }
+    {
+        self.part
+    }
+
+    /// Whether the partition has all the keys that the sub-plan brings it.
+    pub fn complete(&self) -> bool
+        ensures { result ≡ self.now.complete }
+    {
+        self.complete
+    }
+
+    /// The keys that the partition has loaded in the sub-plan.
+    pub fn spans(&self) -> &SpanSet
+        ensures { result.now ≡ self.now.spans }
+    {
+        &self.spans
+    }
+
+    /// The cell of an entry of a board.
+    pub(crate) fn of_entry(number: u32, sub: u32, part: u32, complete: bool, spans: SpanSet) -> Cell
+        requires { IsCell (entry_with number sub part complete spans) }
+        ensures { result ≡ entry_with number sub part complete spans }
+    {
+        Cell {
+            number,
+            sub,
+            part,
+            complete,
+            spans,
+        }
+    }
+
+    /// Changes nothing: after it a proof knows what the type keeps of a cell.
+    pub(crate) fn known(&self)
+        ensures { IsCell self.now }
+    {
+        let _number = self.number;
+    }
+}

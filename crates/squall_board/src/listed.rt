@@ -1,0 +1,24 @@
+//! What the lists of a board tell, each law the contract of a function that does nothing.
+
+ghost use Rattle.std.specs.Prelude.{◌≡◌};
+ghost use Rattle.squall_report.specs.Told.{SameTold};
+ghost use Rattle.squall_board.specs.Boards.{told};
+ghost use Rattle.squall_board.specs.Listed.{openings_of, issues_of, cells_of, told_by_lists};
+
+use crate::board::Board;
+
+/// The openings, the issues and the cells of a board tell together what the board tells, and
+/// nothing else.
+pub fn lists_tell_what_the_board_tells(board: &Board)
+    ensures { SameTold (told board.now) (told_by_lists (openings_of board.now) (issues_of board.now) (cells_of board.now)) }
+{
+    board.known();
+}
+
+/// A board that tells what the lists of another tell is equal to that other.
+pub fn lists_make_an_equal_board(board: &Board, other: &Board)
+    ensures { SameTold (told other.now) (told_by_lists (openings_of board.now) (issues_of board.now) (cells_of board.now)) → other.now ≡ board.now }
+{
+    board.known();
+    other.known();
+}
