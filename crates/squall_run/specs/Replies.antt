@@ -8,7 +8,6 @@ use Rattle.squall_plan.specs.declared.range.PlanRange.{PlanRange}
 use Rattle.squall_plan.specs.declared.fault.PlanFault.{PlanFault}
 use Rattle.squall_plan.specs.Faults.{text_of_fault}
 use Rattle.squall_plan.specs.Form.{plan_of_text}
-use Rattle.squall_course.specs.Change.{Change}
 use Rattle.squall_report.specs.declared.report.ReportKind.{ReportKind}
 use Rattle.squall_report.specs.Issues.{PlanPair}
 use Rattle.squall_report.specs.Facts.{loaded_of, done_of, opened_of}
@@ -20,13 +19,14 @@ use Rattle.squall_lines.specs.Words.{without_cr, after_first_word}
 use Rattle.squall_lines.specs.declared.Flow.{Flow}
 use Rattle.squall_lines.specs.declared.Flow.TheVariants.{On, End}
 use Rattle.squall_run.specs.declared.command.Command.{Command}
-use Rattle.squall_run.specs.declared.command.Command.TheVariants.{Skip, Old, New, Loaded, Done, Opened, Route, Bad}
+use Rattle.squall_run.specs.declared.command.Command.TheVariants.{Skip, Old, New, Loaded, Done, Opened, Route, Board, Bad}
 use Rattle.squall_run.specs.declared.reason.Reason.{Reason}
 use Rattle.squall_run.specs.declared.reason.Reason.TheVariants.{Long, Word, Order, Limit, Plan}
 use Rattle.squall_run.specs.declared.scenario.Stage.{Stage}
 use Rattle.squall_run.specs.declared.scenario.Stage.TheVariants.{Unplanned, Planned, Running}
 use Rattle.squall_run.specs.declared.scenario.Scenario.{Scenario}
 use Rattle.squall_run.specs.Commands.{command_of}
+use Rattle.squall_run.specs.BoardText.{board_text}
 
 abbrev pub text_of_reason : Reason → List ℕ
 text_of_reason Long = codes "long"
@@ -86,6 +86,12 @@ route_reply s Unplanned key = Ends Order
 route_reply s (Planned old) key = Ends Order
 route_reply s (Running course) key = Goes (codes "route " ++ (text_of_key key ++ (codes " " ++ (decimal (route course (boards.says s.board) key) ++ codes "\n")))) s
 
+-- board: what was reported
+abbrev pub board_reply : Scenario → Stage → Reply
+board_reply s Unplanned = Ends Order
+board_reply s (Planned old) = Ends Order
+board_reply s (Running course) = Goes (board_text s.board) s
+
 -- what a line says and its text after the first word bring about
 abbrev pub reply_to : Scenario → Command → List ℕ → Reply
 reply_to s Skip text = Goes [] s
@@ -95,6 +101,7 @@ reply_to s (Loaded number sub part lo hi) text = report_reply s s.stage (load_of
 reply_to s (Done number sub part) text = report_reply s s.stage (done_of number sub part)
 reply_to s (Opened number sub) text = report_reply s s.stage (opened_of number sub)
 reply_to s (Route key) text = route_reply s s.stage key
+reply_to s Board text = board_reply s s.stage
 reply_to s (Bad reason) text = Ends reason
 
 -- ---- lines
