@@ -1,3 +1,4 @@
 pub mod Answered
+pub mod Boards
 pub mod Refusals
 pub mod Sent

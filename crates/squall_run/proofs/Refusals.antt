@@ -1,22 +1,23 @@
 -- Which runs are refused.
-use Rattle.std.proofs.Common.{◌≡◌, ℕ, List, [], ◌∷◌, ◌++◌, length, true, false, Option, None, Some, Result, Ok, Err, suc, refl, sym, ap, ◌∙◌, arith}
-use Rattle.std.specs.Prelude.{◌≢◌}
+use Rattle.std.proofs.Common.{◌≡◌, ℕ, List, [], ◌∷◌, true, false, Option, None, Some, Result, Ok, Err, suc, refl, sym, ap, arith}
 use Rattle.std.proofs.lemmas.Bool.{false≢true}
 use Rattle.squall_span.specs.Spans.{span_at}
 use Rattle.squall_plan.specs.declared.range.PlanRange.{PlanRange}
 use Rattle.squall_plan.specs.declared.fault.PlanFault.{PlanFault}
 use Rattle.squall_plan.specs.Form.{plan_of_text}
 use Rattle.squall_report.specs.declared.report.ReportKind.{ReportKind}
-use Rattle.squall_report.specs.Facts.{done_of}
+use Rattle.squall_report.specs.Issues.{PlanPair}
+use Rattle.squall_report.specs.Facts.{done_of, opened_of}
 use Rattle.squall_lines.specs.Script.{Script}
 use Rattle.squall_lines.specs.Words.{without_cr, after_first_word}
 use Rattle.squall_run.specs.declared.command.Command.{Command}
-use Rattle.squall_run.specs.declared.command.Command.TheVariants.{Skip, Old, New, Loaded, Done, Route, Bad}
+use Rattle.squall_run.specs.declared.command.Command.TheVariants.{Skip, Old, New, Loaded, Done, Opened, Route, Board, Bad}
 use Rattle.squall_run.specs.declared.scenario.Stage.{Stage}
 use Rattle.squall_run.specs.declared.scenario.Stage.TheVariants.{Unplanned, Planned, Running}
 use Rattle.squall_run.specs.declared.scenario.Scenario.{Scenario}
 use Rattle.squall_run.specs.Commands.{command_of}
-use Rattle.squall_run.specs.Replies.{Reply, Goes, Ends, old_plan, old_reply, new_plan, new_reply, take_reply, load_of, report_reply, route_reply, reply_to, reply_to_line, follow, bad_line, at_next_line, says}
+use Rattle.squall_run.specs.Replies.{Reply, Goes, Ends, old_plan, old_reply, new_plan, new_reply, take_reply, load_of, report_reply, route_reply, board_reply, reply_to, reply_to_line, follow, at_next_line, says}
+use Rattle.squall_run.proofs.Boards.{board_text_good}
 use Rattle.squall_run.specs.Text.{EndsInBadLine, IsNoBadLine, HasNoBadLine}
 
 -- ---- refused
@@ -56,11 +57,11 @@ new_good s Unplanned text = tt
 new_good s (Planned old) text = new_plan_good s old (plan_of_text text)
 new_good s (Running course) text = tt
 
-take_good : (s : Scenario) (report : Option ReportKind) → NotBad (take_reply s report)
+take_good : (s : Scenario) (report : Option (ReportKind PlanPair)) → NotBad (take_reply s report)
 take_good s None = tt
 take_good s (Some report) = λ e. omega (arith, e)
 
-report_good : (s : Scenario) (stage : Stage) (report : Option ReportKind) → NotBad (report_reply s stage report)
+report_good : (s : Scenario) (stage : Stage) (report : Option (ReportKind PlanPair)) → NotBad (report_reply s stage report)
 report_good s Unplanned report = tt
 report_good s (Planned old) report = tt
 report_good s (Running course) report = take_good s report
@@ -70,13 +71,20 @@ route_good s Unplanned key = tt
 route_good s (Planned old) key = tt
 route_good s (Running course) key = λ e. omega (arith, e)
 
+board_good : (s : Scenario) (stage : Stage) → NotBad (board_reply s stage)
+board_good s Unplanned = tt
+board_good s (Planned old) = tt
+board_good s (Running course) = board_text_good s.board
+
 reply_good : (s : Scenario) (c : Command) (text : List ℕ) → NotBad (reply_to s c text)
 reply_good s Skip text = λ e. omega (arith, e)
 reply_good s Old text = old_good s s.stage text
 reply_good s New text = new_good s s.stage text
 reply_good s (Loaded number sub part lo hi) text = report_good s s.stage (load_of (span_at lo hi) number sub part)
 reply_good s (Done number sub part) text = report_good s s.stage (done_of number sub part)
+reply_good s (Opened number sub) text = report_good s s.stage (opened_of number sub)
 reply_good s (Route key) text = route_good s s.stage key
+reply_good s Board text = board_good s s.stage
 reply_good s (Bad reason) text = tt
 
 good_follow : (line : ℕ) (reply : Reply) (then : Scenario → Script) (lines : List (List ℕ)) → NotBad reply → ((t : Scenario) → (then t).refused ≡ false → HasNoBadLine lines (then t)) → (follow line reply then).refused ≡ false

@@ -1,5 +1,5 @@
 -- What is written of a text that is ready.
-use Rattle.std.proofs.Common.{◌≡◌, ℕ, List, ◌++◌, take, drop, sym, ◌∙◌}
+use Rattle.std.proofs.Common.{◌≡◌, ℕ, List, take, drop, sym, ◌∙◌}
 use Rattle.std.proofs.lemmas.List.{take-append-drop}
 use Rattle.squall_lines.specs.Script.{IsFront}
 use Rattle.squall_lines.specs.declared.Ended.{Ended}

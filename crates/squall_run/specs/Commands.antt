@@ -6,7 +6,7 @@ use Rattle.squall_key.specs.Numbers.{number_of}
 use Rattle.squall_key.specs.Keys.{key_of, bound_of}
 use Rattle.squall_lines.specs.Words.{words_of, only_word}
 use Rattle.squall_run.specs.declared.command.Command.{Command}
-use Rattle.squall_run.specs.declared.command.Command.TheVariants.{Skip, Old, New, Loaded, Done, Route, Bad}
+use Rattle.squall_run.specs.declared.command.Command.TheVariants.{Skip, Old, New, Loaded, Done, Opened, Route, Board, Bad}
 use Rattle.squall_run.specs.declared.reason.Reason.TheVariants.{Long, Word}
 
 -- the number that the first word writes, and the words after it
@@ -33,13 +33,18 @@ two_bounds words = option_and_then (λ (w : List ℕ × List ℕ). option_and_th
 abbrev pub loaded_line : List (List ℕ) → Option Command
 loaded_line words = option_and_then (λ (c : ℕ × ℕ × ℕ × List (List ℕ)). option_map (λ (b : ℕ × ℕ). Loaded c.0 c.1 c.2 b.0 b.1) (two_bounds c.3)) (cell_first words)
 
--- done N S P
-abbrev pub done_in : ℕ × ℕ × ℕ × List (List ℕ) → Option Command
-done_in (n, s, p, []) = Some (Done n s p)
-done_in (n, s, p, word ∷ words) = None
+-- the command, where no word is left
+abbrev pub alone : Command → List (List ℕ) → Option Command
+alone command [] = Some command
+alone command (word ∷ words) = None
 
+-- done N S P
 abbrev pub done_line : List (List ℕ) → Option Command
-done_line words = option_and_then done_in (cell_first words)
+done_line words = option_and_then (λ (c : ℕ × ℕ × ℕ × List (List ℕ)). alone (Done c.0 c.1 c.2) c.3) (cell_first words)
+
+-- opened N S
+abbrev pub opened_line : List (List ℕ) → Option Command
+opened_line words = option_and_then (λ (n : ℕ × List (List ℕ)). option_map (λ s. Opened n.0 s) (option_and_then number_of (only_word n.1))) (number_first words)
 
 -- route K
 abbrev pub route_line : List (List ℕ) → Option Command
@@ -52,8 +57,10 @@ command_by name words = if bytes_eq name (codes "old") then Some Old
     else (if bytes_eq name (codes "new") then Some New
     else (if bytes_eq name (codes "loaded") then loaded_line words
     else (if bytes_eq name (codes "done") then done_line words
+    else (if bytes_eq name (codes "opened") then opened_line words
     else (if bytes_eq name (codes "route") then route_line words
-    else None))))
+    else (if bytes_eq name (codes "board") then alone Board words
+    else None))))))
 
 -- a line without words, or whose first word begins with #, is skipped
 abbrev pub of_words : List (List ℕ) → Command

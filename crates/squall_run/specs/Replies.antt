@@ -8,22 +8,25 @@ use Rattle.squall_plan.specs.declared.range.PlanRange.{PlanRange}
 use Rattle.squall_plan.specs.declared.fault.PlanFault.{PlanFault}
 use Rattle.squall_plan.specs.Faults.{text_of_fault}
 use Rattle.squall_plan.specs.Form.{plan_of_text}
-use Rattle.squall_course.specs.Change.{Change}
 use Rattle.squall_report.specs.declared.report.ReportKind.{ReportKind}
-use Rattle.squall_report.specs.Facts.{loaded_of, done_of, reports_say}
+use Rattle.squall_report.specs.Issues.{PlanPair}
+use Rattle.squall_report.specs.Facts.{loaded_of, done_of, opened_of}
+use Rattle.squall_board.specs.Boards.{BoardValue, board_join, report_board}
+use Rattle.squall_board.specs.Boards as boards
 use Rattle.squall_board.specs.Route.{route}
 use Rattle.squall_lines.specs.Script.{Script, silence, after, last_word}
 use Rattle.squall_lines.specs.Words.{without_cr, after_first_word}
 use Rattle.squall_lines.specs.declared.Flow.{Flow}
 use Rattle.squall_lines.specs.declared.Flow.TheVariants.{On, End}
 use Rattle.squall_run.specs.declared.command.Command.{Command}
-use Rattle.squall_run.specs.declared.command.Command.TheVariants.{Skip, Old, New, Loaded, Done, Route, Bad}
+use Rattle.squall_run.specs.declared.command.Command.TheVariants.{Skip, Old, New, Loaded, Done, Opened, Route, Board, Bad}
 use Rattle.squall_run.specs.declared.reason.Reason.{Reason}
 use Rattle.squall_run.specs.declared.reason.Reason.TheVariants.{Long, Word, Order, Limit, Plan}
 use Rattle.squall_run.specs.declared.scenario.Stage.{Stage}
 use Rattle.squall_run.specs.declared.scenario.Stage.TheVariants.{Unplanned, Planned, Running}
 use Rattle.squall_run.specs.declared.scenario.Scenario.{Scenario}
 use Rattle.squall_run.specs.Commands.{command_of}
+use Rattle.squall_run.specs.BoardText.{board_text}
 
 abbrev pub text_of_reason : Reason → List ℕ
 text_of_reason Long = codes "long"
@@ -40,8 +43,8 @@ pub data Reply : Type 0 where
 abbrev pub at_stage : Scenario → Stage → Scenario
 at_stage s stage = record s { stage = stage }
 
-abbrev pub with_reports : Scenario → List ReportKind → Scenario
-with_reports s reports = record s { board = reports }
+abbrev pub with_board : Scenario → BoardValue → Scenario
+with_board s board = record s { board = board }
 
 -- old JSON, once, before all else: the number of the plan's ranges
 abbrev pub old_plan : Scenario → Result (List PlanRange) PlanFault → Reply
@@ -64,15 +67,15 @@ new_reply s (Planned old) text = new_plan s old (plan_of_text text)
 new_reply s (Running course) text = Ends Order
 
 -- a report, which is taken where its numbers lie within their limits
-abbrev pub take_reply : Scenario → Option ReportKind → Reply
-take_reply s (Some report) = Goes (codes "taken\n") (with_reports s (s.board ++ report ∷ []))
+abbrev pub take_reply : Scenario → Option (ReportKind PlanPair) → Reply
+take_reply s (Some report) = Goes (codes "taken\n") (with_board s (board_join s.board (report_board report)))
 take_reply s None = Ends Limit
 
-abbrev pub load_of : Option Interval → ℕ → ℕ → ℕ → Option ReportKind
+abbrev pub load_of : Option Interval → ℕ → ℕ → ℕ → Option (ReportKind PlanPair)
 load_of None number sub part = None
 load_of (Some span) number sub part = loaded_of number sub part span
 
-abbrev pub report_reply : Scenario → Stage → Option ReportKind → Reply
+abbrev pub report_reply : Scenario → Stage → Option (ReportKind PlanPair) → Reply
 report_reply s Unplanned report = Ends Order
 report_reply s (Planned old) report = Ends Order
 report_reply s (Running course) report = take_reply s report
@@ -81,7 +84,13 @@ report_reply s (Running course) report = take_reply s report
 abbrev pub route_reply : Scenario → Stage → ℕ → Reply
 route_reply s Unplanned key = Ends Order
 route_reply s (Planned old) key = Ends Order
-route_reply s (Running course) key = Goes (codes "route " ++ (text_of_key key ++ (codes " " ++ (decimal (route course (reports_say s.board) key) ++ codes "\n")))) s
+route_reply s (Running course) key = Goes (codes "route " ++ (text_of_key key ++ (codes " " ++ (decimal (route course (boards.says s.board) key) ++ codes "\n")))) s
+
+-- board: what was reported
+abbrev pub board_reply : Scenario → Stage → Reply
+board_reply s Unplanned = Ends Order
+board_reply s (Planned old) = Ends Order
+board_reply s (Running course) = Goes (board_text s.board) s
 
 -- what a line says and its text after the first word bring about
 abbrev pub reply_to : Scenario → Command → List ℕ → Reply
@@ -90,7 +99,9 @@ reply_to s Old text = old_reply s s.stage text
 reply_to s New text = new_reply s s.stage text
 reply_to s (Loaded number sub part lo hi) text = report_reply s s.stage (load_of (span_at lo hi) number sub part)
 reply_to s (Done number sub part) text = report_reply s s.stage (done_of number sub part)
+reply_to s (Opened number sub) text = report_reply s s.stage (opened_of number sub)
 reply_to s (Route key) text = route_reply s s.stage key
+reply_to s Board text = board_reply s s.stage
 reply_to s (Bad reason) text = Ends reason
 
 -- ---- lines

@@ -1,6 +1,7 @@
 -- What is written for an input.
 use Rattle.std.specs.Prelude.{◌≡◌, ◌≢◌, ℕ, List, [], ◌∷◌, ◌++◌, length, slice_index}
 use Rattle.std.specs.List.{AllByRecursion}
+use Rattle.squall_board.specs.Boards.{empty_board}
 use Rattle.squall_lines.specs.Script.{Script}
 use Rattle.squall_run.specs.declared.scenario.Stage.TheVariants.{Unplanned}
 use Rattle.squall_run.specs.declared.scenario.Scenario.{Scenario}
@@ -8,7 +9,7 @@ use Rattle.squall_run.specs.declared.reason.Reason.{Reason}
 use Rattle.squall_run.specs.Replies.{says, bad_line}
 
 abbrev pub at_start : Scenario
-at_start = record { line = 0; stage = Unplanned; board = [] }
+at_start = record { line = 0; stage = Unplanned; board = empty_board }
 
 -- what a scenario says to the lines of its input, from the start: an answer to each line up to a bad one
 abbrev pub script_of : List (List ℕ) → Script

@@ -3,7 +3,7 @@
 ghost use Rattle.std.specs.Prelude.{◌≡◌, ℕ};
 ghost use Rattle.std.specs.Option.{option_map};
 ghost use Rattle.squall_lines.specs.Words.{words_of};
-ghost use Rattle.squall_run.specs.Commands.{number_first, two_words, cell_first, two_bounds, loaded_line, done_line, route_line, command_by, command_of};
+ghost use Rattle.squall_run.specs.Commands.{number_first, two_words, cell_first, two_bounds, loaded_line, alone, done_line, opened_line, route_line, command_by, command_of};
 
 use crate::reason::Reason;
 use squall_key::{Bound, Key, read_number};
@@ -29,7 +29,12 @@ pub(crate) enum Command {
         sub: u32,
         part: u32,
     },
+    Opened {
+        number: u32,
+        sub: u32,
+    },
     Route(Key),
+    Board,
     Bad(Reason),
 }
 
@@ -85,15 +90,31 @@ fn loaded_line(rest: &[u8]) -> Option<Command>
     })
 }
 
+/// The command, where no word is left.
+fn alone(command: Command, rest: &[u8]) -> Option<Command>
+    ensures { result ≡ alone command (words_of rest.now) }
+{
+    match next_word(rest) {
+        None => Some(command),
+        Some(_) => None,
+    }
+}
+
 /// `done N S P`
 fn done_line(rest: &[u8]) -> Option<Command>
     ensures { result ≡ done_line (words_of rest.now) }
 {
     let (number, sub, part, rest) = cell_first(rest)?;
-    match next_word(rest) {
-        None => Some(Command::Done { number, sub, part }),
-        Some(_) => None,
-    }
+    alone(Command::Done { number, sub, part }, rest)
+}
+
+/// `opened N S`
+fn opened_line(rest: &[u8]) -> Option<Command>
+    ensures { result ≡ opened_line (words_of rest.now) }
+{
+    let (number, rest) = number_first(rest)?;
+    let sub = read_number(only_word(rest)?)?;
+    Some(Command::Opened { number, sub })
 }
 
 /// `route K`
@@ -120,8 +141,14 @@ fn command_by(name: &[u8], rest: &[u8]) -> Option<Command>
     if name == b"done".as_slice() {
         return done_line(rest);
     }
+    if name == b"opened".as_slice() {
+        return opened_line(rest);
+    }
     if name == b"route".as_slice() {
         return route_line(rest);
+    }
+    if name == b"board".as_slice() {
+        return alone(Command::Board, rest);
     }
     None
 }

@@ -7,6 +7,7 @@ ghost use Rattle.squall_device.specs.Counts.{IsCountedSince, times_more};
 ghost use Rattle.squall_lines.specs.Script.{IsOutcome};
 ghost use Rattle.squall_run.specs.Text.{script_of};
 
+mod board_text;
 mod check;
 mod command;
 mod course;

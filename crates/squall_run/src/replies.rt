@@ -5,8 +5,9 @@ ghost use Rattle.squall_lines.specs.Words.{after_first_word};
 ghost use Rattle.squall_lines.specs.declared.Flow.TheVariants.{End};
 ghost use Rattle.squall_plan.specs.Form.{plan_of_text};
 ghost use Rattle.squall_span.specs.Spans.{span_at};
-ghost use Rattle.squall_run.specs.Replies.{Answers, old_reply, new_reply, load_of, report_reply, route_reply, reply_to, reply_to_line, bad_line, IsAnswer, says};
+ghost use Rattle.squall_run.specs.Replies.{Answers, old_reply, new_reply, load_of, report_reply, route_reply, board_reply, reply_to, reply_to_line, bad_line, IsAnswer, says};
 
+use crate::board_text::add_board;
 use crate::command::{Command, read_line};
 use crate::reason::Reason;
 use crate::scenario::{Scenario, Stage};
@@ -134,6 +135,17 @@ fn route(scenario: &Scenario, key: Key, out: &mut String) -> Result<Option<Reaso
     Ok(None)
 }
 
+/// Shows the board, once both plans are read.
+fn show_board(scenario: &Scenario, out: &mut String) -> Result<Option<Reason>, AllocError>
+    ensures { Answers result (string_bytes out.old) (string_bytes out.new) scenario.now scenario.now (board_reply scenario.now scenario.now.stage) }
+{
+    let Stage::Running(_) = &scenario.stage else {
+        return Ok(Some(Reason::Order));
+    };
+    add_board(&scenario.board, out)?;
+    Ok(None)
+}
+
 /// Does what a line says, and adds the answer to `out`, or tells why the line is bad.
 fn obey(
     scenario: &mut Scenario,
@@ -157,7 +169,11 @@ fn obey(
         Command::Done { number, sub, part } => {
             take_report(scenario, Report::done(number, sub, part), out)
         }
+        Command::Opened { number, sub } => {
+            take_report(scenario, Report::opened(number, sub), out)
+        }
         Command::Route(key) => route(scenario, key, out),
+        Command::Board => show_board(scenario, out),
         Command::Bad(reason) => Ok(Some(reason)),
     }
 }

@@ -1,4 +1,5 @@
 use super::*;
+use std::alloc::AllocError;
 use std::io;
 use std::io::{ErrorKind, Read, Write};
 use std::test::Fail;
@@ -35,8 +36,34 @@ const ANSWERS: [&str; 9] = [
     "route 3:0 2\n",
 ];
 
+const BOARD_LINES: [&str; 9] = [
+    OLD,
+    NEW,
+    "board\n",
+    "loaded 1 0 4 8:0 end\n",
+    "opened 2 0\n",
+    "loaded 1 0 4 6:0 7:0\n",
+    "opened 1 9999\n",
+    "done 1 0 4\n",
+    "board\n",
+];
+
+const BOARD_ANSWERS: [&str; 11] = [
+    "old 4\n",
+    "new 5\n",
+    "empty\n",
+    "taken\n",
+    "taken\n",
+    "taken\n",
+    "taken\n",
+    "taken\n",
+    "opened 1 10000\n",
+    "opened 2 1\n",
+    "cell 1 0 4 done [6:0,7:0) [8:0,end)\n",
+];
+
 /// The texts, one after another.
-fn joined(alloc: Global, texts: &[&str]) -> Result<String, Fail> {
+fn joined(alloc: Global, texts: &[&str]) -> Result<String, AllocError> {
     let mut all = String::new(alloc);
     for text in texts {
         all.push_str(text)?;
@@ -135,6 +162,42 @@ fn whole_input(rt: HostRuntime) -> Result<(), Fail> {
     let mut writer = Writer::new(&mut out);
     assert_eq!(rt; run_text(alloc, &mut reader, &mut writer), Ok(Ended::Fine));
     assert!(rt; out.as_slice() == answers.as_bytes());
+    Ok(())
+}
+
+#[test]
+fn board(rt: HostRuntime) -> Result<(), Fail> {
+    let alloc = rt.alloc();
+    let input = joined(alloc, BOARD_LINES.as_slice())?;
+    let wanted = joined(alloc, BOARD_ANSWERS.as_slice())?;
+    let mut out = Vec::new(alloc);
+    let mut reader = Reader::new(input.as_bytes());
+    let mut writer = Writer::new(&mut out);
+    assert_eq!(rt; run_text(alloc, &mut reader, &mut writer), Ok(Ended::Fine));
+    assert!(rt; out.as_slice() == wanted.as_bytes());
+    Ok(())
+}
+
+#[test]
+fn tolerant_board(rt: HostRuntime) -> Result<(), Fail> {
+    let alloc = rt.alloc();
+    let Ok(input) = joined(alloc, BOARD_LINES.as_slice()) else {
+        return Ok(());
+    };
+    let Ok(wanted) = joined(alloc, BOARD_ANSWERS.as_slice()) else {
+        return Ok(());
+    };
+    let mut out = Vec::new(alloc);
+    let mut reader = Reader::new(input.as_bytes());
+    let mut writer = Writer::new(&mut out);
+    let outcome = run_text(alloc, &mut reader, &mut writer);
+    if outcome == Ok(Ended::Fine) {
+        assert!(rt; out.as_slice() == wanted.as_bytes());
+    } else {
+        // The writer, which grows too, may be the one that was refused.
+        assert!(rt; outcome == Err(RunFault::NoMemory) || outcome == Err(RunFault::Write));
+        assert!(rt; wanted.as_bytes().starts_with(out.as_slice()));
+    }
     Ok(())
 }
 
