@@ -5,7 +5,6 @@ use Rattle.std.proofs.lemmas.List.{take_more, map-append}
 use Rattle.std.proofs.lemmas.List.Folds.{list_any-append}
 use Rattle.std.specs.List.{AllByRecursion}
 use Rattle.squall_join.specs.declared.flat.Flat.{Flat}
-use Rattle.squall_join.specs.declared.flat.Flat.TheVariants.{Unknown}
 use Rattle.squall_report.specs.Issues.{PlanPair}
 use Rattle.squall_report.specs.Facts.{Fact, LoadedKey, DonePart, OpenedSub}
 use Rattle.squall_report.specs.Told.{Told, both_issued, SameTold, TellsBoth}

@@ -8,7 +8,7 @@ ghost use Rattle.squall_board.specs.Listed.{AreCellsOfParts, AreCellsOfSubs, Are
 use crate::board::{Board, CellParts};
 use crate::cell::Cell;
 use crate::opening::Opening;
-use squall_join::{Flat, Join, JoinMap, Max, Shared};
+use squall_join::{Flat, JoinMap, Max, Shared};
 use squall_report::Issue;
 use std::alloc::{AllocError, Global};
 use std::sync::Arc;
