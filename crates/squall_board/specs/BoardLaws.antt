@@ -1,15 +1,14 @@
 -- Laws of boards.
-use Rattle.std.specs.Prelude.{◌≡◌, ◌≢◌, ℕ, ◌+◌, ◌<◌, ◌≤◌, ◌^◌, ◌==◌, max, Bool, true, false, ◌||◌, ◌&&◌, cond, nat_lt, nat_le, List, [], ◌∷◌, ◌++◌, Option, None, Some, ◌⊎◌, refl}
+use Rattle.std.specs.Prelude.{◌≡◌, ◌≢◌, ℕ, ◌+◌, ◌<◌, ◌≤◌, ◌==◌, max, Bool, true, false, ◌||◌, ◌&&◌, cond, nat_lt, nat_le, List, [], ◌∷◌, ◌++◌, Option, None, Some, ◌⊎◌, refl}
 use Rattle.std.proofs.Common.{sym, ap, subst, ◌∙◌, arith, inl, inr, ⊎_elim}
 use Rattle.std.proofs.lemmas.Bool.{true≢false}
 use Rattle.std.proofs.lemmas.Bool.Decides.{nat_tests}
-use Rattle.std.proofs.lemmas.List.Folds.{list_any-append}
 use Rattle.std.specs.Ordering.{nat_cmp, is_eq}
 use Rattle.std.specs.Cmp.{nat_cmp_total, first_so, second_so}
 use Rattle.std.specs.FinMap.Entries.{find}
 use Rattle.std.proofs.lemmas.Map.Lookups.{exact_unsigned}
 use Rattle.squall_key.specs.Keys.{part_limit}
-use Rattle.squall_span.specs.Spans.{Interval, has, span_has, IsCanonical, union}
+use Rattle.squall_span.specs.Spans.{has, span_has}
 use Rattle.squall_join.specs.declared.flat.Flat.{Flat}
 use Rattle.squall_join.specs.declared.flat.Flat.TheVariants.{Unknown, One, Clash}
 use Rattle.squall_join.specs.Laws.{JoinLaws}
@@ -23,10 +22,10 @@ use Rattle.squall_join.specs.Facts.{Factual, max_says, max_factual, flag_says, f
 use Rattle.squall_report.specs.declared.report.ReportKind.{ReportKind}
 use Rattle.squall_report.specs.declared.report.ReportKind.TheVariants.{Loaded, Done, Opened, Issued}
 use Rattle.squall_report.specs.Issues.{PlanPair}
-use Rattle.squall_report.specs.Facts.{Fact, LoadedKey, DonePart, OpenedSub, is_cell, is_fact, is_report, is_opening, are_numbers, report_says, reports_say}
-use Rattle.squall_report.specs.Told.{Told, both_issued, report_issues, reports_issue, told_by_report, told_by, SameTold, TellsBoth, TellsAll}
-use Rattle.squall_report.specs.ToldLaws.{issue_laws, any_flat, issued_idem, issued_neutral, told_append}
-use Rattle.squall_board.specs.Boards.{CellValue, Parts, Subs, Cells, Openings, Issues, BoardValue, board_of, cell_is, cell_bottom, cell_join, issue_is, is_nested, empty_board, board_join, opened_count, issued, says, told, IsBoard, HasTaken, cell_says, count_says, no_issue, one_issue, no_fact, told_by_cell, told_by_count, told_by_issue, cell_board, opening_board, issue_board, report_board, found_in, cell_of}
+use Rattle.squall_report.specs.Facts.{Fact, LoadedKey, DonePart, OpenedSub, is_cell, is_fact, is_opening, are_numbers, report_says, reports_say}
+use Rattle.squall_report.specs.Told.{Told, both_issued, report_issues, reports_issue, told_by_report, told_by, SameTold, TellsBoth}
+use Rattle.squall_report.specs.ToldLaws.{issue_laws, any_flat, issued_neutral, told_append}
+use Rattle.squall_board.specs.Boards.{CellValue, BoardValue, cell_is, cell_bottom, cell_join, issue_is, is_nested, empty_board, board_join, opened_count, issued, says, told, IsBoard, HasTaken, cell_says, count_says, one_issue, no_fact, told_by_cell, told_by_count, told_by_issue, cell_board, opening_board, issue_board, report_board, found_in, cell_of}
 
 -- ---- the facts of a join, and what tells boards apart
 

@@ -6,12 +6,12 @@ use Rattle.std.proofs.lemmas.Bool.Decides.{nat_tests}
 use Rattle.std.specs.Bool.{one_answer}
 use Rattle.std.specs.Cmp.{IsEquivalence, decided, first_so, second_so}
 use Rattle.std.specs.Cmp.Lexicographic.{pointwise, pointwise_decides}
-use Rattle.squall_span.specs.Spans.{Interval, interval, interval_eq, spans_eq}
+use Rattle.squall_span.specs.Spans.{interval, interval_eq, spans_eq}
 use Rattle.squall_join.specs.declared.flat.Flat.{Flat}
 use Rattle.squall_join.specs.declared.flat.Flat.TheVariants.{Unknown, One, Clash}
-use Rattle.squall_join.specs.Pairs.{pair_of, same_pair}
+use Rattle.squall_join.specs.Pairs.{same_pair}
 use Rattle.squall_report.specs.Issues.{PlanPair, is_same_pair, same_pairs_are_equal}
-use Rattle.squall_board.specs.Boards.{CellValue, Parts, Subs, Cells, Openings, Issues, BoardValue}
+use Rattle.squall_board.specs.Boards.{CellValue, BoardValue}
 
 abbrev pub is_same_flat : Flat PlanPair → Flat PlanPair → Bool
 is_same_flat Unknown Unknown = true

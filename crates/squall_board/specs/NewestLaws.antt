@@ -1,6 +1,6 @@
 -- The last entry above a number is the greatest.
 use Rattle.std.specs.Prelude.{◌≡◌, ◌≢◌, ℕ, ◌+◌, ◌<◌, ◌≤◌, ◌==◌, T, Bool, true, false, cond, nat_lt, List, [], ◌∷◌, length, suc, zero, Option, None, Some, is_some, option_map, ◌⊎◌, refl}
-use Rattle.std.proofs.Common.{sym, ap, subst, ◌∙◌, arith, inl, inr, get_or, drop}
+use Rattle.std.proofs.Common.{sym, ap, ◌∙◌, arith, inl, inr, get_or, drop}
 use Rattle.std.proofs.lemmas.Bool.{cases_lt, true≢false}
 use Rattle.std.proofs.lemmas.List.{drop_more}
 use Rattle.std.proofs.lemmas.Bool.Decides.{nat_tests}

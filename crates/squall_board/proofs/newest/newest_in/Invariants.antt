@@ -1,4 +1,4 @@
-use Rattle.std.proofs.Common.{◌≡◌, ◌≤◌, ℕ, None, length, drop}
+use Rattle.std.proofs.Common.{◌≡◌, ◌≤◌, None, length, drop}
 use Rattle.squall_board.specs.Newest.{newest_in}
 use Rattle.squall_board.proofs.newest.newest_in.Given as goal
 
