@@ -164,11 +164,6 @@ report_board (Done number sub part) = cell_board number sub part (pair_of [] tru
 report_board (Opened number sub) = opening_board number (sub + 1)
 report_board (Issued number issue) = issue_board number (One issue)
 
--- of a list of reports
-abbrev pub reports_board : List (ReportKind PlanPair) → BoardValue
-reports_board [] = empty_board
-reports_board (r ∷ rs) = board_join (report_board r) (reports_board rs)
-
 -- ---- its cells
 
 -- what a map has at a key, where there is a map
