@@ -6,33 +6,30 @@ use Rattle.squall_span.specs.Spans.{Interval, span_has}
 use Rattle.squall_report.specs.declared.report.ReportKind.{ReportKind}
 use Rattle.squall_report.specs.declared.report.ReportKind.TheVariants.{Loaded, Done, Opened, Issued}
 use Rattle.squall_report.specs.Issues.{PlanPair}
+use Rattle.squall_report.specs.Cells.{CellPlace, place_at, is_cell_place, is_same_cell}
 
--- A fact of a reconfiguration, under its number and its sub-plan: a key was loaded at a partition, a
--- partition has all its keys, or the sub-plan is opened (Squall: partitions report when they have all their
--- data, and the leader goes on; the sub-plans and numbers are this project's).
+-- A fact of a reconfiguration: a key was loaded at a partition in a sub-plan, a partition has all its keys of
+-- a sub-plan, or a sub-plan is opened (Squall: partitions report when they have all their data, and the leader
+-- goes on; the sub-plans and numbers are this project's).
 pub data Fact : Type 0 where
-  LoadedKey : (number sub part key : ℕ) → Fact
-  DonePart : (number sub part : ℕ) → Fact
+  LoadedKey : (cell : CellPlace) (key : ℕ) → Fact
+  DonePart : (cell : CellPlace) → Fact
   OpenedSub : (number sub : ℕ) → Fact
-
--- the number, the sub-plan and the partition are the others
-abbrev pub is_cell : ℕ → ℕ → ℕ → ℕ → ℕ → ℕ → Bool
-is_cell number sub part n s p = (number == n) && ((sub == s) && (part == p))
 
 -- what one report says: a load says each key of its span loaded, a completion says its partition done, an
 -- opening says each sub-plan up to its own opened, and an issue says no fact
 abbrev pub report_says : ReportKind PlanPair → Fact → Bool
-report_says (Loaded number sub part span) (LoadedKey n s p k) = is_cell number sub part n s p && span_has span k
-report_says (Loaded number sub part span) (DonePart n s p) = false
+report_says (Loaded number sub part span) (LoadedKey c k) = is_same_cell (place_at number sub part) c && span_has span k
+report_says (Loaded number sub part span) (DonePart c) = false
 report_says (Loaded number sub part span) (OpenedSub n s) = false
-report_says (Done number sub part) (LoadedKey n s p k) = false
-report_says (Done number sub part) (DonePart n s p) = is_cell number sub part n s p
+report_says (Done number sub part) (LoadedKey c k) = false
+report_says (Done number sub part) (DonePart c) = is_same_cell (place_at number sub part) c
 report_says (Done number sub part) (OpenedSub n s) = false
-report_says (Opened number sub) (LoadedKey n s p k) = false
-report_says (Opened number sub) (DonePart n s p) = false
+report_says (Opened number sub) (LoadedKey c k) = false
+report_says (Opened number sub) (DonePart c) = false
 report_says (Opened number sub) (OpenedSub n s) = (number == n) && nat_le s sub
-report_says (Issued number issue) (LoadedKey n s p k) = false
-report_says (Issued number issue) (DonePart n s p) = false
+report_says (Issued number issue) (LoadedKey c k) = false
+report_says (Issued number issue) (DonePart c) = false
 report_says (Issued number issue) (OpenedSub n s) = false
 
 -- what a list of reports says: what some report of it says
@@ -45,20 +42,16 @@ reports_say reports fact = list_any (λ report. report_says report fact) reports
 abbrev pub is_opening : ℕ → ℕ → Bool
 is_opening number sub = nat_le 1 number && nat_lt sub part_limit
 
--- so do those of a reconfiguration, a sub-plan and a partition
-abbrev pub are_numbers : ℕ → ℕ → ℕ → Bool
-are_numbers number sub part = nat_le 1 number && (nat_lt sub part_limit && nat_lt part part_limit)
-
 -- the numbers of the fact lie within their limits
 abbrev pub is_fact : Fact → Bool
-is_fact (LoadedKey n s p k) = are_numbers n s p
-is_fact (DonePart n s p) = are_numbers n s p
+is_fact (LoadedKey c k) = is_cell_place c
+is_fact (DonePart c) = is_cell_place c
 is_fact (OpenedSub n s) = is_opening n s
 
 -- the numbers of the report lie within their limits
 abbrev pub is_report : ReportKind PlanPair → Bool
-is_report (Loaded number sub part span) = are_numbers number sub part
-is_report (Done number sub part) = are_numbers number sub part
+is_report (Loaded number sub part span) = is_cell_place (place_at number sub part)
+is_report (Done number sub part) = is_cell_place (place_at number sub part)
 is_report (Opened number sub) = is_opening number sub
 is_report (Issued number issue) = nat_le 1 number
 

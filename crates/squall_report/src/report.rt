@@ -2,9 +2,9 @@
 
 ghost use Rattle.std.specs.Prelude.{◌≡◌, true};
 ghost use Rattle.std.specs.Arc.{arc_value};
-ghost use Rattle.squall_report.specs.Facts.{is_opening, are_numbers, is_report, loaded_of, done_of, opened_of, issued_of, kind_with};
+ghost use Rattle.squall_report.specs.Facts.{is_opening, is_report, loaded_of, done_of, opened_of, issued_of, kind_with};
 
-use crate::Issue;
+use crate::{CellId, Issue};
 use squall_join::Shared;
 use squall_span::Span;
 use std::alloc::Global;
@@ -69,22 +69,13 @@ fn is_opening(number: u32, sub: u32) -> bool
     number >= 1 && sub <= 9999
 }
 
-/// Whether the numbers lie within their limits.
-fn are_numbers(number: u32, sub: u32, part: u32) -> bool
-    ensures { result ≡ are_numbers number sub part }
-{
-    number >= 1 && sub <= 9999 && part <= 9999
-}
-
 impl Report {
     /// The report that the partition has loaded the keys of the span. None where the number is 0,
     /// or the sub-plan or the partition above 9999.
     pub fn loaded(number: u32, sub: u32, part: u32, span: Span) -> Option<Report>
         ensures { result ≡ loaded_of number sub part span }
     {
-        if !are_numbers(number, sub, part) {
-            return None;
-        }
+        let _cell = CellId::new(number, sub, part)?;
         let kind = ReportKind::Loaded {
             number,
             sub,
@@ -99,9 +90,7 @@ impl Report {
     pub fn done(number: u32, sub: u32, part: u32) -> Option<Report>
         ensures { result ≡ done_of number sub part }
     {
-        if !are_numbers(number, sub, part) {
-            return None;
-        }
+        let _cell = CellId::new(number, sub, part)?;
         let kind = ReportKind::Done { number, sub, part };
         Some(Report { kind })
     }

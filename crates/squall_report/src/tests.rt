@@ -34,6 +34,40 @@ fn issue(alloc: Global, old: &str, new: &str) -> Result<Arc<Issue>, Fail> {
 }
 
 #[test]
+fn cells_within_the_limits(rt: HostRuntime) -> Result<(), Fail> {
+    for (number, sub, part) in [(1, 0, 0), (7, 2, 3), (4294967295, 9999, 9999)] {
+        let cell = CellId::new(number, sub, part).ok_or("a cell")?;
+        assert_eq!(rt;
+            (cell.number(), cell.sub(), cell.part()),
+            (number, sub, part)
+        );
+    }
+    for (number, sub, part) in [(0, 0, 0), (1, 10000, 0), (1, 0, 10000)] {
+        assert!(rt; CellId::new(number, sub, part).is_none());
+    }
+    Ok(())
+}
+
+#[test]
+fn order_of_cells(rt: HostRuntime) -> Result<(), Fail> {
+    let cell = |number, sub, part| CellId::new(number, sub, part).ok_or("a cell");
+    let four = [
+        cell(1, 0, 9)?,
+        cell(1, 2, 0)?,
+        cell(1, 2, 1)?,
+        cell(2, 0, 0)?,
+    ];
+    let rising = four.as_slice();
+    for pair in rising.windows(2) {
+        assert!(rt; pair[0] < pair[1]);
+        assert!(rt; pair[0] != pair[1]);
+    }
+    let again = cell(2, 0, 0)?;
+    assert!(rt; rising[3] == again);
+    Ok(())
+}
+
+#[test]
 fn loads_outside_the_limits(rt: HostRuntime) -> Result<(), Fail> {
     let span = span("2:0", "3:0")?;
     assert!(rt; Report::loaded(0, 0, 3, span).is_none());

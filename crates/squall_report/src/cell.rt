@@ -1,0 +1,122 @@
+//! Where a cell stands on a board.
+
+ghost use Rattle.std.specs.Prelude.{◌≡◌, true, ◌≤◌, ◌<◌};
+ghost use Rattle.std.proofs.Common.{rules};
+ghost use Rattle.std.specs.Cmp.{partial_order_from_own_ties};
+ghost use Rattle.std.specs.Cmp.Rules.{comparing};
+ghost use Rattle.std.specs.Ordering.{as_partial_cmp};
+ghost use Rattle.squall_key.specs.Keys.{part_limit};
+ghost use Rattle.squall_report.specs.Cells.{place_of, is_same_cell, is_cell_place, cell_cmp};
+
+use std::cmp::Ordering;
+use std::marker::Model;
+
+/// A partition in a sub-plan of a reconfiguration: the place of a cell on a board.
+///
+/// The number of the reconfiguration is at least 1, sub-plan and partition are at most 9999.
+/// Cells rise by number, then by sub-plan, then by partition. Contracts see a cell's place as
+/// these three numbers.
+#[derive(Clone, Copy, Debug)]
+pub struct CellId {
+    number: u32,
+    sub: u32,
+    part: u32,
+}
+
+impl Model for CellId {
+    ghost use Rattle.std.specs.Prelude.{◌≡◌, true};
+    ghost use Rattle.squall_report.specs.Cells.{CellPlace, place_at, is_cell_place};
+
+    ghost Value = { CellPlace };
+
+    ghost view = { λ c. place_at c.number c.sub c.part };
+
+    ghost invariant = { λ c. is_cell_place (place_at c.number c.sub c.part) ≡ true };
+
+    ghost inverse = { λ c. record { number = c.number; sub = c.sub; part = c.part } };
+}
+
+impl CellId {
+    /// The cell of the partition in that sub-plan of the reconfiguration of that number. None
+    /// where the number is 0, or the sub-plan or the partition above 9999.
+    pub fn new(number: u32, sub: u32, part: u32) -> Option<CellId>
+        ensures { result ≡ place_of number sub part }
+    {
+        if number == 0 || sub > 9999 || part > 9999 {
+            return None;
+        }
+        Some(CellId { number, sub, part })
+    }
+
+    /// The number of the reconfiguration, from 1 on.
+    pub fn number(self) -> u32
+        ensures value { result ≡ self.number }
+        ensures least { 1 ≤ result }
+    {
+        self.number
+    }
+
+    /// The sub-plan, at most 9999.
+    pub fn sub(self) -> u32
+        ensures value { result ≡ self.sub }
+        ensures limit { result < part_limit }
+    {
+        self.sub
+    }
+
+    /// The partition, at most 9999.
+    pub fn part(self) -> u32
+        ensures value { result ≡ self.part }
+        ensures limit { result < part_limit }
+    {
+        self.part
+    }
+
+    /// Changes nothing: after it a proof knows that the numbers lie within their limits.
+    pub fn known(self)
+        ensures { is_cell_place self ≡ true }
+    {
+        let _number = self.number;
+    }
+}
+
+impl PartialEq for CellId {
+    ghost eq = { is_same_cell };
+
+    ghost laws = { Prim.search (comparing, rules) };
+
+    fn eq(&self, other: &CellId) -> bool {
+        self.number == other.number && self.sub == other.sub && self.part == other.part
+    }
+}
+
+impl Eq for CellId {
+    ghost laws = { Prim.search (comparing, rules) };
+}
+
+impl PartialOrd for CellId {
+    ghost partial_cmp = { as_partial_cmp cell_cmp };
+
+    ghost laws = { partial_order_from_own_ties (Prim.search (comparing, rules)) (Prim.search (comparing, rules)) };
+
+    fn partial_cmp(&self, other: &CellId) -> Option<Ordering> {
+        Some(self.cmp(other))
+    }
+}
+
+impl Ord for CellId {
+    ghost cmp = { cell_cmp };
+
+    ghost total = { Prim.search (comparing, rules) };
+
+    ghost matches_partial_cmp = { Prim.search (comparing, rules) };
+
+    ghost matches_eq = { Prim.search (comparing, rules) };
+
+    fn cmp(&self, other: &CellId) -> Ordering {
+        let by_number = self.number.cmp(&other.number);
+        let by_sub = self.sub.cmp(&other.sub);
+        let by_part = self.part.cmp(&other.part);
+        by_number.then(by_sub.then(by_part))
+    }
+}
