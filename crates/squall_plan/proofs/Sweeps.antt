@@ -136,7 +136,7 @@ hole_some c low reach (r ∷ rs) k f rise apart e = elim (cases_lt r.span.lo rea
 ]
 
 -- with no hole, the ranges tile
-pub hole_none : (low reach : ℕ) (rs : List PlanRange) → reach ≤ top → RiseFrom low rs → clash reach rs ≡ None → hole reach rs ≡ None → IsTiling reach rs
+pub hole_none : (low reach : ℕ) (rs : List PlanRange) → reach ≤ top → RiseFrom low rs → clash reach rs ≡ None → hole reach rs ≡ None → IsTiling reach top rs
 hole_none low reach [] high rise apart e = elim (cases_lt reach top) [
   | inl lt ↦
       let e1 : Some reach ≡ None = rw (lt-ltb reach top lt) at e in
