@@ -1,8 +1,6 @@
 //! Tests of boards.
 
 mod listed;
-mod plain;
-mod random;
 mod tolerant;
 
 use super::*;

@@ -2,8 +2,8 @@
 
 ghost use Rattle.std.specs.Prelude.{◌<◌};
 
-use crate::Board;
 use crate::tests::{NEW, OLD, plain, plan};
+use squall_board::Board;
 use squall_join::Flat;
 use squall_key::{Bound, Key};
 use squall_report::{Issue, Report};
@@ -101,12 +101,12 @@ fn one_by_one(alloc: Global, list: &[Report]) -> Result<Board, AllocError> {
     Ok(board)
 }
 
-/// The board that took the front of the list at once, merged the board of the rest, and took
+/// The board that took the first reports of the list at once, merged the board of the rest, and took
 /// every report again that stands at an even place.
-fn in_groups(alloc: Global, list: &[Report], front: usize) -> Result<Board, AllocError> {
-    let (first, rest) = list.split_at(front.min(list.len()));
+fn in_groups(alloc: Global, list: &[Report], first: usize) -> Result<Board, AllocError> {
+    let (begin, rest) = list.split_at(first.min(list.len()));
     let mut board = Board::new(alloc);
-    board.take_all(first)?;
+    board.take_all(begin)?;
     let other = one_by_one(alloc, rest)?;
     board.merge(&other)?;
     for report in list.iter().step_by(2) {
