@@ -11,12 +11,12 @@ ghost use Rattle.squall_course.specs.Statuses.{IsStatus};
 ghost use Rattle.squall_course.specs.Moves.{moves_of, AreMoves, is_incoming, is_outgoing, receivers_of};
 
 use crate::fault::CourseFault;
-use crate::feed::Table;
 use crate::gather;
+use crate::link::Table;
 use crate::moving::Move;
 use crate::owners::Owners;
-use crate::piece::pieces;
 use crate::status::Status;
+use crate::transfer::transfers;
 use squall_key::{Key, PartId};
 use squall_plan::Plan;
 use squall_span::{Span, SpanSet};
@@ -44,7 +44,7 @@ impl Model for Course {
     ghost use Rattle.squall_course.specs.Change.{Change, ArePlans};
     ghost use Rattle.squall_course.specs.Subplans.{subplan_count};
     ghost use Rattle.squall_course.specs.Moves.{moves_of};
-    ghost use Rattle.squall_course.specs.Tables.{IsTable};
+    ghost use Rattle.squall_course.specs.Links.{IsTable};
 
     ghost Value = { Change };
 
@@ -66,9 +66,9 @@ impl Course {
         }
         let old = old.copied(alloc)?;
         let new = new.copied(alloc)?;
-        let pieces = pieces(alloc, old.ranges(), new.ranges())?;
-        let table = Table::of(alloc, &pieces)?;
-        let moves = table.number(alloc, &pieces)?;
+        let transfers = transfers(alloc, old.ranges(), new.ranges())?;
+        let table = Table::of(alloc, &transfers)?;
+        let moves = table.number(alloc, &transfers)?;
         let subplans = table.most(old.ranges()) as u32;
         Ok(Course {
             number,
@@ -169,8 +169,8 @@ impl Course {
     pub fn dest(&self, sub: u32, part: PartId) -> Option<PartId>
         ensures { result ≡ dest_of self.now.old self.now.new sub part }
     {
-        let feed = self.table.row(part).get(sub as usize)?;
-        Some(feed.dest)
+        let link = self.table.row(part).get(sub as usize)?;
+        Some(link.dest)
     }
 
     /// The keys that move to `part` in the sub-plan. The error comes where memory ran out.

@@ -8,7 +8,8 @@ use Rattle.squall_plan.specs.declared.fault.PlanFault.{PlanFault}
 use Rattle.squall_plan.specs.declared.fault.PlanFault.TheVariants.{Json, Shape, BadPart, BadBound, EmptyRange, TooMany, Overlap, Gap, NoMemory}
 use Rattle.squall_plan.specs.Ranges.{IsCanonical, holders, AreRanges, ArePlan, IsLeastShared, IsLeastFree}
 use Rattle.squall_plan.specs.Arranged.{range_limit, IsArranged, Gives, by_low, clash, hole, joined, plan_of_rising, plan_of_ranges}
-use Rattle.squall_plan.proofs.Sweeps.{RiseFrom, has_above, hole_none}
+use Rattle.squall_plan.specs.PlanLaws.{has_above}
+use Rattle.squall_plan.proofs.Sweeps.{RiseFrom, hole_none}
 use Rattle.squall_plan.proofs.Canonical.{same_list}
 use Rattle.squall_plan.proofs.Sorted.{by_low_ranges, joined_are_ranges, Sorts, by_low_sorts, is_shared, is_free, is_plan}
 

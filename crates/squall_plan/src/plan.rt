@@ -3,7 +3,8 @@
 ghost use Rattle.std.specs.Prelude.{◌≡◌, ◌<◌, ◌≤◌, IfOk, length};
 ghost use Rattle.squall_key.specs.Keys.{top};
 ghost use Rattle.squall_plan.specs.Ranges.{IsTiling, IsPlace, IsCanonical, IsRange, AreRanges, owner_of, names};
-ghost use Rattle.squall_plan.specs.Equal.{are_same_ranges, ranges_equal};
+ghost use Rattle.squall_plan.specs.Equal.{are_same_ranges};
+ghost use Rattle.squall_plan.specs.EqualLaws.{ranges_equal};
 ghost use Rattle.squall_plan.specs.Arranged.{Gives, IsArranged, range_limit, plan_of_ranges};
 ghost use Rattle.squall_plan.specs.Form.{Follows, ranges_of_text, plan_of_text};
 ghost use Rattle.std.specs.Cmp.{partial_equiv_from_equiv};

@@ -1,8 +1,8 @@
 use Rattle.std.proofs.Common.{◌≡◌, ltb, arith, rules}
 use Rattle.std.proofs.lemmas.List.Sorted.{IsPartitionPoint-from_clause, IsPartitionedBy-ltb}
-use Rattle.squall_course.specs.Tables.{lower_feeds}
+use Rattle.squall_course.specs.Links.{lower_links}
 use Rattle.squall_course.proofs.Rows.{rise_row, sub_by_row, lower_fits}
-use Rattle.squall_course.proofs.feed.Table.sub.Goals as goal
+use Rattle.squall_course.proofs.link.Table.sub.Goals as goal
 
 is_sub : goal.returns
 is_sub c =
@@ -12,7 +12,7 @@ is_sub c =
 
 pub overflow_cast-result : goal.overflow_cast-result
 overflow_cast-result c =
-    let is : c.partition_point.result ≡ lower_feeds c.args.source c.args.dest c.args.self.now = is_sub c in
+    let is : c.partition_point.result ≡ lower_links c.args.source c.args.dest c.args.self.now = is_sub c in
     let few = lower_fits c.args.source c.args.dest c.args.self.now c.row.ensures.sorted in
     omega (arith, is, few, c.get-number.ensures.value, c.get-number.ensures.below)
 

@@ -2,25 +2,25 @@
 
 ghost use Rattle.std.specs.Prelude.{◌≡◌, ◌++◌, ℕ, ◌≤◌, IfOk, OnOk};
 ghost use Rattle.squall_plan.specs.declared.range.PlanRange.{PlanRange};
-ghost use Rattle.squall_course.specs.Moves.{piece, listed, row, pieces};
-ghost use Rattle.squall_course.specs.Tables.{Follow};
+ghost use Rattle.squall_course.specs.Moves.{transfer, listed, row, transfers};
+ghost use Rattle.squall_course.specs.Steps.{Follow};
 
 use squall_key::PartId;
 use squall_plan::PlanRange;
 use squall_span::Span;
 use std::alloc::{AllocError, Global};
 
-/// The keys of `span` go from `source` to `dest`.
+/// The keys of `span` go from `source` to `dest`, in a sub-plan that is not yet known.
 #[derive(Clone, Copy)]
-pub(crate) struct Piece {
+pub(crate) struct Transfer {
     pub(crate) span: Span,
     pub(crate) source: PartId,
     pub(crate) dest: PartId,
 }
 
 /// What goes from a range to another.
-fn between(range: &PlanRange, other: &PlanRange) -> Option<Piece>
-    ensures { result ≡ piece range.now other.now }
+fn between(range: &PlanRange, other: &PlanRange) -> Option<Transfer>
+    ensures { result ≡ transfer range.now other.now }
 {
     let lo = range.span.lo().max(other.span.lo());
     let hi = range.span.hi().min(other.span.hi());
@@ -28,7 +28,7 @@ fn between(range: &PlanRange, other: &PlanRange) -> Option<Piece>
     if range.part == other.part {
         return None;
     }
-    Some(Piece {
+    Some(Transfer {
         span,
         source: range.part,
         dest: other.part,
@@ -36,32 +36,32 @@ fn between(range: &PlanRange, other: &PlanRange) -> Option<Piece>
 }
 
 /// Adds what goes from a range to another.
-fn push_piece(
-    pieces: &mut Vec<Piece>,
+fn push_transfer(
+    transfers: &mut Vec<Transfer>,
     range: &PlanRange,
     other: &PlanRange,
 ) -> Result<(), AllocError>
-    ensures { OnOk result (pieces.new.items ≡ pieces.old.items ++ listed (piece range.now other.now)) }
+    ensures { OnOk result (transfers.new.items ≡ transfers.old.items ++ listed (transfer range.now other.now)) }
 {
-    if let Some(piece) = between(range, other) {
-        pieces.push(piece)?;
+    if let Some(transfer) = between(range, other) {
+        transfers.push(transfer)?;
     }
     Ok(())
 }
 
 /// Adds what goes from a range to the others, and gives those others that reach beyond it.
 fn push_row<'a>(
-    pieces: &mut Vec<Piece>,
+    transfers: &mut Vec<Transfer>,
     range: &PlanRange,
     others: &'a [PlanRange],
 ) -> Result<&'a [PlanRange], AllocError>
     requires { Follow 0 others.now }
-    ensures pieces { OnOk result (pieces.new.items ≡ pieces.old.items ++ row range.now others.now) }
+    ensures transfers { OnOk result (transfers.new.items ≡ transfers.old.items ++ row range.now others.now) }
     ensures later { IfOk result (λ rest. (later : PlanRange) → range.now.span.hi ≤ later.span.lo → row later rest.now ≡ row later others.now) }
     ensures follow { IfOk result (λ rest. Follow 0 rest.now) }
 {
     for (index, other) in others.iter().enumerate() {
-        push_piece(pieces, range, other)?;
+        push_transfer(transfers, range, other)?;
         if range.span.hi() < other.span.hi() {
             return Ok(&others[index..]);
         }
@@ -70,19 +70,19 @@ fn push_row<'a>(
 }
 
 /// What goes from ranges to others, by rising key.
-pub(crate) fn pieces(
+pub(crate) fn transfers(
     alloc: Global,
     ranges: &[PlanRange],
     others: &[PlanRange],
-) -> Result<Vec<Piece>, AllocError>
+) -> Result<Vec<Transfer>, AllocError>
     requires ranges { Follow 0 ranges.now }
     requires others { Follow 0 others.now }
-    ensures { IfOk result (λ v. v.items ≡ pieces ranges.now others.now) }
+    ensures { IfOk result (λ v. v.items ≡ transfers ranges.now others.now) }
 {
-    let mut pieces = Vec::new(alloc);
+    let mut transfers = Vec::new(alloc);
     let mut rest = others;
     for range in ranges {
-        rest = push_row(&mut pieces, range, rest)?;
+        rest = push_row(&mut transfers, range, rest)?;
     }
-    Ok(pieces)
+    Ok(transfers)
 }
