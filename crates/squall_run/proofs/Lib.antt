@@ -1,4 +1,6 @@
 pub mod Answered
 pub mod Boards
+pub mod LineTexts
+pub mod Outputs
 pub mod Refusals
 pub mod Sent

@@ -1,99 +1,186 @@
--- Which runs are refused.
-use Rattle.std.proofs.Common.{◌≡◌, ℕ, List, [], ◌∷◌, true, false, Option, None, Some, Result, Ok, Err, suc, refl, sym, ap, arith}
+-- Which runs are refused, by the last line of what they answer.
+use Rattle.std.proofs.Common.{◌≡◌, ◌≢◌, ℕ, List, [], ◌∷◌, ◌++◌, length, true, false, Option, None, Some, Result, Ok, Err, suc, refl, sym, ap, ◌∙◌, subst, arith, append_assoc}
 use Rattle.std.proofs.lemmas.Bool.{false≢true}
+use Rattle.std.proofs.lemmas.List.{append-nil}
+use Rattle.std.specs.Prelude.{codes}
+use Rattle.std.specs.Fmt.{decimal}
+use Rattle.std.specs.List.{concat}
+use Rattle.squall_key.specs.Keys.{text_of_key}
 use Rattle.squall_span.specs.Spans.{span_at}
 use Rattle.squall_plan.specs.declared.range.PlanRange.{PlanRange}
 use Rattle.squall_plan.specs.declared.fault.PlanFault.{PlanFault}
+use Rattle.squall_plan.specs.Faults.{text_of_fault}
 use Rattle.squall_plan.specs.Form.{plan_of_text}
 use Rattle.squall_report.specs.declared.report.ReportKind.{ReportKind}
 use Rattle.squall_report.specs.Issues.{PlanPair}
 use Rattle.squall_report.specs.Facts.{done_of, opened_of}
-use Rattle.squall_lines.specs.Script.{Script}
-use Rattle.squall_lines.specs.Words.{without_cr, after_first_word}
-use Rattle.squall_run.specs.declared.command.Command.{Command}
-use Rattle.squall_run.specs.declared.command.Command.TheVariants.{Skip, Old, New, Loaded, Done, Opened, Route, Board, Bad}
-use Rattle.squall_run.specs.declared.scenario.Stage.{Stage}
-use Rattle.squall_run.specs.declared.scenario.Stage.TheVariants.{Unplanned, Planned, Running}
-use Rattle.squall_run.specs.declared.scenario.Scenario.{Scenario}
-use Rattle.squall_run.specs.Commands.{command_of}
-use Rattle.squall_run.specs.Replies.{Reply, Goes, Ends, old_plan, old_reply, new_plan, new_reply, take_reply, load_of, report_reply, route_reply, board_reply, reply_to, reply_to_line, follow, at_next_line, says}
-use Rattle.squall_run.proofs.Boards.{board_text_good}
-use Rattle.squall_run.specs.Text.{EndsInBadLine, IsNoBadLine, HasNoBadLine}
+use Rattle.squall_board.specs.Boards as boards
+use Rattle.squall_board.specs.Route.{route}
+use Rattle.squall_lines.specs.Script.{Script, text_of}
+use Rattle.squall_lines.specs.Words.{without_cr}
+use Rattle.squall_run.specs.declared.reason.Reason.{Reason}
+use Rattle.squall_run.specs.declared.reason.Reason.TheVariants.{Long, Word, Order, Limit, Plan}
+use Rattle.squall_run.specs.State.{StageState, NoPlan, OldPlan, BothPlans, ScenarioState, at_start}
+use Rattle.squall_run.specs.Requests.{Request, Skip, Old, New, Loaded, Done, Opened, Route, Board, Bad, request_of}
+use Rattle.squall_run.specs.Replies.{Reply, Goes, Ends, text_of_reason, old_plan, old_reply, new_plan, new_reply, take_reply, load_of, report_reply, first_course, route_reply, board_reply, reply_to, reply_to_line, bad_line, follow, at_next_line, script_from}
+use Rattle.squall_run.specs.Text.{EndsInBadLine, EndsInNoBadLine, HasNoBadLine}
+use Rattle.squall_run.proofs.LineTexts.{no_lf, no_lf-append, decimal_no_lf, key_no_lf, fault_no_lf, Spells, spells_nothing, spells_lf, spells_glued, spells_append, NotBegun, differs_at, Lacks, lacks_nothing, lacks_line, lacks_append, last_is, last_lacks, all_lines}
+use Rattle.squall_run.proofs.Boards.{board_lacks}
+
+abbrev bad : List ℕ
+bad = codes "bad line "
+
+-- ---- replies
+
+-- a reply that goes on has no bad line
+abbrev NotBad : Reply → Type 0
+NotBad (Goes text s) = Lacks bad text
+NotBad (Ends reason) = Unit {0}
+
+-- a word that does not begin as a bad line does, a number, and an LF
+numbered_lacks : (word : List ℕ) (n : ℕ) → no_lf word ≡ true → ((more : List ℕ) → NotBegun bad (word ++ more)) → Lacks bad (word ++ (decimal n ++ codes "\n"))
+numbered_lacks word n h i =
+    lacks_line bad (word ++ (decimal n ++ codes "\n")) (word ++ (decimal n ++ []))
+    (spells_glued word (decimal n ++ codes "\n") (decimal n ++ []) [] h (spells_glued (decimal n) (codes "\n") [] [] (decimal_no_lf n) spells_lf)) (i (decimal n ++ []))
+
+old_plan_good : (s : ScenarioState) (r : Result (List PlanRange) PlanFault) → NotBad (old_plan s r)
+old_plan_good s (Ok plan) = numbered_lacks (codes "old ") (length plan) refl (λ more rest. differs_at 0 (codes "old " ++ more) (bad ++ rest) (λ e. omega (arith, e)))
+old_plan_good s (Err fault) = tt
+
+old_good : (s : ScenarioState) (stage : StageState) (text : List ℕ) → NotBad (old_reply s stage text)
+old_good s NoPlan text = old_plan_good s (plan_of_text text)
+old_good s (OldPlan old) text = tt
+old_good s (BothPlans old new) text = tt
+
+new_plan_good : (s : ScenarioState) (old : List PlanRange) (r : Result (List PlanRange) PlanFault) → NotBad (new_plan s old r)
+new_plan_good s old (Ok plan) = numbered_lacks (codes "new ") (length plan) refl (λ more rest. differs_at 0 (codes "new " ++ more) (bad ++ rest) (λ e. omega (arith, e)))
+new_plan_good s old (Err fault) = tt
+
+new_good : (s : ScenarioState) (stage : StageState) (text : List ℕ) → NotBad (new_reply s stage text)
+new_good s NoPlan text = tt
+new_good s (OldPlan old) text = new_plan_good s old (plan_of_text text)
+new_good s (BothPlans old new) text = tt
+
+take_good : (s : ScenarioState) (report : Option (ReportKind PlanPair)) → NotBad (take_reply s report)
+take_good s None = tt
+take_good s (Some report) =
+    lacks_line bad (codes "taken\n") (codes "taken" ++ []) (spells_glued (codes "taken") (codes "\n") [] [] refl spells_lf) (λ rest. differs_at 0 (codes "taken" ++ []) (bad ++ rest) (λ e. omega (arith, e)))
+
+report_good : (s : ScenarioState) (stage : StageState) (report : Option (ReportKind PlanPair)) → NotBad (report_reply s stage report)
+report_good s NoPlan report = tt
+report_good s (OldPlan old) report = tt
+report_good s (BothPlans old new) report = take_good s report
+
+route_lacks : (key part : ℕ) → Lacks bad (codes "route " ++ (text_of_key key ++ (codes " " ++ (decimal part ++ codes "\n"))))
+route_lacks key part =
+    lacks_line bad (codes "route " ++ (text_of_key key ++ (codes " " ++ (decimal part ++ codes "\n")))) (codes "route " ++ (text_of_key key ++ (codes " " ++ (decimal part ++ []))))
+    (spells_glued (codes "route ") (text_of_key key ++ (codes " " ++ (decimal part ++ codes "\n"))) (text_of_key key ++ (codes " " ++ (decimal part ++ []))) [] refl
+    (spells_glued (text_of_key key) (codes " " ++ (decimal part ++ codes "\n")) (codes " " ++ (decimal part ++ [])) [] (key_no_lf key)
+    (spells_glued (codes " ") (decimal part ++ codes "\n") (decimal part ++ []) [] refl
+    (spells_glued (decimal part) (codes "\n") [] [] (decimal_no_lf part) spells_lf))))
+    (λ rest. differs_at 0 (codes "route " ++ (text_of_key key ++ (codes " " ++ (decimal part ++ [])))) (bad ++ rest) (λ e. omega (arith, e)))
+
+route_good : (s : ScenarioState) (stage : StageState) (key : ℕ) → NotBad (route_reply s stage key)
+route_good s NoPlan key = tt
+route_good s (OldPlan old) key = tt
+route_good s (BothPlans old new) key = route_lacks key (route (first_course old new) (boards.says s.board) key)
+
+board_good : (s : ScenarioState) (stage : StageState) → NotBad (board_reply s stage)
+board_good s NoPlan = tt
+board_good s (OldPlan old) = tt
+board_good s (BothPlans old new) = board_lacks s.board
+
+reply_good : (s : ScenarioState) (request : Request) → NotBad (reply_to s request)
+reply_good s Skip = lacks_nothing bad
+reply_good s (Old text) = old_good s s.stage text
+reply_good s (New text) = new_good s s.stage text
+reply_good s (Loaded number sub part lo hi) = report_good s s.stage (load_of (span_at lo hi) number sub part)
+reply_good s (Done number sub part) = report_good s s.stage (done_of number sub part)
+reply_good s (Opened number sub) = report_good s s.stage (opened_of number sub)
+reply_good s (Route key) = route_good s s.stage key
+reply_good s Board = board_good s s.stage
+reply_good s (Bad reason) = tt
+
+line_good : (s : ScenarioState) (line : List ℕ) → NotBad (reply_to_line s line)
+line_good s line = reply_good s (request_of line)
 
 -- ---- refused
 
-ends_more : (text : List ℕ) (script : Script) → EndsInBadLine script → EndsInBadLine (record { answers = text ∷ script.answers; refused = script.refused })
-ends_more text script e = (text ∷ e.0, e.1, e.2, ap (λ w. text ∷ w) e.3)
+reason_no_lf : (reason : Reason) → no_lf (text_of_reason reason) ≡ true
+reason_no_lf Long = refl
+reason_no_lf Word = refl
+reason_no_lf Order = refl
+reason_no_lf Limit = refl
+reason_no_lf (Plan fault) = fault_no_lf fault
 
-ends_follow : (line : ℕ) (reply : Reply) (then : Scenario → Script) → ((t : Scenario) → (then t).refused ≡ true → EndsInBadLine (then t)) → (follow line reply then).refused ≡ true → EndsInBadLine (follow line reply then)
-ends_follow line (Goes text t) then later e = ends_more text (then t) (later t e)
-ends_follow line (Ends reason) then later e = ([], line, reason, refl)
+bad_line_no_lf : (n : ℕ) (reason : Reason) → no_lf (bad_line n reason) ≡ true
+bad_line_no_lf n reason = no_lf-append (decimal n) (codes ": " ++ text_of_reason reason) (decimal_no_lf n) (reason_no_lf reason)
 
-pub refused_ends : (s : Scenario) (lines : List (List ℕ)) → (says s lines).refused ≡ true → EndsInBadLine (says s lines)
-refused_ends s [] e = absurd (false≢true e)
-refused_ends s (line ∷ lines) e = ends_follow (at_next_line s).line (reply_to_line (at_next_line s) (without_cr line)) (λ t. says t lines) (λ t h. refused_ends t lines h) e
+-- the text is whole lines, and a bad one last
+abbrev Refuses : List ℕ → Type 0
+Refuses text = (lines : List (List ℕ)) × (n : ℕ) × (reason : Reason) × Spells text (lines ++ bad_line n reason ∷ [])
+
+bad_refuses : (n : ℕ) (reason : Reason) → Refuses ((bad_line n reason ++ codes "\n") ++ [])
+bad_refuses n reason = (
+  [],
+  n,
+  reason,
+  subst (λ text. Spells text (bad_line n reason ∷ [])) (sym (append-nil (bad_line n reason ++ codes "\n")))
+  (subst (λ line. Spells (bad_line n reason ++ codes "\n") (line ∷ [])) (append-nil (bad_line n reason)) (spells_glued (bad_line n reason) (codes "\n") [] [] (bad_line_no_lf n reason) spells_lf)),
+)
+
+more_refuses : (a b : List ℕ) → Lacks bad a → Refuses b → Refuses (a ++ b)
+more_refuses a b h i = (
+  h.0 ++ i.0,
+  i.1,
+  i.2,
+  subst (λ lines. Spells (a ++ b) lines) (sym (append_assoc h.0 i.0 (bad_line i.1 i.2 ∷ []))) (spells_append a b h.0 (i.0 ++ bad_line i.1 i.2 ∷ []) h.1 i.3),
+)
+
+follow_refuses : (line : ℕ) (reply : Reply) (then : ScenarioState → Script) → NotBad reply → ((t : ScenarioState) → (then t).refused ≡ true → Refuses (text_of (then t))) → (follow line reply then).refused ≡ true
+    → Refuses (text_of (follow line reply then))
+follow_refuses line (Goes text t) then good later e = more_refuses text (text_of (then t)) good (later t e)
+follow_refuses line (Ends reason) then good later e = bad_refuses line reason
+
+from_refuses : (s : ScenarioState) (lines : List (List ℕ)) → (script_from s lines).refused ≡ true → Refuses (text_of (script_from s lines))
+from_refuses s [] e = absurd (false≢true e)
+from_refuses s (line ∷ lines) e =
+    let next = at_next_line s in
+    follow_refuses next.line (reply_to_line next (without_cr line)) (λ t. script_from t lines) (line_good next (without_cr line)) (λ t h. from_refuses t lines h) e
+
+ends_bad : (text : List ℕ) → Refuses text → EndsInBadLine text
+ends_bad text h = (h.1, h.2, last_is text h.0 (bad_line h.1 h.2) h.3)
+
+pub refused_ends : (lines : List (List ℕ)) → (script_from at_start lines).refused ≡ true → EndsInBadLine (text_of (script_from at_start lines))
+refused_ends lines e = ends_bad (text_of (script_from at_start lines)) (from_refuses at_start lines e)
 
 -- ---- fine
 
-abbrev NotBad : Reply → Type 0
-NotBad (Goes text s) = IsNoBadLine text
-NotBad (Ends reason) = Unit {0}
+follow_lacks : (line : ℕ) (reply : Reply) (then : ScenarioState → Script) → NotBad reply → ((t : ScenarioState) → (then t).refused ≡ false → Lacks bad (text_of (then t))) → (follow line reply then).refused ≡ false
+    → Lacks bad (text_of (follow line reply then))
+follow_lacks line (Goes text t) then good later e = lacks_append bad text (text_of (then t)) good (later t e)
+follow_lacks line (Ends reason) then good later e = absurd (false≢true (sym e))
 
-old_plan_good : (s : Scenario) (r : Result (List PlanRange) PlanFault) → NotBad (old_plan s r)
-old_plan_good s (Ok plan) = λ e. omega (arith, e)
-old_plan_good s (Err fault) = tt
-
-old_good : (s : Scenario) (stage : Stage) (text : List ℕ) → NotBad (old_reply s stage text)
-old_good s Unplanned text = old_plan_good s (plan_of_text text)
-old_good s (Planned old) text = tt
-old_good s (Running course) text = tt
-
-new_plan_good : (s : Scenario) (old : List PlanRange) (r : Result (List PlanRange) PlanFault) → NotBad (new_plan s old r)
-new_plan_good s old (Ok plan) = λ e. omega (arith, e)
-new_plan_good s old (Err fault) = tt
-
-new_good : (s : Scenario) (stage : Stage) (text : List ℕ) → NotBad (new_reply s stage text)
-new_good s Unplanned text = tt
-new_good s (Planned old) text = new_plan_good s old (plan_of_text text)
-new_good s (Running course) text = tt
-
-take_good : (s : Scenario) (report : Option (ReportKind PlanPair)) → NotBad (take_reply s report)
-take_good s None = tt
-take_good s (Some report) = λ e. omega (arith, e)
-
-report_good : (s : Scenario) (stage : Stage) (report : Option (ReportKind PlanPair)) → NotBad (report_reply s stage report)
-report_good s Unplanned report = tt
-report_good s (Planned old) report = tt
-report_good s (Running course) report = take_good s report
-
-route_good : (s : Scenario) (stage : Stage) (key : ℕ) → NotBad (route_reply s stage key)
-route_good s Unplanned key = tt
-route_good s (Planned old) key = tt
-route_good s (Running course) key = λ e. omega (arith, e)
-
-board_good : (s : Scenario) (stage : Stage) → NotBad (board_reply s stage)
-board_good s Unplanned = tt
-board_good s (Planned old) = tt
-board_good s (Running course) = board_text_good s.board
-
-reply_good : (s : Scenario) (c : Command) (text : List ℕ) → NotBad (reply_to s c text)
-reply_good s Skip text = λ e. omega (arith, e)
-reply_good s Old text = old_good s s.stage text
-reply_good s New text = new_good s s.stage text
-reply_good s (Loaded number sub part lo hi) text = report_good s s.stage (load_of (span_at lo hi) number sub part)
-reply_good s (Done number sub part) text = report_good s s.stage (done_of number sub part)
-reply_good s (Opened number sub) text = report_good s s.stage (opened_of number sub)
-reply_good s (Route key) text = route_good s s.stage key
-reply_good s Board text = board_good s s.stage
-reply_good s (Bad reason) text = tt
-
-good_follow : (line : ℕ) (reply : Reply) (then : Scenario → Script) (lines : List (List ℕ)) → NotBad reply → ((t : Scenario) → (then t).refused ≡ false → HasNoBadLine lines (then t)) → (follow line reply then).refused ≡ false
-    → (first : List ℕ) → HasNoBadLine (first ∷ lines) (follow line reply then)
-good_follow line (Goes text t) then lines good later e first = let rest = later t e in (ap suc rest.0, (good, rest.1))
-good_follow line (Ends reason) then lines good later e first = absurd (false≢true (sym e))
-
-pub fine_has_none : (s : Scenario) (lines : List (List ℕ)) → (says s lines).refused ≡ false → HasNoBadLine lines (says s lines)
-fine_has_none s [] e = (refl, tt)
-fine_has_none s (line ∷ lines) e =
+from_lacks : (s : ScenarioState) (lines : List (List ℕ)) → (script_from s lines).refused ≡ false → Lacks bad (text_of (script_from s lines))
+from_lacks s [] e = lacks_nothing bad
+from_lacks s (line ∷ lines) e =
     let next = at_next_line s in
-    good_follow next.line (reply_to_line next (without_cr line)) (λ t. says t lines) lines (reply_good next (command_of (without_cr line)) (after_first_word (without_cr line))) (λ t h. fine_has_none t lines h) e line
+    follow_lacks next.line (reply_to_line next (without_cr line)) (λ t. script_from t lines) (line_good next (without_cr line)) (λ t h. from_lacks t lines h) e
+
+pub fine_lacks : (lines : List (List ℕ)) → (script_from at_start lines).refused ≡ false → HasNoBadLine (text_of (script_from at_start lines))
+fine_lacks lines e n reason =
+    all_lines (λ line. line ≢ bad_line n reason) bad (text_of (script_from at_start lines)) (λ line h. h (decimal n ++ (codes ": " ++ text_of_reason reason))) (from_lacks at_start lines e)
+
+pub fine_ends : (lines : List (List ℕ)) → (script_from at_start lines).refused ≡ false → EndsInNoBadLine (text_of (script_from at_start lines))
+fine_ends lines e n reason = last_lacks bad (text_of (script_from at_start lines)) (from_lacks at_start lines e) (decimal n ++ (codes ": " ++ text_of_reason reason))
+
+follow_counts : (line : ℕ) (reply : Reply) (then : ScenarioState → Script) (n : ℕ) → ((t : ScenarioState) → (then t).refused ≡ false → length (then t).answers ≡ n) → (follow line reply then).refused ≡ false
+    → length (follow line reply then).answers ≡ suc n
+follow_counts line (Goes text t) then n later e = ap suc (later t e)
+follow_counts line (Ends reason) then n later e = absurd (false≢true (sym e))
+
+pub fine_counts : (s : ScenarioState) (lines : List (List ℕ)) → (script_from s lines).refused ≡ false → length (script_from s lines).answers ≡ length lines
+fine_counts s [] e = refl
+fine_counts s (line ∷ lines) e =
+    let next = at_next_line s in
+    follow_counts next.line (reply_to_line next (without_cr line)) (λ t. script_from t lines) (length lines) (λ t h. fine_counts t lines h) e

@@ -4,11 +4,11 @@ use Rattle.std.proofs.lemmas.List.{take-append-drop}
 use Rattle.squall_lines.specs.Script.{IsFront}
 use Rattle.squall_lines.specs.declared.Ended.{Ended}
 use Rattle.squall_lines.specs.declared.Ended.TheVariants.{Fine, Refused}
-use Rattle.squall_run.specs.Said.{Said, IsReady}
+use Rattle.squall_run.specs.Output.{Output, IsReady}
 
-text_ready : (ended : Ended) (text : List ℕ) (said : Said) → IsReady ended text said → text ≡ said.text
+text_ready : (ended : Ended) (text : List ℕ) (said : Output) → IsReady ended text said → text ≡ said.text
 text_ready Fine text said h = h.0
 text_ready Refused text said h = h.0
 
-pub front_ready : (ended : Ended) (text : List ℕ) (n : ℕ) (said : Said) → IsReady ended text said → IsFront (take n text) said.text
+pub front_ready : (ended : Ended) (text : List ℕ) (n : ℕ) (said : Output) → IsReady ended text said → IsFront (take n text) said.text
 front_ready ended text n said h = (drop n text, sym (text_ready ended text said h) ∙ sym (take-append-drop n text))

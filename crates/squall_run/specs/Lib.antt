@@ -3,9 +3,12 @@ pub use Rattle.squall_device.specs.Counts
 pub use Rattle.squall_lines.specs.Lines
 pub use Rattle.squall_lines.specs.Script
 pub use Rattle.squall_command.specs.Line
-pub mod Commands
+pub mod State
+pub mod Stages
+pub mod Requests
 pub mod BoardText
 pub mod Replies
+pub mod Answered
 pub mod Text
-pub mod Said
-pub mod Status
+pub mod Output
+pub mod Tasks

@@ -1,28 +1,36 @@
--- What is written for an input.
-use Rattle.std.specs.Prelude.{◌≡◌, ◌≢◌, ℕ, List, [], ◌∷◌, ◌++◌, length, slice_index}
-use Rattle.std.specs.List.{AllByRecursion}
-use Rattle.squall_board.specs.Boards.{empty_board}
+-- What a run answers to an input, and what the last line of a text is.
+use Rattle.std.specs.Prelude.{◌≡◌, ◌≢◌, ℕ, List, ◌++◌, Option, None, Some, codes}
+use Rattle.std.specs.List.{AllByRecursion, last_or}
+use Rattle.squall_lines.specs.Lines.{lines_of}
 use Rattle.squall_lines.specs.Script.{Script}
-use Rattle.squall_run.specs.declared.scenario.Stage.TheVariants.{Unplanned}
-use Rattle.squall_run.specs.declared.scenario.Scenario.{Scenario}
 use Rattle.squall_run.specs.declared.reason.Reason.{Reason}
-use Rattle.squall_run.specs.Replies.{says, bad_line}
+use Rattle.squall_run.specs.State.{at_start}
+use Rattle.squall_run.specs.Replies.{script_from, bad_line}
 
-abbrev pub at_start : Scenario
-at_start = record { line = 0; stage = Unplanned; board = empty_board }
-
--- what a scenario says to the lines of its input, from the start: an answer to each line up to a bad one
+-- what a scenario answers to the lines of its input, from the start: an answer to each line up to a bad one
 abbrev pub script_of : List (List ℕ) → Script
-script_of lines = says at_start lines
+script_of lines = script_from at_start lines
 
--- the last answer tells why a line is bad
-abbrev pub EndsInBadLine : Script → Type 0
-EndsInBadLine script = (front : List (List ℕ)) × (line : ℕ) × (reason : Reason) × (script.answers ≡ front ++ bad_line line reason ∷ [])
+-- the last line of a text, where it has a line
+abbrev pub last_line : List ℕ → Option (List ℕ)
+last_line text = last_or None (lines_of text)
 
--- the answer does not begin with b, as the answer to a bad line does
-abbrev pub IsNoBadLine : List ℕ → Type 0
-IsNoBadLine answer = slice_index answer 0 ≢ 98
+-- the last line of the text says why a line is bad
+abbrev pub EndsInBadLine : List ℕ → Type 0
+EndsInBadLine text = (n : ℕ) × (reason : Reason) × (last_line text ≡ Some (bad_line n reason))
 
--- each line has its answer, and none of them is that to a bad line
-abbrev pub HasNoBadLine : List (List ℕ) → Script → Type 0
-HasNoBadLine lines script = (length script.answers ≡ length lines) × AllByRecursion IsNoBadLine script.answers
+-- no line of the text says why a line is bad
+abbrev pub HasNoBadLine : List ℕ → Type 0
+HasNoBadLine text = (n : ℕ) (reason : Reason) → AllByRecursion (λ line. line ≢ bad_line n reason) (lines_of text)
+
+-- the last line of the text, where it has a line, does not say why a line is bad
+abbrev pub EndsInNoBadLine : List ℕ → Type 0
+EndsInNoBadLine text = (n : ℕ) (reason : Reason) → last_line text ≢ Some (bad_line n reason)
+
+-- the last line of the text begins with `refused` and a blank
+abbrev pub EndsInRefusal : List ℕ → Type 0
+EndsInRefusal text = (rest : List ℕ) × (last_line text ≡ Some (codes "refused " ++ rest))
+
+-- the last line of the text, where it has a line, does not begin so
+abbrev pub EndsInNoRefusal : List ℕ → Type 0
+EndsInNoRefusal text = (rest : List ℕ) → last_line text ≢ Some (codes "refused " ++ rest)

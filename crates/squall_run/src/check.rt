@@ -1,13 +1,13 @@
-//! What the command `check` says of a plan.
+//! What the command `check` writes of a plan.
 
 ghost use Rattle.std.specs.Prelude.{◌≡◌, ◌≢◌, ◌++◌, ◌⊎◌, [], ℕ, List, IfOk, OnOk, Err, string_bytes};
 ghost use Rattle.std.specs.Io.KnownBytes.{Appends, Consumes};
 ghost use Rattle.squall_device.specs.Counts.{IsCountedSince};
-ghost use Rattle.squall_run.specs.Said.{range_lines, refusal, check_of, IsReady, IsTold};
+ghost use Rattle.squall_run.specs.Output.{range_lines, refusal, check_of, IsReady, IsWritten};
 
 use crate::files::read_all;
 use crate::replies::read_plan;
-use crate::told::tell;
+use crate::output::write_output;
 use squall_device::{Sink, Source};
 use squall_lines::{Ended, RunFault};
 use squall_plan::{PlanFault, PlanRange};
@@ -38,7 +38,7 @@ pub(crate) fn add_refusal(
     Ok(Ended::Refused)
 }
 
-/// Puts what the check says into the empty text.
+/// Puts the output of the check into the empty text.
 fn check(alloc: Global, plan: &[u8], out: &mut String) -> Result<Ended, AllocError>
     requires { string_bytes out.old ≡ [] }
     ensures { IfOk result (λ ended. IsReady ended (string_bytes out.new) (check_of plan.now)) }
@@ -58,12 +58,12 @@ fn check(alloc: Global, plan: &[u8], out: &mut String) -> Result<Ended, AllocErr
 /// neighbours of one partition joined, and then `plan N`, N the number of these ranges. Where the
 /// text is no plan it writes `refused FAULT`, and the answer is `Refused`.
 ///
-/// `Write` where a write failed or took no byte, after a front of the text was written;
+/// `Write` where a write failed or took no byte, after a prefix of the text was written;
 /// `NoMemory` before anything was written. There is no other fault.
 pub fn check_text<K: Sink>(alloc: Global, plan: &[u8], writer: &mut K) -> Result<Ended, RunFault>
-    // What is written is what the definition says of the text.
+    // What is written is the definition's output for the text.
     ensures text { (written : List ℕ) × Appends (K.contents writer.old) (K.contents writer.new) written
-        × IsTold result (check_of plan.now) written }
+        × IsWritten result (check_of plan.now) written }
 
     // When each fault comes.
     ensures unread { result ≢ Err RunFault.Read }
@@ -72,7 +72,7 @@ pub fn check_text<K: Sink>(alloc: Global, plan: &[u8], writer: &mut K) -> Result
 {
     let mut out = String::new(alloc);
     let ended = check(alloc, plan, &mut out)?;
-    tell(writer, ended, out.as_str())
+    write_output(writer, ended, out.as_str())
 }
 
 /// Checks the plan of what the source gives up to its end. `Read` where [`read_all`] says so,
@@ -85,7 +85,7 @@ pub(crate) fn check_source<S: Source, K: Sink>(
     ensures { (read : List ℕ) × (written : List ℕ)
         × Consumes (S.remaining source.old) (S.remaining source.new) read
         × Appends (K.contents writer.old) (K.contents writer.new) written
-        × IsTold result (check_of read) written }
+        × IsWritten result (check_of read) written }
 {
     match read_all(alloc, source) {
         Ok(plan) => check_text(alloc, &plan, writer),

@@ -1,22 +1,25 @@
-//! What a line says.
+//! What a line asks for.
 
-ghost use Rattle.std.specs.Prelude.{◌≡◌, ℕ};
+ghost use Rattle.std.specs.Prelude.{◌≡◌, ◌↔◌, ℕ, [], IsSome};
 ghost use Rattle.std.specs.Option.{option_map};
-ghost use Rattle.squall_lines.specs.Words.{words_of};
-ghost use Rattle.squall_run.specs.Commands.{number_first, two_words, cell_first, two_bounds, loaded_line, alone, done_line, opened_line, route_line, command_by, command_of};
+ghost use Rattle.squall_lines.specs.Words.{words_of, is_letter, from_first};
+ghost use Rattle.squall_run.specs.Requests.{number_first, two_words, cell_first, two_bounds, loaded_line, done_line, opened_line, route_line, board_line, request_by, request_of};
+ghost use Rattle.squall_run.specs.Answered.{request_seen};
 
 use crate::reason::Reason;
 use squall_key::{Bound, Key, read_number};
 use squall_lines::LONGEST_LINE;
-use squall_lines::words::{next_word, only_word};
+use squall_lines::words::{after_blanks, next_word, only_word};
 
-/// What a line says. The text of `Old` and `New` is the rest of their line.
+/// What a line asks for.
 #[derive(Clone, Copy, Debug)]
-pub(crate) enum Command {
+pub(crate) enum Command<'a> {
     /// Nothing: a line without words, or a remark.
     Skip,
-    Old,
-    New,
+    /// To take the plan of this text as the old one.
+    Old(&'a [u8]),
+    /// To take the plan of this text as the new one.
+    New(&'a [u8]),
     Loaded {
         number: u32,
         sub: u32,
@@ -76,8 +79,8 @@ fn two_bounds(rest: &[u8]) -> Option<(Bound, Bound)>
 }
 
 /// `loaded N S P LO HI`
-fn loaded_line(rest: &[u8]) -> Option<Command>
-    ensures { result ≡ loaded_line (words_of rest.now) }
+fn loaded_line(rest: &[u8]) -> Option<Command<'static>>
+    ensures { option_map request_seen result ≡ loaded_line (words_of rest.now) }
 {
     let (number, sub, part, rest) = cell_first(rest)?;
     let (lo, hi) = two_bounds(rest)?;
@@ -90,27 +93,28 @@ fn loaded_line(rest: &[u8]) -> Option<Command>
     })
 }
 
-/// The command, where no word is left.
-fn alone(command: Command, rest: &[u8]) -> Option<Command>
-    ensures { result ≡ alone command (words_of rest.now) }
+/// None where a word is left.
+fn no_word(rest: &[u8]) -> Option<()>
+    ensures { IsSome result ↔ (words_of rest.now ≡ []) }
 {
     match next_word(rest) {
-        None => Some(command),
+        None => Some(()),
         Some(_) => None,
     }
 }
 
 /// `done N S P`
-fn done_line(rest: &[u8]) -> Option<Command>
-    ensures { result ≡ done_line (words_of rest.now) }
+fn done_line(rest: &[u8]) -> Option<Command<'static>>
+    ensures { option_map request_seen result ≡ done_line (words_of rest.now) }
 {
     let (number, sub, part, rest) = cell_first(rest)?;
-    alone(Command::Done { number, sub, part }, rest)
+    no_word(rest)?;
+    Some(Command::Done { number, sub, part })
 }
 
 /// `opened N S`
-fn opened_line(rest: &[u8]) -> Option<Command>
-    ensures { result ≡ opened_line (words_of rest.now) }
+fn opened_line(rest: &[u8]) -> Option<Command<'static>>
+    ensures { option_map request_seen result ≡ opened_line (words_of rest.now) }
 {
     let (number, rest) = number_first(rest)?;
     let sub = read_number(only_word(rest)?)?;
@@ -118,22 +122,30 @@ fn opened_line(rest: &[u8]) -> Option<Command>
 }
 
 /// `route K`
-fn route_line(rest: &[u8]) -> Option<Command>
-    ensures { result ≡ route_line (words_of rest.now) }
+fn route_line(rest: &[u8]) -> Option<Command<'static>>
+    ensures { option_map request_seen result ≡ route_line (words_of rest.now) }
 {
     let key = Key::read_bytes(only_word(rest)?)?;
     Some(Command::Route(key))
 }
 
+/// `board`
+fn board_line(rest: &[u8]) -> Option<Command<'static>>
+    ensures { option_map request_seen result ≡ board_line (words_of rest.now) }
+{
+    no_word(rest)?;
+    Some(Command::Board)
+}
+
 /// The command that the first word names, where what stands after it has that command's form.
-fn command_by(name: &[u8], rest: &[u8]) -> Option<Command>
-    ensures { result ≡ command_by name.now (words_of rest.now) }
+fn command_by<'a>(name: &[u8], rest: &'a [u8]) -> Option<Command<'a>>
+    ensures { option_map request_seen result ≡ request_by name.now (words_of rest.now) (from_first is_letter rest.now) }
 {
     if name == b"old".as_slice() {
-        return Some(Command::Old);
+        return Some(Command::Old(after_blanks(rest)));
     }
     if name == b"new".as_slice() {
-        return Some(Command::New);
+        return Some(Command::New(after_blanks(rest)));
     }
     if name == b"loaded".as_slice() {
         return loaded_line(rest);
@@ -148,14 +160,14 @@ fn command_by(name: &[u8], rest: &[u8]) -> Option<Command>
         return route_line(rest);
     }
     if name == b"board".as_slice() {
-        return alone(Command::Board, rest);
+        return board_line(rest);
     }
     None
 }
 
-/// What the line says, its line end taken off.
+/// What the line asks for, its line end taken off.
 pub(crate) fn read_line(line: &[u8]) -> Command
-    ensures { result ≡ command_of line.now }
+    ensures { request_seen result ≡ request_of line.now }
 {
     if line.len() > LONGEST_LINE {
         return Command::Bad(Reason::Long);

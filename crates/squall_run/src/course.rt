@@ -1,13 +1,13 @@
-//! What the command `course` says of two plans.
+//! What the command `course` writes of two plans.
 
 ghost use Rattle.std.specs.Prelude.{◌≡◌, ◌≢◌, ◌++◌, ◌⊎◌, [], ℕ, List, IfOk, OnOk, Err, string_bytes};
 ghost use Rattle.std.specs.Io.KnownBytes.{Appends};
 ghost use Rattle.squall_device.specs.Counts.{IsCountedSince};
-ghost use Rattle.squall_run.specs.Said.{move_lines, count_lines, course_lines, course_of, IsReady, IsTold};
+ghost use Rattle.squall_run.specs.Output.{move_lines, count_lines, course_lines, course_of, IsReady, IsWritten};
 
 use crate::check::add_refusal;
 use crate::replies::{first_course, read_plan};
-use crate::told::tell;
+use crate::output::write_output;
 use squall_course::{Course, Move};
 use squall_device::Sink;
 use squall_lines::{Ended, RunFault};
@@ -44,7 +44,7 @@ fn add_course(course: &Course, out: &mut String) -> Result<(), AllocError>
     add_moves(moves, out)
 }
 
-/// Puts what is to be said of the course into the empty text.
+/// Puts the output of the course into the empty text.
 fn course(alloc: Global, old: &[u8], new: &[u8], out: &mut String) -> Result<Ended, AllocError>
     requires { string_bytes out.old ≡ [] }
     ensures { IfOk result (λ ended. IsReady ended (string_bytes out.new) (course_of old.now new.now)) }
@@ -69,7 +69,7 @@ fn course(alloc: Global, old: &[u8], new: &[u8], out: &mut String) -> Result<End
 /// rising key: the keys go from partition P to partition Q in sub-plan S. Where a text is no plan
 /// it writes `refused old FAULT`, or else `refused new FAULT`, and the answer is `Refused`.
 ///
-/// `Write` where a write failed or took no byte, after a front of the text was written;
+/// `Write` where a write failed or took no byte, after a prefix of the text was written;
 /// `NoMemory` before anything was written. There is no other fault.
 pub fn course_text<K: Sink>(
     alloc: Global,
@@ -77,9 +77,9 @@ pub fn course_text<K: Sink>(
     new: &[u8],
     writer: &mut K,
 ) -> Result<Ended, RunFault>
-    // What is written is what the definition says of the texts.
+    // What is written is the definition's output for the texts.
     ensures text { (written : List ℕ) × Appends (K.contents writer.old) (K.contents writer.new) written
-        × IsTold result (course_of old.now new.now) written }
+        × IsWritten result (course_of old.now new.now) written }
 
     // When each fault comes.
     ensures unread { result ≢ Err RunFault.Read }
@@ -88,5 +88,5 @@ pub fn course_text<K: Sink>(
 {
     let mut out = String::new(alloc);
     let ended = course(alloc, old, new, &mut out)?;
-    tell(writer, ended, out.as_str())
+    write_output(writer, ended, out.as_str())
 }

@@ -13,16 +13,19 @@ mod command;
 mod course;
 mod files;
 mod laws;
+mod output;
 mod program;
 mod reason;
 mod replies;
 mod scenario;
-mod told;
 
 pub use check::check_text;
 pub use course::course_text;
 pub use files::Files;
-pub use laws::{fine_has_no_bad_line, refused_ends_in_a_bad_line};
+pub use laws::{
+    fine_has_no_bad_line, refused_check_ends_in_a_refusal, refused_course_ends_in_a_refusal,
+    refused_ends_in_a_bad_line,
+};
 pub use program::perform;
 pub use squall_device::{DeviceFault, Reader, Sink, Source, Writer};
 pub use squall_lines::{Ended, MOST_READS, RunFault};
@@ -35,7 +38,7 @@ use std::alloc::Global;
 /// `Fine` says that each line was answered, `Refused` that the last answer is a bad line. A fault
 /// stops the run: `Read` where a read failed, or more than [`MOST_READS`] would be needed, after
 /// the lines that came with their LF are answered; `Write` where a write failed or took no byte,
-/// after a front of the answers was written; `NoMemory` after some first lines are answered, each
+/// after a prefix of the answers was written; `NoMemory` after some first lines are answered, each
 /// whole. What was read stays read.
 pub fn run_text<S: Source, K: Sink>(
     alloc: Global,

@@ -3,7 +3,7 @@
 ghost use Rattle.std.specs.Prelude.{◌≡◌, ◌≢◌, Err, IfErr, codes};
 ghost use Rattle.squall_command.specs.Line.{words_of, job_seen, check, run, Asks, Refuses};
 ghost use Rattle.squall_command.specs.declared.task.LineFault.TheVariants.{Bad};
-ghost use Rattle.squall_run.specs.Status.{status_of, RunsWith, ChecksWith};
+ghost use Rattle.squall_run.specs.Tasks.{status_of, RunsWith, ChecksWith};
 
 use crate::check::check_source;
 use crate::course::course_text;

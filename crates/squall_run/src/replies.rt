@@ -1,11 +1,11 @@
 //! What a scenario answers to a line.
 
-ghost use Rattle.std.specs.Prelude.{◌≡◌, ◌++◌, ℕ, List, IfOk, string_bytes, refl};
-ghost use Rattle.squall_lines.specs.Words.{after_first_word};
+ghost use Rattle.std.specs.Prelude.{◌≡◌, ◌++◌, ℕ, List, IfOk, string_bytes, codes, refl};
 ghost use Rattle.squall_lines.specs.declared.Flow.TheVariants.{End};
 ghost use Rattle.squall_plan.specs.Form.{plan_of_text};
 ghost use Rattle.squall_span.specs.Spans.{span_at};
-ghost use Rattle.squall_run.specs.Replies.{Answers, old_reply, new_reply, load_of, report_reply, route_reply, board_reply, reply_to, reply_to_line, bad_line, IsAnswer, says};
+ghost use Rattle.squall_run.specs.Replies.{old_reply, new_reply, first_course, load_of, report_reply, route_reply, board_reply, reply_to_line, bad_line, script_from};
+ghost use Rattle.squall_run.specs.Answered.{Answers, IsAnswer};
 
 use crate::board_text::add_board;
 use crate::command::{Command, read_line};
@@ -15,21 +15,11 @@ use squall_course::Course;
 use squall_key::{Bound, Key};
 use squall_lines::Flow;
 use squall_lines::machine::Machine;
-use squall_lines::words::{after_blanks, next_word, without_cr};
+use squall_lines::words::without_cr;
 use squall_plan::{Plan, PlanFault};
 use squall_report::Report;
 use squall_span::Span;
 use std::alloc::{AllocError, Global};
-
-/// What stands after the first word of the line and the blanks that follow it.
-fn argument(line: &[u8]) -> &[u8]
-    ensures { result.now ≡ after_first_word line.now }
-{
-    match next_word(line) {
-        Some((_, rest)) => after_blanks(rest),
-        None => &[],
-    }
-}
 
 /// The plan of the text, or its fault.
 pub(crate) fn read_plan(alloc: Global, text: &[u8]) -> Result<Result<Plan, PlanFault>, AllocError>
@@ -48,7 +38,7 @@ fn old_plan(
     text: &[u8],
     out: &mut String,
 ) -> Result<Option<Reason>, AllocError>
-    ensures { Answers result (string_bytes out.old) (string_bytes out.new) scenario.old scenario.new (old_reply scenario.old scenario.old.stage text.now) }
+    ensures { Answers result (string_bytes out.old) (string_bytes out.new) scenario.new (old_reply scenario.old scenario.old.stage text.now) }
 {
     let Stage::Unplanned = &scenario.stage else {
         return Ok(Some(Reason::Order));
@@ -65,7 +55,7 @@ fn old_plan(
 
 /// The course of number 1 between the plans.
 pub(crate) fn first_course(alloc: Global, old: &Plan, new: &Plan) -> Result<Course, AllocError>
-    ensures { IfOk result (λ course. course ≡ record { number = 1; old = old.now; new = new.now }) }
+    ensures { IfOk result (λ course. course ≡ first_course old.now new.now) }
 {
     match Course::new(alloc, 1, old, new) {
         Ok(course) => Ok(course),
@@ -79,7 +69,7 @@ fn new_plan(
     text: &[u8],
     out: &mut String,
 ) -> Result<Option<Reason>, AllocError>
-    ensures { Answers result (string_bytes out.old) (string_bytes out.new) scenario.old scenario.new (new_reply scenario.old scenario.old.stage text.now) }
+    ensures { Answers result (string_bytes out.old) (string_bytes out.new) scenario.new (new_reply scenario.old scenario.old.stage text.now) }
 {
     let Stage::Planned(old) = &scenario.stage else {
         return Ok(Some(Reason::Order));
@@ -110,7 +100,7 @@ fn take_report(
     report: Option<Report>,
     out: &mut String,
 ) -> Result<Option<Reason>, AllocError>
-    ensures { Answers result (string_bytes out.old) (string_bytes out.new) scenario.old scenario.new (report_reply scenario.old scenario.old.stage report) }
+    ensures { Answers result (string_bytes out.old) (string_bytes out.new) scenario.new (report_reply scenario.old scenario.old.stage report) }
 {
     let Stage::Running(_) = &scenario.stage else {
         return Ok(Some(Reason::Order));
@@ -125,7 +115,7 @@ fn take_report(
 
 /// Says which partition to ask for the key, once both plans are read.
 fn route(scenario: &Scenario, key: Key, out: &mut String) -> Result<Option<Reason>, AllocError>
-    ensures { Answers result (string_bytes out.old) (string_bytes out.new) scenario.now scenario.now (route_reply scenario.now scenario.now.stage key) }
+    ensures { Answers result (string_bytes out.old) (string_bytes out.new) scenario.now (route_reply scenario.now scenario.now.stage key) }
 {
     let Stage::Running(course) = &scenario.stage else {
         return Ok(Some(Reason::Order));
@@ -137,7 +127,7 @@ fn route(scenario: &Scenario, key: Key, out: &mut String) -> Result<Option<Reaso
 
 /// Shows the board, once both plans are read.
 fn show_board(scenario: &Scenario, out: &mut String) -> Result<Option<Reason>, AllocError>
-    ensures { Answers result (string_bytes out.old) (string_bytes out.new) scenario.now scenario.now (board_reply scenario.now scenario.now.stage) }
+    ensures { Answers result (string_bytes out.old) (string_bytes out.new) scenario.now (board_reply scenario.now scenario.now.stage) }
 {
     let Stage::Running(_) = &scenario.stage else {
         return Ok(Some(Reason::Order));
@@ -146,19 +136,18 @@ fn show_board(scenario: &Scenario, out: &mut String) -> Result<Option<Reason>, A
     Ok(None)
 }
 
-/// Does what a line says, and adds the answer to `out`, or tells why the line is bad.
-fn obey(
+/// Does what the line asks for, and adds the answer to `out`, or tells why the line is bad.
+fn reply(
     scenario: &mut Scenario,
-    command: Command,
-    text: &[u8],
+    line: &[u8],
     out: &mut String,
 ) -> Result<Option<Reason>, AllocError>
-    ensures { Answers result (string_bytes out.old) (string_bytes out.new) scenario.old scenario.new (reply_to scenario.old command text.now) }
+    ensures { Answers result (string_bytes out.old) (string_bytes out.new) scenario.new (reply_to_line scenario.old line.now) }
 {
-    match command {
+    match read_line(line) {
         Command::Skip => Ok(None),
-        Command::Old => old_plan(scenario, text, out),
-        Command::New => new_plan(scenario, text, out),
+        Command::Old(text) => old_plan(scenario, text, out),
+        Command::New(text) => new_plan(scenario, text, out),
         Command::Loaded {
             number,
             sub,
@@ -180,7 +169,7 @@ fn obey(
 
 /// Tells why the line of that number is bad.
 fn bad_line(number: u64, reason: Reason, out: &mut String) -> Result<Flow, AllocError>
-    ensures { IfOk result (λ flow. (flow ≡ End) × (string_bytes out.new ≡ string_bytes out.old ++ bad_line number reason)) }
+    ensures { IfOk result (λ flow. (flow ≡ End) × (string_bytes out.new ≡ string_bytes out.old ++ (bad_line number reason ++ codes "\n"))) }
 {
     write!(out, "bad line {number}: {reason}\n")?;
     Ok(Flow::End)
@@ -191,15 +180,16 @@ fn answer(scenario: &mut Scenario, line: &[u8], out: &mut String) -> Result<Flow
     ensures { IfOk result (λ flow. (text : List ℕ) × (string_bytes out.new ≡ string_bytes out.old ++ text)
         × IsAnswer flow text scenario.new scenario.old.line (reply_to_line scenario.old line.now)) }
 {
-    match obey(scenario, read_line(line), argument(line), out) {
+    let number = scenario.line;
+    match reply(scenario, line, out) {
         Ok(None) => Ok(Flow::On),
-        Ok(Some(reason)) => bad_line(scenario.line, reason, out),
+        Ok(Some(reason)) => bad_line(number, reason, out),
         Err(error) => Err(error),
     }
 }
 
 impl Machine for Scenario {
-    ghost says = { says };
+    ghost says = { script_from };
 
     ghost says_nothing = { λ s. refl };
 

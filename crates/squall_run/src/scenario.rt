@@ -1,12 +1,13 @@
 //! The state of a scenario: what its lines have set up so far.
 
 ghost use Rattle.std.specs.Prelude.{◌≡◌};
-ghost use Rattle.squall_run.specs.Text.{at_start};
+ghost use Rattle.squall_run.specs.State.{at_start};
 
 use squall_board::Board;
 use squall_course::Course;
 use squall_plan::Plan;
 use std::alloc::Global;
+use std::marker::Model;
 
 /// How far the plans of a scenario are read.
 #[derive(Drop)]
@@ -19,7 +20,8 @@ pub(crate) enum Stage {
     Running(Course),
 }
 
-/// A scenario after some lines.
+/// A scenario after some lines. Contracts see the lines counted, the plans that are read, and the
+/// board.
 #[derive(Drop)]
 pub(crate) struct Scenario {
     /// How many lines there were, bad and skipped ones too.
@@ -27,6 +29,18 @@ pub(crate) struct Scenario {
     pub(crate) stage: Stage,
     /// What was reported.
     pub(crate) board: Board,
+}
+
+impl Model for Scenario {
+    ghost use Rattle.squall_run.specs.State.{ScenarioState};
+
+    ghost Value = { ScenarioState };
+
+    ghost use Rattle.squall_run.specs.Stages.{stage_seen, IsFirstCourse};
+
+    ghost view = { λ s. record { line = s.line; stage = stage_seen s.stage; board = s.board } };
+
+    ghost invariant = { λ s. IsFirstCourse s.stage };
 }
 
 /// A scenario before its first line.

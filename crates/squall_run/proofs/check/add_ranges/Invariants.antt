@@ -1,6 +1,6 @@
 use Rattle.std.specs.Prelude.{string_bytes}
 use Rattle.std.proofs.Common.{◌≡◌, ◌++◌, drop}
-use Rattle.squall_run.specs.Said.{range_lines}
+use Rattle.squall_run.specs.Output.{range_lines}
 use Rattle.squall_run.proofs.check.add_ranges.Given as goal
 
 abbrev pub invariant-loop-range : goal.invariant-loop-range

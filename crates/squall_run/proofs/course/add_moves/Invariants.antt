@@ -1,6 +1,6 @@
 use Rattle.std.specs.Prelude.{string_bytes}
 use Rattle.std.proofs.Common.{◌≡◌, ◌++◌, drop}
-use Rattle.squall_run.specs.Said.{move_lines}
+use Rattle.squall_run.specs.Output.{move_lines}
 use Rattle.squall_run.proofs.course.add_moves.Given as goal
 
 abbrev pub invariant-loop-change : goal.invariant-loop-change

@@ -1,6 +1,5 @@
 use Rattle.squall_run.proofs.Refusals.{refused_ends}
-use Rattle.squall_run.specs.Text.{at_start}
 use Rattle.squall_run.proofs.laws.refused_ends_in_a_bad_line.Goals as goal
 
 pub returns : goal.returns
-returns c = refused_ends at_start
+returns c = refused_ends

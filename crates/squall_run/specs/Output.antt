@@ -1,4 +1,4 @@
--- What the commands `check` and `course` say of plans (this project's command line).
+-- What the commands `check` and `course` write of plans (this project's command line).
 use Rattle.std.specs.Prelude.{◌≡◌, ℕ, List, [], ◌++◌, length, Bool, true, false, Result, Ok, Err, codes}
 use Rattle.std.specs.List.{flat_map}
 use Rattle.std.specs.Fmt.{decimal}
@@ -16,8 +16,8 @@ use Rattle.squall_lines.specs.declared.Ended.TheVariants.{Fine, Refused}
 use Rattle.squall_lines.specs.declared.RunFault.{RunFault}
 use Rattle.squall_lines.specs.declared.RunFault.TheVariants.{Read, Write, NoMemory}
 
--- a text, and whether it refuses what was given
-pub record Said : Type 0 where
+-- what is written: a text, and whether it refuses what was given
+pub record Output : Type 0 where
   pub text : List ℕ
   pub refused : Bool
 
@@ -36,12 +36,12 @@ abbrev pub refusal : List ℕ → PlanFault → List ℕ
 refusal which fault = codes "refused " ++ (which ++ (text_of_fault fault ++ codes "\n"))
 
 -- the ranges of a plan by rising key and their number, or its fault
-abbrev pub check_of_plan : Result (List PlanRange) PlanFault → Said
+abbrev pub check_of_plan : Result (List PlanRange) PlanFault → Output
 check_of_plan (Ok rs) = record { text = range_lines rs ++ (codes "plan " ++ (decimal (length rs) ++ codes "\n")); refused = false }
 check_of_plan (Err fault) = record { text = refusal [] fault; refused = true }
 
--- what `check` says of the plan of a text
-abbrev pub check_of : List ℕ → Said
+-- what `check` writes of the plan of a text
+abbrev pub check_of : List ℕ → Output
 check_of text = check_of_plan (plan_of_text text)
 
 -- ---- course
@@ -63,26 +63,26 @@ abbrev pub course_lines : List PlanRange → List PlanRange → List ℕ
 course_lines old new = count_lines (length (moves_of old new)) (subplan_count old new) ++ move_lines (moves_of old new)
 
 -- the course between two plans, or the fault of the old one, or else that of the new one
-abbrev pub course_of_plans : Result (List PlanRange) PlanFault → Result (List PlanRange) PlanFault → Said
+abbrev pub course_of_plans : Result (List PlanRange) PlanFault → Result (List PlanRange) PlanFault → Output
 course_of_plans (Ok old) (Ok new) = record { text = course_lines old new; refused = false }
 course_of_plans (Ok old) (Err fault) = record { text = refusal (codes "new ") fault; refused = true }
 course_of_plans (Err fault) new = record { text = refusal (codes "old ") fault; refused = true }
 
--- what `course` says of the plans of two texts
-abbrev pub course_of : List ℕ → List ℕ → Said
+-- what `course` writes of the plans of two texts
+abbrev pub course_of : List ℕ → List ℕ → Output
 course_of old new = course_of_plans (plan_of_text old) (plan_of_text new)
 
--- ---- what code has done
+-- ---- what was written
 
--- a whole text is ready
-abbrev pub IsReady : Ended → List ℕ → Said → Type 0
-IsReady Fine text said = (text ≡ said.text) × (said.refused ≡ false)
-IsReady Refused text said = (text ≡ said.text) × (said.refused ≡ true)
+-- the text is the output, and the ending says whether it refuses what was given
+abbrev pub IsReady : Ended → List ℕ → Output → Type 0
+IsReady Fine text output = (text ≡ output.text) × (output.refused ≡ false)
+IsReady Refused text output = (text ≡ output.text) × (output.refused ≡ true)
 
--- what is written of a text, by what was returned: all of it, or after a write fault a front, or where it
--- was not made for a read fault or want of memory nothing
-abbrev pub IsTold : Result Ended RunFault → Said → List ℕ → Type 0
-IsTold (Ok ended) said written = IsReady ended written said
-IsTold (Err Read) said written = written ≡ []
-IsTold (Err Write) said written = IsFront written said.text
-IsTold (Err NoMemory) said written = written ≡ []
+-- what was written of an output, by what was returned: all of it; after a write fault a prefix; and after a read fault or a
+-- failed allocation, which come before the output is ready, nothing
+abbrev pub IsWritten : Result Ended RunFault → Output → List ℕ → Type 0
+IsWritten (Ok ended) output written = IsReady ended written output
+IsWritten (Err Read) output written = written ≡ []
+IsWritten (Err Write) output written = IsFront written output.text
+IsWritten (Err NoMemory) output written = written ≡ []

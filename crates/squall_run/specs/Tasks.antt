@@ -7,7 +7,7 @@ use Rattle.squall_lines.specs.declared.Ended.TheVariants.{Fine, Refused}
 use Rattle.squall_lines.specs.declared.RunFault.{RunFault}
 use Rattle.squall_lines.specs.declared.RunFault.TheVariants.{Read, Write, NoMemory}
 use Rattle.squall_run.specs.Text.{script_of}
-use Rattle.squall_run.specs.Said.{check_of, IsTold}
+use Rattle.squall_run.specs.Output.{check_of, IsWritten}
 
 -- the status of a task by how it ended
 abbrev pub status_of : Result Ended RunFault → ℕ
@@ -30,4 +30,4 @@ abbrev pub ChecksWith : Option (List ℕ) → Option (List ℕ) → Option (List
 ChecksWith input input' out out' status =
     (outcome : Result Ended RunFault) × (read : List ℕ) × (written : List ℕ)
     × (status ≡ status_of outcome) × Consumes input input' read × Appends out out' written
-    × IsTold outcome (check_of read) written
+    × IsWritten outcome (check_of read) written
