@@ -1,6 +1,6 @@
 -- What is told, as one test for each question (this project). A list of reports, a board, and what is known at a place
 -- or carried by a message have such tests, so that they can be compared and joined in one form.
-use Rattle.std.specs.Prelude.{◌≡◌, ℕ, ◌+◌, ◌==◌, max, nat_lt, Bool, false, ◌||◌, ◌&&◌, List, [], ◌∷◌, if◌then◌else◌}
+use Rattle.std.specs.Prelude.{◌≡◌, ℕ, ◌+◌, ◌==◌, max, nat_lt, Bool, false, ◌||◌, ◌&&◌, List, if◌then◌else◌}
 use Rattle.squall_span.specs.Spans.{span_has}
 use Rattle.squall_join.specs.declared.flat.Flat.{Flat}
 use Rattle.squall_join.specs.declared.flat.Flat.TheVariants.{Unknown, One}

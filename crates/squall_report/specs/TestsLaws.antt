@@ -1,17 +1,14 @@
 -- Laws of tests.
-use Rattle.std.specs.Prelude.{◌≡◌, ℕ, ◌==◌, max, nat_lt, Bool, true, false, ◌||◌, List, [], ◌∷◌, ◌++◌, ◌↔◌, refl}
+use Rattle.std.specs.Prelude.{◌≡◌, nat_lt, Bool, false, ◌||◌, List, [], ◌∷◌, ◌++◌, ◌↔◌, refl}
 use Rattle.std.proofs.Common.{sym, ap, ◌∙◌, arith}
-use Rattle.squall_span.specs.Spans.{span_has}
-use Rattle.squall_join.specs.declared.flat.Flat.{Flat}
 use Rattle.squall_join.specs.Laws.{JoinLaws}
 use Rattle.squall_join.specs.Basic.{flag_laws}
 use Rattle.squall_report.specs.declared.report.ReportKind.{ReportKind}
 use Rattle.squall_report.specs.declared.report.ReportKind.TheVariants.{Loaded, Done, Opened, Issued}
 use Rattle.squall_report.specs.Issues.{PlanPair}
-use Rattle.squall_report.specs.Facts.{Fact, LoadedKey, DonePart, OpenedSub, report_says, reports_say}
-use Rattle.squall_report.specs.Told.{both_issued, report_issues, reports_issue, told_by, SameTold, TellsBoth}
+use Rattle.squall_report.specs.Facts.{Fact, LoadedKey, DonePart, OpenedSub, reports_say}
+use Rattle.squall_report.specs.Told.{told_by, SameTold, TellsBoth}
 use Rattle.squall_report.specs.ToldLaws.{issued_assoc, issued_comm, issued_idem, issued_neutral, told_append}
-use Rattle.squall_report.specs.Openings.{opened_by, opened_by_report}
 use Rattle.squall_report.specs.OpeningsLaws.{below_max, openings_count, one_count, opened_append}
 use Rattle.squall_report.specs.Tests.{Tests, SameTests, no_tests, joined_tests, tests_by, tests_by_report, tests_say, told_by_tests}
 
