@@ -1,18 +1,22 @@
 -- What the sub-plans of two plans are, and that no way needs fewer.
 use Rattle.std.proofs.Common.{◌≡◌, ℕ, zero, suc, ◌+◌, ◌<◌, ◌≤◌, max, Bool, true, false, eqb, List, [], ◌∷◌, length, Some, refl, sym, ap, ◌∙◌, arith, inl, inr}
-use Rattle.std.specs.Prelude.{◌||◌, ◌&&◌, not, filter, ◌↔◌}
+use Rattle.std.specs.Prelude.{◌||◌, ◌&&◌, not, filter, ◌↔◌, All}
 use Rattle.std.specs.List.{list_any, AllByRecursion, range_with_len}
 use Rattle.std.proofs.lemmas.Bool.{cases_Bool, cases_lt, cases_eq, and_parts, or_parts, or_cases, not-true, eqb-true, eqb-false, ne_eqb, eq-eqb, false≢true}
+use Rattle.std.proofs.lemmas.List.Elements.{All-from_recursion}
 use Rattle.std.proofs.lemmas.Option.{slice_get-get_or}
 use Rattle.squall_key.specs.Keys.{top, part_limit}
 use Rattle.squall_plan.specs.declared.range.PlanRange.{PlanRange}
 use Rattle.squall_plan.specs.Ranges.{owner_of, IsTiling}
-use Rattle.squall_course.specs.Subplans.{shares, feeds, is_dest, dests, moves, sub_of, most_dests, subplan_count, dest_of, IsFed, IsSplit}
-use Rattle.squall_course.specs.Tables.{Up, ArePlans}
+use Rattle.squall_course.specs.Subplans.{shares, feeds, is_dest, dests, moves, sub_at, sub_of, most_dests, subplan_count, dest_of, IsFed, IsSplit}
+use Rattle.squall_course.specs.Change.{ArePlans}
+use Rattle.squall_course.specs.Tables.{Up}
+use Rattle.squall_course.specs.declared.moving.Move.{Move}
+use Rattle.squall_course.specs.Moves.{IsMove, moves_of}
 use Rattle.squall_course.proofs.Rising.{is_in, place_within, at_place}
-use Rattle.squall_course.proofs.Tabled.{dests_in, dests_up}
+use Rattle.squall_course.proofs.Tabled.{dests_in, dests_up, most_few}
 use Rattle.squall_course.proofs.Places.{feeds_key, moving_dest}
-use Rattle.squall_course.proofs.Moved.{Owns, owns, shared_lt, owner_here, owner_later}
+use Rattle.squall_course.proofs.Moved.{Owns, owns, shared_lt, owner_here, owner_later, first_key, are_moves}
 
 member : (old new : List PlanRange) (k : ℕ) → ArePlans old new → k < top → moves old new k ≡ true → is_in (owner_of new k) (dests old new (owner_of old k)) ≡ true
 member old new k plans below is =
@@ -34,7 +38,7 @@ pub one_dest : (old new : List PlanRange) (j k : ℕ) → ArePlans old new → j
 one_dest old new j k plans lt lt2 is is2 source sub =
     same_some _ _ (sym (key_goes old new j plans lt is) ∙ ap (dest_of old new (sub_of old new j)) source ∙ ap (λ n. dest_of old new n (owner_of old k)) sub ∙ key_goes old new k plans lt2 is2)
 
-owner_counted : (old new : List PlanRange) (from k : ℕ) (rs : List PlanRange) → IsTiling from rs → from ≤ k → k < top → length (dests old new (owner_of rs k)) ≤ most_dests old new rs
+owner_counted : (old new : List PlanRange) (from k : ℕ) (rs : List PlanRange) → IsTiling from top rs → from ≤ k → k < top → length (dests old new (owner_of rs k)) ≤ most_dests old new rs
 owner_counted old new from k [] t le lt = absurd (omega (arith, t))
 owner_counted old new from k (r ∷ rs) t le lt = elim (cases_lt k r.span.hi) [
   | inl here ↦ rw (owner_here r rs k (omega (arith, t.0)) here) (omega arith)
@@ -46,6 +50,23 @@ sub_counted old new k plans below is =
     let place = place_within (owner_of new k) (dests old new (owner_of old k)) (member old new k plans below is) in
     let most = owner_counted old new 0 k old plans.old_canonical.tiles (omega arith) below in
     omega (arith, place, most)
+
+pub sub_low : (old new : List PlanRange) (k : ℕ) → ArePlans old new → k < top → moves old new k ≡ true → sub_of old new k < part_limit
+sub_low old new k plans below is = omega (arith, sub_counted old new k plans below is, most_few old new old)
+
+-- the first key of a move is a moving key of its sub-plan
+all_counted : (old new : List PlanRange) (ms : List Move) → ArePlans old new → AllByRecursion (IsMove old new) ms → AllByRecursion (λ m. m.sub < subplan_count old new) ms
+all_counted old new [] plans each = tt
+all_counted old new (m ∷ ms) plans each =
+    let has = first_key m each.0.full in
+    let source = each.0.source m.span.lo has in
+    let dest = each.0.dest m.span.lo has in
+    let moving : moves old new m.span.lo ≡ true = rw (ne_eqb (owner_of old m.span.lo) (owner_of new m.span.lo) (λ e. each.0.other (sym source ∙ e ∙ dest))) refl in
+    let sub : m.sub ≡ sub_of old new m.span.lo = each.0.sub ∙ ap (λ p. sub_at old new p m.dest) (sym source) ∙ ap (sub_at old new (owner_of old m.span.lo)) (sym dest) in
+    (omega (arith, sub, sub_counted old new m.span.lo plans (omega (arith, each.0.full, each.0.high)) moving), all_counted old new ms plans each.1)
+
+pub moves_counted : (old new : List PlanRange) → ArePlans old new → All (λ m. m.sub < subplan_count old new) (moves_of old new)
+moves_counted old new plans = All-from_recursion (λ m. m.sub < subplan_count old new) (moves_of old new) (all_counted old new (moves_of old new) plans (are_moves old new plans.old_canonical plans.new_canonical).each)
 
 -- ---- who feeds whom, by keys
 

@@ -43,11 +43,11 @@ pub record Owns (xs : List PlanRange) (r : PlanRange) : Type 0 where
   pub owner : (k : ℕ) → r.span.lo ≤ k → k < r.span.hi → owner_of xs k ≡ r.part
   pub next : r.span.hi < top → r.part ≢ owner_of xs r.span.hi
 
-tiling_high : (from : ℕ) (rs : List PlanRange) → IsTiling from rs → from ≤ top
+tiling_high : (from : ℕ) (rs : List PlanRange) → IsTiling from top rs → from ≤ top
 tiling_high from [] t = omega (arith, t)
 tiling_high from (r ∷ rs) t = omega (arith, t.0, t.1, tiling_high r.span.hi rs t.2)
 
-next_differs : (r : PlanRange) (rs : List PlanRange) → IsTiling r.span.hi rs → DifferFrom r rs → r.span.hi < top → r.part ≢ owner_of rs r.span.hi
+next_differs : (r : PlanRange) (rs : List PlanRange) → IsTiling r.span.hi top rs → DifferFrom r rs → r.span.hi < top → r.part ≢ owner_of rs r.span.hi
 next_differs r [] t d lt = λ e. absurd (omega (arith, t))
 next_differs r (s ∷ ss) t d lt = λ e. d.0 (e ∙ owner_here s ss r.span.hi (omega (arith, t.0)) (omega (arith, t.0, t.1)))
 
@@ -67,7 +67,7 @@ owns_more r rs from (x ∷ xs) le f o = (
   owns_more r rs x.span.hi xs (omega (arith, f.0, f.1)) f.2 o.1,
 )
 
-pub owns : (from : ℕ) (rs : List PlanRange) → IsTiling from rs → Differ rs → AllByRecursion (Owns rs) rs
+pub owns : (from : ℕ) (rs : List PlanRange) → IsTiling from top rs → Differ rs → AllByRecursion (Owns rs) rs
 owns from [] t d = tt
 owns from (r ∷ rs) t d = (
   record {
@@ -179,7 +179,7 @@ row_has r (s ∷ ss) k =
     ∙ ap (λ b. (span_has r.span k && (span_has s.span k && not (eqb r.part s.part))) || b) (row_has r ss k)
     ∙ spread (span_has r.span k) (span_has s.span k && not (eqb r.part s.part)) (list_any (λ t. span_has t.span k && not (eqb r.part t.part)) ss)
 
-tiled_below : (f : ℕ → Bool) (from k : ℕ) (ss : List PlanRange) → IsTiling from ss → k < from → list_any (λ s. span_has s.span k && f s.part) ss ≡ false
+tiled_below : (f : ℕ → Bool) (from k : ℕ) (ss : List PlanRange) → IsTiling from top ss → k < from → list_any (λ s. span_has s.span k && f s.part) ss ≡ false
 tiled_below f from k [] t lt = refl
 tiled_below f from k (s ∷ ss) t lt = rw (below s k (omega (arith, t.0))) (tiled_below f s.span.hi k ss t.2 (omega (arith, t.0, t.1)))
 
@@ -188,7 +188,7 @@ or_false true = refl
 or_false false = refl
 
 -- the range of a tiling that has the key is that of its owner
-tiled_any : (f : ℕ → Bool) (from k : ℕ) (ss : List PlanRange) → IsTiling from ss → from ≤ k → k < top → list_any (λ s. span_has s.span k && f s.part) ss ≡ f (owner_of ss k)
+tiled_any : (f : ℕ → Bool) (from k : ℕ) (ss : List PlanRange) → IsTiling from top ss → from ≤ k → k < top → list_any (λ s. span_has s.span k && f s.part) ss ≡ f (owner_of ss k)
 tiled_any f from k [] t le lt = absurd (omega (arith, t))
 tiled_any f from k (s ∷ ss) t le lt = elim (cases_lt k s.span.hi) [
   | inl here ↦ rw (inside s k (omega (arith, t.0)) here) (rw (tiled_below f s.span.hi k ss t.2 here) (or_false (f s.part)))
@@ -207,14 +207,14 @@ numbered_has old new [] k = refl
 numbered_has old new (p ∷ ps) k = ap (λ b. span_has p.span k || b) (numbered_has old new ps k)
 
 -- beyond the keys
-no_owner : (from k : ℕ) (rs : List PlanRange) → IsTiling from rs → top ≤ k → (owner_of rs k ≡ 0) × ((f : ℕ → Bool) → list_any (λ r. span_has r.span k && f r.part) rs ≡ false)
+no_owner : (from k : ℕ) (rs : List PlanRange) → IsTiling from top rs → top ≤ k → (owner_of rs k ≡ 0) × ((f : ℕ → Bool) → list_any (λ r. span_has r.span k && f r.part) rs ≡ false)
 no_owner from k [] t le = (refl, λ f. refl)
 no_owner from k (r ∷ rs) t le =
     let rest = no_owner r.span.hi k rs t.2 le in
     let out = above r k (omega (arith, tiling_high r.span.hi rs t.2)) in
     (rw out rest.0, λ f. rw out (rest.1 f))
 
-pieces_have : (old new : List PlanRange) (k : ℕ) → IsTiling 0 old → IsTiling 0 new → list_any (piece_has k) (pieces old new) ≡ moves old new k
+pieces_have : (old new : List PlanRange) (k : ℕ) → IsTiling 0 top old → IsTiling 0 top new → list_any (piece_has k) (pieces old new) ≡ moves old new k
 pieces_have old new k t u = elim (cases_lt k top) [
   | inl lt ↦
       pieces_row old new k (λ p. not (eqb p (owner_of new k))) (λ p. tiled_any (λ q. not (eqb p q)) 0 k new u (omega arith) lt)
@@ -248,7 +248,7 @@ row_rises old new r a from (s ∷ ss) f le high = elim (cases_Bool (shares r.spa
   ]
 ]
 
-pieces_rise : (old new : List PlanRange) (from : ℕ) (rs ss : List PlanRange) → IsTiling from rs → Follow 0 ss → RiseTo from top (map (numbered old new) (pieces rs ss))
+pieces_rise : (old new : List PlanRange) (from : ℕ) (rs ss : List PlanRange) → IsTiling from top rs → Follow 0 ss → RiseTo from top (map (numbered old new) (pieces rs ss))
 pieces_rise old new from [] ss t f = omega (arith, t)
 pieces_rise old new from (r ∷ rs) ss t f =
     rw (map_append (numbered old new) (row r ss) (pieces rs ss))

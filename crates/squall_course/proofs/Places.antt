@@ -9,9 +9,9 @@ use Rattle.squall_span.specs.Spans.{Interval, span_has}
 use Rattle.squall_plan.specs.declared.range.PlanRange.{PlanRange}
 use Rattle.squall_plan.specs.Ranges.{owner_of, range_has, IsTiling}
 use Rattle.squall_course.specs.declared.feed.Feed.{Feed}
-use Rattle.squall_course.specs.Change.{Change}
+use Rattle.squall_course.specs.Change.{Change, ArePlans}
 use Rattle.squall_course.specs.Subplans.{shares, feeds, is_dest, subplan_of}
-use Rattle.squall_course.specs.Tables.{lower_feeds, IsTable, ArePlans}
+use Rattle.squall_course.specs.Tables.{lower_feeds, IsTable}
 use Rattle.squall_course.proofs.Rising.{eq_refl}
 use Rattle.squall_course.proofs.Tabled.{sub_is_place}
 
@@ -27,7 +27,7 @@ any_found {X} p q (y ∷ ys) x e h = elim (cases_Bool (p y)) [
 ]
 
 -- the range in which a tiling has a key
-found : (from k : ℕ) (rs : List PlanRange) → IsTiling from rs → from ≤ k → k < top → (r : PlanRange) × (find (range_has k) rs ≡ Some r) × (range_has k r ≡ true)
+found : (from k : ℕ) (rs : List PlanRange) → IsTiling from top rs → from ≤ k → k < top → (r : PlanRange) × (find (range_has k) rs ≡ Some r) × (range_has k r ≡ true)
 found from k [] t le below = absurd (omega (arith, t))
 found from k (r ∷ rs) t le below = elim (cases_lt k r.span.hi) [
   | inl in_it ↦ let has : range_has k r ≡ true = inside k r (omega (arith, t.0)) in_it in (r, rw has refl, has)
@@ -46,14 +46,14 @@ shared a b k h h2 = grind (arith, nat_tests)
 owner_is : (rs : List PlanRange) (k : ℕ) (r : PlanRange) → find (range_has k) rs ≡ Some r → owner_of rs k ≡ r.part
 owner_is rs k r e = rw e refl
 
-pub feeds_key : (old new : List PlanRange) (k : ℕ) → IsTiling 0 old → IsTiling 0 new → k < top → feeds old new (owner_of old k) (owner_of new k) ≡ true
+pub feeds_key : (old new : List PlanRange) (k : ℕ) → IsTiling 0 top old → IsTiling 0 top new → k < top → feeds old new (owner_of old k) (owner_of new k) ≡ true
 feeds_key old new k t u below =
     let a = found 0 k old t (omega arith) below in
     let b = found 0 k new u (omega arith) below in
     let inner = any_found (range_has k) (λ s. eqb s.part (owner_of new k) && shares a.0.span s.span) new b.0 b.1 (rw (owner_is new k b.0 b.1, eq_refl b.0.part, shared a.0.span b.0.span k a.2 b.2) refl) in
     any_found (range_has k) (λ r. eqb r.part (owner_of old k) && list_any (λ s. eqb s.part (owner_of new k) && shares r.span s.span) new) old a.0 a.1 (rw inner (rw (owner_is old k a.0 a.1, eq_refl a.0.part) refl))
 
-pub moving_dest : (old new : List PlanRange) (k : ℕ) → IsTiling 0 old → IsTiling 0 new → k < top → eqb (owner_of old k) (owner_of new k) ≡ false → is_dest old new (owner_of old k) (owner_of new k) ≡ true
+pub moving_dest : (old new : List PlanRange) (k : ℕ) → IsTiling 0 top old → IsTiling 0 top new → k < top → eqb (owner_of old k) (owner_of new k) ≡ false → is_dest old new (owner_of old k) (owner_of new k) ≡ true
 moving_dest old new k t u below apart =
     let differ : eqb (owner_of new k) (owner_of old k) ≡ false = ne_eqb _ _ (λ e. eqb-false _ _ apart (sym e)) in
     rw (differ, feeds_key old new k t u below) refl

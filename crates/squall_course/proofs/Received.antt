@@ -11,9 +11,9 @@ use Rattle.squall_key.specs.Keys.{top, part_limit}
 use Rattle.squall_plan.specs.declared.range.PlanRange.{PlanRange}
 use Rattle.squall_plan.specs.Ranges.{owner_of, range_has, AreRanges}
 use Rattle.squall_course.specs.declared.moving.Move.{Move}
-use Rattle.squall_course.specs.Change.{Change}
+use Rattle.squall_course.specs.Change.{Change, ArePlans}
 use Rattle.squall_course.specs.Moves.{in_moves, is_incoming, goes_to, receivers_of, moves_of, move_has, IsMove, AreMoves}
-use Rattle.squall_course.specs.Tables.{Up, AreReceivers, ArePlans}
+use Rattle.squall_course.specs.Tables.{Up, AreReceivers}
 use Rattle.squall_course.proofs.Rising.{is_in, same_rising, filter_up, in_filter}
 use Rattle.squall_course.proofs.Rows.{less_number}
 use Rattle.squall_course.proofs.Moved.{are_moves, first_key}

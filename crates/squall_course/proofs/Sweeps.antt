@@ -3,6 +3,7 @@ use Rattle.std.proofs.Common.{◌≡◌, ℕ, suc, ◌+◌, ◌<◌, ◌≤◌, 
 use Rattle.std.proofs.lemmas.Bool.Decides.{nat_tests}
 use Rattle.squall_span.specs.Spans.{Interval}
 use Rattle.squall_plan.specs.declared.range.PlanRange.{PlanRange}
+use Rattle.squall_key.specs.Keys.{top}
 use Rattle.squall_plan.specs.Ranges.{IsTiling}
 use Rattle.squall_course.specs.Subplans.{shares}
 use Rattle.squall_course.specs.Moves.{piece, listed, row, pieces}
@@ -29,7 +30,7 @@ pub follow_weaker : (from low : ℕ) (ss : List PlanRange) → low ≤ from → 
 follow_weaker from low [] le f = tt
 follow_weaker from low (s ∷ ss) le f = (omega (arith, f.0), f.1, f.2)
 
-pub follow_tiling : (from : ℕ) (ss : List PlanRange) → IsTiling from ss → Follow from ss
+pub follow_tiling : (from : ℕ) (ss : List PlanRange) → IsTiling from top ss → Follow from ss
 follow_tiling from [] t = tt
 follow_tiling from (s ∷ ss) t = (omega (arith, t.0), t.1, follow_tiling s.span.hi ss t.2)
 

@@ -4,7 +4,7 @@ use Rattle.std.specs.Prelude.{filter, ◌||◌, ◌&&◌, not}
 use Rattle.std.specs.List.{list_any, range_with_len, prefix_len, slice_get}
 use Rattle.std.specs.Option.{option_map}
 use Rattle.std.proofs.lemmas.Option.{slice_get-map}
-use Rattle.squall_course.specs.Change.{Change}
+use Rattle.squall_course.specs.Change.{Change, ArePlans}
 use Rattle.std.proofs.lemmas.Bool.{cases_Bool, and_parts, and_right, or_cases, or_right, ne_eqb, eq-eqb, eqb-true, eqb-false, false≢true}
 use Rattle.std.proofs.lemmas.List.{length-map}
 use Rattle.std.proofs.lemmas.List.Folds.{list_any-append}
@@ -16,7 +16,7 @@ use Rattle.squall_course.specs.declared.feed.Feed.{Feed}
 use Rattle.squall_course.specs.declared.moving.Move.{Move}
 use Rattle.squall_course.specs.Subplans.{shares, feeds, is_dest, dests, sub_at, most_dests, dest_of}
 use Rattle.squall_course.specs.Moves.{piece, listed, row, pieces, numbered, moves_of}
-use Rattle.squall_course.specs.Tables.{Up, is_feed, goes, Sorted, feeds_of, lower_feeds, most_feeds, numbered_by, IsTable, ArePlans}
+use Rattle.squall_course.specs.Tables.{Up, is_feed, goes, Sorted, feeds_of, lower_feeds, most_feeds, numbered_by, IsTable}
 use Rattle.squall_course.proofs.Rising.{is_in, eq_refl, same_rising, filter_up, in_filter, place_lower}
 use Rattle.squall_course.proofs.Rows.{row_up, row_members, lower_by_row}
 
@@ -152,7 +152,7 @@ pub dests_few : (old new : List PlanRange) (s : ℕ) → length (dests old new s
 unfolding dests
 dests_few old new s = few_pass (λ d. is_dest old new s d) 0 part_limit
 
-most_few : (old new rs : List PlanRange) → most_dests old new rs ≤ part_limit
+pub most_few : (old new rs : List PlanRange) → most_dests old new rs ≤ part_limit
 most_few old new [] = omega arith
 most_few old new (r ∷ rs) = omega (arith, dests_few old new r.part, most_few old new rs)
 
@@ -178,3 +178,10 @@ pub dest_by_row : (c : Change) (i j : List PlanRange) (fs row : List Feed) (part
 dest_by_row c i j fs row part sub found a b t is e =
     let rows : map (λ f. f.dest) row ≡ dests c.old c.new part = ap (map (λ f. f.dest)) is ∙ t.rows part ∙ rw (a, b) refl in
     sym (ap (λ (l : List ℕ). slice_get l sub) (sym rows) ∙ slice_get-map (λ (f : Feed). f.dest) row sub ∙ ap (option_map (λ (f : Feed). f.dest)) e)
+
+-- what a course's invariant says of its plans under other names
+pub plans_known : (c : Change) (i j : List PlanRange) → i ≡ c.old → j ≡ c.new → ArePlans i j → ArePlans c.old c.new
+plans_known c i j a b plans = rw (a, b) at plans
+
+pub count_few : (old new : List PlanRange) (n : ℕ) → n ≡ most_dests old new old → n ≤ part_limit
+count_few old new n is = omega (arith, is, most_few old new old)

@@ -8,7 +8,7 @@ use Rattle.squall_plan.specs.Ranges.{owner_of}
 use Rattle.squall_course.specs.declared.moving.Move.{Move}
 use Rattle.squall_course.specs.Subplans.{sub_at}
 use Rattle.squall_course.specs.Moves.{move_has, in_moves, IsMove, Rise, LongestFrom, AreLongest, AreMoves, moves_of}
-use Rattle.squall_course.specs.Tables.{ArePlans}
+use Rattle.squall_course.specs.Change.{ArePlans}
 use Rattle.squall_course.proofs.Moved.{are_moves, first_key}
 
 has_key : (m : Move) (k : ℕ) → m.span.lo ≤ k → k < m.span.hi → move_has k m ≡ true

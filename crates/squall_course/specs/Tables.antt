@@ -2,7 +2,6 @@
 use Rattle.std.specs.Prelude.{◌≡◌, ℕ, ◌+◌, ◌<◌, ◌≤◌, ◌==◌, ◌&&◌, ◌⊎◌, max, nat_lt, Bool, List, [], ◌∷◌, filter, map, length}
 use Rattle.std.specs.List.{AllByRecursion, prefix_len, list_any}
 use Rattle.squall_plan.specs.declared.range.PlanRange.{PlanRange}
-use Rattle.squall_plan.specs.Ranges.{AreRanges, IsCanonical}
 use Rattle.squall_course.specs.declared.piece.Piece.{Piece}
 use Rattle.squall_course.specs.declared.moving.Move.{Move}
 use Rattle.squall_course.specs.declared.feed.Feed.{Feed}
@@ -66,10 +65,3 @@ pub record AreReceivers (ms : List Move) (sub : ℕ) (parts : List ℕ) : Type 0
 pub record IsTable (old new : List PlanRange) (fs : List Feed) : Type 0 where
   pub sorted : Sorted fs
   pub rows : (source : ℕ) → map (λ f. f.dest) (feeds_of source fs) ≡ dests old new source
-
--- plans of which a course may be made
-pub record ArePlans (old new : List PlanRange) : Type 0 where
-  pub old_canonical : IsCanonical old
-  pub new_canonical : IsCanonical new
-  pub old_ranges : AreRanges old
-  pub new_ranges : AreRanges new

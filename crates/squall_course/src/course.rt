@@ -3,7 +3,9 @@
 ghost use Rattle.std.specs.Prelude.{◌≡◌, ◌≢◌, ◌≤◌, ℕ, IfOk, IfErr};
 ghost use Rattle.squall_course.specs.declared.fault.CourseFault.TheVariants.{ZeroNumber, NoMemory};
 ghost use Rattle.squall_span.specs.Spans.{has};
+ghost use Rattle.squall_key.specs.Keys.{part_limit};
 ghost use Rattle.squall_plan.specs.Ranges.{owner_of};
+ghost use Rattle.squall_course.specs.Change.{ArePlans};
 ghost use Rattle.squall_course.specs.Subplans.{subplan_of, subplan_count, dest_of};
 ghost use Rattle.squall_course.specs.Statuses.{IsStatus};
 ghost use Rattle.squall_course.specs.Moves.{moves_of, AreMoves, is_incoming, is_outgoing, receivers_of};
@@ -12,6 +14,7 @@ use crate::fault::CourseFault;
 use crate::feed::Table;
 use crate::gather;
 use crate::moving::Move;
+use crate::owners::Owners;
 use crate::piece::pieces;
 use crate::status::Status;
 use squall_key::{Key, PartId};
@@ -38,10 +41,10 @@ pub struct Course {
 impl Model for Course {
     ghost use Rattle.std.specs.Prelude.{◌≤◌};
     ghost use Rattle.std.specs.Prelude.{◌≡◌};
-    ghost use Rattle.squall_course.specs.Change.{Change};
+    ghost use Rattle.squall_course.specs.Change.{Change, ArePlans};
     ghost use Rattle.squall_course.specs.Subplans.{subplan_count};
     ghost use Rattle.squall_course.specs.Moves.{moves_of};
-    ghost use Rattle.squall_course.specs.Tables.{IsTable, ArePlans};
+    ghost use Rattle.squall_course.specs.Tables.{IsTable};
 
     ghost Value = { Change };
 
@@ -85,6 +88,22 @@ impl Course {
         self.number
     }
 
+    /// The old plan.
+    pub fn old_plan(&self) -> &Plan
+        ensures value { result.now ≡ self.now.old }
+        ensures plans { ArePlans self.now.old self.now.new }
+    {
+        &self.old
+    }
+
+    /// The new plan.
+    pub fn new_plan(&self) -> &Plan
+        ensures value { result.now ≡ self.now.new }
+        ensures plans { ArePlans self.now.old self.now.new }
+    {
+        &self.new
+    }
+
     /// The partition of the key in the old plan.
     pub fn old_owner(&self, key: Key) -> PartId
         ensures { result ≡ owner_of self.now.old key }
@@ -99,19 +118,30 @@ impl Course {
         self.new.owner(key)
     }
 
+    /// The owners of the key and the sub-plan in which it moves, from one search in each plan.
+    pub fn owners(&self, key: Key) -> Owners
+        ensures old { result.old ≡ owner_of self.now.old key }
+        ensures new { result.new ≡ owner_of self.now.new key }
+        ensures sub { result.sub ≡ subplan_of self.now.old self.now.new key }
+    {
+        // The proof learns that the rank lies below the top, so that both plans have the key.
+        let _ = key.rank();
+        let old = self.old_owner(key);
+        let new = self.new_owner(key);
+        if old == new {
+            let sub = None;
+            return Owners { old, new, sub };
+        }
+        let sub = Some(self.table.sub(old, new));
+        Owners { old, new, sub }
+    }
+
     /// The sub-plan in which the key moves: the place of its new partition among the destinations
     /// of its old one, from 0. None where the key does not move.
     pub fn subplan_of(&self, key: Key) -> Option<u32>
         ensures { result ≡ subplan_of self.now.old self.now.new key }
     {
-        // The proof learns that the rank lies below the top, so that both plans have the key.
-        let _ = key.rank();
-        let source = self.old_owner(key);
-        let dest = self.new_owner(key);
-        if source == dest {
-            return None;
-        }
-        Some(self.table.sub(source, dest))
+        self.owners(key).sub
     }
 
     /// The moves by rising key: the longest spans whose keys have one source, another dest and one
@@ -119,13 +149,17 @@ impl Course {
     pub fn moves(&self) -> &[Move]
         ensures list { result.now ≡ moves_of self.now.old self.now.new }
         ensures meaning { AreMoves self.now.old self.now.new result.now }
+        ensures plans { ArePlans self.now.old self.now.new }
     {
         &self.moves
     }
 
-    /// How many sub-plans there are: the greatest number of destinations of a source.
+    /// How many sub-plans there are: the greatest number of destinations of a source, and so at
+    /// most the number of partitions.
     pub fn subplans(&self) -> u32
-        ensures { result ≡ subplan_count self.now.old self.now.new }
+        ensures value { result ≡ subplan_count self.now.old self.now.new }
+        ensures most { result ≤ part_limit }
+        ensures plans { ArePlans self.now.old self.now.new }
     {
         self.subplans
     }

@@ -1,14 +1,14 @@
 //! Laws of moves and sub-plans, each the contract of a function that does nothing.
 
-ghost use Rattle.std.specs.Prelude.{◌≡◌, ◌↔◌, ℕ, ◌<◌, ◌≤◌, true, Some, List};
-ghost use Rattle.squall_key.specs.Keys.{top};
+ghost use Rattle.std.specs.Prelude.{◌≡◌, ◌↔◌, ℕ, ◌<◌, ◌≤◌, true, Some, List, All};
+ghost use Rattle.squall_key.specs.Keys.{top, part_limit};
 ghost use Rattle.squall_plan.specs.declared.range.PlanRange.{PlanRange};
 ghost use Rattle.squall_plan.specs.Ranges.{owner_of};
 ghost use Rattle.squall_course.specs.Subplans.{moves, feeds, IsFed, sub_of, subplan_count, dest_of, IsSplit};
 ghost use Rattle.squall_course.specs.Moves.{moves_of, AreMoves, receivers_of, is_incoming};
 ghost use Rattle.std.specs.List.{Contains};
 ghost use Rattle.squall_course.specs.declared.moving.Move.{Move};
-ghost use Rattle.squall_course.specs.Tables.{ArePlans};
+ghost use Rattle.squall_course.specs.Change.{ArePlans};
 
 /// The moves as a function of the plans are the moves by their meaning.
 pub fn moves_have_meaning()
@@ -47,6 +47,18 @@ pub fn key_goes_to_the_destination()
 /// The sub-plan of a moving key is below the number of sub-plans.
 pub fn subplans_are_counted()
     ensures { (old new : List PlanRange) (k : ℕ) → ArePlans old new → k < top → moves old new k ≡ true → sub_of old new k < subplan_count old new }
+{}
+
+/// There are at most as many sub-plans as there can be partitions, and so the sub-plan of a moving
+/// key is below that number.
+pub fn subplans_are_at_most_the_partitions()
+    ensures count { (old new : List PlanRange) → subplan_count old new ≤ part_limit }
+    ensures keys { (old new : List PlanRange) (k : ℕ) → ArePlans old new → k < top → moves old new k ≡ true → sub_of old new k < part_limit }
+{}
+
+/// The sub-plan of each move is below the number of sub-plans.
+pub fn move_is_in_a_counted_subplan()
+    ensures { (old new : List PlanRange) → ArePlans old new → All (λ m. m.sub < subplan_count old new) (moves_of old new) }
 {}
 
 /// No way to number the moving keys, with one destination at most for a source and a number, has

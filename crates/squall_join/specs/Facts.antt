@@ -13,7 +13,7 @@ use Rattle.squall_join.specs.Basic.{is_max}
 use Rattle.squall_join.specs.Pairs.{pair_of, pair_is, pair_join, same_pair}
 use Rattle.squall_join.specs.Entries.{join_found, merged, IsKept, IsMap}
 use Rattle.squall_join.specs.MapLaws.{find_merged, same_map, find_All, Found}
-use Rattle.squall_span.specs.Spans.{has, IsCanonical, union}
+use Rattle.squall_span.specs.Spans.{has, IsSet, union}
 use Rattle.squall_span.specs.SpanLaws.{has-union, same_spans}
 
 -- says x f: x has the fact f. A join has the facts of either, and the same facts make the same value
@@ -57,11 +57,11 @@ flag_factual = record {
 }
 
 -- the facts of a set: its keys
-pub set_factual : Factual IsCanonical [] union has
+pub set_factual : Factual IsSet [] union has
 set_factual = record {
   at_bottom = λ k. refl;
-  at_join = λ x y a b k. has-union x y k a b;
-  same = same_spans;
+  at_join = λ x y a b k. has-union x y k a.0 b.0;
+  same = λ x y a b is. same_spans x y a b (λ k _. is k);
 }
 
 module _ {A B F G : Type 0} where

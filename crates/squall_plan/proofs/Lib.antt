@@ -3,6 +3,7 @@ pub mod Sweeps
 pub mod Owners
 pub mod Places
 pub mod Canonical
+pub mod Named
 pub mod Sorted
 pub mod Answered
 pub mod Texts

@@ -14,7 +14,7 @@ use Rattle.squall_plan.proofs.Sweeps.{one, has_inside, has_below, has_above}
 
 -- ---- a tiling holds each key from its start once
 
-pub tiling_holds : (from : ℕ) (rs : List PlanRange) → IsTiling from rs → (k : ℕ) → k < top → (from ≤ k → holders k rs ≡ 1) × (k < from → holders k rs ≡ 0)
+pub tiling_holds : (from : ℕ) (rs : List PlanRange) → IsTiling from top rs → (k : ℕ) → k < top → (from ≤ k → holders k rs ≡ 1) × (k < from → holders k rs ≡ 0)
 tiling_holds from [] t k below = (λ le. absurd (omega (arith, t)), λ lt. refl)
 tiling_holds from (r ∷ rs) t k below =
     let rest = tiling_holds r.span.hi rs t.2 k below in
@@ -58,7 +58,7 @@ parts-IsPermutation k rs ss p = is_sum_by (parts k) (part_if k) refl (λ _ _. re
 
 -- ---- neighbours of one partition joined
 
-pub joined_tiles : (from : ℕ) (run : PlanRange) (rs : List PlanRange) → IsTiling from (run ∷ rs) → IsTiling from (joined_from run rs)
+pub joined_tiles : (from : ℕ) (run : PlanRange) (rs : List PlanRange) → IsTiling from top (run ∷ rs) → IsTiling from top (joined_from run rs)
 joined_tiles from run [] t = t
 joined_tiles from run (r ∷ rs) t = elim (cases_Bool (eqb r.part run.part)) [
   | inl is ↦ rw is (joined_tiles from (ended_at run r.span.hi) rs (t.0, omega (arith, t.1, t.2.0, t.2.1), t.2.2))
@@ -75,7 +75,7 @@ joined_differ run (r ∷ rs) = elim (cases_Bool (eqb r.part run.part)) [
       rw is (rest, λ s other. (other, rest))
 ]
 
-pub joined_owner : (from : ℕ) (run : PlanRange) (rs : List PlanRange) (k : ℕ) → IsTiling from (run ∷ rs) → owner_of (joined_from run rs) k ≡ owner_of (run ∷ rs) k
+pub joined_owner : (from : ℕ) (run : PlanRange) (rs : List PlanRange) (k : ℕ) → IsTiling from top (run ∷ rs) → owner_of (joined_from run rs) k ≡ owner_of (run ∷ rs) k
 joined_owner from run [] k t = refl
 joined_owner from run (r ∷ rs) k t = elim (cases_Bool (eqb r.part run.part)) [
   | inl is ↦
@@ -98,7 +98,7 @@ joined_owner from run (r ∷ rs) k t = elim (cases_Bool (eqb r.part run.part)) [
   ])
 ]
 
-pub joined_ranges : (from : ℕ) (run : PlanRange) (rs : List PlanRange) → IsTiling from (run ∷ rs) → AreRanges (run ∷ rs) → AreRanges (joined_from run rs)
+pub joined_ranges : (from : ℕ) (run : PlanRange) (rs : List PlanRange) → IsTiling from top (run ∷ rs) → AreRanges (run ∷ rs) → AreRanges (joined_from run rs)
 joined_ranges from run [] t full = full
 joined_ranges from run (r ∷ rs) t full = elim (cases_Bool (eqb r.part run.part)) [
   | inl is ↦

@@ -1,7 +1,7 @@
 -- Lists of ranges, and what it is to be a plan (a plan assigns ranges of keys to partitions: Squall, SIGMOD 2015).
-use Rattle.std.specs.Prelude.{◌≡◌, ℕ, ◌+◌, ◌<◌, ◌≤◌, Bool, List, [], ◌∷◌, if◌then◌else◌, ◌≢◌, length, slice_index_or}
+use Rattle.std.specs.Prelude.{◌≡◌, ℕ, ◌+◌, ◌<◌, ◌≤◌, ◌==◌, Bool, List, [], ◌∷◌, if◌then◌else◌, ◌≢◌, length, slice_index_or}
 use Rattle.std.specs.Option.{option_map_or}
-use Rattle.std.specs.List.{find, AllByRecursion}
+use Rattle.std.specs.List.{find, list_any, AllByRecursion}
 use Rattle.squall_key.specs.Keys.{top, part_limit}
 use Rattle.squall_span.specs.Spans.{span_has}
 use Rattle.squall_plan.specs.declared.range.PlanRange.{PlanRange}
@@ -18,6 +18,10 @@ holders k (r ∷ rs) = (if range_has k r then 1 else 0) + holders k rs
 -- the partition of the first range that has the key, 0 where none has it
 abbrev pub owner_of : List PlanRange → ℕ → ℕ
 owner_of rs k = option_map_or (λ r. r.part) (find (range_has k) rs) 0
+
+-- some range has the partition
+abbrev pub names : List PlanRange → ℕ → Bool
+names rs part = list_any (λ r. r.part == part) rs
 
 -- a range with a key, up to the top at most, of a partition that there can be
 abbrev pub IsRange : PlanRange → Type 0
@@ -51,10 +55,11 @@ pub record IsLeastFree (rs : List PlanRange) (k : ℕ) : Type 0 where
 
 -- ---- by rising key
 
--- each range begins where the one before it ends, the first at a given key, and the last ends at the top
-abbrev pub IsTiling : ℕ → List PlanRange → Type 0
-IsTiling from [] = from ≡ top
-IsTiling from (r ∷ rs) = (r.span.lo ≡ from) × (r.span.lo < r.span.hi) × IsTiling r.span.hi rs
+-- from one bound to another: the first range begins at the one, each other where the range before it ends, and the last ends
+-- at the other
+abbrev pub IsTiling : ℕ → ℕ → List PlanRange → Type 0
+IsTiling from to [] = from ≡ to
+IsTiling from to (r ∷ rs) = (r.span.lo ≡ from) × (r.span.lo < r.span.hi) × IsTiling r.span.hi to rs
 
 -- neighbours differ in partition, the first from a given range
 abbrev pub DifferFrom : PlanRange → List PlanRange → Type 0
@@ -67,7 +72,7 @@ Differ (r ∷ rs) = DifferFrom r rs
 
 -- the one list of a plan: by rising key without hole, neighbours of different partitions
 pub record IsCanonical (rs : List PlanRange) : Type 0 where
-  pub tiles : IsTiling 0 rs
+  pub tiles : IsTiling 0 top rs
   pub differ : Differ rs
 
 -- the ranges are a plan, and the other list is its canonical one

@@ -5,7 +5,7 @@ ghost use Rattle.squall_key.specs.Keys.{top, part_limit};
 ghost use Rattle.squall_plan.specs.declared.range.PlanRange.{PlanRange};
 ghost use Rattle.squall_plan.specs.declared.fault.PlanFault.{PlanFault};
 ghost use Rattle.squall_plan.specs.declared.fault.PlanFault.TheVariants.{NoMemory};
-ghost use Rattle.squall_plan.specs.Ranges.{owner_of, AreRanges, AreParts, ArePlan, IsCanonical};
+ghost use Rattle.squall_plan.specs.Ranges.{owner_of, AreRanges, AreParts, ArePlan, IsCanonical, names};
 ghost use Rattle.squall_plan.specs.Equal.{are_same_ranges};
 ghost use Rattle.squall_plan.specs.Arranged.{range_limit, IsArranged, plan_of_ranges};
 ghost use Rattle.squall_plan.specs.Form.{plan_of_text};
@@ -53,4 +53,19 @@ pub fn canonical_is_plan()
 pub fn owner_is_part()
     ensures parts { (rs : List PlanRange) (k : ℕ) → AreParts rs → owner_of rs k < part_limit }
     ensures ranges { (rs : List PlanRange) → AreRanges rs → AreParts rs }
+{}
+
+/// The owner of a key is a partition that the plan names.
+pub fn owner_is_named()
+    ensures { (ps : List PlanRange) (k : ℕ) → IsCanonical ps → k < top → names ps (owner_of ps k) ≡ true }
+{}
+
+/// A partition that the plan names owns some key.
+pub fn named_part_has_a_key()
+    ensures { (ps : List PlanRange) (part : ℕ) → IsCanonical ps → names ps part ≡ true → (k : ℕ) × (k < top) × (owner_of ps k ≡ part) }
+{}
+
+/// A partition that ranges name is one that there can be.
+pub fn named_part_is_part()
+    ensures { (rs : List PlanRange) (part : ℕ) → AreRanges rs → names rs part ≡ true → part < part_limit }
 {}

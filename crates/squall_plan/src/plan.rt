@@ -1,7 +1,8 @@
 //! A plan.
 
 ghost use Rattle.std.specs.Prelude.{◌≡◌, ◌<◌, ◌≤◌, IfOk, length};
-ghost use Rattle.squall_plan.specs.Ranges.{IsTiling, IsPlace, IsCanonical, IsRange, AreRanges, owner_of};
+ghost use Rattle.squall_key.specs.Keys.{top};
+ghost use Rattle.squall_plan.specs.Ranges.{IsTiling, IsPlace, IsCanonical, IsRange, AreRanges, owner_of, names};
 ghost use Rattle.squall_plan.specs.Equal.{are_same_ranges, ranges_equal};
 ghost use Rattle.squall_plan.specs.Arranged.{Gives, IsArranged, range_limit, plan_of_ranges};
 ghost use Rattle.squall_plan.specs.Form.{Follows, ranges_of_text, plan_of_text};
@@ -31,12 +32,14 @@ impl Model for Plan {
     ghost use Rattle.std.specs.Prelude.{List};
     ghost use Rattle.squall_plan.specs.declared.range.PlanRange.{PlanRange};
     ghost use Rattle.squall_plan.specs.Ranges.{IsCanonical, AreRanges};
+    ghost use Rattle.std.specs.Prelude.{length, ◌≤◌};
+    ghost use Rattle.squall_plan.specs.Arranged.{range_limit};
 
     ghost Value = { List PlanRange };
 
     ghost view = { λ p. p.ranges.items };
 
-    ghost invariant = { λ p. IsCanonical p.ranges.items × AreRanges p.ranges.items };
+    ghost invariant = { λ p. IsCanonical p.ranges.items × AreRanges p.ranges.items × (length p.ranges.items ≤ range_limit) };
 }
 
 /// Changes nothing: after it a proof knows what the types keep of a range.
@@ -59,7 +62,7 @@ fn know_ranges(ranges: &[PlanRange])
 
 /// Where the range of a key stands.
 fn place_of(ranges: &[PlanRange], key: Key) -> usize
-    requires { IsTiling 0 ranges.now }
+    requires { IsTiling 0 top ranges.now }
     ensures { IsPlace key ranges.now result }
 {
     let rank = key.rank();
@@ -122,13 +125,21 @@ impl Plan {
         self.ranges[place].part
     }
 
-    /// The ranges by rising key, neighbours of different partitions.
+    /// The ranges by rising key, neighbours of different partitions: at most 4096.
     pub fn ranges(&self) -> &[PlanRange]
         ensures value { result.now ≡ self.now }
         ensures canonical { IsCanonical result.now }
         ensures ranges { AreRanges result.now }
+        ensures few { length result.now ≤ range_limit }
     {
         &self.ranges
+    }
+
+    /// Whether some range has that partition, and so whether some key has it as its owner.
+    pub fn names(&self, part: PartId) -> bool
+        ensures { result ≡ names self.now part }
+    {
+        self.ranges.iter().any(|range| range.part == part)
     }
 
     /// A copy, with the same ranges. The error comes where memory ran out.

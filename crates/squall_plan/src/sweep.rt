@@ -2,6 +2,7 @@
 
 ghost use Rattle.std.specs.Prelude.{◌≡◌, ◌<◌, IfOk};
 ghost use Rattle.std.specs.List.Sorted.{IsPermutation, IsNonDecreasingBy};
+ghost use Rattle.squall_key.specs.Keys.{top};
 ghost use Rattle.squall_plan.specs.Ranges.{IsTiling};
 ghost use Rattle.squall_plan.specs.Arranged.{clash, hole, ended_at, joined};
 
@@ -64,7 +65,7 @@ fn reaching(range: PlanRange, hi: Bound) -> PlanRange
 
 /// Ranges that touch, with neighbours of one partition joined.
 pub(crate) fn join(alloc: Global, ranges: &[PlanRange]) -> Result<Vec<PlanRange>, AllocError>
-    requires { IsTiling 0 ranges.now }
+    requires { IsTiling 0 top ranges.now }
     ensures { IfOk result (λ v. v.items ≡ joined ranges.now) }
 {
     let mut joined = Vec::new(alloc);

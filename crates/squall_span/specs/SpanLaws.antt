@@ -1,5 +1,5 @@
 -- Laws of sets of keys: a set has one list of spans, and the keys of each operation (this project).
-use Rattle.std.specs.Prelude.{◌≡◌, ℕ, ◌+◌, ◌<◌, ◌≤◌, min, max, Bool, true, false, ◌||◌, nat_lt, List, [], ◌∷◌, cond, refl}
+use Rattle.std.specs.Prelude.{◌≡◌, ℕ, ◌+◌, ◌<◌, ◌≤◌, min, max, Bool, true, false, ◌||◌, ◌&&◌, nat_lt, List, [], ◌∷◌, cond, refl}
 use Rattle.std.proofs.Common.{sym, ap, ◌∙◌, arith, inl, inr}
 use Rattle.std.proofs.lemmas.Bool.{cases_lt}
 use Rattle.std.proofs.lemmas.Bool.Decides.{nat_tests}
@@ -7,7 +7,8 @@ use Rattle.std.proofs.Common.{rules}
 use Rattle.std.specs.Cmp.{IsEquivalence, IsPartialEquivalence, partial_equiv_from_equiv}
 use Rattle.std.specs.Cmp.Lexicographic.{lists_equiv}
 use Rattle.std.specs.Cmp.Rules.{comparing}
-use Rattle.squall_span.specs.Spans.{interval_eq, spans_eq, Interval, interval, span_has, has, Beyond, IsCanonical, hull, insert_span, union}
+use Rattle.squall_key.specs.Keys.{top}
+use Rattle.squall_span.specs.Spans.{interval_eq, spans_eq, Interval, interval, span_has, has, Beyond, IsCanonical, EndsBy, IsSet, hull, insert_span, union}
 
 pub or_assoc : (a b c : Bool) → ((a || b) || c) ≡ (a || (b || c))
 or_assoc true b c = refl
@@ -126,12 +127,12 @@ ends_later s t ss ts c d same lt is =
 same_span : (s t : Interval) → s.lo ≡ t.lo → s.hi ≡ t.hi → s ≡ t
 same_span s t p q = λ i. interval (p i) (q i)
 
--- the same keys make the same list
-pub same_spans : (a b : List Interval) → IsCanonical a → IsCanonical b → ((k : ℕ) → has a k ≡ has b k) → a ≡ b
-same_spans [] [] c d is = refl
-same_spans [] (t ∷ ts) c d is = let h : false ≡ true = is t.lo ∙ has_first t ts d.0 in absurd (let bad : ⊥ = cc in bad)
-same_spans (s ∷ ss) [] c d is = let h : true ≡ false = sym (has_first s ss c.0) ∙ is s.lo in absurd (let bad : ⊥ = cc in bad)
-same_spans (s ∷ ss) (t ∷ ts) c d is =
+-- the same keys make the same list, of keys and of greater numbers
+pub same_lists : (a b : List Interval) → IsCanonical a → IsCanonical b → ((k : ℕ) → has a k ≡ has b k) → a ≡ b
+same_lists [] [] c d is = refl
+same_lists [] (t ∷ ts) c d is = let h : false ≡ true = is t.lo ∙ has_first t ts d.0 in absurd (let bad : ⊥ = cc in bad)
+same_lists (s ∷ ss) [] c d is = let h : true ≡ false = sym (has_first s ss c.0) ∙ is s.lo in absurd (let bad : ⊥ = cc in bad)
+same_lists (s ∷ ss) (t ∷ ts) c d is =
     elim (cases_lt s.lo t.lo) [
       | inl lt ↦ absurd (starts_later s t ss ts c d lt (is s.lo))
       | inr ge ↦ elim (cases_lt t.lo s.lo) [
@@ -143,7 +144,7 @@ same_spans (s ∷ ss) (t ∷ ts) c d is =
             | inr le' ↦
                 let los : s.lo ≡ t.lo = omega arith in
                 let his : s.hi ≡ t.hi = omega arith in
-                let rest = same_spans ss ts c.2 d.2 (λ k. elim (cases_lt k (s.hi + 1)) [
+                let rest = same_lists ss ts c.2 d.2 (λ k. elim (cases_lt k (s.hi + 1)) [
                   | inl upto ↦ has_below s.hi k ss c.1 c.2 (omega arith) ∙ sym (has_below t.hi k ts d.1 d.2 (omega arith))
                   | inr above ↦ sym (has_after s ss k (omega arith)) ∙ is k ∙ has_after t ts k (omega arith)
                 ]) in
@@ -153,17 +154,71 @@ same_spans (s ∷ ss) (t ∷ ts) c d is =
       ]
     ]
 
+-- no number from the bound on
+pub has_ended : (h k : ℕ) (ss : List Interval) → EndsBy h ss → h ≤ k → has ss k ≡ false
+has_ended h k [] b le = refl
+has_ended h k (s ∷ ss) b le = ap (λ t. t || has ss k) (outside_above s k (omega (arith, b.0))) ∙ has_ended h k ss b.1 le
+
+-- sets with the same keys are equal
+pub same_spans : (a b : List Interval) → IsSet a → IsSet b → ((k : ℕ) → k < top → has a k ≡ has b k) → a ≡ b
+same_spans a b c d is = same_lists a b c.0 d.0 (λ k. elim (cases_lt k top) [
+  | inl lt ↦ is k lt
+  | inr ge ↦ has_ended top k a c.1 ge ∙ sym (has_ended top k b d.1 ge)
+])
+
+-- spans that hold no number from the bound on end by it
+pub ends_by_keys : (h : ℕ) (ss : List Interval) → IsCanonical ss → ((k : ℕ) → h ≤ k → has ss k ≡ false) → EndsBy h ss
+ends_by_keys h [] c none = tt
+ends_by_keys h (s ∷ ss) c none = (
+  elim (cases_lt h s.hi) [
+    | inl lt ↦ let is : true ≡ false = sym (has_in s ss (max h s.lo) (omega arith) (omega (arith, c.0))) ∙ none (max h s.lo) (omega arith) in absurd (let bad : ⊥ = cc in bad)
+    | inr ge ↦ ge
+  ],
+  ends_by_keys h ss c.2 (λ k le. tail_none (span_has s k) (has ss k) (none k le)),
+)
+  where
+    tail_none : (a b : Bool) → (a || b) ≡ false → b ≡ false
+    tail_none true b e = absurd (let bad : ⊥ = cc in bad)
+    tail_none false b e = e
+
+-- spans whose keys are all in a set are a set
+pub set_within : (a b : List Interval) → IsCanonical a → IsSet b → ((k : ℕ) → has a k ≡ true → has b k ≡ true) → IsSet a
+set_within a b c d all = (c, ends_by_keys top a c (λ k le. no_key (has a k) (has b k) (all k) (has_ended top k b d.1 le)))
+  where
+    no_key : (x y : Bool) → (x ≡ true → y ≡ true) → y ≡ false → x ≡ false
+    no_key true y f e = sym (f refl) ∙ e
+    no_key false y f e = refl
+
+pub and_first : (a b : Bool) → (a && b) ≡ true → a ≡ true
+and_first true b e = refl
+and_first false b e = e
+
+pub ends-insert : (h : ℕ) (s : Interval) (ss : List Interval) → s.hi ≤ h → EndsBy h ss → EndsBy h (insert_span s ss)
+ends-insert h s [] le b = (le, tt)
+ends-insert h s (t ∷ ts) le b = insert_cases (EndsBy h) s t ts (λ _. (le, b)) (λ _ _. (b.0, ends-insert h s ts le b.1)) (λ _ _. ends-insert h (hull s t) ts (omega (arith, b.0)) b.1)
+
+ends-union : (h : ℕ) (a b : List Interval) → EndsBy h a → EndsBy h b → EndsBy h (union a b)
+ends-union h a [] c d = c
+ends-union h a (t ∷ ts) c d = ends-insert h t (union a ts) d.0 (ends-union h a ts c d.1)
+
+-- one span more, and a union, is a set again
+pub set-insert : (s : Interval) (ss : List Interval) → s.lo < s.hi → s.hi ≤ top → IsSet ss → IsSet (insert_span s ss)
+set-insert s ss p le c = (canonical-insert s ss p c.0, ends-insert top s ss le c.1)
+
+pub set-union : (a b : List Interval) → IsSet a → IsSet b → IsSet (union a b)
+set-union a b c d = (canonical-union a b c.0 d.0, ends-union top a b c.1 d.1)
+
 -- the union is associative, commutative and idempotent, and the empty set is neutral
 pub union_assoc : (x y z : List Interval) → IsCanonical x → IsCanonical y → IsCanonical z → union (union x y) z ≡ union x (union y z)
-union_assoc x y z a b c = same_spans _ _ (canonical-union (union x y) z (canonical-union x y a b) c) (canonical-union x (union y z) a (canonical-union y z b c)) (λ k.
+union_assoc x y z a b c = same_lists _ _ (canonical-union (union x y) z (canonical-union x y a b) c) (canonical-union x (union y z) a (canonical-union y z b c)) (λ k.
     has-union (union x y) z k (canonical-union x y a b) c ∙ ap (λ u. u || has z k) (has-union x y k a b) ∙ or_assoc (has x k) (has y k) (has z k)
     ∙ sym (has-union x (union y z) k a (canonical-union y z b c) ∙ ap (λ u. has x k || u) (has-union y z k b c)))
 
 pub union_comm : (x y : List Interval) → IsCanonical x → IsCanonical y → union x y ≡ union y x
-union_comm x y a b = same_spans _ _ (canonical-union x y a b) (canonical-union y x b a) (λ k. has-union x y k a b ∙ or_comm (has x k) (has y k) ∙ sym (has-union y x k b a))
+union_comm x y a b = same_lists _ _ (canonical-union x y a b) (canonical-union y x b a) (λ k. has-union x y k a b ∙ or_comm (has x k) (has y k) ∙ sym (has-union y x k b a))
 
 pub union_idem : (x : List Interval) → IsCanonical x → union x x ≡ x
-union_idem x a = same_spans _ _ (canonical-union x x a a) a (λ k. has-union x x k a a ∙ or_idem (has x k))
+union_idem x a = same_lists _ _ (canonical-union x x a a) a (λ k. has-union x x k a a ∙ or_idem (has x k))
 
 -- `==` on spans and on lists of them
 interval_eq-equivalence : IsEquivalence interval_eq

@@ -1,7 +1,7 @@
 -- Spans of keys, and sets of keys as lists of spans (half-open ranges of keys: Squall, SIGMOD 2015).
 use Rattle.std.specs.Prelude.{ℕ, ◌+◌, ◌-◌, ◌<◌, ◌≤◌, min, max, suc, zero, Bool, false, ◌&&◌, ◌||◌, ◌==◌, nat_lt, nat_le, List, [], ◌∷◌, ◌++◌, Option, None, Some, if◌then◌else◌}
 use Rattle.std.specs.Cmp.Lexicographic.{pointwise}
-use Rattle.squall_key.specs.Keys.{text_of_bound}
+use Rattle.squall_key.specs.Keys.{top, text_of_bound}
 
 -- the keys from lo on, below hi
 pub record Interval : Type 0 where
@@ -45,6 +45,10 @@ IsCanonical (s ∷ ss) = (s.lo < s.hi) × Beyond s.hi ss × IsCanonical ss
 abbrev pub EndsBy : ℕ → List Interval → Type 0
 EndsBy h [] = Unit {0}
 EndsBy h (s ∷ ss) = (s.hi ≤ h) × EndsBy h ss
+
+-- a set of keys: spans in order, none of which overlaps or touches the next, and all of keys
+abbrev pub IsSet : List Interval → Type 0
+IsSet ss = IsCanonical ss × EndsBy top ss
 
 -- each span starts at h or before
 abbrev pub StartsBy : ℕ → List Interval → Type 0

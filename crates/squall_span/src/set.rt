@@ -2,7 +2,7 @@
 
 ghost use Rattle.std.specs.Prelude.{◌≡◌, ◌↔◌, ℕ, ◌+◌, ◌-◌, ◌<◌, ◌≤◌, ◌&&◌, ◌||◌, not, min, true, false, nat_lt, nat_le, List, [], ◌∷◌, IsTrue, IfOk, IfSome, OnOk, OnErr};
 ghost use Rattle.squall_key.specs.Keys.{top};
-ghost use Rattle.squall_span.specs.Spans.{Interval, has, span_has, IsCanonical, union, insert_span, first_keys, total_length, how_many, spans_eq};
+ghost use Rattle.squall_span.specs.Spans.{Interval, has, span_has, IsSet, union, insert_span, first_keys, total_length, how_many, spans_eq};
 ghost use Rattle.squall_span.specs.SpanLaws.{spans_eq-laws, spans_eq-equivalence};
 
 use crate::edit::{cut, insert};
@@ -16,8 +16,7 @@ use std::marker::Model;
 
 /// A set of keys, kept as spans in order, none of which overlaps or touches the next.
 ///
-/// Contracts see a set as the list of its spans, which is the one list of that kind with its
-/// keys.
+/// Contracts see a set as the list of its spans. No other such list has the same keys.
 #[derive(Drop, Debug)]
 pub struct SpanSet {
     spans: Vec<Span>,
@@ -25,13 +24,13 @@ pub struct SpanSet {
 
 impl Model for SpanSet {
     ghost use Rattle.std.specs.Prelude.{List};
-    ghost use Rattle.squall_span.specs.Spans.{Interval, IsCanonical};
+    ghost use Rattle.squall_span.specs.Spans.{Interval, IsSet};
 
     ghost Value = { List Interval };
 
     ghost view = { λ s. s.spans.items };
 
-    ghost invariant = { λ s. IsCanonical s.spans.items };
+    ghost invariant = { λ s. IsSet s.spans.items };
 }
 
 impl SpanSet {
@@ -64,7 +63,7 @@ impl SpanSet {
     /// The spans of the set, in order, none of which overlaps or touches the next.
     pub fn spans(&self) -> &[Span]
         ensures value { result.now ≡ self.now }
-        ensures canonical { IsCanonical self.now }
+        ensures set { IsSet result.now }
     {
         &self.spans
     }
