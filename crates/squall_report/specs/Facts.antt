@@ -1,7 +1,7 @@
 -- What reports say.
 use Rattle.std.specs.Prelude.{ℕ, Bool, false, ◌&&◌, ◌==◌, nat_lt, nat_le, List, Option, None, Some, if◌then◌else◌}
 use Rattle.std.specs.List.{list_any}
-use Rattle.squall_key.specs.Keys.{part_limit}
+use Rattle.squall_key.specs.Keys.{top, part_limit}
 use Rattle.squall_span.specs.Spans.{Interval, span_has}
 use Rattle.squall_report.specs.declared.report.ReportKind.{ReportKind}
 use Rattle.squall_report.specs.declared.report.ReportKind.TheVariants.{Loaded, Done, Opened, Issued}
@@ -42,15 +42,19 @@ reports_say reports fact = list_any (λ report. report_says report fact) reports
 abbrev pub is_opening : ℕ → ℕ → Bool
 is_opening number sub = nat_le 1 number && nat_lt sub part_limit
 
--- the numbers of the fact lie within their limits
+-- the span has a key, and ends by the top
+abbrev pub is_key_span : Interval → Bool
+is_key_span s = nat_lt s.lo s.hi && nat_le s.hi top
+
+-- the numbers of the fact lie within their limits, and a loaded key is one
 abbrev pub is_fact : Fact → Bool
-is_fact (LoadedKey c k) = is_cell_place c
+is_fact (LoadedKey c k) = is_cell_place c && nat_lt k top
 is_fact (DonePart c) = is_cell_place c
 is_fact (OpenedSub n s) = is_opening n s
 
--- the numbers of the report lie within their limits
+-- the numbers of the report lie within their limits, and a loaded span is one of keys
 abbrev pub is_report : ReportKind PlanPair → Bool
-is_report (Loaded number sub part span) = is_cell_place (place_at number sub part)
+is_report (Loaded number sub part span) = is_cell_place (place_at number sub part) && is_key_span span
 is_report (Done number sub part) = is_cell_place (place_at number sub part)
 is_report (Opened number sub) = is_opening number sub
 is_report (Issued number issue) = nat_le 1 number

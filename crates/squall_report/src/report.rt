@@ -76,6 +76,8 @@ impl Report {
         ensures { result ≡ loaded_of number sub part span }
     {
         let _cell = CellId::new(number, sub, part)?;
+        // The proof learns that the span has a key and ends by the top.
+        let _bounds = (span.lo(), span.hi());
         let kind = ReportKind::Loaded {
             number,
             sub,
