@@ -6,7 +6,7 @@ use Rattle.std.specs.List.{AllByRecursion}
 use Rattle.squall_join.specs.declared.flat.Flat.{Flat}
 use Rattle.squall_report.specs.Issues.{PlanPair}
 use Rattle.squall_board.specs.declared.opening.Opening.{Opening}
-use Rattle.squall_board.specs.Boards.{Parts, Subs, Cells, Openings, BoardValue, IsBoard}
+use Rattle.squall_board.specs.Boards.{Parts, Subs, Cells, Openings, BoardValue, openings_in, issues_in, cells_in, IsBoard}
 use Rattle.squall_board.specs.Listed.{CellEntry, AreCellsOfParts, AreCellsOfSubs, AreCellsOfNumbers, cells_of, AreCells, openings_of_counts, AreOpenings, AreIssues}
 use Rattle.squall_board.specs.ListedLaws.{board_cells, cells_listed, openings_listed, issues_listed}
 
@@ -25,7 +25,7 @@ parts_at n subs i e parts lt is same h = subst (λ v. AreCellsOfParts n e.0 v) (
 pub subs_at : (numbers : Cells) (i : ℕ) (e : ℕ × Subs) (subs : Subs) → i < length numbers → e ≡ get_or numbers i e → subs ≡ e.1 → AreCellsOfNumbers numbers → AreCellsOfSubs e.0 subs
 subs_at numbers i e subs lt is same h = subst (λ v. AreCellsOfSubs e.0 v) (sym same) (all_at (λ d. AreCellsOfSubs d.0 d.1) numbers i e lt is h)
 
-pub numbers_of : (x : BoardValue) (numbers : Cells) → IsBoard x → numbers ≡ x.second → AreCellsOfNumbers numbers
+pub numbers_of : (x : BoardValue) (numbers : Cells) → IsBoard x → numbers ≡ cells_in x → AreCellsOfNumbers numbers
 numbers_of x numbers is same = subst AreCellsOfNumbers (sym same) (board_cells x is)
 
 -- ---- what the lists are
@@ -33,10 +33,10 @@ numbers_of x numbers is same = subst AreCellsOfNumbers (sym same) (board_cells x
 pub cells_are : (b : BoardValue) (cs : List CellEntry) → IsBoard b → cs ≡ cells_of b → AreCells b cs
 cells_are b cs is same = subst (AreCells b) (sym same) (cells_listed b is)
 
-pub openings_are : {V E : Type 0} (r : Result V E) (list : V → List Opening) (counts : Openings) (b x : BoardValue) → IsBoard b → x ≡ b → counts ≡ x.first.first → IfOk r (λ os. list os ≡ openings_of_counts counts) → IfOk r (λ os. AreOpenings b (list os))
+pub openings_are : {V E : Type 0} (r : Result V E) (list : V → List Opening) (counts : Openings) (b x : BoardValue) → IsBoard b → x ≡ b → counts ≡ openings_in x → IfOk r (λ os. list os ≡ openings_of_counts counts) → IfOk r (λ os. AreOpenings b (list os))
 openings_are r list counts b x is view same ok = IfOk-weaker r (λ os. list os ≡ openings_of_counts counts) (λ os. AreOpenings b (list os)) (λ os e.
-    subst (AreOpenings b) (sym (e ∙ ap openings_of_counts (same ∙ ap (λ (v : BoardValue). v.first.first) view))) (openings_listed b is)) ok
+    subst (AreOpenings b) (sym (e ∙ ap openings_of_counts (same ∙ ap openings_in view))) (openings_listed b is)) ok
 
-pub issues_are : {V E : Type 0} (r : Result V E) (list : V → List (ℕ × Flat PlanPair)) (es : List (ℕ × Flat PlanPair)) (b x : BoardValue) → IsBoard b → x ≡ b → es ≡ x.first.second → IfOk r (λ os. list os ≡ es) → IfOk r (λ os. AreIssues b (list os))
+pub issues_are : {V E : Type 0} (r : Result V E) (list : V → List (ℕ × Flat PlanPair)) (es : List (ℕ × Flat PlanPair)) (b x : BoardValue) → IsBoard b → x ≡ b → es ≡ issues_in x → IfOk r (λ os. list os ≡ es) → IfOk r (λ os. AreIssues b (list os))
 issues_are r list es b x is view same ok = IfOk-weaker r (λ os. list os ≡ es) (λ os. AreIssues b (list os)) (λ os e.
-    subst (AreIssues b) (sym (e ∙ (same ∙ ap (λ (v : BoardValue). v.first.second) view))) (issues_listed b is)) ok
+    subst (AreIssues b) (sym (e ∙ (same ∙ ap issues_in view))) (issues_listed b is)) ok

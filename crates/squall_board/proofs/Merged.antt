@@ -9,8 +9,9 @@ use Rattle.squall_join.specs.Pairs.{pair_of, same_pair}
 use Rattle.squall_join.specs.Entries.{merged}
 use Rattle.squall_report.specs.declared.report.ReportKind.{ReportKind}
 use Rattle.squall_report.specs.Issues.{PlanPair}
+use Rattle.squall_report.specs.Cells.{CellPlace}
 use Rattle.squall_report.specs.Told.{both_issued, told_by_report, told_by, TellsBoth, TellsAll}
-use Rattle.squall_board.specs.Boards.{BoardValue, CellValue, Cells, Subs, cell_join, cell_board, board_join, report_board, issued, says, told, IsBoard, HasTaken}
+use Rattle.squall_board.specs.Boards.{BoardValue, CellValue, Cells, Subs, openings_in, issues_in, cells_in, cell_join, cell_board, board_join, report_board, issued, says, told, IsBoard, HasTaken}
 use Rattle.squall_board.specs.BoardLaws.{board_laws, tells_both, same_board, join_is, report_tells, has_both, one_tells}
 
 pub merged_is : (r : Result (Unit {0}) AllocError) (new x y : BoardValue) → OnOk r (new ≡ board_join x y) → OnErr r (new ≡ x) → IsBoard x → IsBoard y → IsBoard new
@@ -32,13 +33,13 @@ merged_none join [] = refl
 merged_none join (e ∷ es) = refl
 
 -- the other halves stay as they are
-pub cell_put : (r : Result (Unit {0}) AllocError) (new : Cells) (x : BoardValue) (n s p : ℕ) (cell : CellValue) (added : Subs) → added ≡ (s, (p, cell) ∷ []) ∷ [] → OnOk r (new ≡ merged nat_cmp (merged nat_cmp (merged nat_cmp cell_join)) x.second ((n, added) ∷ []))
-    → OnOk r (pair_of x.first new ≡ board_join x (cell_board n s p cell))
-cell_put r new x n s p cell added is ok = on_ok_weaker r (λ (e : new ≡ merged nat_cmp (merged nat_cmp (merged nat_cmp cell_join)) x.second ((n, added) ∷ [])). same_pair _ _ _ _
-    (same_pair _ _ _ _ (sym (merged_none _ x.first.first)) (sym (merged_none _ x.first.second)))
-    (e ∙ ap (λ (subs : Subs). merged nat_cmp (merged nat_cmp (merged nat_cmp cell_join)) x.second ((n, subs) ∷ [])) is)) ok
+pub cell_put : (r : Result (Unit {0}) AllocError) (new : Cells) (x : BoardValue) (c : CellPlace) (cell : CellValue) (es : Cells) → es ≡ cells_in (cell_board c cell) → OnOk r (new ≡ merged nat_cmp (merged nat_cmp (merged nat_cmp cell_join)) (cells_in x) es)
+    → OnOk r (pair_of x.first new ≡ board_join x (cell_board c cell))
+cell_put r new x c cell es is ok = on_ok_weaker r (λ (e : new ≡ merged nat_cmp (merged nat_cmp (merged nat_cmp cell_join)) (cells_in x) es). same_pair _ _ _ _
+    (same_pair _ _ _ _ (sym (merged_none _ (openings_in x))) (sym (merged_none _ (issues_in x))))
+    (e ∙ ap (merged nat_cmp (merged nat_cmp (merged nat_cmp cell_join)) (cells_in x)) is)) ok
 
-pub cell_not_put : (r : Result (Unit {0}) AllocError) (new : Cells) (x : BoardValue) → OnErr r (new ≡ x.second) → OnErr r (pair_of x.first new ≡ x)
+pub cell_not_put : (r : Result (Unit {0}) AllocError) (new : Cells) (x : BoardValue) → OnErr r (new ≡ cells_in x) → OnErr r (pair_of x.first new ≡ x)
 cell_not_put (Ok u) new x err = tt
 cell_not_put (Err e) new x err = ap (λ (cells : Cells). pair_of x.first cells) err
 

@@ -44,7 +44,7 @@ one_opening os o = record {
     same false true = refl
     same false false = refl
 
-one_cell : (cs : List CellEntry) (c : CellEntry) → TellsBoth (told_by_lists [] [] (cs ++ c ∷ [])) (told_by_lists [] [] cs) (told_by_cell c.number c.sub c.part (entry_value c))
+one_cell : (cs : List CellEntry) (c : CellEntry) → TellsBoth (told_by_lists [] [] (cs ++ c ∷ [])) (told_by_lists [] [] cs) (told_by_cell c.cell (entry_value c))
 one_cell cs c = record {
   facts = λ f. list_any-append (λ d. entry_says d f) cs (c ∷ []) ∙ ap (λ v. entries_say cs f || v) (sym (or_false (entry_says c f)));
   issues = λ n. refl;
@@ -60,7 +60,7 @@ one_entry es e = record { facts = λ f. refl; issues = issues_append es e }
 pub next_opening : (new now old : Told) (os : List Opening) (i : ℕ) (o : Opening) → i < length os → o ≡ get_or os i o → TellsBoth now old (told_by_lists (take i os) [] []) → TellsBoth new now (told_by_count o.number o.count) → TellsBoth new old (told_by_lists (take (i + 1) os) [] [])
 next_opening new now old os i o lt is x y = subst (λ l. TellsBoth new old (told_by_lists l [] [])) (sym (take_more os i o lt ∙ ap (λ v. take i os ++ v ∷ []) (sym is))) (two_steps new now old _ _ _ x y (one_opening (take i os) o))
 
-pub next_cell : (new now old : Told) (cs : List CellEntry) (i : ℕ) (c : CellEntry) → i < length cs → c ≡ get_or cs i c → TellsBoth now old (told_by_lists [] [] (take i cs)) → TellsBoth new now (told_by_cell c.number c.sub c.part (entry_value c)) → TellsBoth new old (told_by_lists [] [] (take (i + 1) cs))
+pub next_cell : (new now old : Told) (cs : List CellEntry) (i : ℕ) (c : CellEntry) → i < length cs → c ≡ get_or cs i c → TellsBoth now old (told_by_lists [] [] (take i cs)) → TellsBoth new now (told_by_cell c.cell (entry_value c)) → TellsBoth new old (told_by_lists [] [] (take (i + 1) cs))
 next_cell new now old cs i c lt is x y = subst (λ l. TellsBoth new old (told_by_lists [] [] l)) (sym (take_more cs i c lt ∙ ap (λ v. take i cs ++ v ∷ []) (sym is))) (two_steps new now old _ _ _ x y (one_cell (take i cs) c))
 
 pub next_issue : {X : Type 0} (g : X → ℕ × Flat PlanPair) (new now old : Told) (es : List X) (i : ℕ) (e : X) → i < length es → e ≡ get_or es i e → TellsBoth now old (told_by_lists [] (map g (take i es)) []) → TellsBoth new now (told_by_issue (g e).0 (g e).1) → TellsBoth new old (told_by_lists [] (map g (take (i + 1) es)) [])
@@ -81,8 +81,8 @@ told_by_all os es cs a b c x y z = record {
 }
   where
     nothing : (f : Fact) → (told empty_board).says f ≡ false
-    nothing (LoadedKey n s p k) = refl
-    nothing (DonePart n s p) = refl
+    nothing (LoadedKey c k) = refl
+    nothing (DonePart c) = refl
     nothing (OpenedSub n s) = refl
 
 pub made_again : (b e x y z : BoardValue) (os : List Opening) (es : List (ℕ × Flat PlanPair)) (cs : List CellEntry) → e ≡ empty_board → os ≡ openings_of b → es ≡ issues_of b → cs ≡ cells_of b → TellsBoth (told x) (told e) (told_by_lists os [] []) → TellsBoth (told y) (told x) (told_by_lists [] es []) → TellsBoth (told z) (told y) (told_by_lists [] [] cs) → SameTold (told z) (told_by_lists (openings_of b) (issues_of b) (cells_of b))

@@ -22,10 +22,11 @@ use Rattle.squall_join.specs.Facts.{Factual, max_says, max_factual, flag_says, f
 use Rattle.squall_report.specs.declared.report.ReportKind.{ReportKind}
 use Rattle.squall_report.specs.declared.report.ReportKind.TheVariants.{Loaded, Done, Opened, Issued}
 use Rattle.squall_report.specs.Issues.{PlanPair}
-use Rattle.squall_report.specs.Facts.{Fact, LoadedKey, DonePart, OpenedSub, is_cell, is_fact, is_opening, are_numbers, report_says, reports_say}
+use Rattle.squall_report.specs.Facts.{Fact, LoadedKey, DonePart, OpenedSub, is_fact, is_opening, report_says, reports_say}
+use Rattle.squall_report.specs.Cells.{CellPlace, place_at, is_cell_place, is_same_cell}
 use Rattle.squall_report.specs.Told.{Told, both_issued, report_issues, reports_issue, told_by_report, told_by, SameTold, TellsBoth}
 use Rattle.squall_report.specs.ToldLaws.{issue_laws, any_flat, issued_neutral, told_append}
-use Rattle.squall_board.specs.Boards.{CellValue, BoardValue, cell_is, cell_bottom, cell_join, issue_is, is_nested, empty_board, board_join, opened_count, issued, says, told, IsBoard, HasTaken, cell_says, count_says, one_issue, no_fact, told_by_cell, told_by_count, told_by_issue, cell_board, opening_board, issue_board, report_board, found_in, cell_of}
+use Rattle.squall_board.specs.Boards.{CellValue, BoardValue, openings_in, issues_in, cells_in, cell_is, cell_bottom, cell_join, issue_is, is_nested, empty_board, board_join, opened_count, issued, says, told, IsBoard, HasTaken, cell_says, count_says, one_issue, no_fact, told_by_cell, told_by_count, told_by_issue, cell_board, opening_board, issue_board, report_board, found_in, cell_of}
 
 -- ---- the facts of a join, and what tells boards apart
 
@@ -51,28 +52,28 @@ openings_factual : Factual (IsMap nat_cmp is_max 0) [] (merged nat_cmp max) (map
 openings_factual = map_factual nat_cmp_total exact_unsigned max_laws max_factual
 
 says_either : (x y : BoardValue) → is_nested x → is_nested y → (f : Fact) → says (board_join x y) f ≡ (says x f || says y f)
-says_either x y a b (OpenedSub n t) = openings_factual.at_join x.first.first y.first.first a.0.0 b.0.0 (n, t)
-says_either x y a b (LoadedKey n s p k) = cells_factual.at_join x.second y.second a.1 b.1 (n, (s, (p, inl k)))
-says_either x y a b (DonePart n s p) = cells_factual.at_join x.second y.second a.1 b.1 (n, (s, (p, inr tt)))
+says_either x y a b (OpenedSub n t) = openings_factual.at_join (openings_in x) (openings_in y) a.0.0 b.0.0 (n, t)
+says_either x y a b (LoadedKey c k) = cells_factual.at_join (cells_in x) (cells_in y) a.1 b.1 (c.number, (c.sub, (c.part, inl k)))
+says_either x y a b (DonePart c) = cells_factual.at_join (cells_in x) (cells_in y) a.1 b.1 (c.number, (c.sub, (c.part, inr tt)))
 
 -- a join tells what either tells, and nothing else
 pub tells_both : (x y : BoardValue) → is_nested x → is_nested y → TellsBoth (told (board_join x y)) (told x) (told y)
 tells_both x y a b = record {
   facts = says_either x y a b;
-  issues = λ n. looked_merged nat_cmp_total issue_laws n x.first.second y.first.second a.0.1 b.0.1;
+  issues = λ n. looked_merged nat_cmp_total issue_laws n (issues_in x) (issues_in y) a.0.1 b.0.1;
 }
 
 -- boards that tell the same are equal
 pub same_board : (x y : BoardValue) → is_nested x → is_nested y → SameTold (told x) (told y) → x ≡ y
 same_board x y a b is = same_pair _ _ _ _
     (same_pair _ _ _ _
-    (openings_factual.same x.first.first y.first.first a.0.0 b.0.0 (λ q. is.facts (OpenedSub q.0 q.1)))
-    (same_looked_map nat_cmp_total exact_unsigned x.first.second y.first.second a.0.1 b.0.1 is.issues))
-    (cells_factual.same x.second y.second a.1 b.1 (λ q. at_cell q.0 q.1.0 q.1.1.0 q.1.1.1))
+    (openings_factual.same (openings_in x) (openings_in y) a.0.0 b.0.0 (λ q. is.facts (OpenedSub q.0 q.1)))
+    (same_looked_map nat_cmp_total exact_unsigned (issues_in x) (issues_in y) a.0.1 b.0.1 is.issues))
+    (cells_factual.same (cells_in x) (cells_in y) a.1 b.1 (λ q. at_cell q.0 q.1.0 q.1.1.0 q.1.1.1))
   where
-    at_cell : (n s p : ℕ) (f : ℕ ⊎ Unit {0}) → map_says nat_cmp (map_says nat_cmp (map_says nat_cmp (pair_says has flag_says))) x.second (n, (s, (p, f))) ≡ map_says nat_cmp (map_says nat_cmp (map_says nat_cmp (pair_says has flag_says))) y.second (n, (s, (p, f)))
-    at_cell n s p (inl k) = is.facts (LoadedKey n s p k)
-    at_cell n s p (inr u) = is.facts (DonePart n s p)
+    at_cell : (n s p : ℕ) (f : ℕ ⊎ Unit {0}) → map_says nat_cmp (map_says nat_cmp (map_says nat_cmp (pair_says has flag_says))) (cells_in x) (n, (s, (p, f))) ≡ map_says nat_cmp (map_says nat_cmp (map_says nat_cmp (pair_says has flag_says))) (cells_in y) (n, (s, (p, f)))
+    at_cell n s p (inl k) = is.facts (LoadedKey (place_at n s p) k)
+    at_cell n s p (inr u) = is.facts (DonePart (place_at n s p))
 
 -- ---- limits
 
@@ -90,7 +91,7 @@ join_is x y a b = record {
 pub empty_is : IsBoard empty_board
 empty_is = record {
   nested = board_laws.bottom_is;
-  facts = elim [ LoadedKey n s p k ↦ λ e. absurd (true≢false (sym e)) | DonePart n s p ↦ λ e. absurd (true≢false (sym e)) | OpenedSub n s ↦ λ e. absurd (true≢false (sym e)) ];
+  facts = elim [ LoadedKey c k ↦ λ e. absurd (true≢false (sym e)) | DonePart c ↦ λ e. absurd (true≢false (sym e)) | OpenedSub n s ↦ λ e. absurd (true≢false (sym e)) ];
   issues = λ n. inr refl;
 }
 
@@ -111,23 +112,23 @@ and_assoc true false c d = refl
 and_assoc true true c d = refl
 
 -- the board of a cell tells what the cell tells
-cell_tells_at : (n s p : ℕ) (cell : CellValue) (m t q : ℕ) (g : ℕ ⊎ Unit {0}) → map_says nat_cmp (map_says nat_cmp (map_says nat_cmp (pair_says has flag_says))) ((n, (s, (p, cell) ∷ []) ∷ []) ∷ []) (m, (t, (q, g))) ≡ (is_cell n s p m t q && pair_says has flag_says cell g)
-cell_tells_at n s p cell m t q g =
-    says_single (map_says nat_cmp (map_says nat_cmp (pair_says has flag_says))) n _ m (t, (q, g))
-    ∙ ap (λ x. (n == m) && x) (says_single (map_says nat_cmp (pair_says has flag_says)) s _ t (q, g) ∙ ap (λ x. (s == t) && x) (says_single (pair_says has flag_says) p _ q g))
-    ∙ and_assoc (n == m) (s == t) (p == q) (pair_says has flag_says cell g)
+cell_tells_at : (c : CellPlace) (cell : CellValue) (d : CellPlace) (g : ℕ ⊎ Unit {0}) → map_says nat_cmp (map_says nat_cmp (map_says nat_cmp (pair_says has flag_says))) (cells_in (cell_board c cell)) (d.number, (d.sub, (d.part, g))) ≡ (is_same_cell c d && pair_says has flag_says cell g)
+cell_tells_at c cell d g =
+    says_single (map_says nat_cmp (map_says nat_cmp (pair_says has flag_says))) c.number _ d.number (d.sub, (d.part, g))
+    ∙ ap (λ x. (c.number == d.number) && x) (says_single (map_says nat_cmp (pair_says has flag_says)) c.sub _ d.sub (d.part, g) ∙ ap (λ x. (c.sub == d.sub) && x) (says_single (pair_says has flag_says) c.part _ d.part g))
+    ∙ and_assoc (c.number == d.number) (c.sub == d.sub) (c.part == d.part) (pair_says has flag_says cell g)
 
-cell_says_it : (n s p : ℕ) (cell : CellValue) (f : Fact) → says (cell_board n s p cell) f ≡ cell_says n s p cell f
-cell_says_it n s p cell (LoadedKey m t q k) = cell_tells_at n s p cell m t q (inl k)
-cell_says_it n s p cell (DonePart m t q) = cell_tells_at n s p cell m t q (inr tt)
-cell_says_it n s p cell (OpenedSub m t) = refl
+cell_says_it : (c : CellPlace) (cell : CellValue) (f : Fact) → says (cell_board c cell) f ≡ cell_says c cell f
+cell_says_it c cell (LoadedKey d k) = cell_tells_at c cell d (inl k)
+cell_says_it c cell (DonePart d) = cell_tells_at c cell d (inr tt)
+cell_says_it c cell (OpenedSub m t) = refl
 
-pub cell_tells : (n s p : ℕ) (cell : CellValue) → SameTold (told (cell_board n s p cell)) (told_by_cell n s p cell)
-cell_tells n s p cell = record { facts = cell_says_it n s p cell; issues = λ m. refl }
+pub cell_tells : (c : CellPlace) (cell : CellValue) → SameTold (told (cell_board c cell)) (told_by_cell c cell)
+cell_tells c cell = record { facts = cell_says_it c cell; issues = λ m. refl }
 
 count_says_it : (n count : ℕ) (f : Fact) → says (opening_board n count) f ≡ count_says n count f
-count_says_it n count (LoadedKey m t q k) = refl
-count_says_it n count (DonePart m t q) = refl
+count_says_it n count (LoadedKey d k) = refl
+count_says_it n count (DonePart d) = refl
 count_says_it n count (OpenedSub m t) = says_single max_says n count m t
 
 pub count_tells : (n count : ℕ) → SameTold (told (opening_board n count)) (told_by_count n count)
@@ -144,14 +145,14 @@ unknown_at true = refl
 unknown_at false = refl
 
 issue_says_none : (n : ℕ) (x : Flat PlanPair) (f : Fact) → says (issue_board n x) f ≡ no_fact f
-issue_says_none n Unknown (LoadedKey m t q k) = refl
-issue_says_none n Unknown (DonePart m t q) = refl
+issue_says_none n Unknown (LoadedKey d k) = refl
+issue_says_none n Unknown (DonePart d) = refl
 issue_says_none n Unknown (OpenedSub m t) = refl
-issue_says_none n (One p) (LoadedKey m t q k) = refl
-issue_says_none n (One p) (DonePart m t q) = refl
+issue_says_none n (One p) (LoadedKey d k) = refl
+issue_says_none n (One p) (DonePart d) = refl
 issue_says_none n (One p) (OpenedSub m t) = refl
-issue_says_none n Clash (LoadedKey m t q k) = refl
-issue_says_none n Clash (DonePart m t q) = refl
+issue_says_none n Clash (LoadedKey d k) = refl
+issue_says_none n Clash (DonePart d) = refl
 issue_says_none n Clash (OpenedSub m t) = refl
 
 issue_is_it : (n : ℕ) (x : Flat PlanPair) (m : ℕ) → issued (issue_board n x) m ≡ one_issue n x m
@@ -178,17 +179,17 @@ below_next : (t s : ℕ) → nat_lt t (s + 1) ≡ nat_le t s
 below_next t s = grind (arith, nat_tests)
 
 report_says_it : (r : ReportKind PlanPair) (f : Fact) → says (report_board r) f ≡ report_says r f
-report_says_it (Loaded n s p span) (LoadedKey m t q k) = cell_says_it n s p (pair_of (span ∷ []) false) (LoadedKey m t q k) ∙ ap (λ x. is_cell n s p m t q && x) (or_false (span_has span k))
-report_says_it (Loaded n s p span) (DonePart m t q) = cell_says_it n s p (pair_of (span ∷ []) false) (DonePart m t q) ∙ and_false (is_cell n s p m t q)
+report_says_it (Loaded n s p span) (LoadedKey d k) = cell_says_it (place_at n s p) (pair_of (span ∷ []) false) (LoadedKey d k) ∙ ap (λ x. is_same_cell (place_at n s p) d && x) (or_false (span_has span k))
+report_says_it (Loaded n s p span) (DonePart d) = cell_says_it (place_at n s p) (pair_of (span ∷ []) false) (DonePart d) ∙ and_false (is_same_cell (place_at n s p) d)
 report_says_it (Loaded n s p span) (OpenedSub m t) = refl
-report_says_it (Done n s p) (LoadedKey m t q k) = cell_says_it n s p (pair_of [] true) (LoadedKey m t q k) ∙ and_false (is_cell n s p m t q)
-report_says_it (Done n s p) (DonePart m t q) = cell_says_it n s p (pair_of [] true) (DonePart m t q) ∙ and_true (is_cell n s p m t q)
+report_says_it (Done n s p) (LoadedKey d k) = cell_says_it (place_at n s p) (pair_of [] true) (LoadedKey d k) ∙ and_false (is_same_cell (place_at n s p) d)
+report_says_it (Done n s p) (DonePart d) = cell_says_it (place_at n s p) (pair_of [] true) (DonePart d) ∙ and_true (is_same_cell (place_at n s p) d)
 report_says_it (Done n s p) (OpenedSub m t) = refl
-report_says_it (Opened n s) (LoadedKey m t q k) = refl
-report_says_it (Opened n s) (DonePart m t q) = refl
+report_says_it (Opened n s) (LoadedKey d k) = refl
+report_says_it (Opened n s) (DonePart d) = refl
 report_says_it (Opened n s) (OpenedSub m t) = count_says_it n (s + 1) (OpenedSub m t) ∙ ap (λ x. (n == m) && x) (below_next t s)
-report_says_it (Issued n issue) (LoadedKey m t q k) = refl
-report_says_it (Issued n issue) (DonePart m t q) = refl
+report_says_it (Issued n issue) (LoadedKey d k) = refl
+report_says_it (Issued n issue) (DonePart d) = refl
 report_says_it (Issued n issue) (OpenedSub m t) = refl
 
 report_issues_it : (r : ReportKind PlanPair) (m : ℕ) → issued (report_board r) m ≡ report_issues r m
@@ -206,28 +207,28 @@ report_tells r = record { facts = report_says_it r; issues = report_issues_it r 
 same_number : (n m : ℕ) → (n == m) ≡ true → n ≡ m
 same_number n m e = grind (arith, nat_tests)
 
-numbers_there : (n s p m t q : ℕ) → are_numbers n s p ≡ true → is_cell n s p m t q ≡ true → are_numbers m t q ≡ true
-numbers_there n s p m t q is e =
-    let a : n ≡ m = same_number n m (first_so _ _ e) in
-    let b : s ≡ t = same_number s t (first_so _ _ (second_so (n == m) _ e)) in
-    let c : p ≡ q = same_number p q (second_so (s == t) _ (second_so (n == m) _ e)) in
-    subst (λ z. are_numbers z t q ≡ true) a (subst (λ z. are_numbers n z q ≡ true) b (subst (λ z. are_numbers n s z ≡ true) c is))
+place_there : (c d : CellPlace) → is_cell_place c ≡ true → is_same_cell c d ≡ true → is_cell_place d ≡ true
+place_there c d is e =
+    let x : c.number ≡ d.number = same_number c.number d.number (first_so _ _ e) in
+    let y : c.sub ≡ d.sub = same_number c.sub d.sub (first_so _ _ (second_so (c.number == d.number) _ e)) in
+    let z : c.part ≡ d.part = same_number c.part d.part (second_so (c.sub == d.sub) _ (second_so (c.number == d.number) _ e)) in
+    subst (λ v. is_cell_place (place_at v d.sub d.part) ≡ true) x (subst (λ v. is_cell_place (place_at c.number v d.part) ≡ true) y (subst (λ v. is_cell_place (place_at c.number c.sub v) ≡ true) z is))
 
-cell_within : (n s p : ℕ) (cell : CellValue) → are_numbers n s p ≡ true → (f : Fact) → cell_says n s p cell f ≡ true → is_fact f ≡ true
-cell_within n s p cell is (LoadedKey m t q k) e = numbers_there n s p m t q is (first_so _ _ e)
-cell_within n s p cell is (DonePart m t q) e = numbers_there n s p m t q is (first_so _ _ e)
-cell_within n s p cell is (OpenedSub m t) e = absurd (true≢false (sym e))
+cell_within : (c : CellPlace) (cell : CellValue) → is_cell_place c ≡ true → (f : Fact) → cell_says c cell f ≡ true → is_fact f ≡ true
+cell_within c cell is (LoadedKey d k) e = place_there c d is (first_so _ _ e)
+cell_within c cell is (DonePart d) e = place_there c d is (first_so _ _ e)
+cell_within c cell is (OpenedSub m t) e = absurd (true≢false (sym e))
 
-pub cell_board_is : (n s p : ℕ) (cell : CellValue) → are_numbers n s p ≡ true → cell_is cell → cell ≢ cell_bottom → IsBoard (cell_board n s p cell)
-cell_board_is n s p cell numbers is kept = record {
+pub cell_board_is : (c : CellPlace) (cell : CellValue) → is_cell_place c ≡ true → cell_is cell → cell ≢ cell_bottom → IsBoard (cell_board c cell)
+cell_board_is c cell place is kept = record {
   nested = ((record { sorted = tt; kept = tt }, record { sorted = tt; kept = tt }), record { sorted = tt; kept = ((record { sorted = tt; kept = ((record { sorted = tt; kept = ((is, kept), tt) }, λ e. cc), tt) }, λ e. cc), tt) });
-  facts = λ f e. cell_within n s p cell numbers f (sym (cell_says_it n s p cell f) ∙ e);
+  facts = λ f e. cell_within c cell place f (sym (cell_says_it c cell f) ∙ e);
   issues = λ m. inr refl;
 }
 
 count_within : (n count : ℕ) → 1 ≤ n → count ≤ part_limit → (f : Fact) → count_says n count f ≡ true → is_fact f ≡ true
-count_within n count a b (LoadedKey m t q k) e = absurd (true≢false (sym e))
-count_within n count a b (DonePart m t q) e = absurd (true≢false (sym e))
+count_within n count a b (LoadedKey d k) e = absurd (true≢false (sym e))
+count_within n count a b (DonePart d) e = absurd (true≢false (sym e))
 count_within n count a b (OpenedSub m t) e =
     let s : n ≡ m = same_number n m (first_so _ _ e) in
     let h : nat_lt t count ≡ true = second_so (n == m) _ e in
@@ -275,7 +276,7 @@ joined_tells b c t x y same = tells_as (board_join b c) b c t (tells_both b c x.
 
 pub has_none : HasTaken empty_board []
 has_none = record {
-  facts = elim [ LoadedKey n s p k ↦ refl | DonePart n s p ↦ refl | OpenedSub n s ↦ refl ];
+  facts = elim [ LoadedKey c k ↦ refl | DonePart c ↦ refl | OpenedSub n s ↦ refl ];
   issues = λ n. refl;
 }
 
@@ -305,21 +306,21 @@ found_says_in : {V F : Type 0} (p : V → F → Bool) (q : ℕ) (o : Option (Lis
 found_says_in p q None f = refl
 found_says_in p q (Some es) f = refl
 
-cell_of_says : (b : BoardValue) (n s p : ℕ) (f : ℕ ⊎ Unit {0}) → found_says (pair_says has flag_says) (cell_of b n s p) f ≡ map_says nat_cmp (map_says nat_cmp (map_says nat_cmp (pair_says has flag_says))) b.second (n, (s, (p, f)))
-cell_of_says b n s p f =
-    sym (found_says_in (map_says nat_cmp (pair_says has flag_says)) s (find nat_cmp n b.second) (p, f)
-    ∙ found_says_in (pair_says has flag_says) p (found_in s (find nat_cmp n b.second)) f)
+cell_of_says : (b : BoardValue) (c : CellPlace) (f : ℕ ⊎ Unit {0}) → found_says (pair_says has flag_says) (cell_of b c) f ≡ map_says nat_cmp (map_says nat_cmp (map_says nat_cmp (pair_says has flag_says))) (cells_in b) (c.number, (c.sub, (c.part, f)))
+cell_of_says b c f =
+    sym (found_says_in (map_says nat_cmp (pair_says has flag_says)) c.sub (find nat_cmp c.number (cells_in b)) (c.part, f)
+    ∙ found_says_in (pair_says has flag_says) c.part (found_in c.sub (find nat_cmp c.number (cells_in b))) f)
 
 -- what the found cell says of a key, and of its partition
-pub load_found : (b : BoardValue) (n s p k : ℕ) (o : Option CellValue) → o ≡ cell_of b n s p → found_says (pair_says has flag_says) o (inl k) ≡ says b (LoadedKey n s p k)
-load_found b n s p k o e = ap (λ c. found_says (pair_says has flag_says) c (inl k)) e ∙ cell_of_says b n s p (inl k)
+pub load_found : (b : BoardValue) (c : CellPlace) (k : ℕ) (o : Option CellValue) → o ≡ cell_of b c → found_says (pair_says has flag_says) o (inl k) ≡ says b (LoadedKey c k)
+load_found b c k o e = ap (λ v. found_says (pair_says has flag_says) v (inl k)) e ∙ cell_of_says b c (inl k)
 
-pub done_found : (b : BoardValue) (n s p : ℕ) (o : Option CellValue) → o ≡ cell_of b n s p → found_says (pair_says has flag_says) o (inr tt) ≡ says b (DonePart n s p)
-done_found b n s p o e = ap (λ c. found_says (pair_says has flag_says) c (inr tt)) e ∙ cell_of_says b n s p (inr tt)
+pub done_found : (b : BoardValue) (c : CellPlace) (o : Option CellValue) → o ≡ cell_of b c → found_says (pair_says has flag_says) o (inr tt) ≡ says b (DonePart c)
+done_found b c o e = ap (λ v. found_says (pair_says has flag_says) v (inr tt)) e ∙ cell_of_says b c (inr tt)
 
 -- the opened count says which sub-plans are opened
 pub opened_found : (b : BoardValue) (n t : ℕ) → says b (OpenedSub n t) ≡ nat_lt t (opened_count b n)
-opened_found b n t = at (find nat_cmp n b.first.first)
+opened_found b n t = at (find nat_cmp n (openings_in b))
   where
     at : (o : Option ℕ) → found_says max_says o t ≡ nat_lt t (looked 0 o)
     at None = grind (arith, nat_tests)

@@ -16,7 +16,8 @@ use Rattle.squall_join.specs.Facts.{max_says, flag_says, pair_says, map_says}
 use Rattle.squall_report.specs.declared.report.ReportKind.{ReportKind}
 use Rattle.squall_report.specs.declared.report.ReportKind.TheVariants.{Loaded, Done, Opened, Issued}
 use Rattle.squall_report.specs.Issues.{PlanPair}
-use Rattle.squall_report.specs.Facts.{Fact, LoadedKey, DonePart, OpenedSub, is_cell, is_fact}
+use Rattle.squall_report.specs.Cells.{CellPlace, place_at, is_same_cell}
+use Rattle.squall_report.specs.Facts.{Fact, LoadedKey, DonePart, OpenedSub, is_fact}
 use Rattle.squall_report.specs.Told.{Told, both_issued, told_by, SameTold}
 
 -- ---- the value
@@ -51,6 +52,16 @@ BoardValue = Pair (Pair Openings Issues) Cells
 abbrev pub board_of : Openings → Issues → Cells → BoardValue
 board_of openings issues cells = pair_of (pair_of openings issues) cells
 
+-- its openings, its issues and its cells, each as a map
+abbrev pub openings_in : BoardValue → Openings
+openings_in b = b.first.first
+
+abbrev pub issues_in : BoardValue → Issues
+issues_in b = b.first.second
+
+abbrev pub cells_in : BoardValue → Cells
+cells_in b = b.second
+
 -- ---- its join
 
 abbrev pub cell_is : CellValue → Type 0
@@ -81,17 +92,17 @@ board_join = pair_join (pair_join (merged nat_cmp max) (merged nat_cmp both_issu
 
 -- how many sub-plans of the number are opened
 abbrev pub opened_count : BoardValue → ℕ → ℕ
-opened_count b n = looked 0 (find nat_cmp n b.first.first)
+opened_count b n = looked 0 (find nat_cmp n (openings_in b))
 
 -- what is issued under the number
 abbrev pub issued : BoardValue → ℕ → Flat PlanPair
-issued b n = looked Unknown (find nat_cmp n b.first.second)
+issued b n = looked Unknown (find nat_cmp n (issues_in b))
 
 -- whether the board has the fact
 abbrev pub says : BoardValue → Fact → Bool
-says b (OpenedSub n s) = map_says nat_cmp max_says b.first.first (n, s)
-says b (LoadedKey n s p k) = map_says nat_cmp (map_says nat_cmp (map_says nat_cmp (pair_says has flag_says))) b.second (n, (s, (p, inl k)))
-says b (DonePart n s p) = map_says nat_cmp (map_says nat_cmp (map_says nat_cmp (pair_says has flag_says))) b.second (n, (s, (p, inr tt)))
+says b (OpenedSub n s) = map_says nat_cmp max_says (openings_in b) (n, s)
+says b (LoadedKey c k) = map_says nat_cmp (map_says nat_cmp (map_says nat_cmp (pair_says has flag_says))) (cells_in b) (c.number, (c.sub, (c.part, inl k)))
+says b (DonePart c) = map_says nat_cmp (map_says nat_cmp (map_says nat_cmp (pair_says has flag_says))) (cells_in b) (c.number, (c.sub, (c.part, inr tt)))
 
 -- what the board tells: its facts, and what is issued under each number
 abbrev pub told : BoardValue → Told
@@ -110,15 +121,15 @@ HasTaken b rs = SameTold (told b) (told_by rs)
 -- ---- boards of one thing
 
 -- what a cell says: its keys loaded, and its partition done where it is complete
-abbrev pub cell_says : ℕ → ℕ → ℕ → CellValue → Fact → Bool
-cell_says number sub part cell (LoadedKey n s p k) = is_cell number sub part n s p && has cell.first k
-cell_says number sub part cell (DonePart n s p) = is_cell number sub part n s p && cell.second
-cell_says number sub part cell (OpenedSub n s) = false
+abbrev pub cell_says : CellPlace → CellValue → Fact → Bool
+cell_says place cell (LoadedKey c k) = is_same_cell place c && has cell.first k
+cell_says place cell (DonePart c) = is_same_cell place c && cell.second
+cell_says place cell (OpenedSub n s) = false
 
 -- what a count of opened sub-plans says: those below it opened
 abbrev pub count_says : ℕ → ℕ → Fact → Bool
-count_says number count (LoadedKey n s p k) = false
-count_says number count (DonePart n s p) = false
+count_says number count (LoadedKey c k) = false
+count_says number count (DonePart c) = false
 count_says number count (OpenedSub n s) = (number == n) && nat_lt s count
 
 -- nothing under any number
@@ -134,8 +145,8 @@ abbrev pub no_fact : Fact → Bool
 no_fact f = false
 
 -- what a cell, a count of opened sub-plans, and what is issued under a number tell
-abbrev pub told_by_cell : ℕ → ℕ → ℕ → CellValue → Told
-told_by_cell number sub part cell = record { says = cell_says number sub part cell; issues = no_issue }
+abbrev pub told_by_cell : CellPlace → CellValue → Told
+told_by_cell place cell = record { says = cell_says place cell; issues = no_issue }
 
 abbrev pub told_by_count : ℕ → ℕ → Told
 told_by_count number count = record { says = count_says number count; issues = no_issue }
@@ -144,8 +155,8 @@ abbrev pub told_by_issue : ℕ → Flat PlanPair → Told
 told_by_issue number issue = record { says = no_fact; issues = one_issue number issue }
 
 -- of one cell
-abbrev pub cell_board : ℕ → ℕ → ℕ → CellValue → BoardValue
-cell_board n s p cell = board_of [] [] ((n, (s, (p, cell) ∷ []) ∷ []) ∷ [])
+abbrev pub cell_board : CellPlace → CellValue → BoardValue
+cell_board c cell = board_of [] [] ((c.number, (c.sub, (c.part, cell) ∷ []) ∷ []) ∷ [])
 
 -- of one count of opened sub-plans
 abbrev pub opening_board : ℕ → ℕ → BoardValue
@@ -159,8 +170,8 @@ issue_board n Clash = board_of [] ((n, Clash) ∷ []) []
 
 -- of one report
 abbrev pub report_board : ReportKind PlanPair → BoardValue
-report_board (Loaded number sub part span) = cell_board number sub part (pair_of (span ∷ []) false)
-report_board (Done number sub part) = cell_board number sub part (pair_of [] true)
+report_board (Loaded number sub part span) = cell_board (place_at number sub part) (pair_of (span ∷ []) false)
+report_board (Done number sub part) = cell_board (place_at number sub part) (pair_of [] true)
 report_board (Opened number sub) = opening_board number (sub + 1)
 report_board (Issued number issue) = issue_board number (One issue)
 
@@ -171,6 +182,6 @@ abbrev pub found_in : {V : Type 0} → ℕ → Option (List (ℕ × V)) → Opti
 found_in q None = None
 found_in q (Some es) = find nat_cmp q es
 
--- the cell of a number, a sub-plan and a partition
-abbrev pub cell_of : BoardValue → ℕ → ℕ → ℕ → Option CellValue
-cell_of b n s p = found_in p (found_in s (find nat_cmp n b.second))
+-- the cell at a place
+abbrev pub cell_of : BoardValue → CellPlace → Option CellValue
+cell_of b c = found_in c.part (found_in c.sub (find nat_cmp c.number (cells_in b)))

@@ -5,6 +5,7 @@ pub use Rattle.squall_plan.specs.Ranges
 pub use Rattle.squall_course.specs.Subplans
 pub use Rattle.squall_course.specs.Change
 pub use Rattle.squall_report.specs.Issues
+pub use Rattle.squall_report.specs.Cells
 pub use Rattle.squall_report.specs.Facts
 pub use Rattle.squall_report.specs.Told
 pub mod Boards
@@ -13,5 +14,6 @@ pub mod Listed
 pub mod ListedLaws
 pub mod Route
 pub mod Equal
+pub mod EqualLaws
 pub mod Newest
 pub mod NewestLaws

@@ -1,32 +1,32 @@
 -- What a board holds, as lists in rising order (this project).
 use Rattle.std.specs.Prelude.{◌≡◌, ℕ, ◌<◌, ◌≤◌, Bool, true, false, ◌||◌, ◌&&◌, map, List, [], ◌∷◌, Option, None, Some, ◌⊎◌, if◌then◌else◌}
 use Rattle.std.specs.List.{flat_map, list_any, AllByRecursion}
+use Rattle.std.specs.Ordering.{is_lt}
 use Rattle.squall_key.specs.Keys.{part_limit}
 use Rattle.squall_span.specs.Spans.{Interval, IsCanonical}
 use Rattle.squall_join.specs.declared.flat.Flat.{Flat}
 use Rattle.squall_join.specs.declared.flat.Flat.TheVariants.{Unknown}
 use Rattle.squall_join.specs.Pairs.{pair_of}
 use Rattle.squall_report.specs.Issues.{PlanPair}
-use Rattle.squall_report.specs.Facts.{Fact, LoadedKey, DonePart, OpenedSub, are_numbers}
+use Rattle.squall_report.specs.Cells.{CellPlace, place_at, is_cell_place, cell_cmp}
+use Rattle.squall_report.specs.Facts.{Fact, LoadedKey, DonePart, OpenedSub}
 use Rattle.squall_report.specs.Told.{Told, both_issued}
 use Rattle.squall_board.specs.declared.opening.Opening.{Opening}
-use Rattle.squall_board.specs.Boards.{CellValue, Parts, Subs, Cells, Openings, BoardValue, says, issued, cell_says, count_says, one_issue}
+use Rattle.squall_board.specs.Boards.{CellValue, Parts, Subs, Cells, Openings, BoardValue, openings_in, issues_in, cells_in, says, issued, cell_says, count_says, one_issue}
 
 -- ---- cells
 
 -- what was reported of a partition in a sub-plan
 pub record CellEntry : Type 0 where
-  pub number : ℕ
-  pub sub : ℕ
-  pub part : ℕ
+  pub cell : CellPlace
   pub complete : Bool
   pub spans : List Interval
 
-abbrev pub entry_with : ℕ → ℕ → ℕ → Bool → List Interval → CellEntry
-entry_with n s p complete spans = record { number = n; sub = s; part = p; complete = complete; spans = spans }
+abbrev pub entry_with : CellPlace → Bool → List Interval → CellEntry
+entry_with place complete spans = record { cell = place; complete = complete; spans = spans }
 
-abbrev pub cell_entry : ℕ → ℕ → ℕ → CellValue → CellEntry
-cell_entry n s p cell = entry_with n s p cell.second cell.first
+abbrev pub cell_entry : CellPlace → CellValue → CellEntry
+cell_entry place cell = entry_with place cell.second cell.first
 
 abbrev pub entry_value : CellEntry → CellValue
 entry_value c = pair_of c.spans c.complete
@@ -35,13 +35,13 @@ abbrev pub has_spans : List Interval → Bool
 has_spans [] = false
 has_spans (s ∷ ss) = true
 
--- the numbers lie within their limits, and the cell says something
+-- the place lies within its limits, and the cell says something
 abbrev pub is_entry : CellEntry → Bool
-is_entry c = are_numbers c.number c.sub c.part && (c.complete || has_spans c.spans)
+is_entry c = is_cell_place c.cell && (c.complete || has_spans c.spans)
 
 -- the cell, where it may stand on a board
 abbrev pub entry_of : ℕ → ℕ → ℕ → Bool → List Interval → Option CellEntry
-entry_of n s p complete spans = if is_entry (entry_with n s p complete spans) then Some (entry_with n s p complete spans) else None
+entry_of n s p complete spans = if is_entry (entry_with (place_at n s p) complete spans) then Some (entry_with (place_at n s p) complete spans) else None
 
 -- a cell: it may stand on a board, and its spans are the one list of its keys
 pub record IsCell (c : CellEntry) : Type 0 where
@@ -49,7 +49,7 @@ pub record IsCell (c : CellEntry) : Type 0 where
   pub spans : IsCanonical c.spans
 
 abbrev pub cells_of_parts : ℕ → ℕ → Parts → List CellEntry
-cells_of_parts n s parts = map (λ e. cell_entry n s e.0 e.1) parts
+cells_of_parts n s parts = map (λ e. cell_entry (place_at n s e.0) e.1) parts
 
 abbrev pub cells_of_subs : ℕ → Subs → List CellEntry
 cells_of_subs n subs = flat_map (λ e. cells_of_parts n e.0 e.1) subs
@@ -59,11 +59,11 @@ cells_of_numbers numbers = flat_map (λ e. cells_of_subs e.0 e.1) numbers
 
 -- the cells of a board
 abbrev pub cells_of : BoardValue → List CellEntry
-cells_of b = cells_of_numbers b.second
+cells_of b = cells_of_numbers (cells_in b)
 
 -- each entry of the nested maps is a cell
 abbrev pub AreCellsOfParts : ℕ → ℕ → Parts → Type 0
-AreCellsOfParts n s parts = AllByRecursion (λ e. IsCell (cell_entry n s e.0 e.1)) parts
+AreCellsOfParts n s parts = AllByRecursion (λ e. IsCell (cell_entry (place_at n s e.0) e.1)) parts
 
 abbrev pub AreCellsOfSubs : ℕ → Subs → Type 0
 AreCellsOfSubs n subs = AllByRecursion (λ e. AreCellsOfParts n e.0 e.1) subs
@@ -72,15 +72,15 @@ abbrev pub AreCellsOfNumbers : Cells → Type 0
 AreCellsOfNumbers numbers = AllByRecursion (λ e. AreCellsOfSubs e.0 e.1) numbers
 
 abbrev pub entry_says : CellEntry → Fact → Bool
-entry_says c f = cell_says c.number c.sub c.part (entry_value c) f
+entry_says c f = cell_says c.cell (entry_value c) f
 
 -- what some cell of the list says
 abbrev pub entries_say : List CellEntry → Fact → Bool
 entries_say cs f = list_any (λ c. entry_says c f) cs
 
--- by number, then by sub-plan, then by partition
+-- in the order of cells: by number, then by sub-plan, then by partition
 abbrev pub ComesBefore : CellEntry → CellEntry → Type 0
-ComesBefore c d = (c.number < d.number) ⊎ ((c.number ≡ d.number) × ((c.sub < d.sub) ⊎ ((c.sub ≡ d.sub) × (c.part < d.part))))
+ComesBefore c d = is_lt (cell_cmp c.cell d.cell) ≡ true
 
 abbrev pub CellsRise : List CellEntry → Type 0
 CellsRise [] = Unit {0}
@@ -89,8 +89,8 @@ CellsRise (c ∷ cs) = AllByRecursion (ComesBefore c) cs × CellsRise cs
 -- the cells rise, and say of loads and completions what the board says
 pub record AreCells (b : BoardValue) (cs : List CellEntry) : Type 0 where
   pub rise : CellsRise cs
-  pub loaded : (n s p k : ℕ) → says b (LoadedKey n s p k) ≡ entries_say cs (LoadedKey n s p k)
-  pub done : (n s p : ℕ) → says b (DonePart n s p) ≡ entries_say cs (DonePart n s p)
+  pub loaded : (c : CellPlace) (k : ℕ) → says b (LoadedKey c k) ≡ entries_say cs (LoadedKey c k)
+  pub done : (c : CellPlace) → says b (DonePart c) ≡ entries_say cs (DonePart c)
 
 -- ---- openings
 
@@ -103,7 +103,7 @@ openings_of_counts counts = map (λ e. record { number = e.0; count = e.1 }) cou
 
 -- the counts of opened sub-plans of a board
 abbrev pub openings_of : BoardValue → List Opening
-openings_of b = openings_of_counts b.first.first
+openings_of b = openings_of_counts (openings_in b)
 
 abbrev pub openings_say : List Opening → Fact → Bool
 openings_say os f = list_any (λ o. count_says o.number o.count f) os
@@ -122,7 +122,7 @@ pub record AreOpenings (b : BoardValue) (os : List Opening) : Type 0 where
 
 -- what is issued, by number
 abbrev pub issues_of : BoardValue → List (ℕ × Flat PlanPair)
-issues_of b = b.first.second
+issues_of b = issues_in b
 
 -- what the entries issue under a number
 abbrev pub entries_issue : List (ℕ × Flat PlanPair) → ℕ → Flat PlanPair

@@ -1,11 +1,11 @@
 -- Laws of the lists of a board.
 use Rattle.std.specs.Prelude.{◌≡◌, ◌≢◌, ℕ, suc, zero, ◌<◌, ◌≤◌, ◌==◌, Bool, true, false, cond, ◌||◌, ◌&&◌, T, map, List, [], ◌∷◌, ◌++◌, Some, ◌⊎◌, refl}
-use Rattle.std.proofs.Common.{sym, ap, subst, ◌∙◌, arith, inl, inr, ⊎_elim}
+use Rattle.std.proofs.Common.{sym, ap, subst, ◌∙◌, arith, inl, inr, ⊎_elim, Less, Equal}
 use Rattle.std.proofs.lemmas.Bool.{and_from, or_left, or_right}
 use Rattle.std.proofs.lemmas.Bool.Decides.{nat_tests}
 use Rattle.std.proofs.lemmas.List.Folds.{list_any-append}
 use Rattle.std.specs.List.{flat_map, list_any, AllByRecursion}
-use Rattle.std.specs.Ordering.{nat_cmp, is_eq, is_lt}
+use Rattle.std.specs.Ordering.{nat_cmp, is_eq, is_lt, ordering_then}
 use Rattle.std.specs.FinMap.Entries.{find, is_sorted, below_all}
 use Rattle.squall_span.specs.Spans.{Interval, has, span_has}
 use Rattle.squall_join.specs.declared.flat.Flat.{Flat}
@@ -17,11 +17,12 @@ use Rattle.squall_join.specs.MapLaws.{first, second}
 use Rattle.squall_join.specs.Looked.{looked}
 use Rattle.squall_join.specs.Facts.{max_says, flag_says, pair_says, map_says, found_says}
 use Rattle.squall_report.specs.Issues.{PlanPair}
-use Rattle.squall_report.specs.Facts.{Fact, LoadedKey, DonePart, OpenedSub, is_opening, are_numbers}
+use Rattle.squall_report.specs.Cells.{CellPlace, place_at, is_cell_place, cell_cmp}
+use Rattle.squall_report.specs.Facts.{Fact, LoadedKey, DonePart, OpenedSub, is_opening}
 use Rattle.squall_report.specs.Told.{both_issued, SameTold}
 use Rattle.squall_report.specs.ToldLaws.{issued_neutral}
 use Rattle.squall_board.specs.declared.opening.Opening.{Opening}
-use Rattle.squall_board.specs.Boards.{CellValue, Parts, Subs, Cells, Openings, BoardValue, cell_is, cell_bottom, issue_is, says, told, count_says, one_issue, IsBoard}
+use Rattle.squall_board.specs.Boards.{CellValue, Parts, Subs, Cells, Openings, BoardValue, openings_in, issues_in, cells_in, cell_is, cell_bottom, issue_is, says, told, count_says, one_issue, IsBoard}
 use Rattle.squall_board.specs.BoardLaws.{same_board}
 use Rattle.squall_board.specs.Listed.{CellEntry, entry_with, cell_entry, IsCell, cells_of_parts, cells_of_subs, cells_of_numbers, cells_of, AreCellsOfParts, AreCellsOfSubs, AreCellsOfNumbers, entry_says, entries_say, ComesBefore, CellsRise, AreCells, openings_of_counts, openings_of, openings_say, IsOpening, OpeningsRise, AreOpenings, issues_of, entries_issue, IssuesRise, AreIssues, told_by_lists}
 
@@ -163,41 +164,62 @@ first_key : (s : Interval) (ss : List Interval) → s.lo < s.hi → has (s ∷ s
 first_key s ss lt = or_left (span_has s s.lo) (has ss s.lo) (grind (arith, nat_tests))
 
 -- a kept cell is complete or has a span
-kept_cell : (n s p : ℕ) (spans : List Interval) (complete : Bool) → IsKept cell_is cell_bottom (pair_of spans complete) → ((f : CellFact) → says_cell (pair_of spans complete) f ≡ true → are_numbers n s p ≡ true) → IsCell (entry_with n s p complete spans)
+kept_cell : (n s p : ℕ) (spans : List Interval) (complete : Bool) → IsKept cell_is cell_bottom (pair_of spans complete) → ((f : CellFact) → says_cell (pair_of spans complete) f ≡ true → is_cell_place (place_at n s p) ≡ true) → IsCell (entry_with (place_at n s p) complete spans)
 kept_cell n s p spans true k h = record { entry = and_from _ _ (h (inr tt) refl) refl; spans = k.0.0 }
 kept_cell n s p [] false k h = absurd (k.1 refl)
 kept_cell n s p (x ∷ xs) false k h = record { entry = and_from _ _ (h (inl x.lo) (first_key x xs k.0.0.0)) refl; spans = k.0.0 }
 
-parts_within : (n s : ℕ) (parts : Parts) → parts_are parts → ((f : ℕ × CellFact) → says_parts parts f ≡ true → are_numbers n s f.0 ≡ true) → AreCellsOfParts n s parts
+parts_within : (n s : ℕ) (parts : Parts) → parts_are parts → ((f : ℕ × CellFact) → says_parts parts f ≡ true → is_cell_place (place_at n s f.0) ≡ true) → AreCellsOfParts n s parts
 parts_within n s parts m h =
-    all_both (λ e. (f : CellFact) → says_cell e.1 f ≡ true → are_numbers n s e.0 ≡ true) (λ e. IsKept cell_is cell_bottom e.1) (λ e. IsCell (cell_entry n s e.0 e.1)) parts
-    (within says_cell (λ p f. are_numbers n s p ≡ true) parts (keys_rise parts m.sorted) (λ p f t. h (p, f) t))
+    all_both (λ e. (f : CellFact) → says_cell e.1 f ≡ true → is_cell_place (place_at n s e.0) ≡ true) (λ e. IsKept cell_is cell_bottom e.1) (λ e. IsCell (cell_entry (place_at n s e.0) e.1)) parts
+    (within says_cell (λ p f. is_cell_place (place_at n s p) ≡ true) parts (keys_rise parts m.sorted) (λ p f t. h (p, f) t))
     m.kept
     (λ e said kept. kept_cell n s e.0 e.1.first e.1.second kept said)
 
-subs_within : (n : ℕ) (subs : Subs) → subs_are subs → ((f : ℕ × (ℕ × CellFact)) → says_subs subs f ≡ true → are_numbers n f.0 f.1.0 ≡ true) → AreCellsOfSubs n subs
+subs_within : (n : ℕ) (subs : Subs) → subs_are subs → ((f : ℕ × (ℕ × CellFact)) → says_subs subs f ≡ true → is_cell_place (place_at n f.0 f.1.0) ≡ true) → AreCellsOfSubs n subs
 subs_within n subs m h =
-    all_both (λ e. (f : ℕ × CellFact) → says_parts e.1 f ≡ true → are_numbers n e.0 f.0 ≡ true) (λ e. IsKept parts_are [] e.1) (λ e. AreCellsOfParts n e.0 e.1) subs
-    (within says_parts (λ s f. are_numbers n s f.0 ≡ true) subs (keys_rise subs m.sorted) (λ s f t. h (s, f) t))
+    all_both (λ e. (f : ℕ × CellFact) → says_parts e.1 f ≡ true → is_cell_place (place_at n e.0 f.0) ≡ true) (λ e. IsKept parts_are [] e.1) (λ e. AreCellsOfParts n e.0 e.1) subs
+    (within says_parts (λ s f. is_cell_place (place_at n s f.0) ≡ true) subs (keys_rise subs m.sorted) (λ s f t. h (s, f) t))
     m.kept
     (λ e said kept. parts_within n e.0 e.1 kept.0 said)
 
-numbers_within : (numbers : Cells) → numbers_are numbers → ((f : ℕ × (ℕ × (ℕ × CellFact))) → says_numbers numbers f ≡ true → are_numbers f.0 f.1.0 f.1.1.0 ≡ true) → AreCellsOfNumbers numbers
+numbers_within : (numbers : Cells) → numbers_are numbers → ((f : ℕ × (ℕ × (ℕ × CellFact))) → says_numbers numbers f ≡ true → is_cell_place (place_at f.0 f.1.0 f.1.1.0) ≡ true) → AreCellsOfNumbers numbers
 numbers_within numbers m h =
-    all_both (λ e. (f : ℕ × (ℕ × CellFact)) → says_subs e.1 f ≡ true → are_numbers e.0 f.0 f.1.0 ≡ true) (λ e. IsKept subs_are [] e.1) (λ e. AreCellsOfSubs e.0 e.1) numbers
-    (within says_subs (λ n f. are_numbers n f.0 f.1.0 ≡ true) numbers (keys_rise numbers m.sorted) (λ n f t. h (n, f) t))
+    all_both (λ e. (f : ℕ × (ℕ × CellFact)) → says_subs e.1 f ≡ true → is_cell_place (place_at e.0 f.0 f.1.0) ≡ true) (λ e. IsKept subs_are [] e.1) (λ e. AreCellsOfSubs e.0 e.1) numbers
+    (within says_subs (λ n f. is_cell_place (place_at n f.0 f.1.0) ≡ true) numbers (keys_rise numbers m.sorted) (λ n f t. h (n, f) t))
     m.kept
     (λ e said kept. subs_within e.0 e.1 kept.0 said)
 
 -- each entry of a board is a cell
-pub board_cells : (b : BoardValue) → IsBoard b → AreCellsOfNumbers b.second
-board_cells b is = numbers_within b.second is.nested.1 (λ f. at f.0 f.1.0 f.1.1.0 f.1.1.1)
+pub board_cells : (b : BoardValue) → IsBoard b → AreCellsOfNumbers (cells_in b)
+board_cells b is = numbers_within (cells_in b) is.nested.1 (λ f. at f.0 f.1.0 f.1.1.0 f.1.1.1)
   where
-    at : (n s p : ℕ) (f : CellFact) → says_numbers b.second (n, (s, (p, f))) ≡ true → are_numbers n s p ≡ true
-    at n s p (inl k) t = is.facts (LoadedKey n s p k) t
-    at n s p (inr u) t = is.facts (DonePart n s p) t
+    at : (n s p : ℕ) (f : CellFact) → says_numbers (cells_in b) (n, (s, (p, f))) ≡ true → is_cell_place (place_at n s p) ≡ true
+    at n s p (inl k) t = is.facts (LoadedKey (place_at n s p) k) t
+    at n s p (inr u) t = is.facts (DonePart (place_at n s p)) t
 
 -- ---- cells rise
+
+lt_less : (x y : ℕ) → x < y → nat_cmp x y ≡ Less
+lt_less x y lt = grind (arith, nat_tests)
+
+eq_equal : (x y : ℕ) → x ≡ y → nat_cmp x y ≡ Equal
+eq_equal x y e = grind (arith, nat_tests)
+
+-- the first number that differs decides
+before_number : (c d : CellEntry) → c.cell.number < d.cell.number → ComesBefore c d
+before_number c d lt = ap (λ o. is_lt (ordering_then o (ordering_then (nat_cmp c.cell.sub d.cell.sub) (nat_cmp c.cell.part d.cell.part)))) (lt_less c.cell.number d.cell.number lt)
+
+before_sub : (c d : CellEntry) → c.cell.number ≡ d.cell.number → c.cell.sub < d.cell.sub → ComesBefore c d
+before_sub c d n lt =
+    ap (λ o. is_lt (ordering_then o (ordering_then (nat_cmp c.cell.sub d.cell.sub) (nat_cmp c.cell.part d.cell.part)))) (eq_equal c.cell.number d.cell.number n)
+    ∙ ap (λ o. is_lt (ordering_then o (nat_cmp c.cell.part d.cell.part))) (lt_less c.cell.sub d.cell.sub lt)
+
+before_part : (c d : CellEntry) → c.cell.number ≡ d.cell.number → c.cell.sub ≡ d.cell.sub → c.cell.part < d.cell.part → ComesBefore c d
+before_part c d n s lt =
+    ap (λ o. is_lt (ordering_then o (ordering_then (nat_cmp c.cell.sub d.cell.sub) (nat_cmp c.cell.part d.cell.part)))) (eq_equal c.cell.number d.cell.number n)
+    ∙ ap (λ o. is_lt (ordering_then o (nat_cmp c.cell.part d.cell.part))) (eq_equal c.cell.sub d.cell.sub s)
+    ∙ ap is_lt (lt_less c.cell.part d.cell.part lt)
 
 rise_append : (P Q : CellEntry → Type 0) (xs ys : List CellEntry) → ((c d : CellEntry) → P c → Q d → ComesBefore c d) → AllByRecursion P xs → AllByRecursion Q ys → CellsRise xs → CellsRise ys → CellsRise (xs ++ ys)
 rise_append P Q [] ys f p q r t = t
@@ -206,38 +228,38 @@ rise_append P Q (x ∷ xs) ys f p q r t = (all_append (ComesBefore x) xs ys r.0 
 parts_rise : (n s : ℕ) (parts : Parts) → KeysRise parts → CellsRise (cells_of_parts n s parts)
 parts_rise n s [] r = tt
 parts_rise n s (e ∷ es) r = (
-  all_map (λ d. cell_entry n s d.0 d.1) (ComesBefore (cell_entry n s e.0 e.1)) es (all_weaker (λ d. e.0 < d.0) (λ d. ComesBefore (cell_entry n s e.0 e.1) (cell_entry n s d.0 d.1)) es r.0 (λ d lt. inr (refl, inr (refl, lt)))),
+  all_map (λ d. cell_entry (place_at n s d.0) d.1) (ComesBefore (cell_entry (place_at n s e.0) e.1)) es (all_weaker (λ d. e.0 < d.0) (λ d. ComesBefore (cell_entry (place_at n s e.0) e.1) (cell_entry (place_at n s d.0) d.1)) es r.0 (λ d lt. before_part (cell_entry (place_at n s e.0) e.1) (cell_entry (place_at n s d.0) d.1) refl refl lt)),
   parts_rise n s es r.1,
 )
 
 abbrev InSub : ℕ → ℕ → CellEntry → Type 0
-InSub n s c = (c.number ≡ n) × (c.sub ≡ s)
+InSub n s c = (c.cell.number ≡ n) × (c.cell.sub ≡ s)
 
 abbrev AfterSub : ℕ → ℕ → CellEntry → Type 0
-AfterSub n s c = (c.number ≡ n) × (s < c.sub)
+AfterSub n s c = (c.cell.number ≡ n) × (s < c.cell.sub)
 
 in_parts : (n s : ℕ) (parts : Parts) → AllByRecursion (InSub n s) (cells_of_parts n s parts)
-in_parts n s parts = all_map (λ d. cell_entry n s d.0 d.1) (InSub n s) parts (all_true (λ d. InSub n s (cell_entry n s d.0 d.1)) (λ d. (refl, refl)) parts)
+in_parts n s parts = all_map (λ d. cell_entry (place_at n s d.0) d.1) (InSub n s) parts (all_true (λ d. InSub n s (cell_entry (place_at n s d.0) d.1)) (λ d. (refl, refl)) parts)
 
 after_sub : (n s : ℕ) (subs : Subs) → AllByRecursion (λ e. s < e.0) subs → AllByRecursion (AfterSub n s) (cells_of_subs n subs)
 after_sub n s subs h = all_flat (λ e. cells_of_parts n e.0 e.1) (AfterSub n s) subs (all_weaker (λ e. s < e.0) (λ e. AllByRecursion (AfterSub n s) (cells_of_parts n e.0 e.1)) subs h (λ e lt. all_weaker (InSub n e.0) (AfterSub n s) (cells_of_parts n e.0 e.1) (in_parts n e.0 e.1) (λ c is. (is.0, subst (λ t. s < t) (sym is.1) lt))))
 
 subs_rise : (n : ℕ) (subs : Subs) → KeysRise subs → AllByRecursion (λ e. KeysRise e.1) subs → CellsRise (cells_of_subs n subs)
 subs_rise n [] r t = tt
-subs_rise n (e ∷ es) r t = rise_append (InSub n e.0) (AfterSub n e.0) (cells_of_parts n e.0 e.1) (cells_of_subs n es) (λ c d p q. inr (p.0 ∙ sym q.0, inl (subst (λ u. u < d.sub) (sym p.1) q.1))) (in_parts n e.0 e.1) (after_sub n e.0 es r.0) (parts_rise n e.0 e.1 t.0) (subs_rise n es r.1 t.1)
+subs_rise n (e ∷ es) r t = rise_append (InSub n e.0) (AfterSub n e.0) (cells_of_parts n e.0 e.1) (cells_of_subs n es) (λ c d p q. before_sub c d (p.0 ∙ sym q.0) (subst (λ u. u < d.cell.sub) (sym p.1) q.1)) (in_parts n e.0 e.1) (after_sub n e.0 es r.0) (parts_rise n e.0 e.1 t.0) (subs_rise n es r.1 t.1)
 
-in_subs : (n : ℕ) (subs : Subs) → AllByRecursion (λ c. c.number ≡ n) (cells_of_subs n subs)
-in_subs n subs = all_flat (λ e. cells_of_parts n e.0 e.1) (λ c. c.number ≡ n) subs (all_true (λ e. AllByRecursion (λ c. c.number ≡ n) (cells_of_parts n e.0 e.1)) (λ e. all_weaker (InSub n e.0) (λ c. c.number ≡ n) (cells_of_parts n e.0 e.1) (in_parts n e.0 e.1) (λ c is. is.0)) subs)
+in_subs : (n : ℕ) (subs : Subs) → AllByRecursion (λ c. c.cell.number ≡ n) (cells_of_subs n subs)
+in_subs n subs = all_flat (λ e. cells_of_parts n e.0 e.1) (λ c. c.cell.number ≡ n) subs (all_true (λ e. AllByRecursion (λ c. c.cell.number ≡ n) (cells_of_parts n e.0 e.1)) (λ e. all_weaker (InSub n e.0) (λ c. c.cell.number ≡ n) (cells_of_parts n e.0 e.1) (in_parts n e.0 e.1) (λ c is. is.0)) subs)
 
-after_number : (n : ℕ) (numbers : Cells) → AllByRecursion (λ e. n < e.0) numbers → AllByRecursion (λ c. n < c.number) (cells_of_numbers numbers)
-after_number n numbers h = all_flat (λ e. cells_of_subs e.0 e.1) (λ c. n < c.number) numbers (all_weaker (λ e. n < e.0) (λ e. AllByRecursion (λ c. n < c.number) (cells_of_subs e.0 e.1)) numbers h (λ e lt. all_weaker (λ c. c.number ≡ e.0) (λ c. n < c.number) (cells_of_subs e.0 e.1) (in_subs e.0 e.1) (λ c is. subst (λ m. n < m) (sym is) lt)))
+after_number : (n : ℕ) (numbers : Cells) → AllByRecursion (λ e. n < e.0) numbers → AllByRecursion (λ c. n < c.cell.number) (cells_of_numbers numbers)
+after_number n numbers h = all_flat (λ e. cells_of_subs e.0 e.1) (λ c. n < c.cell.number) numbers (all_weaker (λ e. n < e.0) (λ e. AllByRecursion (λ c. n < c.cell.number) (cells_of_subs e.0 e.1)) numbers h (λ e lt. all_weaker (λ c. c.cell.number ≡ e.0) (λ c. n < c.cell.number) (cells_of_subs e.0 e.1) (in_subs e.0 e.1) (λ c is. subst (λ m. n < m) (sym is) lt)))
 
 abbrev SubsRise : Subs → Type 0
 SubsRise subs = KeysRise subs × AllByRecursion (λ e. KeysRise e.1) subs
 
 numbers_rise : (numbers : Cells) → KeysRise numbers → AllByRecursion (λ e. SubsRise e.1) numbers → CellsRise (cells_of_numbers numbers)
 numbers_rise [] r t = tt
-numbers_rise (e ∷ es) r t = rise_append (λ c. c.number ≡ e.0) (λ c. e.0 < c.number) (cells_of_subs e.0 e.1) (cells_of_numbers es) (λ c d p q. inl (subst (λ m. m < d.number) (sym p) q)) (in_subs e.0 e.1) (after_number e.0 es r.0) (subs_rise e.0 e.1 t.0.0 t.0.1) (numbers_rise es r.1 t.1)
+numbers_rise (e ∷ es) r t = rise_append (λ c. c.cell.number ≡ e.0) (λ c. e.0 < c.cell.number) (cells_of_subs e.0 e.1) (cells_of_numbers es) (λ c d p q. before_number c d (subst (λ m. m < d.cell.number) (sym p) q)) (in_subs e.0 e.1) (after_number e.0 es r.0) (subs_rise e.0 e.1 t.0.0 t.0.1) (numbers_rise es r.1 t.1)
 
 subs_keys : (subs : Subs) → subs_are subs → SubsRise subs
 subs_keys subs m = (keys_rise subs m.sorted, all_weaker (λ e. IsKept parts_are [] e.1) (λ e. KeysRise e.1) subs m.kept (λ e k. keys_rise e.1 k.0.sorted))
@@ -248,22 +270,22 @@ numbers_keys numbers m = all_weaker (λ e. IsKept subs_are [] e.1) (λ e. SubsRi
 -- ---- what cells say
 
 abbrev fact_of : ℕ → ℕ → ℕ → CellFact → Fact
-fact_of n s p (inl k) = LoadedKey n s p k
-fact_of n s p (inr u) = DonePart n s p
+fact_of n s p (inl k) = LoadedKey (place_at n s p) k
+fact_of n s p (inr u) = DonePart (place_at n s p)
 
 and_assoc : (a b c d : Bool) → ((a && (b && c)) && d) ≡ (a && (b && (c && d)))
 and_assoc false b c d = refl
 and_assoc true false c d = refl
 and_assoc true true c d = refl
 
-entry_at : (n s p : ℕ) (v : CellValue) (m t q : ℕ) (f : CellFact) → entry_says (cell_entry n s p v) (fact_of m t q f) ≡ ((n == m) && ((s == t) && ((p == q) && says_cell v f)))
+entry_at : (n s p : ℕ) (v : CellValue) (m t q : ℕ) (f : CellFact) → entry_says (cell_entry (place_at n s p) v) (fact_of m t q f) ≡ ((n == m) && ((s == t) && ((p == q) && says_cell v f)))
 entry_at n s p v m t q (inl k) = and_assoc (n == m) (s == t) (p == q) (has v.first k)
 entry_at n s p v m t q (inr u) = and_assoc (n == m) (s == t) (p == q) v.second
 
 parts_say : (n s : ℕ) (parts : Parts) → KeysRise parts → (m t q : ℕ) (f : CellFact) → entries_say (cells_of_parts n s parts) (fact_of m t q f) ≡ ((n == m) && ((s == t) && says_parts parts (q, f)))
 parts_say n s parts r m t q f =
-    any_map (λ e. cell_entry n s e.0 e.1) (λ c. entry_says c (fact_of m t q f)) parts
-    ∙ any_same (λ e. entry_says (cell_entry n s e.0 e.1) (fact_of m t q f)) (λ e. (n == m) && ((s == t) && ((e.0 == q) && says_cell e.1 f))) parts (all_true _ (λ e. entry_at n s e.0 e.1 m t q f) parts)
+    any_map (λ e. cell_entry (place_at n s e.0) e.1) (λ c. entry_says c (fact_of m t q f)) parts
+    ∙ any_same (λ e. entry_says (cell_entry (place_at n s e.0) e.1) (fact_of m t q f)) (λ e. (n == m) && ((s == t) && ((e.0 == q) && says_cell e.1 f))) parts (all_true _ (λ e. entry_at n s e.0 e.1 m t q f) parts)
     ∙ any_and (n == m) (λ e. (s == t) && ((e.0 == q) && says_cell e.1 f)) parts
     ∙ ap (λ b. (n == m) && b) (any_and (s == t) (λ e. (e.0 == q) && says_cell e.1 f) parts ∙ ap (λ b. (s == t) && b) (sym (says_some says_cell parts r q f)))
 
@@ -283,16 +305,16 @@ numbers_say numbers r s m t q f =
 -- the cells of a board rise, and say what it says
 pub cells_listed : (b : BoardValue) → IsBoard b → AreCells b (cells_of b)
 cells_listed b is = record {
-  rise = numbers_rise b.second keys inner;
-  loaded = λ n s p k. sym (numbers_say b.second keys inner n s p (inl k));
-  done = λ n s p. sym (numbers_say b.second keys inner n s p (inr tt));
+  rise = numbers_rise (cells_in b) keys inner;
+  loaded = λ c k. sym (numbers_say (cells_in b) keys inner c.number c.sub c.part (inl k));
+  done = λ c. sym (numbers_say (cells_in b) keys inner c.number c.sub c.part (inr tt));
 }
   where
-    keys : KeysRise b.second
-    keys = keys_rise b.second is.nested.1.sorted
+    keys : KeysRise (cells_in b)
+    keys = keys_rise (cells_in b) is.nested.1.sorted
 
-    inner : AllByRecursion (λ e. SubsRise e.1) b.second
-    inner = numbers_keys b.second is.nested.1
+    inner : AllByRecursion (λ e. SubsRise e.1) (cells_in b)
+    inner = numbers_keys (cells_in b) is.nested.1
 
 -- ---- openings
 
@@ -311,18 +333,18 @@ kept_count n (suc m) k h =
 
 -- the openings of a board lie within their limits
 pub openings_within : (b : BoardValue) → IsBoard b → AllByRecursion IsOpening (openings_of b)
-openings_within b is = all_map opening_at IsOpening b.first.first
-    (all_both (λ e. (s : ℕ) → max_says e.1 s ≡ true → is_opening e.0 s ≡ true) (λ e. IsKept is_max 0 e.1) (λ e. IsOpening (opening_at e)) b.first.first
-    (within max_says (λ n s. is_opening n s ≡ true) b.first.first (keys_rise b.first.first is.nested.0.0.sorted) (λ n s t. is.facts (OpenedSub n s) t))
+openings_within b is = all_map opening_at IsOpening (openings_in b)
+    (all_both (λ e. (s : ℕ) → max_says e.1 s ≡ true → is_opening e.0 s ≡ true) (λ e. IsKept is_max 0 e.1) (λ e. IsOpening (opening_at e)) (openings_in b)
+    (within max_says (λ n s. is_opening n s ≡ true) (openings_in b) (keys_rise (openings_in b) is.nested.0.0.sorted) (λ n s t. is.facts (OpenedSub n s) t))
     is.nested.0.0.kept
     (λ e said kept. kept_count e.0 e.1 kept.1 said))
 
 -- the openings of a board rise, lie within their limits, and say what it says
 pub openings_listed : (b : BoardValue) → IsBoard b → AreOpenings b (openings_of b)
 openings_listed b is = record {
-  rise = counts_rise b.first.first (keys_rise b.first.first is.nested.0.0.sorted);
+  rise = counts_rise (openings_in b) (keys_rise (openings_in b) is.nested.0.0.sorted);
   within = openings_within b is;
-  opened = λ n s. says_some max_says b.first.first (keys_rise b.first.first is.nested.0.0.sorted) n s ∙ sym (any_map opening_at (λ o. count_says o.number o.count (OpenedSub n s)) b.first.first);
+  opened = λ n s. says_some max_says (openings_in b) (keys_rise (openings_in b) is.nested.0.0.sorted) n s ∙ sym (any_map opening_at (λ o. count_says o.number o.count (OpenedSub n s)) (openings_in b));
 }
 
 -- ---- issues
@@ -357,23 +379,23 @@ issues_within_some (e ∷ es) r k h = (
 
 -- what a board holds issued is under numbers from 1 on
 pub issues_within : (b : BoardValue) → IsBoard b → AllByRecursion (λ e. 1 ≤ e.0) (issues_of b)
-issues_within b is = issues_within_some b.first.second (keys_rise b.first.second is.nested.0.1.sorted) is.nested.0.1.kept (λ n. ⊎_elim (λ le. inl le) (λ u. inr (sym (issue_some b.first.second (keys_rise b.first.second is.nested.0.1.sorted) n) ∙ u)) (is.issues n))
+issues_within b is = issues_within_some (issues_in b) (keys_rise (issues_in b) is.nested.0.1.sorted) is.nested.0.1.kept (λ n. ⊎_elim (λ le. inl le) (λ u. inr (sym (issue_some (issues_in b) (keys_rise (issues_in b) is.nested.0.1.sorted) n) ∙ u)) (is.issues n))
 
 -- what is issued rises, under numbers from 1 on, and is what the board issues
 pub issues_listed : (b : BoardValue) → IsBoard b → AreIssues b (issues_of b)
 issues_listed b is = record {
-  rise = issues_rise b.first.second (keys_rise b.first.second is.nested.0.1.sorted);
+  rise = issues_rise (issues_in b) (keys_rise (issues_in b) is.nested.0.1.sorted);
   within = issues_within b is;
-  issued = issue_some b.first.second (keys_rise b.first.second is.nested.0.1.sorted);
+  issued = issue_some (issues_in b) (keys_rise (issues_in b) is.nested.0.1.sorted);
 }
 
 -- ---- what the lists tell
 
-cells_only : (os : List Opening) (n s p k : ℕ) → openings_say os (LoadedKey n s p k) ≡ false
-cells_only os n s p k = any_none _ os (all_true _ (λ o. refl) os)
+cells_only : (os : List Opening) (c : CellPlace) (k : ℕ) → openings_say os (LoadedKey c k) ≡ false
+cells_only os c k = any_none _ os (all_true _ (λ o. refl) os)
 
-done_only : (os : List Opening) (n s p : ℕ) → openings_say os (DonePart n s p) ≡ false
-done_only os n s p = any_none _ os (all_true _ (λ o. refl) os)
+done_only : (os : List Opening) (c : CellPlace) → openings_say os (DonePart c) ≡ false
+done_only os c = any_none _ os (all_true _ (λ o. refl) os)
 
 opened_only : (cs : List CellEntry) (n s : ℕ) → entries_say cs (OpenedSub n s) ≡ false
 opened_only cs n s = any_none _ cs (all_true _ (λ c. refl) cs)
@@ -383,8 +405,8 @@ pub lists_tell : (b : BoardValue) → IsBoard b → SameTold (told b) (told_by_l
 lists_tell b is = record { facts = at; issues = (issues_listed b is).issued }
   where
     at : (f : Fact) → says b f ≡ (openings_say (openings_of b) f || entries_say (cells_of b) f)
-    at (LoadedKey n s p k) = (cells_listed b is).loaded n s p k ∙ sym (ap (λ x. x || entries_say (cells_of b) (LoadedKey n s p k)) (cells_only (openings_of b) n s p k))
-    at (DonePart n s p) = (cells_listed b is).done n s p ∙ sym (ap (λ x. x || entries_say (cells_of b) (DonePart n s p)) (done_only (openings_of b) n s p))
+    at (LoadedKey c k) = (cells_listed b is).loaded c k ∙ sym (ap (λ x. x || entries_say (cells_of b) (LoadedKey c k)) (cells_only (openings_of b) c k))
+    at (DonePart c) = (cells_listed b is).done c ∙ sym (ap (λ x. x || entries_say (cells_of b) (DonePart c)) (done_only (openings_of b) c))
     at (OpenedSub n s) = (openings_listed b is).opened n s ∙ or_none _ _ (opened_only (cells_of b) n s)
 
 -- a board that tells what the lists of another tell is that board

@@ -3,7 +3,7 @@ use Rattle.std.specs.Prelude.{◌≡◌, ◌≢◌, ℕ, ◌<◌, nat_lt, List, 
 use Rattle.squall_join.specs.declared.flat.Flat.{Flat}
 use Rattle.squall_join.specs.declared.flat.Flat.TheVariants.{Unknown, One, Clash}
 use Rattle.squall_report.specs.Issues.{PlanPair}
-use Rattle.squall_board.specs.Boards.{BoardValue}
+use Rattle.squall_board.specs.Boards.{BoardValue, issues_in}
 
 -- the greatest number above the first one under which one pair of plans is issued, with that pair; none where there is
 -- no such number
@@ -27,4 +27,4 @@ newest_in low [] = None
 newest_in low (e ∷ es) = or_before (newest_in low es) (one_above low e)
 
 abbrev pub newest_of : BoardValue → ℕ → Option (ℕ × PlanPair)
-newest_of b low = newest_in low b.first.second
+newest_of b low = newest_in low (issues_in b)

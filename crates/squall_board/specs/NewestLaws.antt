@@ -11,7 +11,7 @@ use Rattle.squall_join.specs.declared.flat.Flat.TheVariants.{Unknown, One, Clash
 use Rattle.squall_join.specs.MapLaws.{first, second}
 use Rattle.squall_join.specs.Looked.{looked}
 use Rattle.squall_report.specs.Issues.{PlanPair}
-use Rattle.squall_board.specs.Boards.{BoardValue, IsBoard, issued}
+use Rattle.squall_board.specs.Boards.{BoardValue, IsBoard, issues_in, issued}
 use Rattle.squall_board.specs.Newest.{IsNewest, one_above, or_before, newest_in, newest_of}
 
 abbrev at : List (ℕ × Flat PlanPair) → ℕ → Flat PlanPair
@@ -88,7 +88,7 @@ newest_is low [] sorted = λ n gt p. no_one p
 newest_is low (e ∷ es) sorted = step_newest low e es (newest_in low es) (first _ _ sorted) (newest_is low es (second _ _ sorted))
 
 pub newest_is_greatest : (b : BoardValue) (low : ℕ) → IsBoard b → IsNewest (issued b) low (newest_of b low)
-newest_is_greatest b low is = newest_is low b.first.second is.nested.0.1.sorted
+newest_is_greatest b low is = newest_is low (issues_in b) is.nested.0.1.sorted
 
 -- ---- as it is found from the end
 

@@ -7,17 +7,19 @@ ghost use Rattle.squall_join.specs.Flats.{flat_map};
 ghost use Rattle.squall_join.specs.Pairs.{pair_of};
 ghost use Rattle.squall_report.specs.declared.report.ReportKind.{ReportKind};
 ghost use Rattle.squall_report.specs.Issues.{PlanPair};
-ghost use Rattle.squall_report.specs.Facts.{Fact, LoadedKey, DonePart, OpenedSub, are_numbers};
+ghost use Rattle.squall_report.specs.Cells.{place_at};
+ghost use Rattle.squall_report.specs.Facts.{Fact, LoadedKey, DonePart, OpenedSub};
 ghost use Rattle.squall_report.specs.Told.{TellsBoth, TellsAll, told_by_report, told_by};
 ghost use Rattle.squall_board.specs.Boards.{IsBoard, HasTaken, empty_board, board_join, report_board, cell_board, opening_board, issue_board, cell_bottom, found_in, cell_of, opened_count, issued, says, told};
-ghost use Rattle.squall_board.specs.Equal.{is_same_board, boards_equal};
+ghost use Rattle.squall_board.specs.Equal.{is_same_board};
+ghost use Rattle.squall_board.specs.EqualLaws.{boards_equal};
 ghost use Rattle.squall_board.specs.Route.{route};
 ghost use Rattle.std.specs.Cmp.{partial_equiv_from_equiv};
 
 use squall_course::Course;
 use squall_join::{Entry, Flag, Flat, Join, JoinMap, Max, Pair, Piece, Shared};
 use squall_key::{Key, PartId};
-use squall_report::{Issue, Report, ReportKind};
+use squall_report::{CellId, Issue, Report, ReportKind};
 use squall_span::{Span, SpanSet};
 use std::alloc::{AllocError, Global};
 use std::marker::Model;
@@ -68,19 +70,17 @@ impl Model for Board {
 /// The board of one cell.
 pub(crate) fn cell_board(
     alloc: Global,
-    number: u32,
-    sub: u32,
-    part: u32,
-    cell: CellParts,
+    cell: CellId,
+    value: CellParts,
 ) -> Result<Board, AllocError>
-    requires numbers { are_numbers number sub part ≡ true }
-    requires kept { cell ≢ cell_bottom }
-    ensures { IfOk result (λ b. b ≡ cell_board number sub part cell) }
+    requires { value ≢ cell_bottom }
+    ensures { IfOk result (λ b. b ≡ cell_board cell value) }
 {
     cell.known();
-    let parts = JoinMap::single(alloc, part, cell)?;
-    let subs = JoinMap::single(alloc, sub, parts)?;
-    let cells = JoinMap::single(alloc, number, subs)?;
+    value.known();
+    let parts = JoinMap::single(alloc, cell.part(), value)?;
+    let subs = JoinMap::single(alloc, cell.sub(), parts)?;
+    let cells = JoinMap::single(alloc, cell.number(), subs)?;
     let first = Pair::new(JoinMap::empty(alloc), JoinMap::empty(alloc));
     Ok(Board {
         parts: Pair::new(first, cells),
@@ -216,8 +216,10 @@ impl Board {
                 sub,
                 part,
                 span,
-            } => self.put_piece(number, sub, part, Load { span }),
-            ReportKind::Done { number, sub, part } => self.put_piece(number, sub, part, Completion),
+            } => self.put_piece(CellId::of(number, sub, part), Load { span }),
+            ReportKind::Done { number, sub, part } => {
+                self.put_piece(CellId::of(number, sub, part), Completion)
+            }
             ReportKind::Opened { number, sub } => {
                 let delta = opening_board(self.allocator(), number, sub + 1)?;
                 self.merge(&delta)
@@ -233,21 +235,19 @@ impl Board {
     /// Joins a piece into a cell, or puts the cell that it stands for where there was none.
     fn put_piece<P: Piece<CellParts>>(
         &mut self,
-        number: u32,
-        sub: u32,
-        part: u32,
+        cell: CellId,
         piece: P,
     ) -> Result<(), AllocError>
-        requires { are_numbers number sub part ≡ true }
-        ensures board { OnOk result (self.new ≡ board_join self.old (cell_board number sub part (P.whole piece))) }
-        ensures told { OnOk result (TellsBoth (told self.new) (told self.old) (told (cell_board number sub part (P.whole piece)))) }
-        ensures taken { OnOk result ((rs qs : List (ReportKind PlanPair)) → HasTaken self.old rs → HasTaken (cell_board number sub part (P.whole piece)) qs → HasTaken self.new (rs ++ qs)) }
+        ensures board { OnOk result (self.new ≡ board_join self.old (cell_board cell (P.whole piece))) }
+        ensures told { OnOk result (TellsBoth (told self.new) (told self.old) (told (cell_board cell (P.whole piece)))) }
+        ensures taken { OnOk result ((rs qs : List (ReportKind PlanPair)) → HasTaken self.old rs → HasTaken (cell_board cell (P.whole piece)) qs → HasTaken self.new (rs ++ qs)) }
         ensures err { OnErr result (self.new ≡ self.old) }
     {
         piece.known();
+        cell.known();
         let alloc = self.allocator();
-        let entry = Entry::new(sub, Entry::new(part, piece));
-        self.parts.second.join_piece(alloc, number, &entry)
+        let entry = Entry::new(cell.sub(), Entry::new(cell.part(), piece));
+        self.parts.second.join_piece(alloc, cell.number(), &entry)
     }
 
     /// Takes each report of the list, or none of them. The error comes where memory ran out, and
@@ -283,21 +283,27 @@ impl Board {
         self.parts.covers(&other.parts)
     }
 
-    /// The cell of the partition in that sub-plan of that number, by binary searches. None where
-    /// nothing was reported of it.
-    pub fn cell_at(&self, number: u32, sub: u32, part: u32) -> Option<&CellParts>
-        ensures { option_copied result ≡ cell_of self.now number sub part }
+    /// The cell at that number, sub-plan and partition, within limits or not.
+    fn found_at(&self, number: u32, sub: u32, part: u32) -> Option<&CellParts>
+        ensures { option_copied result ≡ cell_of self.now (place_at number sub part) }
     {
         let subs = self.parts.second.get(&number);
         let parts = found_in(subs, sub);
         found_in(parts, part)
     }
 
+    /// What was reported of the cell, by binary searches. None where nothing was.
+    pub fn cell_at(&self, cell: CellId) -> Option<&CellParts>
+        ensures { option_copied result ≡ cell_of self.now cell }
+    {
+        self.found_at(cell.number(), cell.sub(), cell.part())
+    }
+
     /// Whether a report said the key loaded at the partition, in that sub-plan of that number.
     pub fn says_loaded(&self, number: u32, sub: u32, part: u32, key: Key) -> bool
-        ensures { result ≡ says self.now (LoadedKey number sub part key) }
+        ensures { result ≡ says self.now (LoadedKey (place_at number sub part) key) }
     {
-        match self.cell_at(number, sub, part) {
+        match self.found_at(number, sub, part) {
             Some(cell) => cell.first.has(key),
             None => false,
         }
@@ -305,9 +311,9 @@ impl Board {
 
     /// Whether a report said the partition done, in that sub-plan of that number.
     pub fn says_done(&self, number: u32, sub: u32, part: u32) -> bool
-        ensures { result ≡ says self.now (DonePart number sub part) }
+        ensures { result ≡ says self.now (DonePart (place_at number sub part)) }
     {
-        match self.cell_at(number, sub, part) {
+        match self.found_at(number, sub, part) {
             Some(cell) => cell.second.get(),
             None => false,
         }

@@ -1,22 +1,19 @@
-//! What was reported of a partition in a sub-plan.
+//! What was reported of a cell.
 
 ghost use Rattle.std.specs.Prelude.{◌≡◌};
-ghost use Rattle.squall_report.specs.Facts.{are_numbers};
 ghost use Rattle.squall_board.specs.Listed.{IsCell, entry_with, entry_of};
 
+use squall_report::CellId;
 use squall_span::SpanSet;
 use std::marker::Model;
 
 /// What was reported of a partition in a sub-plan of a reconfiguration: the keys loaded there, and
 /// whether it is complete. A cell says something: it has a key, or is complete.
 ///
-/// Contracts see a cell as its number, its sub-plan, its partition, whether it is complete, and the
-/// spans of its keys.
+/// Contracts see a cell as its place, whether it is complete, and the spans of its keys.
 #[derive(Drop)]
 pub struct Cell {
-    number: u32,
-    sub: u32,
-    part: u32,
+    place: CellId,
     complete: bool,
     spans: SpanSet,
 }
@@ -26,16 +23,9 @@ impl Model for Cell {
 
     ghost Value = { CellEntry };
 
-    ghost view = { λ c. entry_with c.number c.sub c.part c.complete c.spans };
+    ghost view = { λ c. entry_with c.place c.complete c.spans };
 
-    ghost invariant = { λ c. IsCell (entry_with c.number c.sub c.part c.complete c.spans) };
-}
-
-/// Whether the numbers lie within their limits.
-fn are_numbers(number: u32, sub: u32, part: u32) -> bool
-    ensures { result ≡ are_numbers number sub part }
-{
-    number >= 1 && sub <= 9999 && part <= 9999
+    ghost invariant = { λ c. IsCell (entry_with c.place c.complete c.spans) };
 }
 
 impl Cell {
@@ -45,39 +35,45 @@ impl Cell {
     pub fn new(number: u32, sub: u32, part: u32, complete: bool, spans: SpanSet) -> Option<Cell>
         ensures { result ≡ entry_of number sub part complete spans }
     {
-        let says_something = complete || !spans.is_empty();
-        if !are_numbers(number, sub, part) || !says_something {
+        let place = CellId::new(number, sub, part)?;
+        if !complete && spans.is_empty() {
             return None;
         }
         let _canonical = spans.spans();
+        place.known();
         Some(Cell {
-            number,
-            sub,
-            part,
+            place,
             complete,
             spans,
         })
     }
 
+    /// Where the cell stands.
+    pub fn place(&self) -> CellId
+        ensures { result ≡ self.now.cell }
+    {
+        self.place
+    }
+
     /// The reconfiguration's number, from 1 on.
     pub fn number(&self) -> u32
-        ensures { result ≡ self.now.number }
+        ensures { result ≡ self.now.cell.number }
     {
-        self.number
+        self.place.number()
     }
 
-    /// The sub-plan, from 0 to 9999.
+    /// The sub-plan, at most 9999.
     pub fn sub(&self) -> u32
-        ensures { result ≡ self.now.sub }
+        ensures { result ≡ self.now.cell.sub }
     {
-        self.sub
+        self.place.sub()
     }
 
-    /// The partition, from 0 to 9999.
+    /// The partition, at most 9999.
     pub fn part(&self) -> u32
-        ensures { result ≡ self.now.part }
+        ensures { result ≡ self.now.cell.part }
     {
-        self.part
+        self.place.part()
     }
 
     /// Whether the partition has all the keys that the sub-plan brings it.
@@ -95,14 +91,12 @@ impl Cell {
     }
 
     /// The cell of an entry of a board.
-    pub(crate) fn of_entry(number: u32, sub: u32, part: u32, complete: bool, spans: SpanSet) -> Cell
-        requires { IsCell (entry_with number sub part complete spans) }
-        ensures { result ≡ entry_with number sub part complete spans }
+    pub(crate) fn of_entry(place: CellId, complete: bool, spans: SpanSet) -> Cell
+        requires { IsCell (entry_with place complete spans) }
+        ensures { result ≡ entry_with place complete spans }
     {
         Cell {
-            number,
-            sub,
-            part,
+            place,
             complete,
             spans,
         }
@@ -112,6 +106,6 @@ impl Cell {
     pub(crate) fn known(&self)
         ensures { IsCell self.now }
     {
-        let _number = self.number;
+        let _place = self.place;
     }
 }

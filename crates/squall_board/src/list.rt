@@ -9,7 +9,7 @@ use crate::board::{Board, CellParts};
 use crate::cell::Cell;
 use crate::opening::Opening;
 use squall_join::{Flat, JoinMap, Max, Shared};
-use squall_report::Issue;
+use squall_report::{CellId, Issue};
 use std::alloc::{AllocError, Global};
 use std::sync::Arc;
 
@@ -27,7 +27,8 @@ fn push_parts(
     for entry in parts {
         let spans = entry.1.first.copied(alloc)?;
         let complete = entry.1.second.get();
-        out.push(Cell::of_entry(number, sub, entry.0, complete, spans))?;
+        let place = CellId::of(number, sub, entry.0);
+        out.push(Cell::of_entry(place, complete, spans))?;
     }
     Ok(())
 }

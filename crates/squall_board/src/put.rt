@@ -18,12 +18,12 @@ use std::sync::Arc;
 
 /// The board of the cell.
 fn board_of_cell(alloc: Global, cell: &Cell) -> Result<Board, AllocError>
-    ensures { IfOk result (λ b. b ≡ cell_board cell.now.number cell.now.sub cell.now.part (entry_value cell.now)) }
+    ensures { IfOk result (λ b. b ≡ cell_board cell.now.cell (entry_value cell.now)) }
 {
     cell.known();
     let spans = cell.spans().copied(alloc)?;
     let value = Pair::new(spans, Flag::new(cell.complete()));
-    cell_board(alloc, cell.number(), cell.sub(), cell.part(), value)
+    cell_board(alloc, cell.place(), value)
 }
 
 /// One more owner of the issue, where there is one.
@@ -54,8 +54,8 @@ impl Board {
     /// Takes what the cell says of its partition. The error comes where memory ran out, and then
     /// the board is as before.
     pub fn put_cell(&mut self, cell: &Cell) -> Result<(), AllocError>
-        ensures board { OnOk result (self.new ≡ board_join self.old (cell_board cell.now.number cell.now.sub cell.now.part (entry_value cell.now))) }
-        ensures told { OnOk result (TellsBoth (told self.new) (told self.old) (told_by_cell cell.now.number cell.now.sub cell.now.part (entry_value cell.now))) }
+        ensures board { OnOk result (self.new ≡ board_join self.old (cell_board cell.now.cell (entry_value cell.now))) }
+        ensures told { OnOk result (TellsBoth (told self.new) (told self.old) (told_by_cell cell.now.cell (entry_value cell.now))) }
         ensures err { OnErr result (self.new ≡ self.old) }
     {
         let delta = board_of_cell(self.allocator(), cell)?;

@@ -6,7 +6,7 @@ ghost use Rattle.std.specs.Cmp.{partial_order_from_own_ties};
 ghost use Rattle.std.specs.Cmp.Rules.{comparing};
 ghost use Rattle.std.specs.Ordering.{as_partial_cmp};
 ghost use Rattle.squall_key.specs.Keys.{part_limit};
-ghost use Rattle.squall_report.specs.Cells.{place_of, is_same_cell, is_cell_place, cell_cmp};
+ghost use Rattle.squall_report.specs.Cells.{place_at, place_of, is_same_cell, is_cell_place, cell_cmp};
 
 use std::cmp::Ordering;
 use std::marker::Model;
@@ -46,6 +46,14 @@ impl CellId {
             return None;
         }
         Some(CellId { number, sub, part })
+    }
+
+    /// The cell of three numbers that are known to lie within their limits.
+    pub fn of(number: u32, sub: u32, part: u32) -> CellId
+        requires limits { is_cell_place (place_at number sub part) ≡ true }
+        ensures { result ≡ place_at number sub part }
+    {
+        CellId { number, sub, part }
     }
 
     /// The number of the reconfiguration, from 1 on.

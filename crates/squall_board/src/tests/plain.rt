@@ -1,6 +1,7 @@
 //! What a list of reports tells, report by report: the slow program that boards are compared with.
 
 ghost use Rattle.std.specs.Prelude.{◌≡◌, IfSome, IfNone};
+ghost use Rattle.squall_report.specs.Cells.{place_at};
 ghost use Rattle.squall_report.specs.Facts.{LoadedKey, DonePart, OpenedSub, report_says, reports_say};
 
 use squall_join::Flat;
@@ -10,7 +11,7 @@ use std::sync::Arc;
 
 /// Whether the report says the key loaded.
 fn is_load(report: &Report, number: u32, sub: u32, part: u32, key: Key) -> bool
-    ensures { result ≡ report_says report.now (LoadedKey number sub part key) }
+    ensures { result ≡ report_says report.now (LoadedKey (place_at number sub part) key) }
 {
     match report.kind() {
         ReportKind::Loaded {
@@ -25,7 +26,7 @@ fn is_load(report: &Report, number: u32, sub: u32, part: u32, key: Key) -> bool
 
 /// Whether the report says the partition done.
 fn is_completion(report: &Report, number: u32, sub: u32, part: u32) -> bool
-    ensures { result ≡ report_says report.now (DonePart number sub part) }
+    ensures { result ≡ report_says report.now (DonePart (place_at number sub part)) }
 {
     match report.kind() {
         ReportKind::Done {
@@ -49,7 +50,7 @@ fn is_opening(report: &Report, number: u32, sub: u32) -> bool
 
 /// Whether a report of the list says the key loaded.
 pub(crate) fn says_loaded(reports: &[Report], number: u32, sub: u32, part: u32, key: Key) -> bool
-    ensures { result ≡ reports_say reports.now (LoadedKey number sub part key) }
+    ensures { result ≡ reports_say reports.now (LoadedKey (place_at number sub part) key) }
 {
     reports
         .iter()
@@ -58,7 +59,7 @@ pub(crate) fn says_loaded(reports: &[Report], number: u32, sub: u32, part: u32, 
 
 /// Whether a report of the list says the partition done.
 pub(crate) fn says_done(reports: &[Report], number: u32, sub: u32, part: u32) -> bool
-    ensures { result ≡ reports_say reports.now (DonePart number sub part) }
+    ensures { result ≡ reports_say reports.now (DonePart (place_at number sub part)) }
 {
     reports
         .iter()

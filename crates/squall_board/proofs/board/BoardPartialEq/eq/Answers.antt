@@ -1,4 +1,4 @@
-use Rattle.squall_board.specs.Equal.{same_answer}
+use Rattle.squall_board.specs.EqualLaws.{same_answer}
 use Rattle.squall_board.proofs.board.BoardPartialEq.eq.Goals as goal
 
 pub returns : goal.returns
