@@ -8,3 +8,9 @@ pub mod Cells
 pub mod Facts
 pub mod Told
 pub mod ToldLaws
+pub mod Openings
+pub mod OpeningsLaws
+pub mod Newest
+pub mod NewestLaws
+pub mod Tests
+pub mod TestsLaws

@@ -46,7 +46,7 @@ in_head x xs = (0, omega arith, refl)
 in_tail : {X : Type 0} (y : X) (xs : List X) (x : X) → Contains xs x → Contains (y ∷ xs) x
 in_tail y xs x (k, lt, e) = (suc k, omega (arith, lt), e)
 
-in_either : {X : Type 0} (y : X) (xs : List X) (x : X) → Contains (y ∷ xs) x → (x ≡ y) ⊎ Contains xs x
+pub in_either : {X : Type 0} (y : X) (xs : List X) (x : X) → Contains (y ∷ xs) x → (x ≡ y) ⊎ Contains xs x
 in_either y xs x (zero, lt, e) = inl (sym e)
 in_either y xs x (suc k, lt, e) = inr (k, omega (arith, lt), e)
 

@@ -1,3 +1,5 @@
+mod worked;
+
 use super::*;
 use squall_join::Exact;
 use squall_key::Bound;
