@@ -11,7 +11,7 @@ ghost use Rattle.squall_device.specs.Counts.{one_more, counted, is_idle};
 
 use std::io::{Read, Write};
 
-/// A device failed. Nothing was read or written by the call that says so.
+/// A device failed. Nothing was read or written by the call that failed.
 #[derive(Clone, Copy, Debug, PartialEq, Eq)]
 pub struct DeviceFault;
 

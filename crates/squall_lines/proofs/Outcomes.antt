@@ -97,7 +97,7 @@ module _ (first now next : List (List ℕ) → Script) (reader reader' reader'' 
     subst (λ w. IsOutcome result first w (r.sent ++ more)) (sym (append-nil r.read)) (outcome result more not_read o),
   )
 
-  -- memory ran out before anything was done
+  -- an allocation failed before anything was done
   pub EndsAs-no_memory : EndsAs (Err NoMemory) first reader reader' writer writer'
   EndsAs-no_memory = (r.read, r.sent, r.consumes, r.appends, Begins-now first now next r.read carry r.sent r.running)
 
