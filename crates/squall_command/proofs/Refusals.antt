@@ -1,6 +1,6 @@
 -- Why a command line is refused.
 use Rattle.std.proofs.Common.{◌≡◌, ◌∙◌, ◌||◌, List, [], ◌∷◌, Bool, true, false, Result, Ok, Err, refl, ap, sym, subst, inl, inr}
-use Rattle.std.specs.Prelude.{IfOk, IsTrue, ◌↔◌, ◌≢◌, not, Option}
+use Rattle.std.specs.Prelude.{IfOk, IsTrue, ◌↔◌, ◌≢◌, ◌⊎◌, not, Option}
 use Rattle.std.specs.List.{list_any}
 use Rattle.std.specs.declared.alloc.AllocError.{AllocError}
 use Rattle.clap.specs.Words.{App, Row, Text, Kinds, IsAmong, HasKind, fault_of, is_simple, is_simple_and_free, subcommand_of, kind_of}
@@ -44,6 +44,23 @@ helps ks k side among = decides shows_help ks k side.same among
 
 faults : (ks : Kinds) (k : ErrorKind) → IsOneSided ks → IsAmong k ks → list_any (λ x. not (shows_help x)) ks ≡ not (shows_help k)
 faults ks k side among = decides (λ x. not (shows_help x)) ks k (λ i j a b. ap not (side.same i j a b)) among
+
+-- the first kind decides which it is
+first_decides : (b c d : Bool) → c ≡ b → d ≡ not b → IsTrue c ⊎ IsTrue d
+first_decides true c d e f = inl e
+first_decides false c d e f = inr f
+
+pub help_or_bad : (ks : Kinds) → ks ≢ [] → IsOneSided ks → IsTrue (list_any shows_help ks) ⊎ IsTrue (list_any (λ x. not (shows_help x)) ks)
+help_or_bad [] some side = absurd (some refl)
+help_or_bad (x ∷ xs) some side = first_decides (shows_help x) (list_any shows_help (x ∷ xs)) (list_any (λ y. not (shows_help y)) (x ∷ xs))
+    (helps (x ∷ xs) x side (inl refl)) (faults (x ∷ xs) x side (inl refl))
+
+pub not_both : (ks : Kinds) → IsOneSided ks → IsTrue (list_any shows_help ks) → IsTrue (list_any (λ x. not (shows_help x)) ks) → ⊥
+not_both [] side help bad = absurd cc
+not_both (x ∷ xs) side help bad =
+    let shows : shows_help x ≡ true = sym (helps (x ∷ xs) x side (inl refl)) ∙ help in
+    let hides : not (shows_help x) ≡ true = sym (faults (x ∷ xs) x side (inl refl)) ∙ bad in
+    let both : not true ≡ true = ap not (sym shows) ∙ hides in cc
 
 -- an error of a kind among the faults is told as help exactly where help is among them
 pub told_as_help : (ks : Kinds) (e : Error) (f : LineFault) → IsOneSided ks → HasKind ks e

@@ -7,7 +7,7 @@ mod line;
 mod parser;
 mod task;
 
-pub use laws::standard_input;
+pub use laws::{a_fault_is_help_or_bad, standard_input};
 pub use line::{command, message};
 pub use task::{LineFault, Task};
 

@@ -82,7 +82,7 @@ fn plain<'a>(alloc: Global, words: &'a [&'a str]) -> Result<Vec<&'a str>, AllocE
 /// `--version`; `Bad` where they are no such command line; `NoMemory` where an allocation failed.
 /// [`message`] is then what to show.
 pub fn command<'a>(alloc: Global, words: &'a [&'a str]) -> Result<Task, LineFault>
-    // The task and its files are what the definition says of the words.
+    // The task and its files are those that the words ask for.
     ensures task { IfOk result (λ task. Asks (words_of words.entry.now) (job_seen task)) }
 
     // Up to a failed allocation, help is told exactly where it is asked for,
