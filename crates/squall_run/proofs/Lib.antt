@@ -1,5 +1,6 @@
 pub mod Answered
 pub mod Boards
+pub mod Counted
 pub mod LineTexts
 pub mod Outputs
 pub mod Refusals

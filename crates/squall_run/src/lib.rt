@@ -13,11 +13,13 @@ mod command;
 mod course;
 mod files;
 mod laws;
+mod messages;
 mod output;
 mod program;
 mod reason;
 mod replies;
 mod scenario;
+mod tasks;
 
 pub use check::check_text;
 pub use course::course_text;

@@ -1,7 +1,8 @@
-use Rattle.std.proofs.Common.{◌∙◌, ◌≡◌, ◌++◌, take, sym, subst, arith}
+use Rattle.std.proofs.Common.{◌∙◌, ◌≡◌, ◌++◌, length, take, sym, subst, arith}
 use Rattle.std.proofs.lemmas.Result.{err_from_is_err_and}
 use Rattle.std.proofs.KnownBytes.{Consumes-trans}
 use Rattle.std.specs.Io.KnownBytes.{Consumes}
+use Rattle.squall_run.proofs.Counted.{not_idle, idle_counted}
 use Rattle.squall_run.proofs.files.read_all.Goals as goal
 
 pub loop-turn-preserved : goal.loop-turn-preserved
@@ -16,6 +17,7 @@ loop-turn-preserved g c =
       room = omega arith;
       used = omega (arith, i.used, c.in-Ok.ensures.reads);
       faults = c.in-Ok.ensures.faults ∙ i.faults;
+      ends = c.in-Ok.ensures.ends ∙ not_idle _ c.in-Ok.n _ c.if-n-eq0.false ∙ i.ends;
     }
 
 pub returns-in_err-extend_from_slice-clause-bytes : goal.returns-in_err-extend_from_slice-clause-bytes
@@ -29,3 +31,6 @@ returns-in_err-extend_from_slice-clause-bytes g c =
       Consumes-trans first before after c.loop-turn.bytes.items (take c.in-Ok.n c.read.new.buf) i.bytes c.in-Ok.ensures.bytes.0,
       rw (p.1) tt,
     )
+
+pub returns-then-n-eq0-clause-ended : goal.returns-then-n-eq0-clause-ended
+returns-then-n-eq0-clause-ended g c = idle_counted (length c.read.new.buf) c.in-Ok.n _ _ _ (omega (arith, c.loop-turn.invariant.room)) c.if-n-eq0.true c.in-Ok.ensures.ends c.loop-turn.invariant.ends

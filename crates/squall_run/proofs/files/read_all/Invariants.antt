@@ -9,4 +9,5 @@ invariant-loop-turn g l = record {
   room : length l.block ≡ 65536;
   used : times_more l.turn (g.S.Source.reads l.fn.source) ≤ g.S.Source.reads l.source;
   faults : g.S.Source.faults l.source ≡ g.S.Source.faults l.fn.source;
+  ends : g.S.Source.ends l.source ≡ g.S.Source.ends l.fn.source;
 }
