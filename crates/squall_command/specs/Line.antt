@@ -1,14 +1,15 @@
 -- The command line, as `clap` defines simple commands.
-use Rattle.std.specs.Prelude.{◌≡◌, ◌≢◌, ℕ, true, List, [], Option, Some, None, option_map, option_and_then, codes, map, string_bytes, if◌then◌else◌, Result, Ok, Err}
+use Rattle.std.specs.Prelude.{◌≡◌, ℕ, Bool, true, false, not, IsTrue, List, [], ◌∷◌, ◌++◌, Option, Some, None, unwrap_or, codes, map, string_bytes, if◌then◌else◌}
+use Rattle.std.specs.List.{list_any}
 use Rattle.std.specs.Str.{bytes_eq}
 use Rattle.std.specs.Borrow.{Bor}
-use Rattle.clap.specs.Words.{App, Shape, Rule, Row, Text, new_app, new_rule, with_rule, with_subcommand, subcommand_of, first_of, fault_of, IsAmong}
+use Rattle.clap.specs.Words.{App, Shape, Rule, Row, Text, Kinds, new_app, new_rule, with_rule, with_subcommand, subcommand_of, first_of, fault_of}
+use Rattle.clap.specs.Simple.{on_top}
 use Rattle.clap.specs.declared.builder.ArgAction.TheVariants.{Set}
-use Rattle.clap.specs.declared.error.kind.ErrorKind.TheVariants.{DisplayHelp}
+use Rattle.clap.specs.declared.error.kind.ErrorKind.{ErrorKind}
+use Rattle.clap.specs.declared.error.kind.ErrorKind.TheVariants.{DisplayHelp, DisplayVersion}
 use Rattle.squall_command.specs.declared.task.Task.{Task}
 use Rattle.squall_command.specs.declared.task.Task.TheVariants.{Check, Course, Run}
-use Rattle.squall_command.specs.declared.task.LineFault.{LineFault}
-use Rattle.squall_command.specs.declared.task.LineFault.TheVariants.{Help, Bad, NoMemory}
 
 -- a file's name, which has to be there
 abbrev pub file_rule : Text → Rule
@@ -23,9 +24,20 @@ course_shape = (with_rule (with_rule (new_app (codes "course")) (file_rule (code
 abbrev pub run_shape : Shape
 run_shape = (with_rule (new_app (codes "run")) (file_rule (codes "FILE"))).top
 
+-- the program without its commands: it has a version, and no command `help` of `clap`'s
+abbrev pub program_app : App
+program_app = on_top (λ s. record s { has_version = true; disable_help_subcommand = true }) (new_app (codes "squall"))
+
 -- the commands `check PLAN`, `course OLD NEW` and `run FILE`
 abbrev pub squall_app : App
-squall_app = with_subcommand (with_subcommand (with_subcommand (new_app (codes "squall")) check_shape) course_shape) run_shape
+squall_app = with_subcommand (with_subcommand (with_subcommand program_app check_shape) course_shape) run_shape
+
+-- `help` and what follows it are read as what follows it and `--help`: `help run` as `run --help`
+abbrev pub plain_words : List Text → List Text
+plain_words [] = []
+plain_words (name ∷ []) = name ∷ []
+plain_words (name ∷ word ∷ rest) =
+    if bytes_eq word (codes "help") then name ∷ (rest ++ codes "--help" ∷ []) else name ∷ word ∷ rest
 
 -- a task without where its names lie in memory
 pub data Job : Type 0 where
@@ -38,36 +50,47 @@ job_seen (Check plan) = check (string_bytes plan)
 job_seen (Course old new) = course (string_bytes old) (string_bytes new)
 job_seen (Run file) = run (string_bytes file)
 
-abbrev pub course_in : List Row → Option Job
-course_in rows = option_and_then (λ old. option_map (course old) (first_of (codes "NEW") rows)) (first_of (codes "OLD") rows)
+-- the file that stands for an argument: words without one that has to be there have a fault
+abbrev pub file_in : Text → List Row → List ℕ
+file_in id rows = unwrap_or (first_of id rows) []
 
--- the job of a subcommand's name and entries
-abbrev pub job_in : Text → List Row → Option Job
+-- the job of a command's name and entries
+abbrev pub job_in : Text → List Row → Job
 job_in name rows =
-    if bytes_eq name (codes "check") then option_map check (first_of (codes "PLAN") rows)
-    else (if bytes_eq name (codes "course") then course_in rows
-    else (if bytes_eq name (codes "run") then option_map run (first_of (codes "FILE") rows)
-    else None))
+    if bytes_eq name (codes "check") then check (file_in (codes "PLAN") rows)
+    else (if bytes_eq name (codes "course") then course (file_in (codes "OLD") rows) (file_in (codes "NEW") rows)
+    else run (file_in (codes "FILE") rows))
 
--- without a subcommand it is to run standard input
-abbrev pub job_of : Option (Text × List Row) → Option Job
-job_of None = Some (run (codes "-"))
+-- without a command it is to run standard input
+abbrev pub job_of : Option (Text × List Row) → Job
+job_of None = run (codes "-")
 job_of (Some p) = job_in p.0 p.1
 
 abbrev pub words_of : List (Bor (List ℕ)) → List Text
 words_of words = map (λ w. w.now) words
 
+-- the kinds of the first fault that `clap` finds in the words
+abbrev pub faults_in : List Text → Kinds
+faults_in words = fault_of squall_app (plain_words words)
+
+-- the kind of fault that asks for help or for the version
+abbrev pub shows_help : ErrorKind → Bool
+shows_help DisplayHelp = true
+shows_help DisplayVersion = true
+shows_help _ = false
+
 -- the words have no fault, and ask for the job
 abbrev pub Asks : List Text → Job → Type 0
-Asks words job = (fault_of squall_app words ≡ []) × (job_of (subcommand_of squall_app words) ≡ Some job)
+Asks words job = (faults_in words ≡ []) × (job_of (subcommand_of squall_app (plain_words words)) ≡ job)
 
--- why nothing is done: the words ask for help, or they ask for no job, or memory was wanting
-abbrev pub Refuses : List Text → LineFault → Type 0
-Refuses words Help = IsAmong DisplayHelp (fault_of squall_app words)
-Refuses words Bad = (job : Job) → Asks words job → ⊥
-Refuses words NoMemory = Unit {0}
+-- the words ask for help or for the version, before any other fault
+abbrev pub AsksForHelp : List Text → Type 0
+AsksForHelp words = IsTrue (list_any shows_help (faults_in words))
 
--- what was looked for, or that it is not there, unless memory ran out
-abbrev pub IsRead : {X Y : Type 0} → (X → Y) → Result X LineFault → Option Y → Type 0
-IsRead view (Ok x) found = found ≡ Some (view x)
-IsRead view (Err e) found = e ≢ NoMemory → (e ≡ Bad) × (found ≡ None)
+-- the words have a fault, and it is no request for help
+abbrev pub IsFaulty : List Text → Type 0
+IsFaulty words = IsTrue (list_any (λ kind. not (shows_help kind)) (faults_in words))
+
+-- the program's name and version on a line: `--version` shows it, and help begins with it
+abbrev pub title : List ℕ
+title = codes "squall 0.1.0\n"

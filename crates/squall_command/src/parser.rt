@@ -1,12 +1,17 @@
 //! The commands of the program, with their help, as `clap` reads them.
 
-ghost use Rattle.std.specs.Prelude.{◌≡◌, IfOk, false, codes};
-ghost use Rattle.clap.specs.Words.{app_of, shape_of, rule_of, new_app};
+ghost use Rattle.std.specs.Prelude.{◌≡◌, IfOk, false};
+ghost use Rattle.clap.specs.Words.{app_of, shape_of, rule_of};
 ghost use Rattle.clap.specs.declared.builder.command.Command.TheViews.{out-Command as fields_of};
-ghost use Rattle.squall_command.specs.Line.{squall_app, check_shape, course_shape, run_shape, file_rule};
+ghost use Rattle.squall_command.specs.Line.{squall_app, program_app, check_shape, course_shape, run_shape, file_rule};
 
 use clap::{Arg, ArgAction, Command};
 use std::alloc::{AllocError, Global};
+
+const VERSION: &str = "0.1.0";
+
+/// The program's name and version on a line.
+pub(crate) const TITLE: &str = "squall 0.1.0\n";
 
 const ABOUT: &str =
     "Says where each key is while a database moves from one partition plan to another.";
@@ -17,7 +22,22 @@ const AFTER_HELP: &str =
 Example:
   squall check new.json
   squall course old.json new.json
-  squall run scenario.txt";
+  squall run scenario.txt
+
+squall help COMMAND shows the help of a command, and squall help run the lines of a scenario.";
+
+const SCENARIO: &str = "Lines of a scenario, one question or report each:
+  old JSON            the old plan, once and first
+  new JSON            the new plan, once and right after the old one
+  loaded N S P LO HI  partition P has loaded the keys from LO on, below HI, in sub-plan S of
+                      reconfiguration N
+  done N S P          partition P has all that sub-plan S of reconfiguration N brings it
+  opened N S          sub-plan S of reconfiguration N is opened, and all those before it
+  route K             asks which partition has key K
+  board               asks what was reported
+  # REMARK            is skipped, as is a line without words
+
+A plan is written on its line, as {\"plan\":[{\"part\":1,\"from\":[0,0],\"to\":\"end\"}]}.";
 
 /// A file's name, which has to be there.
 fn file<'a>(alloc: Global, name: &'a str, help: &'a str) -> Arg<'a>
@@ -62,14 +82,17 @@ fn run_command<'a>(alloc: Global) -> Result<Command<'a>, AllocError>
         .about(
             "Answers the lines of a scenario: plans, reports of what was loaded, and questions for routes",
         )
+        .after_help(SCENARIO)
         .arg(file(alloc, "FILE", "The file of the scenario, or -"))
 }
 
-/// The program without its commands.
+/// The program without its commands. `help` is no command of its own: it is read as `--help`.
 fn program<'a>(alloc: Global) -> Command<'a>
-    ensures { app_of result ≡ new_app (codes "squall") }
+    ensures { app_of result ≡ program_app }
 {
     Command::new(alloc, "squall")
+        .version(VERSION)
+        .disable_help_subcommand(true)
         .about(ABOUT)
         .after_help(AFTER_HELP)
 }

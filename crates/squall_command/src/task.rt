@@ -16,11 +16,11 @@ pub enum Task {
 /// Why the words ask for no task.
 #[derive(Clone, Copy, Debug, PartialEq, Eq)]
 pub enum LineFault {
-    /// They ask for help.
+    /// They ask for help or for the version.
     Help,
     /// They name no command, or have too few or too many words for it.
     Bad,
-    /// There was not the memory to read them.
+    /// An allocation failed.
     NoMemory,
 }
 

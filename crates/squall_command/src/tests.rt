@@ -8,7 +8,7 @@ struct Case {
     asks: &'static str,
 }
 
-static CASES: [Case; 15] = [
+static CASES: [Case; 18] = [
     Case {
         words: &["squall"],
         asks: "run -",
@@ -47,6 +47,18 @@ static CASES: [Case; 15] = [
     },
     Case {
         words: &["squall", "check", "--help"],
+        asks: "help",
+    },
+    Case {
+        words: &["squall", "help", "run"],
+        asks: "help",
+    },
+    Case {
+        words: &["squall", "--version"],
+        asks: "help",
+    },
+    Case {
+        words: &["squall", "-V"],
         asks: "help",
     },
     Case {
@@ -93,23 +105,43 @@ fn words(rt: HostRuntime) -> Result<(), Fail> {
     Ok(())
 }
 
-/// Help names each command with its files.
+/// Help names each command with its files, and that of `run` each line of a scenario.
 #[test]
-fn help_names_the_commands(rt: HostRuntime) -> Result<(), Fail> {
+fn help_names_commands_and_lines(rt: HostRuntime) -> Result<(), Fail> {
     let help = message(rt.alloc(), &["squall", "--help"])?;
-    assert!(rt; help.as_str().contains("check"));
-    assert!(rt; help.as_str().contains("course"));
-    assert!(rt; help.as_str().contains("run"));
-    let help = message(rt.alloc(), &["squall", "course", "--help"])?;
+    for command in ["check", "course", "run", "squall help run"] {
+        assert!(rt; help.as_str().contains(command));
+    }
+    let help = message(rt.alloc(), &["squall", "help", "course"])?;
     assert!(rt; help.as_str().contains("<OLD> <NEW>"));
+    let help = message(rt.alloc(), &["squall", "run", "--help"])?;
+    for line in [
+        "  old JSON ",
+        "  new JSON ",
+        "  loaded N S P LO HI ",
+        "  done N S P ",
+        "  opened N S ",
+        "  route K ",
+        "  board ",
+        "  # ",
+    ] {
+        assert!(rt; help.as_str().contains(line));
+    }
+    assert!(rt; help.as_str().lines().count() <= 24);
     Ok(())
 }
 
-/// A fault is told, and words that are taken bring no text.
+/// The version stands on a line, a fault is told, and words that are taken bring no text.
 #[test]
 fn messages(rt: HostRuntime) -> Result<(), Fail> {
+    let version = message(rt.alloc(), &["squall", "--version"])?;
+    assert_eq!(rt; version.as_str(), "squall 0.1.0\n");
     let fault = message(rt.alloc(), &["squall", "race"])?;
-    assert!(rt; fault.as_str().starts_with("error:"));
+    assert!(rt;
+        fault
+            .as_str()
+            .starts_with("error: unrecognized subcommand 'race'\n")
+    );
     assert!(rt; message(rt.alloc(), &["squall", "run", "x"])?.is_empty());
     Ok(())
 }

@@ -29,7 +29,7 @@ pub trait Source {
     /// How many reads found the end of the input: they had room, and gave no byte.
     ghost ends: { Self → ℕ };
 
-    /// Reads some bytes into the front of `buf`, and returns how many. None with room in `buf` is
+    /// Reads some bytes into the beginning of `buf`, and returns how many. None with room in `buf` is
     /// the end of the input. After a fault no byte is lost, and each call counts.
     fn read(&mut self, buf: &mut [u8]) -> Result<usize, DeviceFault>
         ensures bound { IfOk result (λ n. n ≤ length buf.new) }
@@ -50,7 +50,7 @@ pub trait Sink {
     /// How many writes had bytes to take, and took none.
     ghost empties: { Self → ℕ };
 
-    /// Takes some bytes from the front of `buf`, and returns how many. After a fault none was
+    /// Takes some bytes from the beginning of `buf`, and returns how many. After a fault none was
     /// taken, and each call counts.
     fn write(&mut self, buf: &[u8]) -> Result<usize, DeviceFault>
         ensures bound { IfOk result (λ n. n ≤ length buf.now) }

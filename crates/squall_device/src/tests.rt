@@ -4,19 +4,38 @@ use std::io;
 use std::io::{ErrorKind, Read, Write};
 use std::test::Fail;
 
-/// Fails at each call.
+/// Gives and takes one byte at each second call, and is interrupted at each other one.
 #[derive(Drop)]
-struct Broken;
+struct Fitful {
+    calls: u32,
+}
 
-impl Read for Broken {
-    fn read(&mut self, _buf: &mut [u8]) -> io::Result<usize> {
-        Err(io::Error::from(ErrorKind::Interrupted))
+impl Fitful {
+    fn turn(&mut self) -> io::Result<usize> {
+        self.calls = self.calls.saturating_add(1);
+        if self.calls % 2 == 0 {
+            Ok(1)
+        } else {
+            Err(io::Error::from(ErrorKind::Interrupted))
+        }
     }
 }
 
-impl Write for Broken {
-    fn write(&mut self, _buf: &[u8]) -> io::Result<usize> {
-        Err(io::Error::from(ErrorKind::Other))
+impl Read for Fitful {
+    fn read(&mut self, buf: &mut [u8]) -> io::Result<usize> {
+        match buf {
+            [] => Ok(0),
+            [..] => self.turn(),
+        }
+    }
+}
+
+impl Write for Fitful {
+    fn write(&mut self, buf: &[u8]) -> io::Result<usize> {
+        match buf {
+            [] => Ok(0),
+            [..] => self.turn(),
+        }
     }
 
     fn flush(&mut self) -> io::Result<()> {
@@ -61,15 +80,22 @@ fn reads_pass_through(rt: HostRuntime) {
     assert_eq!(rt; reader.faults, 0);
 }
 
+/// Each call is one call of what lies below, and answers as that does: none is tried again, and none
+/// faults by itself.
 #[test]
-fn each_error_is_a_fault(rt: HostRuntime) {
+fn one_call_is_one_call_below(rt: HostRuntime) {
     let mut room = [0u8; 2];
-    let mut reader = Reader::new(Broken);
-    assert_eq!(rt; first_read(&mut reader, &mut room), Err(DeviceFault));
-    assert_eq!(rt; reader.faults, 1);
-    let mut writer = Writer::new(Broken);
-    assert_eq!(rt; first_write(&mut writer, b"ab"), Err(DeviceFault));
-    assert_eq!(rt; writer.faults, 1);
+    let mut reader = Reader::new(Fitful { calls: 0 });
+    let mut writer = Writer::new(Fitful { calls: 0 });
+    for call in 1..=1000u32 {
+        let wanted = if call % 2 == 0 { Ok(1) } else { Err(DeviceFault) };
+        assert_eq!(rt; first_read(&mut reader, &mut room), wanted);
+        assert_eq!(rt; reader.inner.calls, call);
+        assert_eq!(rt; first_write(&mut writer, b"ab"), wanted);
+        assert_eq!(rt; writer.inner.calls, call);
+    }
+    assert_eq!(rt; reader.faults, 500);
+    assert_eq!(rt; writer.faults, 500);
 }
 
 #[test]

@@ -10,23 +10,23 @@ use Rattle.squall_lines.specs.declared.Ended.TheVariants.{Fine, Refused}
 use Rattle.squall_lines.specs.declared.RunFault.{RunFault}
 use Rattle.squall_lines.specs.declared.RunFault.TheVariants.{Read, Write, NoMemory}
 use Rattle.squall_lines.specs.Lines.{lines_of, whole_lines, IsOneLine}
-use Rattle.squall_lines.specs.Script.{Script, Says, silence, after, text_of, IsOutcome}
+use Rattle.squall_lines.specs.Script.{Script, TakesLine, silence, after, text_of, IsOutcome}
 use Rattle.squall_lines.specs.Running.{Running, Finishes, StopsBy}
 use Rattle.squall_lines.proofs.LineLemmas.{lines_of-last, whole_lines-none}
 use Rattle.std.proofs.KnownBytes.{Appends-nil, Appends-trans, Consumes-nil, Consumes-trans, Consumes-kept}
-use Rattle.squall_lines.proofs.RunningLemmas.{Running-refl, Running-more, Running-trans, Begins-now, Finishes-later, StopsBy-later, text_of-running, all_said}
+use Rattle.squall_lines.proofs.RunningLemmas.{Running-refl, Running-more, Running-trans, Begins-now, Finishes-later, StopsBy-later, text_of-running, all_answered}
 
 -- the one answer to a last line
 module _ (now next : List (List ℕ) → Script) (line text : List ℕ) (one : IsOneLine line) (some : 0 < length line) where
-  pub text_of-last : (flow : Flow) → next [] ≡ silence → Says flow text now next line → text_of (now (lines_of line)) ≡ text
-  text_of-last On quiet says = ap (λ w. text_of (now w)) (lines_of-last line one some) ∙ ap text_of (says []) ∙ ap (λ w. text_of (after (text ∷ []) w)) quiet ∙ append-nil text
-  text_of-last End quiet says = ap (λ w. text_of (now w)) (lines_of-last line one some) ∙ ap text_of (says []) ∙ append-nil text
+  pub text_of-last : (flow : Flow) → next [] ≡ silence → TakesLine flow text now next line → text_of (now (lines_of line)) ≡ text
+  text_of-last On quiet taken = ap (λ w. text_of (now w)) (lines_of-last line one some) ∙ ap text_of (taken []) ∙ ap (λ w. text_of (after (text ∷ []) w)) quiet ∙ append-nil text
+  text_of-last End quiet taken = ap (λ w. text_of (now w)) (lines_of-last line one some) ∙ ap text_of (taken []) ∙ append-nil text
 
-  pub refused-on : next [] ≡ silence → Says On text now next line → (now (lines_of line)).refused ≡ false
-  refused-on quiet says = ap (λ w. (now w).refused) (lines_of-last line one some) ∙ ap (λ (w : Script). w.refused) (says []) ∙ ap (λ (w : Script). w.refused) quiet
+  pub refused-on : next [] ≡ silence → TakesLine On text now next line → (now (lines_of line)).refused ≡ false
+  refused-on quiet taken = ap (λ w. (now w).refused) (lines_of-last line one some) ∙ ap (λ (w : Script). w.refused) (taken []) ∙ ap (λ (w : Script). w.refused) quiet
 
-  pub refused-end : Says End text now next line → (now (lines_of line)).refused ≡ true
-  refused-end says = ap (λ w. (now w).refused) (lines_of-last line one some) ∙ ap (λ (w : Script). w.refused) (says [])
+  pub refused-end : TakesLine End text now next line → (now (lines_of line)).refused ≡ true
+  refused-end taken = ap (λ w. (now w).refused) (lines_of-last line one some) ∙ ap (λ (w : Script). w.refused) (taken [])
 
 -- what holds between two reads
 pub record Reading (first now : List (List ℕ) → Script) (reader reader' writer writer' : Option (List ℕ)) (carry : List ℕ) : Type 0 where
@@ -57,31 +57,31 @@ module _ (first now next : List (List ℕ) → Script) (reader reader' reader'' 
   EndsAs-read quiet keeps =
       let u = r.running in
       let whole : whole_lines r.read ≡ u.whole = ap whole_lines u.split ∙ u.closed carry ∙ ap (λ w. u.whole ++ w) (whole_lines-none carry r.one) ∙ append-nil u.whole in
-      let said : first (lines_of u.whole) ≡ after u.done silence = ap (λ w. first (lines_of w)) (sym (append-nil u.whole)) ∙ u.said [] ∙ ap (after u.done) quiet in (
+      let answered : first (lines_of u.whole) ≡ after u.done silence = ap (λ w. first (lines_of w)) (sym (append-nil u.whole)) ∙ u.answered [] ∙ ap (after u.done) quiet in (
         r.read,
         r.sent,
         Consumes-kept reader reader' reader'' r.read r.consumes keeps,
         r.appends,
-        u.written ∙ ap concat (sym (append-nil u.done)) ∙ sym (ap text_of said) ∙ ap (λ w. text_of (first (lines_of w))) (sym whole),
+        u.written ∙ ap concat (sym (append-nil u.done)) ∙ sym (ap text_of answered) ∙ ap (λ w. text_of (first (lines_of w))) (sym whole),
       )
 
   pub EndsAs-now : now [] ≡ silence → EndsAs (Err Read) first reader reader' writer writer'
   EndsAs-now quiet =
       let u = r.running in
       let whole : whole_lines r.read ≡ u.whole = ap whole_lines u.split ∙ u.closed carry ∙ ap (λ w. u.whole ++ w) (whole_lines-none carry r.one) ∙ append-nil u.whole in
-      let said : first (lines_of u.whole) ≡ after u.done silence = ap (λ w. first (lines_of w)) (sym (append-nil u.whole)) ∙ u.said [] ∙ ap (after u.done) quiet in (
+      let answered : first (lines_of u.whole) ≡ after u.done silence = ap (λ w. first (lines_of w)) (sym (append-nil u.whole)) ∙ u.answered [] ∙ ap (after u.done) quiet in (
         r.read,
         r.sent,
         r.consumes,
         r.appends,
-        u.written ∙ ap concat (sym (append-nil u.done)) ∙ sym (ap text_of said) ∙ ap (λ w. text_of (first (lines_of w))) (sym whole),
+        u.written ∙ ap concat (sym (append-nil u.done)) ∙ sym (ap text_of answered) ∙ ap (λ w. text_of (first (lines_of w))) (sym whole),
       )
 
   -- what was left is answered
   outcome : (result : Result Ended RunFault) (more : List ℕ) → (result ≡ Err Read → ⊥) → IsOutcome result now carry more → IsOutcome result first r.read (r.sent ++ more)
   outcome (Ok Fine) more not_read o = (
     ap (λ w. r.sent ++ w) o.0 ∙ sym (text_of-running first now next r.read carry r.sent r.running),
-    ap (λ (w : Script). w.refused) (all_said first now next r.read carry r.sent r.running) ∙ o.1,
+    ap (λ (w : Script). w.refused) (all_answered first now next r.read carry r.sent r.running) ∙ o.1,
   )
   outcome (Ok Refused) more not_read o = Finishes-later first now next r.read carry r.sent more r.running o
   outcome (Err Read) more not_read o = absurd (not_read refl)

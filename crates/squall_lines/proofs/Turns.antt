@@ -4,7 +4,7 @@ use Rattle.std.proofs.lemmas.List.{append_assoc, append-nil, take-append-drop}
 use Rattle.std.specs.Io.KnownBytes.{Appends}
 use Rattle.squall_lines.specs.declared.Flow.TheVariants.{On, End}
 use Rattle.squall_lines.specs.Lines.{lines_of, IsOneLine}
-use Rattle.squall_lines.specs.Script.{Script, Says, text_of, IsFront}
+use Rattle.squall_lines.specs.Script.{Script, TakesLine, text_of, IsPrefix}
 use Rattle.squall_lines.specs.Running.{Running, Begins, Finishes}
 use Rattle.squall_lines.proofs.LineLemmas.{lines_of-last, IsOneLine-append}
 use Rattle.std.proofs.KnownBytes.{Appends-trans}
@@ -19,25 +19,25 @@ pub record Turn (first now : List (List ℕ) → Script) (old new : Option (List
   pub begun : Begins first read sent
   pub one : IsOneLine carry
 
--- what was sent and what is to go out begin all that is said
+-- what was sent and what is to go out begin all that is answered
 pub record Told (first : List (List ℕ) → Script) (old new : Option (List ℕ)) (read out : List ℕ) : Type 0 where
   pub sent : List ℕ
   pub appends : Appends old new sent
-  pub front : IsFront (sent ++ out) (text_of (first (lines_of read)))
+  pub prefix : IsPrefix (sent ++ out) (text_of (first (lines_of read)))
 
--- what was sent and what is to go out are all that is said, and the last line was bad
+-- what was sent and what is to go out are all that is answered, and the last line was bad
 pub record Over (first : List (List ℕ) → Script) (old new : Option (List ℕ)) (read out : List ℕ) : Type 0 where
   pub sent : List ℕ
   pub appends : Appends old new sent
   pub finishes : Finishes first read (sent ++ out)
 
 module _ (first now next : List (List ℕ) → Script) (old new last : Option (List ℕ)) (read : List ℕ) where
-  pub Turn-line : (carry rest line others out text out' carry' : List ℕ) → Turn first now old new read (carry ++ rest) out carry → rest ≡ line ++ 10 ∷ others → IsOneLine line → Says On text now next (carry ++ line) → out' ≡ out ++ text → carry' ≡ [] → Turn first next old new read (carry' ++ others) out' carry'
-  Turn-line carry rest line others out text out' carry' t is one says out_is carry_is = record {
+  pub Turn-line : (carry rest line others out text out' carry' : List ℕ) → Turn first now old new read (carry ++ rest) out carry → rest ≡ line ++ 10 ∷ others → IsOneLine line → TakesLine On text now next (carry ++ line) → out' ≡ out ++ text → carry' ≡ [] → Turn first next old new read (carry' ++ others) out' carry'
+  Turn-line carry rest line others out text out' carry' t is one taken out_is carry_is = record {
     sent = t.sent;
     appends = t.appends;
     running =
-        let step = Running-line now next next (carry ++ line) others text (IsOneLine-append carry line t.one one) says in
+        let step = Running-line now next next (carry ++ line) others text (IsOneLine-append carry line t.one one) taken in
         let left_is : carry ++ rest ≡ (carry ++ line) ++ 10 ∷ others = ap (λ w. carry ++ w) is ∙ sym (append_assoc carry line (10 ∷ others)) in
         let both = Running-trans first now next read (carry ++ rest) others (t.sent ++ out) text t.running (subst (λ w. Running now next w others text) (sym left_is) step) in
         let texts : (t.sent ++ out) ++ text ≡ t.sent ++ out' = append_assoc t.sent out text ∙ ap (λ w. t.sent ++ w) (sym out_is) in
@@ -59,43 +59,43 @@ module _ (first now next : List (List ℕ) → Script) (old new last : Option (L
   Told-turn left carry out t = record {
     sent = t.sent;
     appends = t.appends;
-    front = (text_of (now (lines_of left)), text_of-running first now next read left (t.sent ++ out) t.running);
+    prefix = (text_of (now (lines_of left)), text_of-running first now next read left (t.sent ++ out) t.running);
   }
 
   pub Told-over : (out : List ℕ) → Over first old new read out → Told first old new read out
   Told-over out t = record {
     sent = t.sent;
     appends = t.appends;
-    front = ([], sym t.finishes.0 ∙ sym (append-nil (t.sent ++ out)));
+    prefix = ([], sym t.finishes.0 ∙ sym (append-nil (t.sent ++ out)));
   }
 
   -- a flush that failed
-  pub Told-fails : (out : List ℕ) (n : ℕ) → Told first old new read out → Appends new last (take n out) → (sent : List ℕ) × Appends old last sent × IsFront sent (text_of (first (lines_of read)))
+  pub Told-fails : (out : List ℕ) (n : ℕ) → Told first old new read out → Appends new last (take n out) → (sent : List ℕ) × Appends old last sent × IsPrefix sent (text_of (first (lines_of read)))
   Told-fails out n t sends = (
     t.sent ++ take n out,
     Appends-trans old new last t.sent (take n out) t.appends sends,
     (
-      drop n out ++ t.front.0,
-      t.front.1
-          ∙ ap (λ w. (t.sent ++ w) ++ t.front.0) (sym (take-append-drop n out))
-          ∙ ap (λ w. w ++ t.front.0) (sym (append_assoc t.sent (take n out) (drop n out)))
-          ∙ append_assoc (t.sent ++ take n out) (drop n out) t.front.0,
+      drop n out ++ t.prefix.0,
+      t.prefix.1
+          ∙ ap (λ w. (t.sent ++ w) ++ t.prefix.0) (sym (take-append-drop n out))
+          ∙ ap (λ w. w ++ t.prefix.0) (sym (append_assoc t.sent (take n out) (drop n out)))
+          ∙ append_assoc (t.sent ++ take n out) (drop n out) t.prefix.0,
     ),
   )
 
   -- a bad line with its LF
-  pub Over-line : (carry rest line others out text out' : List ℕ) → Turn first now old new read (carry ++ rest) out carry → rest ≡ line ++ 10 ∷ others → IsOneLine line → Says End text now next (carry ++ line) → out' ≡ out ++ text → Over first old new read out'
-  Over-line carry rest line others out text out' t is one says out_is =
-      let step = Finishes-line now next next (carry ++ line) others text (IsOneLine-append carry line t.one one) says in
+  pub Over-line : (carry rest line others out text out' : List ℕ) → Turn first now old new read (carry ++ rest) out carry → rest ≡ line ++ 10 ∷ others → IsOneLine line → TakesLine End text now next (carry ++ line) → out' ≡ out ++ text → Over first old new read out'
+  Over-line carry rest line others out text out' t is one taken out_is =
+      let step = Finishes-line now next next (carry ++ line) others text (IsOneLine-append carry line t.one one) taken in
       let left_is : carry ++ rest ≡ (carry ++ line) ++ 10 ∷ others = ap (λ w. carry ++ w) is ∙ sym (append_assoc carry line (10 ∷ others)) in
       let both = Finishes-later first now next read (carry ++ rest) (t.sent ++ out) text t.running (subst (λ w. Finishes now w text) (sym left_is) step) in
       let texts : (t.sent ++ out) ++ text ≡ t.sent ++ out' = append_assoc t.sent out text ∙ ap (λ w. t.sent ++ w) (sym out_is) in
       record { sent = t.sent; appends = t.appends; finishes = subst (Finishes first read) texts both }
 
   -- a bad last line
-  pub Over-last : (left carry line out text out' : List ℕ) → Turn first now old new read left out carry → left ≡ line → IsOneLine line → 0 < length line → Says End text now next line → out' ≡ out ++ text → Over first old new read out'
-  Over-last left carry line out text out' t is one some says out_is =
-      let step = Finishes-last now next next line text (lines_of-last line one some) says in
+  pub Over-last : (left carry line out text out' : List ℕ) → Turn first now old new read left out carry → left ≡ line → IsOneLine line → 0 < length line → TakesLine End text now next line → out' ≡ out ++ text → Over first old new read out'
+  Over-last left carry line out text out' t is one some taken out_is =
+      let step = Finishes-last now next next line text (lines_of-last line one some) taken in
       let both = Finishes-later first now next read left (t.sent ++ out) text t.running (subst (λ w. Finishes now w text) (sym is) step) in
       let texts : (t.sent ++ out) ++ text ≡ t.sent ++ out' = append_assoc t.sent out text ∙ ap (λ w. t.sent ++ w) (sym out_is) in
       record { sent = t.sent; appends = t.appends; finishes = subst (Finishes first read) texts both }

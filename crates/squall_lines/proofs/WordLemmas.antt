@@ -55,7 +55,7 @@ words_of-after_blanks-by : (b : ℕ) (bs : List ℕ) (v : Bool) → is_blank b �
 words_of-after_blanks-by b bs true e h = ap words_of (from_letter-blank b bs e) ∙ h ∙ sym (words_of-blank b bs e)
 words_of-after_blanks-by b bs false e h = ap words_of (from_letter-letter b bs e)
 
--- blanks at the front are no word
+-- blanks at the beginning are no word
 pub words_of-after_blanks : (line : List ℕ) → words_of (from_first is_letter line) ≡ words_of line
 words_of-after_blanks [] = refl
 words_of-after_blanks (b ∷ bs) = words_of-after_blanks-by b bs (is_blank b) refl (words_of-after_blanks bs)

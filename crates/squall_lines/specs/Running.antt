@@ -1,4 +1,5 @@
--- How far a run has come, for the functions that make up a run.
+-- No definition of what is promised: what the loops of a run keep, for the contracts of the functions inside
+-- this crate that make up a run.
 use Rattle.std.specs.Prelude.{◌≡◌, ℕ, List, ◌++◌, take, true, Result, Ok, Err}
 use Rattle.std.specs.List.{concat}
 use Rattle.squall_lines.specs.declared.Flow.{Flow}
@@ -6,7 +7,7 @@ use Rattle.squall_lines.specs.declared.Flow.TheVariants.{On, End}
 use Rattle.squall_lines.specs.declared.RunFault.{RunFault}
 use Rattle.squall_lines.specs.declared.RunFault.TheVariants.{Read, Write, NoMemory}
 use Rattle.squall_lines.specs.Lines.{lines_of, whole_lines, IsOneLine}
-use Rattle.squall_lines.specs.Script.{Script, after, text_of, IsFront}
+use Rattle.squall_lines.specs.Script.{Script, after, text_of, IsPrefix}
 
 -- Of the bytes read all but those left are answered, by the text. The first machine stood at the
 -- start; the machine now answers what is left, and whatever follows it.
@@ -17,22 +18,22 @@ pub record Running (first now : List (List ℕ) → Script) (read left text : Li
   pub split : read ≡ whole ++ left
   -- the answered bytes end where a line ends
   pub closed : (tail : List ℕ) → whole_lines (whole ++ tail) ≡ whole ++ whole_lines tail
-  pub said : (tail : List ℕ) → first (lines_of (whole ++ tail)) ≡ after done (now (lines_of tail))
+  pub answered : (tail : List ℕ) → first (lines_of (whole ++ tail)) ≡ after done (now (lines_of tail))
   pub written : text ≡ concat done
 
 -- the text is the answers to some first lines, each whole
 abbrev pub Begins : (List (List ℕ) → Script) → List ℕ → List ℕ → Type 0
-Begins says read text = (n : ℕ) × (text ≡ concat (take n (says (lines_of read)).answers))
+Begins script read text = (n : ℕ) × (text ≡ concat (take n (script (lines_of read)).answers))
 
--- the text is all that is said, and a line was bad
+-- the text is all the answers, and a line was bad
 abbrev pub Finishes : (List (List ℕ) → Script) → List ℕ → List ℕ → Type 0
-Finishes says read text = (text ≡ text_of (says (lines_of read))) × ((says (lines_of read)).refused ≡ true)
+Finishes script read text = (text ≡ text_of (script (lines_of read))) × ((script (lines_of read)).refused ≡ true)
 
--- what was sent of what is said when a fault came, none of which is a read's
+-- what was sent of the answers when a fault came, none of which is a read's
 abbrev pub StopsBy : RunFault → (List (List ℕ) → Script) → List ℕ → List ℕ → Type 0
-StopsBy Read says read sent = ⊥
-StopsBy Write says read sent = IsFront sent (text_of (says (lines_of read)))
-StopsBy NoMemory says read sent = Begins says read sent
+StopsBy Read script read sent = ⊥
+StopsBy Write script read sent = IsPrefix sent (text_of (script (lines_of read)))
+StopsBy NoMemory script read sent = Begins script read sent
 
 -- What a block of input came to, for an old machine and the new one that it left: it goes on with
 -- the start of a line left, or a bad line was answered, or a fault came.

@@ -1,4 +1,4 @@
--- What the machine of the tests says.
+-- Of the tests alone: no promise cites it. What the machine of the tests answers.
 use Rattle.std.specs.Prelude.{ℕ, List, [], ◌∷◌, ◌++◌, length, slice_index, codes, decimal, nat_lt, ◌==◌, if◌then◌else◌}
 use Rattle.squall_lines.specs.Script.{Script, silence, after, last_word}
 
@@ -8,8 +8,8 @@ sample_answer [] = []
 sample_answer (b ∷ bs) = decimal (length (b ∷ bs)) ++ 10 ∷ []
 
 -- a line that begins with `x` is bad, and so is one that is too long
-abbrev pub sample_says : List (List ℕ) → Script
-sample_says [] = silence
-sample_says (line ∷ lines) =
+abbrev pub sample_script : List (List ℕ) → Script
+sample_script [] = silence
+sample_script (line ∷ lines) =
     if nat_lt 1048577 (length line) then last_word (codes "long\n")
-    else (if slice_index line 0 == 120 then last_word (codes "no\n") else after (sample_answer line ∷ []) (sample_says lines))
+    else (if slice_index line 0 == 120 then last_word (codes "no\n") else after (sample_answer line ∷ []) (sample_script lines))

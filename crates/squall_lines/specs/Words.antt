@@ -29,7 +29,7 @@ only_word (word ∷ []) = Some word
 only_word [] = None
 only_word (word ∷ other ∷ words) = None
 
--- the first word: past the blanks at the front, what stands before the next blank
+-- the first word: past the blanks before it, what stands before the next blank
 abbrev pub first_word : List ℕ → List ℕ
 first_word line = before_first is_blank (from_first is_letter line)
 

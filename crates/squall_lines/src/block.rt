@@ -3,7 +3,7 @@ ghost use Rattle.std.specs.Prelude.{◌≡◌, ◌≢◌, ◌⊎◌, ℕ, List, 
 ghost use Rattle.std.specs.Io.KnownBytes.{Appends};
 ghost use Rattle.squall_device.specs.Counts.{IsCountedSince};
 ghost use Rattle.squall_lines.specs.Lines.{IsOneLine};
-ghost use Rattle.squall_lines.specs.Script.{Says, IsOutcome};
+ghost use Rattle.squall_lines.specs.Script.{TakesLine, IsOutcome};
 ghost use Rattle.squall_lines.specs.Running.{TookBlock};
 
 use super::machine::Machine;
@@ -20,8 +20,8 @@ fn take_line<M: Machine>(
     out: &mut String,
     piece: &[u8],
 ) -> Result<Flow, AllocError>
-    ensures said { IfOk result (λ flow. (text : List ℕ) × (string_bytes out.new ≡ string_bytes out.old ++ text)
-        × Says flow text (M.says machine.old) (M.says machine.new) (carry.old.items ++ piece.now)) }
+    ensures answered { IfOk result (λ flow. (text : List ℕ) × (string_bytes out.new ≡ string_bytes out.old ++ text)
+        × TakesLine flow text (M.script machine.old) (M.script machine.new) (carry.old.items ++ piece.now)) }
     ensures carry { OnOk result (carry.new.items ≡ []) }
 {
     if carry.is_empty() {
@@ -55,7 +55,7 @@ pub fn take_block<M: Machine, K: Sink>(
     requires carry { IsOneLine carry.old.items }
     requires out { string_bytes out.old ≡ [] }
     ensures took { (sent : List ℕ) × Appends (K.contents writer.old) (K.contents writer.new) sent
-        × TookBlock result (M.says machine.old) (M.says machine.new) (carry.old.items ++ block.now) carry.new.items sent }
+        × TookBlock result (M.script machine.old) (M.script machine.new) (carry.old.items ++ block.now) carry.new.items sent }
     ensures out { OnOk result (string_bytes out.new ≡ []) }
     ensures uncounted { OnOk result ((K.faults writer.new ≡ K.faults writer.old)
         × (K.empties writer.new ≡ K.empties writer.old)) }
@@ -97,7 +97,7 @@ pub fn take_last<M: Machine, K: Sink>(
     requires carry { IsOneLine carry.now }
     requires out { string_bytes out.old ≡ [] }
     ensures took { (sent : List ℕ) × Appends (K.contents writer.old) (K.contents writer.new) sent
-        × IsOutcome result (M.says machine.old) carry.now sent }
+        × IsOutcome result (M.script machine.old) carry.now sent }
     ensures only { result ≢ Err RunFault.Read }
     ensures counted { result ≡ Err RunFault.Write → IsCountedSince (K.faults writer.old) (K.faults writer.new)
         ⊎ IsCountedSince (K.empties writer.old) (K.empties writer.new) }

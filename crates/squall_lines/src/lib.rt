@@ -1,25 +1,28 @@
-//! Runs a machine over the lines of a source, and writes what the machine says to a sink.
+//! Runs a machine over the lines of a source, and writes what the machine answers to a sink.
 //!
 //! The input is read in blocks. A line that lies whole in a block is given to the machine where it
 //! stands, and only a line that a block cuts is copied. The answers to a block are written before
 //! the next block is read, so that a reader who waits for an answer gets it.
 #![tactic(auto)]
 
-ghost use Rattle.std.specs.Prelude.{◌≡◌, ◌⊎◌, ℕ, List, ◌+◌, ◌≤◌, length, Ok, Err, IfOk};
+ghost use Rattle.std.specs.Prelude.{◌≡◌, ◌⊎◌, ℕ, List, ◌+◌, ◌≤◌, Ok, Err};
 ghost use Rattle.std.specs.Io.KnownBytes.{Appends, Consumes, IsAtEnd};
 ghost use Rattle.squall_device.specs.Counts.{IsCountedSince, times_more};
-ghost use Rattle.squall_lines.specs.Script.{IsOutcome};
+ghost use Rattle.squall_lines.specs.Script.{IsOutcome, read_limit};
 
 use squall_device::{Sink, Source};
 use std::alloc::{AllocError, Global};
 use thiserror::Error;
 
 mod block;
+mod input;
 pub mod machine;
 mod output;
 pub mod words;
 
 use block::{take_block, take_last};
+use input::block_room;
+pub use input::read_all;
 use machine::Machine;
 pub use output::send_text;
 
@@ -50,7 +53,7 @@ pub enum RunFault {
     /// A write failed, or took no byte.
     #[error("write failed")]
     Write,
-    /// There was no memory for a line or an answer.
+    /// An allocation failed.
     #[error("no memory")]
     NoMemory,
 }
@@ -81,22 +84,15 @@ pub const LONGEST_LINE: usize = 1048576;
 /// and goes to the machine at once.
 pub const LONGEST_PIECE: usize = LONGEST_LINE + 1;
 
-/// Room for a block of `size` bytes.
-fn block_room(alloc: Global, size: usize) -> Result<Vec<u8>, AllocError>
-    ensures { IfOk result (λ room. length room.items ≡ size) }
-{
-    vec![in alloc; 0u8; size]
-}
-
-/// Runs the machine over the lines of what `reader` gives, and writes what it says to `writer`.
+/// Runs the machine over the lines of what `reader` gives, and writes what it answers to `writer`.
 /// How far the answers have got is known by what the run returns:
 ///
 /// - `Fine`: the input was read to its end, and each line is answered.
 /// - `Refused`: a line was bad. It is answered, as is each line before it, and no read follows.
 /// - `Read`: a read failed, or `MOST_READS` reads came to no end. The lines that were read with
 ///   their LF are answered.
-/// - `Write`: a write failed, or took no byte. The writer has a front of the answers.
-/// - `NoMemory`: some first lines are answered, each whole.
+/// - `Write`: a write failed, or took no byte. The writer has a prefix of the answers.
+/// - `NoMemory`: an allocation failed. Some first lines are answered, each whole.
 ///
 /// Nothing is known of the machine afterwards.
 pub fn run<S: Source, K: Sink, M: Machine>(
@@ -105,11 +101,11 @@ pub fn run<S: Source, K: Sink, M: Machine>(
     reader: &mut S,
     writer: &mut K,
 ) -> Result<Ended, RunFault>
-    // What is written is what the machine says to the lines of what was read.
+    // What is written is what the machine answers to the lines of what was read.
     ensures text { (read : List ℕ) × (written : List ℕ)
         × Consumes (S.remaining reader.old) (S.remaining reader.new) read
         × Appends (K.contents writer.old) (K.contents writer.new) written
-        × IsOutcome result (M.says machine.old) read written }
+        × IsOutcome result (M.script machine.old) read written }
 
     // `Fine` comes only where a read found the end, and then nothing is left.
     ensures fine { result ≡ Ok Ended.Fine → IsCountedSince (S.ends reader.old) (S.ends reader.new) }
@@ -117,11 +113,12 @@ pub fn run<S: Source, K: Sink, M: Machine>(
 
     // When each fault comes.
     ensures unread { result ≡ Err RunFault.Read → IsCountedSince (S.faults reader.old) (S.faults reader.new)
-        ⊎ (times_more MOST_READS (S.reads reader.old) ≤ S.reads reader.new) }
+        ⊎ (times_more read_limit (S.reads reader.old) ≤ S.reads reader.new) }
     ensures unwritten { result ≡ Err RunFault.Write → IsCountedSince (K.faults writer.old) (K.faults writer.new)
         ⊎ IsCountedSince (K.empties writer.old) (K.empties writer.new) }
 
-    ensures reads { S.reads reader.new ≤ S.reads reader.old + MOST_READS }
+    // Whatever the source does, so many reads are made at most.
+    ensures reads { S.reads reader.new ≤ S.reads reader.old + read_limit }
 {
     let mut room = block_room(alloc, BLOCK_SIZE)?;
     let block = room.as_mut_slice();

@@ -2,25 +2,25 @@
 ghost use Rattle.std.specs.Prelude.{◌≡◌, ℕ, List, [], ◌++◌, ◌<◌, length, IfOk, string_bytes};
 ghost use Rattle.squall_lines.specs.declared.Flow.TheVariants.{End};
 ghost use Rattle.squall_lines.specs.declared.TheConstants.{LONGEST_PIECE};
-ghost use Rattle.squall_lines.specs.Script.{Script, Says, silence};
+ghost use Rattle.squall_lines.specs.Script.{Script, TakesLine, silence};
 
 use super::Flow;
 use std::alloc::AllocError;
 
 /// What answers lines, one after another, until one is bad.
 pub trait Machine {
-    /// What it will say to any lines that come from here on.
-    ghost says: { Self → List (List ℕ) → Script };
+    /// What it answers to any lines that come from here on.
+    ghost script: { Self → List (List ℕ) → Script };
 
     /// Takes the next line, which stands here without its LF, and adds the answer to `out`.
-    /// `End` says that the line was bad; a line of more than `LONGEST_PIECE` bytes always is.
+    /// `End` tells that the line was bad; a line of more than `LONGEST_PIECE` bytes always is.
     ///
-    /// After want of memory nothing is known of the machine or of `out`.
+    /// After a failed allocation nothing is known of the machine or of `out`.
     fn take(&mut self, line: &[u8], out: &mut String) -> Result<Flow, AllocError>
-        ensures said { IfOk result (λ flow. (text : List ℕ) × (string_bytes out.new ≡ string_bytes out.old ++ text)
-            × Says flow text (says self.old) (says self.new) line.now) }
+        ensures answered { IfOk result (λ flow. (text : List ℕ) × (string_bytes out.new ≡ string_bytes out.old ++ text)
+            × TakesLine flow text (script self.old) (script self.new) line.now) }
         ensures long { LONGEST_PIECE < length line.now → IfOk result (λ flow. flow ≡ End) };
 
-    /// Where no line comes it says nothing.
-    ghost says_nothing: { (s : Self) → says s [] ≡ silence };
+    /// Where no line comes it answers nothing.
+    ghost silent_at_first: { (s : Self) → script s [] ≡ silence };
 }

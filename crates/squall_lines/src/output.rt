@@ -6,7 +6,7 @@ ghost use Rattle.squall_device.specs.Counts.{IsCountedSince};
 use super::RunFault;
 use squall_device::{DeviceFault, Sink};
 
-/// Writes all the bytes. After a fault the writer took a front of them, and it failed or took no
+/// Writes all the bytes. After a fault the writer took a prefix of them, and it failed or took no
 /// byte of some.
 fn send<K: Sink>(writer: &mut K, bytes: &[u8]) -> Result<(), DeviceFault>
     ensures ok { OnOk result (Appends (K.contents writer.old) (K.contents writer.new) bytes.now) }
@@ -27,7 +27,7 @@ fn send<K: Sink>(writer: &mut K, bytes: &[u8]) -> Result<(), DeviceFault>
     Ok(())
 }
 
-/// Writes the text. After a fault, which is always `Write`, the writer took a front of the text,
+/// Writes the text. After a fault, which is always `Write`, the writer took a prefix of the text,
 /// and it failed or took no byte of some.
 pub fn send_text<K: Sink>(writer: &mut K, text: &str) -> Result<(), RunFault>
     ensures ok { OnOk result (Appends (K.contents writer.old) (K.contents writer.new) text.now) }
@@ -44,7 +44,7 @@ pub fn send_text<K: Sink>(writer: &mut K, text: &str) -> Result<(), RunFault>
     }
 }
 
-/// Writes the text, and empties it. After a fault the writer took a front of the text.
+/// Writes the text, and empties it. After a fault the writer took a prefix of the text.
 pub fn flush<K: Sink>(writer: &mut K, out: &mut String) -> Result<(), RunFault>
     ensures ok { OnOk result (Appends (K.contents writer.old) (K.contents writer.new) (string_bytes out.old)) }
     ensures empty { OnOk result (string_bytes out.new ≡ []) }

@@ -1,7 +1,7 @@
 // Runs over readers and writers that give and take one byte, or fail, and the words of lines.
 use super::machine::Machine;
 use super::words::{after_blanks, next_word, only_word, without_cr};
-use super::{Ended, Flow, LONGEST_PIECE, RunFault, run};
+use super::{Ended, Flow, LONGEST_PIECE, RunFault, read_all, run};
 use squall_device::{Reader, Writer};
 use std::alloc::{AllocError, Global};
 use std::io;
@@ -13,12 +13,12 @@ use std::test::Fail;
 struct Sample;
 
 impl Machine for Sample {
-    ghost use Rattle.squall_lines.specs.Sample.{sample_says};
+    ghost use Rattle.squall_lines.specs.Sample.{sample_script};
     ghost use Rattle.std.specs.Prelude.{refl};
 
-    ghost says = { λ s lines. sample_says lines };
+    ghost script = { λ s lines. sample_script lines };
 
-    ghost says_nothing = { λ s. refl };
+    ghost silent_at_first = { λ s. refl };
 
     fn take(&mut self, line: &[u8], out: &mut String) -> Result<Flow, AllocError> {
         if line.len() > LONGEST_PIECE {
@@ -59,6 +59,32 @@ impl Read for Drip<'_> {
                 Ok(1)
             }
             _ => Ok(0),
+        }
+    }
+}
+
+/// Gives one byte per read, lines of nine letters, and ends after some reads.
+#[derive(Drop)]
+struct Letters {
+    reads_left: u32,
+}
+
+impl Read for Letters {
+    fn read(&mut self, buf: &mut [u8]) -> io::Result<usize> {
+        if self.reads_left == 0 {
+            return Ok(0);
+        }
+        self.reads_left -= 1;
+        match buf {
+            [place, ..] => {
+                *place = if self.reads_left % 10 == 0 {
+                    b'\n'
+                } else {
+                    b'a'
+                };
+                Ok(1)
+            }
+            [] => Ok(0),
         }
     }
 }
@@ -213,16 +239,35 @@ fn long_lines(rt: HostRuntime) -> Result<(), Fail> {
     Ok(())
 }
 
+/// Neither many reads nor many lines end a run before the input ends.
 #[test]
-fn many_lines(rt: HostRuntime) -> Result<(), Fail> {
-    let text = repeated(rt.alloc(), b"a\n", 100000)?;
-    let wanted = repeated(rt.alloc(), b"1\n", 100000)?;
+fn a_million_short_reads(rt: HostRuntime) -> Result<(), Fail> {
+    let mut reader = Reader::new(Letters {
+        reads_left: 1_200_000,
+    });
+    let wanted = repeated(rt.alloc(), b"9\n", 120_000)?;
     let mut out = Vec::new(rt.alloc());
-    assert_eq!(rt;
-        run_text(rt.alloc(), text.as_slice(), &mut out),
-        Ok(Ended::Fine)
-    );
+    let mut writer = Writer::new(&mut out);
+    let result = run(rt.alloc(), &mut Sample, &mut reader, &mut writer);
+    assert_eq!(rt; result, Ok(Ended::Fine));
     assert!(rt; out == wanted);
+    Ok(())
+}
+
+#[test]
+fn whole_inputs(rt: HostRuntime) -> Result<(), Fail> {
+    for reads_left in [13u64, 14] {
+        let mut reader = Reader::new(Drip {
+            bytes: INPUT.as_slice(),
+            reads_left,
+        });
+        match read_all(rt.alloc(), &mut reader) {
+            Ok(text) => assert!(rt; reads_left == 14 && text.as_slice() == INPUT.as_slice()),
+            Err(fault) => assert!(rt; reads_left == 13 && fault == RunFault::Read),
+        }
+    }
+    let text = read_all(rt.alloc(), &mut Reader::new(b"".as_slice()));
+    assert!(rt; text.is_ok_and(|text| text.is_empty()));
     Ok(())
 }
 

@@ -11,7 +11,7 @@ fn is_blank(b: u8) -> bool
     b == b' ' || b == b'\t'
 }
 
-/// The line without the blanks at its front.
+/// The line without the blanks before its first word.
 pub fn after_blanks(line: &[u8]) -> &[u8]
     ensures { result.now ≡ from_first is_letter line.now }
 {
@@ -37,7 +37,7 @@ fn split_word(line: &[u8]) -> (&[u8], &[u8])
 }
 
 /// The first word, and the rest right after it, which is empty or begins with a blank.
-/// `None` says that the line has no word.
+/// `None` where the line has no word.
 pub fn next_word(line: &[u8]) -> Option<(&[u8], &[u8])>
     ensures words { IfSome result (λ r. words_of line.now ≡ r.0.now ∷ words_of r.1.now) }
     ensures word { IfSome result (λ r. r.0.now ≡ first_word line.now) }
@@ -54,7 +54,7 @@ pub fn next_word(line: &[u8]) -> Option<(&[u8], &[u8])>
     Some(split_word(rest))
 }
 
-/// The word of a line that has one word. `None` says that it has no word or several.
+/// The word of a line that has one word. `None` where it has no word or several.
 pub fn only_word(line: &[u8]) -> Option<&[u8]>
     ensures { option_map (λ word. word.now) result ≡ only_word (words_of line.now) }
 {
@@ -70,7 +70,7 @@ pub fn without_cr(line: &[u8]) -> &[u8]
     ensures { result.now ≡ without_cr line.now }
 {
     match line {
-        [front @ .., b'\r'] => front,
+        [text @ .., b'\r'] => text,
         _ => line,
     }
 }

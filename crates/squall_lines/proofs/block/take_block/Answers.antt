@@ -8,42 +8,42 @@ use Rattle.squall_lines.proofs.block.take_block.Goals as goal
 
 pub returns-in_err-flush-in-End-clause-took : goal.returns-in_err-flush-in-End-clause-took
 returns-in_err-flush-in-End-clause-took g c =
-    let first = g.M.Machine.says c.args.machine.now in
-    let now = g.M.Machine.says c.loop-line.machine in
+    let first = g.M.Machine.script c.args.machine.now in
+    let now = g.M.Machine.script c.loop-line.machine in
     let old = g.K.Sink.contents c.args.writer.now in
     let new = g.K.Sink.contents c.loop-line.writer in
     let read = c.args.carry.now.items ++ c.args.block.now in
-    let said = c.in_ok-take_line.ensures.said in
-    let says = rw c.in-End.is at said.2 in
-    let over = Over-line first now now old new new read c.loop-line.carry.items c.loop-line.rest.now c.in-Some.line.now c.in-Some.others.now (string_bytes c.loop-line.out) said.0 (string_bytes c.take_line.new.out) c.loop-line.invariant.turn c.in-Some.ensures.line.0 c.in-Some.ensures.line.1 says said.1 in
+    let answered = c.in_ok-take_line.ensures.answered in
+    let taken = rw c.in-End.is at answered.2 in
+    let over = Over-line first now now old new new read c.loop-line.carry.items c.loop-line.rest.now c.in-Some.line.now c.in-Some.others.now (string_bytes c.loop-line.out) answered.0 (string_bytes c.take_line.new.out) c.loop-line.invariant.turn c.in-Some.ensures.line.0 c.in-Some.ensures.line.1 taken answered.1 in
     let p = err_from_is_err_and c.from_residual-in_err-flush-in-End.result c.from_residual-in_err-flush-in-End.ensures.1 in
     let e = c.in_err-flush-in-End.ensures.err in
     rw (p.1, p.2, c.in_err-flush-in-End.ensures.only) (Told-fails first now now old new (g.K.Sink.contents c.flush.new.writer) read (string_bytes c.take_line.new.out) e.0 (Told-over first now now old new new read (string_bytes c.take_line.new.out) over) e.1)
 
 pub returns-in-End-clause-took : goal.returns-in-End-clause-took
 returns-in-End-clause-took g c =
-    let first = g.M.Machine.says c.args.machine.now in
-    let now = g.M.Machine.says c.loop-line.machine in
+    let first = g.M.Machine.script c.args.machine.now in
+    let now = g.M.Machine.script c.loop-line.machine in
     let old = g.K.Sink.contents c.args.writer.now in
     let new = g.K.Sink.contents c.loop-line.writer in
     let read = c.args.carry.now.items ++ c.args.block.now in
-    let said = c.in_ok-take_line.ensures.said in
-    let says = rw c.in-End.is at said.2 in
-    let over = Over-line first now now old new new read c.loop-line.carry.items c.loop-line.rest.now c.in-Some.line.now c.in-Some.others.now (string_bytes c.loop-line.out) said.0 (string_bytes c.take_line.new.out) c.loop-line.invariant.turn c.in-Some.ensures.line.0 c.in-Some.ensures.line.1 says said.1 in
+    let answered = c.in_ok-take_line.ensures.answered in
+    let taken = rw c.in-End.is at answered.2 in
+    let over = Over-line first now now old new new read c.loop-line.carry.items c.loop-line.rest.now c.in-Some.line.now c.in-Some.others.now (string_bytes c.loop-line.out) answered.0 (string_bytes c.take_line.new.out) c.loop-line.invariant.turn c.in-Some.ensures.line.0 c.in-Some.ensures.line.1 taken answered.1 in
     Over-flush first now now old new (g.K.Sink.contents c.flush.new.writer) read (string_bytes c.take_line.new.out) over c.in_ok-flush-in-End.ensures.ok
 
 pub loop-line-preserved-in-Continue-branch-4 : goal.loop-line-preserved-in-Continue-branch-4
 loop-line-preserved-in-Continue-branch-4 g c =
-    let first = g.M.Machine.says c.args.machine.now in
-    let now = g.M.Machine.says c.loop-line.machine in
-    let next = g.M.Machine.says c.take_line.new.machine in
+    let first = g.M.Machine.script c.args.machine.now in
+    let now = g.M.Machine.script c.loop-line.machine in
+    let next = g.M.Machine.script c.take_line.new.machine in
     let old = g.K.Sink.contents c.args.writer.now in
     let new = g.K.Sink.contents c.loop-line.writer in
     let read = c.args.carry.now.items ++ c.args.block.now in
     let i = c.loop-line.invariant in
-    let said = c.in_ok-take_line.ensures.said in
-    let says = rw c.in-On.is at said.2 in
-    let turn = Turn-line first now next old new new read c.loop-line.carry.items c.loop-line.rest.now c.in-Some.line.now c.in-Some.others.now (string_bytes c.loop-line.out) said.0 (string_bytes c.take_line.new.out) c.take_line.new.carry.items i.turn c.in-Some.ensures.line.0 c.in-Some.ensures.line.1 says said.1 c.in_ok-take_line.ensures.carry in
+    let answered = c.in_ok-take_line.ensures.answered in
+    let taken = rw c.in-On.is at answered.2 in
+    let turn = Turn-line first now next old new new read c.loop-line.carry.items c.loop-line.rest.now c.in-Some.line.now c.in-Some.others.now (string_bytes c.loop-line.out) answered.0 (string_bytes c.take_line.new.out) c.take_line.new.carry.items i.turn c.in-Some.ensures.line.0 c.in-Some.ensures.line.1 taken answered.1 c.in_ok-take_line.ensures.carry in
     let left = c.take_line.new.carry.items ++ c.in-Some.others.now in
     let f = c.in_ok-flush-in-On.ensures in
     record {
@@ -54,16 +54,16 @@ loop-line-preserved-in-Continue-branch-4 g c =
 
 pub returns-in_err-flush-in-On-clause-took : goal.returns-in_err-flush-in-On-clause-took
 returns-in_err-flush-in-On-clause-took g c =
-    let first = g.M.Machine.says c.args.machine.now in
-    let now = g.M.Machine.says c.loop-line.machine in
-    let next = g.M.Machine.says c.take_line.new.machine in
+    let first = g.M.Machine.script c.args.machine.now in
+    let now = g.M.Machine.script c.loop-line.machine in
+    let next = g.M.Machine.script c.take_line.new.machine in
     let old = g.K.Sink.contents c.args.writer.now in
     let new = g.K.Sink.contents c.loop-line.writer in
     let read = c.args.carry.now.items ++ c.args.block.now in
     let i = c.loop-line.invariant in
-    let said = c.in_ok-take_line.ensures.said in
-    let says = rw c.in-On.is at said.2 in
-    let turn = Turn-line first now next old new new read c.loop-line.carry.items c.loop-line.rest.now c.in-Some.line.now c.in-Some.others.now (string_bytes c.loop-line.out) said.0 (string_bytes c.take_line.new.out) c.take_line.new.carry.items i.turn c.in-Some.ensures.line.0 c.in-Some.ensures.line.1 says said.1 c.in_ok-take_line.ensures.carry in
+    let answered = c.in_ok-take_line.ensures.answered in
+    let taken = rw c.in-On.is at answered.2 in
+    let turn = Turn-line first now next old new new read c.loop-line.carry.items c.loop-line.rest.now c.in-Some.line.now c.in-Some.others.now (string_bytes c.loop-line.out) answered.0 (string_bytes c.take_line.new.out) c.take_line.new.carry.items i.turn c.in-Some.ensures.line.0 c.in-Some.ensures.line.1 taken answered.1 c.in_ok-take_line.ensures.carry in
     let left = c.take_line.new.carry.items ++ c.in-Some.others.now in
     let p = err_from_is_err_and c.from_residual-in_err-flush-in-On.result c.from_residual-in_err-flush-in-On.ensures.1 in
     let e = c.in_err-flush-in-On.ensures.err in
@@ -71,25 +71,25 @@ returns-in_err-flush-in-On-clause-took g c =
 
 pub loop-line-preserved : goal.loop-line-preserved
 loop-line-preserved g c =
-    let first = g.M.Machine.says c.args.machine.now in
-    let now = g.M.Machine.says c.loop-line.machine in
-    let next = g.M.Machine.says c.take_line.new.machine in
+    let first = g.M.Machine.script c.args.machine.now in
+    let now = g.M.Machine.script c.loop-line.machine in
+    let next = g.M.Machine.script c.take_line.new.machine in
     let old = g.K.Sink.contents c.args.writer.now in
     let new = g.K.Sink.contents c.loop-line.writer in
     let read = c.args.carry.now.items ++ c.args.block.now in
     let i = c.loop-line.invariant in
-    let said = c.in_ok-take_line.ensures.said in
-    let says = rw c.in-On.is at said.2 in
+    let answered = c.in_ok-take_line.ensures.answered in
+    let taken = rw c.in-On.is at answered.2 in
     record {
-      turn = Turn-line first now next old new new read c.loop-line.carry.items c.loop-line.rest.now c.in-Some.line.now c.in-Some.others.now (string_bytes c.loop-line.out) said.0 (string_bytes c.take_line.new.out) c.take_line.new.carry.items i.turn c.in-Some.ensures.line.0 c.in-Some.ensures.line.1 says said.1 c.in_ok-take_line.ensures.carry;
+      turn = Turn-line first now next old new new read c.loop-line.carry.items c.loop-line.rest.now c.in-Some.line.now c.in-Some.others.now (string_bytes c.loop-line.out) answered.0 (string_bytes c.take_line.new.out) c.take_line.new.carry.items i.turn c.in-Some.ensures.line.0 c.in-Some.ensures.line.1 taken answered.1 c.in_ok-take_line.ensures.carry;
       faults = i.faults;
       empties = i.empties;
     }
 
 pub returns-in_err-flush-clause-took : goal.returns-in_err-flush-clause-took
 returns-in_err-flush-clause-took g c =
-    let first = g.M.Machine.says c.args.machine.now in
-    let now = g.M.Machine.says c.loop-line.machine in
+    let first = g.M.Machine.script c.args.machine.now in
+    let now = g.M.Machine.script c.loop-line.machine in
     let old = g.K.Sink.contents c.args.writer.now in
     let new = g.K.Sink.contents c.loop-line.writer in
     let read = c.args.carry.now.items ++ c.args.block.now in
@@ -97,18 +97,18 @@ returns-in_err-flush-clause-took g c =
     let t = c.loop-line.invariant.turn in
     let one : IsOneLine left = IsOneLine-append c.loop-line.carry.items c.loop-line.rest.now t.one c.in_default.ensures.none in
     let line_is = c.in_ok-extend_from_slice.ensures.items in
-    let said = c.in_ok-take.ensures.said in
+    let answered = c.in_ok-take.ensures.answered in
     let long : 1048577 < length c.as_slice.result.now = omega arith in
-    let says = rw (c.in_ok-take.ensures.long long) at said.2 in
-    let over = Over-last first now now old new new read left c.loop-line.carry.items c.as_slice.result.now (string_bytes c.loop-line.out) said.0 (string_bytes c.take.new.out) t (sym line_is ∙ sym c.as_slice.ensures.value) (subst IsOneLine (sym line_is ∙ sym c.as_slice.ensures.value) one) (omega arith) says said.1 in
+    let taken = rw (c.in_ok-take.ensures.long long) at answered.2 in
+    let over = Over-last first now now old new new read left c.loop-line.carry.items c.as_slice.result.now (string_bytes c.loop-line.out) answered.0 (string_bytes c.take.new.out) t (sym line_is ∙ sym c.as_slice.ensures.value) (subst IsOneLine (sym line_is ∙ sym c.as_slice.ensures.value) one) (omega arith) taken answered.1 in
     let p = err_from_is_err_and c.from_residual-in_err-flush.result c.from_residual-in_err-flush.ensures.1 in
     let e = c.in_err-flush.ensures.err in
     rw (p.1, p.2, c.in_err-flush.ensures.only) (Told-fails first now now old new (g.K.Sink.contents c.flush-then-len-gt-LONGEST_PIECE.new.writer) read (string_bytes c.take.new.out) e.0 (Told-over first now now old new new read (string_bytes c.take.new.out) over) e.1)
 
 pub returns-then-len-gt-LONGEST_PIECE-clause-took : goal.returns-then-len-gt-LONGEST_PIECE-clause-took
 returns-then-len-gt-LONGEST_PIECE-clause-took g c =
-    let first = g.M.Machine.says c.args.machine.now in
-    let now = g.M.Machine.says c.loop-line.machine in
+    let first = g.M.Machine.script c.args.machine.now in
+    let now = g.M.Machine.script c.loop-line.machine in
     let old = g.K.Sink.contents c.args.writer.now in
     let new = g.K.Sink.contents c.loop-line.writer in
     let read = c.args.carry.now.items ++ c.args.block.now in
@@ -116,16 +116,16 @@ returns-then-len-gt-LONGEST_PIECE-clause-took g c =
     let t = c.loop-line.invariant.turn in
     let one : IsOneLine left = IsOneLine-append c.loop-line.carry.items c.loop-line.rest.now t.one c.in_default.ensures.none in
     let line_is = c.in_ok-extend_from_slice.ensures.items in
-    let said = c.in_ok-take.ensures.said in
+    let answered = c.in_ok-take.ensures.answered in
     let long : 1048577 < length c.as_slice.result.now = omega arith in
-    let says = rw (c.in_ok-take.ensures.long long) at said.2 in
-    let over = Over-last first now now old new new read left c.loop-line.carry.items c.as_slice.result.now (string_bytes c.loop-line.out) said.0 (string_bytes c.take.new.out) t (sym line_is ∙ sym c.as_slice.ensures.value) (subst IsOneLine (sym line_is ∙ sym c.as_slice.ensures.value) one) (omega arith) says said.1 in
+    let taken = rw (c.in_ok-take.ensures.long long) at answered.2 in
+    let over = Over-last first now now old new new read left c.loop-line.carry.items c.as_slice.result.now (string_bytes c.loop-line.out) answered.0 (string_bytes c.take.new.out) t (sym line_is ∙ sym c.as_slice.ensures.value) (subst IsOneLine (sym line_is ∙ sym c.as_slice.ensures.value) one) (omega arith) taken answered.1 in
     Over-flush first now now old new (g.K.Sink.contents c.flush-then-len-gt-LONGEST_PIECE.new.writer) read (string_bytes c.take.new.out) over c.in_ok-flush.ensures.ok
 
 pub returns-in_err-flush-2-clause-took : goal.returns-in_err-flush-2-clause-took
 returns-in_err-flush-2-clause-took g c =
-    let first = g.M.Machine.says c.args.machine.now in
-    let now = g.M.Machine.says c.loop-line.machine in
+    let first = g.M.Machine.script c.args.machine.now in
+    let now = g.M.Machine.script c.loop-line.machine in
     let old = g.K.Sink.contents c.args.writer.now in
     let new = g.K.Sink.contents c.loop-line.writer in
     let read = c.args.carry.now.items ++ c.args.block.now in
@@ -139,8 +139,8 @@ returns-in_err-flush-2-clause-took g c =
 
 pub returns-clause-took : goal.returns-clause-took
 returns-clause-took g c =
-    let first = g.M.Machine.says c.args.machine.now in
-    let now = g.M.Machine.says c.loop-line.machine in
+    let first = g.M.Machine.script c.args.machine.now in
+    let now = g.M.Machine.script c.loop-line.machine in
     let old = g.K.Sink.contents c.args.writer.now in
     let new = g.K.Sink.contents c.loop-line.writer in
     let read = c.args.carry.now.items ++ c.args.block.now in
