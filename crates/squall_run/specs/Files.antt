@@ -1,7 +1,7 @@
 -- What is known of files and their bytes (this project's command line).
 use Rattle.std.specs.Prelude.{◌≡◌, ℕ, List, [], Bool, Option, None, Some, codes}
 use Rattle.std.specs.Str.{bytes_eq}
-use Rattle.squall_lines.specs.Script.{IsFront}
+use Rattle.squall_lines.specs.Script.{IsPrefix}
 
 -- what is known of a file of some name: nothing, or that there is none that can be opened, or that there is one, of these bytes
 pub data KnownFile : Type 0 where
@@ -19,7 +19,7 @@ Opens (Holds bytes) opened = opened ≡ Some (Some bytes)
 abbrev pub BeginsFile : KnownFile → List ℕ → Type 0
 BeginsFile Unknown read = Unit {0}
 BeginsFile Missing read = read ≡ []
-BeginsFile (Holds bytes) read = IsFront read bytes
+BeginsFile (Holds bytes) read = IsPrefix read bytes
 
 -- the bytes are all that the file has
 abbrev pub IsWholeFile : KnownFile → List ℕ → Type 0

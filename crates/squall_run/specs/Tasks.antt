@@ -1,14 +1,14 @@
 -- What the program does for a task, and its status (this project's command line).
 use Rattle.std.specs.Prelude.{◌≡◌, ◌⊎◌, ℕ, ◌<◌, ◌≤◌, List, [], Bool, true, false, ◌&&◌, ◌||◌, Option, Result, Ok, Err, MatchBool}
+use Rattle.std.specs.Io.{StartsWith}
 use Rattle.std.specs.Io.KnownBytes.{Appends, Consumes, IsAtEnd}
 use Rattle.squall_device.specs.Counts.{IsCountedSince, times_more}
-use Rattle.squall_lines.specs.Script.{IsOutcome}
+use Rattle.squall_lines.specs.Script.{IsOutcome, read_limit}
 use Rattle.squall_lines.specs.declared.Ended.{Ended}
 use Rattle.squall_lines.specs.declared.Ended.TheVariants.{Fine, Refused}
 use Rattle.squall_lines.specs.declared.RunFault.{RunFault}
 use Rattle.squall_lines.specs.declared.RunFault.TheVariants.{Read, Write, NoMemory}
-use Rattle.squall_lines.specs.declared.TheConstants.{MOST_READS}
-use Rattle.squall_command.specs.Line.{Job, check, course, run}
+use Rattle.squall_command.specs.Line.{Job, check, course, run, title}
 use Rattle.squall_run.specs.Text.{script_of}
 use Rattle.squall_run.specs.Output.{check_of, course_of, IsWritten}
 use Rattle.squall_run.specs.Files.{KnownFile, is_input, BeginsFile, IsWholeFile}
@@ -75,6 +75,13 @@ IsDone before after (check name) status = ChecksWith before after name status
 IsDone before after (course old new) status = ShowsCourseWith before after old new status
 IsDone before after (run name) status = RunsWith before after name status
 
+-- a text that begins with the program's name and version is written, as far as the outcome with that status says
+abbrev pub ShowsHelp : Option (List ℕ) → Option (List ℕ) → ℕ → Type 0
+ShowsHelp output output' status =
+    (outcome : Result Ended RunFault) × (text : List ℕ) × (written : List ℕ)
+    × (status ≡ status_of outcome) × StartsWith text title × Appends output output' written
+    × IsWritten outcome (record { text = text; refused = false }) written
+
 -- ---- when
 
 -- the task reads standard input, and ended so that it has read it to its end
@@ -91,7 +98,7 @@ NamesFile (run name) = is_input name ≡ false
 
 -- a read failed, or there were as many of them as a run makes at most; by the counts of faults and of reads, before and after
 abbrev pub InputFails : ℕ → ℕ → ℕ → ℕ → Type 0
-InputFails faults faults' reads reads' = IsCountedSince faults faults' ⊎ (times_more MOST_READS reads ≤ reads')
+InputFails faults faults' reads reads' = IsCountedSince faults faults' ⊎ (times_more read_limit reads ≤ reads')
 
 -- a write failed, or took no byte; by the counts of faults and of writes that took none, before and after
 abbrev pub OutputFails : ℕ → ℕ → ℕ → ℕ → Type 0

@@ -7,7 +7,7 @@ use squall_device::Sink;
 use squall_lines::{Ended, RunFault, send_text};
 
 /// The status of a task that was done.
-pub(crate) const FINE: u8 = 0;
+const FINE: u8 = 0;
 
 /// The status where the input was refused.
 const REFUSED: u8 = 1;

@@ -1,17 +1,17 @@
 //! What the words of a command line bring about.
 
-ghost use Rattle.std.specs.Prelude.{◌≡◌, ◌≢◌, ◌⊎◌, Err};
+ghost use Rattle.std.specs.Prelude.{◌≡◌, ◌≢◌, ◌⊎◌, ◌↔◌};
 ghost use Rattle.squall_device.specs.Counts.{IsCountedSince};
-ghost use Rattle.squall_command.specs.Line.{Job, words_of, Asks, Refuses};
-ghost use Rattle.squall_command.specs.declared.task.LineFault.TheVariants.{Bad};
-ghost use Rattle.squall_run.specs.Tasks.{bytes_of, IsDone, EndsInput, NamesFile, InputFails, OutputFails};
+ghost use Rattle.squall_command.specs.Line.{Job, words_of, Asks, AsksForHelp, IsFaulty};
+ghost use Rattle.squall_run.specs.Tasks.{bytes_of, IsDone, EndsInput, NamesFile, InputFails, OutputFails, ShowsHelp};
 
 use crate::files::Files;
-use crate::messages::{BAD_WORDS, FINE, say, tell_fault};
+use crate::messages::{BAD_WORDS, say, tell_fault, tell_outcome};
+use crate::output::write_output;
 use crate::tasks::do_task;
 use squall_command::{LineFault, command, message};
 use squall_device::{Sink, Source};
-use squall_lines::{RunFault, send_text};
+use squall_lines::{Ended, RunFault};
 use std::alloc::Global;
 
 /// Shows the help that the words ask for.
@@ -21,19 +21,21 @@ fn show_help<'a, O: Sink, E: Sink>(
     out: &mut O,
     err: &mut E,
 ) -> u8
-    ensures { result ≢ 2 }
+    ensures help { AsksForHelp (words_of words.entry.now) → ShowsHelp (O.contents out.old) (O.contents out.new) result }
+    ensures device { result ≡ 3 → OutputFails (O.faults out.old) (O.faults out.new) (O.empties out.old) (O.empties out.new) }
+    ensures taken { result ≢ 2 }
 {
     let Ok(help) = message(alloc, words) else {
         return tell_fault(RunFault::NoMemory, err);
     };
-    match send_text(out, help.as_str()) {
-        Ok(()) => FINE,
-        Err(fault) => tell_fault(fault, err),
-    }
+    tell_outcome(write_output(out, Ended::Fine, help.as_str()), err)
 }
 
 /// Shows what is wrong with the words.
-fn show_fault<'a, E: Sink>(alloc: Global, words: &'a [&'a str], err: &mut E) -> u8 {
+fn show_fault<'a, E: Sink>(alloc: Global, words: &'a [&'a str], err: &mut E) -> u8
+    ensures bad { result ≢ 4 → result ≡ 2 }
+    ensures device { result ≢ 3 }
+{
     match message(alloc, words) {
         Ok(text) => {
             say(err, text.as_str());
@@ -47,7 +49,7 @@ fn show_fault<'a, E: Sink>(alloc: Global, words: &'a [&'a str], err: &mut E) -> 
 /// with which the program is to end. A file named `-` is what `input` gives to its end. Files are
 /// opened and read in the order of the words.
 ///
-/// - 0: the task was done, or help was asked for and stands on `out`.
+/// - 0: the task was done, or help or the version was asked for and stands on `out`.
 /// - 1: the input was refused; `out` says why.
 /// - 2: the words ask for nothing that there is; `err` says why.
 /// - 3: a file can't be opened, a read failed or found no end, or a write failed or took nothing;
@@ -78,8 +80,11 @@ pub fn perform<'a, F: Files, S: Source, O: Sink, E: Sink>(
         ⊎ (OutputFails (O.faults out.old) (O.faults out.new) (O.empties out.old) (O.empties out.new)
         ⊎ ((job : Job) × Asks (words_of words.entry.now) job × NamesFile job)) }
 
-    // Words are bad only where they ask for no task.
-    ensures bad { result ≡ 2 → Refuses (words_of words.entry.now) Bad }
+    // Unless an allocation failed, status 2 comes exactly for bad words,
+    ensures bad { result ≢ 4 → (result ≡ 2) ↔ IsFaulty (words_of words.entry.now) }
+
+    // and help that is asked for is written, whole at status 0.
+    ensures help { AsksForHelp (words_of words.entry.now) → ShowsHelp (O.contents out.old) (O.contents out.new) result }
 {
     match command(alloc, words) {
         Ok(task) => do_task(alloc, &task, files, input, out, err),

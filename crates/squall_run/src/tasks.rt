@@ -1,6 +1,6 @@
 //! What the program does for a task.
 
-ghost use Rattle.std.specs.Prelude.{◌≡◌, ◌≢◌, ◌⊎◌, ℕ, List, true, false, IfErr, IfOk, IsOk, Err, None};
+ghost use Rattle.std.specs.Prelude.{◌≡◌, ◌≢◌, ◌⊎◌, ◌&&◌, ℕ, List, true, false, IfErr, IfOk, IsOk, Err, None};
 ghost use Rattle.std.specs.Io.KnownBytes.{Appends, Consumes, IsAtEnd};
 ghost use Rattle.squall_device.specs.Counts.{IsCountedSince};
 ghost use Rattle.squall_command.specs.Line.{course, job_seen};
@@ -10,12 +10,12 @@ ghost use Rattle.squall_run.specs.Sources.{IsAnswered, NeedsAll, IsDoneBy, IsUnr
 
 use crate::check::check_source;
 use crate::course::course_text;
-use crate::files::{Files, read_all};
+use crate::files::Files;
 use crate::messages::{tell_fault, tell_outcome, tell_unopened};
 use crate::run_text;
 use squall_command::Task;
 use squall_device::{Sink, Source};
-use squall_lines::{Ended, RunFault};
+use squall_lines::{Ended, RunFault, read_all};
 use std::alloc::Global;
 
 /// What is done with the bytes of one file.
@@ -103,6 +103,13 @@ fn read_named<F: Files, S: Source, E: Sink>(
     }
 }
 
+/// Whether both names are that of standard input.
+fn are_input(old: &str, new: &str) -> bool
+    ensures { result ≡ (is_input old.now && is_input new.now) }
+{
+    old == "-" && new == "-"
+}
+
 /// Shows the course between the plans of two files. Where both are standard input, the second one
 /// is empty.
 fn course_files<F: Files, S: Source, O: Sink, E: Sink>(
@@ -125,7 +132,7 @@ fn course_files<F: Files, S: Source, O: Sink, E: Sink>(
         Ok(text) => text,
         Err(status) => return status,
     };
-    if old == "-" && new == "-" {
+    if are_input(old, new) {
         return tell_outcome(course_text(alloc, &old_text, &[], out), err);
     }
     match read_named(alloc, new, files, input, err) {
