@@ -7,7 +7,7 @@ use Rattle.squall_lines.specs.declared.Flow.{Flow}
 use Rattle.squall_lines.specs.declared.Flow.TheVariants.{On, End}
 use Rattle.squall_run.specs.declared.reason.Reason.{Reason}
 use Rattle.squall_board.specs.Boards.{BoardValue}
-use Rattle.squall_lines.specs.Script.{Script, Says, after, last_word}
+use Rattle.squall_lines.specs.Script.{Script, TakesLine, after, last_word}
 use Rattle.squall_lines.specs.Words.{without_cr}
 use Rattle.squall_run.specs.State.{StageState, ScenarioState}
 use Rattle.squall_run.specs.Replies.{Reply, Goes, Ends, bad_line, at_next_line, follow, reply_to_line, script_from}
@@ -56,7 +56,7 @@ moved flow text w line s next t e h a =
 
 pub taken_line : (r : Result Flow AllocError) (o o1 w line : List ℕ) (l n : ℕ) (stage : StageState) (board : BoardValue) (s t : ScenarioState) → record { line = l; stage = stage; board = board } ≡ s → n ≡ min (l + 1) (2 ^ 64 - 1) → w ≡ without_cr line
     → IfOk r (λ flow. (text : List ℕ) × (o1 ≡ o ++ text) × IsAnswer flow text t n (reply_to_line (record { line = n; stage = stage; board = board }) w))
-    → IfOk r (λ flow. (text : List ℕ) × (o1 ≡ o ++ text) × Says flow text (script_from s) (script_from t) line)
+    → IfOk r (λ flow. (text : List ℕ) × (o1 ≡ o ++ text) × TakesLine flow text (script_from s) (script_from t) line)
 taken_line (Ok On) o o1 w line l n stage board s t view e h a =
     (a.0, a.1, said_on a.0 t (at_next_line s).line (reply_to_line (at_next_line s) (without_cr line)) (moved On a.0 w line s (record { line = n; stage = stage; board = board }) t (next_is l n stage board s view e) h a.2))
 taken_line (Ok End) o o1 w line l n stage board s t view e h a =

@@ -4,3 +4,4 @@ pub mod LineTexts
 pub mod Outputs
 pub mod Refusals
 pub mod Sent
+pub mod TaskLemmas

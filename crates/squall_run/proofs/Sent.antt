@@ -1,7 +1,7 @@
 -- What is written of a text that is ready.
 use Rattle.std.proofs.Common.{◌≡◌, ℕ, List, take, drop, sym, ◌∙◌}
 use Rattle.std.proofs.lemmas.List.{take-append-drop}
-use Rattle.squall_lines.specs.Script.{IsFront}
+use Rattle.squall_lines.specs.Script.{IsPrefix}
 use Rattle.squall_lines.specs.declared.Ended.{Ended}
 use Rattle.squall_lines.specs.declared.Ended.TheVariants.{Fine, Refused}
 use Rattle.squall_run.specs.Output.{Output, IsReady}
@@ -10,5 +10,5 @@ text_ready : (ended : Ended) (text : List ℕ) (said : Output) → IsReady ended
 text_ready Fine text said h = h.0
 text_ready Refused text said h = h.0
 
-pub front_ready : (ended : Ended) (text : List ℕ) (n : ℕ) (said : Output) → IsReady ended text said → IsFront (take n text) said.text
+pub front_ready : (ended : Ended) (text : List ℕ) (n : ℕ) (said : Output) → IsReady ended text said → IsPrefix (take n text) said.text
 front_ready ended text n said h = (drop n text, sym (text_ready ended text said h) ∙ sym (take-append-drop n text))

@@ -11,4 +11,6 @@ pub mod Replies
 pub mod Answered
 pub mod Text
 pub mod Output
+pub mod Files
 pub mod Tasks
+pub mod Sources

@@ -10,7 +10,7 @@ use Rattle.squall_plan.specs.Form.{plan_of_text}
 use Rattle.squall_course.specs.declared.moving.Move.{Move}
 use Rattle.squall_course.specs.Moves.{moves_of}
 use Rattle.squall_course.specs.Subplans.{subplan_count}
-use Rattle.squall_lines.specs.Script.{IsFront}
+use Rattle.squall_lines.specs.Script.{IsPrefix}
 use Rattle.squall_lines.specs.declared.Ended.{Ended}
 use Rattle.squall_lines.specs.declared.Ended.TheVariants.{Fine, Refused}
 use Rattle.squall_lines.specs.declared.RunFault.{RunFault}
@@ -84,5 +84,5 @@ IsReady Refused text output = (text ≡ output.text) × (output.refused ≡ true
 abbrev pub IsWritten : Result Ended RunFault → Output → List ℕ → Type 0
 IsWritten (Ok ended) output written = IsReady ended written output
 IsWritten (Err Read) output written = written ≡ []
-IsWritten (Err Write) output written = IsFront written output.text
+IsWritten (Err Write) output written = IsPrefix written output.text
 IsWritten (Err NoMemory) output written = written ≡ []

@@ -1,15 +1,15 @@
 //! What the command `check` writes of a plan.
 
-ghost use Rattle.std.specs.Prelude.{◌≡◌, ◌≢◌, ◌++◌, ◌⊎◌, [], ℕ, List, IfOk, OnOk, Err, string_bytes};
-ghost use Rattle.std.specs.Io.KnownBytes.{Appends, Consumes};
+ghost use Rattle.std.specs.Prelude.{◌≡◌, ◌≢◌, ◌++◌, ◌⊎◌, [], ℕ, List, IfOk, OnOk, IsOk, Err, string_bytes};
+ghost use Rattle.std.specs.Io.KnownBytes.{Appends, Consumes, IsAtEnd};
 ghost use Rattle.squall_device.specs.Counts.{IsCountedSince};
+ghost use Rattle.squall_run.specs.Tasks.{InputFails, OutputFails};
 ghost use Rattle.squall_run.specs.Output.{range_lines, refusal, check_of, IsReady, IsWritten};
 
-use crate::files::read_all;
 use crate::replies::read_plan;
 use crate::output::write_output;
 use squall_device::{Sink, Source};
-use squall_lines::{Ended, RunFault};
+use squall_lines::{Ended, RunFault, read_all};
 use squall_plan::{PlanFault, PlanRange};
 use std::alloc::{AllocError, Global};
 
@@ -82,10 +82,14 @@ pub(crate) fn check_source<S: Source, K: Sink>(
     source: &mut S,
     writer: &mut K,
 ) -> Result<Ended, RunFault>
-    ensures { (read : List ℕ) × (written : List ℕ)
+    ensures text { (read : List ℕ) × (written : List ℕ)
         × Consumes (S.remaining source.old) (S.remaining source.new) read
         × Appends (K.contents writer.old) (K.contents writer.new) written
         × IsWritten result (check_of read) written }
+    ensures ended { IsOk result → IsCountedSince (S.ends source.old) (S.ends source.new) }
+    ensures all { IsOk result → IsAtEnd (S.remaining source.new) }
+    ensures unread { result ≡ Err RunFault.Read → InputFails (S.faults source.old) (S.faults source.new) (S.reads source.old) (S.reads source.new) }
+    ensures unwritten { result ≡ Err RunFault.Write → OutputFails (K.faults writer.old) (K.faults writer.new) (K.empties writer.old) (K.empties writer.new) }
 {
     match read_all(alloc, source) {
         Ok(plan) => check_text(alloc, &plan, writer),

@@ -4,7 +4,7 @@
 ghost use Rattle.std.specs.Prelude.{◌≡◌, ◌⊎◌, ◌+◌, ◌≤◌, ℕ, List, Ok, Err};
 ghost use Rattle.std.specs.Io.KnownBytes.{Appends, Consumes, IsAtEnd};
 ghost use Rattle.squall_device.specs.Counts.{IsCountedSince, times_more};
-ghost use Rattle.squall_lines.specs.Script.{IsOutcome};
+ghost use Rattle.squall_lines.specs.Script.{IsOutcome, read_limit};
 ghost use Rattle.squall_run.specs.Text.{script_of};
 
 mod board_text;
@@ -13,11 +13,13 @@ mod command;
 mod course;
 mod files;
 mod laws;
+mod messages;
 mod output;
 mod program;
 mod reason;
 mod replies;
 mod scenario;
+mod tasks;
 
 pub use check::check_text;
 pub use course::course_text;
@@ -35,7 +37,7 @@ use std::alloc::Global;
 /// line, and writes the answers to `writer`. The answers to the lines that one read brings are
 /// written before the next read.
 ///
-/// `Fine` says that each line was answered, `Refused` that the last answer is a bad line. A fault
+/// `Fine` says that each line was answered, `Refused` that the last answer says why a line is bad. A fault
 /// stops the run: `Read` where a read failed, or more than [`MOST_READS`] would be needed, after
 /// the lines that came with their LF are answered; `Write` where a write failed or took no byte,
 /// after a prefix of the answers was written; `NoMemory` after some first lines are answered, each
@@ -57,11 +59,11 @@ pub fn run_text<S: Source, K: Sink>(
 
     // When each fault comes.
     ensures unread { result ≡ Err RunFault.Read → IsCountedSince (S.faults reader.old) (S.faults reader.new)
-        ⊎ (times_more MOST_READS (S.reads reader.old) ≤ S.reads reader.new) }
+        ⊎ (times_more read_limit (S.reads reader.old) ≤ S.reads reader.new) }
     ensures unwritten { result ≡ Err RunFault.Write → IsCountedSince (K.faults writer.old) (K.faults writer.new)
         ⊎ IsCountedSince (K.empties writer.old) (K.empties writer.new) }
 
-    ensures reads { S.reads reader.new ≤ S.reads reader.old + MOST_READS }
+    ensures reads { S.reads reader.new ≤ S.reads reader.old + read_limit }
 {
     let mut scenario = scenario::start(alloc);
     squall_lines::run(alloc, &mut scenario, reader, writer)

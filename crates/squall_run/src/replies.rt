@@ -189,9 +189,9 @@ fn answer(scenario: &mut Scenario, line: &[u8], out: &mut String) -> Result<Flow
 }
 
 impl Machine for Scenario {
-    ghost says = { script_from };
+    ghost script = { script_from };
 
-    ghost says_nothing = { λ s. refl };
+    ghost silent_at_first = { λ s. refl };
 
     fn take(&mut self, line: &[u8], out: &mut String) -> Result<Flow, AllocError> {
         self.line = self.line.saturating_add(1);

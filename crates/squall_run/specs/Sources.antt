@@ -1,0 +1,30 @@
+-- What is done with the bytes of one file, for the functions that do the tasks.
+use Rattle.std.specs.Prelude.{◌≡◌, ◌≢◌, ℕ, ◌<◌, List, Result, Ok, Err}
+use Rattle.squall_lines.specs.Script.{IsOutcome}
+use Rattle.squall_lines.specs.declared.Ended.{Ended}
+use Rattle.squall_lines.specs.declared.RunFault.{RunFault}
+use Rattle.squall_lines.specs.declared.RunFault.TheVariants.{Write}
+use Rattle.squall_run.specs.declared.tasks.Purpose.{Purpose}
+use Rattle.squall_run.specs.declared.tasks.Purpose.TheVariants as purpose
+use Rattle.squall_run.specs.Text.{script_of}
+use Rattle.squall_run.specs.Output.{check_of, IsWritten}
+use Rattle.squall_run.specs.Tasks.{status_of, Bytes, RunsWith, ChecksWith}
+
+-- what is written for the bytes that were read, by how it ended
+abbrev pub IsAnswered : Purpose → Result Ended RunFault → List ℕ → List ℕ → Type 0
+IsAnswered purpose.Check outcome read written = IsWritten outcome (check_of read) written
+IsAnswered purpose.Run outcome read written = IsOutcome outcome script_of read written
+
+-- the status comes only once all bytes are read
+abbrev pub NeedsAll : Purpose → ℕ → Type 0
+NeedsAll purpose.Check status = status < 2
+NeedsAll purpose.Run status = status ≡ 0
+
+-- the plan of the file is checked, or its scenario run
+abbrev pub IsDoneBy : Purpose → Bytes → Bytes → List ℕ → ℕ → Type 0
+IsDoneBy purpose.Check before after name status = ChecksWith before after name status
+IsDoneBy purpose.Run before after name status = RunsWith before after name status
+
+-- the status of a fault that comes before anything is written
+abbrev pub IsUnread : ℕ → Type 0
+IsUnread status = (fault : RunFault) × (fault ≢ Write) × (status ≡ status_of (Err fault))

@@ -1,0 +1,189 @@
+//! What the program does for a task.
+
+ghost use Rattle.std.specs.Prelude.{◌≡◌, ◌≢◌, ◌⊎◌, ◌&&◌, ℕ, List, true, false, IfErr, IfOk, IsOk, Err, None};
+ghost use Rattle.std.specs.Io.KnownBytes.{Appends, Consumes, IsAtEnd};
+ghost use Rattle.squall_device.specs.Counts.{IsCountedSince};
+ghost use Rattle.squall_command.specs.Line.{course, job_seen};
+ghost use Rattle.squall_run.specs.Files.{is_input};
+ghost use Rattle.squall_run.specs.Tasks.{status_of, bytes_of, ReadsFrom, ReadsAll, ShowsCourseWith, IsDone, EndsInput, NamesFile, InputFails, OutputFails};
+ghost use Rattle.squall_run.specs.Sources.{IsAnswered, NeedsAll, IsDoneBy, IsUnread};
+
+use crate::check::check_source;
+use crate::course::course_text;
+use crate::files::Files;
+use crate::messages::{tell_fault, tell_outcome, tell_unopened};
+use crate::run_text;
+use squall_command::Task;
+use squall_device::{Sink, Source};
+use squall_lines::{Ended, RunFault, read_all};
+use std::alloc::Global;
+
+/// What is done with the bytes of one file.
+#[derive(Clone, Copy)]
+pub(crate) enum Purpose {
+    /// Its plan is checked.
+    Check,
+    /// Its scenario is run.
+    Run,
+}
+
+/// Does it with what the source gives.
+fn answer_source<S: Source, O: Sink>(
+    alloc: Global,
+    purpose: Purpose,
+    source: &mut S,
+    out: &mut O,
+) -> Result<Ended, RunFault>
+    ensures text { (read : List ℕ) × (written : List ℕ) × Consumes (S.remaining source.old) (S.remaining source.new) read
+        × Appends (O.contents out.old) (O.contents out.new) written × IsAnswered purpose result read written }
+    ensures ended { NeedsAll purpose (status_of result) → IsCountedSince (S.ends source.old) (S.ends source.new) }
+    ensures all { NeedsAll purpose (status_of result) → IsAtEnd (S.remaining source.new) }
+    ensures device { status_of result ≡ 3 → InputFails (S.faults source.old) (S.faults source.new) (S.reads source.old) (S.reads source.new)
+        ⊎ OutputFails (O.faults out.old) (O.faults out.new) (O.empties out.old) (O.empties out.new) }
+{
+    match purpose {
+        Purpose::Check => check_source(alloc, source, out),
+        Purpose::Run => run_text(alloc, source, out),
+    }
+}
+
+/// Does it with the bytes of a file.
+fn answer_file<F: Files, S: Source, O: Sink, E: Sink>(
+    alloc: Global,
+    purpose: Purpose,
+    name: &str,
+    files: &mut F,
+    input: &mut S,
+    out: &mut O,
+    err: &mut E,
+) -> u8
+    ensures done { IsDoneBy purpose (bytes_of (F.known files.old) (S.remaining input.old) (O.contents out.old))
+        (bytes_of (F.known files.new) (S.remaining input.new) (O.contents out.new)) name.now result }
+    ensures ended { is_input name.now ≡ true → NeedsAll purpose result → IsCountedSince (S.ends input.old) (S.ends input.new) }
+    ensures device { result ≡ 3 → InputFails (S.faults input.old) (S.faults input.new) (S.reads input.old) (S.reads input.new)
+        ⊎ (OutputFails (O.faults out.old) (O.faults out.new) (O.empties out.old) (O.empties out.new) ⊎ (is_input name.now ≡ false)) }
+    ensures taken { result ≢ 2 }
+{
+    if name == "-" {
+        return tell_outcome(answer_source(alloc, purpose, input, out), err);
+    }
+    match files.open(name) {
+        Some(mut file) => tell_outcome(answer_source(alloc, purpose, &mut file, out), err),
+        None => tell_unopened(name, err),
+    }
+}
+
+/// The bytes of a file. Where they can't be had it says why, and gives the status.
+fn read_named<F: Files, S: Source, E: Sink>(
+    alloc: Global,
+    name: &str,
+    files: &mut F,
+    input: &mut S,
+    err: &mut E,
+) -> Result<Vec<u8>, u8>
+    ensures bytes { (read : List ℕ) × ReadsFrom (bytes_of (F.known files.old) (S.remaining input.old) None) (bytes_of (F.known files.new) (S.remaining input.new) None) name.now read
+        × IfOk result (λ bytes. (bytes.items ≡ read) × ReadsAll (bytes_of (F.known files.old) (S.remaining input.old) None) (bytes_of (F.known files.new) (S.remaining input.new) None) name.now read) }
+    ensures ended { is_input name.now ≡ true → IsOk result → IsCountedSince (S.ends input.old) (S.ends input.new) }
+    ensures kept { is_input name.now ≡ false → input.new ≡ input.old }
+    ensures files { F.known files.new ≡ F.known files.old }
+    ensures fault { IfErr result IsUnread }
+    ensures device { IfErr result (λ status. status ≡ 3 → InputFails (S.faults input.old) (S.faults input.new) (S.reads input.old) (S.reads input.new) ⊎ (is_input name.now ≡ false)) }
+{
+    let read = if name == "-" {
+        read_all(alloc, input)
+    } else {
+        match files.open(name) {
+            Some(mut file) => read_all(alloc, &mut file),
+            None => return Err(tell_unopened(name, err)),
+        }
+    };
+    match read {
+        Ok(bytes) => Ok(bytes),
+        Err(fault) => Err(tell_fault(fault, err)),
+    }
+}
+
+/// Whether both names are that of standard input.
+fn are_input(old: &str, new: &str) -> bool
+    ensures { result ≡ (is_input old.now && is_input new.now) }
+{
+    old == "-" && new == "-"
+}
+
+/// Shows the course between the plans of two files. Where both are standard input, the second one
+/// is empty.
+fn course_files<F: Files, S: Source, O: Sink, E: Sink>(
+    alloc: Global,
+    old: &str,
+    new: &str,
+    files: &mut F,
+    input: &mut S,
+    out: &mut O,
+    err: &mut E,
+) -> u8
+    ensures done { ShowsCourseWith (bytes_of (F.known files.old) (S.remaining input.old) (O.contents out.old))
+        (bytes_of (F.known files.new) (S.remaining input.new) (O.contents out.new)) old.now new.now result }
+    ensures ended { EndsInput (course old.now new.now) result → IsCountedSince (S.ends input.old) (S.ends input.new) }
+    ensures device { result ≡ 3 → InputFails (S.faults input.old) (S.faults input.new) (S.reads input.old) (S.reads input.new)
+        ⊎ (OutputFails (O.faults out.old) (O.faults out.new) (O.empties out.old) (O.empties out.new) ⊎ NamesFile (course old.now new.now)) }
+    ensures taken { result ≢ 2 }
+{
+    let old_text = match read_named(alloc, old, files, input, err) {
+        Ok(text) => text,
+        Err(status) => return status,
+    };
+    if are_input(old, new) {
+        return tell_outcome(course_text(alloc, &old_text, &[], out), err);
+    }
+    match read_named(alloc, new, files, input, err) {
+        Ok(new_text) => tell_outcome(course_text(alloc, &old_text, &new_text, out), err),
+        Err(status) => status,
+    }
+}
+
+/// Does the task.
+pub(crate) fn do_task<F: Files, S: Source, O: Sink, E: Sink>(
+    alloc: Global,
+    task: &Task,
+    files: &mut F,
+    input: &mut S,
+    out: &mut O,
+    err: &mut E,
+) -> u8
+    ensures done { IsDone (bytes_of (F.known files.old) (S.remaining input.old) (O.contents out.old))
+        (bytes_of (F.known files.new) (S.remaining input.new) (O.contents out.new)) (job_seen task.now) result }
+    ensures ended { EndsInput (job_seen task.now) result → IsCountedSince (S.ends input.old) (S.ends input.new) }
+    ensures device { result ≡ 3 → InputFails (S.faults input.old) (S.faults input.new) (S.reads input.old) (S.reads input.new)
+        ⊎ (OutputFails (O.faults out.old) (O.faults out.new) (O.empties out.old) (O.empties out.new) ⊎ NamesFile (job_seen task.now)) }
+    ensures taken { result ≢ 2 }
+{
+    match task {
+        Task::Check(plan) => answer_file(
+            alloc,
+            Purpose::Check,
+            plan.as_str(),
+            files,
+            input,
+            out,
+            err,
+        ),
+        Task::Course(old, new) => course_files(
+            alloc,
+            old.as_str(),
+            new.as_str(),
+            files,
+            input,
+            out,
+            err,
+        ),
+        Task::Run(file) => answer_file(
+            alloc,
+            Purpose::Run,
+            file.as_str(),
+            files,
+            input,
+            out,
+            err,
+        ),
+    }
+}
