@@ -1,8 +1,8 @@
-//! Tests of pieces.
+//! Tests of updates.
 
 ghost use Rattle.std.specs.Prelude.{true};
 
-use crate::{Entry, Flag, Join, JoinMap, Piece};
+use crate::{Flag, Join, JoinMap, Update, UpdateAt};
 use std::alloc::{AllocError, Global};
 use std::test::Fail;
 
@@ -10,38 +10,38 @@ use std::test::Fail;
 #[derive(Clone, Copy)]
 struct Raised;
 
-impl Piece<Flag> for Raised {
-    ghost whole = { λ _. true };
+impl Update<Flag> for Raised {
+    ghost value = { λ _. true };
 
     fn known(&self) {}
 
-    fn make(&self, _alloc: Global) -> Result<Flag, AllocError> {
+    fn build(&self, _alloc: Global) -> Result<Flag, AllocError> {
         Ok(Flag::new(true))
     }
 
-    fn put_in(&self, alloc: Global, target: &mut Flag) -> Result<(), AllocError> {
+    fn apply(&self, alloc: Global, target: &mut Flag) -> Result<(), AllocError> {
         target.join_in(alloc, &Flag::new(true))
     }
 }
 
 /// Each member, through the bound.
-fn put<V: Join, P: Piece<V>>(alloc: Global, piece: &P) -> Result<V, AllocError> {
-    piece.known();
-    let mut value = piece.make(alloc)?;
-    piece.put_in(alloc, &mut value)?;
+fn put<V: Join, U: Update<V>>(alloc: Global, update: &U) -> Result<V, AllocError> {
+    update.known();
+    let mut value = update.build(alloc)?;
+    update.apply(alloc, &mut value)?;
     Ok(value)
 }
 
 #[test]
-fn entries(rt: HostRuntime) -> Result<(), Fail> {
+fn updates_at_keys(rt: HostRuntime) -> Result<(), Fail> {
     let alloc = rt.alloc();
-    let raised: JoinMap<u32, Flag> = put(alloc, &Entry::new(7, Raised))?;
+    let raised: JoinMap<u32, Flag> = put(alloc, &UpdateAt::new(7, Raised))?;
     assert!(rt; raised.same(&JoinMap::single(alloc, 7, Flag::new(true))?));
     let mut map: JoinMap<u32, JoinMap<u32, Flag>> = JoinMap::empty(alloc);
     for key in [4, 2, 4] {
-        map.join_piece(alloc, key, &Entry::new(7, Raised))?;
+        map.update_at(alloc, key, &UpdateAt::new(7, Raised))?;
     }
-    map.join_piece(alloc, 2, &Entry::new(9, Raised))?;
+    map.update_at(alloc, 2, &UpdateAt::new(9, Raised))?;
     assert!(rt; map.len() == 2);
     assert!(rt; map.get(&4).is_some_and(|inner| inner.len() == 1));
     let inner = map.get(&2).ok_or("a map at 2")?;
