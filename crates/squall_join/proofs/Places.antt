@@ -10,6 +10,7 @@ use Rattle.std.specs.FinMap.Entries.{by_order, is_sorted, below_all, find}
 use Rattle.std.proofs.lemmas.Bool.{cases_lt}
 use Rattle.std.proofs.lemmas.Cmp.{tied_back, alike_right, tied_itself}
 use Rattle.std.proofs.lemmas.List.{set-get_or, get_or_default, drop_all, take_all}
+use Rattle.std.proofs.lemmas.Option.{same_Some}
 use Rattle.std.proofs.lemmas.Map.Lookups.{CmpEqualImpliesEq}
 use Rattle.squall_join.specs.Laws.{JoinLaws}
 use Rattle.squall_join.specs.Entries.{join_found, merge_step, merged, IsMap, IsAt, IsGap, CoversEntry}
@@ -28,9 +29,6 @@ elements_more P xs i x within is before here k d lt =
 
 not_None : {A : Type 0} (x : A) → Some x ≢ None
 not_None x e = cc
-
-same_Some : {A : Type 0} (x y : A) → Some x ≡ Some y → x ≡ y
-same_Some x y e = cc
 
 module _ {K : Type 0} {R : K → K → Ordering} (o : IsTotalOrder R) where
   -- the comparisons with k do not fall

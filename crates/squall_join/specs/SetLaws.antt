@@ -1,4 +1,4 @@
--- Sets of keys under their union (join semilattices: Shapiro et al. 2011).
+-- The laws of sets of keys under their union (join semilattices: Shapiro et al. 2011).
 use Rattle.std.specs.Prelude.{[], refl}
 use Rattle.squall_span.specs.Spans.{IsSet, union}
 use Rattle.squall_span.specs.SpanLaws.{set-union, union_assoc, union_comm, union_idem}
