@@ -9,9 +9,11 @@ pub use Rattle.squall_report.specs.Cells
 pub use Rattle.squall_report.specs.Facts
 pub use Rattle.squall_report.specs.Told
 pub mod Boards
+pub mod Updates
 pub mod BoardLaws
 pub mod Listed
 pub mod ListedLaws
+pub mod OneListLaws
 pub mod Route
 pub mod Equal
 pub mod EqualLaws

@@ -1,6 +1,7 @@
 -- Laws of sets of keys: a set has one list of spans, and the keys of each operation (this project).
 use Rattle.std.specs.Prelude.{◌≡◌, ℕ, ◌+◌, ◌<◌, ◌≤◌, min, max, Bool, true, false, ◌||◌, ◌&&◌, nat_lt, List, [], ◌∷◌, cond, refl}
 use Rattle.std.proofs.Common.{sym, ap, ◌∙◌, arith, inl, inr}
+use Rattle.std.proofs.Math.Bool.{or_assoc, or_comm, or_self, or-false}
 use Rattle.std.proofs.lemmas.Bool.{cases_lt}
 use Rattle.std.proofs.lemmas.Bool.Decides.{nat_tests}
 use Rattle.std.proofs.Common.{rules}
@@ -9,24 +10,6 @@ use Rattle.std.specs.Cmp.Lexicographic.{lists_equiv}
 use Rattle.std.specs.Cmp.Rules.{comparing}
 use Rattle.squall_key.specs.Keys.{top}
 use Rattle.squall_span.specs.Spans.{interval_eq, spans_eq, Interval, interval, span_has, has, Beyond, IsCanonical, EndsBy, IsSet, hull, insert_span, union}
-
-pub or_assoc : (a b c : Bool) → ((a || b) || c) ≡ (a || (b || c))
-or_assoc true b c = refl
-or_assoc false b c = refl
-
-pub or_comm : (a b : Bool) → (a || b) ≡ (b || a)
-or_comm true true = refl
-or_comm true false = refl
-or_comm false true = refl
-or_comm false false = refl
-
-pub or_idem : (a : Bool) → (a || a) ≡ a
-or_idem true = refl
-or_idem false = refl
-
-pub or_false : (a : Bool) → (a || false) ≡ a
-or_false true = refl
-or_false false = refl
 
 pub outside_below : (s : Interval) (k : ℕ) → k < s.lo → span_has s k ≡ false
 outside_below s k lt = grind (arith, nat_tests)
@@ -94,7 +77,7 @@ canonical-union a (t ∷ ts) c d = canonical-insert t (union a ts) d.0 (canonica
 
 -- exactly the keys of either
 pub has-union : (a b : List Interval) (k : ℕ) → IsCanonical a → IsCanonical b → has (union a b) k ≡ (has a k || has b k)
-has-union a [] k c d = sym (or_false (has a k))
+has-union a [] k c d = sym (or-false (has a k))
 has-union a (t ∷ ts) k c d =
     has-insert t (union a ts) k d.0 (canonical-union a ts c d.2)
     ∙ ap (λ x. span_has t k || x) (has-union a ts k c d.2)
@@ -189,10 +172,6 @@ set_within a b c d all = (c, ends_by_keys top a c (λ k le. no_key (has a k) (ha
     no_key true y f e = sym (f refl) ∙ e
     no_key false y f e = refl
 
-pub and_first : (a b : Bool) → (a && b) ≡ true → a ≡ true
-and_first true b e = refl
-and_first false b e = e
-
 pub ends-insert : (h : ℕ) (s : Interval) (ss : List Interval) → s.hi ≤ h → EndsBy h ss → EndsBy h (insert_span s ss)
 ends-insert h s [] le b = (le, tt)
 ends-insert h s (t ∷ ts) le b = insert_cases (EndsBy h) s t ts (λ _. (le, b)) (λ _ _. (b.0, ends-insert h s ts le b.1)) (λ _ _. ends-insert h (hull s t) ts (omega (arith, b.0)) b.1)
@@ -218,7 +197,7 @@ pub union_comm : (x y : List Interval) → IsCanonical x → IsCanonical y → u
 union_comm x y a b = same_lists _ _ (canonical-union x y a b) (canonical-union y x b a) (λ k. has-union x y k a b ∙ or_comm (has x k) (has y k) ∙ sym (has-union y x k b a))
 
 pub union_idem : (x : List Interval) → IsCanonical x → union x x ≡ x
-union_idem x a = same_lists _ _ (canonical-union x x a a) a (λ k. has-union x x k a a ∙ or_idem (has x k))
+union_idem x a = same_lists _ _ (canonical-union x x a a) a (λ k. has-union x x k a a ∙ or_self (has x k))
 
 -- `==` on spans and on lists of them
 interval_eq-equivalence : IsEquivalence interval_eq
