@@ -2,9 +2,8 @@
 use Rattle.std.proofs.Common.{◌≡◌, ℕ, zero, suc, ◌+◌, ◌<◌, ◌≤◌, true, false, cond, T, List, [], ◌∷◌, ◌++◌, length, get_or, set, take, drop, None, Some, Result, Ok, Err, IfOk, IfErr, refl, sym, ap, subst, ◌∙◌, arith, inl, inr, ◌⊎◌, ◌≢◌, OnOk, OnErr, append-nil, append_assoc, ◌-◌, length-drop}
 use Rattle.std.specs.declared.cmp.Ordering.{Ordering}
 use Rattle.std.specs.declared.cmp.Ordering.TheVariants.{Less, Equal, Greater}
-use Rattle.std.specs.Ordering.{is_eq, ordering_reverse, eq_by_cmp, ordering_index}
+use Rattle.std.specs.Ordering.{is_eq, ordering_reverse, eq_by_cmp}
 use Rattle.std.specs.List.{insert}
-use Rattle.std.specs.List.Sorted.{IsSearchInRange, IsBinarySearchResult, IsNonDecreasingBy}
 use Rattle.std.specs.Cmp.{IsTotalOrder}
 use Rattle.std.specs.FinMap.Entries.{by_order, is_sorted, below_all, find}
 use Rattle.std.proofs.lemmas.Bool.{cases_lt}
@@ -30,16 +29,6 @@ elements_more P xs i x within is before here k d lt =
 not_None : {A : Type 0} (x : A) → Some x ≢ None
 not_None x e = cc
 
-module _ {K : Type 0} {R : K → K → Ordering} (o : IsTotalOrder R) where
-  -- the comparisons with k do not fall
-  index_rises : (x y k : K) → R x y ≡ Less → ordering_index (R x k) ≤ ordering_index (R y k)
-  index_rises x y k p =
-      elim (R y k) as (λ r. R y k ≡ r → ordering_index (R x k) ≤ ordering_index r) [
-        | Less ↦ λ q. rw (o.trans x y k p q) (omega arith)
-        | Equal ↦ λ q. rw (sym (alike_right o y k x q) ∙ p) (omega arith)
-        | Greater ↦ λ q. elim (R x k) as (λ r. ordering_index r ≤ ordering_index Greater) [ Less ↦ omega arith | Equal ↦ omega arith | Greater ↦ omega arith ]
-      ] refl
-
 module _ {K V : Type 0} {R : K → K → Ordering} (o : IsTotalOrder R) where
   below_at : (x : K) (es : List (K × V)) → T (below_all R x es) → (j : ℕ) (d : K × V) → j < length es → R x (get_or es j d).0 ≡ Less
   below_at x [] h j d lt = absurd (omega arith)
@@ -51,31 +40,6 @@ module _ {K V : Type 0} {R : K → K → Ordering} (o : IsTotalOrder R) where
   sorted_at (e ∷ es) h i zero d lt in_range = absurd (omega arith)
   sorted_at (e ∷ es) h zero (suc j) d lt in_range = below_at e.0 es (first _ _ h) j d (omega arith)
   sorted_at (e ∷ es) h (suc i) (suc j) d lt in_range = sorted_at es (second _ _ h) i j d (omega arith) (omega arith)
-
-  rises : (es : List (K × V)) → T (is_sorted R es) → (k : K) → IsNonDecreasingBy (λ e. ordering_index (R e.0 k)) es
-  rises es h k i j d le in_range =
-      elim (cases_lt i j) [
-        | inl lt ↦ index_rises o _ _ k (sorted_at es h i j d lt in_range)
-        | inr ge ↦ let same : i ≡ j = omega arith in rw same (omega arith)
-      ]
-
-  pub searched : (es : List (K × V)) → T (is_sorted R es) → (k : K) (r : Result ℕ ℕ) → IsSearchInRange r (length es) → IsBinarySearchResult (λ e. R e.0 k) es r → IfOk r (IsAt R es k) × IfErr r (IsGap R es k)
-  searched es h k (Ok at) in_range found = (
-    record {
-      in_range = in_range;
-      has_key = found;
-      less_before = λ j d lt. sym (alike_right o _ k _ (found d)) ∙ sorted_at es h j at d lt in_range;
-    },
-    tt,
-  )
-  searched es h k (Err at) in_range parted = (
-    tt,
-    record {
-      in_range = in_range;
-      less_before = λ j d lt. (parted (rises es h k)).0 j d (omega arith) lt;
-      greater_from = λ j d le lt. (parted (rises es h k)).1 j d le lt;
-    },
-  )
 
   -- past a smaller key
   find_past : (k : K) (e : K × V) (es : List (K × V)) → R e.0 k ≡ Less → find R k (e ∷ es) ≡ find R k es

@@ -11,6 +11,7 @@ mod laws;
 mod map;
 mod merge;
 mod pair;
+mod search;
 mod set;
 mod shared;
 mod update;

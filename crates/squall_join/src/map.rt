@@ -3,23 +3,37 @@
 ghost use Rattle.std.specs.Prelude.{◌≡◌, ◌≢◌, ◌≤◌, IfOk, IfErr, IfSome, IfNone, OnOk, OnErr, [], ◌∷◌, length, option_copied, slice_get};
 ghost use Rattle.std.specs.FinMap.Entries.{find};
 ghost use Rattle.std.proofs.lemmas.Map.Lookups.{CmpEqualImpliesEq, exact_unsigned};
+ghost use Rattle.std.specs.declared.cmp.Ordering.TheVariants.{Less};
 ghost use Rattle.squall_join.specs.Entries.{merged, IsMap, IsAt, IsGap};
 ghost use Rattle.squall_join.specs.MapLaws.{map_laws};
 
 use crate::Join;
 use crate::merge::{merge, push_copies};
+use crate::search::place_of;
 use crate::update::Borrowed;
 use std::alloc::{AllocError, Global};
 use std::marker::Model;
 
 /// Keys of a map: in an order in which only equal keys tie.
 pub trait MapKey: Ord + Copy {
+    /// The step where this key is less than the other, else 0. A search takes it by arithmetic,
+    /// since a branch on keys is mostly mispredicted.
+    fn step_if_less(self, other: Self, step: usize) -> usize
+        ensures less { Self.cmp self other ≡ Less → result ≡ step }
+        ensures not_less { Self.cmp self other ≢ Less → result ≡ 0 };
+
     /// Keys that tie are equal.
     ghost exact: { CmpEqualImpliesEq Self.cmp };
 }
 
 impl MapKey for u32 {
     ghost exact = { exact_unsigned };
+
+    /// The bits of a borrow.
+    fn step_if_less(self, other: u32, step: usize) -> usize {
+        let borrow = u128::from(self).wrapping_sub(u128::from(other)) >> 64;
+        step & borrow as usize
+    }
 }
 
 /// A map that keeps no least value, so that an absent key and the least value are one.
@@ -111,7 +125,12 @@ impl<K: MapKey, V: Join> JoinMap<K, V> {
         ensures found { IfOk result (IsAt K.cmp self.now key) }
         ensures absent { IfErr result (IsGap K.cmp self.now key) }
     {
-        self.entries.binary_search_by_key(&key, |e| e.0)
+        let at = place_of(&self.entries, key);
+        if at < self.entries.len() && self.entries[at].0.cmp(&key).is_eq() {
+            Ok(at)
+        } else {
+            Err(at)
+        }
     }
 }
 

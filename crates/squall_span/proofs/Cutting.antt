@@ -6,14 +6,10 @@ use Rattle.std.proofs.lemmas.Bool.{cases_lt}
 use Rattle.std.proofs.lemmas.List.{drop_all, get_or_read}
 use Rattle.std.proofs.lemmas.Bool.Decides.{nat_tests}
 use Rattle.squall_span.specs.Spans.{Interval, interval, span_has, has, Beyond, IsCanonical, EndsBy, EndsBeyond}
-use Rattle.squall_span.specs.SpanLaws.{has_below, has_ended}
+use Rattle.squall_span.specs.SpanLaws.{has_below, has_ended, has-append}
 use Rattle.squall_span.specs.Places.{Ended, IsCut}
 use Rattle.squall_span.proofs.Places.{ended_same, ended_ends, ended_front, canonical_drop, from_place}
 use Rattle.squall_span.proofs.Sweeping.{has_early}
-
-pub has-append : (xs ys : List Interval) (k : ℕ) → has (xs ++ ys) k ≡ (has xs k || has ys k)
-has-append [] ys k = refl
-has-append (x ∷ xs) ys k = ap (λ b. span_has x k || b) (has-append xs ys k) ∙ sym (or_assoc (span_has x k) (has xs k) (has ys k))
 
 has_parts : (xs : List Interval) (i k : ℕ) → has xs k ≡ (has (take i xs) k || has (drop i xs) k)
 has_parts [] zero k = refl
