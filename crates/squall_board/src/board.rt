@@ -15,7 +15,7 @@ ghost use Rattle.squall_board.specs.Route.{route};
 ghost use Rattle.std.specs.Cmp.{partial_equiv_from_equiv};
 
 use squall_course::Course;
-use squall_join::{Entry, Flag, Flat, Join, JoinMap, Max, Pair, Piece, Shared};
+use squall_join::{Flag, Flat, Join, JoinMap, Max, Pair, Shared, Update, UpdateAt};
 use squall_key::{Key, PartId};
 use squall_report::{Issue, Report, ReportKind};
 use squall_span::{Span, SpanSet};
@@ -93,19 +93,20 @@ struct Load {
     span: Span,
 }
 
-impl Piece<CellParts> for Load {
-    ghost whole = { λ load. pair_of (load.span ∷ []) false };
+impl Update<CellParts> for Load {
+    ghost value = { λ load. pair_of (load.span ∷ []) false };
 
     fn known(&self) {
         let _lo = self.span.lo();
+        let _hi = self.span.hi();
     }
 
-    fn make(&self, alloc: Global) -> Result<CellParts, AllocError> {
+    fn build(&self, alloc: Global) -> Result<CellParts, AllocError> {
         let keys = SpanSet::of(alloc, &self.span)?;
         Ok(Pair::new(keys, Flag::new(false)))
     }
 
-    fn put_in(&self, _alloc: Global, target: &mut CellParts) -> Result<(), AllocError> {
+    fn apply(&self, _alloc: Global, target: &mut CellParts) -> Result<(), AllocError> {
         target.first.insert(self.span)
     }
 }
@@ -114,16 +115,16 @@ impl Piece<CellParts> for Load {
 #[derive(Clone, Copy)]
 struct Completion;
 
-impl Piece<CellParts> for Completion {
-    ghost whole = { λ _. pair_of [] true };
+impl Update<CellParts> for Completion {
+    ghost value = { λ _. pair_of [] true };
 
     fn known(&self) {}
 
-    fn make(&self, alloc: Global) -> Result<CellParts, AllocError> {
+    fn build(&self, alloc: Global) -> Result<CellParts, AllocError> {
         Ok(Pair::new(SpanSet::empty(alloc), Flag::new(true)))
     }
 
-    fn put_in(&self, alloc: Global, target: &mut CellParts) -> Result<(), AllocError> {
+    fn apply(&self, alloc: Global, target: &mut CellParts) -> Result<(), AllocError> {
         target.second.join_in(alloc, &Flag::new(true))
     }
 }
@@ -230,24 +231,24 @@ impl Board {
         }
     }
 
-    /// Joins a piece into a cell, or puts the cell that it stands for where there was none.
-    fn put_piece<P: Piece<CellParts>>(
+    /// Joins an update into a cell, or puts in the cell that it stands for where there was none.
+    fn put_piece<U: Update<CellParts>>(
         &mut self,
         number: u32,
         sub: u32,
         part: u32,
-        piece: P,
+        update: U,
     ) -> Result<(), AllocError>
         requires { are_numbers number sub part ≡ true }
-        ensures board { OnOk result (self.new ≡ board_join self.old (cell_board number sub part (P.whole piece))) }
-        ensures told { OnOk result (TellsBoth (told self.new) (told self.old) (told (cell_board number sub part (P.whole piece)))) }
-        ensures taken { OnOk result ((rs qs : List (ReportKind PlanPair)) → HasTaken self.old rs → HasTaken (cell_board number sub part (P.whole piece)) qs → HasTaken self.new (rs ++ qs)) }
+        ensures board { OnOk result (self.new ≡ board_join self.old (cell_board number sub part (U.value update))) }
+        ensures told { OnOk result (TellsBoth (told self.new) (told self.old) (told (cell_board number sub part (U.value update)))) }
+        ensures taken { OnOk result ((rs qs : List (ReportKind PlanPair)) → HasTaken self.old rs → HasTaken (cell_board number sub part (U.value update)) qs → HasTaken self.new (rs ++ qs)) }
         ensures err { OnErr result (self.new ≡ self.old) }
     {
-        piece.known();
+        update.known();
         let alloc = self.allocator();
-        let entry = Entry::new(sub, Entry::new(part, piece));
-        self.parts.second.join_piece(alloc, number, &entry)
+        let at_sub = UpdateAt::new(sub, UpdateAt::new(part, update));
+        self.parts.second.update_at(alloc, number, &at_sub)
     }
 
     /// Takes each report of the list, or none of them. The error comes where memory ran out, and

@@ -1,15 +1,15 @@
 //! Sets of keys under their union.
 
 ghost use Rattle.std.specs.Prelude.{[]};
-ghost use Rattle.squall_span.specs.Spans.{IsCanonical, union};
-ghost use Rattle.squall_join.specs.Sets.{set_laws};
+ghost use Rattle.squall_span.specs.Spans.{IsSet, union};
+ghost use Rattle.squall_join.specs.SetLaws.{set_laws};
 
 use crate::Join;
 use squall_span::SpanSet;
 use std::alloc::{AllocError, Global};
 
 impl Join for SpanSet {
-    ghost is_value = { IsCanonical };
+    ghost is_value = { IsSet };
 
     ghost bottom = { [] };
 

@@ -3,8 +3,9 @@ use Rattle.std.proofs.Common.{◌≡◌, ℕ, zero, suc, ◌+◌, ◌-◌, ◌<�
 use Rattle.std.proofs.lemmas.Bool.{cases_lt}
 use Rattle.std.proofs.lemmas.List.{get_or_default, take_more_set, drop-set-lt, append_assoc}
 use Rattle.std.specs.Prelude.{Result, Ok, Err, OnOk, OnErr, ◌||◌}
-use Rattle.squall_span.specs.Spans.{Interval, interval, has, span_has, Beyond, IsCanonical, hull, insert_span}
-use Rattle.squall_span.specs.SpanLaws.{canonical-insert, has-insert}
+use Rattle.squall_key.specs.Keys.{top}
+use Rattle.squall_span.specs.Spans.{Interval, interval, has, span_has, Beyond, IsCanonical, IsSet, hull, insert_span}
+use Rattle.squall_span.specs.SpanLaws.{set-insert, has-insert}
 use Rattle.squall_span.specs.Places.{Apart, Started}
 use Rattle.squall_span.proofs.Merging.{insert_after, insert_touching, insert_before}
 use Rattle.squall_span.proofs.Places.{canonical_at, starts_above}
@@ -89,9 +90,9 @@ insert_over s (x ∷ xs) (suc i) (suc n) d e c p a b le lt =
     ap (λ l. x ∷ l) (insert_over s xs i n d e c.2 p (apart_tail x xs s.lo i a) (started_tail x xs s.hi (suc n) b) (omega arith) (omega arith)) ∙ sym (insert_after s x xs p c.0 ends)
 
 -- what the answer of an insert says of the set
-pub kept_canonical : {T E : Type 0} (s : Interval) (old new : List Interval) (r : Result T E) → s.lo < s.hi → IsCanonical old → OnOk r (new ≡ insert_span s old) → OnErr r (new ≡ old) → IsCanonical new
-kept_canonical s old new (Ok x) p c ok err = subst IsCanonical (sym ok) (canonical-insert s old p c)
-kept_canonical s old new (Err e) p c ok err = subst IsCanonical (sym err) c
+pub kept_set : {T E : Type 0} (s : Interval) (old new : List Interval) (r : Result T E) → s.lo < s.hi → s.hi ≤ top → IsSet old → OnOk r (new ≡ insert_span s old) → OnErr r (new ≡ old) → IsSet new
+kept_set s old new (Ok x) p le c ok err = subst IsSet (sym ok) (set-insert s old p le c)
+kept_set s old new (Err e) p le c ok err = subst IsSet (sym err) c
 
 pub inserted_keys : {T E : Type 0} (s : Interval) (old new view : List Interval) (r : Result T E) → s.lo < s.hi → IsCanonical old → old ≡ view → OnOk r (new ≡ insert_span s old) → OnOk r ((k : ℕ) → has new k ≡ (span_has s k || has view k))
 inserted_keys s old new view (Ok x) p c is ok = λ k. ap (λ l. has l k) ok ∙ has-insert s old k p c ∙ ap (λ l. span_has s k || has l k) is

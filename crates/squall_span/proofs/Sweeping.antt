@@ -3,11 +3,10 @@ use Rattle.std.proofs.Common.{◌≡◌, ℕ, ◌<◌, ◌≤◌, Bool, true, fa
 use Rattle.std.specs.Prelude.{◌⊎◌, ◌&&◌}
 use Rattle.std.proofs.lemmas.Bool.{cases_lt, false≢true}
 use Rattle.squall_span.specs.Spans.{Interval, interval, span_has, has, IsCanonical, StartsBy, EndsBy, EndsFrom, EndsBeyond, insert_span}
-use Rattle.squall_span.specs.SpanLaws.{canonical-insert, has-insert, has_below, outside_above, outside_below, inside}
+use Rattle.squall_span.specs.SpanLaws.{canonical-insert, has-insert, has_below, has_ended, ends-insert, outside_above, outside_below, inside}
 use Rattle.squall_span.specs.declared.sweep.Keep.{Keep}
 use Rattle.squall_span.specs.declared.sweep.Keep.TheVariants.{Both, FirstAlone}
 use Rattle.squall_span.specs.Sweeps.{kept}
-use Rattle.squall_span.proofs.Merging.{ends_insert}
 
 pub kept_none : (keep : Keep) (b : Bool) → kept keep false b ≡ false
 kept_none Both b = refl
@@ -21,10 +20,6 @@ ends_weaker g h (s ∷ ss) le b = (omega (arith, b.0), ends_weaker g h ss le b.1
 pub starts_ended : (h : ℕ) (ss : List Interval) → IsCanonical ss → EndsBy h ss → StartsBy h ss
 starts_ended h [] c b = tt
 starts_ended h (s ∷ ss) c b = (omega (arith, b.0, c.0), starts_ended h ss c.2 b.1)
-
-pub has_ended : (h k : ℕ) (ss : List Interval) → EndsBy h ss → h ≤ k → has ss k ≡ false
-has_ended h k [] b le = refl
-has_ended h k (s ∷ ss) b le = ap (λ t. t || has ss k) (outside_above s k (omega (arith, b.0))) ∙ has_ended h k ss b.1 le
 
 -- no key before the first span
 pub has_early : (k : ℕ) (s : Interval) (ss : List Interval) → IsCanonical (s ∷ ss) → k < s.lo → has (s ∷ ss) k ≡ false
@@ -88,7 +83,7 @@ sweeping_step keep x y out new a b a2 b2 from to in_a in_b lt ca cb ea eb sa sb 
     new_is : ((kept keep in_a in_b ≡ true) × (new ≡ insert_span (interval from to) out)) ⊎ ((kept keep in_a in_b ≡ false) × (new ≡ out)) → IsCanonical new × EndsBy to new × ((k : ℕ) → has new k ≡ ((kept keep in_a in_b && span_has (interval from to) k) || has out k))
     new_is (inl h) = (
       subst IsCanonical (sym h.1) (canonical-insert (interval from to) out lt m.canonical),
-      subst (EndsBy to) (sym h.1) (ends_insert to (interval from to) out (omega arith) (ends_weaker from to out (omega arith) m.ends)),
+      subst (EndsBy to) (sym h.1) (ends-insert to (interval from to) out (omega arith) (ends_weaker from to out (omega arith) m.ends)),
       λ k. ap (λ l. has l k) h.1 ∙ has-insert (interval from to) out k lt m.canonical ∙ sym (ap (λ t. (t && span_has (interval from to) k) || has out k) h.0),
     )
     new_is (inr h) = (

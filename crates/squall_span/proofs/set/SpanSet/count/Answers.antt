@@ -9,7 +9,7 @@ pub overflow_add-count : goal.overflow_add-count
 overflow_add-count c =
     let xs : List Interval = c.deref-span-items.result.now in
     let t : Interval = c.span-item.result in
-    let before = total_upto xs c.loop-span.span-index t (subst IsCanonical (sym c.deref-span-items.ensures.value) c.self.invariant) c.loop-span-test.true in
+    let before = total_upto xs c.loop-span.span-index t (subst IsCanonical (sym c.deref-span-items.ensures.value) c.self.invariant.0) c.loop-span-test.true in
     let low = ap (λ (s : Interval). s.lo) c.span-item.is in
     omega arith
 
@@ -29,5 +29,5 @@ returns-clause-number c =
     let xs : List Interval = c.deref-span-items.result.now in
     let whole = take_all c.loop-span.span-index xs c.loop-span-test.false in
     c.loop-span.invariant.so_far ∙ ap total_length whole
-    ∙ sym (count_is_total xs top (subst IsCanonical (sym c.deref-span-items.ensures.value) c.self.invariant) (subst (EndsBy top) whole c.loop-span.invariant.ends))
+    ∙ sym (count_is_total xs top (subst IsCanonical (sym c.deref-span-items.ensures.value) c.self.invariant.0) (subst (EndsBy top) whole c.loop-span.invariant.ends))
     ∙ ap (λ (l : List Interval). how_many (has l) top) (c.deref-span-items.ensures.value ∙ c.self.view_is)

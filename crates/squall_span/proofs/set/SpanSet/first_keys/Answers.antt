@@ -8,18 +8,18 @@ pub returns-then-count-max-clause-least : goal.returns-then-count-max-clause-lea
 returns-then-count-max-clause-least c k h =
     let first = first_is c.deref.result.now c.in_ok-first.first.now c.in_ok-first.ensures.value in
     let is = sym c.self.view_is ∙ sym c.deref.ensures.value ∙ first.1 in
-    first_least c.in_ok-first.first.now first.0 k (subst IsCanonical (sym c.deref.ensures.value ∙ first.1) c.self.invariant) (sym (ap (λ (l : List Interval). has l k) is) ∙ h)
+    first_least c.in_ok-first.first.now first.0 k (subst IsCanonical (sym c.deref.ensures.value ∙ first.1) c.self.invariant.0) (sym (ap (λ (l : List Interval). has l k) is) ∙ h)
 
 pub returns-then-count-max-clause-whole : goal.returns-then-count-max-clause-whole
 returns-then-count-max-clause-whole c _ =
     let first = first_is c.deref.result.now c.in_ok-first.first.now c.in_ok-first.ensures.value in
     let is = sym c.self.view_is ∙ sym c.deref.ensures.value ∙ first.1 in
-    ap (λ (l : List Interval). has l c.in_ok-first.first.now.hi) is ∙ first_ends c.in_ok-first.first.now first.0 (subst IsCanonical (sym c.deref.ensures.value ∙ first.1) c.self.invariant)
+    ap (λ (l : List Interval). has l c.in_ok-first.first.now.hi) is ∙ first_ends c.in_ok-first.first.now first.0 (subst IsCanonical (sym c.deref.ensures.value ∙ first.1) c.self.invariant.0)
 
 pub returns-clause-least : goal.returns-clause-least
 returns-clause-least c k h =
     let first = first_is c.deref.result.now c.in_ok-first.first.now c.in_ok-first.ensures.value in
     let is = sym c.self.view_is ∙ sym c.deref.ensures.value ∙ first.1 in
-    let least : c.in_ok-first.first.now.lo ≤ k = first_least c.in_ok-first.first.now first.0 k (subst IsCanonical (sym c.deref.ensures.value ∙ first.1) c.self.invariant) (sym (ap (λ (l : List Interval). has l k) is) ∙ h) in
+    let least : c.in_ok-first.first.now.lo ≤ k = first_least c.in_ok-first.first.now first.0 k (subst IsCanonical (sym c.deref.ensures.value ∙ first.1) c.self.invariant.0) (sym (ap (λ (l : List Interval). has l k) is) ∙ h) in
     let low = ap (λ (s : Interval). s.lo) c.between.ensures in
     omega arith

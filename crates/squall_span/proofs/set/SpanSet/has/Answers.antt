@@ -9,7 +9,7 @@ pub returns-then-at-len : goal.returns-then-at-len
 returns-then-at-len c =
     let xs : List Interval = c.self.inside.spans.items in
     let e : Ended xs c.args.key c.ended-at.result = subst (λ (l : List Interval). Ended l c.args.key c.ended-at.result) c.deref.ensures.value (subst (λ n. Ended c.deref.result.now n c.ended-at.result) c.of_key.ensures c.ended-at.ensures) in
-    c.has.ensures ∙ sym (has_found xs c.args.key c.ended-at.result c.index.result.now c.self.invariant e (omega arith) c.index.ensures) ∙ ap (λ (l : List Interval). has l c.args.key) c.self.view_is
+    c.has.ensures ∙ sym (has_found xs c.args.key c.ended-at.result c.index.result.now c.self.invariant.0 e (omega arith) c.index.ensures) ∙ ap (λ (l : List Interval). has l c.args.key) c.self.view_is
 
 pub returns-else-at-len : goal.returns-else-at-len
 returns-else-at-len c =
