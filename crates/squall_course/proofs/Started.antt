@@ -47,15 +47,6 @@ first_by_point xs set from i o e c p is =
     let p1 = rw e at p in
     rw (is, e) (first_is set from i c (λ j d lt in'. leb-true _ _ (p1.0 j d (omega arith) lt)) (λ j d le lt. leb-false _ _ (p1.1 j d le lt)))
 
-pub lt_no : (a b : ℕ) → is_lt (nat_cmp a b) ≡ false → b ≤ a
-lt_no a b e = grind (arith, nat_tests)
-
-pub le_yes : (a b : ℕ) → is_le (nat_cmp a b) ≡ true → a ≤ b
-le_yes a b e = grind (arith, nat_tests)
-
-pub le_no : (a b : ℕ) → is_le (nat_cmp a b) ≡ false → b < a
-le_no a b e = grind (arith, nat_tests)
-
 pub none_started : (span : Interval) (set : List Interval) → ((k : ℕ) → span.lo ≤ k → has set k ≡ false) → (k : ℕ) → span_has span k ≡ true → has set k ≡ false
 none_started span set none k is = let w = within span k is in none k (omega (arith, w.0))
 

@@ -252,8 +252,8 @@ fn status_in(set: &SpanSet) -> Result<Status, Fail> {
 fn status_of_a_span(rt: HostRuntime) -> Result<(), Fail> {
     let empty = SpanSet::empty(rt.alloc());
     assert!(rt; status_in(&empty)? == Status::NotStarted);
-    let front = span((2, 0), (2, 7))?;
-    let some = SpanSet::of(rt.alloc(), &front)?;
+    let prefix = span((2, 0), (2, 7))?;
+    let some = SpanSet::of(rt.alloc(), &prefix)?;
     assert!(rt; status_in(&some)? == Status::Partial);
     let all = span((0, 0), (END, 0))?;
     let whole = SpanSet::of(rt.alloc(), &all)?;
@@ -264,8 +264,8 @@ fn status_of_a_span(rt: HostRuntime) -> Result<(), Fail> {
 #[test]
 fn status_under_a_course(rt: HostRuntime) -> Result<(), Fail> {
     let course = old_to_new(rt.alloc())?;
-    let front = span((2, 0), (2, 7))?;
-    let some = SpanSet::of(rt.alloc(), &front)?;
-    assert!(rt; course.status(&front, &some) == Status::Complete);
+    let prefix = span((2, 0), (2, 7))?;
+    let some = SpanSet::of(rt.alloc(), &prefix)?;
+    assert!(rt; course.status(&prefix, &some) == Status::Complete);
     Ok(())
 }

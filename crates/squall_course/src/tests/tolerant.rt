@@ -1,6 +1,6 @@
 //! Each call that allocates, which may answer NoMemory and leaves what it was given as it was.
 
-use super::{part, range, END};
+use super::{END, part, range};
 use crate::{Course, CourseFault};
 use squall_plan::Plan;
 use std::alloc::Global;
