@@ -8,7 +8,7 @@ use Rattle.std.proofs.lemmas.List.Folds.{list_any-append}
 use Rattle.squall_key.specs.Keys.{top}
 use Rattle.squall_span.specs.Spans.{Interval, span_has}
 use Rattle.squall_plan.specs.declared.range.PlanRange.{PlanRange}
-use Rattle.squall_plan.specs.Ranges.{owner_of, range_has, IsTiling, IsCanonical, Differ, DifferFrom}
+use Rattle.squall_plan.specs.Ranges.{owner_of, IsTiling, IsCanonical, Differ}
 use Rattle.squall_plan.specs.PlanLaws.{has_inside, has_below, has_above, owner_first, owner_later, tiling_ends, differ_rest, next_differs}
 use Rattle.squall_course.specs.declared.transfer.Transfer.{Transfer}
 use Rattle.squall_course.specs.declared.moving.Move.{Move}

@@ -1,17 +1,10 @@
 -- The steps of the sweep over two plans.
-use Rattle.std.proofs.Common.{◌≡◌, ℕ, ◌+◌, ◌<◌, ◌≤◌, true, false, List, ◌++◌, length, get_or, drop, sym, ap, ◌∙◌, arith, append_assoc, append-nil, is_lt, nat_cmp}
-use Rattle.std.proofs.lemmas.Bool.Decides.{nat_tests}
+use Rattle.std.proofs.Common.{◌≡◌, ℕ, ◌+◌, ◌<◌, ◌≤◌, List, ◌++◌, length, get_or, drop, sym, ap, ◌∙◌, arith, append_assoc, append-nil}
 use Rattle.squall_plan.specs.declared.range.PlanRange.{PlanRange}
 use Rattle.squall_course.specs.declared.transfer.Transfer.{Transfer}
 use Rattle.squall_course.specs.Moves.{transfer, listed, row, transfers}
 use Rattle.squall_course.specs.Steps.{Follow}
 use Rattle.squall_course.proofs.Sweeps.{row_past, row_beyond, row_step, follow_step, follow_weaker, split_at, transfers_step}
-
-pub cmp_lt : (a b : ℕ) → is_lt (nat_cmp a b) ≡ true → a < b
-cmp_lt a b e = grind (arith, nat_tests)
-
-pub cmp_ge : (a b : ℕ) → is_lt (nat_cmp a b) ≡ false → b ≤ a
-cmp_ge a b e = grind (arith, nat_tests)
 
 pub adds_step : (r s : PlanRange) (xs : List PlanRange) (i : ℕ) (before after all : List Transfer) → i < length xs → s ≡ get_or xs i s
     → before ++ row r (drop i xs) ≡ all → after ≡ before ++ listed (transfer r s) → after ++ row r (drop (i + 1) xs) ≡ all

@@ -1,16 +1,15 @@
 -- The partitions to which moves go.
-use Rattle.std.proofs.Common.{◌≡◌, ℕ, ◌+◌, ◌<◌, Bool, true, eqb, List, [], ◌∷◌, map, length, get_or, refl, sym, ap, ◌∙◌, arith, inl, inr, nat_cmp, Less}
+use Rattle.std.proofs.Common.{◌≡◌, ℕ, ◌+◌, ◌<◌, Bool, true, eqb, List, [], ◌∷◌, map, refl, sym, ap, ◌∙◌, arith, inl, inr, nat_cmp, Less}
 use Rattle.std.specs.Prelude.{filter, ◌||◌, ◌&&◌, ◌↔◌}
 use Rattle.std.specs.List.{list_any, AllByRecursion, Contains}
 use Rattle.std.specs.List.Sorted.{IsStrictlySortedBy}
-use Rattle.std.proofs.lemmas.Bool.{cases_Bool, and_parts, or_cases, or_left, or_right, eqb-true, eq-eqb, false≢true}
-use Rattle.std.proofs.lemmas.List.Folds.{list_any_at, Any-from_list_any}
+use Rattle.std.proofs.lemmas.Bool.{cases_Bool, and_parts, or_cases, or_left, or_right, eqb-true, false≢true}
 use Rattle.squall_plan.specs.PlanLaws.{are_parts, owner_low}
 use Rattle.squall_course.proofs.Gathered.{incoming_keys}
 use Rattle.squall_course.specs.Subplans.{moves}
 use Rattle.squall_key.specs.Keys.{top, part_limit}
 use Rattle.squall_plan.specs.declared.range.PlanRange.{PlanRange}
-use Rattle.squall_plan.specs.Ranges.{owner_of, range_has, AreRanges}
+use Rattle.squall_plan.specs.Ranges.{AreRanges}
 use Rattle.squall_course.specs.declared.moving.Move.{Move}
 use Rattle.squall_course.specs.Change.{Change, ArePlans}
 use Rattle.squall_course.specs.Moves.{in_moves, is_incoming, goes_to, receivers_of, moves_of, move_has, IsMove, AreMoves}

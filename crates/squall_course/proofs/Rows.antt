@@ -70,11 +70,11 @@ rest_of source fs zero below = refl
 rest_of source [] (suc i) below = refl
 rest_of source (f ∷ fs) (suc i) below = rw (ne_eqb f.source source (λ e. omega (arith, below 0 f (omega arith) (omega arith)))) (rest_of source fs i (λ j d lt in'. below (suc j) d (omega arith) (omega arith)))
 
-pub front_of : (source : ℕ) (fs : List Link) (n : ℕ) → ((j : ℕ) (d : Link) → j < n → j < length fs → (get_or fs j d).source ≡ source) → ((j : ℕ) (d : Link) → n ≤ j → j < length fs → source < (get_or fs j d).source)
+pub prefix_of : (source : ℕ) (fs : List Link) (n : ℕ) → ((j : ℕ) (d : Link) → j < n → j < length fs → (get_or fs j d).source ≡ source) → ((j : ℕ) (d : Link) → n ≤ j → j < length fs → source < (get_or fs j d).source)
     → links_of source fs ≡ take n fs
-front_of source fs zero same above = none_of source fs (λ j d lt. above j d (omega arith) lt)
-front_of source [] (suc n) same above = refl
-front_of source (f ∷ fs) (suc n) same above = rw (eq-eqb f.source source (same 0 f (omega arith) (omega arith))) (ap (λ (l : List Link). f ∷ l) (front_of source fs n (λ j d lt in'. same (suc j) d (omega arith) (omega arith)) (λ j d ge lt. above (suc j) d (omega arith) (omega arith))))
+prefix_of source fs zero same above = none_of source fs (λ j d lt. above j d (omega arith) lt)
+prefix_of source [] (suc n) same above = refl
+prefix_of source (f ∷ fs) (suc n) same above = rw (eq-eqb f.source source (same 0 f (omega arith) (omega arith))) (ap (λ (l : List Link). f ∷ l) (prefix_of source fs n (λ j d lt in'. same (suc j) d (omega arith) (omega arith)) (λ j d ge lt. above (suc j) d (omega arith) (omega arith))))
 
 -- ---- members
 
@@ -151,7 +151,7 @@ pub row_is : (source : ℕ) (fs : List Link) (i n : ℕ) → i ≤ length fs →
     → take n (drop i fs) ≡ links_of source fs
 row_is source fs i n within below from upto above =
     let at_least : (j : ℕ) (d : Link) → j < length (drop i fs) → source ≤ (get_or (drop i fs) j d).source = λ j d lt. rw get_or-drop (from (i + j) d (omega arith) (omega (arith, length-drop i fs))) in
-    sym (rest_of source fs i (λ j d lt in'. below j d lt) ∙ front_of source (drop i fs) n (λ j d lt in'. omega (arith, upto j d lt, at_least j d in')) above)
+    sym (rest_of source fs i (λ j d lt in'. below j d lt) ∙ prefix_of source (drop i fs) n (λ j d lt in'. omega (arith, upto j d lt, at_least j d in')) above)
 
 pub lower_is : (source dest : ℕ) (fs : List Link) (n : ℕ) → n ≤ length (links_of source fs) → ((j : ℕ) (d : Link) → j < n → (get_or (links_of source fs) j d).dest < dest) → ((j : ℕ) (d : Link) → n ≤ j → j < length (links_of source fs) → dest ≤ (get_or (links_of source fs) j d).dest)
     → n ≡ lower_links source dest fs

@@ -1,10 +1,9 @@
 -- The first span of a set beyond a bound, and what it says of a span.
-use Rattle.std.proofs.Common.{◌≡◌, ℕ, zero, suc, ◌<◌, ◌≤◌, max, true, false, leb, List, [], ◌∷◌, length, get_or, Option, Some, None, refl, ◌∙◌, arith, inl, inr, nat_cmp, is_lt, is_le}
+use Rattle.std.proofs.Common.{◌≡◌, ℕ, zero, suc, ◌<◌, ◌≤◌, max, true, false, leb, List, [], ◌∷◌, length, get_or, Option, Some, None, refl, ◌∙◌, arith, inl, inr}
 use Rattle.std.specs.Prelude.{◌⊎◌}
 use Rattle.std.specs.List.{slice_get}
 use Rattle.std.specs.List.Sorted.{IsNonDecreasingBy, IsPartitionPoint}
 use Rattle.std.proofs.lemmas.Bool.{cases_lt, leb-true, leb-false, or_right}
-use Rattle.std.proofs.lemmas.Bool.Decides.{nat_tests}
 use Rattle.squall_span.specs.Spans.{Interval, span_has, has, IsCanonical}
 use Rattle.squall_span.specs.SpanLaws.{has_below, has_in, has_after, inside, outside_below}
 use Rattle.squall_course.specs.Steps.{IsFirstSpan, IsFirst}
@@ -46,15 +45,6 @@ pub first_by_point : (xs set : List Interval) (from i : ℕ) (o : Option Interva
 first_by_point xs set from i o e c p is =
     let p1 = rw e at p in
     rw (is, e) (first_is set from i c (λ j d lt in'. leb-true _ _ (p1.0 j d (omega arith) lt)) (λ j d le lt. leb-false _ _ (p1.1 j d le lt)))
-
-pub lt_no : (a b : ℕ) → is_lt (nat_cmp a b) ≡ false → b ≤ a
-lt_no a b e = grind (arith, nat_tests)
-
-pub le_yes : (a b : ℕ) → is_le (nat_cmp a b) ≡ true → a ≤ b
-le_yes a b e = grind (arith, nat_tests)
-
-pub le_no : (a b : ℕ) → is_le (nat_cmp a b) ≡ false → b < a
-le_no a b e = grind (arith, nat_tests)
 
 pub none_started : (span : Interval) (set : List Interval) → ((k : ℕ) → span.lo ≤ k → has set k ≡ false) → (k : ℕ) → span_has span k ≡ true → has set k ≡ false
 none_started span set none k is = let w = within span k is in none k (omega (arith, w.0))

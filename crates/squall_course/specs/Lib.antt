@@ -6,5 +6,6 @@ pub mod Subplans
 pub mod Change
 pub mod Moves
 pub mod Statuses
+pub mod Faults
 pub mod Links
 pub mod Steps

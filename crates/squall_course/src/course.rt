@@ -55,7 +55,7 @@ impl Model for Course {
 
 impl Course {
     /// The course of the number from the old plan to the new one. ZeroNumber where the number is
-    /// 0; NoMemory where the plans could not be copied.
+    /// 0; NoMemory where an allocation failed.
     pub fn new(alloc: Global, number: u32, old: &Plan, new: &Plan) -> Result<Course, CourseFault>
         ensures course { IfOk result (λ c. c ≡ record { number = number; old = old.now; new = new.now }) }
         ensures numbered { IfOk result (λ c. 1 ≤ c.number) }
@@ -173,14 +173,14 @@ impl Course {
         Some(link.dest)
     }
 
-    /// The keys that move to `part` in the sub-plan. The error comes where memory ran out.
+    /// The keys that move to `part` in the sub-plan. The error comes where an allocation failed.
     pub fn incoming(&self, alloc: Global, sub: u32, part: PartId) -> Result<SpanSet, AllocError>
         ensures { IfOk result (λ set. (k : ℕ) → has set k ≡ is_incoming self.now.old self.now.new sub part k) }
     {
         gather::incoming(alloc, &self.moves, sub, part)
     }
 
-    /// The keys that move away from `part` in the sub-plan. The error comes where memory ran out.
+    /// The keys that move away from `part` in the sub-plan. The error comes where an allocation failed.
     pub fn outgoing(&self, alloc: Global, sub: u32, part: PartId) -> Result<SpanSet, AllocError>
         ensures { IfOk result (λ set. (k : ℕ) → has set k ≡ is_outgoing self.now.old self.now.new sub part k) }
     {
@@ -188,7 +188,7 @@ impl Course {
     }
 
     /// The partitions to which keys move in the sub-plan, in rising number. The error comes where
-    /// memory ran out.
+    /// an allocation failed.
     pub fn receivers(&self, alloc: Global, sub: u32) -> Result<Vec<PartId>, AllocError>
         ensures { IfOk result (λ v. v.items ≡ receivers_of (moves_of self.now.old self.now.new) sub) }
     {
