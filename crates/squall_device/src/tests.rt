@@ -1,4 +1,6 @@
 // What the adapters pass on of readers and writers that end, fail, or take nothing.
+ghost use Rattle.std.specs.Prelude.{◌≡◌, IfOk};
+
 use super::{DeviceFault, Reader, Sink, Source, Writer};
 use std::io;
 use std::io::{ErrorKind, Read, Write};
@@ -11,7 +13,9 @@ struct Fitful {
 }
 
 impl Fitful {
-    fn turn(&mut self) -> io::Result<usize> {
+    fn turn(&mut self) -> io::Result<usize>
+        ensures { IfOk result (λ n. n ≡ 1) }
+    {
         self.calls = self.calls.saturating_add(1);
         if self.calls % 2 == 0 {
             Ok(1)
@@ -23,19 +27,19 @@ impl Fitful {
 
 impl Read for Fitful {
     fn read(&mut self, buf: &mut [u8]) -> io::Result<usize> {
-        match buf {
-            [] => Ok(0),
-            [..] => self.turn(),
+        if buf.is_empty() {
+            return Ok(0);
         }
+        self.turn()
     }
 }
 
 impl Write for Fitful {
     fn write(&mut self, buf: &[u8]) -> io::Result<usize> {
-        match buf {
-            [] => Ok(0),
-            [..] => self.turn(),
+        if buf.is_empty() {
+            return Ok(0);
         }
+        self.turn()
     }
 
     fn flush(&mut self) -> io::Result<()> {
@@ -88,7 +92,11 @@ fn one_call_is_one_call_below(rt: HostRuntime) {
     let mut reader = Reader::new(Fitful { calls: 0 });
     let mut writer = Writer::new(Fitful { calls: 0 });
     for call in 1..=1000u32 {
-        let wanted = if call % 2 == 0 { Ok(1) } else { Err(DeviceFault) };
+        let wanted = if call % 2 == 0 {
+            Ok(1)
+        } else {
+            Err(DeviceFault)
+        };
         assert_eq!(rt; first_read(&mut reader, &mut room), wanted);
         assert_eq!(rt; reader.inner.calls, call);
         assert_eq!(rt; first_write(&mut writer, b"ab"), wanted);

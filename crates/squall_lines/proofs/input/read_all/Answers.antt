@@ -36,3 +36,15 @@ returns-in_err-extend_from_slice-clause-bytes g c =
 pub returns-then-n-eq0-clause-ended : goal.returns-then-n-eq0-clause-ended
 returns-then-n-eq0-clause-ended g c =
     idle_counted (length c.read.new.buf) c.in-Ok.n _ _ _ (omega (arith, c.loop-turn.invariant.room)) c.if-n-eq0.true c.in-Ok.ensures.ends c.loop-turn.invariant.ends
+
+pub returns-in_default-clause-reads : goal.returns-in_default-clause-reads
+returns-in_default-clause-reads g c = omega (arith, c.loop-turn.invariant.reads, c.in_default.ensures.reads)
+
+pub returns-then-n-eq0-clause-reads : goal.returns-then-n-eq0-clause-reads
+returns-then-n-eq0-clause-reads g c = omega (arith, c.loop-turn.invariant.reads, c.in-Ok.ensures.reads)
+
+pub returns-in_err-extend_from_slice-clause-reads : goal.returns-in_err-extend_from_slice-clause-reads
+returns-in_err-extend_from_slice-clause-reads g c = omega (arith, c.loop-turn.invariant.reads, c.in-Ok.ensures.reads)
+
+pub returns-clause-reads : goal.returns-clause-reads
+returns-clause-reads g c = omega (arith, c.loop-turn.invariant.reads)
