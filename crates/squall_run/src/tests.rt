@@ -71,10 +71,10 @@ fn joined(alloc: Global, texts: &[&str]) -> Result<String, AllocError> {
     Ok(all)
 }
 
-/// The answers to the lines that end in the first bytes of the input.
-fn answers_to(alloc: Global, front: &[u8]) -> Result<String, Fail> {
+/// The answers to the lines that end in a prefix of the input.
+fn answers_to(alloc: Global, prefix: &[u8]) -> Result<String, Fail> {
     let mut all = String::new(alloc);
-    let ends = front.iter().filter(|b| **b == b'\n').count();
+    let ends = prefix.iter().filter(|b| **b == b'\n').count();
     for answer in ANSWERS.iter().take(ends) {
         all.push_str(answer)?;
     }
@@ -101,22 +101,6 @@ impl Read for Drip<'_> {
                 Ok(1)
             }
             _ => Ok(0),
-        }
-    }
-}
-
-/// Gives one LF a read, for ever.
-#[derive(Drop)]
-struct Feeds;
-
-impl Read for Feeds {
-    fn read(&mut self, buf: &mut [u8]) -> io::Result<usize> {
-        match buf {
-            [place, ..] => {
-                *place = b'\n';
-                Ok(1)
-            }
-            [] => Ok(0),
         }
     }
 }
@@ -231,12 +215,12 @@ fn a_reader_of_one_byte_that_fails(rt: HostRuntime) -> Result<(), Fail> {
             Ok(Ended::Fine)
         };
         assert_eq!(rt; outcome, wanted, "at {fails}");
-        let front = if fails < bytes.len() {
+        let prefix = if fails < bytes.len() {
             &bytes[..fails]
         } else {
             bytes
         };
-        let answers = answers_to(alloc, front)?;
+        let answers = answers_to(alloc, prefix)?;
         assert!(rt; out.as_slice() == answers.as_bytes(), "at {fails}");
     }
     Ok(())
@@ -267,17 +251,4 @@ fn a_writer_of_one_byte_that_stops(rt: HostRuntime) -> Result<(), Fail> {
         assert!(rt; drops.taken.as_slice() == &bytes[..fails], "at {fails}");
     }
     Ok(())
-}
-
-#[test]
-fn line_feeds_for_ever(rt: HostRuntime) {
-    let alloc = rt.alloc();
-    let mut out = Vec::new(alloc);
-    let mut reader = Reader::new(Feeds);
-    let mut writer = Writer::new(&mut out);
-    assert_eq!(rt;
-        run_text(alloc, &mut reader, &mut writer),
-        Err(RunFault::Read)
-    );
-    assert!(rt; out.is_empty());
 }

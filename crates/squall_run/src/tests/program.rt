@@ -1,8 +1,10 @@
-use super::{ANSWERS, Drip, Drops, Feeds, LINES, joined};
+use super::{ANSWERS, Drip, Drops, LINES, joined};
 use crate::{
     Ended, Files, Reader, RunFault, Sink, Source, Writer, check_text, course_text, perform,
 };
 use std::alloc::Global;
+use std::io;
+use std::io::Read;
 use std::test::Fail;
 
 const OLD_PLAN: &str =
@@ -17,29 +19,43 @@ const NEW_CHECKED: &str =
 const GAP: &str =
     "{\"plan\":[{\"part\":1,\"from\":[0,0],\"to\":[3,5]},{\"part\":2,\"from\":[3,6],\"to\":\"end\"}]}";
 
-/// One file, of that name and text.
+/// Two files: `new.json`, a plan, and `gap.json`, which is none.
 #[derive(Drop)]
-struct OneFile {
-    name: &'static str,
-    text: &'static str,
-}
+struct TwoFiles;
 
-impl Files for OneFile {
+impl Files for TwoFiles {
     type File = Reader<&'static [u8]>;
 
     fn open(&mut self, name: &str) -> Option<Reader<&'static [u8]>> {
-        if name == self.name {
-            Some(Reader::new(self.text.as_bytes()))
-        } else {
-            None
+        if name == "new.json" {
+            return Some(Reader::new(NEW_PLAN.as_bytes()));
         }
+        if name == "gap.json" {
+            return Some(Reader::new(GAP.as_bytes()));
+        }
+        None
     }
 }
 
-const FILE: OneFile = OneFile {
-    name: "new.json",
-    text: NEW_PLAN,
-};
+/// Gives the text, then the end of input, and then the text again.
+#[derive(Drop)]
+struct Again {
+    text: &'static str,
+    given: bool,
+    ended: bool,
+}
+
+impl Read for Again {
+    fn read(&mut self, buf: &mut [u8]) -> io::Result<usize> {
+        if self.given && !self.ended {
+            self.ended = true;
+            return Ok(0);
+        }
+        self.given = true;
+        let mut rest = self.text.as_bytes();
+        rest.read(buf)
+    }
+}
 
 /// What the words bring about: the status, and whether both outputs are these texts.
 fn brings<S: Source + Drop>(
@@ -51,7 +67,7 @@ fn brings<S: Source + Drop>(
 ) -> Result<Option<u8>, Fail> {
     let mut out = Vec::new(alloc);
     let mut err = Vec::new(alloc);
-    let mut files = FILE;
+    let mut files = TwoFiles;
     let status = perform(
         alloc,
         words,
@@ -70,29 +86,6 @@ fn brings<S: Source + Drop>(
 /// A reader of the text.
 fn given(text: &'static str) -> Reader<&'static [u8]> {
     Reader::new(text.as_bytes())
-}
-
-#[test]
-fn check_of_a_plan(rt: HostRuntime) -> Result<(), Fail> {
-    let alloc = rt.alloc();
-    let mut out = Vec::new(alloc);
-    let mut writer = Writer::new(&mut out);
-    let outcome = check_text(alloc, NEW_PLAN.as_bytes(), &mut writer);
-    assert_eq!(rt; outcome, Ok(Ended::Fine));
-    assert!(rt; out.as_slice() == NEW_CHECKED.as_bytes());
-    Ok(())
-}
-
-#[test]
-fn course_between_plans(rt: HostRuntime) -> Result<(), Fail> {
-    let alloc = rt.alloc();
-    let mut out = Vec::new(alloc);
-    let mut writer = Writer::new(&mut out);
-    let outcome = course_text(alloc, OLD_PLAN.as_bytes(), NEW_PLAN.as_bytes(), &mut writer);
-    assert_eq!(rt; outcome, Ok(Ended::Fine));
-    let wanted = "moves 2\nsub-plans 1\nmove [2:0,3:0) 1 to 3 sub 0\nmove [6:0,9:0) 3 to 4 sub 0\n";
-    assert!(rt; out.as_slice() == wanted.as_bytes());
-    Ok(())
 }
 
 #[test]
@@ -116,35 +109,33 @@ fn courses_of_files(rt: HostRuntime) -> Result<(), Fail> {
         "",
     )?;
     assert_eq!(rt; course, Some(1));
-    let no_new = "refused new Json\n";
-    let course = brings(
-        alloc,
-        &["squall", "course", "-", "-"],
-        given(NEW_PLAN),
-        no_new,
-        "",
-    )?;
-    assert_eq!(rt; course, Some(1));
-    let no_file = "squall: cannot open x\n";
-    let course = brings(
-        alloc,
-        &["squall", "course", "-", "x"],
-        given(GAP),
-        "",
-        no_file,
-    )?;
-    assert_eq!(rt; course, Some(3));
     Ok(())
 }
 
+/// The second `-` is empty, also where a reader would give more after its end.
 #[test]
-fn check_of_no_plan(rt: HostRuntime) -> Result<(), Fail> {
+fn standard_input_is_read_once(rt: HostRuntime) -> Result<(), Fail> {
     let alloc = rt.alloc();
-    let mut out = Vec::new(alloc);
-    let mut writer = Writer::new(&mut out);
-    let outcome = check_text(alloc, GAP.as_bytes(), &mut writer);
-    assert_eq!(rt; outcome, Ok(Ended::Refused));
-    assert!(rt; out.as_slice() == b"refused Gap 3:5\n".as_slice());
+    let again = Again {
+        text: NEW_PLAN,
+        given: false,
+        ended: false,
+    };
+    let words = &["squall", "course", "-", "-"];
+    let course = brings(alloc, words, Reader::new(again), "refused new Json\n", "")?;
+    assert_eq!(rt; course, Some(1));
+    Ok(())
+}
+
+/// Files are opened in the order of the words.
+#[test]
+fn first_missing_file(rt: HostRuntime) -> Result<(), Fail> {
+    let alloc = rt.alloc();
+    let no_x = "squall: cannot open x\n";
+    let both = brings(alloc, &["squall", "course", "x", "y"], given(""), "", no_x)?;
+    assert_eq!(rt; both, Some(3));
+    let second = brings(alloc, &["squall", "course", "-", "x"], given(GAP), "", no_x)?;
+    assert_eq!(rt; second, Some(3));
     Ok(())
 }
 
@@ -181,8 +172,8 @@ fn tasks(rt: HostRuntime) -> Result<(), Fail> {
     assert_eq!(rt; file, Some(0));
     let refused = brings(
         alloc,
-        &["squall", "check", "-"],
-        given(GAP),
+        &["squall", "check", "gap.json"],
+        given(NEW_PLAN),
         "refused Gap 3:5\n",
         "",
     )?;
@@ -248,27 +239,13 @@ fn files_that_fail(rt: HostRuntime) -> Result<(), Fail> {
     Ok(())
 }
 
-/// A file that never ends is a read fault.
-#[test]
-fn file_without_end(rt: HostRuntime) -> Result<(), Fail> {
-    let alloc = rt.alloc();
-    let endless = brings(
-        alloc,
-        &["squall", "check", "-"],
-        Reader::new(Feeds),
-        "",
-        "squall: read failed\n",
-    )?;
-    assert_eq!(rt; endless, Some(3));
-    Ok(())
-}
-
-/// The status of the words, where `out` takes that many bytes, and whether it was written to, and
-/// `err` too.
+/// The status of the words, where `out` takes that many bytes, whether it was written to, and
+/// whether `err` has this text.
 fn status_into(
     alloc: Global,
     words: &'static [&'static str],
     fails: usize,
+    told: &str,
 ) -> Result<(u8, bool, bool), Fail> {
     let mut drops = Drops {
         taken: Vec::new(alloc),
@@ -276,7 +253,7 @@ fn status_into(
         takes_nothing: false,
     };
     let mut err = Vec::new(alloc);
-    let mut files = FILE;
+    let mut files = TwoFiles;
     let status = perform(
         alloc,
         words,
@@ -285,31 +262,103 @@ fn status_into(
         &mut Writer::new(&mut drops),
         &mut Writer::new(&mut err),
     );
-    Ok((status, !drops.taken.is_empty(), !err.is_empty()))
+    Ok((
+        status,
+        !drops.taken.is_empty(),
+        err.as_slice().starts_with(told.as_bytes()) && err.is_empty() == told.is_empty(),
+    ))
 }
 
 #[test]
 fn words_for_no_task(rt: HostRuntime) -> Result<(), Fail> {
     let alloc = rt.alloc();
-    assert_eq!(rt;
-        status_into(alloc, &["squall", "check"], 100000)?,
-        (2, false, true)
+    let bad = status_into(alloc, &["squall", "check"], 100000, "error: ")?;
+    assert_eq!(rt; bad, (2, false, true));
+    let bad = status_into(alloc, &["squall", "race", "x"], 100000, "error: ")?;
+    assert_eq!(rt; bad, (2, false, true));
+    let help = status_into(alloc, &["squall", "--help"], 100000, "")?;
+    assert_eq!(rt; help, (0, true, true));
+    let help = status_into(alloc, &["squall", "--help"], 3, "squall: write failed\n")?;
+    assert_eq!(rt; help, (3, true, true));
+    Ok(())
+}
+
+#[test]
+fn output_that_fails(rt: HostRuntime) -> Result<(), Fail> {
+    let alloc = rt.alloc();
+    let check = status_into(
+        alloc,
+        &["squall", "check", "new.json"],
+        3,
+        "squall: write failed\n",
+    )?;
+    assert_eq!(rt; check, (3, true, true));
+    Ok(())
+}
+
+/// Where an allocation fails, the output is whole or has nothing, or a writer that grows failed.
+#[test]
+fn tolerant_check(rt: HostRuntime) -> Result<(), Fail> {
+    let alloc = rt.alloc();
+    let mut out = Vec::new(alloc);
+    let mut writer = Writer::new(&mut out);
+    match check_text(alloc, NEW_PLAN.as_bytes(), &mut writer) {
+        Ok(ended) => {
+            assert_eq!(rt; ended, Ended::Fine);
+            assert!(rt; out.as_slice() == NEW_CHECKED.as_bytes());
+        }
+        Err(RunFault::NoMemory) => assert!(rt; out.is_empty()),
+        Err(fault) => {
+            assert_eq!(rt; fault, RunFault::Write);
+            assert!(rt; NEW_CHECKED.as_bytes().starts_with(out.as_slice()));
+        }
+    }
+    Ok(())
+}
+
+#[test]
+fn tolerant_course(rt: HostRuntime) -> Result<(), Fail> {
+    let alloc = rt.alloc();
+    let wanted = "moves 2\nsub-plans 1\nmove [2:0,3:0) 1 to 3 sub 0\nmove [6:0,9:0) 3 to 4 sub 0\n";
+    let mut out = Vec::new(alloc);
+    let mut writer = Writer::new(&mut out);
+    match course_text(alloc, OLD_PLAN.as_bytes(), NEW_PLAN.as_bytes(), &mut writer) {
+        Ok(ended) => {
+            assert_eq!(rt; ended, Ended::Fine);
+            assert!(rt; out.as_slice() == wanted.as_bytes());
+        }
+        Err(RunFault::NoMemory) => assert!(rt; out.is_empty()),
+        Err(fault) => {
+            assert_eq!(rt; fault, RunFault::Write);
+            assert!(rt; wanted.as_bytes().starts_with(out.as_slice()));
+        }
+    }
+    Ok(())
+}
+
+/// A failed allocation has a status and a text of its own.
+#[test]
+fn tolerant_words(rt: HostRuntime) -> Result<(), Fail> {
+    let alloc = rt.alloc();
+    let mut out = Vec::new(alloc);
+    let mut err = Vec::new(alloc);
+    let status = perform(
+        alloc,
+        &["squall", "check", "new.json"],
+        &mut TwoFiles,
+        &mut given(""),
+        &mut Writer::new(&mut out),
+        &mut Writer::new(&mut err),
     );
-    assert_eq!(rt;
-        status_into(alloc, &["squall", "race", "x"], 100000)?,
-        (2, false, true)
-    );
-    assert_eq!(rt;
-        status_into(alloc, &["squall", "--help"], 100000)?,
-        (0, true, false)
-    );
-    assert_eq!(rt;
-        status_into(alloc, &["squall", "--help"], 3)?,
-        (3, true, true)
-    );
-    assert_eq!(rt;
-        status_into(alloc, &["squall", "check", "new.json"], 3)?,
-        (3, true, true)
-    );
+    if status == 4 {
+        assert!(rt; out.is_empty());
+        assert!(rt; err.as_slice() == b"squall: no memory\n".as_slice());
+    } else if status == 3 {
+        // The writer, which grows too, was the one that was refused.
+        assert!(rt; err.as_slice() == b"squall: write failed\n".as_slice());
+    } else {
+        assert_eq!(rt; status, 0);
+        assert!(rt; out.as_slice() == NEW_CHECKED.as_bytes());
+    }
     Ok(())
 }
