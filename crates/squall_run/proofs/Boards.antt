@@ -50,21 +50,21 @@ abbrev state_text : CellEntry → List ℕ → List ℕ
 state_text c end = text_of_complete c.complete ++ (next_spans c.spans ++ end)
 
 abbrev cell_text : CellEntry → List ℕ → List ℕ
-cell_text c end = codes "cell " ++ (decimal c.number ++ (codes " " ++ (decimal c.sub ++ (codes " " ++ (decimal c.part ++ (codes " " ++ state_text c end))))))
+cell_text c end = codes "cell " ++ (decimal c.cell.number ++ (codes " " ++ (decimal c.cell.sub ++ (codes " " ++ (decimal c.cell.part ++ (codes " " ++ state_text c end))))))
 
 cell_lacks : (c : CellEntry) → Lacks bad (cell_line c)
 cell_lacks c =
-    let part = codes " " ++ (decimal c.part ++ (codes " " ++ state_text c [])) in
-    let part' = codes " " ++ (decimal c.part ++ (codes " " ++ state_text c (codes "\n"))) in
-    let sub = codes " " ++ (decimal c.sub ++ part) in
-    let sub' = codes " " ++ (decimal c.sub ++ part') in
+    let part = codes " " ++ (decimal c.cell.part ++ (codes " " ++ state_text c [])) in
+    let part' = codes " " ++ (decimal c.cell.part ++ (codes " " ++ state_text c (codes "\n"))) in
+    let sub = codes " " ++ (decimal c.cell.sub ++ part) in
+    let sub' = codes " " ++ (decimal c.cell.sub ++ part') in
     lacks_line bad (cell_line c) (cell_text c [])
-    (spells_glued (codes "cell ") (decimal c.number ++ sub') (decimal c.number ++ sub) [] refl
-    (spells_glued (decimal c.number) sub' sub [] (decimal_no_lf c.number)
-    (spells_glued (codes " ") (decimal c.sub ++ part') (decimal c.sub ++ part) [] refl
-    (spells_glued (decimal c.sub) part' part [] (decimal_no_lf c.sub)
-    (spells_glued (codes " ") (decimal c.part ++ (codes " " ++ state_text c (codes "\n"))) (decimal c.part ++ (codes " " ++ state_text c [])) [] refl
-    (spells_glued (decimal c.part) (codes " " ++ state_text c (codes "\n")) (codes " " ++ state_text c []) [] (decimal_no_lf c.part)
+    (spells_glued (codes "cell ") (decimal c.cell.number ++ sub') (decimal c.cell.number ++ sub) [] refl
+    (spells_glued (decimal c.cell.number) sub' sub [] (decimal_no_lf c.cell.number)
+    (spells_glued (codes " ") (decimal c.cell.sub ++ part') (decimal c.cell.sub ++ part) [] refl
+    (spells_glued (decimal c.cell.sub) part' part [] (decimal_no_lf c.cell.sub)
+    (spells_glued (codes " ") (decimal c.cell.part ++ (codes " " ++ state_text c (codes "\n"))) (decimal c.cell.part ++ (codes " " ++ state_text c [])) [] refl
+    (spells_glued (decimal c.cell.part) (codes " " ++ state_text c (codes "\n")) (codes " " ++ state_text c []) [] (decimal_no_lf c.cell.part)
     (spells_glued (codes " ") (state_text c (codes "\n")) (state_text c []) [] refl
     (spells_glued (text_of_complete c.complete) (next_spans c.spans ++ codes "\n") (next_spans c.spans ++ []) [] (complete_no_lf c.complete)
     (spells_glued (next_spans c.spans) (codes "\n") [] [] (spans_no_lf c.spans) spells_lf)))))))))

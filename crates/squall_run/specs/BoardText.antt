@@ -51,7 +51,7 @@ next_spans ss = flat_map next_span ss
 
 -- the line of a cell: its number, sub-plan and partition, whether the partition is done, and the keys loaded
 abbrev pub cell_line : CellEntry → List ℕ
-cell_line c = codes "cell " ++ (decimal c.number ++ (codes " " ++ (decimal c.sub ++ (codes " " ++ (decimal c.part ++ (codes " " ++ (text_of_complete c.complete ++ (next_spans c.spans ++ codes "\n"))))))))
+cell_line c = codes "cell " ++ (decimal c.cell.number ++ (codes " " ++ (decimal c.cell.sub ++ (codes " " ++ (decimal c.cell.part ++ (codes " " ++ (text_of_complete c.complete ++ (next_spans c.spans ++ codes "\n"))))))))
 
 -- the lines of cells, one after another
 abbrev pub cell_lines : List CellEntry → List ℕ
