@@ -49,29 +49,29 @@ module _ {K V : Type 0} {R : K → K → Ordering} (o : IsTotalOrder R) (es : Li
   -- half of the places are left
   pub among_half : (from size half taken : ℕ) (x : K × V) → 0 < half → half + half ≤ size → IsStep R key (get_or es (from + half - 1) x) half taken → IsAmong R es key from size → IsAmong R es key (from + taken) (size - half)
   among_half from size half taken x some few s m = is_less_or_not (R (get_or es (from + half - 1) x).0 key) (IsAmong R es key (from + taken) (size - half))
-    (λ less. let all : taken ≡ half = s.less less in record {
-      in_range = omega (arith, m.in_range);
-      less_before = λ j d lt. less_upto (from + half - 1) j x d (omega (arith, m.in_range)) (omega arith) less;
-      no_less_from = λ j d le lt. m.no_less_from j d (omega arith) lt;
-    })
-    (λ not. let none : taken ≡ 0 = s.not_less not in record {
-      in_range = omega (arith, m.in_range);
-      less_before = λ j d lt. m.less_before j d (omega arith);
-      no_less_from = λ j d le lt. no_less_on (from + half - 1) j x d (omega arith) lt not;
-    })
+      (λ less. let all : taken ≡ half = s.less less in record {
+        in_range = omega (arith, m.in_range);
+        less_before = λ j d lt. less_upto (from + half - 1) j x d (omega (arith, m.in_range)) (omega arith) less;
+        no_less_from = λ j d le lt. m.no_less_from j d (omega arith) lt;
+      })
+      (λ not. let none : taken ≡ 0 = s.not_less not in record {
+        in_range = omega (arith, m.in_range);
+        less_before = λ j d lt. m.less_before j d (omega arith);
+        no_less_from = λ j d le lt. no_less_on (from + half - 1) j x d (omega arith) lt not;
+      })
 
   pub place_by_one : (from taken : ℕ) (x : K × V) → IsStep R key (get_or es from x) 1 taken → IsAmong R es key from 1 → IsPlace R es key (from + taken)
   place_by_one from taken x s m = is_less_or_not (R (get_or es from x).0 key) (IsPlace R es key (from + taken))
-    (λ less. let all : taken ≡ 1 = s.less less in record {
-      in_range = omega (arith, m.in_range);
-      less_before = λ j d lt. less_upto from j x d (omega (arith, m.in_range)) (omega arith) less;
-      no_less_from = λ j d le lt. m.no_less_from j d (omega arith) lt;
-    })
-    (λ not. let none : taken ≡ 0 = s.not_less not in record {
-      in_range = omega (arith, m.in_range);
-      less_before = λ j d lt. m.less_before j d (omega arith);
-      no_less_from = λ j d le lt. no_less_on from j x d (omega arith) lt not;
-    })
+      (λ less. let all : taken ≡ 1 = s.less less in record {
+        in_range = omega (arith, m.in_range);
+        less_before = λ j d lt. less_upto from j x d (omega (arith, m.in_range)) (omega arith) less;
+        no_less_from = λ j d le lt. m.no_less_from j d (omega arith) lt;
+      })
+      (λ not. let none : taken ≡ 0 = s.not_less not in record {
+        in_range = omega (arith, m.in_range);
+        less_before = λ j d lt. m.less_before j d (omega arith);
+        no_less_from = λ j d le lt. no_less_on from j x d (omega arith) lt not;
+      })
 
 pub place_by_none : {K V : Type 0} (R : K → K → Ordering) (es : List (K × V)) (key : K) (from size : ℕ) → size ≡ 0 → IsAmong R es key from size → IsPlace R es key from
 place_by_none R es key from size e m = record {

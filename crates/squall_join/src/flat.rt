@@ -23,7 +23,7 @@ pub trait Exact: Drop {
     fn is_same(&self, other: &Self) -> bool
         ensures { result ≡ eq self.now other.now };
 
-    /// A copy. An error says that memory ran out.
+    /// A copy. It fails only where an allocation fails, or a count of owners is full.
     fn copied(&self, alloc: Global) -> Result<Self, AllocError>
         ensures { IfOk result (λ v. v ≡ self.now) };
 

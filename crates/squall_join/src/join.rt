@@ -32,16 +32,16 @@ pub trait Join: Drop {
     fn covers(&self, other: &Self) -> bool
         ensures { IsTrue result ↔ Covers join self.now other.now };
 
-    /// The join of both. An error says that memory ran out.
+    /// The join of both. It fails only where an allocation fails.
     fn joined(&self, alloc: Global, other: &Self) -> Result<Self, AllocError>
         ensures { IfOk result (λ v. v ≡ join self.now other.now) };
 
-    /// A copy. An error says that memory ran out.
+    /// A copy. It fails only where an allocation fails.
     fn copied(&self, alloc: Global) -> Result<Self, AllocError>
         ensures { IfOk result (λ v. v ≡ self.now) };
 
-    /// Joins the other value into this one. An error says that memory ran out, and leaves this
-    /// value as it was.
+    /// Joins the other value into this one. It fails only where an allocation fails, and then
+    /// this value is as it was.
     fn join_in(&mut self, alloc: Global, other: &Self) -> Result<(), AllocError>
         ensures ok { OnOk result (self.new ≡ join self.old other.now) }
         ensures err { OnErr result (self.new ≡ self.old) };

@@ -66,8 +66,8 @@ impl<K: MapKey, V: Join> JoinMap<K, V> {
         }
     }
 
-    /// The map of one entry, and the empty map where the value is the least. An error says that
-    /// memory ran out.
+    /// The map of one entry, and the empty map where the value is the least. It fails only where
+    /// an allocation fails.
     pub fn single(alloc: Global, key: K, value: V) -> Result<Self, AllocError>
         ensures empty { value ≡ V.bottom → IfOk result (λ m. m ≡ []) }
         ensures one { value ≢ V.bottom → IfOk result (λ m. m ≡ (key, value) ∷ []) }

@@ -1,5 +1,6 @@
 //! Tests of joins.
 
+mod clients;
 mod shared;
 mod tolerant;
 mod updates;

@@ -14,8 +14,8 @@ mod walk;
 
 pub use laws::{
     a_difference_is_a_set, a_meet_is_a_set, a_set_splits_into_sets, a_union_is_a_set,
-    equality_is_exact, first_span_is_the_first_run, lengths_count_the_keys,
-    one_span_more_is_a_set, same_keys_make_the_same_set,
+    equality_is_exact, first_span_is_the_first_run, lengths_count_the_keys, one_span_more_is_a_set,
+    same_keys_make_the_same_set,
 };
 pub use set::SpanSet;
 pub use span::Span;

@@ -1,5 +1,6 @@
 //! Tests of sets of keys.
 
+mod clients;
 mod plain;
 mod tolerant;
 

@@ -1,4 +1,4 @@
-//! Each call that allocates, which may answer that memory ran out and then changes nothing.
+//! Each call that allocates, any one of whose allocations may fail: then nothing has changed.
 
 use super::{map, span};
 use crate::{Join, JoinMap, Max, Pair};
@@ -25,7 +25,7 @@ fn one(
     JoinMap::single(alloc, outer, JoinMap::single(alloc, inner, pair)?)
 }
 
-/// Joins one value into another, and sees that a refusal changes nothing.
+/// Joins one value into another, and sees that a failed allocation changes nothing.
 fn tries<J: Join>(rt: &impl Abort, alloc: Global, value: &mut J, other: &J) {
     let Ok(before) = value.copied(alloc) else {
         return;

@@ -1,4 +1,4 @@
-//! Each call that allocates, which may answer that memory ran out and then changes nothing.
+//! Each call that allocates, any one of whose allocations may fail: then nothing has changed.
 
 use crate::{Span, SpanSet};
 use squall_key::Bound;
