@@ -3,6 +3,7 @@
 mod listed;
 mod plain;
 mod random;
+mod route_clients;
 mod tolerant;
 
 use super::*;

@@ -12,7 +12,8 @@ use Rattle.squall_report.specs.Openings.{opened_by_report, opened_by}
 pub below_max : (s a b : ℕ) → nat_lt s (max a b) ≡ (nat_lt s a || nat_lt s b)
 below_max s a b = grind (arith, nat_tests)
 
-none_below : (s : ℕ) → false ≡ nat_lt s 0
+-- no number is below 0
+pub none_below : (s : ℕ) → false ≡ nat_lt s 0
 none_below s = grind (arith, nat_tests)
 
 below_next : (s t : ℕ) → nat_le s t ≡ nat_lt s (t + 1)
@@ -43,6 +44,7 @@ one_count a b same =
     let ba : nat_lt b a ≡ nat_lt b b = same b in
     grind (arith, nat_tests)
 
+-- the count of a list after another is the greater of both
 pub opened_append : (rs qs : List (ReportKind PlanPair)) (n : ℕ) → opened_by (rs ++ qs) n ≡ max (opened_by rs n) (opened_by qs n)
 opened_append [] qs n = omega arith
 opened_append (r ∷ rs) qs n = let h : opened_by (rs ++ qs) n ≡ max (opened_by rs n) (opened_by qs n) = opened_append rs qs n in ap (max (opened_by_report r n)) h ∙ assoc (opened_by_report r n) (opened_by rs n) (opened_by qs n)

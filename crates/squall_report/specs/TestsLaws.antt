@@ -1,8 +1,8 @@
 -- Laws of tests.
-use Rattle.std.specs.Prelude.{◌≡◌, nat_lt, Bool, false, ◌||◌, List, [], ◌∷◌, ◌++◌, ◌↔◌, refl}
+use Rattle.std.specs.Prelude.{◌≡◌, nat_lt, ◌||◌, List, [], ◌∷◌, ◌++◌, ◌↔◌, refl}
 use Rattle.std.proofs.Common.{sym, ap, ◌∙◌, arith}
+use Rattle.std.proofs.Math.Bool.{or_assoc, or_comm, or_self, or-false}
 use Rattle.squall_join.specs.Laws.{JoinLaws}
-use Rattle.squall_join.specs.Basic.{flag_laws}
 use Rattle.squall_report.specs.declared.report.ReportKind.{ReportKind}
 use Rattle.squall_report.specs.declared.report.ReportKind.TheVariants.{Loaded, Done, Opened, Issued}
 use Rattle.squall_report.specs.Issues.{PlanPair}
@@ -16,31 +16,32 @@ use Rattle.squall_report.specs.Tests.{Tests, SameTests, no_tests, joined_tests, 
 pub same_tests : (a b : Tests) → SameTests a b → a ≡ b
 same_tests a b s = λ i. record { loaded = λ c k. s.loaded c k i; done = λ c. s.done c i; opened = λ n. s.opened n i; issued = λ n. s.issued n i }
 
+-- tests join in any grouping, order and number to the same tests
 pub tests_laws : JoinLaws (λ _. Unit {0}) no_tests joined_tests
 tests_laws = record {
   bottom_is = tt;
   closed = λ a b _ _. tt;
   assoc = λ a b d _ _ _. same_tests _ _ (record {
-    loaded = λ c k. flag_laws.assoc (a.loaded c k) (b.loaded c k) (d.loaded c k) tt tt tt;
-    done = λ c. flag_laws.assoc (a.done c) (b.done c) (d.done c) tt tt tt;
+    loaded = λ c k. or_assoc (a.loaded c k) (b.loaded c k) (d.loaded c k);
+    done = λ c. or_assoc (a.done c) (b.done c) (d.done c);
     opened = λ n. omega arith;
     issued = λ n. issued_assoc (a.issued n) (b.issued n) (d.issued n);
   });
   comm = λ a b _ _. same_tests _ _ (record {
-    loaded = λ c k. flag_laws.comm (a.loaded c k) (b.loaded c k) tt tt;
-    done = λ c. flag_laws.comm (a.done c) (b.done c) tt tt;
+    loaded = λ c k. or_comm (a.loaded c k) (b.loaded c k);
+    done = λ c. or_comm (a.done c) (b.done c);
     opened = λ n. omega arith;
     issued = λ n. issued_comm (a.issued n) (b.issued n);
   });
   idem = λ a _. same_tests _ _ (record {
-    loaded = λ c k. flag_laws.idem (a.loaded c k) tt;
-    done = λ c. flag_laws.idem (a.done c) tt;
+    loaded = λ c k. or_self (a.loaded c k);
+    done = λ c. or_self (a.done c);
     opened = λ n. omega arith;
     issued = λ n. issued_idem (a.issued n);
   });
   neutral = λ a _. same_tests _ _ (record {
-    loaded = λ c k. flag_laws.neutral (a.loaded c k) tt;
-    done = λ c. flag_laws.neutral (a.done c) tt;
+    loaded = λ c k. or-false (a.loaded c k);
+    done = λ c. or-false (a.done c);
     opened = λ n. omega arith;
     issued = λ n. issued_neutral (a.issued n);
   });
@@ -48,12 +49,13 @@ tests_laws = record {
 
 -- ---- tests and what they tell
 
--- where all but the openings is the same, the counts give the openings
+-- the same tests say the same facts
 same_facts : (a b : Tests) → SameTests a b → (f : Fact) → tests_say a f ≡ tests_say b f
 same_facts a b s (LoadedKey c k) = s.loaded c k
 same_facts a b s (DonePart c) = s.done c
 same_facts a b s (OpenedSub n t) = ap (nat_lt t) (s.opened n)
 
+-- tests are the same where they tell the same
 pub told_by_same : (a b : Tests) → SameTests a b ↔ SameTold (told_by_tests a) (told_by_tests b)
 told_by_same a b = (
   λ s. record { facts = same_facts a b s; issues = s.issued },
@@ -88,12 +90,14 @@ says_by_tests rs (OpenedSub n s) = openings_count rs n s
 pub told_by_its_tests : (rs : List (ReportKind PlanPair)) → SameTold (told_by rs) (told_by_tests (tests_by rs))
 told_by_its_tests rs = record { facts = says_by_tests rs; issues = λ n. refl }
 
+-- lists of reports have the same tests where they tell the same
 pub same_told_lists : (rs qs : List (ReportKind PlanPair)) → SameTests (tests_by rs) (tests_by qs) ↔ SameTold (told_by rs) (told_by qs)
 same_told_lists rs qs = (
   λ s. record { facts = λ f. says_by_tests rs f ∙ same_facts (tests_by rs) (tests_by qs) s f ∙ sym (says_by_tests qs f); issues = s.issued },
   λ t. (told_by_same (tests_by rs) (tests_by qs)).1 (record { facts = λ f. sym (says_by_tests rs f) ∙ t.facts f ∙ says_by_tests qs f; issues = t.issues }),
 )
 
+-- a list after another has the joined tests of both
 pub tests_append : (rs qs : List (ReportKind PlanPair)) → SameTests (tests_by (rs ++ qs)) (joined_tests (tests_by rs) (tests_by qs))
 tests_append rs qs = record {
   loaded = λ c k. (told_append rs qs).facts (LoadedKey c k);
@@ -102,12 +106,9 @@ tests_append rs qs = record {
   issued = (told_append rs qs).issues;
 }
 
-or_false : (a : Bool) → (a || false) ≡ a
-or_false a = flag_laws.neutral a tt
-
 -- one report has its tests
 pub report_tests : (r : ReportKind PlanPair) → SameTests (tests_by (r ∷ [])) (tests_by_report r)
-report_tests (Loaded number sub part span) = record { loaded = λ c k. or_false _; done = λ c. or_false _; opened = λ n. omega arith; issued = λ n. refl }
-report_tests (Done number sub part) = record { loaded = λ c k. or_false _; done = λ c. or_false _; opened = λ n. omega arith; issued = λ n. refl }
-report_tests (Opened number sub) = record { loaded = λ c k. or_false _; done = λ c. or_false _; opened = λ n. omega arith; issued = λ n. refl }
-report_tests (Issued number issue) = record { loaded = λ c k. or_false _; done = λ c. or_false _; opened = λ n. omega arith; issued = λ n. issued_neutral _ }
+report_tests (Loaded number sub part span) = record { loaded = λ c k. or-false _; done = λ c. or-false _; opened = λ n. omega arith; issued = λ n. refl }
+report_tests (Done number sub part) = record { loaded = λ c k. or-false _; done = λ c. or-false _; opened = λ n. omega arith; issued = λ n. refl }
+report_tests (Opened number sub) = record { loaded = λ c k. or-false _; done = λ c. or-false _; opened = λ n. omega arith; issued = λ n. refl }
+report_tests (Issued number issue) = record { loaded = λ c k. or-false _; done = λ c. or-false _; opened = λ n. omega arith; issued = λ n. issued_neutral _ }

@@ -1,0 +1,28 @@
+-- Where a first course, and what was told since, send a key (this project: the newest course that is known decides).
+use Rattle.std.specs.Prelude.{◌≡◌, ℕ, List, Option, None, Some}
+use Rattle.squall_course.specs.Change.{Change}
+use Rattle.squall_report.specs.declared.report.ReportKind.{ReportKind}
+use Rattle.squall_report.specs.Issues.{PlanPair}
+use Rattle.squall_report.specs.Facts.{reports_say}
+use Rattle.squall_report.specs.Newest.{IsNewest, newest_by}
+use Rattle.squall_report.specs.Tests.{Tests, tests_say}
+use Rattle.squall_board.specs.Boards.{BoardValue, says}
+use Rattle.squall_board.specs.Newest.{newest_of}
+use Rattle.squall_board.specs.Route.{route}
+
+-- the newest course after the first, where there is one, and else the first
+abbrev pub course_by : Change → Option (ℕ × PlanPair) → Change
+course_by first None = first
+course_by first (Some e) = record { number = e.0; old = e.1.old; new = e.1.new }
+
+-- the route of a board by its newest course after the first
+abbrev pub route_by_newest : Change → BoardValue → ℕ → ℕ
+route_by_newest first b k = route (course_by first (newest_of b first.number)) (says b) k
+
+-- the route of a list of reports by its newest course after the first
+abbrev pub route_by_reports : Change → List (ReportKind PlanPair) → ℕ → ℕ
+route_by_reports first rs k = route (course_by first (newest_by rs first.number)) (reports_say rs) k
+
+-- by tests the key goes to that partition: it is the route of the newest course after the first
+abbrev pub IsRoutedBy : Change → Tests → ℕ → ℕ → Type 0
+IsRoutedBy first t k part = (newest : Option (ℕ × PlanPair)) × IsNewest t.issued first.number newest × (part ≡ route (course_by first newest) (tests_say t) k)
