@@ -1,7 +1,6 @@
 -- Laws of the tests of boards.
-use Rattle.std.specs.Prelude.{◌≡◌, ℕ, nat_lt, false, ◌||◌, List, Option, None, Some, ◌↔◌, refl}
-use Rattle.std.proofs.Common.{sym, ◌∙◌, arith}
-use Rattle.std.proofs.lemmas.Bool.Decides.{nat_tests}
+use Rattle.std.specs.Prelude.{◌≡◌, ℕ, nat_lt, ◌||◌, List, Option, None, Some, ◌↔◌, refl}
+use Rattle.std.proofs.Common.{sym, ◌∙◌}
 use Rattle.std.specs.Ordering.{nat_cmp}
 use Rattle.std.specs.FinMap.Entries.{find}
 use Rattle.squall_join.specs.Looked.{looked}
@@ -11,6 +10,7 @@ use Rattle.squall_report.specs.Issues.{PlanPair}
 use Rattle.squall_report.specs.Facts.{Fact, LoadedKey, DonePart, OpenedSub}
 use Rattle.squall_report.specs.Told.{SameTold, TellsBoth}
 use Rattle.squall_report.specs.Openings.{opened_by}
+use Rattle.squall_report.specs.OpeningsLaws.{none_below}
 use Rattle.squall_report.specs.Newest.{newest_by}
 use Rattle.squall_report.specs.NewestLaws.{one_newest, newest_same, newest_of_reports}
 use Rattle.squall_report.specs.Tests.{SameTests, joined_tests, tests_by, tests_say, told_by_tests}

@@ -15,14 +15,26 @@ abbrev pub course_by : Change → Option (ℕ × PlanPair) → Change
 course_by first None = first
 course_by first (Some e) = record { number = e.0; old = e.1.old; new = e.1.new }
 
--- the route of a board by its newest course after the first
+-- the course of a board: its newest after the first, or the first
+abbrev pub course_of_board : Change → BoardValue → Change
+course_of_board first b = course_by first (newest_of b first.number)
+
+-- the course of a list of reports
+abbrev pub course_of_reports : Change → List (ReportKind PlanPair) → Change
+course_of_reports first rs = course_by first (newest_by rs first.number)
+
+-- tests have one course at most, and boards and lists of reports have one
+abbrev pub IsCourseBy : Change → Tests → Change → Type 0
+IsCourseBy first t c = (newest : Option (ℕ × PlanPair)) × IsNewest t.issued first.number newest × (c ≡ course_by first newest)
+
+-- the route of a board by its course
 abbrev pub route_by_newest : Change → BoardValue → ℕ → ℕ
-route_by_newest first b k = route (course_by first (newest_of b first.number)) (says b) k
+route_by_newest first b k = route (course_of_board first b) (says b) k
 
--- the route of a list of reports by its newest course after the first
+-- the route of a list of reports by its course
 abbrev pub route_by_reports : Change → List (ReportKind PlanPair) → ℕ → ℕ
-route_by_reports first rs k = route (course_by first (newest_by rs first.number)) (reports_say rs) k
+route_by_reports first rs k = route (course_of_reports first rs) (reports_say rs) k
 
--- by tests the key goes to that partition: it is the route of the newest course after the first
+-- by tests the key goes to that partition: it is the route of their course
 abbrev pub IsRoutedBy : Change → Tests → ℕ → ℕ → Type 0
-IsRoutedBy first t k part = (newest : Option (ℕ × PlanPair)) × IsNewest t.issued first.number newest × (part ≡ route (course_by first newest) (tests_say t) k)
+IsRoutedBy first t k part = (c : Change) × IsCourseBy first t c × (part ≡ route c (tests_say t) k)

@@ -18,7 +18,7 @@ pub use facts_laws::{boards_have_taken_what_has_their_tests, boards_tell_as_thei
 pub use laws::{boards_that_tell_the_same_are_equal, boards_with_the_same_reports_are_equal};
 pub use listed::{lists_make_an_equal_board, lists_tell_what_the_board_tells};
 pub use opening::Opening;
-pub use route_laws::{boards_route_by_their_tests, cells_say_what_has_come, one_route, reports_route_by_their_tests, route_by_moves_is_the_route, taken_reports_route};
+pub use route_laws::{boards_have_the_course_of_their_tests, boards_route_by_their_tests, cells_say_what_has_come, course_of_taken_reports, one_course, one_route, reports_have_the_course_of_their_tests, reports_route_by_their_tests, route_by_moves_is_the_route, taken_reports_route};
 
 #[cfg(test)]
 mod tests;

@@ -13,10 +13,34 @@ ghost use Rattle.squall_report.specs.Tests.{Tests, tests_by};
 ghost use Rattle.squall_board.specs.Boards.{HasTaken, says, cell_of};
 ghost use Rattle.squall_board.specs.BoardTests.{tests_of};
 ghost use Rattle.squall_board.specs.Route.{route};
-ghost use Rattle.squall_board.specs.CourseRoute.{route_by_newest, route_by_reports, IsRoutedBy};
+ghost use Rattle.squall_board.specs.CourseRoute.{course_of_board, course_of_reports, IsCourseBy, route_by_newest, route_by_reports, IsRoutedBy};
 ghost use Rattle.squall_board.specs.MovesRoute.{has_come_to, cell_has_come, route_by_moves};
 
 use crate::Board;
+
+/// A board that has taken reports has the course of the reports.
+pub fn course_of_taken_reports(board: &Board)
+    ensures { (first : Change) (rs : List (ReportKind PlanPair)) → HasTaken board.now rs → course_of_board first board.now ≡ course_of_reports first rs }
+{
+    board.known();
+}
+
+/// A board has the course of its tests.
+pub fn boards_have_the_course_of_their_tests(board: &Board)
+    ensures { (first : Change) → IsCourseBy first (tests_of board.now) (course_of_board first board.now) }
+{
+    board.known();
+}
+
+/// A list of reports has the course of its tests.
+pub fn reports_have_the_course_of_their_tests()
+    ensures { (first : Change) (rs : List (ReportKind PlanPair)) → IsCourseBy first (tests_by rs) (course_of_reports first rs) }
+{}
+
+/// After a first course tests have one course.
+pub fn one_course()
+    ensures { (first : Change) (t : Tests) (c d : Change) → IsCourseBy first t c → IsCourseBy first t d → c ≡ d }
+{}
 
 /// A board that has taken reports routes each key as the reports do.
 pub fn taken_reports_route(board: &Board)

@@ -1,13 +1,13 @@
 -- Laws of tests.
-use Rattle.std.specs.Prelude.{◌≡◌, nat_lt, ◌||◌, List, [], ◌∷◌, ◌++◌, ◌↔◌, refl}
+use Rattle.std.specs.Prelude.{◌≡◌, nat_lt, Bool, true, false, ◌||◌, List, [], ◌∷◌, ◌++◌, ◌↔◌, refl}
 use Rattle.std.proofs.Common.{sym, ap, ◌∙◌, arith}
 use Rattle.std.proofs.Math.Bool.{or_assoc, or_comm, or_self, or-false}
-use Rattle.squall_join.specs.Laws.{JoinLaws}
+use Rattle.squall_join.specs.Laws.{JoinLaws, Covers}
 use Rattle.squall_report.specs.declared.report.ReportKind.{ReportKind}
 use Rattle.squall_report.specs.declared.report.ReportKind.TheVariants.{Loaded, Done, Opened, Issued}
 use Rattle.squall_report.specs.Issues.{PlanPair}
 use Rattle.squall_report.specs.Facts.{Fact, LoadedKey, DonePart, OpenedSub, reports_say}
-use Rattle.squall_report.specs.Told.{told_by, SameTold, TellsBoth}
+use Rattle.squall_report.specs.Told.{told_by, SameTold, TellsBoth, TellsAll}
 use Rattle.squall_report.specs.ToldLaws.{issued_assoc, issued_comm, issued_idem, issued_neutral, told_append}
 use Rattle.squall_report.specs.OpeningsLaws.{below_max, openings_count, one_count, opened_append}
 use Rattle.squall_report.specs.Tests.{Tests, SameTests, no_tests, joined_tests, tests_by, tests_by_report, tests_say, told_by_tests}
@@ -77,6 +77,28 @@ pub told_by_joined : (c a b : Tests) → SameTests c (joined_tests a b) ↔ Tell
 told_by_joined c a b = (
   λ s. record { facts = λ f. same_facts c (joined_tests a b) s f ∙ joined_say a b f; issues = s.issued },
   λ t. (told_by_same c (joined_tests a b)).1 (record { facts = λ f. t.facts f ∙ sym (joined_say a b f); issues = t.issues }),
+)
+
+or_covers : (a b : Bool) → (b ≡ true → a ≡ true) → (a || b) ≡ a
+or_covers true b into = refl
+or_covers false true into = sym (into refl)
+or_covers false false into = refl
+
+covered : (a b : Bool) → (a || b) ≡ a → b ≡ true → a ≡ true
+covered true b e is = refl
+covered false b e is = sym e ∙ is
+
+-- a join changes nothing where all that comes is told already
+pub told_already : (a b : Tests) → Covers joined_tests a b ↔ TellsAll (told_by_tests a) (told_by_tests b)
+told_already a b = (
+  λ e. record {
+    facts = λ f. covered (tests_say a f) (tests_say b f) (sym (joined_say a b f) ∙ ap (λ t. tests_say t f) e);
+    issues = λ n. ap (λ t. t.issued n) e;
+  },
+  λ all. same_tests (joined_tests a b) a ((told_by_same (joined_tests a b) a).1 (record {
+    facts = λ f. joined_say a b f ∙ or_covers (tests_say a f) (tests_say b f) (all.facts f);
+    issues = all.issues;
+  })),
 )
 
 -- ---- the tests of lists

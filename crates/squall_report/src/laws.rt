@@ -2,11 +2,11 @@
 
 ghost use Rattle.std.specs.Prelude.{◌≡◌, ◌↔◌, ℕ, nat_lt, List, [], ◌∷◌, ◌++◌, Option};
 ghost use Rattle.squall_join.specs.declared.flat.Flat.{Flat};
-ghost use Rattle.squall_join.specs.Laws.{JoinLaws};
+ghost use Rattle.squall_join.specs.Laws.{JoinLaws, Covers};
 ghost use Rattle.squall_report.specs.declared.report.ReportKind.{ReportKind};
 ghost use Rattle.squall_report.specs.Issues.{PlanPair};
 ghost use Rattle.squall_report.specs.Facts.{OpenedSub, reports_say};
-ghost use Rattle.squall_report.specs.Told.{IsIssued, reports_issue, told_by, SameTold, TellsBoth, AreSameReports};
+ghost use Rattle.squall_report.specs.Told.{IsIssued, reports_issue, told_by, SameTold, TellsBoth, TellsAll, AreSameReports};
 ghost use Rattle.squall_report.specs.Openings.{opened_by};
 ghost use Rattle.squall_report.specs.Newest.{IsNewest, newest_by};
 ghost use Rattle.squall_report.specs.Tests.{Tests, SameTests, no_tests, joined_tests, tests_by, tests_by_report, told_by_tests};
@@ -60,6 +60,11 @@ pub fn same_tests_tell_the_same()
 /// Tests are the joined ones of two others where they tell what those two tell, and nothing else.
 pub fn joined_tests_tell_both()
     ensures { (t a b : Tests) → SameTests t (joined_tests a b) ↔ TellsBoth (told_by_tests t) (told_by_tests a) (told_by_tests b) }
+{}
+
+/// A join of tests changes nothing where all that comes is told already.
+pub fn joins_of_what_is_told_change_nothing()
+    ensures { (a b : Tests) → Covers joined_tests a b ↔ TellsAll (told_by_tests a) (told_by_tests b) }
 {}
 
 /// A list of reports tells what its tests tell.
