@@ -8,15 +8,16 @@ use Rattle.std.proofs.lemmas.Option.{slice_get-get_or}
 use Rattle.squall_key.specs.Keys.{top, part_limit}
 use Rattle.squall_plan.specs.declared.range.PlanRange.{PlanRange}
 use Rattle.squall_plan.specs.Ranges.{owner_of, IsTiling}
-use Rattle.squall_course.specs.Subplans.{shares, feeds, is_dest, dests, moves, sub_at, sub_of, most_dests, subplan_count, dest_of, IsFed, IsSplit}
+use Rattle.squall_plan.specs.PlanLaws.{owner_first, owner_later}
+use Rattle.squall_course.specs.Subplans.{shares, feeds, is_dest, dests, moves, sub_at, sub_of, most_dests, subplan_count, dest_of, IsFed, IsSingle, IsSplit}
 use Rattle.squall_course.specs.Change.{ArePlans}
-use Rattle.squall_course.specs.Tables.{Up}
+use Rattle.squall_course.specs.Steps.{Up}
 use Rattle.squall_course.specs.declared.moving.Move.{Move}
 use Rattle.squall_course.specs.Moves.{IsMove, moves_of}
-use Rattle.squall_course.proofs.Rising.{is_in, place_within, at_place}
+use Rattle.squall_course.proofs.Rising.{is_in, place_within, at_place, contains_in, in_contains, in_numbers, length_numbers}
 use Rattle.squall_course.proofs.Tabled.{dests_in, dests_up, most_few}
 use Rattle.squall_course.proofs.Places.{feeds_key, moving_dest}
-use Rattle.squall_course.proofs.Moved.{Owns, owns, shared_lt, owner_here, owner_later, first_key, are_moves}
+use Rattle.squall_course.proofs.Moved.{Owns, owns, shared_lt, first_key, are_moves}
 
 member : (old new : List PlanRange) (k : ℕ) → ArePlans old new → k < top → moves old new k ≡ true → is_in (owner_of new k) (dests old new (owner_of old k)) ≡ true
 member old new k plans below is =
@@ -41,8 +42,8 @@ one_dest old new j k plans lt lt2 is is2 source sub =
 owner_counted : (old new : List PlanRange) (from k : ℕ) (rs : List PlanRange) → IsTiling from top rs → from ≤ k → k < top → length (dests old new (owner_of rs k)) ≤ most_dests old new rs
 owner_counted old new from k [] t le lt = absurd (omega (arith, t))
 owner_counted old new from k (r ∷ rs) t le lt = elim (cases_lt k r.span.hi) [
-  | inl here ↦ rw (owner_here r rs k (omega (arith, t.0)) here) (omega arith)
-  | inr past ↦ let rest = owner_counted old new r.span.hi k rs t.2 past lt in rw (owner_later r rs k past) (omega (arith, rest))
+  | inl here ↦ rw (owner_first k r rs (omega (arith, t.0)) here) (omega arith)
+  | inr past ↦ let rest = owner_counted old new r.span.hi k rs t.2 past lt in rw (owner_later k r rs past) (omega (arith, rest))
 ]
 
 pub sub_counted : (old new : List PlanRange) (k : ℕ) → ArePlans old new → k < top → moves old new k ≡ true → sub_of old new k < subplan_count old new
@@ -102,8 +103,8 @@ abbrev Distinct : List ℕ → Type 0
 Distinct [] = Unit {0}
 Distinct (v ∷ vs) = (is_in v vs ≡ false) × Distinct vs
 
-abbrev Below : ℕ → List ℕ → Type 0
-Below n vs = AllByRecursion (λ v. v < n) vs
+abbrev Within : List ℕ → List ℕ → Type 0
+Within us vs = AllByRecursion (λ v. is_in v us ≡ true) vs
 
 abbrev without : ℕ → List ℕ → List ℕ
 without n vs = filter (λ v. not (eqb v n)) vs
@@ -128,11 +129,13 @@ without_distinct n (v ∷ vs) d = elim (cases_Bool (eqb v n)) [
   | inr apart ↦ rw apart (out_of n v vs d.0, without_distinct n vs d.1)
 ]
 
-without_below : (n : ℕ) (vs : List ℕ) → Below (suc n) vs → Below n (without n vs)
-without_below n [] b = tt
-without_below n (v ∷ vs) b = elim (cases_eq v n) [
-  | inl same ↦ rw (eq-eqb v n same) (without_below n vs b.1)
-  | inr apart ↦ rw (ne_eqb v n apart) (omega (arith, b.0), without_below n vs b.1)
+without_within : (u : ℕ) (us vs : List ℕ) → Within (u ∷ us) vs → Within us (without u vs)
+without_within u us [] w = tt
+without_within u us (v ∷ vs) w = elim (cases_eq v u) [
+  | inl same ↦ rw (eq-eqb v u same) (without_within u us vs w.1)
+  | inr apart ↦
+      let here : is_in v us ≡ true = rw (ne_eqb u v (λ e. apart (sym e))) at w.0 in
+      rw (ne_eqb v u apart) (here, without_within u us vs w.1)
 ]
 
 without_none : (n : ℕ) (vs : List ℕ) → is_in n vs ≡ false → length vs ≤ length (without n vs)
@@ -150,12 +153,13 @@ without_one n (v ∷ vs) d = elim (cases_eq v n) [
   | inr apart ↦ rw (ne_eqb v n apart) (omega (arith, without_one n vs d.1))
 ]
 
-few_distinct : (n : ℕ) (vs : List ℕ) → Distinct vs → Below n vs → length vs ≤ n
-few_distinct n [] d b = omega arith
-few_distinct zero (v ∷ vs) d b = absurd (omega (arith, b.0))
-few_distinct (suc n) (v ∷ vs) d b =
-    let all = few_distinct n (without n (v ∷ vs)) (without_distinct n (v ∷ vs) d) (without_below n (v ∷ vs) b) in
-    omega (arith, all, without_one n (v ∷ vs) d)
+-- distinct members of a list are no more than it has
+few_distinct : (us vs : List ℕ) → Distinct vs → Within us vs → length vs ≤ length us
+few_distinct us [] d w = omega arith
+few_distinct [] (v ∷ vs) d w = absurd (false≢true w.0)
+few_distinct (u ∷ us) (v ∷ vs) d w =
+    let all = few_distinct us (without u (v ∷ vs)) (without_distinct u (v ∷ vs) d) (without_within u us (v ∷ vs) w) in
+    omega (arith, all, without_one u (v ∷ vs) d)
 
 filter_all : (t : ℕ → Bool) (xs : List ℕ) → AllByRecursion (λ d. t d ≡ true) (filter t xs)
 filter_all t [] = tt
@@ -181,26 +185,26 @@ given_weaker : (old new : List PlanRange) (s : ℕ → ℕ) (p from low : ℕ) (
 given_weaker old new s p from low [] le g = tt
 given_weaker old new s p from low (v ∷ vs) le g = (record { key = g.0.key; below = g.0.below; moving = g.0.moving; source = g.0.source; dest = omega (arith, g.0.dest); number = g.0.number }, given_weaker old new s p from low vs le g.1)
 
-new_number : (old new : List PlanRange) (s : ℕ → ℕ) (n p d k : ℕ) (vs : List ℕ) → IsSplit old new s n → k < top → moves old new k ≡ true → owner_of old k ≡ p → owner_of new k ≡ d → AllByRecursion (Given old new s p (d + 1)) vs → is_in (s k) vs ≡ false
-new_number old new s n p d k [] split lt is source dest g = refl
-new_number old new s n p d k (v ∷ vs) split lt is source dest g =
+new_number : (old new : List PlanRange) (s : ℕ → ℕ) (us : List ℕ) (p d k : ℕ) (vs : List ℕ) → IsSplit old new s us → k < top → moves old new k ≡ true → owner_of old k ≡ p → owner_of new k ≡ d → AllByRecursion (Given old new s p (d + 1)) vs → is_in (s k) vs ≡ false
+new_number old new s us p d k [] split lt is source dest g = refl
+new_number old new s us p d k (v ∷ vs) split lt is source dest g =
     let apart : eqb v (s k) ≡ false = ne_eqb v (s k) (λ e.
     let same = split.single g.0.key k g.0.below lt g.0.moving is (g.0.source ∙ sym source) (g.0.number ∙ e) in
     omega (arith, same, dest, g.0.dest)) in
-    rw apart (new_number old new s n p d k vs split lt is source dest g.1)
+    rw apart (new_number old new s us p d k vs split lt is source dest g.1)
 
 -- distinct numbers, as many as the destinations
-pub record Numbers (old new : List PlanRange) (s : ℕ → ℕ) (n p from count : ℕ) : Type 0 where
+pub record Numbers (old new : List PlanRange) (s : ℕ → ℕ) (us : List ℕ) (p from count : ℕ) : Type 0 where
   pub list : List ℕ
   pub long : length list ≡ count
   pub distinct : Distinct list
-  pub below : Below n list
+  pub within : Within us list
   pub given : AllByRecursion (Given old new s p from) list
 
-numbers : (old new : List PlanRange) (s : ℕ → ℕ) (n p from : ℕ) (ds : List ℕ) → ArePlans old new → IsSplit old new s n → Up from ds → AllByRecursion (λ d. is_dest old new p d ≡ true) ds → Numbers old new s n p from (length ds)
-numbers old new s n p from [] plans split u all = record { list = []; long = refl; distinct = tt; below = tt; given = tt }
-numbers old new s n p from (d ∷ ds) plans split u all =
-    let rest = numbers old new s n p (d + 1) ds plans split u.1 all.1 in
+numbers : (old new : List PlanRange) (s : ℕ → ℕ) (us : List ℕ) (p from : ℕ) (ds : List ℕ) → ArePlans old new → IsSplit old new s us → Up from ds → AllByRecursion (λ d. is_dest old new p d ≡ true) ds → Numbers old new s us p from (length ds)
+numbers old new s us p from [] plans split u all = record { list = []; long = refl; distinct = tt; within = tt; given = tt }
+numbers old new s us p from (d ∷ ds) plans split u all =
+    let rest = numbers old new s us p (d + 1) ds plans split u.1 all.1 in
     let parts = and_parts (not (eqb d p)) (feeds old new p d) all.0 in
     let key = (fed old new p d plans).0 parts.1 in
     let differ : eqb (owner_of old key.0) (owner_of new key.0) ≡ false = ne_eqb _ _ (λ e. eqb-false d p (not-true _ parts.0) (sym key.3 ∙ sym e ∙ key.2)) in
@@ -208,27 +212,36 @@ numbers old new s n p from (d ∷ ds) plans split u all =
     record {
       list = s key.0 ∷ rest.list;
       long = ap suc rest.long;
-      distinct = (new_number old new s n p d key.0 rest.list split key.1 moving key.2 key.3 rest.given, rest.distinct);
-      below = (split.below key.0 key.1 moving, rest.below);
+      distinct = (new_number old new s us p d key.0 rest.list split key.1 moving key.2 key.3 rest.given, rest.distinct);
+      within = (contains_in (s key.0) us (split.listed key.0 key.1 moving), rest.within);
       given = (record { key = key.0; below = key.1; moving = moving; source = key.2; dest = omega (arith, u.0, key.3); number = refl }, given_weaker old new s p (d + 1) from rest.list (omega (arith, u.0)) rest.given);
     }
 
-dests_fit : (old new : List PlanRange) (s : ℕ → ℕ) (n p : ℕ) → ArePlans old new → IsSplit old new s n → length (dests old new p) ≤ n
-dests_fit old new s n p plans split =
-    let all = numbers old new s n p 0 (dests old new p) plans split (dests_up old new p) (dests_all old new p) in
-    let few = few_distinct n all.list all.distinct all.below in
+dests_fit : (old new : List PlanRange) (s : ℕ → ℕ) (us : List ℕ) (p : ℕ) → ArePlans old new → IsSplit old new s us → length (dests old new p) ≤ length us
+dests_fit old new s us p plans split =
+    let all = numbers old new s us p 0 (dests old new p) plans split (dests_up old new p) (dests_all old new p) in
+    let few = few_distinct us all.list all.distinct all.within in
     omega (arith, few, all.long)
 
-most_fit : (old new : List PlanRange) (s : ℕ → ℕ) (n : ℕ) (rs : List PlanRange) → ArePlans old new → IsSplit old new s n → most_dests old new rs ≤ n
-most_fit old new s n [] plans split = omega arith
-most_fit old new s n (r ∷ rs) plans split = omega (arith, dests_fit old new s n r.part plans split, most_fit old new s n rs plans split)
+most_fit : (old new : List PlanRange) (s : ℕ → ℕ) (us : List ℕ) (rs : List PlanRange) → ArePlans old new → IsSplit old new s us → most_dests old new rs ≤ length us
+most_fit old new s us [] plans split = omega arith
+most_fit old new s us (r ∷ rs) plans split = omega (arith, dests_fit old new s us r.part plans split, most_fit old new s us rs plans split)
 
-pub no_fewer : (old new : List PlanRange) (s : ℕ → ℕ) (n : ℕ) → ArePlans old new → IsSplit old new s n → subplan_count old new ≤ n
-no_fewer old new s n plans split = most_fit old new s n old plans split
+pub no_fewer : (old new : List PlanRange) (s : ℕ → ℕ) (us : List ℕ) → ArePlans old new → IsSplit old new s us → subplan_count old new ≤ length us
+no_fewer old new s us plans split = most_fit old new s us old plans split
+
+-- numbers below a bound are in the list of all below it
+below_splits : (old new : List PlanRange) (s : ℕ → ℕ) (n : ℕ) → ((k : ℕ) → k < top → moves old new k ≡ true → s k < n) → IsSingle old new s → IsSplit old new s (range_with_len 0 n)
+below_splits old new s n low single = record {
+  listed = λ k lt is. in_contains (s k) (range_with_len 0 n) (in_numbers 0 n (s k) (omega arith) (omega (arith, low k lt is)));
+  single = single;
+}
+
+pub no_fewer_below : (old new : List PlanRange) (s : ℕ → ℕ) (n : ℕ) → ArePlans old new → ((k : ℕ) → k < top → moves old new k ≡ true → s k < n) → IsSingle old new s → subplan_count old new ≤ n
+no_fewer_below old new s n plans low single =
+    omega (arith, no_fewer old new s (range_with_len 0 n) plans (below_splits old new s n low single), length_numbers 0 n)
 
 -- the numbers by `sub_of` are such a way
-pub sub_splits : (old new : List PlanRange) → ArePlans old new → IsSplit old new (sub_of old new) (subplan_count old new)
-sub_splits old new plans = record {
-  below = λ k lt is. sub_counted old new k plans lt is;
-  single = λ j k lt lt2 is is2 source sub. one_dest old new j k plans lt lt2 is is2 source sub;
-}
+pub sub_splits : (old new : List PlanRange) → ArePlans old new → IsSplit old new (sub_of old new) (range_with_len 0 (subplan_count old new))
+sub_splits old new plans =
+    below_splits old new (sub_of old new) (subplan_count old new) (λ k lt is. sub_counted old new k plans lt is) (λ j k lt lt2 is is2 source sub. one_dest old new j k plans lt lt2 is is2 source sub)

@@ -8,7 +8,8 @@ use Rattle.squall_plan.specs.Ranges.{owner_of}
 use Rattle.squall_course.specs.declared.moving.Move.{Move}
 use Rattle.squall_course.specs.Change.{Change, ArePlans}
 use Rattle.squall_course.specs.Subplans.{sub_of}
-use Rattle.squall_course.specs.Moves.{move_has, in_moves, goes_to, leaves, is_incoming, is_outgoing, moves_of, IsMove, AreMoves}
+use Rattle.squall_course.specs.Moves.{move_has, in_moves, goes_to, is_incoming, is_outgoing, moves_of, IsMove, AreMoves}
+use Rattle.squall_course.specs.Steps.{leaves}
 use Rattle.squall_course.proofs.Moved.{are_moves}
 
 settled : (g t : Bool) → ((g && true) || (t && g)) ≡ g

@@ -9,32 +9,18 @@ use Rattle.squall_key.specs.Keys.{top}
 use Rattle.squall_span.specs.Spans.{Interval, span_has}
 use Rattle.squall_plan.specs.declared.range.PlanRange.{PlanRange}
 use Rattle.squall_plan.specs.Ranges.{owner_of, range_has, IsTiling, IsCanonical, Differ, DifferFrom}
-use Rattle.squall_course.specs.declared.piece.Piece.{Piece}
+use Rattle.squall_plan.specs.PlanLaws.{has_inside, has_below, has_above, owner_first, owner_later, tiling_ends, differ_rest, next_differs}
+use Rattle.squall_course.specs.declared.transfer.Transfer.{Transfer}
 use Rattle.squall_course.specs.declared.moving.Move.{Move}
 use Rattle.squall_course.specs.Subplans.{shares, moves}
-use Rattle.squall_course.specs.Moves.{piece, listed, row, pieces, overlap, numbered, moves_of, move_has, in_moves, IsMove, Rise, LongestFrom, AreLongest, AreMoves}
-use Rattle.squall_course.specs.Tables.{Follow}
+use Rattle.squall_course.specs.Moves.{transfer, listed, row, transfers, overlap, numbered, moves_of, move_has, in_moves, IsMove, Rise, LongestFrom, AreLongest, AreMoves}
+use Rattle.squall_course.specs.Steps.{Follow}
 use Rattle.squall_course.proofs.Sweeps.{follow_tiling}
 
 -- ---- ranges and their owners
 
-inside : (r : PlanRange) (k : ℕ) → r.span.lo ≤ k → k < r.span.hi → range_has k r ≡ true
-inside r k le lt = grind (arith, nat_tests)
-
-above : (r : PlanRange) (k : ℕ) → r.span.hi ≤ k → range_has k r ≡ false
-above r k le = grind (arith, nat_tests)
-
-below : (r : PlanRange) (k : ℕ) → k < r.span.lo → range_has k r ≡ false
-below r k lt = grind (arith, nat_tests)
-
 pub within : (s : Interval) (k : ℕ) → span_has s k ≡ true → (s.lo ≤ k) × (k < s.hi)
 within s k e = grind (arith, nat_tests)
-
-pub owner_here : (r : PlanRange) (rs : List PlanRange) (k : ℕ) → r.span.lo ≤ k → k < r.span.hi → owner_of (r ∷ rs) k ≡ r.part
-owner_here r rs k le lt = rw (inside r k le lt) refl
-
-pub owner_later : (r : PlanRange) (rs : List PlanRange) (k : ℕ) → r.span.hi ≤ k → owner_of (r ∷ rs) k ≡ owner_of rs k
-owner_later r rs k le = rw (above r k le) refl
 
 -- a range of a plan: it has keys, its partition has them, and another has the key at its end
 pub record Owns (xs : List PlanRange) (r : PlanRange) : Type 0 where
@@ -43,26 +29,14 @@ pub record Owns (xs : List PlanRange) (r : PlanRange) : Type 0 where
   pub owner : (k : ℕ) → r.span.lo ≤ k → k < r.span.hi → owner_of xs k ≡ r.part
   pub next : r.span.hi < top → r.part ≢ owner_of xs r.span.hi
 
-tiling_high : (from : ℕ) (rs : List PlanRange) → IsTiling from top rs → from ≤ top
-tiling_high from [] t = omega (arith, t)
-tiling_high from (r ∷ rs) t = omega (arith, t.0, t.1, tiling_high r.span.hi rs t.2)
-
-next_differs : (r : PlanRange) (rs : List PlanRange) → IsTiling r.span.hi top rs → DifferFrom r rs → r.span.hi < top → r.part ≢ owner_of rs r.span.hi
-next_differs r [] t d lt = λ e. absurd (omega (arith, t))
-next_differs r (s ∷ ss) t d lt = λ e. d.0 (e ∙ owner_here s ss r.span.hi (omega (arith, t.0)) (omega (arith, t.0, t.1)))
-
-differ_rest : (r : PlanRange) (rs : List PlanRange) → DifferFrom r rs → Differ rs
-differ_rest r [] d = tt
-differ_rest r (s ∷ ss) d = d.1
-
 owns_more : (r : PlanRange) (rs : List PlanRange) (from : ℕ) (xs : List PlanRange) → r.span.hi ≤ from → Follow from xs → AllByRecursion (Owns rs) xs → AllByRecursion (Owns (r ∷ rs)) xs
 owns_more r rs from [] le f o = tt
 owns_more r rs from (x ∷ xs) le f o = (
   record {
     full = o.0.full;
     high = o.0.high;
-    owner = λ k ge lt. owner_later r rs k (omega (arith, f.0)) ∙ o.0.owner k ge lt;
-    next = λ lt e. o.0.next lt (e ∙ owner_later r rs x.span.hi (omega (arith, f.0, f.1)));
+    owner = λ k ge lt. owner_later k r rs (omega (arith, f.0)) ∙ o.0.owner k ge lt;
+    next = λ lt e. o.0.next lt (e ∙ owner_later x.span.hi r rs (omega (arith, f.0, f.1)));
   },
   owns_more r rs x.span.hi xs (omega (arith, f.0, f.1)) f.2 o.1,
 )
@@ -72,9 +46,9 @@ owns from [] t d = tt
 owns from (r ∷ rs) t d = (
   record {
     full = t.1;
-    high = tiling_high r.span.hi rs t.2;
-    owner = λ k ge lt. owner_here r rs k ge lt;
-    next = λ lt e. next_differs r rs t.2 d lt (e ∙ owner_later r rs r.span.hi (omega arith));
+    high = tiling_ends r.span.hi top rs t.2;
+    owner = λ k ge lt. owner_first k r rs ge lt;
+    next = λ lt e. next_differs top r rs t.2 d lt (e ∙ owner_later r.span.hi r rs (omega arith));
   },
   owns_more r rs r.span.hi rs (omega arith) (follow_tiling r.span.hi rs t.2) (owns r.span.hi rs t.2 (differ_rest r rs d)),
 )
@@ -113,12 +87,12 @@ all_append : (P : Move → Type 0) (xs ys : List Move) → AllByRecursion P xs �
 all_append P [] ys a b = b
 all_append P (x ∷ xs) ys a b = (a.0, all_append P xs ys a.1 b)
 
-map_append : (f : Piece → Move) (xs ys : List Piece) → map f (xs ++ ys) ≡ map f xs ++ map f ys
+map_append : (f : Transfer → Move) (xs ys : List Transfer) → map f (xs ++ ys) ≡ map f xs ++ map f ys
 map_append f [] ys = refl
 map_append f (x ∷ xs) ys = ap (λ (l : List Move). f x ∷ l) (map_append f xs ys)
 
-moved_piece : (old new : List PlanRange) (r s : PlanRange) → Owns old r → Owns new s → AllByRecursion (Moved old new) (map (numbered old new) (listed (piece r s)))
-moved_piece old new r s o n = elim (cases_Bool (shares r.span s.span)) [
+moved_transfer : (old new : List PlanRange) (r s : PlanRange) → Owns old r → Owns new s → AllByRecursion (Moved old new) (map (numbered old new) (listed (transfer r s)))
+moved_transfer old new r s o n = elim (cases_Bool (shares r.span s.span)) [
   | inr off ↦ rw off tt
   | inl on ↦ elim (cases_Bool (eqb r.part s.part)) [
     | inl same ↦ rw (on, same) tt
@@ -128,16 +102,16 @@ moved_piece old new r s o n = elim (cases_Bool (shares r.span s.span)) [
 
 moved_row : (old new : List PlanRange) (r : PlanRange) (ss : List PlanRange) → Owns old r → AllByRecursion (Owns new) ss → AllByRecursion (Moved old new) (map (numbered old new) (row r ss))
 moved_row old new r [] o n = tt
-moved_row old new r (s ∷ ss) o n = rw (map_append (numbered old new) (listed (piece r s)) (row r ss)) (all_append (Moved old new) _ _ (moved_piece old new r s o n.0) (moved_row old new r ss o n.1))
+moved_row old new r (s ∷ ss) o n = rw (map_append (numbered old new) (listed (transfer r s)) (row r ss)) (all_append (Moved old new) _ _ (moved_transfer old new r s o n.0) (moved_row old new r ss o n.1))
 
-moved_all : (old new rs ss : List PlanRange) → AllByRecursion (Owns old) rs → AllByRecursion (Owns new) ss → AllByRecursion (Moved old new) (map (numbered old new) (pieces rs ss))
+moved_all : (old new rs ss : List PlanRange) → AllByRecursion (Owns old) rs → AllByRecursion (Owns new) ss → AllByRecursion (Moved old new) (map (numbered old new) (transfers rs ss))
 moved_all old new [] ss o n = tt
-moved_all old new (r ∷ rs) ss o n = rw (map_append (numbered old new) (row r ss) (pieces rs ss)) (all_append (Moved old new) _ _ (moved_row old new r ss o.0 n) (moved_all old new rs ss o.1 n))
+moved_all old new (r ∷ rs) ss o n = rw (map_append (numbered old new) (row r ss) (transfers rs ss)) (all_append (Moved old new) _ _ (moved_row old new r ss o.0 n) (moved_all old new rs ss o.1 n))
 
 -- ---- the keys of the moves
 
-abbrev piece_has : ℕ → Piece → Bool
-piece_has k p = span_has p.span k
+abbrev transfer_has : ℕ → Transfer → Bool
+transfer_has k p = span_has p.span k
 
 no_and : (a b : Bool) → (a && (b && false)) ≡ false
 no_and true b = and_right b false refl
@@ -158,7 +132,7 @@ or_none true true = refl
 or_none true false = refl
 or_none false b = refl
 
-one_has : (r s : PlanRange) (k : ℕ) → list_any (piece_has k) (listed (piece r s)) ≡ (span_has r.span k && (span_has s.span k && not (eqb r.part s.part)))
+one_has : (r s : PlanRange) (k : ℕ) → list_any (transfer_has k) (listed (transfer r s)) ≡ (span_has r.span k && (span_has s.span k && not (eqb r.part s.part)))
 one_has r s k = elim (cases_Bool (shares r.span s.span)) [
   | inr off ↦ rw off (ap (λ b. b && not (eqb r.part s.part)) (no_overlap r.span s.span k off) ∙ and_assoc (span_has r.span k) (span_has s.span k) (not (eqb r.part s.part)))
   | inl on ↦ elim (cases_Bool (eqb r.part s.part)) [
@@ -171,17 +145,17 @@ spread : (a x y : Bool) → ((a && x) || (a && y)) ≡ (a && (x || y))
 spread true x y = refl
 spread false x y = refl
 
-row_has : (r : PlanRange) (ss : List PlanRange) (k : ℕ) → list_any (piece_has k) (row r ss) ≡ (span_has r.span k && list_any (λ s. span_has s.span k && not (eqb r.part s.part)) ss)
+row_has : (r : PlanRange) (ss : List PlanRange) (k : ℕ) → list_any (transfer_has k) (row r ss) ≡ (span_has r.span k && list_any (λ s. span_has s.span k && not (eqb r.part s.part)) ss)
 row_has r [] k = sym (and_right (span_has r.span k) false refl)
 row_has r (s ∷ ss) k =
-    list_any-append (piece_has k) (listed (piece r s)) (row r ss)
-    ∙ ap (λ b. b || list_any (piece_has k) (row r ss)) (one_has r s k)
+    list_any-append (transfer_has k) (listed (transfer r s)) (row r ss)
+    ∙ ap (λ b. b || list_any (transfer_has k) (row r ss)) (one_has r s k)
     ∙ ap (λ b. (span_has r.span k && (span_has s.span k && not (eqb r.part s.part))) || b) (row_has r ss k)
     ∙ spread (span_has r.span k) (span_has s.span k && not (eqb r.part s.part)) (list_any (λ t. span_has t.span k && not (eqb r.part t.part)) ss)
 
 tiled_below : (f : ℕ → Bool) (from k : ℕ) (ss : List PlanRange) → IsTiling from top ss → k < from → list_any (λ s. span_has s.span k && f s.part) ss ≡ false
 tiled_below f from k [] t lt = refl
-tiled_below f from k (s ∷ ss) t lt = rw (below s k (omega (arith, t.0))) (tiled_below f s.span.hi k ss t.2 (omega (arith, t.0, t.1)))
+tiled_below f from k (s ∷ ss) t lt = rw (has_below k s (omega (arith, t.0))) (tiled_below f s.span.hi k ss t.2 (omega (arith, t.0, t.1)))
 
 or_false : (a : Bool) → (a || false) ≡ a
 or_false true = refl
@@ -191,18 +165,18 @@ or_false false = refl
 tiled_any : (f : ℕ → Bool) (from k : ℕ) (ss : List PlanRange) → IsTiling from top ss → from ≤ k → k < top → list_any (λ s. span_has s.span k && f s.part) ss ≡ f (owner_of ss k)
 tiled_any f from k [] t le lt = absurd (omega (arith, t))
 tiled_any f from k (s ∷ ss) t le lt = elim (cases_lt k s.span.hi) [
-  | inl here ↦ rw (inside s k (omega (arith, t.0)) here) (rw (tiled_below f s.span.hi k ss t.2 here) (or_false (f s.part)))
-  | inr past ↦ rw (above s k past) (tiled_any f s.span.hi k ss t.2 past lt)
+  | inl here ↦ rw (has_inside k s (omega (arith, t.0)) here) (rw (tiled_below f s.span.hi k ss t.2 here) (or_false (f s.part)))
+  | inr past ↦ rw (has_above k s past) (tiled_any f s.span.hi k ss t.2 past lt)
 ]
 
-pieces_row : (rs ss : List PlanRange) (k : ℕ) (f : ℕ → Bool) → ((p : ℕ) → list_any (λ s. span_has s.span k && not (eqb p s.part)) ss ≡ f p) → list_any (piece_has k) (pieces rs ss) ≡ list_any (λ r. span_has r.span k && f r.part) rs
-pieces_row [] ss k f e = refl
-pieces_row (r ∷ rs) ss k f e =
-    list_any-append (piece_has k) (row r ss) (pieces rs ss)
-    ∙ ap (λ b. b || list_any (piece_has k) (pieces rs ss)) (row_has r ss k ∙ ap (λ b. span_has r.span k && b) (e r.part))
-    ∙ ap (λ b. (span_has r.span k && f r.part) || b) (pieces_row rs ss k f e)
+transfers_row : (rs ss : List PlanRange) (k : ℕ) (f : ℕ → Bool) → ((p : ℕ) → list_any (λ s. span_has s.span k && not (eqb p s.part)) ss ≡ f p) → list_any (transfer_has k) (transfers rs ss) ≡ list_any (λ r. span_has r.span k && f r.part) rs
+transfers_row [] ss k f e = refl
+transfers_row (r ∷ rs) ss k f e =
+    list_any-append (transfer_has k) (row r ss) (transfers rs ss)
+    ∙ ap (λ b. b || list_any (transfer_has k) (transfers rs ss)) (row_has r ss k ∙ ap (λ b. span_has r.span k && b) (e r.part))
+    ∙ ap (λ b. (span_has r.span k && f r.part) || b) (transfers_row rs ss k f e)
 
-numbered_has : (old new : List PlanRange) (ps : List Piece) (k : ℕ) → in_moves k (map (numbered old new) ps) ≡ list_any (piece_has k) ps
+numbered_has : (old new : List PlanRange) (ps : List Transfer) (k : ℕ) → in_moves k (map (numbered old new) ps) ≡ list_any (transfer_has k) ps
 numbered_has old new [] k = refl
 numbered_has old new (p ∷ ps) k = ap (λ b. span_has p.span k || b) (numbered_has old new ps k)
 
@@ -211,18 +185,18 @@ no_owner : (from k : ℕ) (rs : List PlanRange) → IsTiling from top rs → top
 no_owner from k [] t le = (refl, λ f. refl)
 no_owner from k (r ∷ rs) t le =
     let rest = no_owner r.span.hi k rs t.2 le in
-    let out = above r k (omega (arith, tiling_high r.span.hi rs t.2)) in
+    let out = has_above k r (omega (arith, tiling_ends r.span.hi top rs t.2)) in
     (rw out rest.0, λ f. rw out (rest.1 f))
 
-pieces_have : (old new : List PlanRange) (k : ℕ) → IsTiling 0 top old → IsTiling 0 top new → list_any (piece_has k) (pieces old new) ≡ moves old new k
-pieces_have old new k t u = elim (cases_lt k top) [
+transfers_have : (old new : List PlanRange) (k : ℕ) → IsTiling 0 top old → IsTiling 0 top new → list_any (transfer_has k) (transfers old new) ≡ moves old new k
+transfers_have old new k t u = elim (cases_lt k top) [
   | inl lt ↦
-      pieces_row old new k (λ p. not (eqb p (owner_of new k))) (λ p. tiled_any (λ q. not (eqb p q)) 0 k new u (omega arith) lt)
+      transfers_row old new k (λ p. not (eqb p (owner_of new k))) (λ p. tiled_any (λ q. not (eqb p q)) 0 k new u (omega arith) lt)
       ∙ tiled_any (λ p. not (eqb p (owner_of new k))) 0 k old t (omega arith) lt
   | inr le ↦
       let o = no_owner 0 k old t le in
       let n = no_owner 0 k new u le in
-      pieces_row old new k (λ p. false) (λ p. n.1 (λ q. not (eqb p q))) ∙ o.1 (λ p. false) ∙ rw (o.0, n.0) refl
+      transfers_row old new k (λ p. false) (λ p. n.1 (λ q. not (eqb p q))) ∙ o.1 (λ p. false) ∙ rw (o.0, n.0) refl
 ]
 
 -- ---- their order
@@ -248,11 +222,11 @@ row_rises old new r a from (s ∷ ss) f le high = elim (cases_Bool (shares r.spa
   ]
 ]
 
-pieces_rise : (old new : List PlanRange) (from : ℕ) (rs ss : List PlanRange) → IsTiling from top rs → Follow 0 ss → RiseTo from top (map (numbered old new) (pieces rs ss))
-pieces_rise old new from [] ss t f = omega (arith, t)
-pieces_rise old new from (r ∷ rs) ss t f =
-    rw (map_append (numbered old new) (row r ss) (pieces rs ss))
-    (rise_append from r.span.hi top _ _ (row_rises old new r from 0 ss f (omega (arith, t.0)) (omega (arith, t.0, t.1))) (pieces_rise old new r.span.hi rs ss t.2 f))
+transfers_rise : (old new : List PlanRange) (from : ℕ) (rs ss : List PlanRange) → IsTiling from top rs → Follow 0 ss → RiseTo from top (map (numbered old new) (transfers rs ss))
+transfers_rise old new from [] ss t f = omega (arith, t)
+transfers_rise old new from (r ∷ rs) ss t f =
+    rw (map_append (numbered old new) (row r ss) (transfers rs ss))
+    (rise_append from r.span.hi top _ _ (row_rises old new r from 0 ss f (omega (arith, t.0)) (omega (arith, t.0, t.1))) (transfers_rise old new r.span.hi rs ss t.2 f))
 
 rises : (from to : ℕ) (ms : List Move) → RiseTo from to ms → Rise from ms
 rises from to [] r = tt
@@ -288,10 +262,10 @@ unfolding moves_of
 are_moves old new p q =
     let all = moved_all old new old new (owns 0 old p.tiles p.differ) (owns 0 new q.tiles q.differ) in
     record {
-      each = each_move old new (map (numbered old new) (pieces old new)) all;
-      all = λ k. numbered_has old new (pieces old new) k ∙ pieces_have old new k p.tiles q.tiles;
-      rise = rises 0 top (map (numbered old new) (pieces old new)) (pieces_rise old new 0 old new p.tiles (follow_tiling 0 new q.tiles));
-      longest = longest old new (map (numbered old new) (pieces old new)) all;
+      each = each_move old new (map (numbered old new) (transfers old new)) all;
+      all = λ k. numbered_has old new (transfers old new) k ∙ transfers_have old new k p.tiles q.tiles;
+      rise = rises 0 top (map (numbered old new) (transfers old new)) (transfers_rise old new 0 old new p.tiles (follow_tiling 0 new q.tiles));
+      longest = longest old new (map (numbered old new) (transfers old new)) all;
     }
 
 pub are_moves_now : (old new : List PlanRange) (ms : List Move) → IsCanonical old → IsCanonical new → ms ≡ moves_of old new → AreMoves old new ms

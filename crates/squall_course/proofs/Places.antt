@@ -8,10 +8,11 @@ use Rattle.squall_key.specs.Keys.{top}
 use Rattle.squall_span.specs.Spans.{Interval, span_has}
 use Rattle.squall_plan.specs.declared.range.PlanRange.{PlanRange}
 use Rattle.squall_plan.specs.Ranges.{owner_of, range_has, IsTiling}
-use Rattle.squall_course.specs.declared.feed.Feed.{Feed}
+use Rattle.squall_plan.specs.PlanLaws.{has_inside, has_above}
+use Rattle.squall_course.specs.declared.link.Link.{Link}
 use Rattle.squall_course.specs.Change.{Change, ArePlans}
 use Rattle.squall_course.specs.Subplans.{shares, feeds, is_dest, subplan_of}
-use Rattle.squall_course.specs.Tables.{lower_feeds, IsTable}
+use Rattle.squall_course.specs.Links.{lower_links, IsTable}
 use Rattle.squall_course.proofs.Rising.{eq_refl}
 use Rattle.squall_course.proofs.Tabled.{sub_is_place}
 
@@ -30,15 +31,9 @@ any_found {X} p q (y ∷ ys) x e h = elim (cases_Bool (p y)) [
 found : (from k : ℕ) (rs : List PlanRange) → IsTiling from top rs → from ≤ k → k < top → (r : PlanRange) × (find (range_has k) rs ≡ Some r) × (range_has k r ≡ true)
 found from k [] t le below = absurd (omega (arith, t))
 found from k (r ∷ rs) t le below = elim (cases_lt k r.span.hi) [
-  | inl in_it ↦ let has : range_has k r ≡ true = inside k r (omega (arith, t.0)) in_it in (r, rw has refl, has)
-  | inr past ↦ let rest = found r.span.hi k rs t.2 past below in (rest.0, rw (above k r past) rest.1, rest.2)
+  | inl in_it ↦ let has : range_has k r ≡ true = has_inside k r (omega (arith, t.0)) in_it in (r, rw has refl, has)
+  | inr past ↦ let rest = found r.span.hi k rs t.2 past below in (rest.0, rw (has_above k r past) rest.1, rest.2)
 ]
-  where
-    inside : (j : ℕ) (r : PlanRange) → r.span.lo ≤ j → j < r.span.hi → range_has j r ≡ true
-    inside j r low high = grind (arith, nat_tests)
-
-    above : (j : ℕ) (r : PlanRange) → r.span.hi ≤ j → range_has j r ≡ false
-    above j r high = grind (arith, nat_tests)
 
 shared : (a b : Interval) (k : ℕ) → span_has a k ≡ true → span_has b k ≡ true → shares a b ≡ true
 shared a b k h h2 = grind (arith, nat_tests)
@@ -59,12 +54,12 @@ moving_dest old new k t u below apart =
     rw (differ, feeds_key old new k t u below) refl
 
 -- the sub-plan of a key by the table, of plans and owners under other names
-pub sub_known : (c : Change) (i j : List PlanRange) (fs : List Feed) (k s d n : ℕ) → i ≡ c.old → j ≡ c.new → ArePlans i j → IsTable i j fs → k < top → s ≡ owner_of c.old k → d ≡ owner_of c.new k → eqb s d ≡ false → n ≡ lower_feeds s d fs
+pub sub_known : (c : Change) (i j : List PlanRange) (fs : List Link) (k s d n : ℕ) → i ≡ c.old → j ≡ c.new → ArePlans i j → IsTable i j fs → k < top → s ≡ owner_of c.old k → d ≡ owner_of c.new k → eqb s d ≡ false → n ≡ lower_links s d fs
     → Some n ≡ subplan_of c.old c.new k
 sub_known c i j fs k s d n a b plans t below e f apart is =
     let plans1 : ArePlans c.old c.new = rw (a, b) at plans in
     let t1 : IsTable c.old c.new fs = rw (a, b) at t in
     let apart1 : eqb (owner_of c.old k) (owner_of c.new k) ≡ false = rw (e, f) at apart in
-    let is1 : n ≡ lower_feeds (owner_of c.old k) (owner_of c.new k) fs = rw (e, f) at is in
+    let is1 : n ≡ lower_links (owner_of c.old k) (owner_of c.new k) fs = rw (e, f) at is in
     let place = sub_is_place c.old c.new fs (owner_of c.old k) (owner_of c.new k) plans1.new_ranges t1 (moving_dest c.old c.new k plans1.old_canonical.tiles plans1.new_canonical.tiles below apart1) in
     rw apart1 (ap Some (is1 ∙ place))

@@ -5,6 +5,7 @@ use Rattle.std.specs.List.{list_any, AllByRecursion, Contains}
 use Rattle.std.specs.List.Sorted.{IsStrictlySortedBy}
 use Rattle.std.proofs.lemmas.Bool.{cases_Bool, and_parts, or_cases, or_left, or_right, eqb-true, eq-eqb, false≢true}
 use Rattle.std.proofs.lemmas.List.Folds.{list_any_at, Any-from_list_any}
+use Rattle.squall_plan.specs.PlanLaws.{are_parts, owner_low}
 use Rattle.squall_course.proofs.Gathered.{incoming_keys}
 use Rattle.squall_course.specs.Subplans.{moves}
 use Rattle.squall_key.specs.Keys.{top, part_limit}
@@ -13,8 +14,8 @@ use Rattle.squall_plan.specs.Ranges.{owner_of, range_has, AreRanges}
 use Rattle.squall_course.specs.declared.moving.Move.{Move}
 use Rattle.squall_course.specs.Change.{Change, ArePlans}
 use Rattle.squall_course.specs.Moves.{in_moves, is_incoming, goes_to, receivers_of, moves_of, move_has, IsMove, AreMoves}
-use Rattle.squall_course.specs.Tables.{Up, AreReceivers}
-use Rattle.squall_course.proofs.Rising.{is_in, same_rising, filter_up, in_filter}
+use Rattle.squall_course.specs.Steps.{Up, AreReceivers}
+use Rattle.squall_course.proofs.Rising.{same_rising, filter_up, in_filter, contains_in, in_contains}
 use Rattle.squall_course.proofs.Rows.{less_number}
 use Rattle.squall_course.proofs.Moved.{are_moves, first_key}
 
@@ -40,20 +41,13 @@ any_dest sub part ms ps e = rw e (of_moves ms)
       | inr is ↦ rw is (of_moves ms)
     ]
 
-pub owner_low : (rs : List PlanRange) (k : ℕ) → AreRanges rs → owner_of rs k < part_limit
-owner_low [] k full = omega arith
-owner_low (r ∷ rs) k full = elim (cases_Bool (range_has k r)) [
-  | inl is ↦ rw is full.0.2
-  | inr is ↦ rw is (owner_low rs k full.1)
-]
-
 receiver_low : (old new : List PlanRange) (ms : List Move) (sub part : ℕ) → AreRanges new → AllByRecursion (IsMove old new) ms → list_any (goes_to sub part) ms ≡ true → part < part_limit
 receiver_low old new [] sub part full each is = absurd (false≢true is)
 receiver_low old new (m ∷ ms) sub part full each is = elim (or_cases (goes_to sub part m) (list_any (goes_to sub part) ms) is) [
   | inl here ↦
       let dest = eqb-true m.dest part (and_parts (eqb m.sub sub) (eqb m.dest part) here).1 in
       let owner = each.0.dest m.span.lo (first_key m each.0.full) in
-      let low = owner_low new m.span.lo full in
+      let low = owner_low new m.span.lo (are_parts new full) in
       omega (arith, dest, owner, low)
   | inr later ↦ receiver_low old new ms sub part full each.1 later
 ]
@@ -71,15 +65,6 @@ course_receivers c i j ms ns sub ps a b plans listed same r =
     rw (← a, ← b) (receivers_are i j (moves_of i j) sub ps plans.new_ranges (are_moves i j plans.old_canonical plans.new_canonical) r1)
 
 -- a partition receives where a key moves to it
-
-contains_in : (q : ℕ) (xs : List ℕ) → Contains xs q → is_in q xs ≡ true
-contains_in q xs h = list_any_at (λ x. eqb x q) xs h.0 q h.1 (eq-eqb _ q h.2)
-
-in_contains : (q : ℕ) (xs : List ℕ) → is_in q xs ≡ true → Contains xs q
-in_contains q xs is = let any = Any-from_list_any (λ x. eqb x q) xs is in (any.0, any.2, same any.0 any.1 any.2 any.3 (eqb-true any.1 q any.4))
-  where
-    same : (k x : ℕ) → k < length xs → get_or xs k x ≡ x → x ≡ q → get_or xs k q ≡ q
-    same k x lt at e = rw e at at
 
 some_key : (old new : List PlanRange) (all ms : List Move) (sub part : ℕ) → AllByRecursion (IsMove old new) ms → ((k : ℕ) → in_moves k ms ≡ true → moves old new k ≡ true) → list_any (goes_to sub part) ms ≡ true → (k : ℕ) × (k < top) × (is_incoming old new sub part k ≡ true)
 some_key old new all [] sub part each moved is = absurd (false≢true is)

@@ -1,9 +1,10 @@
 -- Lists of numbers that rise.
 use Rattle.std.proofs.Common.{◌≡◌, ℕ, zero, suc, ◌+◌, ◌-◌, ◌<◌, ◌≤◌, Bool, true, false, cond, eqb, ltb, List, [], ◌∷◌, length, get_or, refl, sym, ap, ◌∙◌, arith, inl, inr}
 use Rattle.std.specs.Prelude.{filter, ◌≢◌}
-use Rattle.std.specs.List.{list_any, range_with_len, position_or_len, prefix_len}
-use Rattle.squall_course.specs.Tables.{Up}
-use Rattle.std.proofs.lemmas.Bool.{cases_Bool, cases_lt, cases_eq, cases_order, ne_eqb, eq-eqb, lt-ltb, le-ltb, false≢true}
+use Rattle.std.specs.List.{list_any, range_with_len, position_or_len, prefix_len, Contains}
+use Rattle.std.proofs.lemmas.List.Folds.{list_any_at, Any-from_list_any}
+use Rattle.squall_course.specs.Steps.{Up}
+use Rattle.std.proofs.lemmas.Bool.{cases_Bool, cases_lt, cases_eq, cases_order, ne_eqb, eq-eqb, eqb-true, lt-ltb, le-ltb, false≢true}
 
 abbrev pub is_in : ℕ → List ℕ → Bool
 is_in q xs = list_any (λ x. eqb x q) xs
@@ -127,3 +128,26 @@ at_place d e (x ∷ xs) is = elim (cases_eq x d) [
   | inl same ↦ rw (eq-eqb x d same) same
   | inr ne ↦ rw (ne_eqb x d ne) (get_next x e (position_or_len (λ y. eqb y d) xs) xs ∙ at_place d e xs (sym (in_later d x xs ne) ∙ is))
 ]
+
+-- ---- members of a list
+
+pub contains_in : (q : ℕ) (xs : List ℕ) → Contains xs q → is_in q xs ≡ true
+contains_in q xs h = list_any_at (λ x. eqb x q) xs h.0 q h.1 (eq-eqb _ q h.2)
+
+pub in_contains : (q : ℕ) (xs : List ℕ) → is_in q xs ≡ true → Contains xs q
+in_contains q xs is = let any = Any-from_list_any (λ x. eqb x q) xs is in (any.0, any.2, same any.0 any.1 any.2 any.3 (eqb-true any.1 q any.4))
+  where
+    same : (k x : ℕ) → k < length xs → get_or xs k x ≡ x → x ≡ q → get_or xs k q ≡ q
+    same k x lt at e = rw e at at
+
+-- the numbers of a range
+pub in_numbers : (a n q : ℕ) → a ≤ q → q < a + n → is_in q (range_with_len a n) ≡ true
+in_numbers a zero q le lt = absurd (omega arith)
+in_numbers a (suc n) q le lt = elim (cases_eq a q) [
+  | inl same ↦ rw (eq-eqb a q same) refl
+  | inr ne ↦ rw (ne_eqb a q ne) (in_numbers (a + 1) n q (omega arith) (omega arith))
+]
+
+pub length_numbers : (a n : ℕ) → length (range_with_len a n) ≡ n
+length_numbers a zero = refl
+length_numbers a (suc n) = ap suc (length_numbers (a + 1) n)

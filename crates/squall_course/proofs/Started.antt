@@ -7,7 +7,7 @@ use Rattle.std.proofs.lemmas.Bool.{cases_lt, leb-true, leb-false, or_right}
 use Rattle.std.proofs.lemmas.Bool.Decides.{nat_tests}
 use Rattle.squall_span.specs.Spans.{Interval, span_has, has, IsCanonical}
 use Rattle.squall_span.specs.SpanLaws.{has_below, has_in, has_after, inside, outside_below}
-use Rattle.squall_course.specs.Statuses.{IsFirstSpan, IsFirst}
+use Rattle.squall_course.specs.Steps.{IsFirstSpan, IsFirst}
 use Rattle.squall_course.proofs.Moved.{within}
 
 pub ends_rise : (xs : List Interval) → IsCanonical xs → IsNonDecreasingBy (λ s. s.hi) xs

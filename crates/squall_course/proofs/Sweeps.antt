@@ -6,8 +6,8 @@ use Rattle.squall_plan.specs.declared.range.PlanRange.{PlanRange}
 use Rattle.squall_key.specs.Keys.{top}
 use Rattle.squall_plan.specs.Ranges.{IsTiling}
 use Rattle.squall_course.specs.Subplans.{shares}
-use Rattle.squall_course.specs.Moves.{piece, listed, row, pieces}
-use Rattle.squall_course.specs.Tables.{Follow}
+use Rattle.squall_course.specs.Moves.{transfer, listed, row, transfers}
+use Rattle.squall_course.specs.Steps.{Follow}
 
 pub none_shared : (a b : Interval) → b.hi ≤ a.lo → shares a b ≡ false
 none_shared a b le = grind (arith, nat_tests)
@@ -15,16 +15,16 @@ none_shared a b le = grind (arith, nat_tests)
 pub none_shared_after : (a b : Interval) → a.hi ≤ b.lo → shares a b ≡ false
 none_shared_after a b le = grind (arith, nat_tests)
 
-no_piece : (r s : PlanRange) → shares r.span s.span ≡ false → piece r s ≡ None
-no_piece r s e = rw e refl
+no_transfer : (r s : PlanRange) → shares r.span s.span ≡ false → transfer r s ≡ None
+no_transfer r s e = rw e refl
 
 pub row_past : (r s : PlanRange) (ss : List PlanRange) → s.span.hi ≤ r.span.lo → row r (s ∷ ss) ≡ row r ss
-row_past r s ss le = ap (λ p. listed p ++ row r ss) (no_piece r s (none_shared r.span s.span le))
+row_past r s ss le = ap (λ p. listed p ++ row r ss) (no_transfer r s (none_shared r.span s.span le))
 
 pub row_beyond : (r : PlanRange) (from : ℕ) (ss : List PlanRange) → Follow from ss → r.span.hi ≤ from → row r ss ≡ []
 row_beyond r from [] f le = refl
 row_beyond r from (s ∷ ss) f le =
-    ap (λ p. listed p ++ row r ss) (no_piece r s (none_shared_after r.span s.span (omega (arith, f.0)))) ∙ row_beyond r s.span.hi ss f.2 (omega (arith, f.0, f.1))
+    ap (λ p. listed p ++ row r ss) (no_transfer r s (none_shared_after r.span s.span (omega (arith, f.0)))) ∙ row_beyond r s.span.hi ss f.2 (omega (arith, f.0, f.1))
 
 pub follow_weaker : (from low : ℕ) (ss : List PlanRange) → low ≤ from → Follow from ss → Follow low ss
 follow_weaker from low [] le f = tt
@@ -38,11 +38,11 @@ pub split_at : (s : PlanRange) (xs : List PlanRange) (i : ℕ) → i < length xs
 split_at s xs i lt e = rw add-one (drop-cons xs i s lt ∙ ap (λ (x : PlanRange). x ∷ drop (suc i) xs) (sym e))
 
 -- one step of the row of a range
-pub row_step : (r s : PlanRange) (xs : List PlanRange) (i : ℕ) → i < length xs → s ≡ get_or xs i s → row r (drop i xs) ≡ listed (piece r s) ++ row r (drop (i + 1) xs)
+pub row_step : (r s : PlanRange) (xs : List PlanRange) (i : ℕ) → i < length xs → s ≡ get_or xs i s → row r (drop i xs) ≡ listed (transfer r s) ++ row r (drop (i + 1) xs)
 row_step r s xs i lt e = rw (split_at s xs i lt e) refl
 
 pub follow_step : (low : ℕ) (s : PlanRange) (xs : List PlanRange) (i : ℕ) → i < length xs → s ≡ get_or xs i s → Follow low (drop i xs) → (low ≤ s.span.lo) × (s.span.lo < s.span.hi) × Follow s.span.hi (drop (i + 1) xs)
 follow_step low s xs i lt e f = rw (split_at s xs i lt e) at f
 
-pub pieces_step : (r : PlanRange) (rs ss : List PlanRange) (i : ℕ) → i < length rs → r ≡ get_or rs i r → pieces (drop i rs) ss ≡ row r ss ++ pieces (drop (i + 1) rs) ss
-pieces_step r rs ss i lt e = rw (split_at r rs i lt e) refl
+pub transfers_step : (r : PlanRange) (rs ss : List PlanRange) (i : ℕ) → i < length rs → r ≡ get_or rs i r → transfers (drop i rs) ss ≡ row r ss ++ transfers (drop (i + 1) rs) ss
+transfers_step r rs ss i lt e = rw (split_at r rs i lt e) refl

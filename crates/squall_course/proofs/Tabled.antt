@@ -11,16 +11,17 @@ use Rattle.std.proofs.lemmas.List.Folds.{list_any-append}
 use Rattle.squall_key.specs.Keys.{part_limit}
 use Rattle.squall_plan.specs.declared.range.PlanRange.{PlanRange}
 use Rattle.squall_plan.specs.Ranges.{AreRanges, IsCanonical}
-use Rattle.squall_course.specs.declared.piece.Piece.{Piece}
-use Rattle.squall_course.specs.declared.feed.Feed.{Feed}
+use Rattle.squall_course.specs.declared.transfer.Transfer.{Transfer}
+use Rattle.squall_course.specs.declared.link.Link.{Link}
 use Rattle.squall_course.specs.declared.moving.Move.{Move}
 use Rattle.squall_course.specs.Subplans.{shares, feeds, is_dest, dests, sub_at, most_dests, dest_of}
-use Rattle.squall_course.specs.Moves.{piece, listed, row, pieces, numbered, moves_of}
-use Rattle.squall_course.specs.Tables.{Up, is_feed, goes, Sorted, feeds_of, lower_feeds, most_feeds, numbered_by, IsTable}
+use Rattle.squall_course.specs.Moves.{transfer, listed, row, transfers, numbered, moves_of}
+use Rattle.squall_course.specs.Links.{is_link, goes, Sorted, links_of, lower_links, most_links, numbered_by, IsTable}
+use Rattle.squall_course.specs.Steps.{Up}
 use Rattle.squall_course.proofs.Rising.{is_in, eq_refl, same_rising, filter_up, in_filter, place_lower}
 use Rattle.squall_course.proofs.Rows.{row_up, row_members, lower_by_row}
 
--- ---- who feeds whom in the pieces
+-- ---- who feeds whom in the transfers
 
 no_and : (a b : Bool) → (a && (b && false)) ≡ false
 no_and true b = and_right b false refl
@@ -48,8 +49,8 @@ together a b s q e = elim (cases_Bool (eqb a s)) [
   ])
 ]
 
-piece_feed : (r t : PlanRange) (s q : ℕ) → list_any (goes s q) (listed (piece r t)) ≡ (eqb r.part s && (not (eqb q s) && (eqb t.part q && shares r.span t.span)))
-piece_feed r t s q = elim (cases_Bool (shares r.span t.span)) [
+transfer_link : (r t : PlanRange) (s q : ℕ) → list_any (goes s q) (listed (transfer r t)) ≡ (eqb r.part s && (not (eqb q s) && (eqb t.part q && shares r.span t.span)))
+transfer_link r t s q = elim (cases_Bool (shares r.span t.span)) [
   | inr off ↦ rw off (sym (ap (λ b. eqb r.part s && (not (eqb q s) && b)) (and_right (eqb t.part q) false refl) ∙ no_and (eqb r.part s) (not (eqb q s))))
   | inl on ↦ rw on (elim (cases_Bool (eqb r.part t.part)) [
     | inl same ↦ rw same (together r.part t.part s q same)
@@ -62,12 +63,12 @@ spread true true x y = refl
 spread true false x y = refl
 spread false b x y = refl
 
-row_feed : (r : PlanRange) (s q : ℕ) (ss : List PlanRange) → list_any (goes s q) (row r ss) ≡ (eqb r.part s && (not (eqb q s) && list_any (λ t. eqb t.part q && shares r.span t.span) ss))
-row_feed r s q [] = sym (no_and (eqb r.part s) (not (eqb q s)))
-row_feed r s q (t ∷ ts) =
-    list_any-append (goes s q) (listed (piece r t)) (row r ts)
-    ∙ ap (λ b. b || list_any (goes s q) (row r ts)) (piece_feed r t s q)
-    ∙ ap (λ b. (eqb r.part s && (not (eqb q s) && (eqb t.part q && shares r.span t.span))) || b) (row_feed r s q ts)
+row_link : (r : PlanRange) (s q : ℕ) (ss : List PlanRange) → list_any (goes s q) (row r ss) ≡ (eqb r.part s && (not (eqb q s) && list_any (λ t. eqb t.part q && shares r.span t.span) ss))
+row_link r s q [] = sym (no_and (eqb r.part s) (not (eqb q s)))
+row_link r s q (t ∷ ts) =
+    list_any-append (goes s q) (listed (transfer r t)) (row r ts)
+    ∙ ap (λ b. b || list_any (goes s q) (row r ts)) (transfer_link r t s q)
+    ∙ ap (λ b. (eqb r.part s && (not (eqb q s) && (eqb t.part q && shares r.span t.span))) || b) (row_link r s q ts)
     ∙ spread (eqb r.part s) (not (eqb q s)) (eqb t.part q && shares r.span t.span) (list_any (λ u. eqb u.part q && shares r.span u.span) ts)
 
 spread2 : (a b x y : Bool) → ((a && (b && x)) || (b && y)) ≡ (b && ((a && x) || y))
@@ -76,12 +77,12 @@ spread2 true false x y = refl
 spread2 false true x y = refl
 spread2 false false x y = refl
 
-pub pieces_feed : (s q : ℕ) (rs ss : List PlanRange) → list_any (goes s q) (pieces rs ss) ≡ (not (eqb q s) && list_any (λ r. eqb r.part s && list_any (λ t. eqb t.part q && shares r.span t.span) ss) rs)
-pieces_feed s q [] ss = sym (and_right (not (eqb q s)) false refl)
-pieces_feed s q (r ∷ rs) ss =
-    list_any-append (goes s q) (row r ss) (pieces rs ss)
-    ∙ ap (λ b. b || list_any (goes s q) (pieces rs ss)) (row_feed r s q ss)
-    ∙ ap (λ b. (eqb r.part s && (not (eqb q s) && list_any (λ t. eqb t.part q && shares r.span t.span) ss)) || b) (pieces_feed s q rs ss)
+pub transfers_link : (s q : ℕ) (rs ss : List PlanRange) → list_any (goes s q) (transfers rs ss) ≡ (not (eqb q s) && list_any (λ r. eqb r.part s && list_any (λ t. eqb t.part q && shares r.span t.span) ss) rs)
+transfers_link s q [] ss = sym (and_right (not (eqb q s)) false refl)
+transfers_link s q (r ∷ rs) ss =
+    list_any-append (goes s q) (row r ss) (transfers rs ss)
+    ∙ ap (λ b. b || list_any (goes s q) (transfers rs ss)) (row_link r s q ss)
+    ∙ ap (λ b. (eqb r.part s && (not (eqb q s) && list_any (λ t. eqb t.part q && shares r.span t.span) ss)) || b) (transfers_link s q rs ss)
     ∙ spread2 (eqb r.part s) (not (eqb q s)) (list_any (λ t. eqb t.part q && shares r.span t.span) ss) (list_any (λ u. eqb u.part s && list_any (λ t. eqb t.part q && shares u.span t.span) ss) rs)
 
 -- ---- destinations
@@ -113,20 +114,20 @@ dests_in old new s q full = in_filter (λ d. is_dest old new s d) part_limit q (
 
 -- ---- the table
 
-pub is_table : (old new : List PlanRange) (ps : List Piece) (fs : List Feed) → ArePlans old new → ps ≡ pieces old new → ((s d : ℕ) → list_any (is_feed s d) fs ≡ list_any (goes s d) ps) → Sorted fs → IsTable old new fs
+pub is_table : (old new : List PlanRange) (ps : List Transfer) (fs : List Link) → ArePlans old new → ps ≡ transfers old new → ((s d : ℕ) → list_any (is_link s d) fs ≡ list_any (goes s d) ps) → Sorted fs → IsTable old new fs
 is_table old new ps fs plans made same sorted = record {
   sorted = sorted;
-  rows = λ s. same_rising 0 (map (λ f. f.dest) (feeds_of s fs)) (dests old new s) (row_up s fs sorted) (dests_up old new s)
-      (λ q. row_members s q fs ∙ same s q ∙ ap (list_any (goes s q)) made ∙ pieces_feed s q old new ∙ sym (dests_in old new s q plans.new_ranges));
+  rows = λ s. same_rising 0 (map (λ f. f.dest) (links_of s fs)) (dests old new s) (row_up s fs sorted) (dests_up old new s)
+      (λ q. row_members s q fs ∙ same s q ∙ ap (list_any (goes s q)) made ∙ transfers_link s q old new ∙ sym (dests_in old new s q plans.new_ranges));
 }
 
-pub sub_is_place : (old new : List PlanRange) (fs : List Feed) (s d : ℕ) → AreRanges new → IsTable old new fs → is_dest old new s d ≡ true → lower_feeds s d fs ≡ sub_at old new s d
+pub sub_is_place : (old new : List PlanRange) (fs : List Link) (s d : ℕ) → AreRanges new → IsTable old new fs → is_dest old new s d ≡ true → lower_links s d fs ≡ sub_at old new s d
 sub_is_place old new fs s d full t is =
     lower_by_row s d fs ∙ ap (prefix_len (λ x. ltb x d)) (t.rows s) ∙ place_lower 0 d (dests old new s) (dests_up old new s) (dests_in old new s d full ∙ is)
 
 -- ---- the moves
 
-numbered_all : (old new : List PlanRange) (fs : List Feed) (ps : List Piece) → AreRanges new → IsTable old new fs → ((s d : ℕ) → list_any (goes s d) ps ≡ true → is_dest old new s d ≡ true)
+numbered_all : (old new : List PlanRange) (fs : List Link) (ps : List Transfer) → AreRanges new → IsTable old new fs → ((s d : ℕ) → list_any (goes s d) ps ≡ true → is_dest old new s d ≡ true)
     → map (numbered_by fs) ps ≡ map (numbered old new) ps
 numbered_all old new fs [] full t each = refl
 numbered_all old new fs (p ∷ ps) full t each =
@@ -134,10 +135,10 @@ numbered_all old new fs (p ∷ ps) full t each =
     let first = sub_is_place old new fs p.source p.dest full t (each p.source p.dest here) in
     rw (first, numbered_all old new fs ps full t (λ s d is. each s d (or_right (goes s d p) (list_any (goes s d) ps) is))) refl
 
-pub moves_are : (old new : List PlanRange) (fs : List Feed) (ps : List Piece) (ms : List Move) → ArePlans old new → IsTable old new fs → ps ≡ pieces old new → ms ≡ map (numbered_by fs) ps → ms ≡ moves_of old new
+pub moves_are : (old new : List PlanRange) (fs : List Link) (ps : List Transfer) (ms : List Move) → ArePlans old new → IsTable old new fs → ps ≡ transfers old new → ms ≡ map (numbered_by fs) ps → ms ≡ moves_of old new
 unfolding moves_of
 moves_are old new fs ps ms plans t made e =
-    e ∙ ap (map (numbered_by fs)) made ∙ numbered_all old new fs (pieces old new) plans.new_ranges t (λ s d is. sym (pieces_feed s d old new) ∙ is)
+    e ∙ ap (map (numbered_by fs)) made ∙ numbered_all old new fs (transfers old new) plans.new_ranges t (λ s d is. sym (transfers_link s d old new) ∙ is)
 
 -- ---- how many sub-plans
 
@@ -156,28 +157,28 @@ pub most_few : (old new rs : List PlanRange) → most_dests old new rs ≤ part_
 most_few old new [] = omega arith
 most_few old new (r ∷ rs) = omega (arith, dests_few old new r.part, most_few old new rs)
 
-most_same : (old new rs : List PlanRange) (fs : List Feed) → IsTable old new fs → most_feeds fs rs ≡ most_dests old new rs
+most_same : (old new rs : List PlanRange) (fs : List Link) → IsTable old new fs → most_links fs rs ≡ most_dests old new rs
 most_same old new [] fs t = refl
 most_same old new (r ∷ rs) fs t =
-    let here : length (feeds_of r.part fs) ≡ length (dests old new r.part) = sym (length-map (feeds_of r.part fs) (λ (f : Feed). f.dest)) ∙ ap length (t.rows r.part) in
+    let here : length (links_of r.part fs) ≡ length (dests old new r.part) = sym (length-map (links_of r.part fs) (λ (f : Link). f.dest)) ∙ ap length (t.rows r.part) in
     rw (here, most_same old new rs fs t) refl
 
-pub count_is : (old new rs : List PlanRange) (fs : List Feed) (n : ℕ) → IsTable old new fs → rs ≡ old → n ≡ most_feeds fs rs → (n ≡ most_dests old new old) × (n ≤ part_limit)
+pub count_is : (old new rs : List PlanRange) (fs : List Link) (n : ℕ) → IsTable old new fs → rs ≡ old → n ≡ most_links fs rs → (n ≡ most_dests old new old) × (n ≤ part_limit)
 count_is old new rs fs n t e is =
     let same : n ≡ most_dests old new old = is ∙ most_same old new rs fs t ∙ ap (most_dests old new) e in
     (same, omega (arith, same, most_few old new old))
 
-pub made_of : (old new rs ss : List PlanRange) (ps qs : List Piece) → rs ≡ old → ss ≡ new → qs ≡ pieces rs ss → ps ≡ qs → ps ≡ pieces old new
+pub made_of : (old new rs ss : List PlanRange) (ps qs : List Transfer) → rs ≡ old → ss ≡ new → qs ≡ transfers rs ss → ps ≡ qs → ps ≡ transfers old new
 made_of old new rs ss ps qs e f made is = is ∙ made ∙ rw (e, f) refl
 
 pub plans_of : (old new rs ss : List PlanRange) → rs ≡ old → ss ≡ new → IsCanonical rs → IsCanonical ss → AreRanges rs → AreRanges ss → ArePlans old new
 plans_of old new rs ss e f a b g h = record { old_canonical = rw e at a; new_canonical = rw f at b; old_ranges = rw e at g; new_ranges = rw f at h }
 
 -- the destination of a source in a sub-plan, by the row of the source
-pub dest_by_row : (c : Change) (i j : List PlanRange) (fs row : List Feed) (part sub : ℕ) (found : Option Feed) → i ≡ c.old → j ≡ c.new → IsTable i j fs → row ≡ feeds_of part fs → slice_get row sub ≡ found → option_map (λ f. f.dest) found ≡ dest_of c.old c.new sub part
+pub dest_by_row : (c : Change) (i j : List PlanRange) (fs row : List Link) (part sub : ℕ) (found : Option Link) → i ≡ c.old → j ≡ c.new → IsTable i j fs → row ≡ links_of part fs → slice_get row sub ≡ found → option_map (λ f. f.dest) found ≡ dest_of c.old c.new sub part
 dest_by_row c i j fs row part sub found a b t is e =
     let rows : map (λ f. f.dest) row ≡ dests c.old c.new part = ap (map (λ f. f.dest)) is ∙ t.rows part ∙ rw (a, b) refl in
-    sym (ap (λ (l : List ℕ). slice_get l sub) (sym rows) ∙ slice_get-map (λ (f : Feed). f.dest) row sub ∙ ap (option_map (λ (f : Feed). f.dest)) e)
+    sym (ap (λ (l : List ℕ). slice_get l sub) (sym rows) ∙ slice_get-map (λ (f : Link). f.dest) row sub ∙ ap (option_map (λ (f : Link). f.dest)) e)
 
 -- what a course's invariant says of its plans under other names
 pub plans_known : (c : Change) (i j : List PlanRange) → i ≡ c.old → j ≡ c.new → ArePlans i j → ArePlans c.old c.new

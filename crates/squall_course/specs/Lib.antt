@@ -5,5 +5,7 @@ pub use Rattle.squall_plan.specs.Ranges
 pub mod Subplans
 pub mod Change
 pub mod Moves
-pub mod Tables
 pub mod Statuses
+pub mod Faults
+pub mod Links
+pub mod Steps

@@ -5,7 +5,7 @@ use Rattle.squall_key.specs.Keys.{top, part_limit}
 use Rattle.squall_span.specs.Spans.{Interval, span_has}
 use Rattle.squall_plan.specs.declared.range.PlanRange.{PlanRange}
 use Rattle.squall_plan.specs.Ranges.{owner_of}
-use Rattle.squall_course.specs.declared.piece.Piece.{Piece}
+use Rattle.squall_course.specs.declared.transfer.Transfer.{Transfer}
 use Rattle.squall_course.specs.declared.moving.Move.{Move}
 use Rattle.squall_course.specs.Subplans.{moves, shares, sub_at, sub_of}
 
@@ -16,28 +16,28 @@ abbrev pub overlap : Interval → Interval → Interval
 overlap a b = record { lo = max a.lo b.lo; hi = min a.hi b.hi }
 
 -- what goes from a range of the old plan to one of the new: the keys that they share, where their partitions differ
-abbrev pub piece : PlanRange → PlanRange → Option Piece
-piece r s = if shares r.span s.span && not (r.part == s.part) then Some (record { span = overlap r.span s.span; source = r.part; dest = s.part }) else None
+abbrev pub transfer : PlanRange → PlanRange → Option Transfer
+transfer r s = if shares r.span s.span && not (r.part == s.part) then Some (record { span = overlap r.span s.span; source = r.part; dest = s.part }) else None
 
-abbrev pub listed : Option Piece → List Piece
+abbrev pub listed : Option Transfer → List Transfer
 listed None = []
 listed (Some p) = p ∷ []
 
 -- what leaves a range, by rising key
-abbrev pub row : PlanRange → List PlanRange → List Piece
-row r ss = flat_map (λ s. listed (piece r s)) ss
+abbrev pub row : PlanRange → List PlanRange → List Transfer
+row r ss = flat_map (λ s. listed (transfer r s)) ss
 
 -- what leaves ranges, by rising key
-abbrev pub pieces : List PlanRange → List PlanRange → List Piece
-pieces rs ss = flat_map (λ r. row r ss) rs
+abbrev pub transfers : List PlanRange → List PlanRange → List Transfer
+transfers rs ss = flat_map (λ r. row r ss) rs
 
 -- with its sub-plan
-abbrev pub numbered : List PlanRange → List PlanRange → Piece → Move
+abbrev pub numbered : List PlanRange → List PlanRange → Transfer → Move
 numbered old new p = record { span = p.span; source = p.source; dest = p.dest; sub = sub_at old new p.source p.dest }
 
 -- the moves between two plans: what each range of the old one shares with each of the new
 unfoldable pub moves_of : List PlanRange → List PlanRange → List Move
-moves_of old new = map (numbered old new) (pieces old new)
+moves_of old new = map (numbered old new) (transfers old new)
 
 -- ---- the keys of a partition in a sub-plan
 
@@ -52,10 +52,6 @@ is_outgoing old new sub part k = moves old new k && ((sub_of old new k == sub) &
 -- the move goes to the partition in the sub-plan
 abbrev pub goes_to : ℕ → ℕ → Move → Bool
 goes_to sub part m = (m.sub == sub) && (m.dest == part)
-
--- the move leaves the partition in the sub-plan
-abbrev pub leaves : ℕ → ℕ → Move → Bool
-leaves sub part m = (m.sub == sub) && (m.source == part)
 
 -- the partitions to which moves go in the sub-plan, in rising number
 unfoldable pub receivers_of : List Move → ℕ → List ℕ

@@ -1,7 +1,7 @@
 -- Moving keys and their sub-plans, from an old and a new plan (moving between two plans: Squall, SIGMOD 2015; that a source
 -- has at most one destination in a sub-plan is this project's rule).
 use Rattle.std.specs.Prelude.{◌≡◌, ℕ, ◌<◌, ◌==◌, ◌&&◌, not, true, nat_lt, min, max, Bool, List, [], ◌∷◌, filter, length, Option, Some, None, if◌then◌else◌}
-use Rattle.std.specs.List.{list_any, range_with_len, position_or_len, slice_get}
+use Rattle.std.specs.List.{list_any, range_with_len, position_or_len, slice_get, Contains}
 use Rattle.squall_key.specs.Keys.{top, part_limit}
 use Rattle.squall_span.specs.Spans.{Interval}
 use Rattle.squall_plan.specs.declared.range.PlanRange.{PlanRange}
@@ -55,7 +55,12 @@ most_dests old new (r ∷ rs) = max (length (dests old new r.part)) (most_dests 
 abbrev pub subplan_count : List PlanRange → List PlanRange → ℕ
 subplan_count old new = most_dests old new old
 
--- a way to number the moving keys, below n, by which the keys of one source with one number have one destination
-pub record IsSplit (old new : List PlanRange) (number : ℕ → ℕ) (n : ℕ) : Type 0 where
-  pub below : (k : ℕ) → k < top → moves old new k ≡ true → number k < n
-  pub single : (j k : ℕ) → j < top → k < top → moves old new j ≡ true → moves old new k ≡ true → owner_of old j ≡ owner_of old k → number j ≡ number k → owner_of new j ≡ owner_of new k
+-- by these numbers of keys the moving keys of one source with one number have one destination
+abbrev pub IsSingle : List PlanRange → List PlanRange → (ℕ → ℕ) → Type 0
+IsSingle old new number = (j k : ℕ) → j < top → k < top → moves old new j ≡ true → moves old new k ≡ true → owner_of old j ≡ owner_of old k → number j ≡ number k → owner_of new j ≡ owner_of new k
+
+-- a way to number the moving keys, by which those of one source with one number have one destination; each number that a
+-- moving key has is in the list
+pub record IsSplit (old new : List PlanRange) (number : ℕ → ℕ) (used : List ℕ) : Type 0 where
+  pub listed : (k : ℕ) → k < top → moves old new k ≡ true → Contains used (number k)
+  pub single : IsSingle old new number

@@ -11,12 +11,12 @@ ghost use Rattle.squall_course.specs.Statuses.{IsStatus};
 ghost use Rattle.squall_course.specs.Moves.{moves_of, AreMoves, is_incoming, is_outgoing, receivers_of};
 
 use crate::fault::CourseFault;
-use crate::feed::Table;
 use crate::gather;
+use crate::link::Table;
 use crate::moving::Move;
 use crate::owners::Owners;
-use crate::piece::pieces;
 use crate::status::Status;
+use crate::transfer::transfers;
 use squall_key::{Key, PartId};
 use squall_plan::Plan;
 use squall_span::{Span, SpanSet};
@@ -44,7 +44,7 @@ impl Model for Course {
     ghost use Rattle.squall_course.specs.Change.{Change, ArePlans};
     ghost use Rattle.squall_course.specs.Subplans.{subplan_count};
     ghost use Rattle.squall_course.specs.Moves.{moves_of};
-    ghost use Rattle.squall_course.specs.Tables.{IsTable};
+    ghost use Rattle.squall_course.specs.Links.{IsTable};
 
     ghost Value = { Change };
 
@@ -55,7 +55,7 @@ impl Model for Course {
 
 impl Course {
     /// The course of the number from the old plan to the new one. ZeroNumber where the number is
-    /// 0; NoMemory where the plans could not be copied.
+    /// 0; NoMemory where an allocation failed.
     pub fn new(alloc: Global, number: u32, old: &Plan, new: &Plan) -> Result<Course, CourseFault>
         ensures course { IfOk result (λ c. c ≡ record { number = number; old = old.now; new = new.now }) }
         ensures numbered { IfOk result (λ c. 1 ≤ c.number) }
@@ -66,9 +66,9 @@ impl Course {
         }
         let old = old.copied(alloc)?;
         let new = new.copied(alloc)?;
-        let pieces = pieces(alloc, old.ranges(), new.ranges())?;
-        let table = Table::of(alloc, &pieces)?;
-        let moves = table.number(alloc, &pieces)?;
+        let transfers = transfers(alloc, old.ranges(), new.ranges())?;
+        let table = Table::of(alloc, &transfers)?;
+        let moves = table.number(alloc, &transfers)?;
         let subplans = table.most(old.ranges()) as u32;
         Ok(Course {
             number,
@@ -169,18 +169,18 @@ impl Course {
     pub fn dest(&self, sub: u32, part: PartId) -> Option<PartId>
         ensures { result ≡ dest_of self.now.old self.now.new sub part }
     {
-        let feed = self.table.row(part).get(sub as usize)?;
-        Some(feed.dest)
+        let link = self.table.row(part).get(sub as usize)?;
+        Some(link.dest)
     }
 
-    /// The keys that move to `part` in the sub-plan. The error comes where memory ran out.
+    /// The keys that move to `part` in the sub-plan. The error comes where an allocation failed.
     pub fn incoming(&self, alloc: Global, sub: u32, part: PartId) -> Result<SpanSet, AllocError>
         ensures { IfOk result (λ set. (k : ℕ) → has set k ≡ is_incoming self.now.old self.now.new sub part k) }
     {
         gather::incoming(alloc, &self.moves, sub, part)
     }
 
-    /// The keys that move away from `part` in the sub-plan. The error comes where memory ran out.
+    /// The keys that move away from `part` in the sub-plan. The error comes where an allocation failed.
     pub fn outgoing(&self, alloc: Global, sub: u32, part: PartId) -> Result<SpanSet, AllocError>
         ensures { IfOk result (λ set. (k : ℕ) → has set k ≡ is_outgoing self.now.old self.now.new sub part k) }
     {
@@ -188,7 +188,7 @@ impl Course {
     }
 
     /// The partitions to which keys move in the sub-plan, in rising number. The error comes where
-    /// memory ran out.
+    /// an allocation failed.
     pub fn receivers(&self, alloc: Global, sub: u32) -> Result<Vec<PartId>, AllocError>
         ensures { IfOk result (λ v. v.items ≡ receivers_of (moves_of self.now.old self.now.new) sub) }
     {

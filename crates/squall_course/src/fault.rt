@@ -1,7 +1,8 @@
 //! Why there is no course.
 
-ghost use Rattle.std.specs.Prelude.{◌≡◌};
+ghost use Rattle.std.specs.Prelude.{◌≡◌, Some};
 ghost use Rattle.squall_course.specs.declared.fault.CourseFault.TheVariants.{NoMemory};
+ghost use Rattle.squall_course.specs.Faults.{text_of_fault};
 
 use std::alloc::{AllocError, AllocFailed};
 use std::error::Error;
@@ -12,11 +13,14 @@ use std::fmt;
 pub enum CourseFault {
     /// The number is 0: reconfigurations count from 1.
     ZeroNumber,
-    /// There was not the memory for it.
+    /// An allocation failed.
     NoMemory,
 }
 
+/// The fault in words.
 impl fmt::Display for CourseFault {
+    ghost output = { λ e. Some (text_of_fault e) };
+
     fn fmt<W: fmt::Write>(&self, f: &mut fmt::Formatter<W>) -> fmt::Result {
         match self {
             CourseFault::ZeroNumber => write!(f, "the number of a course is 0"),

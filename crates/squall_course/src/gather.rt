@@ -3,8 +3,8 @@
 ghost use Rattle.std.specs.Prelude.{◌≡◌, ◌==◌, ◌&&◌, ℕ, map, filter, IfOk};
 ghost use Rattle.std.specs.List.{list_any};
 ghost use Rattle.squall_span.specs.Spans.{has};
-ghost use Rattle.squall_course.specs.Moves.{goes_to, leaves, move_has};
-ghost use Rattle.squall_course.specs.Tables.{AreReceivers};
+ghost use Rattle.squall_course.specs.Moves.{goes_to, move_has};
+ghost use Rattle.squall_course.specs.Steps.{leaves, AreReceivers};
 
 use crate::moving::Move;
 use squall_key::PartId;

@@ -1,12 +1,12 @@
 //! Laws of moves and sub-plans, each the contract of a function that does nothing.
 
-ghost use Rattle.std.specs.Prelude.{◌≡◌, ◌↔◌, ℕ, ◌<◌, ◌≤◌, true, Some, List, All};
+ghost use Rattle.std.specs.Prelude.{◌≡◌, ◌↔◌, ℕ, ◌<◌, ◌≤◌, true, Some, List, All, length};
 ghost use Rattle.squall_key.specs.Keys.{top, part_limit};
 ghost use Rattle.squall_plan.specs.declared.range.PlanRange.{PlanRange};
 ghost use Rattle.squall_plan.specs.Ranges.{owner_of};
-ghost use Rattle.squall_course.specs.Subplans.{moves, feeds, IsFed, sub_of, subplan_count, dest_of, IsSplit};
+ghost use Rattle.squall_course.specs.Subplans.{moves, feeds, IsFed, sub_of, subplan_count, dest_of, IsSingle, IsSplit};
 ghost use Rattle.squall_course.specs.Moves.{moves_of, AreMoves, receivers_of, is_incoming};
-ghost use Rattle.std.specs.List.{Contains};
+ghost use Rattle.std.specs.List.{Contains, range_with_len};
 ghost use Rattle.squall_course.specs.declared.moving.Move.{Move};
 ghost use Rattle.squall_course.specs.Change.{ArePlans};
 
@@ -61,8 +61,13 @@ pub fn move_is_in_a_counted_subplan()
     ensures { (old new : List PlanRange) → ArePlans old new → All (λ m. m.sub < subplan_count old new) (moves_of old new) }
 {}
 
-/// No way to number the moving keys, with one destination at most for a source and a number, has
-/// fewer numbers.
+/// No way to number the moving keys by which the moving keys of one source and one number have one
+/// new owner uses fewer numbers, whichever they are: a list that has each number in use is at least
+/// as long as there are sub-plans. So numbers that all lie below a bound need a bound that high; and
+/// the sub-plans are such a way.
 pub fn no_fewer_subplans()
-    ensures { (old new : List PlanRange) (number : ℕ → ℕ) (n : ℕ) → ArePlans old new → IsSplit old new number n → subplan_count old new ≤ n }
+    ensures used { (old new : List PlanRange) (number : ℕ → ℕ) (used : List ℕ) → ArePlans old new → IsSplit old new number used → subplan_count old new ≤ length used }
+    ensures below { (old new : List PlanRange) (number : ℕ → ℕ) (n : ℕ) → ArePlans old new
+        → ((k : ℕ) → k < top → moves old new k ≡ true → number k < n) → IsSingle old new number → subplan_count old new ≤ n }
+    ensures reached { (old new : List PlanRange) → ArePlans old new → IsSplit old new (sub_of old new) (range_with_len 0 (subplan_count old new)) }
 {}

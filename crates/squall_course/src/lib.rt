@@ -3,13 +3,13 @@
 
 mod course;
 mod fault;
-mod feed;
 mod gather;
 mod laws;
+mod link;
 mod moving;
 mod owners;
-mod piece;
 mod status;
+mod transfer;
 
 pub use course::Course;
 pub use fault::CourseFault;

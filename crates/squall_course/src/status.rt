@@ -1,6 +1,7 @@
 //! How far keys have come.
 
-ghost use Rattle.squall_course.specs.Statuses.{IsFirst, IsStatus};
+ghost use Rattle.squall_course.specs.Statuses.{IsStatus};
+ghost use Rattle.squall_course.specs.Steps.{IsFirst};
 
 use squall_key::Bound;
 use squall_span::{Span, SpanSet};

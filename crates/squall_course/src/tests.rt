@@ -1,6 +1,9 @@
 //! Courses between plans whose moves were worked out by hand.
 
-use crate::{Course, CourseFault, Status};
+mod clients;
+mod tolerant;
+
+use crate::{Course, CourseFault, Owners, Status};
 use squall_key::{Bound, Key, PartId};
 use squall_plan::{Plan, PlanRange};
 use squall_span::{Span, SpanSet};
@@ -29,13 +32,18 @@ fn span(lo: (u32, u32), hi: (u32, u32)) -> Result<Span, Fail> {
     Ok(Span::new(lo, hi).ok_or("a span")?)
 }
 
+/// The roots from `lo` on, below `hi`, for the partition.
+fn range(number: u32, lo: u32, hi: u32) -> Result<PlanRange, Fail> {
+    let span = span((lo, 0), (hi, 0))?;
+    let part = part(number)?;
+    Ok(PlanRange { span, part })
+}
+
 /// A plan of ranges of roots, each a partition, its first root and the root after it.
 fn plan(alloc: Global, ranges: &[(u32, u32, u32)]) -> Result<Plan, Fail> {
     let mut listed = Vec::new(alloc);
     for (number, lo, hi) in ranges {
-        let span = span((*lo, 0), (*hi, 0))?;
-        let part = part(*number)?;
-        listed.push(PlanRange { span, part })?;
+        listed.push(range(*number, *lo, *hi)?)?;
     }
     Ok(Plan::from_ranges(alloc, &listed).ok().ok_or("a plan")?)
 }
@@ -84,6 +92,20 @@ fn a_course_has_no_number_0(rt: HostRuntime) -> Result<(), Fail> {
 }
 
 #[test]
+fn courses_of_many_numbers(rt: HostRuntime) -> Result<(), Fail> {
+    let old = plan(rt.alloc(), &OLD)?;
+    let new = plan(rt.alloc(), &NEW)?;
+    for number in [2, 7, 4294967295] {
+        let made = Course::new(rt.alloc(), number, &old, &new).ok();
+        let course = made.ok_or("a course")?;
+        assert!(rt; course.number() == number);
+        assert!(rt; *course.old_plan() == old && *course.new_plan() == new);
+        assert!(rt; course.moves().len() == 2);
+    }
+    Ok(())
+}
+
+#[test]
 fn moves_are_numbered(rt: HostRuntime) -> Result<(), Fail> {
     let course = old_to_new(rt.alloc())?;
     let text = shown(rt.alloc(), &course)?;
@@ -111,6 +133,11 @@ fn keys_have_owners_and_subplans(rt: HostRuntime) -> Result<(), Fail> {
     assert!(rt; course.subplan_of(still).is_none());
     assert!(rt; course.old_owner(moving).get() == 1);
     assert!(rt; course.new_owner(moving).get() == 3);
+    let old = part(1)?;
+    let new = part(3)?;
+    let sub = Some(0);
+    assert!(rt; course.owners(moving) == Owners { old, new, sub });
+    assert!(rt; course.owners(still).sub.is_none());
     Ok(())
 }
 
@@ -176,27 +203,42 @@ fn destinations_take_subplans_by_their_numbers(rt: HostRuntime) -> Result<(), Fa
     Ok(())
 }
 
-/// The range of roots from `place` on that goes to the partition 1000 + `place`: one root, or all
-/// that is left.
-fn step(place: u32) -> (u32, u32, u32) {
-    let hi = if place >= 4095 { END } else { place + 1 };
-    (place.saturating_add(1000), place, hi)
+/// A plan of 4096 ranges: the partition `first`, the one after it and so on have one root each, the
+/// last all that is left.
+fn plan_of_4096(alloc: Global, first: u32) -> Result<Plan, Fail> {
+    let mut ranges = Vec::new(alloc);
+    for place in 0..4096u32 {
+        let hi = if place >= 4095 { END } else { place + 1 };
+        ranges.push((place.saturating_add(first), place, hi))?;
+    }
+    plan(alloc, &ranges)
 }
 
 #[test]
 fn one_source_feeds_4096(rt: HostRuntime) -> Result<(), Fail> {
-    let mut ranges = Vec::new(rt.alloc());
-    for place in 0..4096u32 {
-        ranges.push(step(place))?;
-    }
     let old = plan(rt.alloc(), &[(1, 0, END)])?;
-    let new = plan(rt.alloc(), &ranges)?;
+    let new = plan_of_4096(rt.alloc(), 1000)?;
     let course = course(rt.alloc(), &old, &new)?;
     assert!(rt; course.moves().len() == 4096);
     assert!(rt; course.subplans() == 4096);
     for one in course.moves() {
         assert!(rt; one.dest.get() == one.sub.saturating_add(1000));
+        assert!(rt; clients::may_be_opened(&course, one.sub));
     }
+    Ok(())
+}
+
+#[test]
+fn ranges_of_4096_move_on(rt: HostRuntime) -> Result<(), Fail> {
+    let old = plan_of_4096(rt.alloc(), 1000)?;
+    let new = plan_of_4096(rt.alloc(), 1001)?;
+    let course = course(rt.alloc(), &old, &new)?;
+    clients::are_plans(&course);
+    assert!(rt; course.moves().len() == 4096);
+    assert!(rt; course.subplans() == 1);
+    assert!(rt; course.receivers(rt.alloc(), 0)?.len() == 4096);
+    let incoming = course.incoming(rt.alloc(), 0, part(1001)?)?;
+    assert!(rt; spans(rt.alloc(), &incoming)?.as_str() == "[0:0,1:0);");
     Ok(())
 }
 

@@ -10,6 +10,7 @@ use Rattle.std.specs.FinMap.Entries.{by_order, is_sorted, below_all, find}
 use Rattle.std.proofs.lemmas.Bool.{cases_lt}
 use Rattle.std.proofs.lemmas.Cmp.{tied_back, alike_right, tied_itself}
 use Rattle.std.proofs.lemmas.List.{set-get_or, get_or_default, drop_all, take_all}
+use Rattle.std.proofs.lemmas.Option.{same_Some}
 use Rattle.std.proofs.lemmas.Map.Lookups.{CmpEqualImpliesEq}
 use Rattle.squall_join.specs.Laws.{JoinLaws}
 use Rattle.squall_join.specs.Entries.{join_found, merge_step, merged, IsMap, IsAt, IsGap, CoversEntry}
@@ -28,9 +29,6 @@ elements_more P xs i x within is before here k d lt =
 
 not_None : {A : Type 0} (x : A) → Some x ≢ None
 not_None x e = cc
-
-same_Some : {A : Type 0} (x y : A) → Some x ≡ Some y → x ≡ y
-same_Some x y e = cc
 
 module _ {K : Type 0} {R : K → K → Ordering} (o : IsTotalOrder R) where
   -- the comparisons with k do not fall
@@ -146,7 +144,7 @@ module _ {K V : Type 0} {R : K → K → Ordering} (o : IsTotalOrder R) where
     merge_done out out1 out2 es fs i j used so_far first second =
         second ∙ ap (λ l. out1 ++ l) (take_rest fs j) ∙ ap (λ l. l ++ drop j fs) (first ∙ ap (λ l. out ++ l) (take_rest es i)) ∙ append_assoc out (drop i es) (drop j fs) ∙ ap (λ l. out ++ l) (sym (merged_rest es fs i j used)) ∙ so_far
 
--- an edit in place of one value
+-- an edit of the value at one key
 pub record EditsAt {K V E : Type 0} (R : K → K → Ordering) (is_value : V → Type 0) (bottom : V) (join : V → V → V) (old new : List (K × V)) (k : K) (w : V) (r : Result (Unit {0}) E) : Type 0 where
   pub whole : IsMap R is_value bottom new
   pub ok : OnOk r (new ≡ merged R join old ((k, w) ∷ []))
@@ -167,10 +165,11 @@ module _ {K V : Type 0} {R : K → K → Ordering} (o : IsTotalOrder R) (exact :
       let e : es ≡ set es i (x.0, v) = sym (set-get_or es i x) ∙ ap (set es i) (sym is) ∙ ap (λ z. set es i (x.0, z)) (sym err) in
       record { whole = subst (IsMap R is_value bottom) e m; ok = tt; err = sym e }
 
-  pub in_gap : (es : List (K × V)) → IsMap R is_value bottom es → (k : K) (w : V) → is_value w → w ≢ bottom → (i : ℕ) → IsGap R es k i → (new : List (K × V)) (v : V) → new ≡ insert es i (k, v) → v ≡ w → IsMap R is_value bottom new × (new ≡ merged R join es ((k, w) ∷ []))
-  in_gap es m k w h n i gap new v is same =
-      let e : merged R join es ((k, w) ∷ []) ≡ new = merged_gap o join es k w i gap ∙ ap (λ z. insert es i (k, z)) (sym same) ∙ sym is in
-      (subst (IsMap R is_value bottom) e (merged_single_is es m k w h n), sym e)
+  pub in_gap : {E : Type 0} (es : List (K × V)) → IsMap R is_value bottom es → (k : K) (w : V) → is_value w → w ≢ bottom → (i : ℕ) → IsGap R es k i → (new : List (K × V)) (v : V) → v ≡ w → (r : Result (Unit {0}) E) → OnOk r (new ≡ insert es i (k, v)) → OnErr r (new ≡ es) → EditsAt R is_value bottom join es new k w r
+  in_gap es m k w h n i gap new v same (Ok u) ok err =
+      let e : merged R join es ((k, w) ∷ []) ≡ new = merged_gap o join es k w i gap ∙ ap (λ z. insert es i (k, z)) (sym same) ∙ sym ok in
+      record { whole = subst (IsMap R is_value bottom) e (merged_single_is es m k w h n); ok = sym e; err = tt }
+  in_gap es m k w h n i gap new v same (Err u) ok err = record { whole = subst (IsMap R is_value bottom) (sym err) m; ok = tt; err = err }
 
   covered : (a b : List (K × V)) → ((k : ℕ) (d : K × V) → k < length b → CoversEntry R join a (get_or b k d)) → (q : K) → join_found join (find R q a) (find R q b) ≡ find R q a
   covered a [] h q = sym (join_found_none join _)

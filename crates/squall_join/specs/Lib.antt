@@ -1,9 +1,14 @@
 pub mod Laws
 pub mod Basic
 pub mod Pairs
-pub mod Sets
 pub mod Entries
-pub mod MapLaws
 pub mod Looked
 pub mod Facts
 pub mod Flats
+pub mod BasicLaws
+pub mod PairLaws
+pub mod SetLaws
+pub mod MapLaws
+pub mod LookedLaws
+pub mod FactLaws
+pub mod FlatLaws

@@ -1,7 +1,8 @@
 //! The greatest number, and a flag.
 
 ghost use Rattle.std.specs.Prelude.{◌≡◌, ◌||◌, max, false};
-ghost use Rattle.squall_join.specs.Basic.{is_max, max_laws, flag_laws};
+ghost use Rattle.squall_join.specs.Basic.{is_max};
+ghost use Rattle.squall_join.specs.BasicLaws.{max_laws, flag_laws};
 
 use crate::Join;
 use std::alloc::{AllocError, Global};

@@ -1,7 +1,8 @@
 //! At most one value: two different ones clash.
 
 ghost use Rattle.std.specs.Prelude.{◌≡◌, ◌==◌, IfOk, Bool};
-ghost use Rattle.squall_join.specs.Flats.{IsExactEq, flat_bottom, flat_is, flat_join, flat_laws, flat_map, number_exact};
+ghost use Rattle.squall_join.specs.Flats.{IsExactEq, flat_bottom, flat_is, flat_join, flat_map};
+ghost use Rattle.squall_join.specs.FlatLaws.{flat_laws, number_exact};
 
 use crate::Join;
 use std::alloc::{AllocError, Global};

@@ -11,9 +11,9 @@ mod laws;
 mod map;
 mod merge;
 mod pair;
-mod piece;
 mod set;
 mod shared;
+mod update;
 
 pub use basic::{Flag, Max};
 pub use flat::{Exact, Flat};
@@ -25,8 +25,8 @@ pub use laws::{
 };
 pub use map::{JoinMap, MapKey};
 pub use pair::Pair;
-pub use piece::{Entry, Piece};
 pub use shared::Shared;
+pub use update::{Update, UpdateAt};
 
 #[cfg(test)]
 mod tests;

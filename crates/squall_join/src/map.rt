@@ -8,6 +8,7 @@ ghost use Rattle.squall_join.specs.MapLaws.{map_laws};
 
 use crate::Join;
 use crate::merge::{merge, push_copies};
+use crate::update::Borrowed;
 use std::alloc::{AllocError, Global};
 use std::marker::Model;
 
@@ -112,26 +113,6 @@ impl<K: MapKey, V: Join> JoinMap<K, V> {
     {
         self.entries.binary_search_by_key(&key, |e| e.0)
     }
-
-    /// Joins one entry in, in place.
-    fn join_entry(&mut self, alloc: Global, key: K, value: &V) -> Result<(), AllocError>
-        requires { value.now ≢ V.bottom }
-        ensures ok { OnOk result (self.new ≡ merged K.cmp V.join self.old ((key, value.now) ∷ [])) }
-        ensures err { OnErr result (self.new ≡ self.old) }
-    {
-        value.known();
-        match self.search(key) {
-            Ok(at) => {
-                let entry = &mut self.entries[at];
-                entry.1.join_in(alloc, value)
-            }
-            Err(at) => {
-                let value = value.copied(alloc)?;
-                self.entries.insert(at, (key, value))?;
-                Ok(())
-            }
-        }
-    }
 }
 
 impl<K: MapKey, V: Join> Join for JoinMap<K, V> {
@@ -187,7 +168,8 @@ impl<K: MapKey, V: Join> Join for JoinMap<K, V> {
     fn join_in(&mut self, alloc: Global, other: &Self) -> Result<(), AllocError> {
         if other.entries.len() == 1 {
             let entry = &other.entries[0];
-            return self.join_entry(alloc, entry.0, &entry.1);
+            let value = &entry.1;
+            return self.update_at(alloc, entry.0, &Borrowed { value });
         }
         let joined = self.joined(alloc, other)?;
         *self = joined;

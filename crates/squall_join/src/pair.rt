@@ -1,7 +1,8 @@
 //! Pairs.
 
 ghost use Rattle.std.specs.Prelude.{◌≡◌};
-ghost use Rattle.squall_join.specs.Pairs.{pair_of, pair_is, pair_join, pair_laws};
+ghost use Rattle.squall_join.specs.Pairs.{pair_of, pair_is, pair_join};
+ghost use Rattle.squall_join.specs.PairLaws.{pair_laws};
 
 use crate::Join;
 use std::alloc::{AllocError, Global};

@@ -2,7 +2,7 @@
 
 ghost use Rattle.std.specs.Prelude.{[]};
 ghost use Rattle.squall_span.specs.Spans.{IsSet, union};
-ghost use Rattle.squall_join.specs.Sets.{set_laws};
+ghost use Rattle.squall_join.specs.SetLaws.{set_laws};
 
 use crate::Join;
 use squall_span::SpanSet;

@@ -1,8 +1,8 @@
 //! Tests of joins.
 
-mod pieces;
 mod shared;
 mod tolerant;
+mod updates;
 
 use crate::{Flag, Flat, Join, JoinMap, Max, Pair};
 use squall_key::Bound;

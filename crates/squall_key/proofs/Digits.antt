@@ -4,25 +4,17 @@ use Rattle.std.specs.Prelude.{◌&&◌}
 use Rattle.std.specs.Char.{is_ascii_digit}
 use Rattle.std.specs.Str.{all_ascii_digits}
 use Rattle.std.specs.Str.Parse.{digits_value}
-use Rattle.std.proofs.lemmas.Bool.{false≢true}
+use Rattle.std.proofs.Math.Bool.{and-false}
+use Rattle.std.proofs.lemmas.Bool.{false≢true, and_parts}
 use Rattle.std.proofs.lemmas.Bool.Decides.{nat_tests}
 use Rattle.std.proofs.lemmas.Grind.{pow_more}
 use Rattle.std.proofs.lemmas.Int.Digits.{digits_value_more}
 use Rattle.std.proofs.lemmas.Str.{digit_value_digit}
 use Rattle.squall_key.specs.Numbers.{is_number, number_of}
 
-both_true : (a b : Bool) → (a && b) ≡ true → (a ≡ true) × (b ≡ true)
-both_true true true e = (refl, refl)
-both_true true false e = (refl, e)
-both_true false b e = absurd (false≢true e)
-
-and_false : (a : Bool) → (a && false) ≡ false
-and_false true = refl
-and_false false = refl
-
 -- a number is written in digits
 number_digits : (bs : List ℕ) → is_number bs ≡ true → all_ascii_digits bs ≡ true
-number_digits bs e = (both_true _ _ (both_true _ _ e).0).1
+number_digits bs e = (and_parts _ _ (and_parts _ _ e).0).1
 
 digit_low : (b : ℕ) → is_ascii_digit b ≡ true → 48 ≤ b
 digit_low b e = grind (arith, nat_tests)
@@ -34,13 +26,13 @@ digits_suc : (bs : List ℕ) (i : ℕ) → i < length bs → all_ascii_digits (t
 digits_suc [] i l h d = absurd (omega arith)
 digits_suc (b ∷ bs) zero l h d = rw d refl
 digits_suc (b ∷ bs) (suc i) l h d =
-    let first = both_true (is_ascii_digit b) (all_ascii_digits (take i bs)) h in
+    let first = and_parts (is_ascii_digit b) (all_ascii_digits (take i bs)) h in
     rw first.0 (digits_suc bs i (omega arith) first.1 d)
 
 no_digits : (bs : List ℕ) (i : ℕ) → i < length bs → is_ascii_digit (get_or bs i 0) ≡ false → all_ascii_digits bs ≡ false
 no_digits [] i l d = absurd (omega arith)
 no_digits (b ∷ bs) zero l d = rw d refl
-no_digits (b ∷ bs) (suc i) l d = rw (no_digits bs i (omega arith) d) (and_false (is_ascii_digit b))
+no_digits (b ∷ bs) (suc i) l d = rw (no_digits bs i (omega arith) d) (and-false (is_ascii_digit b))
 
 number_none : (b : Bool) (v : ℕ) → (b ≡ true → ⊥) → cond b (Some v) None ≡ None
 number_none true v h = absurd (h refl)

@@ -9,7 +9,7 @@ use Rattle.std.specs.Fmt.{decimal}
 use Rattle.std.specs.List.{prefix_len}
 use Rattle.std.specs.Str.{all_ascii_digits, bytes_eq}
 use Rattle.std.specs.Str.Parse.{digits_value}
-use Rattle.std.proofs.lemmas.Bool.{false≢true, cases_lt, ne_eqb, lt-ltb, le-leb}
+use Rattle.std.proofs.lemmas.Bool.{and_parts, false≢true, cases_lt, ne_eqb, lt-ltb, le-leb}
 use Rattle.std.proofs.lemmas.Bool.Decides.{nat_tests}
 use Rattle.std.proofs.lemmas.Fmt.{digits_decimal, digits_value-decimal, decimal_nonempty, length-decimal-le}
 use Rattle.std.proofs.Math.Seq.{take-append_seam, drop-append-add}
@@ -32,15 +32,10 @@ number_of-decimal n h =
 digit_is_no_colon : (b : ℕ) → is_ascii_digit b ≡ true → is_colon b ≡ false
 digit_is_no_colon b e = grind (arith, nat_tests)
 
-both_true : (a b : Bool) → (a && b) ≡ true → (a ≡ true) × (b ≡ true)
-both_true true true e = (refl, refl)
-both_true true false e = (refl, e)
-both_true false b e = absurd (false≢true e)
-
 digits_before_colon : (ds rest : List ℕ) → all_ascii_digits ds ≡ true → prefix_len (λ b. not (is_colon b)) (ds ++ 58 ∷ rest) ≡ length ds
 digits_before_colon [] rest e = refl
 digits_before_colon (d ∷ ds) rest e =
-    let both = both_true (is_ascii_digit d) (all_ascii_digits ds) e in
+    let both = and_parts (is_ascii_digit d) (all_ascii_digits ds) e in
     rw (digit_is_no_colon d both.0, digits_before_colon ds rest both.1) (omega arith)
 
 -- the place of the colon is the number of digits

@@ -5,45 +5,26 @@ use Rattle.std.proofs.lemmas.Bool.{cases_lt}
 use Rattle.squall_key.specs.Keys.{top}
 use Rattle.squall_plan.specs.declared.range.PlanRange.{PlanRange}
 use Rattle.squall_plan.specs.Ranges.{owner_of, IsTiling, Differ, DifferFrom, IsCanonical}
-use Rattle.squall_plan.proofs.Sweeps.{has_inside, has_above}
-
-pub tiling_ends : (from : ℕ) (rs : List PlanRange) → IsTiling from top rs → from ≤ top
-tiling_ends from [] t = omega (arith, t)
-tiling_ends from (r ∷ rs) t = omega (arith, t.0, t.1, tiling_ends r.span.hi rs t.2)
-
-pub owner_first : (k : ℕ) (r : PlanRange) (rs : List PlanRange) → r.span.lo ≤ k → k < r.span.hi → owner_of (r ∷ rs) k ≡ r.part
-owner_first k r rs from below = rw (has_inside k r from below) refl
-
-pub owner_later : (k : ℕ) (r : PlanRange) (rs : List PlanRange) → r.span.hi ≤ k → owner_of (r ∷ rs) k ≡ owner_of rs k
-owner_later k r rs above = rw (has_above k r above) refl
+use Rattle.squall_plan.specs.PlanLaws.{owner_first, owner_later, tiling_ends, differ_rest, next_differs}
 
 same_range : (a b : PlanRange) → a.span.lo ≡ b.span.lo → a.span.hi ≡ b.span.hi → a.part ≡ b.part → a ≡ b
 same_range a b lo hi part = grind (arith, lo, hi, part)
-
--- where a range ends below the top, another partition has the key there
-next_differs : (a : PlanRange) (xs : List PlanRange) → IsTiling a.span.hi top xs → DifferFrom a xs → a.span.hi < top → a.part ≢ owner_of xs a.span.hi
-next_differs a [] t d lt e = absurd (omega (arith, t))
-next_differs a (c ∷ xs) t d lt e = d.0 (e ∙ owner_first a.span.hi c xs (omega (arith, t.0)) (omega (arith, t.0, t.1)))
 
 -- the first range of one list ends no lower than that of the other
 no_lower : (from : ℕ) (a b : PlanRange) (xs ys : List PlanRange) → IsTiling from top (a ∷ xs) → IsTiling from top (b ∷ ys) → DifferFrom a xs
     → ((k : ℕ) → from ≤ k → k < top → owner_of (a ∷ xs) k ≡ owner_of (b ∷ ys) k) → a.part ≡ b.part → a.span.hi < b.span.hi → ⊥
 no_lower from a b xs ys ta tb da same part lt =
-    let high : b.span.hi ≤ top = tiling_ends b.span.hi ys tb.2 in
+    let high : b.span.hi ≤ top = tiling_ends b.span.hi top ys tb.2 in
     let at = same a.span.hi (omega (arith, ta.0, ta.1)) (omega arith) in
-    next_differs a xs ta.2 da (omega arith) (part ∙ sym (owner_first a.span.hi b ys (omega (arith, ta.0, ta.1, tb.0)) lt) ∙ sym at ∙ owner_later a.span.hi a xs (omega arith))
-
-differ_tail : (a : PlanRange) (xs : List PlanRange) → DifferFrom a xs → Differ xs
-differ_tail a [] d = tt
-differ_tail a (c ∷ xs) d = d.1
+    next_differs top a xs ta.2 da (omega arith) (part ∙ sym (owner_first a.span.hi b ys (omega (arith, ta.0, ta.1, tb.0)) lt) ∙ sym at ∙ owner_later a.span.hi a xs (omega arith))
 
 same_from : (from : ℕ) (xs ys : List PlanRange) → IsTiling from top xs → IsTiling from top ys → Differ xs → Differ ys
     → ((k : ℕ) → from ≤ k → k < top → owner_of xs k ≡ owner_of ys k) → xs ≡ ys
 same_from from [] [] ta tb da db same = refl
-same_from from [] (b ∷ ys) ta tb da db same = absurd (omega (arith, ta, tb.0, tb.1, tiling_ends b.span.hi ys tb.2))
-same_from from (a ∷ xs) [] ta tb da db same = absurd (omega (arith, tb, ta.0, ta.1, tiling_ends a.span.hi xs ta.2))
+same_from from [] (b ∷ ys) ta tb da db same = absurd (omega (arith, ta, tb.0, tb.1, tiling_ends b.span.hi top ys tb.2))
+same_from from (a ∷ xs) [] ta tb da db same = absurd (omega (arith, tb, ta.0, ta.1, tiling_ends a.span.hi top xs ta.2))
 same_from from (a ∷ xs) (b ∷ ys) ta tb da db same =
-    let high : a.span.hi ≤ top = tiling_ends a.span.hi xs ta.2 in
+    let high : a.span.hi ≤ top = tiling_ends a.span.hi top xs ta.2 in
     let part : a.part ≡ b.part =
     sym (owner_first from a xs (omega (arith, ta.0)) (omega (arith, ta.0, ta.1))) ∙ same from (omega arith) (omega (arith, ta.0, ta.1)) ∙ owner_first from b ys (omega (arith, tb.0)) (omega (arith, tb.0, tb.1)) in
     let hi : a.span.hi ≡ b.span.hi = elim (cases_lt a.span.hi b.span.hi) [
@@ -55,7 +36,7 @@ same_from from (a ∷ xs) (b ∷ ys) ta tb da db same =
     ] in
     let first : a ≡ b = same_range a b (ta.0 ∙ sym tb.0) hi part in
     let tb' : IsTiling a.span.hi top ys = rw hi tb.2 in
-    let rest : xs ≡ ys = same_from a.span.hi xs ys ta.2 tb' (differ_tail a xs da) (differ_tail b ys db)
+    let rest : xs ≡ ys = same_from a.span.hi xs ys ta.2 tb' (differ_rest a xs da) (differ_rest b ys db)
     (λ k from' below. sym (owner_later k a xs from') ∙ same k (omega (arith, ta.0, ta.1)) below ∙ owner_later k b ys (omega (arith, hi))) in
     rw (first, rest) refl
 

@@ -10,7 +10,8 @@ use Rattle.squall_plan.specs.declared.range.PlanRange.{PlanRange}
 use Rattle.squall_key.specs.Keys.{top, part_limit}
 use Rattle.squall_plan.specs.Ranges.{range_has, holders, owner_of, AreRanges, AreParts, IsTiling, Differ, DifferFrom}
 use Rattle.squall_plan.specs.Arranged.{ended_at, joined_from}
-use Rattle.squall_plan.proofs.Sweeps.{one, has_inside, has_below, has_above}
+use Rattle.squall_plan.specs.PlanLaws.{has_inside, has_below, has_above}
+use Rattle.squall_plan.proofs.Sweeps.{one}
 
 -- ---- a tiling holds each key from its start once
 
@@ -104,17 +105,4 @@ joined_ranges from run (r ∷ rs) t full = elim (cases_Bool (eqb r.part run.part
   | inl is ↦
       rw is (joined_ranges from (ended_at run r.span.hi) rs (t.0, omega (arith, t.1, t.2.0, t.2.1), t.2.2) ((omega (arith, t.1, t.2.0, t.2.1), full.1.0.1, full.0.2), full.1.1))
   | inr is ↦ rw is (full.0, joined_ranges run.span.hi r rs t.2 full.1)
-]
-
--- ---- partitions
-
-pub are_parts : (rs : List PlanRange) → AreRanges rs → AreParts rs
-are_parts [] full = tt
-are_parts (r ∷ rs) full = (full.0.2, are_parts rs full.1)
-
-pub owner_low : (rs : List PlanRange) (k : ℕ) → AreParts rs → owner_of rs k < part_limit
-owner_low [] k full = omega arith
-owner_low (r ∷ rs) k full = elim (cases_Bool (range_has k r)) [
-  | inl is ↦ rw is full.0
-  | inr is ↦ rw is (owner_low rs k full.1)
 ]

@@ -5,7 +5,7 @@ use Rattle.std.proofs.lemmas.Bool.{leb-true, leb-false}
 use Rattle.squall_plan.specs.declared.range.PlanRange.{PlanRange}
 use Rattle.squall_key.specs.Keys.{top}
 use Rattle.squall_plan.specs.Ranges.{IsTiling, IsPlace}
-use Rattle.squall_plan.proofs.Sweeps.{has_inside, has_above}
+use Rattle.squall_plan.specs.PlanLaws.{has_inside, has_above}
 
 abbrev hi_of : PlanRange → ℕ
 hi_of r = r.span.hi

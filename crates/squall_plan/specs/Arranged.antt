@@ -21,12 +21,12 @@ IsArranged rs (Err (Gap k)) = (length rs ≤ range_limit) × AreApart rs × IsLe
 IsArranged rs (Err NoMemory) = Unit {0}
 IsArranged rs (Err _) = ⊥
 
--- what was wanted, unless memory ran out, of a value seen in some way
+-- what was wanted, of a value seen in some way, unless an allocation failed
 abbrev pub GivesSeen : {X Y : Type 0} → (X → Y) → Result X PlanFault → Result Y PlanFault → Type 0
 GivesSeen view (Ok x) want = want ≡ Ok (view x)
 GivesSeen view (Err e) want = e ≢ NoMemory → want ≡ Err e
 
--- what was wanted, unless memory ran out
+-- what was wanted, unless an allocation failed
 abbrev pub Gives : {X : Type 0} → Result X PlanFault → Result X PlanFault → Type 0
 Gives result want = GivesSeen (λ x. x) result want
 

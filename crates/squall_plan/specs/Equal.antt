@@ -1,7 +1,6 @@
 -- Lists of ranges compared (this project: plans are equal where their lists are).
 use Rattle.std.specs.Prelude.{Bool, ◌&&◌, ◌==◌, List}
-use Rattle.std.specs.Cmp.{IsEquivalence, and_equiv, on_equiv, nat_eq_equiv}
-use Rattle.std.specs.Cmp.Lexicographic.{pointwise, lists_equiv}
+use Rattle.std.specs.Cmp.Lexicographic.{pointwise}
 use Rattle.squall_plan.specs.declared.range.PlanRange.{PlanRange}
 
 -- the ranges are the same: their bounds and their partitions
@@ -11,7 +10,3 @@ is_same_range r s = (r.span.lo == s.span.lo && r.span.hi == s.span.hi) && r.part
 -- the lists are as long, and each range is the same as the other's
 abbrev pub are_same_ranges : List PlanRange → List PlanRange → Bool
 are_same_ranges rs ss = pointwise is_same_range rs ss
-
--- so they are equal: to themselves, both ways round and along a chain
-pub ranges_equal : IsEquivalence are_same_ranges
-ranges_equal = lists_equiv (and_equiv (and_equiv (on_equiv (λ r. r.span.lo) nat_eq_equiv) (on_equiv (λ r. r.span.hi) nat_eq_equiv)) (on_equiv (λ r. r.part) nat_eq_equiv))

@@ -2,7 +2,9 @@
 pub use Rattle.squall_key.specs.Keys
 pub use Rattle.squall_span.specs.Spans
 pub mod Ranges
+pub mod PlanLaws
 pub mod Equal
+pub mod EqualLaws
 pub mod Arranged
 pub mod Form
 pub mod Faults

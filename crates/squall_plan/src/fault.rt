@@ -30,7 +30,7 @@ pub enum PlanFault {
     Overlap(Bound),
     /// The least key that is in no range, where none is in two.
     Gap(Bound),
-    /// There was not the memory to tell.
+    /// An allocation failed.
     NoMemory,
 }
 

@@ -21,7 +21,7 @@ pub fn equal_lists_are_same()
     ensures { (rs ss : List PlanRange) → are_same_ranges rs ss ≡ true ↔ rs ≡ ss }
 {}
 
-/// Ranges that are a plan, and not too many, are refused for want of memory alone.
+/// Ranges that are a plan, and not too many, are refused only where an allocation failed.
 pub fn one_answer()
     ensures { (rs : List PlanRange) (e : PlanFault) → AreRanges rs → ArePlan rs → length rs ≤ range_limit
         → IsArranged rs (Err e) → e ≡ NoMemory }
@@ -32,7 +32,7 @@ pub fn answer_has_meaning()
     ensures { (rs : List PlanRange) → AreRanges rs → IsArranged rs (plan_of_ranges rs) }
 {}
 
-/// As a function of ranges or of a text, the answer is never want of memory.
+/// As a function of ranges or of a text, the answer is never NoMemory.
 pub fn answer_needs_no_memory()
     ensures ranges { (rs : List PlanRange) → AreRanges rs → plan_of_ranges rs ≢ Err NoMemory }
     ensures text { (text : List ℕ) → plan_of_text text ≢ Err NoMemory }

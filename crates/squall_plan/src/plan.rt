@@ -3,7 +3,8 @@
 ghost use Rattle.std.specs.Prelude.{◌≡◌, ◌<◌, ◌≤◌, IfOk, length};
 ghost use Rattle.squall_key.specs.Keys.{top};
 ghost use Rattle.squall_plan.specs.Ranges.{IsTiling, IsPlace, IsCanonical, IsRange, AreRanges, owner_of, names};
-ghost use Rattle.squall_plan.specs.Equal.{are_same_ranges, ranges_equal};
+ghost use Rattle.squall_plan.specs.Equal.{are_same_ranges};
+ghost use Rattle.squall_plan.specs.EqualLaws.{ranges_equal};
 ghost use Rattle.squall_plan.specs.Arranged.{Gives, IsArranged, range_limit, plan_of_ranges};
 ghost use Rattle.squall_plan.specs.Form.{Follows, ranges_of_text, plan_of_text};
 ghost use Rattle.std.specs.Cmp.{partial_equiv_from_equiv};
@@ -91,7 +92,7 @@ impl Plan {
     /// may also be `"end"`, entries stand in any order, and other members are passed over.
     ///
     /// The first fault of [`PlanFault`] that is present anywhere, with the least index or key, or
-    /// `NoMemory` where memory ran out.
+    /// `NoMemory` where an allocation failed.
     pub fn read(alloc: Global, text: &[u8]) -> Result<Plan, PlanFault>
         ensures answer { Gives result (plan_of_text text.now) }
         ensures meaning { Follows (ranges_of_text text.now) result }
@@ -104,7 +105,7 @@ impl Plan {
     ///
     /// The first of these faults that is present: `TooMany` above 4096 ranges, `Overlap` with the
     /// least key that is in two of them, `Gap` with the least key that is in none; or `NoMemory`
-    /// where memory ran out. There is no other fault.
+    /// where an allocation failed. There is no other fault.
     pub fn from_ranges(alloc: Global, ranges: &[PlanRange]) -> Result<Plan, PlanFault>
         ensures answer { Gives result (plan_of_ranges ranges.now) }
         ensures meaning { IsArranged ranges.now result }
@@ -142,7 +143,7 @@ impl Plan {
         self.ranges.iter().any(|range| range.part == part)
     }
 
-    /// A copy, with the same ranges. The error comes where memory ran out.
+    /// A copy, with the same ranges. The error comes where an allocation failed.
     pub fn copied(&self, alloc: Global) -> Result<Plan, AllocError>
         ensures { IfOk result (λ p. p ≡ self.now) }
     {

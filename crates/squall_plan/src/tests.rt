@@ -1,4 +1,9 @@
-use super::*;
+//! Tests of plans.
+
+mod clients;
+mod tolerant;
+
+use crate::{Plan, PlanRange};
 use squall_key::{Bound, Key, PartId};
 use squall_span::Span;
 use std::alloc::Global;
@@ -232,6 +237,35 @@ fn ranges_and_owners(rt: HostRuntime) -> Result<(), Fail> {
     for (key, part) in owners {
         let key = Key::read(key).ok_or("a key")?;
         assert_eq!(rt; new.owner(key).get(), part);
+        assert!(rt; new.names(clients::named_owner(&new, key)));
     }
+    let other = PartId::new(5).ok_or("a partition")?;
+    assert!(rt; !new.names(other));
+    Ok(())
+}
+
+/// The range of roots from `place` on that is the partition 1000 + `place`: one root, or all that
+/// is left.
+fn step(place: u32) -> Result<PlanRange, Fail> {
+    let end = if place >= 4095 { 4294967295 } else { place + 1 };
+    let lo = Bound::new(place, 0).ok_or("a low bound")?;
+    let hi = Bound::new(end, 0).ok_or("a high bound")?;
+    let span = Span::new(lo, hi).ok_or("a span")?;
+    let part = PartId::new(place.saturating_add(1000)).ok_or("a partition")?;
+    Ok(PlanRange { span, part })
+}
+
+#[test]
+fn a_plan_of_4096_ranges(rt: HostRuntime) -> Result<(), Fail> {
+    let mut ranges = Vec::new(rt.alloc());
+    for place in 0..4096u32 {
+        ranges.push(step(4095 - place)?)?;
+    }
+    let plan = Plan::from_ranges(rt.alloc(), &ranges).ok().ok_or("a plan")?;
+    assert_eq!(rt; clients::count(&plan), 4096);
+    for range in plan.ranges() {
+        assert!(rt; plan.names(range.part));
+    }
+    assert!(rt; plan.copied(rt.alloc())? == plan);
     Ok(())
 }

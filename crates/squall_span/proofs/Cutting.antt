@@ -1,18 +1,15 @@
 -- The two parts of a set that is cut at a bound.
 use Rattle.std.proofs.Common.{◌≡◌, ℕ, zero, suc, ◌+◌, ◌<◌, ◌≤◌, Bool, true, false, List, [], ◌∷◌, ◌++◌, length, get_or, set, take, drop, refl, sym, ap, subst, ◌∙◌, arith, inl, inr, ◌||◌, nat_lt, nat_le}
 use Rattle.std.specs.Prelude.{◌&&◌}
+use Rattle.std.proofs.Math.Bool.{or_assoc, or-false}
 use Rattle.std.proofs.lemmas.Bool.{cases_lt}
 use Rattle.std.proofs.lemmas.List.{drop_all, get_or_read}
 use Rattle.std.proofs.lemmas.Bool.Decides.{nat_tests}
 use Rattle.squall_span.specs.Spans.{Interval, interval, span_has, has, Beyond, IsCanonical, EndsBy, EndsBeyond}
-use Rattle.squall_span.specs.SpanLaws.{has_below, has_ended, or_false, or_assoc}
+use Rattle.squall_span.specs.SpanLaws.{has_below, has_ended, has-append}
 use Rattle.squall_span.specs.Places.{Ended, IsCut}
 use Rattle.squall_span.proofs.Places.{ended_same, ended_ends, ended_front, canonical_drop, from_place}
 use Rattle.squall_span.proofs.Sweeping.{has_early}
-
-pub has-append : (xs ys : List Interval) (k : ℕ) → has (xs ++ ys) k ≡ (has xs k || has ys k)
-has-append [] ys k = refl
-has-append (x ∷ xs) ys k = ap (λ b. span_has x k || b) (has-append xs ys k) ∙ sym (or_assoc (span_has x k) (has xs k) (has ys k))
 
 has_parts : (xs : List Interval) (i k : ℕ) → has xs k ≡ (has (take i xs) k || has (drop i xs) k)
 has_parts [] zero k = refl
@@ -83,7 +80,7 @@ cut_between xs bound i c e far = record {
   below_canonical = canonical_take xs i c;
   others_canonical = canonical_drop xs i c;
   below_keys = below_is xs (take i xs) bound
-      (λ k lt. sym (has_parts xs i k ∙ ap (λ b. has (take i xs) k || b) (no_early (drop i xs) bound k (canonical_drop xs i c) (far k lt)) ∙ or_false (has (take i xs) k)))
+      (λ k lt. sym (has_parts xs i k ∙ ap (λ b. has (take i xs) k || b) (no_early (drop i xs) bound k (canonical_drop xs i c) (far k lt)) ∙ or-false (has (take i xs) k)))
       (λ k le. has_ended bound k (take i xs) (ended_front xs bound i e) le);
   others_keys = others_is xs (drop i xs) bound
       (λ k lt. no_early (drop i xs) bound k (canonical_drop xs i c) (far k lt))
@@ -105,7 +102,7 @@ cut_within xs bound i x ys c e rest lt =
       below_canonical = canonical_front xs i (interval x.lo bound ∷ []) c (lt, tt, tt) (λ h b. subst (Beyond h) rest b);
       others_canonical = later;
       below_keys = below_is xs (take i xs ++ (interval x.lo bound ∷ [])) bound
-          (λ k below. has-append (take i xs) (interval x.lo bound ∷ []) k ∙ ap (λ b. has (take i xs) k || b) (or_false (span_has (interval x.lo bound) k) ∙ shorter k below ∙ sym (or_false (span_has x k)) ∙ ap (λ b. span_has x k || b) (sym (none k (omega arith)))) ∙ ap (λ l. has (take i xs) k || has l k) (sym rest) ∙ sym (has_parts xs i k))
+          (λ k below. has-append (take i xs) (interval x.lo bound ∷ []) k ∙ ap (λ b. has (take i xs) k || b) (or-false (span_has (interval x.lo bound) k) ∙ shorter k below ∙ sym (or-false (span_has x k)) ∙ ap (λ b. span_has x k || b) (sym (none k (omega arith)))) ∙ ap (λ l. has (take i xs) k || has l k) (sym rest) ∙ sym (has_parts xs i k))
           (λ k le. has_ended bound k (take i xs ++ (interval x.lo bound ∷ [])) (ends_append bound (take i xs) (interval x.lo bound) (ended_front xs bound i e) (omega arith)) le);
       others_keys = others_is xs (interval bound x.hi ∷ ys) bound
           (λ k below. has_early k (interval bound x.hi) ys later below)

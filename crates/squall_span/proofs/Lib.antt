@@ -7,3 +7,4 @@ pub mod Inserting
 pub mod Cutting
 pub mod Counting
 pub mod Equality
+pub mod Made

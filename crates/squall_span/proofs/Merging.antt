@@ -1,9 +1,10 @@
 -- The steps of a merge of two lists of spans.
 use Rattle.std.proofs.Common.{◌≡◌, ℕ, zero, suc, ◌+◌, ◌<◌, ◌≤◌, max, Bool, true, false, List, [], ◌∷◌, ◌++◌, length, get_or, set, refl, sym, ap, subst, ◌∙◌, arith, inl, inr, ◌||◌}
+use Rattle.std.proofs.Math.Bool.{or_comm, or-false}
 use Rattle.std.proofs.lemmas.Bool.Decides.{nat_tests}
 use Rattle.squall_span.specs.Spans.{Interval, interval, span_has, has, Beyond, IsCanonical, StartsBy, hull, insert_span, union}
 use Rattle.squall_span.specs.Sweeps.{StartsNoEarlier, IsLower}
-use Rattle.squall_span.specs.SpanLaws.{canonical-insert, canonical-union, has-insert, has-union, same_lists, insert_cases, or_comm, or_false}
+use Rattle.squall_span.specs.SpanLaws.{canonical-insert, canonical-union, has-insert, has-union, same_lists, insert_cases}
 
 pub insert_after : (s t : Interval) (ts : List Interval) → s.lo < s.hi → t.lo < t.hi → t.hi < s.lo → insert_span s (t ∷ ts) ≡ t ∷ insert_span s ts
 insert_after s t ts p q lt = grind (arith, nat_tests)
@@ -115,7 +116,7 @@ merging_starts x y out a b xs ys s (inl h) m = subst (λ l. StartsByFirst l out)
 merging_starts x y out a b xs ys s (inr h) m = subst (λ l. StartsByFirst l out) h.0 m.starts_b
 
 merging_end : (x y out a b : List Interval) → IsCanonical x → IsCanonical y → length a + length b ≡ 0 → Merging x y out a b → out ≡ union x y
-merging_end x y out [] [] c d e m = same_lists out (union x y) m.canonical (canonical-union x y c d) (λ k. sym (or_false (has out k)) ∙ m.keys k ∙ sym (has-union x y k c d))
+merging_end x y out [] [] c d e m = same_lists out (union x y) m.canonical (canonical-union x y c d) (λ k. sym (or-false (has out k)) ∙ m.keys k ∙ sym (has-union x y k c d))
 merging_end x y out [] (t ∷ ts) c d e m = absurd (omega arith)
 merging_end x y out (s ∷ ss) b c d e m = absurd (omega arith)
 

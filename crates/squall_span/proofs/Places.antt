@@ -1,9 +1,10 @@
 -- What a binary search finds among the spans of a set.
 use Rattle.std.proofs.Common.{◌≡◌, ℕ, zero, suc, ◌+◌, ◌<◌, ◌≤◌, false, ◌||◌, List, [], ◌∷◌, length, get_or, take, drop, refl, sym, ap, subst, ◌∙◌, arith}
 use Rattle.std.specs.List.Sorted.{IsNonDecreasingBy}
+use Rattle.std.proofs.Math.Bool.{or-false}
 use Rattle.std.proofs.lemmas.List.{drop_more, drop_all}
 use Rattle.squall_span.specs.Spans.{Interval, span_has, has, Beyond, IsCanonical, EndsBy, EndsBeyond}
-use Rattle.squall_span.specs.SpanLaws.{outside_above, has_below, or_false}
+use Rattle.squall_span.specs.SpanLaws.{outside_above, has_below}
 use Rattle.squall_span.specs.Places.{Ended}
 
 pub starts_above : (h : ℕ) (xs : List Interval) (j : ℕ) (d : Interval) → Beyond h xs → IsCanonical xs → j < length xs → h < (get_or xs j d).lo
@@ -76,7 +77,7 @@ has_found xs k i x c e lt is =
     let rest = from_place xs i x lt is in
     let one : IsCanonical (x ∷ drop (i + 1) xs) = subst IsCanonical rest (canonical_drop xs i c) in
     let ends : k < x.hi = subst (EndsBeyond k) rest (ended_ends xs k i e) in
-    ended_same xs k i k e (omega arith) ∙ ap (λ l. has l k) rest ∙ ap (λ b. span_has x k || b) (has_below x.hi k (drop (i + 1) xs) one.1 one.2 (omega arith)) ∙ or_false (span_has x k)
+    ended_same xs k i k e (omega arith) ∙ ap (λ l. has l k) rest ∙ ap (λ b. span_has x k || b) (has_below x.hi k (drop (i + 1) xs) one.1 one.2 (omega arith)) ∙ or-false (span_has x k)
 
 pub has_none : (xs : List Interval) (k i : ℕ) → Ended xs k i → length xs ≤ i → has xs k ≡ false
 has_none xs k i e le = ended_same xs k i k e (omega arith) ∙ ap (λ l. has l k) (drop_all i xs le)

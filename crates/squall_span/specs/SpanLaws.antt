@@ -1,32 +1,16 @@
 -- Laws of sets of keys: a set has one list of spans, and the keys of each operation (this project).
-use Rattle.std.specs.Prelude.{◌≡◌, ℕ, ◌+◌, ◌<◌, ◌≤◌, min, max, Bool, true, false, ◌||◌, ◌&&◌, nat_lt, List, [], ◌∷◌, cond, refl}
-use Rattle.std.proofs.Common.{sym, ap, ◌∙◌, arith, inl, inr}
-use Rattle.std.proofs.lemmas.Bool.{cases_lt}
+use Rattle.std.specs.Prelude.{◌≡◌, ◌↔◌, ℕ, ◌+◌, ◌<◌, ◌≤◌, min, max, Bool, true, false, ◌||◌, ◌&&◌, not, nat_lt, nat_le, List, [], ◌∷◌, ◌++◌, cond, None, Some, refl}
+use Rattle.std.proofs.Common.{sym, ap, subst, ◌∙◌, arith, inl, inr}
+use Rattle.std.proofs.Math.Bool.{or_assoc, or_comm, or_self, or-false, and_comm, and-true, and-false}
+use Rattle.std.proofs.lemmas.Bool.{cases_lt, false≢true, and_parts, and_left, and_right}
+use Rattle.std.proofs.lemmas.Option.{same_Some}
 use Rattle.std.proofs.lemmas.Bool.Decides.{nat_tests}
 use Rattle.std.proofs.Common.{rules}
 use Rattle.std.specs.Cmp.{IsEquivalence, IsPartialEquivalence, partial_equiv_from_equiv}
 use Rattle.std.specs.Cmp.Lexicographic.{lists_equiv}
 use Rattle.std.specs.Cmp.Rules.{comparing}
 use Rattle.squall_key.specs.Keys.{top}
-use Rattle.squall_span.specs.Spans.{interval_eq, spans_eq, Interval, interval, span_has, has, Beyond, IsCanonical, EndsBy, IsSet, hull, insert_span, union}
-
-pub or_assoc : (a b c : Bool) → ((a || b) || c) ≡ (a || (b || c))
-or_assoc true b c = refl
-or_assoc false b c = refl
-
-pub or_comm : (a b : Bool) → (a || b) ≡ (b || a)
-or_comm true true = refl
-or_comm true false = refl
-or_comm false true = refl
-or_comm false false = refl
-
-pub or_idem : (a : Bool) → (a || a) ≡ a
-or_idem true = refl
-or_idem false = refl
-
-pub or_false : (a : Bool) → (a || false) ≡ a
-or_false true = refl
-or_false false = refl
+use Rattle.squall_span.specs.Spans.{interval_eq, spans_eq, Interval, interval, span_has, has, Beyond, IsCanonical, EndsBy, IsSet, hull, insert_span, union, spans_between, keys_below, keys_from, without_span, minus, meet, first_span, IsFirstRun}
 
 pub outside_below : (s : Interval) (k : ℕ) → k < s.lo → span_has s k ≡ false
 outside_below s k lt = grind (arith, nat_tests)
@@ -94,7 +78,7 @@ canonical-union a (t ∷ ts) c d = canonical-insert t (union a ts) d.0 (canonica
 
 -- exactly the keys of either
 pub has-union : (a b : List Interval) (k : ℕ) → IsCanonical a → IsCanonical b → has (union a b) k ≡ (has a k || has b k)
-has-union a [] k c d = sym (or_false (has a k))
+has-union a [] k c d = sym (or-false (has a k))
 has-union a (t ∷ ts) k c d =
     has-insert t (union a ts) k d.0 (canonical-union a ts c d.2)
     ∙ ap (λ x. span_has t k || x) (has-union a ts k c d.2)
@@ -189,10 +173,6 @@ set_within a b c d all = (c, ends_by_keys top a c (λ k le. no_key (has a k) (ha
     no_key true y f e = sym (f refl) ∙ e
     no_key false y f e = refl
 
-pub and_first : (a b : Bool) → (a && b) ≡ true → a ≡ true
-and_first true b e = refl
-and_first false b e = e
-
 pub ends-insert : (h : ℕ) (s : Interval) (ss : List Interval) → s.hi ≤ h → EndsBy h ss → EndsBy h (insert_span s ss)
 ends-insert h s [] le b = (le, tt)
 ends-insert h s (t ∷ ts) le b = insert_cases (EndsBy h) s t ts (λ _. (le, b)) (λ _ _. (b.0, ends-insert h s ts le b.1)) (λ _ _. ends-insert h (hull s t) ts (omega (arith, b.0)) b.1)
@@ -218,7 +198,192 @@ pub union_comm : (x y : List Interval) → IsCanonical x → IsCanonical y → u
 union_comm x y a b = same_lists _ _ (canonical-union x y a b) (canonical-union y x b a) (λ k. has-union x y k a b ∙ or_comm (has x k) (has y k) ∙ sym (has-union y x k b a))
 
 pub union_idem : (x : List Interval) → IsCanonical x → union x x ≡ x
-union_idem x a = same_lists _ _ (canonical-union x x a a) a (λ k. has-union x x k a a ∙ or_idem (has x k))
+union_idem x a = same_lists _ _ (canonical-union x x a a) a (λ k. has-union x x k a a ∙ or_self (has x k))
+
+pub has-append : (xs ys : List Interval) (k : ℕ) → has (xs ++ ys) k ≡ (has xs k || has ys k)
+has-append [] ys k = refl
+has-append (x ∷ xs) ys k = ap (λ b. span_has x k || b) (has-append xs ys k) ∙ sym (or_assoc (span_has x k) (has xs k) (has ys k))
+
+-- ---- the other operations, by their keys
+
+-- spans that hold no number up to the bound start beyond it
+pub beyond_by_keys : (h : ℕ) (ss : List Interval) → IsCanonical ss → ((k : ℕ) → k ≤ h → has ss k ≡ false) → Beyond h ss
+beyond_by_keys h [] c none = tt
+beyond_by_keys h (s ∷ ss) c none = elim (cases_lt h s.lo) [
+  | inl lt ↦ lt
+  | inr ge ↦ let is : true ≡ false = sym (has_first s ss c.0) ∙ none s.lo ge in absurd (let bad : ⊥ = cc in bad)
+]
+
+beyond_append : (g h : ℕ) (xs ys : List Interval) → Beyond g xs → g ≤ h → Beyond h ys → Beyond g (xs ++ ys)
+beyond_append g h [] ys b le e = beyond_weaker g h ys le e
+beyond_append g h (x ∷ xs) ys b le e = b
+
+pub canonical-append : (h : ℕ) (xs ys : List Interval) → IsCanonical xs → IsCanonical ys → EndsBy h xs → Beyond h ys → IsCanonical (xs ++ ys)
+canonical-append h [] ys c d e b = d
+canonical-append h (x ∷ xs) ys c d e b = (c.0, beyond_append x.hi h xs ys c.1 e.0 b, canonical-append h xs ys c.2 d e.1 b)
+
+has_between : (lo hi k : ℕ) → has (spans_between lo hi) k ≡ span_has (interval lo hi) k
+has_between lo hi k = elim (nat_lt lo hi) as (λ b. nat_lt lo hi ≡ b → has (cond b (interval lo hi ∷ []) []) k ≡ span_has (interval lo hi) k) [
+  | true ↦ λ e. or-false (span_has (interval lo hi) k)
+  | false ↦ λ e. grind (arith, nat_tests)
+] refl
+
+canonical_between : (lo hi : ℕ) → IsCanonical (spans_between lo hi)
+canonical_between lo hi = elim (nat_lt lo hi) as (λ b. nat_lt lo hi ≡ b → IsCanonical (cond b (interval lo hi ∷ []) [])) [
+  | true ↦ λ e. (grind (arith, nat_tests), tt, tt)
+  | false ↦ λ e. tt
+] refl
+
+ends_between : (lo hi h : ℕ) → hi ≤ h → EndsBy h (spans_between lo hi)
+ends_between lo hi h le = elim (nat_lt lo hi) as (λ b. EndsBy h (cond b (interval lo hi ∷ []) [])) [ true ↦ (le, tt) | false ↦ tt ]
+
+both_and : (a b c : Bool) → ((a && c) || (b && c)) ≡ ((a || b) && c)
+both_and true true c = or_self c
+both_and true false c = or-false c
+both_and false b c = refl
+
+pub has-below : (bound : ℕ) (ss : List Interval) (k : ℕ) → has (keys_below bound ss) k ≡ (has ss k && nat_lt k bound)
+has-below bound [] k = refl
+has-below bound (s ∷ ss) k =
+    let here : span_has (interval s.lo (min s.hi bound)) k ≡ (span_has s k && nat_lt k bound) = grind (arith, nat_tests) in
+    has-append (spans_between s.lo (min s.hi bound)) (keys_below bound ss) k
+    ∙ (λ i. (has_between s.lo (min s.hi bound) k ∙ here) i || has-below bound ss k i)
+    ∙ both_and (span_has s k) (has ss k) (nat_lt k bound)
+
+pub has-from : (bound : ℕ) (ss : List Interval) (k : ℕ) → has (keys_from bound ss) k ≡ (has ss k && nat_le bound k)
+has-from bound [] k = refl
+has-from bound (s ∷ ss) k =
+    let here : span_has (interval (max s.lo bound) s.hi) k ≡ (span_has s k && nat_le bound k) = grind (arith, nat_tests) in
+    has-append (spans_between (max s.lo bound) s.hi) (keys_from bound ss) k
+    ∙ (λ i. (has_between (max s.lo bound) s.hi k ∙ here) i || has-from bound ss k i)
+    ∙ both_and (span_has s k) (has ss k) (nat_le bound k)
+
+no_key : (x y z : Bool) → z ≡ (x && y) → x ≡ false → z ≡ false
+no_key x y z e f = e ∙ and_left x y f
+
+no_place : (x y z : Bool) → z ≡ (x && y) → y ≡ false → z ≡ false
+no_place x y z e f = e ∙ and_right x y f
+
+pub canonical-below : (bound : ℕ) (ss : List Interval) → IsCanonical ss → IsCanonical (keys_below bound ss)
+canonical-below bound [] c = tt
+canonical-below bound (s ∷ ss) c =
+    let rest = canonical-below bound ss c.2 in
+    canonical-append s.hi (spans_between s.lo (min s.hi bound)) (keys_below bound ss) (canonical_between s.lo (min s.hi bound)) rest (ends_between s.lo (min s.hi bound) s.hi (omega arith))
+    (beyond_by_keys s.hi (keys_below bound ss) rest (λ k le. no_key _ _ _ (has-below bound ss k) (has_below s.hi k ss c.1 c.2 le)))
+
+pub canonical-from : (bound : ℕ) (ss : List Interval) → IsCanonical ss → IsCanonical (keys_from bound ss)
+canonical-from bound [] c = tt
+canonical-from bound (s ∷ ss) c =
+    let rest = canonical-from bound ss c.2 in
+    canonical-append s.hi (spans_between (max s.lo bound) s.hi) (keys_from bound ss) (canonical_between (max s.lo bound) s.hi) rest (ends_between (max s.lo bound) s.hi s.hi (omega arith))
+    (beyond_by_keys s.hi (keys_from bound ss) rest (λ k le. no_key _ _ _ (has-from bound ss k) (has_below s.hi k ss c.1 c.2 le)))
+
+has_without : (t : Interval) (ss : List Interval) (k : ℕ) → has (without_span t ss) k ≡ (has ss k && not (span_has t k))
+has_without t ss k = has-append (keys_below t.lo ss) (keys_from t.hi ss) k ∙ (λ i. has-below t.lo ss k i || has-from t.hi ss k i) ∙ sides (has ss k)
+  where
+    outside : (nat_lt k t.lo || nat_le t.hi k) ≡ not (span_has t k)
+    outside = grind (arith, nat_tests)
+
+    sides : (a : Bool) → ((a && nat_lt k t.lo) || (a && nat_le t.hi k)) ≡ (a && not (span_has t k))
+    sides true = outside
+    sides false = refl
+
+canonical_without : (t : Interval) (ss : List Interval) → t.lo < t.hi → IsCanonical ss → IsCanonical (without_span t ss)
+canonical_without t ss p c =
+    let low = canonical-below t.lo ss c in
+    let high = canonical-from t.hi ss c in
+    canonical-append t.lo (keys_below t.lo ss) (keys_from t.hi ss) low high
+    (ends_by_keys t.lo (keys_below t.lo ss) low (λ k le. no_place _ _ _ (has-below t.lo ss k) (lt_no k t.lo le)))
+    (beyond_by_keys t.lo (keys_from t.hi ss) high (λ k le. no_place _ _ _ (has-from t.hi ss k) (le_no t.hi k (omega arith))))
+  where
+    lt_no : (k b : ℕ) → b ≤ k → nat_lt k b ≡ false
+    lt_no k b le = grind (arith, nat_tests)
+
+    le_no : (b k : ℕ) → k < b → nat_le b k ≡ false
+    le_no b k lt = grind (arith, nat_tests)
+
+-- exactly the keys of the first that the second lacks
+pub has-minus : (a b : List Interval) (k : ℕ) → has (minus a b) k ≡ (has a k && not (has b k))
+has-minus a [] k = sym (and-true (has a k))
+has-minus a (t ∷ ts) k = has-minus (without_span t a) ts k ∙ ap (λ x. x && not (has ts k)) (has_without t a k) ∙ and_nots (has a k) (span_has t k) (has ts k)
+  where
+    and_nots : (x y z : Bool) → ((x && not y) && not z) ≡ (x && not (y || z))
+    and_nots true true z = refl
+    and_nots true false z = refl
+    and_nots false y z = refl
+
+pub canonical-minus : (a b : List Interval) → IsCanonical a → IsCanonical b → IsCanonical (minus a b)
+canonical-minus a [] c d = c
+canonical-minus a (t ∷ ts) c d = canonical-minus (without_span t a) ts (canonical_without t a d.0 c) d.2
+
+-- exactly the keys of both
+pub has-meet : (a b : List Interval) (k : ℕ) → has (meet a b) k ≡ (has a k && has b k)
+has-meet a [] k = sym (and-false (has a k))
+has-meet a (t ∷ ts) k =
+    has-append (keys_from t.lo (keys_below t.hi a)) (meet a ts) k
+    ∙ (λ i. (has-from t.lo (keys_below t.hi a) k ∙ ap (λ x. x && nat_le t.lo k) (has-below t.hi a k)) i || has-meet a ts k i)
+    ∙ either (has a k) (nat_lt k t.hi) (nat_le t.lo k) (has ts k)
+  where
+    either : (a x y b : Bool) → (((a && x) && y) || (a && b)) ≡ (a && ((y && x) || b))
+    either true x y b = ap (λ z. z || b) (and_comm x y)
+    either false x y b = refl
+
+pub canonical-meet : (a b : List Interval) → IsCanonical a → IsCanonical b → IsCanonical (meet a b)
+canonical-meet a [] c d = tt
+canonical-meet a (t ∷ ts) c d =
+    let here = canonical-from t.lo (keys_below t.hi a) (canonical-below t.hi a c) in
+    let rest = canonical-meet a ts c d.2 in
+    canonical-append t.hi (keys_from t.lo (keys_below t.hi a)) (meet a ts) here rest
+    (ends_by_keys t.hi (keys_from t.lo (keys_below t.hi a)) here (λ k le. no_key _ _ _ (has-from t.lo (keys_below t.hi a) k) (no_place _ _ _ (has-below t.hi a k) (lt_no k t.hi le))))
+    (beyond_by_keys t.hi (meet a ts) rest (λ k le. no_place _ _ _ (has-meet a ts k) (has_below t.hi k ts d.1 d.2 le)))
+  where
+    lt_no : (k b : ℕ) → b ≤ k → nat_lt k b ≡ false
+    lt_no k b le = grind (arith, nat_tests)
+
+-- each is a set again
+pub set-below : (bound : ℕ) (a : List Interval) → IsSet a → IsSet (keys_below bound a)
+set-below bound a c = set_within _ a (canonical-below bound a c.0) c (λ k h. (and_parts _ _ (sym (has-below bound a k) ∙ h)).0)
+
+pub set-from : (bound : ℕ) (a : List Interval) → IsSet a → IsSet (keys_from bound a)
+set-from bound a c = set_within _ a (canonical-from bound a c.0) c (λ k h. (and_parts _ _ (sym (has-from bound a k) ∙ h)).0)
+
+pub set-minus : (a b : List Interval) → IsSet a → IsSet b → IsSet (minus a b)
+set-minus a b c d = set_within _ a (canonical-minus a b c.0 d.0) c (λ k h. (and_parts _ _ (sym (has-minus a b k) ∙ h)).0)
+
+pub set-meet : (a b : List Interval) → IsSet a → IsSet b → IsSet (meet a b)
+set-meet a b c d = set_within _ a (canonical-meet a b c.0 d.0) c (λ k h. (and_parts _ _ (sym (has-meet a b k) ∙ h)).0)
+
+-- ---- the first span
+
+pub first_run : (s : Interval) (ss : List Interval) → IsCanonical (s ∷ ss) → IsFirstRun (s ∷ ss) s
+first_run s ss c = record {
+  some = c.0;
+  keys = λ k le lt. has_in s ss k le lt;
+  least = λ k h. elim (cases_lt k s.lo) [
+    | inl lt ↦ absurd (false≢true (sym (has_below k k (s ∷ ss) lt c (omega arith)) ∙ h))
+    | inr ge ↦ ge
+  ];
+  longest = has_after s ss s.hi (omega arith) ∙ has_below s.hi s.hi ss c.1 c.2 (omega arith);
+}
+
+-- a set has one first run
+one_first_run : (ss : List Interval) (r q : Interval) → IsFirstRun ss r → IsFirstRun ss q → r ≡ q
+one_first_run ss r q f g =
+    let low : r.lo ≡ q.lo = omega (arith, f.least q.lo (g.keys q.lo (omega arith) g.some), g.least r.lo (f.keys r.lo (omega arith) f.some)) in
+    same_span r q low (omega (arith, upto r q f g low, upto q r g f (sym low)))
+  where
+    upto : (r q : Interval) → IsFirstRun ss r → IsFirstRun ss q → r.lo ≡ q.lo → r.hi ≤ q.hi
+    upto r q f g low = elim (cases_lt q.hi r.hi) [
+      | inl lt ↦ absurd (false≢true (sym g.longest ∙ f.keys q.hi (omega (arith, g.some)) lt))
+      | inr ge ↦ ge
+    ]
+
+pub first_span_is : (ss : List Interval) (s : Interval) → IsCanonical ss → (first_span ss ≡ Some s) ↔ IsFirstRun ss s
+first_span_is [] s c = (λ e. absurd (let bad : ⊥ = cc in bad), λ f. absurd (false≢true (f.keys s.lo (omega arith) f.some)))
+first_span_is (t ∷ ts) s c = (
+  λ e. subst (IsFirstRun (t ∷ ts)) (same_Some t s e) (first_run t ts c),
+  λ f. ap Some (one_first_run (t ∷ ts) t s (first_run t ts c) f),
+)
 
 -- `==` on spans and on lists of them
 interval_eq-equivalence : IsEquivalence interval_eq

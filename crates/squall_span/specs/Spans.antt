@@ -1,5 +1,5 @@
 -- Spans of keys, and sets of keys as lists of spans (half-open ranges of keys: Squall, SIGMOD 2015).
-use Rattle.std.specs.Prelude.{ℕ, ◌+◌, ◌-◌, ◌<◌, ◌≤◌, min, max, suc, zero, Bool, false, ◌&&◌, ◌||◌, ◌==◌, nat_lt, nat_le, List, [], ◌∷◌, ◌++◌, Option, None, Some, if◌then◌else◌}
+use Rattle.std.specs.Prelude.{◌≡◌, ℕ, ◌+◌, ◌-◌, ◌<◌, ◌≤◌, min, max, suc, zero, Bool, true, false, ◌&&◌, ◌||◌, ◌==◌, nat_lt, nat_le, List, [], ◌∷◌, ◌++◌, Option, None, Some, if◌then◌else◌}
 use Rattle.std.specs.Cmp.Lexicographic.{pointwise}
 use Rattle.squall_key.specs.Keys.{top, text_of_bound}
 
@@ -89,7 +89,47 @@ abbrev pub union : List Interval → List Interval → List Interval
 union ss [] = ss
 union ss (t ∷ ts) = insert_span t (union ss ts)
 
--- the front of the first span: at most so many keys
+-- the span of two bounds, as a list: of none where it has no key
+abbrev pub spans_between : ℕ → ℕ → List Interval
+spans_between lo hi = if nat_lt lo hi then interval lo hi ∷ [] else []
+
+-- the keys of a set that lie below the bound
+abbrev pub keys_below : ℕ → List Interval → List Interval
+keys_below bound [] = []
+keys_below bound (s ∷ ss) = spans_between s.lo (min s.hi bound) ++ keys_below bound ss
+
+-- the keys of a set from the bound on
+abbrev pub keys_from : ℕ → List Interval → List Interval
+keys_from bound [] = []
+keys_from bound (s ∷ ss) = spans_between (max s.lo bound) s.hi ++ keys_from bound ss
+
+-- the keys of a set that a span lacks: those below it, and those from its end on
+abbrev pub without_span : Interval → List Interval → List Interval
+without_span t ss = keys_below t.lo ss ++ keys_from t.hi ss
+
+-- the keys of the first set that the second lacks
+abbrev pub minus : List Interval → List Interval → List Interval
+minus ss [] = ss
+minus ss (t ∷ ts) = minus (without_span t ss) ts
+
+-- the keys of both sets: those of the first that lie in a span of the second, for one span after the other
+abbrev pub meet : List Interval → List Interval → List Interval
+meet ss [] = []
+meet ss (t ∷ ts) = keys_from t.lo (keys_below t.hi ss) ++ meet ss ts
+
+-- the first span of a set
+abbrev pub first_span : List Interval → Option Interval
+first_span [] = None
+first_span (s ∷ ss) = Some s
+
+-- the span is the longest run of keys of the set that begins at its least key
+pub record IsFirstRun (ss : List Interval) (run : Interval) : Type 0 where
+  pub some : run.lo < run.hi
+  pub keys : (k : ℕ) → run.lo ≤ k → k < run.hi → has ss k ≡ true
+  pub least : (k : ℕ) → has ss k ≡ true → run.lo ≤ k
+  pub longest : has ss run.hi ≡ false
+
+-- the prefix of the first span: at most so many keys
 abbrev pub first_keys : ℕ → List Interval → Option Interval
 first_keys most [] = None
 first_keys most (s ∷ ss) = if most == 0 then None else Some (interval s.lo (min s.hi (s.lo + most)))

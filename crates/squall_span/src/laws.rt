@@ -1,8 +1,8 @@
 //! Laws of sets of keys, each the contract of a function that does nothing.
 
-ghost use Rattle.std.specs.Prelude.{◌≡◌, ◌↔◌, ℕ, ◌<◌, ◌≤◌, ◌||◌, true, List};
+ghost use Rattle.std.specs.Prelude.{◌≡◌, ◌↔◌, ℕ, ◌<◌, ◌≤◌, ◌||◌, ◌&&◌, not, nat_lt, nat_le, true, Some, List};
 ghost use Rattle.squall_key.specs.Keys.{top};
-ghost use Rattle.squall_span.specs.Spans.{Interval, has, span_has, IsCanonical, EndsBy, IsSet, insert_span, union, total_length, how_many, spans_eq};
+ghost use Rattle.squall_span.specs.Spans.{Interval, has, span_has, IsCanonical, EndsBy, IsSet, insert_span, union, minus, meet, keys_below, keys_from, first_span, IsFirstRun, total_length, how_many, spans_eq};
 
 /// Sets with the same keys have the same list of spans.
 pub fn same_keys_make_the_same_set()
@@ -26,6 +26,31 @@ pub fn a_union_is_a_set()
     ensures set { (a b : List Interval) → IsSet a → IsSet b → IsSet (union a b) }
     ensures canonical { (a b : List Interval) → IsCanonical a → IsCanonical b → IsCanonical (union a b) }
     ensures keys { (a b : List Interval) (k : ℕ) → IsCanonical a → IsCanonical b → has (union a b) k ≡ (has a k || has b k) }
+{}
+
+/// The keys of the first set that the second lacks are a set again.
+pub fn a_difference_is_a_set()
+    ensures set { (a b : List Interval) → IsSet a → IsSet b → IsSet (minus a b) }
+    ensures keys { (a b : List Interval) (k : ℕ) → has (minus a b) k ≡ (has a k && not (has b k)) }
+{}
+
+/// The keys of both sets are a set again.
+pub fn a_meet_is_a_set()
+    ensures set { (a b : List Interval) → IsSet a → IsSet b → IsSet (meet a b) }
+    ensures keys { (a b : List Interval) (k : ℕ) → has (meet a b) k ≡ (has a k && has b k) }
+{}
+
+/// The keys of a set below a bound are a set again, and so are the others.
+pub fn a_set_splits_into_sets()
+    ensures first { (bound : ℕ) (a : List Interval) → IsSet a → IsSet (keys_below bound a) }
+    ensures second { (bound : ℕ) (a : List Interval) → IsSet a → IsSet (keys_from bound a) }
+    ensures below { (bound : ℕ) (a : List Interval) (k : ℕ) → has (keys_below bound a) k ≡ (has a k && nat_lt k bound) }
+    ensures others { (bound : ℕ) (a : List Interval) (k : ℕ) → has (keys_from bound a) k ≡ (has a k && nat_le bound k) }
+{}
+
+/// The first span of a set is the longest run of keys from the least one on.
+pub fn first_span_is_the_first_run()
+    ensures { (a : List Interval) (s : Interval) → IsSet a → (first_span a ≡ Some s) ↔ IsFirstRun a s }
 {}
 
 /// `==` on sets says whether they are equal.

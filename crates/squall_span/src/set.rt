@@ -2,7 +2,7 @@
 
 ghost use Rattle.std.specs.Prelude.{◌≡◌, ◌↔◌, ℕ, ◌+◌, ◌-◌, ◌<◌, ◌≤◌, ◌&&◌, ◌||◌, not, min, true, false, nat_lt, nat_le, List, [], ◌∷◌, IsTrue, IfOk, IfSome, OnOk, OnErr};
 ghost use Rattle.squall_key.specs.Keys.{top};
-ghost use Rattle.squall_span.specs.Spans.{Interval, has, span_has, IsSet, union, insert_span, first_keys, total_length, how_many, spans_eq};
+ghost use Rattle.squall_span.specs.Spans.{Interval, has, span_has, IsSet, union, minus, meet, keys_below, keys_from, insert_span, first_keys, total_length, how_many, spans_eq};
 ghost use Rattle.squall_span.specs.SpanLaws.{spans_eq-laws, spans_eq-equivalence};
 
 use crate::edit::{cut, insert};
@@ -43,7 +43,7 @@ impl SpanSet {
         }
     }
 
-    /// The set of the keys of a span. An error says that memory ran out.
+    /// The set of the keys of a span. It fails only where an allocation fails.
     pub fn of(alloc: Global, span: &Span) -> Result<SpanSet, AllocError>
         ensures { IfOk result (λ set. set ≡ span.now ∷ []) }
     {
@@ -52,7 +52,7 @@ impl SpanSet {
         Ok(set)
     }
 
-    /// A copy of the set. An error says that memory ran out.
+    /// A copy of the set. It fails only where an allocation fails.
     pub fn copied(&self, alloc: Global) -> Result<SpanSet, AllocError>
         ensures { IfOk result (λ set. set ≡ self.now) }
     {
@@ -102,8 +102,8 @@ impl SpanSet {
         count
     }
 
-    /// The first keys of the set that follow one another: the front of its first span, of at
-    /// most `max` keys. None of the empty set, and where `max` is 0.
+    /// The first keys of the set that follow one another: the prefix of its first span of at most
+    /// `max` keys. None of the empty set, and where `max` is 0.
     pub fn first_keys(&self, max: u64) -> Option<Span>
         ensures value { result ≡ first_keys max self.now }
         ensures kept { IfSome result (λ s. (k : ℕ) → span_has s k ≡ true → has self.now k ≡ true) }
@@ -122,7 +122,7 @@ impl SpanSet {
         Some(Span::between(first.lo(), hi))
     }
 
-    /// The keys of both sets or of one of them. An error says that memory ran out.
+    /// The keys of either set. It fails only where an allocation fails.
     pub fn union(&self, alloc: Global, other: &SpanSet) -> Result<SpanSet, AllocError>
         ensures value { IfOk result (λ set. set ≡ union self.now other.now) }
         ensures keys { IfOk result (λ set. (k : ℕ) → has set k ≡ (has self.now k || has other.now k)) }
@@ -131,24 +131,28 @@ impl SpanSet {
         Ok(SpanSet { spans })
     }
 
-    /// The keys of this set that the other lacks. An error says that memory ran out.
+    /// The keys of this set that the other lacks. It fails only where an allocation fails.
     pub fn minus(&self, alloc: Global, other: &SpanSet) -> Result<SpanSet, AllocError>
-        ensures { IfOk result (λ set. (k : ℕ) → has set k ≡ (has self.now k && not (has other.now k))) }
+        ensures value { IfOk result (λ set. set ≡ minus self.now other.now) }
+        ensures keys { IfOk result (λ set. (k : ℕ) → has set k ≡ (has self.now k && not (has other.now k))) }
     {
         let spans = sweep(alloc, Keep::FirstAlone, &self.spans, &other.spans)?;
         Ok(SpanSet { spans })
     }
 
-    /// The keys that are in both sets. An error says that memory ran out.
+    /// The keys that are in both sets. It fails only where an allocation fails.
     pub fn meet(&self, alloc: Global, other: &SpanSet) -> Result<SpanSet, AllocError>
-        ensures { IfOk result (λ set. (k : ℕ) → has set k ≡ (has self.now k && has other.now k)) }
+        ensures value { IfOk result (λ set. set ≡ meet self.now other.now) }
+        ensures keys { IfOk result (λ set. (k : ℕ) → has set k ≡ (has self.now k && has other.now k)) }
     {
         let spans = sweep(alloc, Keep::Both, &self.spans, &other.spans)?;
         Ok(SpanSet { spans })
     }
 
-    /// The keys below the bound, and the others. An error says that memory ran out.
+    /// The keys below the bound, and the others. It fails only where an allocation fails.
     pub fn split_at(&self, alloc: Global, bound: Bound) -> Result<(SpanSet, SpanSet), AllocError>
+        ensures first { IfOk result (λ sets. sets.0 ≡ keys_below bound self.now) }
+        ensures second { IfOk result (λ sets. sets.1 ≡ keys_from bound self.now) }
         ensures below { IfOk result (λ sets. (k : ℕ) → has sets.0 k ≡ (has self.now k && nat_lt k bound)) }
         ensures others { IfOk result (λ sets. (k : ℕ) → has sets.1 k ≡ (has self.now k && nat_le bound k)) }
     {
@@ -156,7 +160,8 @@ impl SpanSet {
         Ok((SpanSet { spans: below }, SpanSet { spans: others }))
     }
 
-    /// Adds the keys of a span. An error says that memory ran out, and leaves the set as it was.
+    /// Adds the keys of a span. It fails only where an allocation fails, and then the set is as it
+    /// was.
     pub fn insert(&mut self, span: Span) -> Result<(), AllocError>
         ensures value { OnOk result (self.new ≡ insert_span span self.old) }
         ensures keys { OnOk result ((k : ℕ) → has self.new k ≡ (span_has span k || has self.old k)) }

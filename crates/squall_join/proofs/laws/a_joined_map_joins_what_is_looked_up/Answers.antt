@@ -1,4 +1,4 @@
-use Rattle.squall_join.specs.Looked.{looked_merged, same_looked_map}
+use Rattle.squall_join.specs.LookedLaws.{looked_merged, same_looked_map}
 use Rattle.squall_join.proofs.laws.a_joined_map_joins_what_is_looked_up.Goals as goal
 
 pub returns : goal.returns

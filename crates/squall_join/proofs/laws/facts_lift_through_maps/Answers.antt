@@ -1,4 +1,4 @@
-use Rattle.squall_join.specs.Facts.{map_factual}
+use Rattle.squall_join.specs.FactLaws.{map_factual}
 use Rattle.squall_join.proofs.laws.facts_lift_through_maps.Goals as goal
 
 pub returns : goal.returns

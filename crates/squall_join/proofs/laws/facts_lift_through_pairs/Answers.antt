@@ -1,4 +1,4 @@
-use Rattle.squall_join.specs.Facts.{pair_factual}
+use Rattle.squall_join.specs.FactLaws.{pair_factual}
 use Rattle.squall_join.proofs.laws.facts_lift_through_pairs.Goals as goal
 
 pub returns : goal.returns

@@ -2,7 +2,7 @@ use Rattle.std.proofs.Common.{◌<◌, ◌≤◌, List, [], ◌∷◌, sym, subs
 use Rattle.std.proofs.lemmas.Bool.{false≢true}
 use Rattle.std.proofs.lemmas.List.{nil_from_length}
 use Rattle.squall_span.specs.Spans.{Interval}
-use Rattle.squall_span.proofs.Compared.{le_false, lt_false}
+use Rattle.squall_key.specs.Lemmas.{gt_from_cmp, ge_from_cmp}
 use Rattle.squall_span.proofs.Walking.{Walking, walking_missed, walking_out}
 use Rattle.squall_span.proofs.walk.covers.Goals as goal
 
@@ -21,6 +21,6 @@ returns-else-le c =
     let w : Walking c.args.there.now c.args.wanted.now (s ∷ c.in-Some-split_first.others.now) (t ∷ c.in-Some.later.now) =
     subst (λ (l : List Interval). Walking c.args.there.now c.args.wanted.now l (t ∷ c.in-Some.later.now)) c.in-Some-split_first.ensures.cases.0
     (subst (λ (l : List Interval). Walking c.args.there.now c.args.wanted.now c.loop-want.own.now l) c.in-Some.ensures.cases.0 c.loop-want.invariant) in
-    let ends : c.hi-in-Some.result ≤ c.hi.result = lt_false _ _ (sym c.if-lt.ensures) in
-    let starts : c.lo-else-lt.result < c.lo.result = le_false _ _ (sym c.if-le.ensures) in
+    let ends : c.hi-in-Some.result ≤ c.hi.result = ge_from_cmp _ _ (sym c.if-lt.ensures) in
+    let starts : c.lo-else-lt.result < c.lo.result = gt_from_cmp _ _ (sym c.if-le.ensures) in
     (λ h. absurd (false≢true h), λ all. absurd (walking_missed _ _ s c.in-Some-split_first.others.now t c.in-Some.later.now (omega arith) (omega arith) w all))

@@ -4,7 +4,8 @@ use Rattle.std.specs.List.{list_any}
 use Rattle.std.proofs.lemmas.Result.{IfOk-weaker}
 use Rattle.squall_span.specs.Spans.{Interval, has}
 use Rattle.squall_course.specs.Change.{Change}
-use Rattle.squall_course.specs.Moves.{move_has, leaves, is_outgoing}
+use Rattle.squall_course.specs.Moves.{move_has, is_outgoing}
+use Rattle.squall_course.specs.Steps.{leaves}
 use Rattle.squall_course.proofs.Gathered.{course_moves, outgoing_keys}
 use Rattle.squall_course.proofs.course.Course.outgoing.Goals as goal
 

@@ -3,7 +3,7 @@ use Rattle.std.proofs.lemmas.Result.{IfOk-weaker}
 use Rattle.squall_key.specs.declared.part.PartId.{PartId}
 use Rattle.squall_course.specs.Change.{Change}
 use Rattle.squall_course.specs.Moves.{receivers_of, moves_of}
-use Rattle.squall_course.specs.Tables.{AreReceivers}
+use Rattle.squall_course.specs.Steps.{AreReceivers}
 use Rattle.squall_course.proofs.Received.{course_receivers}
 use Rattle.squall_course.proofs.course.Course.receivers.Goals as goal
 

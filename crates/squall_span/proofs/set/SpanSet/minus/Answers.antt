@@ -1,7 +1,14 @@
-use Rattle.std.proofs.Common.{sym, subst, ◌∙◌}
-use Rattle.squall_span.specs.Spans.{IsSet}
-use Rattle.squall_span.specs.SpanLaws.{set_within, and_first}
+use Rattle.std.proofs.Common.{List, sym, subst, ◌∙◌}
+use Rattle.squall_span.specs.Spans.{Interval, IsSet, minus}
+use Rattle.squall_span.proofs.Made.{made_minus, minus_set}
 use Rattle.squall_span.proofs.set.SpanSet.minus.Goals as goal
 
 pub invariant_of-result : goal.invariant_of-result
-invariant_of-result c = set_within _ c.deref.result.now c.in_ok-spans.ensures.canonical (subst IsSet (sym c.deref.ensures.value) c.self.invariant) (λ k h. and_first _ _ (sym (c.in_ok-spans.ensures.keys k) ∙ h))
+invariant_of-result c = minus_set c.deref.result.now c.deref-2.result.now _ (subst IsSet (sym c.deref.ensures.value) c.self.invariant) (subst IsSet (sym c.deref-2.ensures.value) c.other.invariant) c.in_ok-spans.ensures.canonical c.in_ok-spans.ensures.keys
+
+pub returns-clause-value : goal.returns-clause-value
+returns-clause-value c =
+    let a : List Interval = c.deref.result.now in
+    let b : List Interval = c.deref-2.result.now in
+    made_minus a b _ (subst IsSet (sym c.deref.ensures.value) c.self.invariant) (subst IsSet (sym c.deref-2.ensures.value) c.other.invariant) c.in_ok-spans.ensures.canonical c.in_ok-spans.ensures.keys
+    ∙ (λ i. minus ((c.deref.ensures.value ∙ c.self.view_is) i) ((c.deref-2.ensures.value ∙ c.other.view_is) i))

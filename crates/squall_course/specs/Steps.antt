@@ -1,0 +1,39 @@
+-- What private functions find on the way to a course's answers (this project). No public contract cites these definitions.
+use Rattle.std.specs.Prelude.{◌≡◌, ℕ, ◌+◌, ◌<◌, ◌≤◌, ◌==◌, ◌&&◌, true, false, Bool, List, [], ◌∷◌, Option, None, Some}
+use Rattle.std.specs.List.{list_any}
+use Rattle.squall_span.specs.Spans.{Interval, has}
+use Rattle.squall_plan.specs.declared.range.PlanRange.{PlanRange}
+use Rattle.squall_course.specs.declared.moving.Move.{Move}
+use Rattle.squall_course.specs.Moves.{goes_to}
+
+-- ranges with keys, each from the end of the one before it on, the first from a given bound on
+abbrev pub Follow : ℕ → List PlanRange → Type 0
+Follow from [] = Unit {0}
+Follow from (r ∷ rs) = (from ≤ r.span.lo) × (r.span.lo < r.span.hi) × Follow r.span.hi rs
+
+-- numbers that rise, the first from a given one on
+abbrev pub Up : ℕ → List ℕ → Type 0
+Up from [] = Unit {0}
+Up from (x ∷ xs) = (from ≤ x) × Up (x + 1) xs
+
+-- the move leaves the partition in the sub-plan
+abbrev pub leaves : ℕ → ℕ → Move → Bool
+leaves sub part m = (m.sub == sub) && (m.source == part)
+
+-- the partitions to which moves go in the sub-plan, in rising number
+pub record AreReceivers (ms : List Move) (sub : ℕ) (parts : List ℕ) : Type 0 where
+  pub rises : Up 0 parts
+  pub each : (part : ℕ) → list_any (λ p. p == part) parts ≡ list_any (goes_to sub part) ms
+
+-- the span is the first of a set that ends beyond the bound: from the bound on the set has its keys, none before it, and not
+-- the key at its end
+pub record IsFirstSpan (set : List Interval) (from : ℕ) (s : Interval) : Type 0 where
+  pub ends : from < s.hi
+  pub inside : (k : ℕ) → s.lo ≤ k → k < s.hi → has set k ≡ true
+  pub before : (k : ℕ) → from ≤ k → k < s.lo → has set k ≡ false
+  pub after : has set s.hi ≡ false
+
+-- that span, or that the set has no key from the bound on
+abbrev pub IsFirst : List Interval → ℕ → Option Interval → Type 0
+IsFirst set from None = (k : ℕ) → from ≤ k → has set k ≡ false
+IsFirst set from (Some s) = IsFirstSpan set from s

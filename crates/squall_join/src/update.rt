@@ -1,0 +1,134 @@
+//! Updates: what is joined into a value in place, without being made into a value first.
+
+ghost use Rattle.std.specs.Prelude.{◌≡◌, ◌≢◌, ◌≤◌, IfOk, OnOk, OnErr, [], ◌∷◌, length};
+ghost use Rattle.std.specs.List.{insert as inserted};
+ghost use Rattle.squall_join.specs.Entries.{merged};
+
+use crate::{Join, JoinMap, MapKey};
+use std::alloc::{AllocError, Global};
+
+/// What stands for a value that is not the least, and is joined into another in place. A value
+/// of its own is built only where there is none to join it into.
+pub trait Update<V: Join>: Drop {
+    /// The value that the update stands for.
+    ghost value: { Self → V };
+
+    /// Shows what holds of the value that the update stands for. It does nothing.
+    fn known(&self)
+        ensures value { V.is_value (value self.now) }
+        ensures kept { value self.now ≢ V.bottom };
+
+    /// The value that the update stands for. It fails only where an allocation fails.
+    fn build(&self, alloc: Global) -> Result<V, AllocError>
+        ensures { IfOk result (λ v. v ≡ value self.now) };
+
+    /// Joins the update into a value. It fails only where an allocation fails, and then the value
+    /// is as it was.
+    fn apply(&self, alloc: Global, target: &mut V) -> Result<(), AllocError>
+        ensures ok { OnOk result (target.new ≡ V.join target.old (value self.now)) }
+        ensures err { OnErr result (target.new ≡ target.old) };
+}
+
+/// A borrowed value, which stands for itself.
+#[derive(Drop)]
+pub(crate) struct Borrowed<'a, V: Join> {
+    pub(crate) value: &'a V,
+    ghost kept: { value.now ≢ V.bottom },
+}
+
+impl<'a, V: Join> Update<V> for Borrowed<'a, V> {
+    ghost value = { λ b. b.value.now };
+
+    fn known(&self) {
+        self.value.known();
+    }
+
+    fn build(&self, alloc: Global) -> Result<V, AllocError> {
+        self.value.copied(alloc)
+    }
+
+    fn apply(&self, alloc: Global, target: &mut V) -> Result<(), AllocError> {
+        target.join_in(alloc, self.value)
+    }
+}
+
+/// An update of the value at a key of a map. It stands for the map of that entry alone.
+#[derive(Drop)]
+pub struct UpdateAt<K, U> {
+    /// The key.
+    pub key: K,
+    /// The update of the value there.
+    pub update: U,
+}
+
+impl<K, U> UpdateAt<K, U> {
+    /// The update at a key.
+    pub fn new(key: K, update: U) -> UpdateAt<K, U>
+        ensures key { result.key ≡ key }
+        ensures update { result.update ≡ update }
+    {
+        UpdateAt { key, update }
+    }
+}
+
+impl<K: MapKey, V: Join, U: Update<V>> Update<JoinMap<K, V>> for UpdateAt<K, U> {
+    ghost value = { λ e. (e.key, U.value e.update) ∷ [] };
+
+    fn known(&self) {
+        self.update.known();
+    }
+
+    fn build(&self, alloc: Global) -> Result<JoinMap<K, V>, AllocError> {
+        self.update.known();
+        let value = self.update.build(alloc)?;
+        JoinMap::single(alloc, self.key, value)
+    }
+
+    fn apply(&self, alloc: Global, target: &mut JoinMap<K, V>) -> Result<(), AllocError> {
+        target.update_at(alloc, self.key, &self.update)
+    }
+}
+
+/// Puts an entry at a place, before those from there on.
+///
+/// In place of `Vec::insert`, since a rotation by one compiles to one block move of what follows.
+fn put<K: MapKey, V: Join>(
+    entries: &mut Vec<(K, V)>,
+    at: usize,
+    entry: (K, V),
+) -> Result<(), AllocError>
+    requires { at ≤ length entries.old.items }
+    ensures value { OnOk result (entries.new.items ≡ inserted entries.old.items at entry) }
+    ensures err { OnErr result (entries.new.items ≡ entries.old.items) }
+{
+    entries.push(entry)?;
+    entries[at..].rotate_right(1);
+    Ok(())
+}
+
+impl<K: MapKey, V: Join> JoinMap<K, V> {
+    /// Joins an update into the value at a key, by a binary search. Where the key is absent it
+    /// puts in the value that the update stands for. It fails only where an allocation fails, and
+    /// then the map is as it was.
+    pub fn update_at<U: Update<V>>(
+        &mut self,
+        alloc: Global,
+        key: K,
+        update: &U,
+    ) -> Result<(), AllocError>
+        ensures ok { OnOk result (self.new ≡ merged K.cmp V.join self.old ((key, U.value update.now) ∷ [])) }
+        ensures err { OnErr result (self.new ≡ self.old) }
+    {
+        update.known();
+        match self.search(key) {
+            Ok(at) => {
+                let entry = &mut self.entries[at];
+                update.apply(alloc, &mut entry.1)
+            }
+            Err(at) => {
+                let value = update.build(alloc)?;
+                put(&mut self.entries, at, (key, value))
+            }
+        }
+    }
+}
