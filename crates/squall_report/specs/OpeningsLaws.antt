@@ -23,7 +23,8 @@ opening_counts : (b : Bool) (s t : ℕ) → (b && nat_le s t) ≡ nat_lt s (cond
 opening_counts true s t = below_next s t
 opening_counts false s t = none_below s
 
-report_counts : (r : ReportKind PlanPair) (n s : ℕ) → report_says r (OpenedSub n s) ≡ nat_lt s (opened_by_report r n)
+-- a report says those sub-plans opened that lie below its count
+pub report_counts : (r : ReportKind PlanPair) (n s : ℕ) → report_says r (OpenedSub n s) ≡ nat_lt s (opened_by_report r n)
 report_counts (Loaded number sub part span) n s = none_below s
 report_counts (Done number sub part) n s = none_below s
 report_counts (Opened number sub) n s = opening_counts (number == n) s sub

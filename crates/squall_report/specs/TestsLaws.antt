@@ -1,15 +1,15 @@
 -- Laws of tests.
-use Rattle.std.specs.Prelude.{◌≡◌, nat_lt, Bool, true, false, ◌||◌, List, [], ◌∷◌, ◌++◌, ◌↔◌, refl}
+use Rattle.std.specs.Prelude.{◌≡◌, ℕ, nat_lt, Bool, true, false, ◌||◌, List, [], ◌∷◌, ◌++◌, ◌↔◌, refl}
 use Rattle.std.proofs.Common.{sym, ap, ◌∙◌, arith}
 use Rattle.std.proofs.Math.Bool.{or_assoc, or_comm, or_self, or-false}
 use Rattle.squall_join.specs.Laws.{JoinLaws, Covers}
 use Rattle.squall_report.specs.declared.report.ReportKind.{ReportKind}
 use Rattle.squall_report.specs.declared.report.ReportKind.TheVariants.{Loaded, Done, Opened, Issued}
 use Rattle.squall_report.specs.Issues.{PlanPair}
-use Rattle.squall_report.specs.Facts.{Fact, LoadedKey, DonePart, OpenedSub, reports_say}
-use Rattle.squall_report.specs.Told.{told_by, SameTold, TellsBoth, TellsAll}
+use Rattle.squall_report.specs.Facts.{Fact, LoadedKey, DonePart, OpenedSub, report_says, reports_say}
+use Rattle.squall_report.specs.Told.{report_issues, told_by_report, told_by, SameTold, TellsBoth, TellsAll}
 use Rattle.squall_report.specs.ToldLaws.{issued_assoc, issued_comm, issued_idem, issued_neutral, told_append}
-use Rattle.squall_report.specs.OpeningsLaws.{below_max, openings_count, one_count, opened_append}
+use Rattle.squall_report.specs.OpeningsLaws.{none_below, report_counts, below_max, openings_count, one_count, opened_append}
 use Rattle.squall_report.specs.Tests.{Tests, SameTests, no_tests, joined_tests, tests_by, tests_by_report, tests_say, told_by_tests}
 
 -- tests with the same answers are equal
@@ -127,6 +127,30 @@ tests_append rs qs = record {
   opened = opened_append rs qs;
   issued = (told_append rs qs).issues;
 }
+
+-- a report tells what its tests tell
+report_says_by_tests : (r : ReportKind PlanPair) (f : Fact) → report_says r f ≡ tests_say (tests_by_report r) f
+report_says_by_tests (Loaded number sub part span) (LoadedKey c k) = refl
+report_says_by_tests (Loaded number sub part span) (DonePart c) = refl
+report_says_by_tests (Loaded number sub part span) (OpenedSub n s) = none_below s
+report_says_by_tests (Done number sub part) (LoadedKey c k) = refl
+report_says_by_tests (Done number sub part) (DonePart c) = refl
+report_says_by_tests (Done number sub part) (OpenedSub n s) = none_below s
+report_says_by_tests (Opened number sub) (LoadedKey c k) = refl
+report_says_by_tests (Opened number sub) (DonePart c) = refl
+report_says_by_tests (Opened number sub) (OpenedSub n s) = report_counts (Opened number sub) n s
+report_says_by_tests (Issued number issue) (LoadedKey c k) = refl
+report_says_by_tests (Issued number issue) (DonePart c) = refl
+report_says_by_tests (Issued number issue) (OpenedSub n s) = none_below s
+
+report_issues_by_tests : (r : ReportKind PlanPair) (n : ℕ) → report_issues r n ≡ (tests_by_report r).issued n
+report_issues_by_tests (Loaded number sub part span) n = refl
+report_issues_by_tests (Done number sub part) n = refl
+report_issues_by_tests (Opened number sub) n = refl
+report_issues_by_tests (Issued number issue) n = refl
+
+pub report_told_by_tests : (r : ReportKind PlanPair) → SameTold (told_by_report r) (told_by_tests (tests_by_report r))
+report_told_by_tests r = record { facts = report_says_by_tests r; issues = report_issues_by_tests r }
 
 -- one report has its tests
 pub report_tests : (r : ReportKind PlanPair) → SameTests (tests_by (r ∷ [])) (tests_by_report r)

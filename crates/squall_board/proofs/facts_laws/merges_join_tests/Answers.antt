@@ -2,4 +2,4 @@ use Rattle.squall_board.specs.BoardTestsLaws.{merged_tests}
 use Rattle.squall_board.proofs.facts_laws.merges_join_tests.Goals as goal
 
 pub returns : goal.returns
-returns c = merged_tests c.args.merged.now c.args.first.now c.args.second.now
+returns c = merged_tests
