@@ -44,7 +44,8 @@ taken_tests b rs = (
   λ same. let t : SameTold (told_by_tests (tests_of b)) (told_by_tests (tests_by rs)) = (told_by_same (tests_of b) (tests_by rs)).0 same in record {
     facts = λ f. board_says_by_tests b f ∙ t.facts f ∙ sym ((told_by_its_tests rs).facts f);
     issues = same.issued;
-  })
+  },
+)
 
 -- what a board has taken decides its counts and its newest course
 pub taken_openings : (b : BoardValue) (rs : List (ReportKind PlanPair)) (n : ℕ) → HasTaken b rs → opened_count b n ≡ opened_by rs n

@@ -23,7 +23,7 @@ course_of_board first b = course_by first (newest_of b first.number)
 abbrev pub course_of_reports : Change → List (ReportKind PlanPair) → Change
 course_of_reports first rs = course_by first (newest_by rs first.number)
 
--- tests have one course at most, and boards and lists of reports have one
+-- by tests that is the course: the newest after the first, or the first where there is none
 abbrev pub IsCourseBy : Change → Tests → Change → Type 0
 IsCourseBy first t c = (newest : Option (ℕ × PlanPair)) × IsNewest t.issued first.number newest × (c ≡ course_by first newest)
 
