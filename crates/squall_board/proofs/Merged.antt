@@ -1,18 +1,25 @@
 -- What a merge leaves.
-use Rattle.std.specs.Prelude.{◌≡◌, ℕ, ◌+◌, ◌<◌, length, Bool, true, false, ◌||◌, List, [], ◌∷◌, ◌++◌, Result, Ok, Err, OnOk, OnErr, IsTrue, ◌↔◌, refl}
+use Rattle.std.specs.Prelude.{◌≡◌, ℕ, ◌+◌, ◌<◌, ◌==◌, max, length, Bool, true, false, ◌||◌, List, [], ◌∷◌, ◌++◌, Result, Ok, Err, OnOk, OnErr, IsTrue, ◌↔◌, refl}
 use Rattle.std.proofs.Common.{sym, ap, subst, ◌∙◌, take, get_or}
 use Rattle.std.proofs.lemmas.List.{take_more}
 use Rattle.std.proofs.lemmas.Result.{on_ok_weaker}
 use Rattle.std.specs.declared.alloc.AllocError.{AllocError}
 use Rattle.std.specs.Ordering.{nat_cmp}
-use Rattle.squall_join.specs.Pairs.{pair_of, same_pair}
+use Rattle.squall_join.specs.Pairs.{pair_of}
+use Rattle.squall_join.specs.PairLaws.{same_pair}
 use Rattle.squall_join.specs.Entries.{merged}
 use Rattle.squall_report.specs.declared.report.ReportKind.{ReportKind}
 use Rattle.squall_report.specs.Issues.{PlanPair}
 use Rattle.squall_report.specs.Cells.{CellPlace}
-use Rattle.squall_report.specs.Told.{both_issued, told_by_report, told_by, TellsBoth, TellsAll}
-use Rattle.squall_board.specs.Boards.{BoardValue, CellValue, Cells, Subs, openings_in, issues_in, cells_in, cell_join, cell_board, board_join, report_board, issued, says, told, IsBoard, HasTaken}
-use Rattle.squall_board.specs.BoardLaws.{board_laws, tells_both, same_board, join_is, report_tells, has_both, one_tells}
+use Rattle.squall_report.specs.Told.{Told, both_issued, told_by_report, told_by, SameTold, TellsBoth, TellsAll}
+use Rattle.squall_board.specs.Boards.{BoardValue, CellValue, Cells, Openings, Issues, board_of, openings_in, issues_in, cells_in, cell_join, cell_board, opening_board, issue_board, told_by_cell, told_by_issue, board_join, report_board, issued, says, told, IsBoard, HasTaken}
+use Rattle.squall_board.specs.declared.update.Issuing.{Issuing}
+use Rattle.squall_board.specs.declared.update.Issuing.TheVariants.{One, Clash}
+use Rattle.squall_join.specs.declared.flat.Flat.{Flat}
+use Rattle.squall_join.specs.declared.flat.Flat.TheVariants.{Unknown}
+use Rattle.squall_report.specs.ToldLaws.{issued_neutral}
+use Rattle.squall_board.specs.Updates.{issuing_value}
+use Rattle.squall_board.specs.BoardLaws.{board_laws, tells_both, tells_as, same_board, join_is, cell_tells, issue_tells, report_tells, has_both, one_tells, or_false, unknown_at}
 
 pub merged_is : (r : Result (Unit {0}) AllocError) (new x y : BoardValue) → OnOk r (new ≡ board_join x y) → OnErr r (new ≡ x) → IsBoard x → IsBoard y → IsBoard new
 merged_is (Ok u) new x y ok err a b = subst IsBoard (sym ok) (join_is x y a b)
@@ -26,22 +33,79 @@ pub merged_taken : (r : Result (Unit {0}) AllocError) (new x y z w : BoardValue)
     → OnOk r ((rs qs : List (ReportKind PlanPair)) → HasTaken z rs → HasTaken w qs → HasTaken new (rs ++ qs))
 merged_taken r new x y z w is too ok a b = on_ok_weaker r (λ (both : TellsBoth (told new) (told z) (told w)) rs qs h g. has_both (told new) (told z) (told w) rs qs both h g) (merged_tells r new x y z w is too ok a b)
 
--- ---- one cell, which is joined into the cells alone
+-- ---- what is joined into one of the three maps, where the others stay as they are
 
 merged_none : {V : Type 0} (join : V → V → V) (es : List (ℕ × V)) → merged nat_cmp join es [] ≡ es
 merged_none join [] = refl
 merged_none join (e ∷ es) = refl
 
--- the other halves stay as they are
 pub cell_put : (r : Result (Unit {0}) AllocError) (new : Cells) (x : BoardValue) (c : CellPlace) (cell : CellValue) (es : Cells) → es ≡ cells_in (cell_board c cell) → OnOk r (new ≡ merged nat_cmp (merged nat_cmp (merged nat_cmp cell_join)) (cells_in x) es)
-    → OnOk r (pair_of x.first new ≡ board_join x (cell_board c cell))
+    → OnOk r (board_of (openings_in x) (issues_in x) new ≡ board_join x (cell_board c cell))
 cell_put r new x c cell es is ok = on_ok_weaker r (λ (e : new ≡ merged nat_cmp (merged nat_cmp (merged nat_cmp cell_join)) (cells_in x) es). same_pair _ _ _ _
     (same_pair _ _ _ _ (sym (merged_none _ (openings_in x))) (sym (merged_none _ (issues_in x))))
     (e ∙ ap (merged nat_cmp (merged nat_cmp (merged nat_cmp cell_join)) (cells_in x)) is)) ok
 
-pub cell_not_put : (r : Result (Unit {0}) AllocError) (new : Cells) (x : BoardValue) → OnErr r (new ≡ cells_in x) → OnErr r (pair_of x.first new ≡ x)
+pub cell_not_put : (r : Result (Unit {0}) AllocError) (new : Cells) (x : BoardValue) → OnErr r (new ≡ cells_in x) → OnErr r (board_of (openings_in x) (issues_in x) new ≡ x)
 cell_not_put (Ok u) new x err = tt
-cell_not_put (Err e) new x err = ap (λ (cells : Cells). pair_of x.first cells) err
+cell_not_put (Err e) new x err = ap (λ (cells : Cells). board_of (openings_in x) (issues_in x) cells) err
+
+pub opening_put : (r : Result (Unit {0}) AllocError) (new : Openings) (x : BoardValue) (n count : ℕ) → OnOk r (new ≡ merged nat_cmp max (openings_in x) ((n, count) ∷ []))
+    → OnOk r (board_of new (issues_in x) (cells_in x) ≡ board_join x (opening_board n count))
+opening_put r new x n count ok = on_ok_weaker r (λ (e : new ≡ merged nat_cmp max (openings_in x) ((n, count) ∷ [])). same_pair _ _ _ _
+    (same_pair _ _ _ _ e (sym (merged_none _ (issues_in x))))
+    (sym (merged_none _ (cells_in x)))) ok
+
+pub opening_not_put : (r : Result (Unit {0}) AllocError) (new : Openings) (x : BoardValue) → OnErr r (new ≡ openings_in x) → OnErr r (board_of new (issues_in x) (cells_in x) ≡ x)
+opening_not_put (Ok u) new x err = tt
+opening_not_put (Err e) new x err = ap (λ (openings : Openings). board_of openings (issues_in x) (cells_in x)) err
+
+one_entry_board : (n : ℕ) (i : Issuing) → board_of [] ((n, issuing_value i) ∷ []) [] ≡ issue_board n (issuing_value i)
+one_entry_board n (One issue) = refl
+one_entry_board n Clash = refl
+
+pub issue_put : (r : Result (Unit {0}) AllocError) (new : Issues) (x : BoardValue) (n : ℕ) (i : Issuing) → OnOk r (new ≡ merged nat_cmp both_issued (issues_in x) ((n, issuing_value i) ∷ []))
+    → OnOk r (board_of (openings_in x) new (cells_in x) ≡ board_join x (issue_board n (issuing_value i)))
+issue_put r new x n i ok = on_ok_weaker r (λ (e : new ≡ merged nat_cmp both_issued (issues_in x) ((n, issuing_value i) ∷ [])). same_pair _ _ _ _
+    (same_pair _ _ _ _ (sym (merged_none _ (openings_in x))) e)
+    (sym (merged_none _ (cells_in x)))
+    ∙ ap (board_join x) (one_entry_board n i)) ok
+
+pub issue_not_put : (r : Result (Unit {0}) AllocError) (new : Issues) (x : BoardValue) → OnErr r (new ≡ issues_in x) → OnErr r (board_of (openings_in x) new (cells_in x) ≡ x)
+issue_not_put (Ok u) new x err = tt
+issue_not_put (Err e) new x err = ap (λ (issues : Issues). board_of (openings_in x) issues (cells_in x)) err
+
+-- ---- what was taken
+
+-- more may be told in other words
+pub told_instead : (r : Result (Unit {0}) AllocError) (new old c : BoardValue) (t : Told) → SameTold (told c) t → OnOk r (TellsBoth (told new) (told old) (told c)) → OnOk r (TellsBoth (told new) (told old) t)
+told_instead r new old c t same ok = on_ok_weaker r (λ (both : TellsBoth (told new) (told old) (told c)). tells_as new old c t both same) ok
+
+pub cell_tells_as : (c d : CellPlace) (v w : CellValue) → c ≡ d → v ≡ w → SameTold (told (cell_board c v)) (told_by_cell d w)
+cell_tells_as c d v w p q = subst (λ z. SameTold (told (cell_board c v)) (told_by_cell z w)) p (subst (λ z. SameTold (told (cell_board c v)) (told_by_cell c z)) q (cell_tells c v))
+
+pub issue_tells_as : (n : ℕ) (x y : Flat PlanPair) → x ≡ y → SameTold (told (issue_board n x)) (told_by_issue n y)
+issue_tells_as n x y q = subst (λ z. SameTold (told (issue_board n x)) (told_by_issue n z)) q (issue_tells n x)
+
+-- nothing issued is nothing put in
+pub nothing_put : (b : BoardValue) (n : ℕ) (x : Flat PlanPair) → x ≡ Unknown → b ≡ board_join b (issue_board n x)
+nothing_put b n x e = same_pair _ _ _ _
+    (same_pair _ _ _ _ (sym (merged_none _ (openings_in b))) (sym (merged_none _ (issues_in b))))
+    (sym (merged_none _ (cells_in b)))
+    ∙ ap (λ v. board_join b (issue_board n v)) (sym e)
+
+nothing_told : (b : BoardValue) (n : ℕ) (x : Flat PlanPair) → x ≡ Unknown → TellsBoth (told b) (told b) (told_by_issue n x)
+nothing_told b n x e = subst (λ v. TellsBoth (told b) (told b) (told_by_issue n v)) (sym e) (record {
+  facts = λ f. sym (or_false (says b f));
+  issues = λ m. sym (ap (both_issued (issued b m)) (sym (unknown_at (n == m))) ∙ issued_neutral (issued b m));
+})
+
+pub nothing_taken : (b : BoardValue) (n : ℕ) (x : Flat PlanPair) → x ≡ Unknown → (rs qs : List (ReportKind PlanPair)) → HasTaken b rs → SameTold (told_by_issue n x) (told_by qs) → HasTaken b (rs ++ qs)
+nothing_taken b n x e rs qs h g = has_both (told b) (told b) (told_by_issue n x) rs qs (nothing_told b n x e) h g
+
+-- a board that tells what it told and more has taken the reports that tell as much
+pub taken_too : (r : Result (Unit {0}) AllocError) (new old : BoardValue) (more : Told) → OnOk r (TellsBoth (told new) (told old) more)
+    → OnOk r ((rs qs : List (ReportKind PlanPair)) → HasTaken old rs → SameTold more (told_by qs) → HasTaken new (rs ++ qs))
+taken_too r new old more ok = on_ok_weaker r (λ (both : TellsBoth (told new) (told old) more) rs qs h g. has_both (told new) (told old) more rs qs both h g) ok
 
 -- the board of a report has taken that report
 report_taken : (r : ReportKind PlanPair) → HasTaken (report_board r) (r ∷ [])

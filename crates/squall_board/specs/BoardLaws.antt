@@ -1,24 +1,29 @@
 -- Laws of boards.
 use Rattle.std.specs.Prelude.{◌≡◌, ◌≢◌, ℕ, ◌+◌, ◌<◌, ◌≤◌, ◌==◌, max, Bool, true, false, ◌||◌, ◌&&◌, cond, nat_lt, nat_le, List, [], ◌∷◌, ◌++◌, Option, None, Some, ◌⊎◌, refl}
 use Rattle.std.proofs.Common.{sym, ap, subst, ◌∙◌, arith, inl, inr, ⊎_elim}
-use Rattle.std.proofs.lemmas.Bool.{true≢false}
+use Rattle.std.proofs.lemmas.Bool.{true≢false, cases_lt}
 use Rattle.std.proofs.lemmas.Bool.Decides.{nat_tests}
 use Rattle.std.specs.Ordering.{nat_cmp, is_eq}
 use Rattle.std.specs.Cmp.{nat_cmp_total, first_so, second_so}
 use Rattle.std.specs.FinMap.Entries.{find}
 use Rattle.std.proofs.lemmas.Map.Lookups.{exact_unsigned}
-use Rattle.squall_key.specs.Keys.{part_limit}
-use Rattle.squall_span.specs.Spans.{has, span_has}
+use Rattle.squall_key.specs.Keys.{top, part_limit}
+use Rattle.squall_span.specs.Spans.{Interval, has, span_has, IsSet}
+use Rattle.squall_span.specs.SpanLaws.{has_ended}
 use Rattle.squall_join.specs.declared.flat.Flat.{Flat}
 use Rattle.squall_join.specs.declared.flat.Flat.TheVariants.{Unknown, One, Clash}
 use Rattle.squall_join.specs.Laws.{JoinLaws}
-use Rattle.squall_join.specs.Basic.{is_max, max_laws, flag_laws}
-use Rattle.squall_join.specs.Sets.{set_laws}
-use Rattle.squall_join.specs.Pairs.{pair_of, same_pair, pair_laws}
+use Rattle.squall_join.specs.Basic.{is_max}
+use Rattle.squall_join.specs.BasicLaws.{max_laws, flag_laws}
+use Rattle.squall_join.specs.SetLaws.{set_laws}
+use Rattle.squall_join.specs.Pairs.{pair_of}
+use Rattle.squall_join.specs.PairLaws.{same_pair, pair_laws}
 use Rattle.squall_join.specs.Entries.{merged, IsMap}
 use Rattle.squall_join.specs.MapLaws.{map_laws}
-use Rattle.squall_join.specs.Looked.{looked, looked_merged, same_looked_map}
-use Rattle.squall_join.specs.Facts.{Factual, max_says, max_factual, flag_says, flag_factual, set_factual, pair_says, pair_factual, map_says, map_factual, found_says}
+use Rattle.squall_join.specs.Looked.{looked}
+use Rattle.squall_join.specs.LookedLaws.{looked_merged, same_looked_map}
+use Rattle.squall_join.specs.Facts.{Factual, max_says, flag_says, pair_says, map_says, found_says}
+use Rattle.squall_join.specs.FactLaws.{max_factual, flag_factual, set_factual, pair_factual, map_factual}
 use Rattle.squall_report.specs.declared.report.ReportKind.{ReportKind}
 use Rattle.squall_report.specs.declared.report.ReportKind.TheVariants.{Loaded, Done, Opened, Issued}
 use Rattle.squall_report.specs.Issues.{PlanPair}
@@ -30,7 +35,7 @@ use Rattle.squall_board.specs.Boards.{CellValue, BoardValue, openings_in, issues
 
 -- ---- the facts of a join, and what tells boards apart
 
-cell_laws : JoinLaws cell_is cell_bottom cell_join
+pub cell_laws : JoinLaws cell_is cell_bottom cell_join
 cell_laws = pair_laws set_laws flag_laws
 
 parts_laws : JoinLaws (IsMap nat_cmp cell_is cell_bottom) [] (merged nat_cmp cell_join)
@@ -45,10 +50,10 @@ cells_laws = map_laws nat_cmp_total exact_unsigned subs_laws
 pub board_laws : JoinLaws is_nested empty_board board_join
 board_laws = pair_laws (pair_laws (map_laws nat_cmp_total exact_unsigned max_laws) (map_laws nat_cmp_total exact_unsigned issue_laws)) cells_laws
 
-cells_factual : Factual (IsMap nat_cmp (IsMap nat_cmp (IsMap nat_cmp cell_is cell_bottom) []) []) [] (merged nat_cmp (merged nat_cmp (merged nat_cmp cell_join))) (map_says nat_cmp (map_says nat_cmp (map_says nat_cmp (pair_says has flag_says))))
+pub cells_factual : Factual (IsMap nat_cmp (IsMap nat_cmp (IsMap nat_cmp cell_is cell_bottom) []) []) [] (merged nat_cmp (merged nat_cmp (merged nat_cmp cell_join))) (map_says nat_cmp (map_says nat_cmp (map_says nat_cmp (pair_says has flag_says))))
 cells_factual = map_factual nat_cmp_total exact_unsigned subs_laws (map_factual nat_cmp_total exact_unsigned parts_laws (map_factual nat_cmp_total exact_unsigned cell_laws (pair_factual set_factual flag_factual)))
 
-openings_factual : Factual (IsMap nat_cmp is_max 0) [] (merged nat_cmp max) (map_says nat_cmp max_says)
+pub openings_factual : Factual (IsMap nat_cmp is_max 0) [] (merged nat_cmp max) (map_says nat_cmp max_says)
 openings_factual = map_factual nat_cmp_total exact_unsigned max_laws max_factual
 
 says_either : (x y : BoardValue) → is_nested x → is_nested y → (f : Fact) → says (board_join x y) f ≡ (says x f || says y f)
@@ -76,6 +81,22 @@ same_board x y a b is = same_pair _ _ _ _
     at_cell n s p (inr u) = is.facts (DonePart (place_at n s p))
 
 -- ---- limits
+
+no_fact_said : (b : BoardValue) → IsBoard b → (f : Fact) → is_fact f ≡ false → says b f ≡ false
+no_fact_said b is f out = elim (says b f) as (λ v. says b f ≡ v → says b f ≡ false) [
+  | true ↦ λ e. absurd (true≢false (sym (is.facts f e) ∙ out))
+  | false ↦ λ e. e
+] refl
+
+-- boards that tell the same within the limits of facts and numbers are equal
+pub same_within : (x y : BoardValue) → IsBoard x → IsBoard y → ((f : Fact) → is_fact f ≡ true → says x f ≡ says y f) → ((n : ℕ) → 1 ≤ n → issued x n ≡ issued y n) → x ≡ y
+same_within x y a b facts issues = same_board x y a.nested b.nested (record {
+  facts = λ f. elim (is_fact f) as (λ v. is_fact f ≡ v → says x f ≡ says y f) [
+    | true ↦ λ e. facts f e
+    | false ↦ λ e. no_fact_said x a f e ∙ sym (no_fact_said y b f e)
+  ] refl;
+  issues = λ n. ⊎_elim (λ le. issues n le) (λ u. ⊎_elim (λ le. issues n le) (λ v. u ∙ sym v) (b.issues n)) (a.issues n);
+})
 
 either_true : (P : Type 0) (a b : Bool) → (a ≡ true → P) → (b ≡ true → P) → (a || b) ≡ true → P
 either_true P true b f g e = f refl
@@ -140,7 +161,7 @@ issue_at n x m = ap (λ b. looked Unknown (cond b (Some x) None)) (cmp_eq m n) �
 abbrev nothing : Flat PlanPair
 nothing = Unknown
 
-unknown_at : (b : Bool) → nothing ≡ cond b nothing nothing
+pub unknown_at : (b : Bool) → nothing ≡ cond b nothing nothing
 unknown_at true = refl
 unknown_at false = refl
 
@@ -163,7 +184,7 @@ issue_is_it n Clash m = issue_at n Clash m
 pub issue_tells : (n : ℕ) (x : Flat PlanPair) → SameTold (told (issue_board n x)) (told_by_issue n x)
 issue_tells n x = record { facts = issue_says_none n x; issues = issue_is_it n x }
 
-or_false : (a : Bool) → (a || false) ≡ a
+pub or_false : (a : Bool) → (a || false) ≡ a
 or_false true = refl
 or_false false = refl
 
@@ -214,15 +235,25 @@ place_there c d is e =
     let z : c.part ≡ d.part = same_number c.part d.part (second_so (c.sub == d.sub) _ (second_so (c.number == d.number) _ e)) in
     subst (λ v. is_cell_place (place_at v d.sub d.part) ≡ true) x (subst (λ v. is_cell_place (place_at c.number v d.part) ≡ true) y (subst (λ v. is_cell_place (place_at c.number c.sub v) ≡ true) z is))
 
-cell_within : (c : CellPlace) (cell : CellValue) → is_cell_place c ≡ true → (f : Fact) → cell_says c cell f ≡ true → is_fact f ≡ true
-cell_within c cell is (LoadedKey d k) e = place_there c d is (first_so _ _ e)
-cell_within c cell is (DonePart d) e = place_there c d is (first_so _ _ e)
-cell_within c cell is (OpenedSub m t) e = absurd (true≢false (sym e))
+both_true : (a b : Bool) → a ≡ true → b ≡ true → (a && b) ≡ true
+both_true a b p q = ap (λ x. x && b) p ∙ q
+
+-- a key of a set lies below the top
+key_below : (ss : List Interval) (k : ℕ) → IsSet ss → has ss k ≡ true → nat_lt k top ≡ true
+key_below ss k is e = elim (cases_lt k top) [
+  | inl lt ↦ grind (arith, nat_tests)
+  | inr ge ↦ absurd (true≢false (sym e ∙ has_ended top k ss is.1 ge))
+]
+
+cell_within : (c : CellPlace) (cell : CellValue) → is_cell_place c ≡ true → cell_is cell → (f : Fact) → cell_says c cell f ≡ true → is_fact f ≡ true
+cell_within c cell is set (LoadedKey d k) e = both_true (is_cell_place d) (nat_lt k top) (place_there c d is (first_so _ _ e)) (key_below cell.first k set.0 (second_so (is_same_cell c d) _ e))
+cell_within c cell is set (DonePart d) e = place_there c d is (first_so _ _ e)
+cell_within c cell is set (OpenedSub m t) e = absurd (true≢false (sym e))
 
 pub cell_board_is : (c : CellPlace) (cell : CellValue) → is_cell_place c ≡ true → cell_is cell → cell ≢ cell_bottom → IsBoard (cell_board c cell)
 cell_board_is c cell place is kept = record {
   nested = ((record { sorted = tt; kept = tt }, record { sorted = tt; kept = tt }), record { sorted = tt; kept = ((record { sorted = tt; kept = ((record { sorted = tt; kept = ((is, kept), tt) }, λ e. cc), tt) }, λ e. cc), tt) });
-  facts = λ f e. cell_within c cell place f (sym (cell_says_it c cell f) ∙ e);
+  facts = λ f e. cell_within c cell place is f (sym (cell_says_it c cell f) ∙ e);
   issues = λ m. inr refl;
 }
 
@@ -264,7 +295,7 @@ issue_board_is n x a = record {
 
 -- ---- what was taken
 
-tells_as : (d b c : BoardValue) (t : Told) → TellsBoth (told d) (told b) (told c) → SameTold (told c) t → TellsBoth (told d) (told b) t
+pub tells_as : (d b c : BoardValue) (t : Told) → TellsBoth (told d) (told b) (told c) → SameTold (told c) t → TellsBoth (told d) (told b) t
 tells_as d b c t both same = record {
   facts = λ f. both.facts f ∙ ap (λ x. says b f || x) (same.facts f);
   issues = λ n. both.issues n ∙ ap (both_issued (issued b n)) (same.issues n);
@@ -317,6 +348,10 @@ load_found b c k o e = ap (λ v. found_says (pair_says has flag_says) v (inl k))
 
 pub done_found : (b : BoardValue) (c : CellPlace) (o : Option CellValue) → o ≡ cell_of b c → found_says (pair_says has flag_says) o (inr tt) ≡ says b (DonePart c)
 done_found b c o e = ap (λ v. found_says (pair_says has flag_says) v (inr tt)) e ∙ cell_of_says b c (inr tt)
+
+-- whether the found cell has the key or is done
+pub come_found : (b : BoardValue) (c : CellPlace) (k : ℕ) (o : Option CellValue) → o ≡ cell_of b c → (found_says (pair_says has flag_says) o (inl k) || found_says (pair_says has flag_says) o (inr tt)) ≡ (says b (LoadedKey c k) || says b (DonePart c))
+come_found b c k o e = ap (λ x. x || found_says (pair_says has flag_says) o (inr tt)) (load_found b c k o e) ∙ ap (λ x. says b (LoadedKey c k) || x) (done_found b c o e)
 
 -- the opened count says which sub-plans are opened
 pub opened_found : (b : BoardValue) (n t : ℕ) → says b (OpenedSub n t) ≡ nat_lt t (opened_count b n)

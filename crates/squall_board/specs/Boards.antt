@@ -3,7 +3,7 @@ use Rattle.std.specs.Prelude.{◌≡◌, ℕ, ◌+◌, ◌≤◌, max, Bool, tru
 use Rattle.std.proofs.Common.{inl, inr}
 use Rattle.std.specs.Ordering.{nat_cmp}
 use Rattle.std.specs.FinMap.Entries.{find}
-use Rattle.squall_span.specs.Spans.{Interval, has, IsCanonical, union}
+use Rattle.squall_span.specs.Spans.{Interval, has, IsSet, union}
 use Rattle.squall_join.specs.declared.flat.Flat.{Flat}
 use Rattle.squall_join.specs.declared.flat.Flat.TheVariants.{Unknown, One, Clash}
 use Rattle.squall_join.specs.declared.pair.Pair.{Pair}
@@ -65,7 +65,7 @@ cells_in b = b.second
 -- ---- its join
 
 abbrev pub cell_is : CellValue → Type 0
-cell_is = pair_is IsCanonical (λ _. Unit {0})
+cell_is = pair_is IsSet (λ _. Unit {0})
 
 abbrev pub cell_bottom : CellValue
 cell_bottom = pair_of [] false

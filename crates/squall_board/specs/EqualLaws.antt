@@ -9,7 +9,7 @@ use Rattle.std.specs.Cmp.Lexicographic.{pointwise_decides}
 use Rattle.squall_span.specs.Spans.{interval, interval_eq, spans_eq}
 use Rattle.squall_join.specs.declared.flat.Flat.{Flat}
 use Rattle.squall_join.specs.declared.flat.Flat.TheVariants.{Unknown, One, Clash}
-use Rattle.squall_join.specs.Pairs.{same_pair}
+use Rattle.squall_join.specs.PairLaws.{same_pair}
 use Rattle.squall_report.specs.Issues.{PlanPair, is_same_pair}
 use Rattle.squall_report.specs.IssueLaws.{same_pairs_are_equal}
 use Rattle.squall_board.specs.Boards.{CellValue, BoardValue, openings_in, issues_in, cells_in}

@@ -11,9 +11,11 @@ pub use Rattle.squall_report.specs.Told
 pub use Rattle.squall_report.specs.Openings
 pub use Rattle.squall_report.specs.Tests
 pub mod Boards
+pub mod Updates
 pub mod BoardLaws
 pub mod Listed
 pub mod ListedLaws
+pub mod OneListLaws
 pub mod Route
 pub mod Equal
 pub mod EqualLaws

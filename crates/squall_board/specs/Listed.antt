@@ -1,9 +1,9 @@
 -- What a board holds, as lists in rising order (this project).
-use Rattle.std.specs.Prelude.{◌≡◌, ℕ, ◌<◌, ◌≤◌, Bool, true, false, ◌||◌, ◌&&◌, map, List, [], ◌∷◌, Option, None, Some, ◌⊎◌, if◌then◌else◌}
+use Rattle.std.specs.Prelude.{◌≡◌, ◌≢◌, ℕ, ◌<◌, ◌≤◌, Bool, true, false, ◌||◌, ◌&&◌, map, List, [], ◌∷◌, Option, None, Some, ◌⊎◌, if◌then◌else◌}
 use Rattle.std.specs.List.{flat_map, list_any, AllByRecursion}
 use Rattle.std.specs.Ordering.{is_lt}
 use Rattle.squall_key.specs.Keys.{part_limit}
-use Rattle.squall_span.specs.Spans.{Interval, IsCanonical}
+use Rattle.squall_span.specs.Spans.{Interval, IsSet}
 use Rattle.squall_join.specs.declared.flat.Flat.{Flat}
 use Rattle.squall_join.specs.declared.flat.Flat.TheVariants.{Unknown}
 use Rattle.squall_join.specs.Pairs.{pair_of}
@@ -43,10 +43,10 @@ is_entry c = is_cell_place c.cell && (c.complete || has_spans c.spans)
 abbrev pub entry_of : ℕ → ℕ → ℕ → Bool → List Interval → Option CellEntry
 entry_of n s p complete spans = if is_entry (entry_with (place_at n s p) complete spans) then Some (entry_with (place_at n s p) complete spans) else None
 
--- a cell: it may stand on a board, and its spans are the one list of its keys
+-- a cell: it may stand on a board, and its spans are a set of keys
 pub record IsCell (c : CellEntry) : Type 0 where
   pub entry : is_entry c ≡ true
-  pub spans : IsCanonical c.spans
+  pub spans : IsSet c.spans
 
 abbrev pub cells_of_parts : ℕ → ℕ → Parts → List CellEntry
 cells_of_parts n s parts = map (λ e. cell_entry (place_at n s e.0) e.1) parts
@@ -86,9 +86,10 @@ abbrev pub CellsRise : List CellEntry → Type 0
 CellsRise [] = Unit {0}
 CellsRise (c ∷ cs) = AllByRecursion (ComesBefore c) cs × CellsRise cs
 
--- the cells rise, and say of loads and completions what the board says
+-- each is a cell, the cells rise, and they say of loads and completions what the board says
 pub record AreCells (b : BoardValue) (cs : List CellEntry) : Type 0 where
   pub rise : CellsRise cs
+  pub within : AllByRecursion IsCell cs
   pub loaded : (c : CellPlace) (k : ℕ) → says b (LoadedKey c k) ≡ entries_say cs (LoadedKey c k)
   pub done : (c : CellPlace) → says b (DonePart c) ≡ entries_say cs (DonePart c)
 
@@ -133,10 +134,11 @@ abbrev pub IssuesRise : List (ℕ × Flat PlanPair) → Type 0
 IssuesRise [] = Unit {0}
 IssuesRise (e ∷ es) = AllByRecursion (λ d. e.0 < d.0) es × IssuesRise es
 
--- the numbers rise, from 1 on, and the entries issue what the board issues
+-- the numbers rise, from 1 on, each entry has one pair of plans or a clash, and the entries issue what the board issues
 pub record AreIssues (b : BoardValue) (es : List (ℕ × Flat PlanPair)) : Type 0 where
   pub rise : IssuesRise es
   pub within : AllByRecursion (λ e. 1 ≤ e.0) es
+  pub known : AllByRecursion (λ e. e.1 ≢ Unknown) es
   pub issued : (n : ℕ) → issued b n ≡ entries_issue es n
 
 -- what openings, issues and cells tell together

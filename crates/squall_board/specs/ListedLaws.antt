@@ -5,6 +5,7 @@ use Rattle.std.proofs.lemmas.Bool.{and_from, or_left, or_right}
 use Rattle.std.proofs.lemmas.Bool.Decides.{nat_tests}
 use Rattle.std.proofs.lemmas.List.Folds.{list_any-append}
 use Rattle.std.specs.List.{flat_map, list_any, AllByRecursion}
+use Rattle.std.specs.Cmp.{first_so}
 use Rattle.std.specs.Ordering.{nat_cmp, is_eq, is_lt, ordering_then}
 use Rattle.std.specs.FinMap.Entries.{find, is_sorted, below_all}
 use Rattle.squall_span.specs.Spans.{Interval, has, span_has}
@@ -28,7 +29,7 @@ use Rattle.squall_board.specs.Listed.{CellEntry, entry_with, cell_entry, IsCell,
 
 -- ---- tests
 
-or_none : (a b : Bool) → b ≡ false → a ≡ (a || b)
+pub or_none : (a b : Bool) → b ≡ false → a ≡ (a || b)
 or_none true b e = refl
 or_none false b e = sym e
 
@@ -41,13 +42,13 @@ other_key k q lt = grind (arith, nat_tests)
 key_of : (k q : ℕ) → (k == q) ≡ true → k ≡ q
 key_of k q e = grind (arith, nat_tests)
 
-cmp_eq : (x y : ℕ) → is_eq (nat_cmp x y) ≡ (y == x)
+pub cmp_eq : (x y : ℕ) → is_eq (nat_cmp x y) ≡ (y == x)
 cmp_eq x y = grind (arith, nat_tests)
 
 cmp_lt : (x y : ℕ) → is_lt (nat_cmp x y) ≡ true → x < y
 cmp_lt x y h = grind (arith, nat_tests)
 
-T_true : (b : Bool) → T b → b ≡ true
+pub T_true : (b : Bool) → T b → b ≡ true
 T_true true t = refl
 T_true false t = absurd t
 
@@ -57,11 +58,11 @@ all_both : {X : Type 0} (P Q R : X → Type 0) (xs : List X) → AllByRecursion 
 all_both P Q R [] p q f = tt
 all_both P Q R (x ∷ xs) p q f = (f x p.0 q.0, all_both P Q R xs p.1 q.1 f)
 
-all_weaker : {X : Type 0} (P Q : X → Type 0) (xs : List X) → AllByRecursion P xs → ((x : X) → P x → Q x) → AllByRecursion Q xs
+pub all_weaker : {X : Type 0} (P Q : X → Type 0) (xs : List X) → AllByRecursion P xs → ((x : X) → P x → Q x) → AllByRecursion Q xs
 all_weaker P Q [] p f = tt
 all_weaker P Q (x ∷ xs) p f = (f x p.0, all_weaker P Q xs p.1 f)
 
-all_map : {X Y : Type 0} (g : X → Y) (P : Y → Type 0) (xs : List X) → AllByRecursion (λ x. P (g x)) xs → AllByRecursion P (map g xs)
+pub all_map : {X Y : Type 0} (g : X → Y) (P : Y → Type 0) (xs : List X) → AllByRecursion (λ x. P (g x)) xs → AllByRecursion P (map g xs)
 all_map g P [] p = tt
 all_map g P (x ∷ xs) p = (p.0, all_map g P xs p.1)
 
@@ -77,7 +78,7 @@ all_true : {X : Type 0} (P : X → Type 0) → ((x : X) → P x) → (xs : List 
 all_true P f [] = tt
 all_true P f (x ∷ xs) = (f x, all_true P f xs)
 
-any_none : {X : Type 0} (g : X → Bool) (xs : List X) → AllByRecursion (λ x. g x ≡ false) xs → list_any g xs ≡ false
+pub any_none : {X : Type 0} (g : X → Bool) (xs : List X) → AllByRecursion (λ x. g x ≡ false) xs → list_any g xs ≡ false
 any_none g [] p = refl
 any_none g (x ∷ xs) p = ap (λ b. b || list_any g xs) p.0 ∙ any_none g xs p.1
 
@@ -89,7 +90,7 @@ any_and : {X : Type 0} (a : Bool) (g : X → Bool) (xs : List X) → list_any (�
 any_and true g xs = refl
 any_and false g xs = any_none (λ x. false) xs (all_true (λ x. false ≡ false) (λ x. refl) xs)
 
-any_map : {X Y : Type 0} (f : X → Y) (g : Y → Bool) (xs : List X) → list_any g (map f xs) ≡ list_any (λ x. g (f x)) xs
+pub any_map : {X Y : Type 0} (f : X → Y) (g : Y → Bool) (xs : List X) → list_any g (map f xs) ≡ list_any (λ x. g (f x)) xs
 any_map f g [] = refl
 any_map f g (x ∷ xs) = ap (λ b. g (f x) || b) (any_map f g xs)
 
@@ -117,7 +118,7 @@ module _ {V F : Type 0} (p : V → F → Bool) where
   says_below q f es h = any_none (λ e. (e.0 == q) && p e.1 f) es (all_weaker (λ e. q < e.0) (λ e. ((e.0 == q) && p e.1 f) ≡ false) es h (λ e lt. ap (λ b. b && p e.1 f) (other_key e.0 q lt)))
 
   -- a map says what some entry of that key says
-  says_some : (es : List (ℕ × V)) → KeysRise es → (q : ℕ) (f : F) → map_says nat_cmp p es (q, f) ≡ list_any (λ e. (e.0 == q) && p e.1 f) es
+  pub says_some : (es : List (ℕ × V)) → KeysRise es → (q : ℕ) (f : F) → map_says nat_cmp p es (q, f) ≡ list_any (λ e. (e.0 == q) && p e.1 f) es
   says_some [] r q f = refl
   says_some (e ∷ es) r q f =
       ap (λ b. found_says p (cond b (Some e.1) (find nat_cmp q es)) f) (cmp_eq q e.0)
@@ -136,10 +137,10 @@ module _ {V F : Type 0} (p : V → F → Bool) where
 
 -- ---- limits
 
-abbrev CellFact : Type 0
+abbrev pub CellFact : Type 0
 CellFact = ℕ ⊎ Unit {0}
 
-abbrev says_cell : CellValue → CellFact → Bool
+abbrev pub says_cell : CellValue → CellFact → Bool
 says_cell = pair_says has flag_says
 
 abbrev says_parts : Parts → ℕ × CellFact → Bool
@@ -167,7 +168,7 @@ first_key s ss lt = or_left (span_has s s.lo) (has ss s.lo) (grind (arith, nat_t
 kept_cell : (n s p : ℕ) (spans : List Interval) (complete : Bool) → IsKept cell_is cell_bottom (pair_of spans complete) → ((f : CellFact) → says_cell (pair_of spans complete) f ≡ true → is_cell_place (place_at n s p) ≡ true) → IsCell (entry_with (place_at n s p) complete spans)
 kept_cell n s p spans true k h = record { entry = and_from _ _ (h (inr tt) refl) refl; spans = k.0.0 }
 kept_cell n s p [] false k h = absurd (k.1 refl)
-kept_cell n s p (x ∷ xs) false k h = record { entry = and_from _ _ (h (inl x.lo) (first_key x xs k.0.0.0)) refl; spans = k.0.0 }
+kept_cell n s p (x ∷ xs) false k h = record { entry = and_from _ _ (h (inl x.lo) (first_key x xs k.0.0.0.0)) refl; spans = k.0.0 }
 
 parts_within : (n s : ℕ) (parts : Parts) → parts_are parts → ((f : ℕ × CellFact) → says_parts parts f ≡ true → is_cell_place (place_at n s f.0) ≡ true) → AreCellsOfParts n s parts
 parts_within n s parts m h =
@@ -195,8 +196,13 @@ pub board_cells : (b : BoardValue) → IsBoard b → AreCellsOfNumbers (cells_in
 board_cells b is = numbers_within (cells_in b) is.nested.1 (λ f. at f.0 f.1.0 f.1.1.0 f.1.1.1)
   where
     at : (n s p : ℕ) (f : CellFact) → says_numbers (cells_in b) (n, (s, (p, f))) ≡ true → is_cell_place (place_at n s p) ≡ true
-    at n s p (inl k) t = is.facts (LoadedKey (place_at n s p) k) t
+    at n s p (inl k) t = first_so _ _ (is.facts (LoadedKey (place_at n s p) k) t)
     at n s p (inr u) t = is.facts (DonePart (place_at n s p)) t
+
+cells_within : (numbers : Cells) → AreCellsOfNumbers numbers → AllByRecursion IsCell (cells_of_numbers numbers)
+cells_within numbers h = all_flat (λ e. cells_of_subs e.0 e.1) IsCell numbers (all_weaker (λ e. AreCellsOfSubs e.0 e.1) (λ e. AllByRecursion IsCell (cells_of_subs e.0 e.1)) numbers h
+    (λ e k. all_flat (λ d. cells_of_parts e.0 d.0 d.1) IsCell e.1 (all_weaker (λ d. AreCellsOfParts e.0 d.0 d.1) (λ d. AllByRecursion IsCell (cells_of_parts e.0 d.0 d.1)) e.1 k
+    (λ d j. all_map (λ x. cell_entry (place_at e.0 d.0 x.0) x.1) IsCell d.1 j))))
 
 -- ---- cells rise
 
@@ -302,10 +308,11 @@ numbers_say numbers r s m t q f =
     ∙ any_same (λ e. entries_say (cells_of_subs e.0 e.1) (fact_of m t q f)) (λ e. (e.0 == m) && says_subs e.1 (t, (q, f))) numbers (all_weaker (λ e. SubsRise e.1) _ numbers s (λ e k. subs_say e.0 e.1 k m t q f))
     ∙ sym (says_some says_subs numbers r m (t, (q, f)))
 
--- the cells of a board rise, and say what it says
+-- the cells of a board are cells, rise, and say what it says
 pub cells_listed : (b : BoardValue) → IsBoard b → AreCells b (cells_of b)
 cells_listed b is = record {
   rise = numbers_rise (cells_in b) keys inner;
+  within = cells_within (cells_in b) (board_cells b is);
   loaded = λ c k. sym (numbers_say (cells_in b) keys inner c.number c.sub c.part (inl k));
   done = λ c. sym (numbers_say (cells_in b) keys inner c.number c.sub c.part (inr tt));
 }
@@ -353,7 +360,7 @@ issue_below : (q : ℕ) (es : List (ℕ × Flat PlanPair)) → AllByRecursion (�
 issue_below q [] h = refl
 issue_below q (e ∷ es) h = ap (λ b. both_issued (cond b e.1 Unknown) (entries_issue es q)) (other_key e.0 q h.0) ∙ issue_below q es h.1
 
-issue_some : (es : List (ℕ × Flat PlanPair)) → KeysRise es → (q : ℕ) → looked Unknown (find nat_cmp q es) ≡ entries_issue es q
+pub issue_some : (es : List (ℕ × Flat PlanPair)) → KeysRise es → (q : ℕ) → looked Unknown (find nat_cmp q es) ≡ entries_issue es q
 issue_some [] r q = refl
 issue_some (e ∷ es) r q =
     ap (λ b. looked Unknown (cond b (Some e.1) (find nat_cmp q es))) (cmp_eq q e.0)
@@ -381,11 +388,12 @@ issues_within_some (e ∷ es) r k h = (
 pub issues_within : (b : BoardValue) → IsBoard b → AllByRecursion (λ e. 1 ≤ e.0) (issues_of b)
 issues_within b is = issues_within_some (issues_in b) (keys_rise (issues_in b) is.nested.0.1.sorted) is.nested.0.1.kept (λ n. ⊎_elim (λ le. inl le) (λ u. inr (sym (issue_some (issues_in b) (keys_rise (issues_in b) is.nested.0.1.sorted) n) ∙ u)) (is.issues n))
 
--- what is issued rises, under numbers from 1 on, and is what the board issues
+-- what is issued rises, under numbers from 1 on, each one pair or a clash, and is what the board issues
 pub issues_listed : (b : BoardValue) → IsBoard b → AreIssues b (issues_of b)
 issues_listed b is = record {
   rise = issues_rise (issues_in b) (keys_rise (issues_in b) is.nested.0.1.sorted);
   within = issues_within b is;
+  known = all_weaker (λ e. IsKept issue_is Unknown e.1) (λ e. e.1 ≢ Unknown) (issues_in b) is.nested.0.1.kept (λ e k. k.1);
   issued = issue_some (issues_in b) (keys_rise (issues_in b) is.nested.0.1.sorted);
 }
 

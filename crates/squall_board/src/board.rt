@@ -1,26 +1,28 @@
 //! Boards as nested joins.
 
-ghost use Rattle.std.specs.Prelude.{◌≡◌, ◌≢◌, ◌≤◌, ◌<◌, ◌+◌, ◌++◌, ◌∷◌, [], List, ℕ, true, false, nat_lt, IfOk, OnOk, OnErr, IsTrue, ◌↔◌, option_copied};
+ghost use Rattle.std.specs.Prelude.{◌≡◌, ◌≢◌, ◌≤◌, ◌<◌, ◌+◌, ◌++◌, ◌∷◌, [], List, ℕ, true, false, nat_lt, IfOk, OnOk, OnErr, IsTrue, ◌↔◌, ◌||◌, option_copied};
 ghost use Rattle.std.specs.Arc.{arc_value};
-ghost use Rattle.squall_key.specs.Keys.{part_limit};
+ghost use Rattle.squall_span.specs.Spans.{has};
 ghost use Rattle.squall_join.specs.Flats.{flat_map};
 ghost use Rattle.squall_join.specs.Pairs.{pair_of};
 ghost use Rattle.squall_report.specs.declared.report.ReportKind.{ReportKind};
 ghost use Rattle.squall_report.specs.Issues.{PlanPair};
 ghost use Rattle.squall_report.specs.Cells.{place_at};
-ghost use Rattle.squall_report.specs.Facts.{Fact, LoadedKey, DonePart, OpenedSub};
+ghost use Rattle.squall_report.specs.Facts.{Fact, LoadedKey, DonePart, OpenedSub, is_fact};
+ghost use Rattle.squall_join.specs.declared.flat.Flat.TheVariants.{Unknown};
 ghost use Rattle.squall_report.specs.Told.{TellsBoth, TellsAll, told_by_report, told_by};
-ghost use Rattle.squall_board.specs.Boards.{IsBoard, HasTaken, empty_board, board_join, report_board, cell_board, opening_board, issue_board, cell_bottom, found_in, cell_of, opened_count, issued, says, told};
+ghost use Rattle.squall_board.specs.Boards.{IsBoard, is_nested, HasTaken, empty_board, board_join, report_board, cell_board, opening_board, issue_board, cell_bottom, found_in, cell_of, opened_count, issued, says, told};
 ghost use Rattle.squall_board.specs.Equal.{is_same_board};
 ghost use Rattle.squall_board.specs.EqualLaws.{boards_equal};
 ghost use Rattle.squall_board.specs.Route.{route};
 ghost use Rattle.std.specs.Cmp.{partial_equiv_from_equiv};
 
+use crate::update::{Completion, Issuing, Load};
 use squall_course::Course;
-use squall_join::{Entry, Flag, Flat, Join, JoinMap, Max, Pair, Piece, Shared};
+use squall_join::{Flag, Flat, Join, JoinMap, Max, Pair, Shared};
 use squall_key::{Key, PartId};
 use squall_report::{CellId, Issue, Report, ReportKind};
-use squall_span::{Span, SpanSet};
+use squall_span::SpanSet;
 use std::alloc::{AllocError, Global};
 use std::marker::Model;
 use std::sync::Arc;
@@ -67,96 +69,6 @@ impl Model for Board {
     ghost invariant = { λ b. IsBoard b.parts };
 }
 
-/// The board of one cell.
-pub(crate) fn cell_board(
-    alloc: Global,
-    cell: CellId,
-    value: CellParts,
-) -> Result<Board, AllocError>
-    requires { value ≢ cell_bottom }
-    ensures { IfOk result (λ b. b ≡ cell_board cell value) }
-{
-    cell.known();
-    value.known();
-    let parts = JoinMap::single(alloc, cell.part(), value)?;
-    let subs = JoinMap::single(alloc, cell.sub(), parts)?;
-    let cells = JoinMap::single(alloc, cell.number(), subs)?;
-    let first = Pair::new(JoinMap::empty(alloc), JoinMap::empty(alloc));
-    Ok(Board {
-        parts: Pair::new(first, cells),
-    })
-}
-
-/// A load of a cell: the keys of a span.
-#[derive(Clone, Copy)]
-struct Load {
-    span: Span,
-}
-
-impl Piece<CellParts> for Load {
-    ghost whole = { λ load. pair_of (load.span ∷ []) false };
-
-    fn known(&self) {
-        let _lo = self.span.lo();
-    }
-
-    fn make(&self, alloc: Global) -> Result<CellParts, AllocError> {
-        let keys = SpanSet::of(alloc, &self.span)?;
-        Ok(Pair::new(keys, Flag::new(false)))
-    }
-
-    fn put_in(&self, _alloc: Global, target: &mut CellParts) -> Result<(), AllocError> {
-        target.first.insert(self.span)
-    }
-}
-
-/// The completion of a cell's partition.
-#[derive(Clone, Copy)]
-struct Completion;
-
-impl Piece<CellParts> for Completion {
-    ghost whole = { λ _. pair_of [] true };
-
-    fn known(&self) {}
-
-    fn make(&self, alloc: Global) -> Result<CellParts, AllocError> {
-        Ok(Pair::new(SpanSet::empty(alloc), Flag::new(true)))
-    }
-
-    fn put_in(&self, alloc: Global, target: &mut CellParts) -> Result<(), AllocError> {
-        target.second.join_in(alloc, &Flag::new(true))
-    }
-}
-
-/// The board of one count of opened sub-plans.
-pub(crate) fn opening_board(alloc: Global, number: u32, count: u32) -> Result<Board, AllocError>
-    requires number { 1 ≤ number }
-    requires count { (0 < count) × (count ≤ part_limit) }
-    ensures { IfOk result (λ b. b ≡ opening_board number count) }
-{
-    let openings = JoinMap::single(alloc, number, Max::new(count))?;
-    let first = Pair::new(openings, JoinMap::empty(alloc));
-    Ok(Board {
-        parts: Pair::new(first, JoinMap::empty(alloc)),
-    })
-}
-
-/// The board of what is issued under one number.
-pub(crate) fn issue_board(
-    alloc: Global,
-    number: u32,
-    issue: Flat<Shared<Issue>>,
-) -> Result<Board, AllocError>
-    requires { 1 ≤ number }
-    ensures { IfOk result (λ b. b ≡ issue_board number issue) }
-{
-    let issues = JoinMap::single(alloc, number, issue)?;
-    let first = Pair::new(JoinMap::empty(alloc), issues);
-    Ok(Board {
-        parts: Pair::new(first, JoinMap::empty(alloc)),
-    })
-}
-
 /// The board of a list of reports.
 fn reports_board(alloc: Global, reports: &[Report]) -> Result<Board, AllocError>
     ensures { IfOk result (λ b. HasTaken b reports.now) }
@@ -166,6 +78,13 @@ fn reports_board(alloc: Global, reports: &[Report]) -> Result<Board, AllocError>
         board.take(report)?;
     }
     Ok(board)
+}
+
+/// Whether the cell has the key, or is complete.
+fn has_or_done(cell: &CellParts, key: Key) -> bool
+    ensures { result ≡ (has cell.now.first key || cell.now.second) }
+{
+    cell.first.has(key) || cell.second.get()
 }
 
 /// What the map, where there is one, has at the key.
@@ -195,15 +114,21 @@ impl Board {
         self.parts.second.allocator()
     }
 
-    /// Changes nothing: after it a proof knows what the type keeps of a board.
-    pub(crate) fn known(&self)
-        ensures { IsBoard self.now }
+    /// Changes nothing: after it a proof knows what holds of every board. Its three maps are in
+    /// order and without empty parts, its facts lie within the limits of facts, and nothing is
+    /// issued under the number 0.
+    pub fn known(&self)
+        ensures board { IsBoard self.now }
+        ensures nested { is_nested self.now }
+        ensures facts { (fact : Fact) → says self.now fact ≡ true → is_fact fact ≡ true }
+        ensures issues { issued self.now 0 ≡ Unknown }
     {
         let _parts = &self.parts;
     }
 
     /// Takes a report, in place: a binary search for each level of the cell, and at most one
-    /// insertion. The error comes where memory ran out, and then the board is as before.
+    /// insertion. It fails where an allocation fails, or where the count of an issue's owners is
+    /// full, and then the board is as it was.
     pub fn take(&mut self, report: &Report) -> Result<(), AllocError>
         ensures board { OnOk result (self.new ≡ board_join self.old (report_board report.now)) }
         ensures told { OnOk result (TellsBoth (told self.new) (told self.old) (told_by_report report.now)) }
@@ -216,42 +141,17 @@ impl Board {
                 sub,
                 part,
                 span,
-            } => self.put_piece(CellId::of(number, sub, part), Load { span }),
+            } => self.update_cell(CellId::of(number, sub, part), Load { span }),
             ReportKind::Done { number, sub, part } => {
-                self.put_piece(CellId::of(number, sub, part), Completion)
+                self.update_cell(CellId::of(number, sub, part), Completion)
             }
-            ReportKind::Opened { number, sub } => {
-                let delta = opening_board(self.allocator(), number, sub + 1)?;
-                self.merge(&delta)
-            }
-            ReportKind::Issued { number, issue } => {
-                let issue = Shared::new(Arc::try_clone(issue)?);
-                let delta = issue_board(self.allocator(), number, Flat::One(issue))?;
-                self.merge(&delta)
-            }
+            ReportKind::Opened { number, sub } => self.update_opening(number, sub + 1),
+            ReportKind::Issued { number, issue } => self.update_issue(number, Issuing::One(issue)),
         }
     }
 
-    /// Joins a piece into a cell, or puts the cell that it stands for where there was none.
-    fn put_piece<P: Piece<CellParts>>(
-        &mut self,
-        cell: CellId,
-        piece: P,
-    ) -> Result<(), AllocError>
-        ensures board { OnOk result (self.new ≡ board_join self.old (cell_board cell (P.whole piece))) }
-        ensures told { OnOk result (TellsBoth (told self.new) (told self.old) (told (cell_board cell (P.whole piece)))) }
-        ensures taken { OnOk result ((rs qs : List (ReportKind PlanPair)) → HasTaken self.old rs → HasTaken (cell_board cell (P.whole piece)) qs → HasTaken self.new (rs ++ qs)) }
-        ensures err { OnErr result (self.new ≡ self.old) }
-    {
-        piece.known();
-        cell.known();
-        let alloc = self.allocator();
-        let entry = Entry::new(cell.sub(), Entry::new(cell.part(), piece));
-        self.parts.second.join_piece(alloc, cell.number(), &entry)
-    }
-
-    /// Takes each report of the list, or none of them. The error comes where memory ran out, and
-    /// then the board is as before.
+    /// Takes each report of the list, or none of them. It fails where an allocation fails, and
+    /// then the board is as it was.
     pub fn take_all(&mut self, reports: &[Report]) -> Result<(), AllocError>
         ensures told { OnOk result (TellsBoth (told self.new) (told self.old) (told_by reports.now)) }
         ensures taken { OnOk result ((rs : List (ReportKind PlanPair)) → HasTaken self.old rs → HasTaken self.new (rs ++ reports.now)) }
@@ -261,8 +161,8 @@ impl Board {
         self.merge(&delta)
     }
 
-    /// Takes all that the other board tells. The error comes where memory ran out, and then the
-    /// board is as before.
+    /// Takes all that the other board tells. It fails where an allocation fails, and then the
+    /// board is as it was.
     pub fn merge(&mut self, other: &Board) -> Result<(), AllocError>
         ensures board { OnOk result (self.new ≡ board_join self.old other.now) }
         ensures told { OnOk result (TellsBoth (told self.new) (told self.old) (told other.now)) }
@@ -342,27 +242,35 @@ impl Board {
         }
     }
 
+    /// Whether a report said the key loaded at the partition, or the partition done, in that
+    /// sub-plan of that number: from one look-up of the cell.
+    fn has_come(&self, number: u32, sub: u32, part: u32, key: Key) -> bool
+        ensures { result ≡ (says self.now (LoadedKey (place_at number sub part) key) || says self.now (DonePart (place_at number sub part))) }
+    {
+        match self.found_at(number, sub, part) {
+            Some(cell) => has_or_done(cell, key),
+            None => false,
+        }
+    }
+
     /// The partition to ask for the key while the course runs: its new one where it does not
     /// move, or where its load there or that partition's completion was reported for the key's own
     /// sub-plan of the course's number, and else its old one.
     pub fn route(&self, course: &Course, key: Key) -> PartId
         ensures { result ≡ route course.now (says self.now) key }
     {
-        let old = course.old_owner(key);
-        let new = course.new_owner(key);
-        let Some(sub) = course.subplan_of(key) else {
-            return new;
+        let owners = course.owners(key);
+        let Some(sub) = owners.sub else {
+            return owners.new;
         };
-        let number = course.number();
-        let part = new.get();
-        if self.says_loaded(number, sub, part, key) || self.says_done(number, sub, part) {
-            new
+        if self.has_come(course.number(), sub, owners.new.get(), key) {
+            owners.new
         } else {
-            old
+            owners.old
         }
     }
 
-    /// A copy, which tells the same. The error comes where memory ran out.
+    /// A copy, which tells the same. It fails where an allocation fails.
     pub fn copied(&self, alloc: Global) -> Result<Board, AllocError>
         ensures { IfOk result (λ b. b ≡ self.now) }
     {

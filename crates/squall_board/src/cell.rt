@@ -1,7 +1,9 @@
 //! What was reported of a cell.
 
-ghost use Rattle.std.specs.Prelude.{◌≡◌};
-ghost use Rattle.squall_board.specs.Listed.{IsCell, entry_with, entry_of};
+ghost use Rattle.std.specs.Prelude.{◌≡◌, true, ◌||◌};
+ghost use Rattle.squall_board.specs.Listed.{IsCell, entry_with, entry_of, has_spans};
+ghost use Rattle.squall_report.specs.Cells.{is_cell_place};
+ghost use Rattle.squall_span.specs.Spans.{IsSet};
 
 use squall_report::CellId;
 use squall_span::SpanSet;
@@ -102,9 +104,13 @@ impl Cell {
         }
     }
 
-    /// Changes nothing: after it a proof knows what the type keeps of a cell.
-    pub(crate) fn known(&self)
-        ensures { IsCell self.now }
+    /// Changes nothing: after it a proof knows what holds of every cell. Its numbers lie within
+    /// their limits, it is complete or has a key, and its spans are a set of keys.
+    pub fn known(&self)
+        ensures cell { IsCell self.now }
+        ensures place { is_cell_place self.now.cell ≡ true }
+        ensures kept { (self.now.complete || has_spans self.now.spans) ≡ true }
+        ensures spans { IsSet self.now.spans }
     {
         let _place = self.place;
     }

@@ -1,10 +1,12 @@
 //! Laws of boards, each the contract of a function that does nothing.
 
-ghost use Rattle.std.specs.Prelude.{◌≡◌, List};
+ghost use Rattle.std.specs.Prelude.{◌≡◌, ◌≤◌, ℕ, true, List};
+ghost use Rattle.squall_join.specs.declared.flat.Flat.TheVariants.{Unknown};
+ghost use Rattle.squall_report.specs.Facts.{Fact, is_fact};
 ghost use Rattle.squall_report.specs.declared.report.ReportKind.{ReportKind};
 ghost use Rattle.squall_report.specs.Issues.{PlanPair};
 ghost use Rattle.squall_report.specs.Told.{told_by, SameTold, AreSameReports};
-ghost use Rattle.squall_board.specs.Boards.{HasTaken, told};
+ghost use Rattle.squall_board.specs.Boards.{HasTaken, says, issued, told};
 
 use crate::Board;
 
@@ -14,6 +16,23 @@ pub fn boards_that_tell_the_same_are_equal(first: &Board, second: &Board)
 {
     first.known();
     second.known();
+}
+
+/// Boards are equal that say the same of each fact within the limits of facts (so of keys below
+/// the top alone), and issue the same under each number from 1 on.
+pub fn boards_that_tell_the_same_within_limits_are_equal(first: &Board, second: &Board)
+    ensures { ((fact : Fact) → is_fact fact ≡ true → says first.now fact ≡ says second.now fact) → ((number : ℕ) → 1 ≤ number → issued first.now number ≡ issued second.now number) → first.now ≡ second.now }
+{
+    first.known();
+    second.known();
+}
+
+/// What a board says lies within the limits of facts, and it issues nothing under the number 0.
+pub fn facts_lie_within_the_limits(board: &Board)
+    ensures facts { (fact : Fact) → says board.now fact ≡ true → is_fact fact ≡ true }
+    ensures issues { issued board.now 0 ≡ Unknown }
+{
+    board.known();
 }
 
 /// Boards that have taken lists of reports that tell the same are equal: whatever the order of

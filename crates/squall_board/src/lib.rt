@@ -11,6 +11,7 @@ mod newest;
 mod opening;
 mod put;
 mod route_laws;
+mod update;
 
 pub use board::{Board, CellParts, Delta};
 pub use cell::Cell;
@@ -19,8 +20,14 @@ pub use facts_laws::{
     boards_with_the_same_tests_are_equal, merges_join_tests, newest_of_taken_reports,
     taken_openings_count, taken_reports_join_tests,
 };
-pub use laws::{boards_that_tell_the_same_are_equal, boards_with_the_same_reports_are_equal};
-pub use listed::{lists_make_an_equal_board, lists_tell_what_the_board_tells};
+pub use laws::{
+    boards_that_tell_the_same_are_equal, boards_that_tell_the_same_within_limits_are_equal,
+    boards_with_the_same_reports_are_equal, facts_lie_within_the_limits,
+};
+pub use listed::{
+    lists_make_an_equal_board, lists_tell_what_the_board_tells, one_list_of_cells,
+    one_list_of_issues, one_list_of_openings,
+};
 pub use opening::Opening;
 pub use route_laws::{
     boards_have_the_course_of_their_tests, boards_route_by_their_tests, cells_say_what_has_come,

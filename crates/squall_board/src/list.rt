@@ -104,7 +104,7 @@ fn owned_all(
 }
 
 impl Board {
-    /// How many sub-plans are opened, by rising number. The error comes where memory ran out.
+    /// How many sub-plans are opened, by rising number. It fails where an allocation fails.
     pub fn openings(&self) -> Result<Vec<Opening>, AllocError>
         ensures openings { IfOk result (λ os. os.items ≡ openings_of self.now) }
         ensures listed { IfOk result (λ os. AreOpenings self.now os.items) }
@@ -114,7 +114,7 @@ impl Board {
     }
 
     /// What is issued, by rising number, and a clash where different pairs of plans were. Issues
-    /// are shared, and not copied. The error comes where memory ran out, or where the count of an
+    /// are shared, and not copied. It fails where an allocation fails, or where the count of an
     /// issue's owners is full.
     pub fn issues(&self) -> Result<Vec<(u32, Flat<Arc<Issue>>)>, AllocError>
         ensures issues { IfOk result (λ es. map (λ e. (e.0, flat_map arc_value e.1)) es.items ≡ issues_of self.now) }
@@ -125,7 +125,7 @@ impl Board {
     }
 
     /// What was reported of each partition in each sub-plan, by rising number, sub-plan and
-    /// partition. The error comes where memory ran out.
+    /// partition. It fails where an allocation fails.
     pub fn cells(&self) -> Result<Vec<Cell>, AllocError>
         ensures cells { IfOk result (λ cs. cs.items ≡ cells_of self.now) }
         ensures listed { IfOk result (λ cs. AreCells self.now cs.items) }

@@ -1,9 +1,12 @@
 //! What the lists of a board tell, each law the contract of a function that does nothing.
 
-ghost use Rattle.std.specs.Prelude.{◌≡◌};
+ghost use Rattle.std.specs.Prelude.{◌≡◌, ℕ, List};
+ghost use Rattle.squall_join.specs.declared.flat.Flat.{Flat};
+ghost use Rattle.squall_report.specs.Issues.{PlanPair};
+ghost use Rattle.squall_board.specs.declared.opening.Opening.{Opening};
 ghost use Rattle.squall_report.specs.Told.{SameTold};
 ghost use Rattle.squall_board.specs.Boards.{told};
-ghost use Rattle.squall_board.specs.Listed.{openings_of, issues_of, cells_of, told_by_lists};
+ghost use Rattle.squall_board.specs.Listed.{CellEntry, AreOpenings, AreIssues, AreCells, openings_of, issues_of, cells_of, told_by_lists};
 
 use crate::board::Board;
 
@@ -21,4 +24,25 @@ pub fn lists_make_an_equal_board(board: &Board, other: &Board)
 {
     board.known();
     other.known();
+}
+
+/// What lists the openings of a board is the board's own list of them.
+pub fn one_list_of_openings(board: &Board)
+    ensures { (openings : List Opening) → AreOpenings board.now openings → openings ≡ openings_of board.now }
+{
+    board.known();
+}
+
+/// What lists the issues of a board is the board's own list of them.
+pub fn one_list_of_issues(board: &Board)
+    ensures { (issues : List (ℕ × Flat PlanPair)) → AreIssues board.now issues → issues ≡ issues_of board.now }
+{
+    board.known();
+}
+
+/// What lists the cells of a board is the board's own list of them.
+pub fn one_list_of_cells(board: &Board)
+    ensures { (cells : List CellEntry) → AreCells board.now cells → cells ≡ cells_of board.now }
+{
+    board.known();
 }

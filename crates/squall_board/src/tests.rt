@@ -1,5 +1,6 @@
 //! Tests of boards.
 
+mod clients;
 mod listed;
 mod plain;
 mod random;

@@ -153,7 +153,7 @@ fn cells_within_their_limits(rt: HostRuntime) -> Result<(), Fail> {
     Ok(())
 }
 
-/// A full board and a copy of it. None where memory ran out.
+/// A full board and a copy of it. None where an allocation fails.
 fn full_and_copy(alloc: Global) -> Option<(Board, Board)> {
     let board = full(alloc)?;
     let copy = board.copied(alloc).ok()?;

@@ -1,7 +1,8 @@
-//! Where memory runs out a board is as before.
+//! Where an allocation fails a board is as it was.
 
-use crate::Board;
+use crate::{Board, Opening};
 use crate::tests::{load, two_reports};
+use squall_join::Flat;
 use squall_report::Report;
 use std::alloc::Global;
 use std::test::Fail;
@@ -49,12 +50,59 @@ fn tolerant_merge(rt: HostRuntime) -> Result<(), Fail> {
     else {
         return Ok(());
     };
+    let Ok(before) = board.copied(rt.alloc()) else {
+        return Ok(());
+    };
     let reports = two_reports().ok_or("reports")?;
     if other.take_all(&reports).is_err() {
         return Ok(());
     }
     let merged = board.merge(&other).is_ok();
-    assert!(rt; merged == board.covers(&other));
-    assert!(rt; merged == board.says_done(1, 0, 4));
+    assert!(rt; merged == board.covers(&other) && board.covers(&before));
+    assert!(rt; merged == (board != before));
+    Ok(())
+}
+
+#[test]
+fn tolerant_copied(rt: HostRuntime) -> Result<(), Fail> {
+    let Some(board) = small_board(rt.alloc()) else {
+        return Ok(());
+    };
+    if let Ok(copy) = board.copied(rt.alloc()) {
+        assert!(rt; copy == board);
+    }
+    assert!(rt; board.opened(1) == 1);
+    Ok(())
+}
+
+#[test]
+fn tolerant_put_opening(rt: HostRuntime) -> Result<(), Fail> {
+    let Some(mut board) = small_board(rt.alloc()) else {
+        return Ok(());
+    };
+    let Ok(before) = board.copied(rt.alloc()) else {
+        return Ok(());
+    };
+    let opening = Opening {
+        number: 2,
+        count: 3,
+    };
+    let put = board.put_opening(&opening).is_ok();
+    assert!(rt; board.covers(&before) && put == (board != before));
+    assert!(rt; put == (board.opened(2) == 3));
+    Ok(())
+}
+
+#[test]
+fn tolerant_put_issue(rt: HostRuntime) -> Result<(), Fail> {
+    let Some(mut board) = small_board(rt.alloc()) else {
+        return Ok(());
+    };
+    let Ok(before) = board.copied(rt.alloc()) else {
+        return Ok(());
+    };
+    let put = board.put_issue(3, &Flat::Clash).is_ok();
+    assert!(rt; board.covers(&before) && put == (board != before));
+    assert!(rt; put == matches!(board.issuing(3), Flat::Clash));
     Ok(())
 }

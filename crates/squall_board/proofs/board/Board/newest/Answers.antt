@@ -8,4 +8,4 @@ pub returns-clause-meaning : goal.returns-clause-meaning
 returns-clause-meaning c =
     subst (IsNewest (issued c.args.self.now) c.args.first.now.number)
     (sym (c.newest_in.ensures ∙ ap (λ n. newest_in n c.entries.result.now) c.number.ensures.value ∙ ap (λ (es : Issues). newest_in c.args.first.now.number es) (c.entries.ensures.entries ∙ ap issues_in c.self.view_is)))
-    (newest_is_greatest c.args.self.now c.args.first.now.number c.known.ensures)
+    (newest_is_greatest c.args.self.now c.args.first.now.number c.known.ensures.board)
