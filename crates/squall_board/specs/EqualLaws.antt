@@ -10,7 +10,8 @@ use Rattle.squall_span.specs.Spans.{interval, interval_eq, spans_eq}
 use Rattle.squall_join.specs.declared.flat.Flat.{Flat}
 use Rattle.squall_join.specs.declared.flat.Flat.TheVariants.{Unknown, One, Clash}
 use Rattle.squall_join.specs.PairLaws.{same_pair}
-use Rattle.squall_report.specs.Issues.{PlanPair, is_same_pair, same_pairs_are_equal}
+use Rattle.squall_report.specs.Issues.{PlanPair, is_same_pair}
+use Rattle.squall_report.specs.IssueLaws.{same_pairs_are_equal}
 use Rattle.squall_board.specs.Boards.{CellValue, BoardValue, openings_in, issues_in, cells_in}
 use Rattle.squall_board.specs.Equal.{is_same_flat, are_same_entries, is_same_flag, is_same_cell_value, is_same_board}
 

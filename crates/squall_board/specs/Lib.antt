@@ -8,6 +8,8 @@ pub use Rattle.squall_report.specs.Issues
 pub use Rattle.squall_report.specs.Cells
 pub use Rattle.squall_report.specs.Facts
 pub use Rattle.squall_report.specs.Told
+pub use Rattle.squall_report.specs.Openings
+pub use Rattle.squall_report.specs.Tests
 pub mod Boards
 pub mod Updates
 pub mod BoardLaws
@@ -19,3 +21,9 @@ pub mod Equal
 pub mod EqualLaws
 pub mod Newest
 pub mod NewestLaws
+pub mod CourseRoute
+pub mod CourseRouteLaws
+pub mod MovesRoute
+pub mod MovesRouteLaws
+pub mod BoardTests
+pub mod BoardTestsLaws

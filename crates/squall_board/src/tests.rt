@@ -2,6 +2,7 @@
 
 mod clients;
 mod listed;
+mod route_clients;
 mod tolerant;
 
 use super::*;

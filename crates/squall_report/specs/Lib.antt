@@ -4,6 +4,7 @@ pub use Rattle.squall_span.specs.Spans
 pub use Rattle.squall_join.specs.Flats
 pub use Rattle.squall_plan.specs.Ranges
 pub mod Issues
+pub mod IssueLaws
 pub mod Cells
 pub mod Facts
 pub mod Told

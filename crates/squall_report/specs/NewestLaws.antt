@@ -27,6 +27,7 @@ same_number f x y a b last_x last_y = elim (cases_lt x.0 y.0) [
   | inr ge ↦ elim (cases_lt y.0 x.0) [ inl lt ↦ absurd (last_y x.0 lt x.1 a) | inr le ↦ omega arith ]
 ]
 
+-- what is issued has one newest course above a number
 pub one_newest : (f : ℕ → Flat PlanPair) (low : ℕ) (x y : Option (ℕ × PlanPair)) → IsNewest f low x → IsNewest f low y → x ≡ y
 one_newest f low None None a b = refl
 one_newest f low None (Some y) a (above, is, last) = absurd (a y.0 above y.1 is)
@@ -36,7 +37,7 @@ one_newest f low (Some x) (Some y) (above, is, last) (above_y, is_y, last_y) =
     let p : x.1 ≡ y.1 = ap (pair_in x.1) (sym is ∙ ap f n ∙ is_y) in
     λ i. Some (n i, p i)
 
--- the newest of issues is that of the same issues
+-- what issues the same has the same newest course
 pub newest_same : (f g : ℕ → Flat PlanPair) (low : ℕ) (x : Option (ℕ × PlanPair)) → ((n : ℕ) → f n ≡ g n) → IsNewest f low x → IsNewest g low x
 newest_same f g low None same none = λ n above p e. none n above p (same n ∙ e)
 newest_same f g low (Some x) same (above, is, last) = (above, sym (same x.0) ∙ is, λ n gt p e. last n gt p (same n ∙ e))
@@ -115,5 +116,6 @@ newest_from : (rs : List (ReportKind PlanPair)) (low : ℕ) (x : Option (ℕ × 
 newest_from rs low None found reaches = λ n above p is. reaches n p above is
 newest_from rs low (Some x) (above, is) reaches = (above, is, λ n gt p e. omega (arith, gt, reaches n p (omega (arith, above, gt)) e))
 
+-- the newest course of a list of reports is the newest of what the list issues
 pub newest_of_reports : (rs : List (ReportKind PlanPair)) (low : ℕ) → IsNewest (reports_issue rs) low (newest_by rs low)
 newest_of_reports rs low = newest_from rs low (newest_by rs low) (found_latest rs low rs) (λ n p above is. reaches_each rs low n p p rs above is (one_is_there rs n p is))

@@ -12,7 +12,8 @@ use Rattle.squall_report.specs.Openings.{opened_by_report, opened_by}
 pub below_max : (s a b : ℕ) → nat_lt s (max a b) ≡ (nat_lt s a || nat_lt s b)
 below_max s a b = grind (arith, nat_tests)
 
-none_below : (s : ℕ) → false ≡ nat_lt s 0
+-- no number is below 0
+pub none_below : (s : ℕ) → false ≡ nat_lt s 0
 none_below s = grind (arith, nat_tests)
 
 below_next : (s t : ℕ) → nat_le s t ≡ nat_lt s (t + 1)
@@ -22,7 +23,8 @@ opening_counts : (b : Bool) (s t : ℕ) → (b && nat_le s t) ≡ nat_lt s (cond
 opening_counts true s t = below_next s t
 opening_counts false s t = none_below s
 
-report_counts : (r : ReportKind PlanPair) (n s : ℕ) → report_says r (OpenedSub n s) ≡ nat_lt s (opened_by_report r n)
+-- a report says those sub-plans opened that lie below its count
+pub report_counts : (r : ReportKind PlanPair) (n s : ℕ) → report_says r (OpenedSub n s) ≡ nat_lt s (opened_by_report r n)
 report_counts (Loaded number sub part span) n s = none_below s
 report_counts (Done number sub part) n s = none_below s
 report_counts (Opened number sub) n s = opening_counts (number == n) s sub
@@ -43,6 +45,7 @@ one_count a b same =
     let ba : nat_lt b a ≡ nat_lt b b = same b in
     grind (arith, nat_tests)
 
+-- the count of a list after another is the greater of both
 pub opened_append : (rs qs : List (ReportKind PlanPair)) (n : ℕ) → opened_by (rs ++ qs) n ≡ max (opened_by rs n) (opened_by qs n)
 opened_append [] qs n = omega arith
 opened_append (r ∷ rs) qs n = let h : opened_by (rs ++ qs) n ≡ max (opened_by rs n) (opened_by qs n) = opened_append rs qs n in ap (max (opened_by_report r n)) h ∙ assoc (opened_by_report r n) (opened_by rs n) (opened_by qs n)

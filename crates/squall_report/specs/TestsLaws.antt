@@ -1,46 +1,47 @@
 -- Laws of tests.
-use Rattle.std.specs.Prelude.{◌≡◌, nat_lt, Bool, false, ◌||◌, List, [], ◌∷◌, ◌++◌, ◌↔◌, refl}
+use Rattle.std.specs.Prelude.{◌≡◌, ℕ, nat_lt, Bool, true, false, ◌||◌, List, [], ◌∷◌, ◌++◌, ◌↔◌, refl}
 use Rattle.std.proofs.Common.{sym, ap, ◌∙◌, arith}
-use Rattle.squall_join.specs.Laws.{JoinLaws}
-use Rattle.squall_join.specs.Basic.{flag_laws}
+use Rattle.std.proofs.Math.Bool.{or_assoc, or_comm, or_self, or-false}
+use Rattle.squall_join.specs.Laws.{JoinLaws, Covers}
 use Rattle.squall_report.specs.declared.report.ReportKind.{ReportKind}
 use Rattle.squall_report.specs.declared.report.ReportKind.TheVariants.{Loaded, Done, Opened, Issued}
 use Rattle.squall_report.specs.Issues.{PlanPair}
-use Rattle.squall_report.specs.Facts.{Fact, LoadedKey, DonePart, OpenedSub, reports_say}
-use Rattle.squall_report.specs.Told.{told_by, SameTold, TellsBoth}
+use Rattle.squall_report.specs.Facts.{Fact, LoadedKey, DonePart, OpenedSub, report_says, reports_say}
+use Rattle.squall_report.specs.Told.{report_issues, told_by_report, told_by, SameTold, TellsBoth, TellsAll}
 use Rattle.squall_report.specs.ToldLaws.{issued_assoc, issued_comm, issued_idem, issued_neutral, told_append}
-use Rattle.squall_report.specs.OpeningsLaws.{below_max, openings_count, one_count, opened_append}
+use Rattle.squall_report.specs.OpeningsLaws.{none_below, report_counts, below_max, openings_count, one_count, opened_append}
 use Rattle.squall_report.specs.Tests.{Tests, SameTests, no_tests, joined_tests, tests_by, tests_by_report, tests_say, told_by_tests}
 
 -- tests with the same answers are equal
 pub same_tests : (a b : Tests) → SameTests a b → a ≡ b
 same_tests a b s = λ i. record { loaded = λ c k. s.loaded c k i; done = λ c. s.done c i; opened = λ n. s.opened n i; issued = λ n. s.issued n i }
 
+-- tests join in any grouping, order and number to the same tests
 pub tests_laws : JoinLaws (λ _. Unit {0}) no_tests joined_tests
 tests_laws = record {
   bottom_is = tt;
   closed = λ a b _ _. tt;
   assoc = λ a b d _ _ _. same_tests _ _ (record {
-    loaded = λ c k. flag_laws.assoc (a.loaded c k) (b.loaded c k) (d.loaded c k) tt tt tt;
-    done = λ c. flag_laws.assoc (a.done c) (b.done c) (d.done c) tt tt tt;
+    loaded = λ c k. or_assoc (a.loaded c k) (b.loaded c k) (d.loaded c k);
+    done = λ c. or_assoc (a.done c) (b.done c) (d.done c);
     opened = λ n. omega arith;
     issued = λ n. issued_assoc (a.issued n) (b.issued n) (d.issued n);
   });
   comm = λ a b _ _. same_tests _ _ (record {
-    loaded = λ c k. flag_laws.comm (a.loaded c k) (b.loaded c k) tt tt;
-    done = λ c. flag_laws.comm (a.done c) (b.done c) tt tt;
+    loaded = λ c k. or_comm (a.loaded c k) (b.loaded c k);
+    done = λ c. or_comm (a.done c) (b.done c);
     opened = λ n. omega arith;
     issued = λ n. issued_comm (a.issued n) (b.issued n);
   });
   idem = λ a _. same_tests _ _ (record {
-    loaded = λ c k. flag_laws.idem (a.loaded c k) tt;
-    done = λ c. flag_laws.idem (a.done c) tt;
+    loaded = λ c k. or_self (a.loaded c k);
+    done = λ c. or_self (a.done c);
     opened = λ n. omega arith;
     issued = λ n. issued_idem (a.issued n);
   });
   neutral = λ a _. same_tests _ _ (record {
-    loaded = λ c k. flag_laws.neutral (a.loaded c k) tt;
-    done = λ c. flag_laws.neutral (a.done c) tt;
+    loaded = λ c k. or-false (a.loaded c k);
+    done = λ c. or-false (a.done c);
     opened = λ n. omega arith;
     issued = λ n. issued_neutral (a.issued n);
   });
@@ -48,12 +49,13 @@ tests_laws = record {
 
 -- ---- tests and what they tell
 
--- where all but the openings is the same, the counts give the openings
+-- the same tests say the same facts
 same_facts : (a b : Tests) → SameTests a b → (f : Fact) → tests_say a f ≡ tests_say b f
 same_facts a b s (LoadedKey c k) = s.loaded c k
 same_facts a b s (DonePart c) = s.done c
 same_facts a b s (OpenedSub n t) = ap (nat_lt t) (s.opened n)
 
+-- tests are the same where they tell the same
 pub told_by_same : (a b : Tests) → SameTests a b ↔ SameTold (told_by_tests a) (told_by_tests b)
 told_by_same a b = (
   λ s. record { facts = same_facts a b s; issues = s.issued },
@@ -77,6 +79,28 @@ told_by_joined c a b = (
   λ t. (told_by_same c (joined_tests a b)).1 (record { facts = λ f. t.facts f ∙ sym (joined_say a b f); issues = t.issues }),
 )
 
+or_covers : (a b : Bool) → (b ≡ true → a ≡ true) → (a || b) ≡ a
+or_covers true b into = refl
+or_covers false true into = sym (into refl)
+or_covers false false into = refl
+
+covered : (a b : Bool) → (a || b) ≡ a → b ≡ true → a ≡ true
+covered true b e is = refl
+covered false b e is = sym e ∙ is
+
+-- a join changes nothing where all that comes is told already
+pub told_already : (a b : Tests) → Covers joined_tests a b ↔ TellsAll (told_by_tests a) (told_by_tests b)
+told_already a b = (
+  λ e. record {
+    facts = λ f. covered (tests_say a f) (tests_say b f) (sym (joined_say a b f) ∙ ap (λ t. tests_say t f) e);
+    issues = λ n. ap (λ t. t.issued n) e;
+  },
+  λ all. same_tests (joined_tests a b) a ((told_by_same (joined_tests a b) a).1 (record {
+    facts = λ f. joined_say a b f ∙ or_covers (tests_say a f) (tests_say b f) (all.facts f);
+    issues = all.issues;
+  })),
+)
+
 -- ---- the tests of lists
 
 says_by_tests : (rs : List (ReportKind PlanPair)) (f : Fact) → reports_say rs f ≡ tests_say (tests_by rs) f
@@ -88,12 +112,14 @@ says_by_tests rs (OpenedSub n s) = openings_count rs n s
 pub told_by_its_tests : (rs : List (ReportKind PlanPair)) → SameTold (told_by rs) (told_by_tests (tests_by rs))
 told_by_its_tests rs = record { facts = says_by_tests rs; issues = λ n. refl }
 
+-- lists of reports have the same tests where they tell the same
 pub same_told_lists : (rs qs : List (ReportKind PlanPair)) → SameTests (tests_by rs) (tests_by qs) ↔ SameTold (told_by rs) (told_by qs)
 same_told_lists rs qs = (
   λ s. record { facts = λ f. says_by_tests rs f ∙ same_facts (tests_by rs) (tests_by qs) s f ∙ sym (says_by_tests qs f); issues = s.issued },
   λ t. (told_by_same (tests_by rs) (tests_by qs)).1 (record { facts = λ f. sym (says_by_tests rs f) ∙ t.facts f ∙ says_by_tests qs f; issues = t.issues }),
 )
 
+-- a list after another has the joined tests of both
 pub tests_append : (rs qs : List (ReportKind PlanPair)) → SameTests (tests_by (rs ++ qs)) (joined_tests (tests_by rs) (tests_by qs))
 tests_append rs qs = record {
   loaded = λ c k. (told_append rs qs).facts (LoadedKey c k);
@@ -102,12 +128,33 @@ tests_append rs qs = record {
   issued = (told_append rs qs).issues;
 }
 
-or_false : (a : Bool) → (a || false) ≡ a
-or_false a = flag_laws.neutral a tt
+-- a report tells what its tests tell
+report_says_by_tests : (r : ReportKind PlanPair) (f : Fact) → report_says r f ≡ tests_say (tests_by_report r) f
+report_says_by_tests (Loaded number sub part span) (LoadedKey c k) = refl
+report_says_by_tests (Loaded number sub part span) (DonePart c) = refl
+report_says_by_tests (Loaded number sub part span) (OpenedSub n s) = none_below s
+report_says_by_tests (Done number sub part) (LoadedKey c k) = refl
+report_says_by_tests (Done number sub part) (DonePart c) = refl
+report_says_by_tests (Done number sub part) (OpenedSub n s) = none_below s
+report_says_by_tests (Opened number sub) (LoadedKey c k) = refl
+report_says_by_tests (Opened number sub) (DonePart c) = refl
+report_says_by_tests (Opened number sub) (OpenedSub n s) = report_counts (Opened number sub) n s
+report_says_by_tests (Issued number issue) (LoadedKey c k) = refl
+report_says_by_tests (Issued number issue) (DonePart c) = refl
+report_says_by_tests (Issued number issue) (OpenedSub n s) = none_below s
+
+report_issues_by_tests : (r : ReportKind PlanPair) (n : ℕ) → report_issues r n ≡ (tests_by_report r).issued n
+report_issues_by_tests (Loaded number sub part span) n = refl
+report_issues_by_tests (Done number sub part) n = refl
+report_issues_by_tests (Opened number sub) n = refl
+report_issues_by_tests (Issued number issue) n = refl
+
+pub report_told_by_tests : (r : ReportKind PlanPair) → SameTold (told_by_report r) (told_by_tests (tests_by_report r))
+report_told_by_tests r = record { facts = report_says_by_tests r; issues = report_issues_by_tests r }
 
 -- one report has its tests
 pub report_tests : (r : ReportKind PlanPair) → SameTests (tests_by (r ∷ [])) (tests_by_report r)
-report_tests (Loaded number sub part span) = record { loaded = λ c k. or_false _; done = λ c. or_false _; opened = λ n. omega arith; issued = λ n. refl }
-report_tests (Done number sub part) = record { loaded = λ c k. or_false _; done = λ c. or_false _; opened = λ n. omega arith; issued = λ n. refl }
-report_tests (Opened number sub) = record { loaded = λ c k. or_false _; done = λ c. or_false _; opened = λ n. omega arith; issued = λ n. refl }
-report_tests (Issued number issue) = record { loaded = λ c k. or_false _; done = λ c. or_false _; opened = λ n. omega arith; issued = λ n. issued_neutral _ }
+report_tests (Loaded number sub part span) = record { loaded = λ c k. or-false _; done = λ c. or-false _; opened = λ n. omega arith; issued = λ n. refl }
+report_tests (Done number sub part) = record { loaded = λ c k. or-false _; done = λ c. or-false _; opened = λ n. omega arith; issued = λ n. refl }
+report_tests (Opened number sub) = record { loaded = λ c k. or-false _; done = λ c. or-false _; opened = λ n. omega arith; issued = λ n. refl }
+report_tests (Issued number issue) = record { loaded = λ c k. or-false _; done = λ c. or-false _; opened = λ n. omega arith; issued = λ n. issued_neutral _ }

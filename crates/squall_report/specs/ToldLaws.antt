@@ -12,7 +12,8 @@ use Rattle.squall_join.specs.Flats.{flat_is}
 use Rattle.squall_join.specs.FlatLaws.{flat_laws}
 use Rattle.squall_report.specs.declared.report.ReportKind.{ReportKind}
 use Rattle.squall_report.specs.declared.report.ReportKind.TheVariants.{Loaded, Done, Opened, Issued}
-use Rattle.squall_report.specs.Issues.{PlanPair, is_same_pair, same_pairs_are_equal}
+use Rattle.squall_report.specs.Issues.{PlanPair, is_same_pair}
+use Rattle.squall_report.specs.IssueLaws.{same_pairs_are_equal}
 use Rattle.squall_report.specs.Facts.{report_says, reports_say}
 use Rattle.squall_report.specs.Told.{both_issued, report_issues, reports_issue, IsIssued, told_by, SameTold, TellsBoth, AreSameReports}
 

@@ -2,7 +2,8 @@
 
 ghost use Rattle.std.specs.Prelude.{◌≡◌, IfOk};
 ghost use Rattle.std.specs.Arc.{arc_value};
-ghost use Rattle.squall_report.specs.Issues.{plan_pair, is_same_pair, same_pairs_are_equal, pairs_equal};
+ghost use Rattle.squall_report.specs.Issues.{plan_pair, is_same_pair};
+ghost use Rattle.squall_report.specs.IssueLaws.{same_pairs_are_equal, pairs_equal};
 ghost use Rattle.std.specs.Cmp.{partial_equiv_from_equiv};
 
 use squall_join::Exact;
@@ -29,7 +30,7 @@ impl Model for Issue {
 }
 
 impl Issue {
-    /// The issue of a copy of both plans, to be shared. The error comes where memory ran out.
+    /// The issue of a copy of both plans, to be shared. The error comes where an allocation failed.
     pub fn new(alloc: Global, old: &Plan, new: &Plan) -> Result<Arc<Issue>, AllocError>
         ensures { IfOk result (λ issue. arc_value issue ≡ plan_pair old.now new.now) }
     {

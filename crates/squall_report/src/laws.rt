@@ -2,11 +2,11 @@
 
 ghost use Rattle.std.specs.Prelude.{◌≡◌, ◌↔◌, ℕ, nat_lt, List, [], ◌∷◌, ◌++◌, Option};
 ghost use Rattle.squall_join.specs.declared.flat.Flat.{Flat};
-ghost use Rattle.squall_join.specs.Laws.{JoinLaws};
+ghost use Rattle.squall_join.specs.Laws.{JoinLaws, Covers};
 ghost use Rattle.squall_report.specs.declared.report.ReportKind.{ReportKind};
 ghost use Rattle.squall_report.specs.Issues.{PlanPair};
 ghost use Rattle.squall_report.specs.Facts.{OpenedSub, reports_say};
-ghost use Rattle.squall_report.specs.Told.{IsIssued, reports_issue, told_by, SameTold, TellsBoth, AreSameReports};
+ghost use Rattle.squall_report.specs.Told.{IsIssued, reports_issue, told_by_report, told_by, SameTold, TellsBoth, TellsAll, AreSameReports};
 ghost use Rattle.squall_report.specs.Openings.{opened_by};
 ghost use Rattle.squall_report.specs.Newest.{IsNewest, newest_by};
 ghost use Rattle.squall_report.specs.Tests.{Tests, SameTests, no_tests, joined_tests, tests_by, tests_by_report, told_by_tests};
@@ -47,19 +47,25 @@ pub fn same_answers_same_tests()
     ensures { (a b : Tests) → SameTests a b → a ≡ b }
 {}
 
-/// Tests join in any grouping, order and number to the same tests.
+/// Tests joined in any grouping, order and number come to the same tests.
 pub fn tests_form_a_join()
     ensures { JoinLaws (λ (t : Tests). Unit {0}) no_tests joined_tests }
 {}
 
-/// Tests are the same where they tell the same.
+/// Tests are the same exactly where they tell the same.
 pub fn same_tests_tell_the_same()
     ensures { (a b : Tests) → SameTests a b ↔ SameTold (told_by_tests a) (told_by_tests b) }
 {}
 
-/// Tests are the joined ones of two others where they tell what those two tell, and nothing else.
+/// Tests are the joined ones of two others exactly where they tell what those two tell, and nothing
+/// else.
 pub fn joined_tests_tell_both()
     ensures { (t a b : Tests) → SameTests t (joined_tests a b) ↔ TellsBoth (told_by_tests t) (told_by_tests a) (told_by_tests b) }
+{}
+
+/// A join of tests changes nothing exactly where all that comes is told already.
+pub fn joins_of_what_is_told_change_nothing()
+    ensures { (a b : Tests) → Covers joined_tests a b ↔ TellsAll (told_by_tests a) (told_by_tests b) }
 {}
 
 /// A list of reports tells what its tests tell.
@@ -67,7 +73,12 @@ pub fn lists_tell_as_their_tests()
     ensures { (rs : List (ReportKind PlanPair)) → SameTold (told_by rs) (told_by_tests (tests_by rs)) }
 {}
 
-/// Lists of reports have the same tests where they tell the same.
+/// A report tells what its tests tell.
+pub fn reports_tell_as_their_tests()
+    ensures { (r : ReportKind PlanPair) → SameTold (told_by_report r) (told_by_tests (tests_by_report r)) }
+{}
+
+/// Lists of reports have the same tests exactly where they tell the same.
 pub fn lists_with_the_same_tests_tell_the_same()
     ensures { (rs qs : List (ReportKind PlanPair)) → SameTests (tests_by rs) (tests_by qs) ↔ SameTold (told_by rs) (told_by qs) }
 {}

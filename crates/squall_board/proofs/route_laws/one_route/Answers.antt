@@ -1,0 +1,5 @@
+use Rattle.squall_board.specs.CourseRouteLaws.{one_route as the_law}
+use Rattle.squall_board.proofs.route_laws.one_route.Goals as goal
+
+pub returns : goal.returns
+returns c = the_law

@@ -1,0 +1,81 @@
+//! What callers of a borrowed board can learn of its counts and routes.
+
+ghost use Rattle.std.specs.Prelude.{◌≡◌, ℕ, List, IfOk};
+ghost use Rattle.squall_course.specs.Moves.{moves_of};
+ghost use Rattle.squall_report.specs.declared.report.ReportKind.{ReportKind};
+ghost use Rattle.squall_report.specs.Issues.{PlanPair};
+ghost use Rattle.squall_report.specs.Openings.{opened_by};
+ghost use Rattle.squall_board.specs.Boards.{HasTaken, says};
+ghost use Rattle.squall_board.specs.Route.{route};
+ghost use Rattle.squall_board.specs.CourseRoute.{route_by_newest, route_by_reports};
+ghost use Rattle.squall_board.specs.MovesRoute.{route_by_moves};
+
+use super::{NEW, OLD, course, issue};
+use crate::{Board, route_by_moves_is_the_route, taken_openings_count, taken_reports_route};
+use squall_course::{Course, CourseFault};
+use squall_key::{Key, PartId};
+use squall_report::Report;
+use std::alloc::Global;
+use std::test::Fail;
+
+/// How many sub-plans of the number are opened by the reports that the board has taken.
+fn opened_by_reports(board: &Board, number: u32) -> u32
+    ensures { (rs : List (ReportKind PlanPair)) → HasTaken board.now rs → result ≡ opened_by rs number }
+{
+    taken_openings_count(board);
+    board.opened(number)
+}
+
+/// The partition of the key by the newest course after the first one that the board tells of.
+fn newest_route(
+    alloc: Global,
+    first: &Course,
+    board: &Board,
+    key: Key,
+) -> Result<PartId, CourseFault>
+    ensures board { IfOk result (λ part. part ≡ route_by_newest first.now board.now key) }
+    ensures reports { IfOk result (λ part. (rs : List (ReportKind PlanPair)) → HasTaken board.now rs → part ≡ route_by_reports first.now rs key) }
+{
+    taken_reports_route(board);
+    match board.newest(first) {
+        Some((number, issue)) => {
+            let course = Course::new(alloc, number, issue.old(), issue.new_plan())?;
+            Ok(board.route(&course, key))
+        }
+        None => Ok(board.route(first, key)),
+    }
+}
+
+/// By the moves of a course each key has its route.
+fn moves_route(course: &Course, board: &Board)
+    ensures { (k : ℕ) → route_by_moves course.now.number course.now.old (moves_of course.now.old course.now.new) (says board.now) k ≡ route course.now (says board.now) k }
+{
+    let _moves = course.moves();
+    route_by_moves_is_the_route();
+}
+
+#[test]
+fn clients_of_routes(rt: HostRuntime) -> Result<(), Fail> {
+    let alloc = rt.alloc();
+    let first = course(alloc)?;
+    let key = Key::read("2:0").ok_or("key")?;
+    let mut board = Board::new(alloc);
+    moves_route(&first, &board);
+    assert_eq!(rt;
+        newest_route(alloc, &first, &board, key).ok(),
+        PartId::new(1)
+    );
+    board.take(&issue(alloc, 2, NEW, OLD)?)?;
+    assert_eq!(rt;
+        newest_route(alloc, &first, &board, key).ok(),
+        PartId::new(3)
+    );
+    board.take(&Report::done(2, 0, 1).ok_or("completion")?)?;
+    assert_eq!(rt;
+        newest_route(alloc, &first, &board, key).ok(),
+        PartId::new(1)
+    );
+    board.take(&Report::opened(2, 0).ok_or("opening")?)?;
+    assert!(rt; opened_by_reports(&board, 2) == 1 && opened_by_reports(&board, 1) == 0);
+    Ok(())
+}
