@@ -14,6 +14,7 @@ pub mod BoardLaws
 pub mod Listed
 pub mod ListedLaws
 pub mod OneListLaws
+pub mod PlaceLaws
 pub mod Route
 pub mod Equal
 pub mod EqualLaws
