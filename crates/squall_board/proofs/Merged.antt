@@ -5,7 +5,6 @@ use Rattle.std.proofs.lemmas.List.{take_more}
 use Rattle.std.proofs.lemmas.Result.{on_ok_weaker}
 use Rattle.std.specs.declared.alloc.AllocError.{AllocError}
 use Rattle.std.specs.Ordering.{nat_cmp}
-use Rattle.squall_join.specs.Pairs.{pair_of}
 use Rattle.squall_join.specs.PairLaws.{same_pair}
 use Rattle.squall_join.specs.Entries.{merged}
 use Rattle.squall_report.specs.declared.report.ReportKind.{ReportKind}

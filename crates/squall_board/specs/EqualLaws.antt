@@ -1,5 +1,5 @@
 -- The comparison of boards tells them apart.
-use Rattle.std.specs.Prelude.{◌≡◌, ℕ, Bool, true, false, ◌&&◌, ◌==◌, IsTrue, ◌↔◌, List, refl}
+use Rattle.std.specs.Prelude.{◌≡◌, ℕ, Bool, true, false, ◌&&◌, ◌==◌, IsTrue, ◌↔◌, refl}
 use Rattle.std.proofs.Common.{ap, ◌∙◌, sym, arith, Decides}
 use Rattle.std.proofs.lemmas.Bool.{true≢false}
 use Rattle.std.proofs.lemmas.Bool.Decides.{nat_tests}
@@ -12,7 +12,7 @@ use Rattle.squall_join.specs.declared.flat.Flat.TheVariants.{Unknown, One, Clash
 use Rattle.squall_join.specs.PairLaws.{same_pair}
 use Rattle.squall_report.specs.Issues.{PlanPair, is_same_pair}
 use Rattle.squall_report.specs.IssueLaws.{same_pairs_are_equal}
-use Rattle.squall_board.specs.Boards.{CellValue, BoardValue, openings_in, issues_in, cells_in}
+use Rattle.squall_board.specs.Boards.{BoardValue, openings_in, issues_in, cells_in}
 use Rattle.squall_board.specs.Equal.{is_same_flat, are_same_entries, is_same_flag, is_same_cell_value, is_same_board}
 
 abbrev Tells : {V : Type 0} → (V → V → Bool) → Type 0

@@ -18,7 +18,7 @@ use Rattle.squall_join.specs.MapLaws.{first, second}
 use Rattle.squall_join.specs.Looked.{looked}
 use Rattle.squall_join.specs.Facts.{max_says, flag_says, pair_says, map_says, found_says}
 use Rattle.squall_report.specs.Issues.{PlanPair}
-use Rattle.squall_report.specs.Cells.{CellPlace, place_at, is_cell_place, cell_cmp}
+use Rattle.squall_report.specs.Cells.{CellPlace, place_at, is_cell_place}
 use Rattle.squall_report.specs.Facts.{Fact, LoadedKey, DonePart, OpenedSub, is_opening}
 use Rattle.squall_report.specs.Told.{both_issued, SameTold}
 use Rattle.squall_report.specs.ToldLaws.{issued_neutral}
@@ -33,7 +33,7 @@ pub or_none : (a b : Bool) → b ≡ false → a ≡ (a || b)
 or_none true b e = refl
 or_none false b e = sym e
 
-same_key : (k : ℕ) → (k == k) ≡ true
+pub same_key : (k : ℕ) → (k == k) ≡ true
 same_key k = grind (arith, nat_tests)
 
 other_key : (k q : ℕ) → q < k → (k == q) ≡ false
@@ -54,7 +54,7 @@ T_true false t = absurd t
 
 -- ---- lists
 
-all_both : {X : Type 0} (P Q R : X → Type 0) (xs : List X) → AllByRecursion P xs → AllByRecursion Q xs → ((x : X) → P x → Q x → R x) → AllByRecursion R xs
+pub all_both : {X : Type 0} (P Q R : X → Type 0) (xs : List X) → AllByRecursion P xs → AllByRecursion Q xs → ((x : X) → P x → Q x → R x) → AllByRecursion R xs
 all_both P Q R [] p q f = tt
 all_both P Q R (x ∷ xs) p q f = (f x p.0 q.0, all_both P Q R xs p.1 q.1 f)
 
@@ -70,7 +70,7 @@ all_append : {X : Type 0} (P : X → Type 0) (xs ys : List X) → AllByRecursion
 all_append P [] ys p q = q
 all_append P (x ∷ xs) ys p q = (p.0, all_append P xs ys p.1 q)
 
-all_flat : {X Y : Type 0} (g : X → List Y) (P : Y → Type 0) (xs : List X) → AllByRecursion (λ x. AllByRecursion P (g x)) xs → AllByRecursion P (flat_map g xs)
+pub all_flat : {X Y : Type 0} (g : X → List Y) (P : Y → Type 0) (xs : List X) → AllByRecursion (λ x. AllByRecursion P (g x)) xs → AllByRecursion P (flat_map g xs)
 all_flat g P [] p = tt
 all_flat g P (x ∷ xs) p = all_append P (g x) (flat_map g xs) p.0 (all_flat g P xs p.1)
 
@@ -109,7 +109,7 @@ abbrev pub KeysRise : {V : Type 0} → List (ℕ × V) → Type 0
 KeysRise [] = Unit {0}
 KeysRise (e ∷ es) = AllByRecursion (λ d. e.0 < d.0) es × KeysRise es
 
-keys_rise : {V : Type 0} (es : List (ℕ × V)) → T (is_sorted nat_cmp es) → KeysRise es
+pub keys_rise : {V : Type 0} (es : List (ℕ × V)) → T (is_sorted nat_cmp es) → KeysRise es
 keys_rise [] t = tt
 keys_rise (e ∷ es) t = (below_keys e.0 es (first _ _ t), keys_rise es (second _ _ t))
 
@@ -260,7 +260,7 @@ in_subs n subs = all_flat (λ e. cells_of_parts n e.0 e.1) (λ c. c.cell.number 
 after_number : (n : ℕ) (numbers : Cells) → AllByRecursion (λ e. n < e.0) numbers → AllByRecursion (λ c. n < c.cell.number) (cells_of_numbers numbers)
 after_number n numbers h = all_flat (λ e. cells_of_subs e.0 e.1) (λ c. n < c.cell.number) numbers (all_weaker (λ e. n < e.0) (λ e. AllByRecursion (λ c. n < c.cell.number) (cells_of_subs e.0 e.1)) numbers h (λ e lt. all_weaker (λ c. c.cell.number ≡ e.0) (λ c. n < c.cell.number) (cells_of_subs e.0 e.1) (in_subs e.0 e.1) (λ c is. subst (λ m. n < m) (sym is) lt)))
 
-abbrev SubsRise : Subs → Type 0
+abbrev pub SubsRise : Subs → Type 0
 SubsRise subs = KeysRise subs × AllByRecursion (λ e. KeysRise e.1) subs
 
 numbers_rise : (numbers : Cells) → KeysRise numbers → AllByRecursion (λ e. SubsRise e.1) numbers → CellsRise (cells_of_numbers numbers)
@@ -270,7 +270,7 @@ numbers_rise (e ∷ es) r t = rise_append (λ c. c.cell.number ≡ e.0) (λ c. e
 subs_keys : (subs : Subs) → subs_are subs → SubsRise subs
 subs_keys subs m = (keys_rise subs m.sorted, all_weaker (λ e. IsKept parts_are [] e.1) (λ e. KeysRise e.1) subs m.kept (λ e k. keys_rise e.1 k.0.sorted))
 
-numbers_keys : (numbers : Cells) → numbers_are numbers → AllByRecursion (λ e. SubsRise e.1) numbers
+pub numbers_keys : (numbers : Cells) → numbers_are numbers → AllByRecursion (λ e. SubsRise e.1) numbers
 numbers_keys numbers m = all_weaker (λ e. IsKept subs_are [] e.1) (λ e. SubsRise e.1) numbers m.kept (λ e k. subs_keys e.1 k.0)
 
 -- ---- what cells say

@@ -1,5 +1,5 @@
 -- What lists the openings, the issues or the cells of a board is the board's own list of them.
-use Rattle.std.specs.Prelude.{◌≡◌, ◌≢◌, ℕ, ◌<◌, ◌≤◌, ◌==◌, nat_lt, Bool, true, false, cond, ◌||◌, ◌&&◌, T, map, List, [], ◌∷◌, Some, None, Option, ◌⊎◌, refl}
+use Rattle.std.specs.Prelude.{◌≡◌, ◌≢◌, ℕ, ◌<◌, ◌==◌, Bool, true, false, cond, ◌||◌, ◌&&◌, T, map, List, [], ◌∷◌, Some, refl}
 use Rattle.std.proofs.Common.{sym, ap, subst, ◌∙◌, arith, inl, inr, Less, Equal, Greater}
 use Rattle.std.proofs.lemmas.Bool.{true≢false}
 use Rattle.std.proofs.lemmas.Bool.Decides.{nat_tests}
@@ -9,26 +9,21 @@ use Rattle.std.specs.declared.cmp.Ordering.{Ordering}
 use Rattle.std.specs.Ordering.{nat_cmp, is_eq, is_lt, ordering_then}
 use Rattle.std.specs.Cmp.{IsTotalOrder, nat_cmp_total, on_total, then_total, first_so, second_so}
 use Rattle.std.specs.FinMap.Entries.{find, is_sorted, below_all}
-use Rattle.squall_span.specs.Spans.{has}
 use Rattle.squall_join.specs.declared.flat.Flat.{Flat}
 use Rattle.squall_join.specs.declared.flat.Flat.TheVariants.{Unknown}
 use Rattle.squall_join.specs.Basic.{is_max}
-use Rattle.squall_join.specs.BasicLaws.{flag_laws}
-use Rattle.squall_join.specs.SetLaws.{set_laws}
-use Rattle.squall_join.specs.PairLaws.{pair_laws}
 use Rattle.squall_join.specs.Entries.{IsKept, IsMap, merged}
 use Rattle.squall_join.specs.LookedLaws.{same_looked_map}
-use Rattle.squall_join.specs.Facts.{Factual, max_says, flag_says, pair_says, map_says, found_says}
+use Rattle.squall_join.specs.Facts.{Factual, max_says, map_says, found_says}
 use Rattle.squall_join.specs.FactLaws.{flag_factual, set_factual, pair_factual, map_factual}
 use Rattle.squall_report.specs.Issues.{PlanPair}
 use Rattle.squall_report.specs.Cells.{CellPlace, place_at, is_same_cell, cell_cmp}
-use Rattle.squall_report.specs.Facts.{LoadedKey, DonePart, OpenedSub}
 use Rattle.squall_report.specs.ToldLaws.{any_flat}
 use Rattle.squall_board.specs.declared.opening.Opening.{Opening}
-use Rattle.squall_board.specs.Boards.{CellValue, Openings, BoardValue, openings_in, issues_in, cell_is, cell_bottom, cell_join, issue_is, count_says, IsBoard}
+use Rattle.squall_board.specs.Boards.{CellValue, BoardValue, openings_in, issues_in, cell_is, cell_bottom, cell_join, issue_is, IsBoard}
 use Rattle.squall_board.specs.BoardLaws.{openings_factual, cell_laws}
 use Rattle.squall_board.specs.Listed.{CellEntry, IsCell, cell_entry, entry_value, has_spans, cells_of, ComesBefore, CellsRise, AreCells, openings_of, openings_of_counts, IsOpening, OpeningsRise, AreOpenings, issues_of, IssuesRise, AreIssues}
-use Rattle.squall_board.specs.ListedLaws.{or_none, all_weaker, all_map, any_none, any_map, cmp_eq, T_true, KeysRise, says_some, issue_some, CellFact, says_cell, cells_listed}
+use Rattle.squall_board.specs.ListedLaws.{or_none, all_weaker, all_map, any_none, any_map, cmp_eq, KeysRise, says_some, issue_some, CellFact, says_cell, cells_listed}
 
 -- ---- lists that rise are maps
 
@@ -54,7 +49,6 @@ keys_sorted (e ∷ es) h = both_T _ _ (keys_below e.0 es h.0) (keys_sorted es h.
 
 abbrev as_count : Opening → ℕ × ℕ
 as_count o = (o.number, o.count)
-
 
 counts_back : (os : List Opening) → openings_of_counts (map as_count os) ≡ os
 counts_back [] = refl

@@ -9,6 +9,7 @@ mod list;
 mod listed;
 mod newest;
 mod opening;
+mod places;
 mod put;
 mod route_laws;
 mod update;
@@ -25,8 +26,8 @@ pub use laws::{
     boards_with_the_same_reports_are_equal, facts_lie_within_the_limits,
 };
 pub use listed::{
-    lists_make_an_equal_board, lists_tell_what_the_board_tells, one_list_of_cells,
-    one_list_of_issues, one_list_of_openings,
+    cells_stand_at_their_places, lists_make_an_equal_board, lists_tell_what_the_board_tells,
+    one_list_of_cells, one_list_of_issues, one_list_of_openings,
 };
 pub use opening::Opening;
 pub use route_laws::{

@@ -167,7 +167,11 @@ impl Board {
     }
 
     /// Takes what is issued under the number.
-    pub(crate) fn update_issue(&mut self, number: u32, issuing: Issuing<'_>) -> Result<(), AllocError>
+    pub(crate) fn update_issue(
+        &mut self,
+        number: u32,
+        issuing: Issuing<'_>,
+    ) -> Result<(), AllocError>
         requires { 1 ≤ number }
         ensures board { OnOk result (self.new ≡ board_join self.old (issue_board number (issuing_value issuing.entry))) }
         ensures told { OnOk result (TellsBoth (told self.new) (told self.old) (told (issue_board number (issuing_value issuing.entry)))) }

@@ -1,7 +1,7 @@
 //! Where an allocation fails a board is as it was.
 
-use crate::{Board, Opening};
 use crate::tests::{load, two_reports};
+use crate::{Board, Opening};
 use squall_join::Flat;
 use squall_report::Report;
 use std::alloc::Global;

@@ -1,4 +1,4 @@
-use Rattle.std.proofs.Common.{◌≡◌, ap, ◌∙◌, [], ◌∷◌, true, false}
+use Rattle.std.proofs.Common.{ap, ◌∙◌, [], ◌∷◌, true, false}
 use Rattle.squall_join.specs.Pairs.{pair_of}
 use Rattle.squall_board.specs.Boards.{report_board, cell_board}
 use Rattle.squall_board.proofs.Merged.{took, took_tells}
