@@ -7,6 +7,7 @@ pub mod State
 pub mod Stages
 pub mod Requests
 pub mod BoardText
+pub mod BoardPlaces
 pub mod Replies
 pub mod Answered
 pub mod Text

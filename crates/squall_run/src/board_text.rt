@@ -3,11 +3,13 @@
 ghost use Rattle.std.specs.Prelude.{◌≡◌, ◌++◌, OnOk, map, string_bytes};
 ghost use Rattle.std.specs.Arc.{arc_value};
 ghost use Rattle.squall_join.specs.Flats.{flat_map};
-ghost use Rattle.squall_run.specs.BoardText.{opening_lines, line_of_issue, issue_lines, text_of_complete, next_spans, cell_line, cell_lines, text_of_lists, board_text};
+ghost use Rattle.squall_board.specs.Listed.{cell_entry};
+ghost use Rattle.squall_run.specs.BoardText.{opening_lines, line_of_issue, issue_lines, text_of_complete, next_spans, cell_line, board_text};
+ghost use Rattle.squall_run.specs.BoardPlaces.{line_at, lines_at, text_of_places};
 
-use squall_board::{Board, Cell, Opening};
+use squall_board::{Board, CellParts, Opening, cells_stand_at_their_places};
 use squall_join::Flat;
-use squall_report::Issue;
+use squall_report::{CellId, Issue};
 use squall_span::Span;
 use std::alloc::AllocError;
 use std::sync::Arc;
@@ -62,53 +64,67 @@ fn add_spans(spans: &[Span], out: &mut String) -> Result<(), AllocError>
     Ok(())
 }
 
-/// Adds the line of the cell.
-fn add_cell(cell: &Cell, out: &mut String) -> Result<(), AllocError>
-    ensures { OnOk result (string_bytes out.new ≡ string_bytes out.old ++ cell_line cell.now) }
+/// Adds the line of a cell at its place.
+fn add_cell(place: CellId, cell: &CellParts, out: &mut String) -> Result<(), AllocError>
+    ensures { OnOk result (string_bytes out.new ≡ string_bytes out.old ++ cell_line (cell_entry place cell.now)) }
 {
-    let number = cell.number();
-    let sub = cell.sub();
-    let part = cell.part();
-    let complete = complete_text(cell.complete());
+    let number = place.number();
+    let sub = place.sub();
+    let part = place.part();
+    let complete = complete_text(cell.second.get());
     write!(out, "cell {number} {sub} {part} {complete}")?;
-    add_spans(cell.spans().spans(), out)?;
+    add_spans(cell.first.spans(), out)?;
     write!(out, "\n")
 }
 
-/// Adds the lines of the cells.
-fn add_cells(cells: &[Cell], out: &mut String) -> Result<(), AllocError>
-    ensures { OnOk result (string_bytes out.new ≡ string_bytes out.old ++ cell_lines cells.now) }
+/// Adds the line of what the board has at the place.
+fn add_place(board: &Board, place: CellId, out: &mut String) -> Result<(), AllocError>
+    ensures { OnOk result (string_bytes out.new ≡ string_bytes out.old ++ line_at board.now place) }
 {
-    for cell in cells {
-        add_cell(cell, out)?;
+    match board.cell_at(place) {
+        Some(cell) => add_cell(place, cell, out),
+        None => Ok(()),
+    }
+}
+
+/// Adds the lines of what the board has at the places.
+fn add_places(board: &Board, places: &[CellId], out: &mut String) -> Result<(), AllocError>
+    ensures { OnOk result (string_bytes out.new ≡ string_bytes out.old ++ lines_at board.now places.now) }
+{
+    for place in places {
+        add_place(board, *place, out)?;
     }
     Ok(())
 }
 
-/// Adds the lines of a board's lists.
+/// Adds the lines of openings, of what is issued, and of what the board has at the places, or
+/// `empty`.
 fn add_lists(
     openings: &[Opening],
     issues: &[(u32, Flat<Arc<Issue>>)],
-    cells: &[Cell],
+    board: &Board,
+    places: &[CellId],
     out: &mut String,
 ) -> Result<(), AllocError>
-    ensures { OnOk result (string_bytes out.new ≡ string_bytes out.old ++ text_of_lists openings.now (map (λ e. (e.0, flat_map arc_value e.1)) issues.now) cells.now) }
+    ensures { OnOk result (string_bytes out.new ≡ string_bytes out.old ++ text_of_places openings.now (map (λ e. (e.0, flat_map arc_value e.1)) issues.now) board.now places.now) }
 {
-    if openings.is_empty() && issues.is_empty() && cells.is_empty() {
+    if openings.is_empty() && issues.is_empty() && places.is_empty() {
         return write!(out, "empty\n");
     }
     add_openings(openings, out)?;
     add_issues(issues, out)?;
-    add_cells(cells, out)
+    add_places(board, places, out)
 }
 
 /// Adds what the board tells: a line for each number with openings, for each number under which
-/// plans are issued, and for each cell, or `empty`.
+/// plans are issued, and for each cell, or `empty`. It copies no keys.
+#[tactic(auto, using(crate::proofs::Placed::places_tell_the_board))]
 pub(crate) fn add_board(board: &Board, out: &mut String) -> Result<(), AllocError>
     ensures { OnOk result (string_bytes out.new ≡ string_bytes out.old ++ board_text board.now) }
 {
+    cells_stand_at_their_places(board);
     let openings = board.openings()?;
     let issues = board.issues()?;
-    let cells = board.cells()?;
-    add_lists(&openings, &issues, &cells, out)
+    let places = board.places()?;
+    add_lists(&openings, &issues, board, &places, out)
 }

@@ -1,7 +1,0 @@
-use Rattle.std.specs.Prelude.{string_bytes}
-use Rattle.std.proofs.Common.{◌≡◌, ◌++◌, drop}
-use Rattle.squall_run.specs.BoardText.{cell_lines}
-use Rattle.squall_run.proofs.board_text.add_cells.Given as goal
-
-abbrev pub invariant-loop-cell : goal.invariant-loop-cell
-invariant-loop-cell l = string_bytes l.out ++ cell_lines (drop l.cell-index l.cells) ≡ string_bytes l.fn.out ++ cell_lines l.cells
