@@ -2,7 +2,7 @@
 use Rattle.std.specs.Prelude.{◌≡◌, ◌≢◌, ℕ, ◌<◌, ◌≤◌, true, false, List, [], ◌∷◌, refl}
 use Rattle.std.proofs.Common.{◌∙◌, arith, inl, inr}
 use Rattle.std.proofs.lemmas.Bool.{cases_Bool}
-use Rattle.squall_key.specs.Keys.{top, part_limit}
+use Rattle.squall_key.specs.Keys.{part_limit}
 use Rattle.squall_span.specs.SpanLaws.{inside, outside_below, outside_above}
 use Rattle.squall_plan.specs.declared.range.PlanRange.{PlanRange}
 use Rattle.squall_plan.specs.Ranges.{range_has, owner_of, AreRanges, AreParts, IsTiling, Differ, DifferFrom}

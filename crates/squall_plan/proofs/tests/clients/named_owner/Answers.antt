@@ -1,4 +1,4 @@
-use Rattle.std.proofs.Common.{◌≡◌, ap, ◌∙◌, true}
+use Rattle.std.proofs.Common.{ap, ◌∙◌}
 use Rattle.squall_plan.specs.Ranges.{names}
 use Rattle.squall_plan.proofs.tests.clients.named_owner.Goals as goal
 
