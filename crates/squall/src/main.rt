@@ -1,7 +1,7 @@
 //! The program: does what its words ask for, over the files of the system.
 //!
 //! Its status is 0 where all went well, 1 where the input was refused, 2 where the words ask for
-//! nothing that there is, 3 where a device failed and 4 where memory was wanting. What stopped it
+//! nothing that there is, 3 where a device failed and 4 where an allocation failed. What stopped it
 //! stands on standard error.
 #![tactic(auto)]
 
@@ -11,7 +11,7 @@ use std::io::ErrorKind;
 use std::process::ExitCode;
 use std::{env, io};
 
-/// The files of the system.
+/// The files of the system, of which no proof knows the bytes.
 #[derive(Drop)]
 struct SystemFiles<'a> {
     rt: &'a HostRuntime,

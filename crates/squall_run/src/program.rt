@@ -56,9 +56,11 @@ fn show_fault<'a, E: Sink>(alloc: Global, words: &'a [&'a str], err: &mut E) -> 
 ///   `err` says which.
 /// - 4: an allocation failed, as `err` says.
 ///
-/// After a fault `out` has what [`run_text`] and [`check_text`] say.
+/// After a fault `out` has what [`run_text`], [`check_text`] and [`course_text`] say.
 ///
+/// [`run_text`]: crate::run_text
 /// [`check_text`]: crate::check_text
+/// [`course_text`]: crate::course_text
 pub fn perform<'a, F: Files, S: Source, O: Sink, E: Sink>(
     alloc: Global,
     words: &'a [&'a str],
