@@ -48,22 +48,12 @@ fn clients_of_routes(rt: HostRuntime) -> Result<(), Fail> {
     let alloc = rt.alloc();
     let first = course(alloc)?;
     let key = Key::read("2:0").ok_or("key")?;
-    let mut board = Board::new(alloc);
-    assert_eq!(rt;
-        newest_route(alloc, &first, &board, key).ok(),
-        PartId::new(1)
-    );
-    board.take(&issue(alloc, 2, NEW, OLD)?)?;
-    assert_eq!(rt;
-        newest_route(alloc, &first, &board, key).ok(),
-        PartId::new(3)
-    );
-    board.take(&Report::done(2, 0, 1).ok_or("completion")?)?;
-    assert_eq!(rt;
-        newest_route(alloc, &first, &board, key).ok(),
-        PartId::new(1)
-    );
-    board.take(&Report::opened(2, 0).ok_or("opening")?)?;
-    assert!(rt; opened_by_reports(&board, 2) == 1 && opened_by_reports(&board, 1) == 0);
+    let reports = [
+        issue(alloc, 2, NEW, OLD)?,
+        Report::opened(2, 0).ok_or("opening")?,
+    ];
+    let taken = super::board(alloc, &reports)?;
+    assert!(rt; newest_route(alloc, &first, &taken, key).ok() == PartId::new(3));
+    assert!(rt; opened_by_reports(&taken, 2) == 1);
     Ok(())
 }
