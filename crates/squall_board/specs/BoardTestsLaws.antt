@@ -1,34 +1,25 @@
 -- Laws of the tests of boards.
-use Rattle.std.specs.Prelude.{◌≡◌, ℕ, nat_lt, ◌||◌, List, Option, None, Some, ◌↔◌, refl}
+use Rattle.std.specs.Prelude.{◌≡◌, ℕ, ◌||◌, List, ◌↔◌, refl}
 use Rattle.std.proofs.Common.{sym, ap, ◌∙◌}
-use Rattle.std.specs.Ordering.{nat_cmp}
-use Rattle.std.specs.FinMap.Entries.{find}
-use Rattle.squall_join.specs.Looked.{looked}
-use Rattle.squall_join.specs.Facts.{max_says, found_says}
 use Rattle.squall_report.specs.declared.report.ReportKind.{ReportKind}
 use Rattle.squall_report.specs.Issues.{PlanPair}
 use Rattle.squall_report.specs.Facts.{Fact, LoadedKey, DonePart, OpenedSub}
 use Rattle.squall_report.specs.Told.{Told, both_issued, told_by_report, told_by, SameTold, TellsBoth}
 use Rattle.squall_report.specs.Openings.{opened_by}
-use Rattle.squall_report.specs.OpeningsLaws.{none_below}
 use Rattle.squall_report.specs.Newest.{newest_by}
 use Rattle.squall_report.specs.NewestLaws.{one_newest, newest_same, newest_of_reports}
 use Rattle.squall_report.specs.Tests.{Tests, SameTests, joined_tests, tests_by, tests_by_report, tests_say, told_by_tests}
 use Rattle.squall_report.specs.TestsLaws.{told_by_same, told_by_joined, told_by_its_tests, report_told_by_tests}
-use Rattle.squall_board.specs.Boards.{BoardValue, openings_in, opened_count, issued, says, told, IsBoard, HasTaken}
-use Rattle.squall_board.specs.BoardLaws.{same_board}
+use Rattle.squall_board.specs.Boards.{BoardValue, opened_count, issued, says, told, IsBoard, HasTaken}
+use Rattle.squall_board.specs.BoardLaws.{same_board, opened_found}
 use Rattle.squall_board.specs.Newest.{newest_of}
 use Rattle.squall_board.specs.NewestLaws.{newest_is_greatest}
 use Rattle.squall_board.specs.BoardTests.{tests_of}
 
-found_counts : (x : Option ℕ) (s : ℕ) → found_says max_says x s ≡ nat_lt s (looked 0 x)
-found_counts None s = none_below s
-found_counts (Some count) s = refl
-
 board_says_by_tests : (b : BoardValue) (f : Fact) → says b f ≡ tests_say (tests_of b) f
 board_says_by_tests b (LoadedKey c k) = refl
 board_says_by_tests b (DonePart c) = refl
-board_says_by_tests b (OpenedSub n s) = found_counts (find nat_cmp n (openings_in b)) s
+board_says_by_tests b (OpenedSub n s) = opened_found b n s
 
 -- a board tells what its tests tell
 pub board_told_by_tests : (b : BoardValue) → SameTold (told b) (told_by_tests (tests_of b))

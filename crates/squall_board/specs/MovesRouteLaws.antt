@@ -4,10 +4,8 @@ use Rattle.std.proofs.Common.{sym, ap, ◌∙◌, arith, inl, inr}
 use Rattle.std.proofs.lemmas.Bool.{true≢false}
 use Rattle.std.proofs.lemmas.Bool.Decides.{nat_tests}
 use Rattle.std.specs.List.{AllByRecursion}
-use Rattle.std.specs.Ordering.{nat_cmp}
-use Rattle.std.specs.FinMap.Entries.{find}
 use Rattle.squall_span.specs.Spans.{has}
-use Rattle.squall_join.specs.Facts.{flag_says, pair_says, map_says, found_says}
+use Rattle.squall_join.specs.Facts.{flag_says, pair_says, found_says}
 use Rattle.squall_plan.specs.declared.range.PlanRange.{PlanRange}
 use Rattle.squall_plan.specs.Ranges.{owner_of}
 use Rattle.squall_course.specs.Change.{Change}
@@ -16,7 +14,8 @@ use Rattle.squall_course.specs.Subplans.{moves, sub_at, sub_of}
 use Rattle.squall_course.specs.Moves.{AreMoves, IsMove, in_moves, move_has}
 use Rattle.squall_report.specs.Cells.{CellPlace, place_at}
 use Rattle.squall_report.specs.Facts.{Fact}
-use Rattle.squall_board.specs.Boards.{CellValue, Parts, Subs, BoardValue, cells_in, says, found_in, cell_of}
+use Rattle.squall_board.specs.Boards.{CellValue, BoardValue, says, cell_of}
+use Rattle.squall_board.specs.BoardLaws.{come_found}
 use Rattle.squall_board.specs.Route.{has_come, route}
 use Rattle.squall_board.specs.MovesRoute.{has_come_to, cell_has_come, route_in_move, route_by_moves}
 
@@ -63,19 +62,10 @@ route_by_moves_is c says ms k are = by_cases c says ms k are.each (moves c.old c
 
 -- ---- by the board's cells
 
-found_part : (x : Option CellValue) (k : ℕ) → (found_says (pair_says has flag_says) x (inl k) || found_says (pair_says has flag_says) x (inr tt)) ≡ cell_has_come x k
-found_part None k = refl
-found_part (Some cell) k = refl
+found_come : (x : Option CellValue) (k : ℕ) → (found_says (pair_says has flag_says) x (inl k) || found_says (pair_says has flag_says) x (inr tt)) ≡ cell_has_come x k
+found_come None k = refl
+found_come (Some cell) k = refl
 
-found_sub : (x : Option Parts) (p k : ℕ)
-    → (found_says (map_says nat_cmp (pair_says has flag_says)) x (p, inl k) || found_says (map_says nat_cmp (pair_says has flag_says)) x (p, inr tt)) ≡ cell_has_come (found_in p x) k
-found_sub None p k = refl
-found_sub (Some parts) p k = found_part (find nat_cmp p parts) k
-
-found_number : (x : Option Subs) (s p k : ℕ)
-    → (found_says (map_says nat_cmp (map_says nat_cmp (pair_says has flag_says))) x (s, (p, inl k)) || found_says (map_says nat_cmp (map_says nat_cmp (pair_says has flag_says))) x (s, (p, inr tt))) ≡ cell_has_come (found_in p (found_in s x)) k
-found_number None s p k = refl
-found_number (Some subs) s p k = found_sub (find nat_cmp s subs) p k
-
+-- whether a key has come to a cell is said by the board's cell
 pub cell_says_what_came : (b : BoardValue) (cell : CellPlace) (k : ℕ) → has_come_to (says b) cell k ≡ cell_has_come (cell_of b cell) k
-cell_says_what_came b cell k = found_number (find nat_cmp cell.number (cells_in b)) cell.sub cell.part k
+cell_says_what_came b cell k = sym (come_found b cell k (cell_of b cell) refl) ∙ found_come (cell_of b cell) k

@@ -1,17 +1,14 @@
 //! What callers of a borrowed board can learn of its counts and routes.
 
-ghost use Rattle.std.specs.Prelude.{◌≡◌, ℕ, List, IfOk};
-ghost use Rattle.squall_course.specs.Moves.{moves_of};
+ghost use Rattle.std.specs.Prelude.{◌≡◌, List, IfOk};
 ghost use Rattle.squall_report.specs.declared.report.ReportKind.{ReportKind};
 ghost use Rattle.squall_report.specs.Issues.{PlanPair};
 ghost use Rattle.squall_report.specs.Openings.{opened_by};
-ghost use Rattle.squall_board.specs.Boards.{HasTaken, says};
-ghost use Rattle.squall_board.specs.Route.{route};
+ghost use Rattle.squall_board.specs.Boards.{HasTaken};
 ghost use Rattle.squall_board.specs.CourseRoute.{route_by_newest, route_by_reports};
-ghost use Rattle.squall_board.specs.MovesRoute.{route_by_moves};
 
 use super::{NEW, OLD, course, issue};
-use crate::{Board, route_by_moves_is_the_route, taken_openings_count, taken_reports_route};
+use crate::{Board, taken_openings_count, taken_reports_route};
 use squall_course::{Course, CourseFault};
 use squall_key::{Key, PartId};
 use squall_report::Report;
@@ -46,36 +43,17 @@ fn newest_route(
     }
 }
 
-/// By the moves of a course each key has its route.
-fn moves_route(course: &Course, board: &Board)
-    ensures { (k : ℕ) → route_by_moves course.now.number course.now.old (moves_of course.now.old course.now.new) (says board.now) k ≡ route course.now (says board.now) k }
-{
-    let _moves = course.moves();
-    route_by_moves_is_the_route();
-}
-
 #[test]
 fn clients_of_routes(rt: HostRuntime) -> Result<(), Fail> {
     let alloc = rt.alloc();
     let first = course(alloc)?;
     let key = Key::read("2:0").ok_or("key")?;
-    let mut board = Board::new(alloc);
-    moves_route(&first, &board);
-    assert_eq!(rt;
-        newest_route(alloc, &first, &board, key).ok(),
-        PartId::new(1)
-    );
-    board.take(&issue(alloc, 2, NEW, OLD)?)?;
-    assert_eq!(rt;
-        newest_route(alloc, &first, &board, key).ok(),
-        PartId::new(3)
-    );
-    board.take(&Report::done(2, 0, 1).ok_or("completion")?)?;
-    assert_eq!(rt;
-        newest_route(alloc, &first, &board, key).ok(),
-        PartId::new(1)
-    );
-    board.take(&Report::opened(2, 0).ok_or("opening")?)?;
-    assert!(rt; opened_by_reports(&board, 2) == 1 && opened_by_reports(&board, 1) == 0);
+    let reports = [
+        issue(alloc, 2, NEW, OLD)?,
+        Report::opened(2, 0).ok_or("opening")?,
+    ];
+    let taken = super::board(alloc, &reports)?;
+    assert!(rt; newest_route(alloc, &first, &taken, key).ok() == PartId::new(3));
+    assert!(rt; opened_by_reports(&taken, 2) == 1);
     Ok(())
 }
