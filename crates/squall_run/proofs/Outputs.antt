@@ -24,8 +24,8 @@ refusal_ends : (which : List ℕ) (fault : PlanFault) → no_lf which ≡ true �
 refusal_ends which fault h = (
   which ++ (text_of_fault fault ++ []),
   last_is (refusal which fault) [] (word ++ (which ++ (text_of_fault fault ++ [])))
-  (spells_glued word (which ++ (text_of_fault fault ++ codes "\n")) (which ++ (text_of_fault fault ++ [])) [] refl
-  (spells_glued which (text_of_fault fault ++ codes "\n") (text_of_fault fault ++ []) [] h (spells_glued (text_of_fault fault) (codes "\n") [] [] (fault_no_lf fault) spells_lf))),
+      (spells_glued word (which ++ (text_of_fault fault ++ codes "\n")) (which ++ (text_of_fault fault ++ [])) [] refl
+      (spells_glued which (text_of_fault fault ++ codes "\n") (text_of_fault fault ++ []) [] h (spells_glued (text_of_fault fault) (codes "\n") [] [] (fault_no_lf fault) spells_lf))),
 )
 
 -- ---- check

@@ -126,7 +126,7 @@ bad_refuses n reason = (
   n,
   reason,
   subst (λ text. Spells text (bad_line n reason ∷ [])) (sym (append-nil (bad_line n reason ++ codes "\n")))
-  (subst (λ line. Spells (bad_line n reason ++ codes "\n") (line ∷ [])) (append-nil (bad_line n reason)) (spells_glued (bad_line n reason) (codes "\n") [] [] (bad_line_no_lf n reason) spells_lf)),
+      (subst (λ line. Spells (bad_line n reason ++ codes "\n") (line ∷ [])) (append-nil (bad_line n reason)) (spells_glued (bad_line n reason) (codes "\n") [] [] (bad_line_no_lf n reason) spells_lf)),
 )
 
 more_refuses : (a b : List ℕ) → Lacks bad a → Refuses b → Refuses (a ++ b)

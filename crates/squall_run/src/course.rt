@@ -6,8 +6,8 @@ ghost use Rattle.squall_device.specs.Counts.{IsCountedSince};
 ghost use Rattle.squall_run.specs.Output.{move_lines, count_lines, course_lines, course_of, IsReady, IsWritten};
 
 use crate::check::add_refusal;
-use crate::replies::{first_course, read_plan};
 use crate::output::write_output;
+use crate::replies::{first_course, read_plan};
 use squall_course::{Course, Move};
 use squall_device::Sink;
 use squall_lines::{Ended, RunFault};

@@ -10,7 +10,11 @@ use squall_lines::{Ended, RunFault, send_text};
 
 /// Writes the text, and answers what it ended in. After a write fault the writer took a prefix of
 /// it.
-pub(crate) fn write_output<K: Sink>(writer: &mut K, ended: Ended, text: &str) -> Result<Ended, RunFault>
+pub(crate) fn write_output<K: Sink>(
+    writer: &mut K,
+    ended: Ended,
+    text: &str,
+) -> Result<Ended, RunFault>
     ensures written { (output : Output) → IsReady ended text.now output
         → (written : List ℕ) × Appends (K.contents writer.old) (K.contents writer.new) written × IsWritten result output written }
     ensures unread { result ≢ Err RunFault.Read }

@@ -176,14 +176,6 @@ pub(crate) fn do_task<F: Files, S: Source, O: Sink, E: Sink>(
             out,
             err,
         ),
-        Task::Run(file) => answer_file(
-            alloc,
-            Purpose::Run,
-            file.as_str(),
-            files,
-            input,
-            out,
-            err,
-        ),
+        Task::Run(file) => answer_file(alloc, Purpose::Run, file.as_str(), files, input, out, err),
     }
 }
