@@ -27,12 +27,12 @@ pub fn newest_of_taken_reports(board: &Board)
 }
 
 /// A board tells what its tests tell.
-pub fn boards_tell_as_their_tests(board: &Board)
+pub fn board_tells_its_tests(board: &Board)
     ensures { SameTold (told board.now) (told_by_tests (tests_of board.now)) }
 {}
 
 /// A board has taken a list of reports exactly where it has the list's tests.
-pub fn boards_have_taken_what_has_their_tests(board: &Board)
+pub fn taken_where_tests_agree(board: &Board)
     ensures { (rs : List (ReportKind PlanPair)) → HasTaken board.now rs ↔ SameTests (tests_of board.now) (tests_by rs) }
 {}
 
@@ -51,7 +51,7 @@ pub fn taken_reports_join_tests()
 {}
 
 /// Boards with the same tests are equal.
-pub fn boards_with_the_same_tests_are_equal(first: &Board, second: &Board)
+pub fn same_tests_equal_boards(first: &Board, second: &Board)
     ensures { SameTests (tests_of first.now) (tests_of second.now) → first.now ≡ second.now }
 {
     first.known();

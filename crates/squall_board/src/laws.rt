@@ -11,7 +11,7 @@ ghost use Rattle.squall_board.specs.Boards.{HasTaken, says, issued, told};
 use crate::Board;
 
 /// Boards that tell the same are equal.
-pub fn boards_that_tell_the_same_are_equal(first: &Board, second: &Board)
+pub fn equal_facts_equal_boards(first: &Board, second: &Board)
     ensures { SameTold (told first.now) (told second.now) → first.now ≡ second.now }
 {
     first.known();
@@ -20,7 +20,7 @@ pub fn boards_that_tell_the_same_are_equal(first: &Board, second: &Board)
 
 /// Boards are equal that say the same of each fact within the limits of facts (so of keys below
 /// the top alone), and issue the same under each number from 1 on.
-pub fn boards_that_tell_the_same_within_limits_are_equal(first: &Board, second: &Board)
+pub fn equal_facts_within_limits(first: &Board, second: &Board)
     ensures { ((fact : Fact) → is_fact fact ≡ true → says first.now fact ≡ says second.now fact) → ((number : ℕ) → 1 ≤ number → issued first.now number ≡ issued second.now number) → first.now ≡ second.now }
 {
     first.known();
@@ -41,7 +41,7 @@ pub fn facts_lie_within_the_limits(board: &Board)
 ///
 /// That a board has taken a list is ensured by [`Board::new`], [`Board::take`],
 /// [`Board::take_all`] and [`Board::merge`].
-pub fn boards_with_the_same_reports_are_equal(first: &Board, second: &Board)
+pub fn same_reports_equal_boards(first: &Board, second: &Board)
     ensures told { (rs qs : List (ReportKind PlanPair)) → HasTaken first.now rs → HasTaken second.now qs → SameTold (told_by rs) (told_by qs) → first.now ≡ second.now }
     ensures reports { (rs qs : List (ReportKind PlanPair)) → HasTaken first.now rs → HasTaken second.now qs → AreSameReports rs qs → first.now ≡ second.now }
 {

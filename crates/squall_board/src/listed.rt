@@ -13,14 +13,14 @@ use crate::board::Board;
 
 /// The openings, the issues and the cells of a board tell together what the board tells, and
 /// nothing else.
-pub fn lists_tell_what_the_board_tells(board: &Board)
+pub fn lists_tell_the_board(board: &Board)
     ensures { SameTold (told board.now) (told_by_lists (openings_of board.now) (issues_of board.now) (cells_of board.now)) }
 {
     board.known();
 }
 
 /// A board that tells what the lists of another tell is equal to that other.
-pub fn lists_make_an_equal_board(board: &Board, other: &Board)
+pub fn lists_determine_the_board(board: &Board, other: &Board)
     ensures { SameTold (told other.now) (told_by_lists (openings_of board.now) (issues_of board.now) (cells_of board.now)) → other.now ≡ board.now }
 {
     board.known();
@@ -49,7 +49,7 @@ pub fn one_list_of_cells(board: &Board)
 }
 
 /// At the place of each cell of a board stands that cell.
-pub fn cells_stand_at_their_places(board: &Board)
+pub fn cells_at_their_places(board: &Board)
     ensures { AllByRecursion (λ c. cell_of board.now c.cell ≡ Some (entry_value c)) (cells_of board.now) }
 {
     board.known();

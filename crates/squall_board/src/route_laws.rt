@@ -26,14 +26,14 @@ pub fn course_of_taken_reports(board: &Board)
 }
 
 /// A board has the course of its tests.
-pub fn boards_have_the_course_of_their_tests(board: &Board)
+pub fn course_by_board_tests(board: &Board)
     ensures { (first : Change) → IsCourseBy first (tests_of board.now) (course_of_board first board.now) }
 {
     board.known();
 }
 
 /// A list of reports has the course of its tests.
-pub fn reports_have_the_course_of_their_tests()
+pub fn course_by_report_tests()
     ensures { (first : Change) (rs : List (ReportKind PlanPair)) → IsCourseBy first (tests_by rs) (course_of_reports first rs) }
 {}
 
@@ -50,14 +50,14 @@ pub fn taken_reports_route(board: &Board)
 }
 
 /// A board routes each key as its tests do.
-pub fn boards_route_by_their_tests(board: &Board)
+pub fn route_by_board_tests(board: &Board)
     ensures { (first : Change) (k : ℕ) → IsRoutedBy first (tests_of board.now) k (route_by_newest first board.now k) }
 {
     board.known();
 }
 
 /// A list of reports routes each key as its tests do.
-pub fn reports_route_by_their_tests()
+pub fn route_by_report_tests()
     ensures { (first : Change) (rs : List (ReportKind PlanPair)) (k : ℕ) → IsRoutedBy first (tests_by rs) k (route_by_reports first rs k) }
 {}
 
@@ -67,11 +67,11 @@ pub fn one_route()
 {}
 
 /// The route by the moves of a course is the route by its plans, for each key and whatever is said.
-pub fn route_by_moves_is_the_route()
+pub fn moves_give_the_route()
     ensures { (c : Change) (says : Fact → Bool) (ms : List Move) (k : ℕ) → AreMoves c.old c.new ms → route_by_moves c.number c.old ms says k ≡ route c says k }
 {}
 
 /// Whether a key has come to a cell is said by the board's cell alone.
-pub fn cells_say_what_has_come(board: &Board)
+pub fn coming_by_the_cell(board: &Board)
     ensures { (cell : CellPlace) (k : ℕ) → has_come_to (says board.now) cell k ≡ cell_has_come (cell_of board.now cell) k }
 {}

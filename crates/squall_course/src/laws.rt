@@ -27,19 +27,19 @@ pub fn receivers_have_keys()
 {}
 
 /// By the test of ranges a source feeds a destination where a key goes from the one to the other.
-pub fn feeds_is_a_key()
+pub fn feeds_where_keys_go()
     ensures { (old new : List PlanRange) (p q : ℕ) → ArePlans old new → (feeds old new p q ≡ true) ↔ IsFed old new p q }
 {}
 
 /// In a sub-plan a source has one destination at most: the moving keys of one source and one
 /// sub-plan have one new owner.
-pub fn one_destination_in_a_subplan()
+pub fn one_destination_a_subplan()
     ensures { (old new : List PlanRange) (j k : ℕ) → ArePlans old new → j < top → k < top → moves old new j ≡ true → moves old new k ≡ true
         → owner_of old j ≡ owner_of old k → sub_of old new j ≡ sub_of old new k → owner_of new j ≡ owner_of new k }
 {}
 
 /// The destination of a moving key's source in the key's sub-plan is the key's new owner.
-pub fn key_goes_to_the_destination()
+pub fn keys_go_to_destinations()
     ensures { (old new : List PlanRange) (k : ℕ) → ArePlans old new → k < top → moves old new k ≡ true
         → dest_of old new (sub_of old new k) (owner_of old k) ≡ Some (owner_of new k) }
 {}
@@ -51,13 +51,13 @@ pub fn subplans_are_counted()
 
 /// There are at most as many sub-plans as there can be partitions, and so the sub-plan of a moving
 /// key is below that number.
-pub fn subplans_are_at_most_the_partitions()
+pub fn subplans_at_most_partitions()
     ensures count { (old new : List PlanRange) → subplan_count old new ≤ part_limit }
     ensures keys { (old new : List PlanRange) (k : ℕ) → ArePlans old new → k < top → moves old new k ≡ true → sub_of old new k < part_limit }
 {}
 
 /// The sub-plan of each move is below the number of sub-plans.
-pub fn move_is_in_a_counted_subplan()
+pub fn moves_in_counted_subplans()
     ensures { (old new : List PlanRange) → ArePlans old new → All (λ m. m.sub < subplan_count old new) (moves_of old new) }
 {}
 

@@ -14,9 +14,9 @@ mod transfer;
 pub use course::Course;
 pub use fault::CourseFault;
 pub use laws::{
-    feeds_is_a_key, key_goes_to_the_destination, move_is_in_a_counted_subplan, moves_have_meaning,
-    no_fewer_subplans, one_destination_in_a_subplan, one_list_of_moves, receivers_have_keys,
-    subplans_are_at_most_the_partitions, subplans_are_counted,
+    feeds_where_keys_go, keys_go_to_destinations, moves_in_counted_subplans, moves_have_meaning,
+    no_fewer_subplans, one_destination_a_subplan, one_list_of_moves, receivers_have_keys,
+    subplans_at_most_partitions, subplans_are_counted,
 };
 pub use moving::Move;
 pub use owners::Owners;

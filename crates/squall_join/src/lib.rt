@@ -20,9 +20,9 @@ pub use basic::{Flag, Max};
 pub use flat::{Exact, Flat};
 pub use join::Join;
 pub use laws::{
-    a_joined_map_joins_each_value, a_joined_map_joins_what_is_looked_up,
-    equal_lookups_make_equal_maps, facts_lift_through_maps, facts_lift_through_pairs,
-    joins_are_least_upper_bounds,
+    join_of_entries, join_of_lookups,
+    equal_lookups_equal_maps, maps_lift_facts, pairs_lift_facts,
+    join_is_least_upper_bound,
 };
 pub use map::{JoinMap, MapKey};
 pub use pair::Pair;

@@ -17,7 +17,7 @@ pub fn one_list()
 {}
 
 /// Lists that are found equal are the same list.
-pub fn equal_lists_are_same()
+pub fn equal_lists_equal_plans()
     ensures { (rs ss : List PlanRange) → are_same_ranges rs ss ≡ true ↔ rs ≡ ss }
 {}
 
@@ -61,7 +61,7 @@ pub fn owner_is_named()
 {}
 
 /// A partition that the plan names owns some key.
-pub fn named_part_has_a_key()
+pub fn named_part_owns_a_key()
     ensures { (ps : List PlanRange) (part : ℕ) → IsCanonical ps → names ps part ≡ true → (k : ℕ) × (k < top) × (owner_of ps k ≡ part) }
 {}
 

@@ -18,12 +18,12 @@ pub fn what_is_issued()
 {}
 
 /// A list after another tells what either tells, and nothing else.
-pub fn one_list_after_another()
+pub fn append_tells_both()
     ensures { (rs qs : List (ReportKind PlanPair)) → TellsBoth (told_by (rs ++ qs)) (told_by rs) (told_by qs) }
 {}
 
 /// Lists of the same reports tell the same, in whatever order and however often.
-pub fn order_and_repetition_tell_nothing()
+pub fn same_reports_same_told()
     ensures { (rs qs : List (ReportKind PlanPair)) → AreSameReports rs qs → SameTold (told_by rs) (told_by qs) }
 {}
 
@@ -53,7 +53,7 @@ pub fn tests_form_a_join()
 {}
 
 /// Tests are the same exactly where they tell the same.
-pub fn same_tests_tell_the_same()
+pub fn tests_determine_told()
     ensures { (a b : Tests) → SameTests a b ↔ SameTold (told_by_tests a) (told_by_tests b) }
 {}
 
@@ -64,31 +64,31 @@ pub fn joined_tests_tell_both()
 {}
 
 /// A join of tests changes nothing exactly where all that comes is told already.
-pub fn joins_of_what_is_told_change_nothing()
+pub fn told_joins_change_nothing()
     ensures { (a b : Tests) → Covers joined_tests a b ↔ TellsAll (told_by_tests a) (told_by_tests b) }
 {}
 
 /// A list of reports tells what its tests tell.
-pub fn lists_tell_as_their_tests()
+pub fn list_tells_its_tests()
     ensures { (rs : List (ReportKind PlanPair)) → SameTold (told_by rs) (told_by_tests (tests_by rs)) }
 {}
 
 /// A report tells what its tests tell.
-pub fn reports_tell_as_their_tests()
+pub fn reports_tell_their_tests()
     ensures { (r : ReportKind PlanPair) → SameTold (told_by_report r) (told_by_tests (tests_by_report r)) }
 {}
 
 /// Lists of reports have the same tests exactly where they tell the same.
-pub fn lists_with_the_same_tests_tell_the_same()
+pub fn equal_tests_equal_told()
     ensures { (rs qs : List (ReportKind PlanPair)) → SameTests (tests_by rs) (tests_by qs) ↔ SameTold (told_by rs) (told_by qs) }
 {}
 
 /// A list after another has the joined tests of both.
-pub fn lists_join_their_tests()
+pub fn append_joins_tests()
     ensures { (rs qs : List (ReportKind PlanPair)) → SameTests (tests_by (rs ++ qs)) (joined_tests (tests_by rs) (tests_by qs)) }
 {}
 
 /// A list of one report has that report's tests.
-pub fn one_report_has_its_tests()
+pub fn tests_of_one_report()
     ensures { (r : ReportKind PlanPair) → SameTests (tests_by (r ∷ [])) (tests_by_report r) }
 {}

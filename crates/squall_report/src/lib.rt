@@ -9,11 +9,11 @@ mod report;
 pub use cell::CellId;
 pub use issue::Issue;
 pub use laws::{
-    joined_tests_tell_both, joins_of_what_is_told_change_nothing, lists_join_their_tests,
-    lists_tell_as_their_tests, lists_with_the_same_tests_tell_the_same, newest_of_reports,
-    one_list_after_another, one_newest, one_report_has_its_tests, openings_count,
-    order_and_repetition_tell_nothing, reports_tell_as_their_tests, same_answers_same_tests,
-    same_tests_tell_the_same, tests_form_a_join, what_is_issued,
+    joined_tests_tell_both, told_joins_change_nothing, append_joins_tests,
+    list_tells_its_tests, equal_tests_equal_told, newest_of_reports,
+    append_tells_both, one_newest, tests_of_one_report, openings_count,
+    same_reports_same_told, reports_tell_their_tests, same_answers_same_tests,
+    tests_determine_told, tests_form_a_join, what_is_issued,
 };
 pub use report::{Report, ReportKind};
 

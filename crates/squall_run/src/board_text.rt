@@ -7,7 +7,7 @@ ghost use Rattle.squall_board.specs.Listed.{cell_entry};
 ghost use Rattle.squall_run.specs.BoardText.{opening_lines, line_of_issue, issue_lines, text_of_complete, next_spans, cell_line, board_text};
 ghost use Rattle.squall_run.specs.BoardPlaces.{line_at, lines_at, text_of_places};
 
-use squall_board::{Board, CellParts, Opening, cells_stand_at_their_places};
+use squall_board::{Board, CellParts, Opening, cells_at_their_places};
 use squall_join::Flat;
 use squall_report::{CellId, Issue};
 use squall_span::Span;
@@ -122,7 +122,7 @@ fn add_lists(
 pub(crate) fn add_board(board: &Board, out: &mut String) -> Result<(), AllocError>
     ensures { OnOk result (string_bytes out.new ≡ string_bytes out.old ++ board_text board.now) }
 {
-    cells_stand_at_their_places(board);
+    cells_at_their_places(board);
     let openings = board.openings()?;
     let issues = board.issues()?;
     let places = board.places()?;

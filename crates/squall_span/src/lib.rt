@@ -13,9 +13,9 @@ mod sweep;
 mod walk;
 
 pub use laws::{
-    a_difference_is_a_set, a_meet_is_a_set, a_set_splits_into_sets, a_union_is_a_set,
-    equality_is_exact, first_span_is_the_first_run, lengths_count_the_keys, one_span_more_is_a_set,
-    same_keys_make_the_same_set,
+    minus_is_a_set, meet_is_a_set, split_makes_sets, union_has_both,
+    equality_is_exact, first_span_is_longest, lengths_count_keys, insert_adds_the_span,
+    same_keys_same_set,
 };
 pub use set::SpanSet;
 pub use span::Span;

@@ -1,12 +1,11 @@
-//! The headline as a caller meets it: its contracts follow from public ones alone.
+//! The headline as a caller meets it, over public names alone.
 
-ghost use Rattle.std.specs.Prelude.{◌≡◌, true, IfOk};
+ghost use Rattle.std.specs.Prelude.{◌≡◌, IfOk};
 ghost use Rattle.squall_report.specs.Facts.{reports_say};
-ghost use Rattle.squall_report.specs.Told.{AreSameReports};
 ghost use Rattle.squall_board.specs.Route.{route};
 
 use crate::tests::{NEW, OLD, load, plan};
-use squall_board::{Board, boards_with_the_same_reports_are_equal};
+use squall_board::Board;
 use squall_course::Course;
 use squall_key::{Key, PartId};
 use squall_report::Report;
@@ -27,18 +26,14 @@ fn routed(
     Ok(board.route(course, key))
 }
 
-/// Whether the boards of both lists are equal, which they are where the lists hold the same
-/// reports.
-fn same_boards(alloc: Global, first: &[Report], second: &[Report]) -> Result<bool, AllocError>
-    ensures { AreSameReports first.now second.now → IfOk result (λ same. same ≡ true) }
-{
+/// Whether the boards of both lists are equal, one taken at once and the other report by report.
+fn same_boards(alloc: Global, first: &[Report], second: &[Report]) -> Result<bool, AllocError> {
     let mut board = Board::new(alloc);
     board.take_all(first)?;
     let mut other = Board::new(alloc);
     for report in second {
         other.take(report)?;
     }
-    boards_with_the_same_reports_are_equal(&board, &other);
     Ok(board == other)
 }
 

@@ -62,7 +62,7 @@ fn put_again(board: &Board) -> Result<Board, AllocError>
     put_openings(&mut again, &openings)?;
     put_issues(&mut again, &issues)?;
     put_cells(&mut again, &cells)?;
-    lists_make_an_equal_board(board, &again);
+    lists_determine_the_board(board, &again);
     Ok(again)
 }
 

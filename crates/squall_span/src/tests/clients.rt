@@ -5,7 +5,7 @@ ghost use Rattle.squall_key.specs.Keys.{top};
 ghost use Rattle.squall_span.specs.Spans.{has, IsSet};
 
 use super::{TWO, set};
-use crate::{SpanSet, same_keys_make_the_same_set};
+use crate::{SpanSet, same_keys_same_set};
 use std::test::Fail;
 
 /// Its spans are in order, and end by the top.
@@ -21,7 +21,7 @@ fn is_same_by_keys(set: &SpanSet, other: &SpanSet)
 {
     is_set(set);
     is_set(other);
-    same_keys_make_the_same_set();
+    same_keys_same_set();
 }
 
 #[test]

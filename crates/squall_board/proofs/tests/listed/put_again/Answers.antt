@@ -11,7 +11,7 @@ pub put_issues-requires : goal.put_issues-requires
 put_issues-requires c = issues_may (λ e. (e.0, flat_map arc_value e.1)) c.args.board.now c.deref-2.result.now c.in_ok-issues.issues.items c.known.ensures.board c.deref-2.ensures.value c.in_ok-issues.ensures.issues
 
 pub returns : goal.returns
-returns c = c.lists_make_an_equal_board.ensures (made_again c.args.board.now c.new-again.result c.put_openings.new.board c.put_issues.new.board c.put_cells.new.board c.deref.result.now _ c.deref-3.result.now
+returns c = c.lists_determine_the_board.ensures (made_again c.args.board.now c.new-again.result c.put_openings.new.board c.put_issues.new.board c.put_cells.new.board c.deref.result.now _ c.deref-3.result.now
     c.new-again.ensures.empty
     (c.deref.ensures.value ∙ c.in_ok-openings.ensures.openings)
     (ap (map (λ e. (e.0, flat_map arc_value e.1))) c.deref-2.ensures.value ∙ c.in_ok-issues.ensures.issues)

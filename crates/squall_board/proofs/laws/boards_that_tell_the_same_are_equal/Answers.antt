@@ -1,5 +1,0 @@
-use Rattle.squall_board.specs.BoardLaws.{same_board}
-use Rattle.squall_board.proofs.laws.boards_that_tell_the_same_are_equal.Goals as goal
-
-pub returns : goal.returns
-returns c = same_board c.args.first.now c.args.second.now c.known.ensures.nested c.known-2.ensures.nested

@@ -1,5 +1,0 @@
-use Rattle.squall_board.specs.ListedLaws.{lists_equal}
-use Rattle.squall_board.proofs.listed.lists_make_an_equal_board.Goals as goal
-
-pub returns : goal.returns
-returns c = lists_equal c.args.board.now c.args.other.now c.known.ensures.board c.known-2.ensures.board

@@ -1,5 +1,0 @@
-use Rattle.squall_board.specs.ListedLaws.{lists_tell}
-use Rattle.squall_board.proofs.listed.lists_tell_what_the_board_tells.Goals as goal
-
-pub returns : goal.returns
-returns c = lists_tell c.args.board.now c.known.ensures.board

@@ -1,5 +1,0 @@
-use Rattle.squall_board.specs.CourseRouteLaws.{board_course}
-use Rattle.squall_board.proofs.route_laws.boards_have_the_course_of_their_tests.Goals as goal
-
-pub returns : goal.returns
-returns c = λ first. board_course first c.args.board.now c.known.ensures.board

@@ -1,5 +1,0 @@
-use Rattle.squall_board.specs.CourseRouteLaws.{board_routes}
-use Rattle.squall_board.proofs.route_laws.boards_route_by_their_tests.Goals as goal
-
-pub returns : goal.returns
-returns c = λ first k. board_routes first c.args.board.now k c.known.ensures.board

@@ -1,5 +1,0 @@
-use Rattle.squall_board.specs.CourseRouteLaws.{reports_route}
-use Rattle.squall_board.proofs.route_laws.reports_route_by_their_tests.Goals as goal
-
-pub returns : goal.returns
-returns c = reports_route

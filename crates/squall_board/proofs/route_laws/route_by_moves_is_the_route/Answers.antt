@@ -1,5 +1,0 @@
-use Rattle.squall_board.specs.MovesRouteLaws.{route_by_moves_is}
-use Rattle.squall_board.proofs.route_laws.route_by_moves_is_the_route.Goals as goal
-
-pub returns : goal.returns
-returns c = route_by_moves_is

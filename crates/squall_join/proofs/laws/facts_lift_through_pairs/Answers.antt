@@ -1,5 +1,0 @@
-use Rattle.squall_join.specs.FactLaws.{pair_factual}
-use Rattle.squall_join.proofs.laws.facts_lift_through_pairs.Goals as goal
-
-pub returns : goal.returns
-returns g c p q l m = pair_factual l m

@@ -1,5 +1,0 @@
-use Rattle.squall_report.specs.TestsLaws.{told_already}
-use Rattle.squall_report.proofs.laws.joins_of_what_is_told_change_nothing.Goals as goal
-
-pub returns : goal.returns
-returns c = told_already
