@@ -14,9 +14,9 @@ mod transfer;
 pub use course::Course;
 pub use fault::CourseFault;
 pub use laws::{
-    feeds_where_keys_go, keys_go_to_destinations, moves_in_counted_subplans, moves_have_meaning,
+    feeds_where_keys_go, keys_go_to_destinations, moves_have_meaning, moves_in_counted_subplans,
     no_fewer_subplans, one_destination_a_subplan, one_list_of_moves, receivers_have_keys,
-    subplans_at_most_partitions, subplans_are_counted,
+    subplans_are_counted, subplans_at_most_partitions,
 };
 pub use moving::Move;
 pub use owners::Owners;

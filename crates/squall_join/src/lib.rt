@@ -20,9 +20,8 @@ pub use basic::{Flag, Max};
 pub use flat::{Exact, Flat};
 pub use join::Join;
 pub use laws::{
-    join_of_entries, join_of_lookups,
-    equal_lookups_equal_maps, maps_lift_facts, pairs_lift_facts,
-    join_is_least_upper_bound,
+    equal_lookups_equal_maps, join_is_least_upper_bound, join_of_entries, join_of_lookups,
+    maps_lift_facts, pairs_lift_facts,
 };
 pub use map::{JoinMap, MapKey};
 pub use pair::Pair;

@@ -16,7 +16,7 @@ mod sweep;
 pub use fault::PlanFault;
 pub use laws::{
     answer_has_meaning, answer_is_canonical, answer_needs_no_memory, canonical_is_plan,
-    equal_lists_equal_plans, named_part_owns_a_key, named_part_is_part, one_answer, one_list,
+    equal_lists_equal_plans, named_part_is_part, named_part_owns_a_key, one_answer, one_list,
     owner_is_named, owner_is_part,
 };
 pub use plan::Plan;

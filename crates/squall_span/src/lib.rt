@@ -13,9 +13,8 @@ mod sweep;
 mod walk;
 
 pub use laws::{
-    minus_is_a_set, meet_is_a_set, split_makes_sets, union_has_both,
-    equality_is_exact, first_span_is_longest, lengths_count_keys, insert_adds_the_span,
-    same_keys_same_set,
+    equality_is_exact, first_span_is_longest, insert_adds_the_span, lengths_count_keys,
+    meet_is_a_set, minus_is_a_set, same_keys_same_set, split_makes_sets, union_has_both,
 };
 pub use set::SpanSet;
 pub use span::Span;
