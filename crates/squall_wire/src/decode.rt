@@ -1,0 +1,23 @@
+//! Messages from the bytes of frames.
+
+ghost use Rattle.std.specs.Prelude.{◌≡◌, ◌×◌, ◌≤◌, ◌++◌, ℕ, List, Ok, length, take, IfOk};
+ghost use Rattle.squall_wire.specs.declared.message.Message.{Message as MessageValue};
+ghost use Rattle.squall_wire.specs.Messages.{body_of, spell, IsMessage};
+ghost use Rattle.squall_wire.specs.Reading.{Gives, message_at};
+
+use crate::fault::WireFault;
+use crate::message::Message;
+use std::alloc::Global;
+
+/// The message whose frame stands first in the bytes, and how many bytes the frame takes. What
+/// follows the frame is not looked at, and the body only where it is whole. It allocates no more
+/// than the bytes of the body justify.
+///
+/// The error is the first fault that is met from the front, or that an allocation failed.
+pub fn decode(alloc: Global, bytes: &[u8]) -> Result<(Message, usize), WireFault>
+    ensures answer { Gives (λ x. (body_of x.0, x.1)) result (message_at bytes.now) }
+    ensures spelled { IfOk result (λ x. IsMessage x.0 × (x.1 ≤ length bytes.now) × (take x.1 bytes.now ≡ spell x.0)) }
+    ensures only { (m : MessageValue) (rest : List ℕ) → IsMessage m → bytes.now ≡ spell m ++ rest → Gives (λ x. x) result (Ok (m, length (spell m))) }
+{
+    Err(WireFault::NoMemory)
+}

@@ -1,0 +1,97 @@
+//! Digests of boards.
+
+ghost use Rattle.std.specs.Prelude.{◌≡◌, ◌→◌, IfOk, Err};
+ghost use Rattle.squall_wire.specs.DigestValue.{digest_with, IsDigest};
+ghost use Rattle.squall_wire.specs.declared.digest.DigestFault.TheVariants.{BadDigest, NoMemory};
+
+use squall_board::Opening;
+use std::alloc::{AllocError, Global};
+use std::marker::Model;
+
+/// The hash of what is issued under a number.
+#[derive(Clone, Copy, Debug, PartialEq, Eq)]
+pub struct IssueRow {
+    /// The reconfiguration's number, from 1 on.
+    pub number: u32,
+    /// The SHA-256 of the issue as it stands in a delta.
+    pub hash: [u8; 32],
+}
+
+/// The hash of the cells of one number and sub-plan: of a row.
+#[derive(Clone, Copy, Debug, PartialEq, Eq)]
+pub struct DigestRow {
+    /// The reconfiguration's number, from 1 on.
+    pub number: u32,
+    /// The sub-plan, at most 9999.
+    pub sub: u32,
+    /// The SHA-256 of the row's cells, one after the other as they stand in a delta.
+    pub hash: [u8; 32],
+}
+
+/// Why lists are no digest.
+#[derive(Clone, Copy, Debug, PartialEq, Eq)]
+pub enum DigestFault {
+    /// A list is not in order, or a number lies outside its limits.
+    BadDigest,
+    /// An allocation failed.
+    NoMemory,
+}
+
+impl From<AllocError> for DigestFault {
+    ghost from_gives = { λ _ e. e ≡ NoMemory };
+
+    fn from(_e: AllocError) -> DigestFault {
+        DigestFault::NoMemory
+    }
+}
+
+/// What is opened, and hashes of what else a board holds: its issues by number, its cells by rows
+/// of one number and sub-plan.
+///
+/// Contracts see a digest as its three lists.
+#[derive(Drop)]
+pub struct Digest {
+    openings: Vec<Opening>,
+    issue_rows: Vec<IssueRow>,
+    rows: Vec<DigestRow>,
+}
+
+impl Model for Digest {
+    ghost use Rattle.squall_wire.specs.DigestValue.{DigestValue, digest_with, IsDigest};
+
+    ghost Value = { DigestValue };
+
+    ghost view = { λ d. digest_with d.openings.items d.issue_rows.items d.rows.items };
+
+    ghost invariant = { λ d. IsDigest (digest_with d.openings.items d.issue_rows.items d.rows.items) };
+}
+
+impl Digest {
+    /// The openings, by rising number.
+    pub fn openings(&self) -> &[Opening]
+        ensures { result.now ≡ self.now.openings }
+    {
+        &self.openings
+    }
+
+    /// The hashes of issues, by rising number.
+    pub fn issue_rows(&self) -> &[IssueRow]
+        ensures { result.now ≡ self.now.issue_rows }
+    {
+        &self.issue_rows
+    }
+
+    /// The hashes of rows, by rising number and sub-plan.
+    pub fn rows(&self) -> &[DigestRow]
+        ensures { result.now ≡ self.now.rows }
+    {
+        &self.rows
+    }
+
+    /// Changes nothing: after it a proof knows that each list is in order and within its limits.
+    pub fn known(&self)
+        ensures { IsDigest self.now }
+    {
+        let _openings = &self.openings;
+    }
+}

