@@ -35,6 +35,8 @@ const SCENARIO: &str = "Lines of a scenario, one question or report each:
   opened N S          sub-plan S of reconfiguration N is opened, and all those before it
   route K             asks which partition has key K
   board               asks what was reported
+  hear HEX            hears the next bytes of a stream of frames, and takes their reports
+  frame               asks for the frame of the board
   # REMARK            is skipped, as is a line without words
 
 A plan is written on its line, as {\"plan\":[{\"part\":1,\"from\":[0,0],\"to\":\"end\"}]}.";

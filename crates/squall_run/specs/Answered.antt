@@ -7,7 +7,7 @@ use Rattle.squall_run.specs.declared.command.Command.{Command}
 use Rattle.squall_run.specs.declared.command.Command.TheVariants as code
 use Rattle.squall_run.specs.declared.reason.Reason.{Reason}
 use Rattle.squall_run.specs.State.{ScenarioState}
-use Rattle.squall_run.specs.Requests.{Request, Skip, Old, New, Loaded, Done, Opened, Route, Board, Bad}
+use Rattle.squall_run.specs.Requests.{Request, Skip, Old, New, Loaded, Done, Opened, Route, Board, Hear, Frame, Bad}
 use Rattle.squall_run.specs.Replies.{Reply, Goes, Ends, bad_line}
 
 -- the request that a command stands for
@@ -20,6 +20,8 @@ request_seen (code.Done number sub part) = Done number sub part
 request_seen (code.Opened number sub) = Opened number sub
 request_seen (code.Route key) = Route key
 request_seen code.Board = Board
+request_seen (code.Hear digits) = Hear digits.now
+request_seen code.Frame = Frame
 request_seen (code.Bad reason) = Bad reason
 
 -- what was said, the scenario after it and the reason, if any, are the reply

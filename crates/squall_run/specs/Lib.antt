@@ -8,6 +8,7 @@ pub mod Stages
 pub mod Requests
 pub mod BoardText
 pub mod BoardPlaces
+pub mod Frames
 pub mod Replies
 pub mod Answered
 pub mod Text

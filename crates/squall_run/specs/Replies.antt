@@ -1,5 +1,5 @@
 -- What a scenario answers, line by line (this project's scenario language).
-use Rattle.std.specs.Prelude.{ℕ, ◌+◌, ◌-◌, ◌^◌, min, List, [], ◌∷◌, ◌++◌, length, Option, None, Some, Result, Ok, Err, codes}
+use Rattle.std.specs.Prelude.{ℕ, ◌+◌, ◌-◌, ◌^◌, min, Bool, true, false, List, [], ◌∷◌, ◌++◌, length, Option, None, Some, Result, Ok, Err, codes}
 use Rattle.std.specs.Fmt.{decimal}
 use Rattle.squall_key.specs.Keys.{text_of_key}
 use Rattle.squall_span.specs.Spans.{Interval, span_at}
@@ -14,13 +14,18 @@ use Rattle.squall_board.specs.Boards.{BoardValue, board_join, report_board}
 use Rattle.squall_board.specs.Boards as boards
 use Rattle.squall_course.specs.Change.{Change}
 use Rattle.squall_board.specs.Route.{route}
+use Rattle.hex.specs.Hex.{decode_of}
+use Rattle.hex.specs.declared.error.FromHexError.{FromHexError}
+use Rattle.squall_wire.specs.Hearing.{FeedValue, feed_after}
+use Rattle.squall_wire.specs.Heard.{HeardValue, heard_of}
 use Rattle.squall_lines.specs.Script.{Script, silence, after, last_word}
 use Rattle.squall_lines.specs.Words.{without_cr}
 use Rattle.squall_run.specs.declared.reason.Reason.{Reason}
 use Rattle.squall_run.specs.declared.reason.Reason.TheVariants.{Long, Word, Order, Limit, Plan}
 use Rattle.squall_run.specs.State.{StageState, NoPlan, OldPlan, BothPlans, ScenarioState}
-use Rattle.squall_run.specs.Requests.{Request, Skip, Old, New, Loaded, Done, Opened, Route, Board, Bad, request_of}
+use Rattle.squall_run.specs.Requests.{Request, Skip, Old, New, Loaded, Done, Opened, Route, Board, Hear, Frame, Bad, request_of}
 use Rattle.squall_run.specs.BoardText.{board_text}
+use Rattle.squall_run.specs.Frames.{text_of_heard, after_bodies, frame_text}
 
 abbrev pub text_of_reason : Reason → List ℕ
 text_of_reason Long = codes "long"
@@ -90,6 +95,32 @@ board_reply s NoPlan = Ends Order
 board_reply s (OldPlan old) = Ends Order
 board_reply s (BothPlans old new) = Goes (board_text s.board) s
 
+-- what was heard: its messages are merged into the board, and the rest waits or ends the feed
+abbrev pub heard_reply : ScenarioState → HeardValue → Reply
+heard_reply s heard = Goes (text_of_heard heard.bodies heard.fault) (record s { board = after_bodies s.board heard.bodies; feed = feed_after heard.fault heard.rest })
+
+-- a feed that a fault has ended takes nothing
+abbrev pub feed_reply : ScenarioState → Bool → List ℕ → Reply
+feed_reply s true bytes = Goes (codes "no Failed
+") s
+feed_reply s false bytes = heard_reply s (heard_of (s.feed.waiting ++ bytes))
+
+abbrev pub bytes_reply : ScenarioState → StageState → List ℕ → Reply
+bytes_reply s NoPlan bytes = Ends Order
+bytes_reply s (OldPlan old) bytes = Ends Order
+bytes_reply s (BothPlans old new) bytes = feed_reply s s.feed.failed bytes
+
+-- hear HEX: what the feed hears in the bytes that the digits write
+abbrev pub hear_reply : ScenarioState → Result (List ℕ) FromHexError → Reply
+hear_reply s (Ok bytes) = bytes_reply s s.stage bytes
+hear_reply s (Err fault) = Ends Word
+
+-- frame: the frame of the board
+abbrev pub frame_reply : ScenarioState → StageState → Reply
+frame_reply s NoPlan = Ends Order
+frame_reply s (OldPlan old) = Ends Order
+frame_reply s (BothPlans old new) = Goes (frame_text s.board) s
+
 -- what a request brings about
 abbrev pub reply_to : ScenarioState → Request → Reply
 reply_to s Skip = Goes [] s
@@ -100,6 +131,8 @@ reply_to s (Done number sub part) = report_reply s s.stage (done_of number sub p
 reply_to s (Opened number sub) = report_reply s s.stage (opened_of number sub)
 reply_to s (Route key) = route_reply s s.stage key
 reply_to s Board = board_reply s s.stage
+reply_to s (Hear digits) = hear_reply s (decode_of digits)
+reply_to s Frame = frame_reply s s.stage
 reply_to s (Bad reason) = Ends reason
 
 -- ---- lines

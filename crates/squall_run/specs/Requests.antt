@@ -9,7 +9,8 @@ use Rattle.squall_run.specs.declared.reason.Reason.{Reason}
 use Rattle.squall_run.specs.declared.reason.Reason.TheVariants.{Long, Word}
 
 -- what a line asks for: nothing, where it has no word or is a remark; to take the plan that stands in a text, as the old one or
--- the new one; to take a report of a load, a completion or an opening; a route; the board. Or why it is bad.
+-- the new one; to take a report of a load, a completion or an opening; a route; the board; to hear the bytes that a text writes; the
+-- frame of the board. Or why it is bad.
 pub data Request : Type 0 where
   Skip : Request
   Old : List ℕ → Request
@@ -19,6 +20,8 @@ pub data Request : Type 0 where
   Opened : ℕ → ℕ → Request
   Route : ℕ → Request
   Board : Request
+  Hear : List ℕ → Request
+  Frame : Request
   Bad : Reason → Request
 
 -- the number that the first word writes, and the words after it
@@ -66,6 +69,14 @@ route_line words = option_map Route (option_and_then key_of (only_word words))
 abbrev pub board_line : List (List ℕ) → Option Request
 board_line words = alone Board words
 
+-- hear HEX
+abbrev pub hear_line : List (List ℕ) → Option Request
+hear_line words = option_map Hear (only_word words)
+
+-- frame
+abbrev pub frame_line : List (List ℕ) → Option Request
+frame_line words = alone Frame words
+
 -- the request that the first word names: the words after it must have its form, but for `old` and `new`, whose text is the rest
 -- of the line
 abbrev pub request_by : List ℕ → List (List ℕ) → List ℕ → Option Request
@@ -76,7 +87,9 @@ request_by name words text = if bytes_eq name (codes "old") then Some (Old text)
     else (if bytes_eq name (codes "opened") then opened_line words
     else (if bytes_eq name (codes "route") then route_line words
     else (if bytes_eq name (codes "board") then board_line words
-    else None))))))
+    else (if bytes_eq name (codes "hear") then hear_line words
+    else (if bytes_eq name (codes "frame") then frame_line words
+    else None))))))))
 
 -- a line without words, or whose first word begins with #, is skipped
 abbrev pub of_words : List (List ℕ) → List ℕ → Request

@@ -3,7 +3,7 @@
 ghost use Rattle.std.specs.Prelude.{◌≡◌, ◌↔◌, ℕ, [], IsSome};
 ghost use Rattle.std.specs.Option.{option_map};
 ghost use Rattle.squall_lines.specs.Words.{words_of, is_letter, from_first};
-ghost use Rattle.squall_run.specs.Requests.{number_first, two_words, cell_first, two_bounds, loaded_line, done_line, opened_line, route_line, board_line, request_by, request_of};
+ghost use Rattle.squall_run.specs.Requests.{number_first, two_words, cell_first, two_bounds, loaded_line, done_line, opened_line, route_line, board_line, hear_line, frame_line, request_by, request_of};
 ghost use Rattle.squall_run.specs.Answered.{request_seen};
 
 use crate::reason::Reason;
@@ -38,6 +38,9 @@ pub(crate) enum Command<'a> {
     },
     Route(Key),
     Board,
+    /// To hear the bytes that these digits write.
+    Hear(&'a [u8]),
+    Frame,
     Bad(Reason),
 }
 
@@ -137,6 +140,21 @@ fn board_line(rest: &[u8]) -> Option<Command<'static>>
     Some(Command::Board)
 }
 
+/// `hear HEX`
+fn hear_line(rest: &[u8]) -> Option<Command>
+    ensures { option_map request_seen result ≡ hear_line (words_of rest.now) }
+{
+    Some(Command::Hear(only_word(rest)?))
+}
+
+/// `frame`
+fn frame_line(rest: &[u8]) -> Option<Command<'static>>
+    ensures { option_map request_seen result ≡ frame_line (words_of rest.now) }
+{
+    no_word(rest)?;
+    Some(Command::Frame)
+}
+
 /// The command that the first word names, where what stands after it has that command's form.
 fn command_by<'a>(name: &[u8], rest: &'a [u8]) -> Option<Command<'a>>
     ensures { option_map request_seen result ≡ request_by name.now (words_of rest.now) (from_first is_letter rest.now) }
@@ -161,6 +179,12 @@ fn command_by<'a>(name: &[u8], rest: &'a [u8]) -> Option<Command<'a>>
     }
     if name == b"board".as_slice() {
         return board_line(rest);
+    }
+    if name == b"hear".as_slice() {
+        return hear_line(rest);
+    }
+    if name == b"frame".as_slice() {
+        return frame_line(rest);
     }
     None
 }

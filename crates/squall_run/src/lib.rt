@@ -12,6 +12,7 @@ mod check;
 mod command;
 mod course;
 mod files;
+mod frames;
 mod laws;
 mod messages;
 mod output;

@@ -9,6 +9,7 @@ ghost use Rattle.squall_run.specs.Answered.{Answers, IsAnswer};
 
 use crate::board_text::add_board;
 use crate::command::{Command, read_line};
+use crate::frames::{hear, show_frame};
 use crate::reason::Reason;
 use crate::scenario::{Scenario, Stage};
 use squall_course::Course;
@@ -163,6 +164,8 @@ fn reply(
         }
         Command::Route(key) => route(scenario, key, out),
         Command::Board => show_board(scenario, out),
+        Command::Hear(digits) => hear(scenario, digits, out),
+        Command::Frame => show_frame(scenario, out),
         Command::Bad(reason) => Ok(Some(reason)),
     }
 }

@@ -6,6 +6,7 @@ ghost use Rattle.squall_run.specs.State.{at_start};
 use squall_board::Board;
 use squall_course::Course;
 use squall_plan::Plan;
+use squall_wire::Feed;
 use std::alloc::Global;
 use std::marker::Model;
 
@@ -20,8 +21,8 @@ pub(crate) enum Stage {
     Running(Course),
 }
 
-/// A scenario after some lines. Contracts see the lines counted, the plans that are read, and the
-/// board.
+/// A scenario after some lines. Contracts see the lines counted, the plans that are read, the
+/// board, and the feed.
 #[derive(Drop)]
 pub(crate) struct Scenario {
     /// How many lines there were, bad and skipped ones too.
@@ -29,6 +30,8 @@ pub(crate) struct Scenario {
     pub(crate) stage: Stage,
     /// What was reported.
     pub(crate) board: Board,
+    /// What hears frames.
+    pub(crate) feed: Feed,
 }
 
 impl Model for Scenario {
@@ -38,7 +41,7 @@ impl Model for Scenario {
 
     ghost use Rattle.squall_run.specs.Stages.{stage_seen, IsFirstCourse};
 
-    ghost view = { λ s. record { line = s.line; stage = stage_seen s.stage; board = s.board } };
+    ghost view = { λ s. record { line = s.line; stage = stage_seen s.stage; board = s.board; feed = s.feed } };
 
     ghost invariant = { λ s. IsFirstCourse s.stage };
 }
@@ -51,5 +54,6 @@ pub(crate) fn start(alloc: Global) -> Scenario
         line: 0,
         stage: Stage::Unplanned,
         board: Board::new(alloc),
+        feed: Feed::new(alloc),
     }
 }

@@ -1,0 +1,123 @@
+//! The lines that hear frames and show them.
+
+ghost use Rattle.std.specs.Prelude.{◌≡◌, ◌++◌, OnOk, OnErr, IfOk, map, string_bytes};
+ghost use Rattle.hex.specs.Hex.{decode_of};
+ghost use Rattle.squall_wire.specs.Messages.{body_of};
+ghost use Rattle.squall_wire.specs.FaultText.{text_of_fault};
+ghost use Rattle.squall_run.specs.Frames.{heard_lines, fault_line, text_of_heard, after_bodies, frame_text};
+ghost use Rattle.squall_run.specs.Replies.{hear_reply, bytes_reply, feed_reply, frame_reply};
+ghost use Rattle.squall_run.specs.Answered.{Answers};
+
+use crate::reason::Reason;
+use crate::scenario::{Scenario, Stage};
+use hex::FromHexError;
+use squall_board::Board;
+use squall_wire::{EncodeFault, FeedFault, Heard, Message, encode_board, heard_frame_by_frame};
+use std::alloc::AllocError;
+
+/// Adds a line for each message.
+fn add_messages(messages: &[Message], out: &mut String) -> Result<(), AllocError>
+    ensures { OnOk result (string_bytes out.new ≡ string_bytes out.old ++ heard_lines (map body_of messages.now)) }
+{
+    for message in messages {
+        match message {
+            Message::Delta(_) => write!(out, "heard delta\n")?,
+            Message::Digest(_) => write!(out, "heard digest\n")?,
+        }
+    }
+    Ok(())
+}
+
+/// Adds what was heard: a line for each message and one for the fault, or that there was nothing.
+fn add_heard(heard: &Heard, out: &mut String) -> Result<(), AllocError>
+    ensures { OnOk result (string_bytes out.new ≡ string_bytes out.old ++ text_of_heard (map body_of heard.now.messages.items) heard.now.fault) }
+{
+    add_messages(&heard.messages, out)?;
+    match heard.fault {
+        Some(fault) => write!(out, "fault {fault}\n"),
+        None if heard.messages.is_empty() => write!(out, "heard nothing\n"),
+        None => Ok(()),
+    }
+}
+
+/// Merges the deltas into the board. Digests have no effect.
+fn merge_messages(board: &mut Board, messages: &[Message]) -> Result<(), AllocError>
+    ensures { OnOk result (board.new ≡ after_bodies board.old (map body_of messages.now)) }
+{
+    for message in messages {
+        if let Message::Delta(delta) = message {
+            delta.known();
+            board.merge(delta)?;
+        }
+    }
+    Ok(())
+}
+
+/// Hears the bytes, where no fault has ended the feed.
+fn hear_piece(
+    scenario: &mut Scenario,
+    bytes: &[u8],
+    out: &mut String,
+) -> Result<Option<Reason>, AllocError>
+    ensures { Answers result (string_bytes out.old) (string_bytes out.new) scenario.new (feed_reply scenario.old scenario.old.feed.failed bytes.now) }
+{
+    let heard = match scenario.feed.push(bytes) {
+        Ok(heard) => heard,
+        Err(FeedFault::Failed) => {
+            write!(out, "no Failed\n")?;
+            return Ok(None);
+        }
+        Err(FeedFault::NoMemory) => return Err(AllocError),
+    };
+    heard_frame_by_frame();
+    merge_messages(&mut scenario.board, &heard.messages)?;
+    add_heard(&heard, out)?;
+    Ok(None)
+}
+
+/// Hears the bytes that the digits write, once both plans are read.
+pub(crate) fn hear(
+    scenario: &mut Scenario,
+    digits: &[u8],
+    out: &mut String,
+) -> Result<Option<Reason>, AllocError>
+    ensures { Answers result (string_bytes out.old) (string_bytes out.new) scenario.new (hear_reply scenario.old (decode_of digits.now)) }
+{
+    let bytes = match hex::decode(*out.allocator(), digits) {
+        Ok(bytes) => bytes,
+        Err(FromHexError::OutOfMemory) => return Err(AllocError),
+        Err(_) => return Ok(Some(Reason::Word)),
+    };
+    let Stage::Running(_) = &scenario.stage else {
+        return Ok(Some(Reason::Order));
+    };
+    hear_piece(scenario, &bytes, out)
+}
+
+/// Adds the frame of the board, or that it would be too long.
+fn add_frame(board: &Board, out: &mut String) -> Result<(), AllocError>
+    ensures { OnOk result (string_bytes out.new ≡ string_bytes out.old ++ frame_text board.now) }
+{
+    let alloc = *out.allocator();
+    let bytes = match encode_board(alloc, board) {
+        Ok(bytes) => bytes,
+        Err(EncodeFault::TooLong) => return write!(out, "no TooLong\n"),
+        Err(EncodeFault::NoMemory) => return Err(AllocError),
+    };
+    let digits = hex::encode(alloc, &bytes)?;
+    write!(out, "frame {digits}\n")
+}
+
+/// Shows the frame of the board, once both plans are read.
+pub(crate) fn show_frame(
+    scenario: &Scenario,
+    out: &mut String,
+) -> Result<Option<Reason>, AllocError>
+    ensures { Answers result (string_bytes out.old) (string_bytes out.new) scenario.now (frame_reply scenario.now scenario.now.stage) }
+{
+    let Stage::Running(_) = &scenario.stage else {
+        return Ok(Some(Reason::Order));
+    };
+    add_frame(&scenario.board, out)?;
+    Ok(None)
+}
