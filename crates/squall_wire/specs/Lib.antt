@@ -15,3 +15,4 @@ pub mod BoardOf
 pub mod Reading
 pub mod Hearing
 pub mod Heard
+pub mod HeardLaws
