@@ -15,3 +15,6 @@ pub mod BoardOf
 pub mod Reading
 pub mod Hearing
 pub mod Heard
+pub mod FrameLaws
+pub mod ReadingLaws
+pub mod HearingLaws
