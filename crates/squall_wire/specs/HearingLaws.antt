@@ -1,7 +1,7 @@
 -- Laws of what is heard in a stream of frames.
 use Rattle.std.specs.Prelude.{◌≡◌, ◌≢◌, ◌⊎◌, ℕ, ◌≤◌, Bool, true, false, List, [], ◌∷◌, ◌++◌, length, Option, None, Some, Result, Ok, Err, refl}
 use Rattle.std.specs.Option.{IsSome}
-use Rattle.std.specs.List.{AllByRecursion, flat_map}
+use Rattle.std.specs.List.{AllByRecursion, concat}
 use Rattle.std.proofs.Common.{sym, ap, subst, ◌∙◌, append_assoc, ⊎_elim, inl, inr}
 use Rattle.std.proofs.lemmas.List.{append_cancel_left, append-nil}
 use Rattle.squall_report.specs.Told.{SameTold}
@@ -17,7 +17,7 @@ use Rattle.squall_wire.specs.Messages.{BoardLists, Body, lists, rows, lists_of, 
 use Rattle.squall_wire.specs.Reading.{message_at}
 use Rattle.squall_wire.specs.Hearing.{EndsIn, IsHeard, FeedValue, feed_with, new_feed, IsFeed, feed_after, HearsOn, EndsAt, GoesOn, HearsAll}
 use Rattle.squall_wire.specs.FrameLaws.{message_again}
-use Rattle.squall_wire.specs.ReadingLaws.{reading_stays, short_is_few}
+use Rattle.squall_wire.specs.ReadingLaws.{reading_stays, nothing_is_short}
 
 -- ---- one frame
 
@@ -121,10 +121,13 @@ heard_after_fault s t ms e r a = record {
 }
 
 -- the frames of messages, and nothing more, are heard as these messages
-pub spelled_are_heard : (ms : List Message) → AllByRecursion IsMessage ms → message_at [] ≡ Err Short → IsHeard (spell_all ms) ms None []
-spelled_are_heard ms are none = record { each = are; frames = sym (append-nil (spell_all ms)); ends = none }
+pub spelled_are_heard : (ms : List Message) → AllByRecursion IsMessage ms → IsHeard (spell_all ms) ms None []
+spelled_are_heard ms are = record { each = are; frames = sym (append-nil (spell_all ms)); ends = nothing_is_short }
 
 -- ---- feeds
+
+pub new_is_feed : IsFeed new_feed
+new_is_feed = record { short = λ e. nothing_is_short; ended = λ e. absurd cc }
 
 -- a feed stays a feed
 pub feed_stays : (old : FeedValue) (piece : List ℕ) (ms : List Message) (f : Option WireFault) (new : FeedValue) → HearsOn old piece ms f new → IsFeed new
@@ -162,16 +165,16 @@ nothing_heard old unended is = record {
 }
 
 -- pieces pushed one after the other are as their bytes pushed at once
-pub pieces_are_one_push : (old : FeedValue) (pieces : List (List ℕ)) (ms : List Message) (f : Option WireFault) (new : FeedValue) → old.failed ≡ false → IsFeed old → HearsAll old pieces ms f new → HearsOn old (flat_map (λ p. p) pieces) ms f new
+pub pieces_are_one_push : (old : FeedValue) (pieces : List (List ℕ)) (ms : List Message) (f : Option WireFault) (new : FeedValue) → old.failed ≡ false → IsFeed old → HearsAll old pieces ms f new → HearsOn old (concat pieces) ms f new
 pieces_are_one_push old [] ms f new unended is h =
     subst (λ (ns : List Message). HearsOn old [] ns f new) (sym h.0)
     (subst (λ (g : Option WireFault). HearsOn old [] [] g new) (sym h.1)
     (subst (λ (n : FeedValue). HearsOn old [] [] None n) (sym h.2) (nothing_heard old unended is)))
 pieces_are_one_push old (p ∷ ps) ms f new unended is h = ⊎_elim
-    (λ last. fault_ends_stream old new p (flat_map (λ q. q) ps) ms f last.faulty last.heard)
-    (λ more. subst (λ (ns : List Message). HearsOn old (p ++ flat_map (λ q. q) ps) ns f new) (sym more.all)
-      (pushes_are_one old more.middle new p (flat_map (λ q. q) ps) more.first more.others f more.heard
-      (pieces_are_one_push more.middle ps more.others f new (open_after more.middle more.heard.rest more.heard.after) (feed_stays old p more.first None more.middle more.heard) more.after)))
+    (λ last. fault_ends_stream old new p (concat ps) ms f last.faulty last.heard)
+    (λ more. subst (λ (ns : List Message). HearsOn old (p ++ concat ps) ns f new) (sym more.all)
+    (pushes_are_one old more.middle new p (concat ps) more.first more.others f more.heard
+    (pieces_are_one_push more.middle ps more.others f new (open_after more.middle more.heard.rest more.heard.after) (feed_stays old p more.first None more.middle more.heard) more.after)))
     h
   where
     open_after : (middle : FeedValue) (rest : List ℕ) → middle ≡ feed_with rest false → middle.failed ≡ false
@@ -184,6 +187,6 @@ one_push old new end s ms ns f g a b =
     (same.0, same.1, a.after ∙ ap (λ (h : Option WireFault). feed_after h a.rest) same.1 ∙ ap (feed_after g) same.2 ∙ sym b.after)
 
 -- where the stream is cut tells nothing
-pub cutting_tells_nothing : (old new end : FeedValue) (ps qs : List (List ℕ)) (ms ns : List Message) (f g : Option WireFault) → old.failed ≡ false → IsFeed old → flat_map (λ p. p) ps ≡ flat_map (λ q. q) qs → HearsAll old ps ms f new → HearsAll old qs ns g end → (ms ≡ ns) × (f ≡ g) × (new ≡ end)
+pub cutting_tells_nothing : (old new end : FeedValue) (ps qs : List (List ℕ)) (ms ns : List Message) (f g : Option WireFault) → old.failed ≡ false → IsFeed old → concat ps ≡ concat qs → HearsAll old ps ms f new → HearsAll old qs ns g end → (ms ≡ ns) × (f ≡ g) × (new ≡ end)
 cutting_tells_nothing old new end ps qs ms ns f g unended is e a b =
-    one_push old new end (flat_map (λ q. q) qs) ms ns f g (subst (λ (s : List ℕ). HearsOn old s ms f new) e (pieces_are_one_push old ps ms f new unended is a)) (pieces_are_one_push old qs ns g end unended is b)
+    one_push old new end (concat qs) ms ns f g (subst (λ (s : List ℕ). HearsOn old s ms f new) e (pieces_are_one_push old ps ms f new unended is a)) (pieces_are_one_push old qs ns g end unended is b)

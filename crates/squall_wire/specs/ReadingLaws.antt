@@ -94,7 +94,6 @@ unfolding some_at
 long_some read next h s bytes = long_bind (number_at w32 bytes) _ (long_number w32 bytes) (λ n. long_bind (checked (nat_le 1 n.0) true n) _ (long_checked (nat_le 1 n.0) true n) (λ counted. long_many read next h counted.0 s counted.1))
 
 long_second : {S X : Type 0} (version : ℕ) (read : S → List ℕ → Read X) (next : S → X → S) → IsReader read → IsReader (second_at version read next)
-unfolding second_at
 long_second version read next h s bytes = long_if (version == 2) _ _ (long_some read next h s bytes) tt
 
 long_opening : IsReader opening_at
@@ -201,13 +200,26 @@ short_tests false false false false false f e = absurd cc
 few_by_tests : (n b : ℕ) → (nat_le 8 n && nat_lt body_limit b) ≡ false → (not (nat_le 8 n) || nat_lt n (8 + b)) ≡ true → n ≤ 1048583
 few_by_tests n b p q = grind (arith, nat_tests)
 
-short_frame : (bytes : List ℕ) → message_at bytes ≡ Err Short → frame_at bytes ≡ Err Short
+-- what is read of a frame: what its body says, and how many bytes it takes
+abbrev sized : Frame → Body → Result (Body × ℕ) WireFault
+sized f b = Ok (b, 8 + length f.body)
+
+abbrev framed : Frame → Result (Body × ℕ) WireFault
+framed f = body_at f.version f.kind f.body >>= sized f
+
+abbrev read_frame : Result Frame WireFault → Result (Body × ℕ) WireFault
+read_frame frame = frame >>= framed
+
+message_by_frame : (bytes : List ℕ) → message_at bytes ≡ read_frame (frame_at bytes)
 unfolding message_at
-short_frame bytes e = by_frame (frame_at bytes) e
-  where
-    by_frame : (frame : Result Frame WireFault) → (frame >>= λ f. body_at f.version f.kind f.body >>= λ b. Ok (b, 8 + length f.body)) ≡ Err Short → frame ≡ Err Short
-    by_frame (Ok f) e = absurd (subst IsLong e (long_bind (body_at f.version f.kind f.body) _ (long_body f.version f.kind f.body) (λ b. tt)) refl)
-    by_frame (Err d) e = cc
+message_by_frame bytes = refl
+
+short_read : (frame : Result Frame WireFault) → read_frame frame ≡ Err Short → frame ≡ Err Short
+short_read (Ok f) e = absurd (subst IsLong e (long_bind (body_at f.version f.kind f.body) (sized f) (long_body f.version f.kind f.body) (λ b. tt)) refl)
+short_read (Err d) e = cc
+
+short_frame : (bytes : List ℕ) → message_at bytes ≡ Err Short → frame_at bytes ≡ Err Short
+short_frame bytes e = short_read (frame_at bytes) (sym (message_by_frame bytes) ∙ e)
 
 -- bytes that are too short for a frame are fewer than those of the longest
 pub short_is_few : (bytes : List ℕ) → message_at bytes ≡ Err Short → length bytes ≤ 1048583
@@ -301,5 +313,9 @@ module _ (r t : List ℕ) where
 
 -- what the first frame of bytes says, or its fault, stays what it is when more bytes come
 pub reading_stays : (r t : List ℕ) → message_at r ≢ Err Short → message_at (r ++ t) ≡ message_at r
-unfolding message_at
-reading_stays r t h = ap (λ (frame : Result Frame WireFault). frame >>= λ f. body_at f.version f.kind f.body >>= λ b. Ok (b, 8 + length f.body)) (frame_stays r t (λ e. h (ap (λ (frame : Result Frame WireFault). frame >>= λ f. body_at f.version f.kind f.body >>= λ b. Ok (b, 8 + length f.body)) e)))
+reading_stays r t h = message_by_frame (r ++ t) ∙ ap read_frame (frame_stays r t (λ e. h (message_by_frame r ∙ ap read_frame e))) ∙ sym (message_by_frame r)
+
+-- no bytes at all are too short for a frame
+pub nothing_is_short : message_at [] ≡ Err Short
+unfolding message_at frame_at
+nothing_is_short = refl
