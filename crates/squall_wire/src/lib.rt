@@ -11,6 +11,7 @@ mod encoding;
 mod fault;
 mod feed;
 mod issue;
+mod laws;
 mod message;
 
 pub use decoding::decode;
@@ -18,4 +19,8 @@ pub use digest::{Digest, DigestFault, DigestRow, IssueRow};
 pub use encoding::{EncodeFault, cell_bytes, encode};
 pub use fault::WireFault;
 pub use feed::{Feed, FeedFault, Heard};
+pub use laws::{
+    cutting_tells_nothing, faults_stay, one_frame, one_hearing, pieces_are_one_stream,
+    pieces_begin_the_stream, pushes_are_one, spelled_messages_are_heard,
+};
 pub use message::Message;
