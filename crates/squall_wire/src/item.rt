@@ -19,11 +19,7 @@ pub(crate) trait Item: Drop {
 
     /// The item at the front of the bytes, and the bytes after it. The error is the first fault of
     /// the item that is met, or that an allocation failed.
-    fn read(
-        alloc: Global,
-        point: Self::Point,
-        bytes: &[u8],
-    ) -> Result<(Self, &[u8]), WireFault>
+    fn read(alloc: Global, point: Self::Point, bytes: &[u8]) -> Result<(Self, &[u8]), WireFault>
         ensures { Gives (λ x. (x.0, x.1.now)) result (read_at point bytes.now) };
 
     /// Where a list that has come to the point is after the item.
