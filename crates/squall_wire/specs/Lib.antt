@@ -7,7 +7,11 @@ pub use Rattle.squall_report.specs.Cells
 pub use Rattle.squall_board.specs.Boards
 pub use Rattle.squall_board.specs.Listed
 pub mod Limits
+pub mod DigestValue
+pub mod FaultText
 pub mod Spelling
 pub mod Messages
+pub mod BoardOf
 pub mod Reading
 pub mod Hearing
+pub mod Heard

@@ -1,5 +1,5 @@
 -- Reading a frame from the front, and the first fault that is met (this project's form).
-use Rattle.std.specs.Prelude.{◌≡◌, ◌≢◌, ℕ, zero, suc, ◌+◌, ◌==◌, ◌&&◌, ◌||◌, not, List, [], ◌∷◌, length, take, drop, slice_index, Result, Ok, Err, nat_lt, nat_le, Bool, if◌then◌else◌}
+use Rattle.std.specs.Prelude.{◌≡◌, ◌≢◌, ℕ, zero, suc, ◌+◌, ◌==◌, ◌&&◌, ◌||◌, not, List, [], ◌∷◌, length, take, drop, slice_index, Result, Ok, Err, nat_lt, nat_le, Bool, true, if◌then◌else◌}
 use Rattle.std.specs.Int.{Width, w32, w64, byte_len, from_be_bytes}
 use Rattle.squall_span.specs.Spans.{Interval, interval}
 use Rattle.squall_join.specs.declared.flat.Flat.{Flat}
@@ -174,8 +174,8 @@ unfoldable pub digest_at : ℕ → List ℕ → Read DigestValue
 digest_at version bytes = do
   openings ← list_at opening_at after_opening 0 bytes
   issue_rows ← second_at version issue_row_at after_issue_row 0 openings.1
-  rows ← list_at row_at after_row (0, 0) issue_rows.1
-  Ok (record { openings = openings.0; issue_rows = issue_rows.0; rows = rows.0 }, rows.1)
+  others ← list_at row_at after_row (0, 0) issue_rows.1
+  Ok (record { openings = openings.0; issue_rows = issue_rows.0; rows = others.0 }, others.1)
 
 -- nothing may be left in the body
 unfoldable pub whole : {X : Type 0} → Read X → Result X WireFault

@@ -5,17 +5,17 @@
 #![tactic(auto)]
 
 mod build;
-mod decode;
+mod decoding;
 mod digest;
-mod encode;
+mod encoding;
 mod fault;
 mod feed;
 mod issue;
 mod message;
 
-pub use decode::decode;
+pub use decoding::decode;
 pub use digest::{Digest, DigestFault, DigestRow, IssueRow};
-pub use encode::{EncodeFault, cell_bytes, encode};
+pub use encoding::{EncodeFault, cell_bytes, encode};
 pub use fault::WireFault;
 pub use feed::{Feed, FeedFault, Heard};
 pub use message::Message;

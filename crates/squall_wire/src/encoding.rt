@@ -2,7 +2,7 @@
 
 ghost use Rattle.std.specs.Prelude.{◌≡◌, ◌<◌, length, IfOk, Err};
 ghost use Rattle.squall_board.specs.Listed.{CellEntry};
-ghost use Rattle.squall_wire.specs.declared.encode.EncodeFault.TheVariants.{TooLong, NoMemory};
+ghost use Rattle.squall_wire.specs.declared.encoding.EncodeFault.TheVariants.{TooLong, NoMemory};
 ghost use Rattle.squall_wire.specs.Limits.{body_limit};
 ghost use Rattle.squall_wire.specs.Messages.{body_of, spell, spell_body, IsMessage};
 ghost use Rattle.squall_wire.specs.Spelling.{spell_cell};
@@ -22,7 +22,7 @@ pub enum EncodeFault {
 
 impl From<AllocError> for EncodeFault {
     ghost use Rattle.std.specs.Prelude.{◌≡◌};
-    ghost use Rattle.squall_wire.specs.declared.encode.EncodeFault.TheVariants.{NoMemory};
+    ghost use Rattle.squall_wire.specs.declared.encoding.EncodeFault.TheVariants.{NoMemory};
 
     ghost from_gives = { λ _ e. e ≡ NoMemory };
 
