@@ -15,3 +15,7 @@ pub mod BoardOf
 pub mod Reading
 pub mod Hearing
 pub mod Heard
+pub mod FieldLaws
+pub mod ListLaws
+pub mod ItemLaws
+pub mod IssueItemLaws

@@ -10,7 +10,10 @@ mod digest;
 mod encoding;
 mod fault;
 mod feed;
+mod field;
 mod issue;
+mod item;
+mod list;
 mod message;
 
 pub use decoding::decode;
