@@ -120,6 +120,7 @@ head_range number mark h = (and_left_true (nat_le 1 number) (nat_le 1 mark && na
     and_left_true : (p q : Bool) → (p && q) ≡ true → p ≡ true
     and_left_true true q e = refl
     and_left_true false q e = e
+
     one_or_two : (m : ℕ) → 1 ≤ m → m ≤ 2 → (m ≡ 1) ⊎ (m ≡ 2)
     one_or_two zero low high = absurd (omega arith)
     one_or_two (suc zero) low high = inl refl

@@ -19,3 +19,5 @@ pub mod FieldLaws
 pub mod ListLaws
 pub mod ItemLaws
 pub mod IssueItemLaws
+pub mod BodyLaws
+pub mod FrameLaws
