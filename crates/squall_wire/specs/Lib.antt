@@ -21,3 +21,4 @@ pub mod ItemLaws
 pub mod IssueItemLaws
 pub mod BodyLaws
 pub mod FrameLaws
+pub mod Views

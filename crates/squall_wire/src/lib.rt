@@ -10,11 +10,9 @@ mod digest;
 mod encoding;
 mod fault;
 mod feed;
-mod field;
 mod issue;
-mod item;
-mod list;
 mod message;
+mod reading;
 
 pub use decoding::decode;
 pub use digest::{Digest, DigestFault, DigestRow, IssueRow};

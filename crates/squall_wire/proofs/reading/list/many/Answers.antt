@@ -2,7 +2,7 @@ use Rattle.std.proofs.Common.{◌≡◌, ◌++◌, ◌∷◌, []}
 use Rattle.std.proofs.lemmas.Result.{err_from_is_err_and}
 use Rattle.squall_wire.specs.Reading.{many_at}
 use Rattle.squall_wire.proofs.Loop.{goes_on, ends, is_done}
-use Rattle.squall_wire.proofs.list.many.Goals as goal
+use Rattle.squall_wire.proofs.reading.list.many.Goals as goal
 
 pub returns-in_err-item : goal.returns-in_err-item
 returns-in_err-item g c =

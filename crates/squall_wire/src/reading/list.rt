@@ -3,8 +3,8 @@
 ghost use Rattle.squall_wire.specs.Reading.{Gives, many_at, list_at, some_at, second_at};
 
 use crate::fault::WireFault;
-use crate::field::word_at;
-use crate::item::Item;
+use crate::reading::field::word_at;
+use crate::reading::item::Item;
 use std::alloc::Global;
 
 /// So many items at the front of the bytes, and the bytes after them. Room is made as items come,
