@@ -1,1 +1,6 @@
+<<<<<<< HEAD
 mod Front
+=======
+pub mod Loop
+pub mod Spans
+>>>>>>> w-read

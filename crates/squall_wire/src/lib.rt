@@ -13,6 +13,7 @@ mod feed;
 mod issue;
 mod laws;
 mod message;
+mod reading;
 
 pub use decoding::decode;
 pub use digest::{Digest, DigestFault, DigestRow, IssueRow};
