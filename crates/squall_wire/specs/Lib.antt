@@ -15,3 +15,5 @@ pub mod BoardOf
 pub mod Reading
 pub mod Hearing
 pub mod Heard
+pub mod Fits
+pub mod FitsLaws

@@ -1,6 +1,6 @@
 //! Digests of boards.
 
-ghost use Rattle.std.specs.Prelude.{◌≡◌, ◌→◌, IfOk, Err};
+ghost use Rattle.std.specs.Prelude.{◌≡◌, IfOk, Err};
 ghost use Rattle.squall_wire.specs.DigestValue.{digest_with, IsDigest};
 ghost use Rattle.squall_wire.specs.declared.digest.DigestFault.TheVariants.{BadDigest, NoMemory};
 

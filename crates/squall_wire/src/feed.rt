@@ -1,10 +1,10 @@
 //! Messages from a stream of bytes that comes in pieces.
 
-ghost use Rattle.std.specs.Prelude.{◌≡◌, ◌×◌, ◌++◌, ◌↔◌, ◌≤◌, [], List, ℕ, length, true, false, Err, IfOk, OnErr};
+ghost use Rattle.std.specs.Prelude.{◌≡◌, ◌++◌, ◌↔◌, ◌≤◌, [], List, ℕ, length, true, false, Err, IfOk, OnErr};
 ghost use Rattle.squall_wire.specs.declared.feed.FeedFault.TheVariants.{Failed, NoMemory};
 ghost use Rattle.squall_wire.specs.Hearing.{IsFeed, HearsOn, feed_with, waiting_limit};
 
-use crate::decode::decode;
+use crate::decoding::decode;
 use crate::fault::WireFault;
 use crate::message::Message;
 use std::alloc::{AllocError, Global};

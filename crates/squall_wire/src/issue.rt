@@ -17,7 +17,7 @@ pub(crate) struct IssueItem {
 }
 
 impl Model for IssueItem {
-    ghost use Rattle.std.specs.Prelude.{ℕ, ◌×◌};
+    ghost use Rattle.std.specs.Prelude.{ℕ};
     ghost use Rattle.std.specs.Arc.{arc_value};
     ghost use Rattle.squall_join.specs.declared.flat.Flat.{Flat};
     ghost use Rattle.squall_join.specs.Flats.{flat_map};

@@ -5,17 +5,20 @@
 #![tactic(auto)]
 
 mod build;
-mod decode;
+mod cells;
+mod decoding;
 mod digest;
-mod encode;
+mod encoding;
 mod fault;
 mod feed;
 mod issue;
+mod items;
 mod message;
+mod write;
 
-pub use decode::decode;
+pub use decoding::decode;
 pub use digest::{Digest, DigestFault, DigestRow, IssueRow};
-pub use encode::{EncodeFault, cell_bytes, encode};
+pub use encoding::{EncodeFault, cell_bytes, encode, encode_board};
 pub use fault::WireFault;
 pub use feed::{Feed, FeedFault, Heard};
 pub use message::Message;

@@ -1,6 +1,6 @@
 //! Messages from the bytes of frames.
 
-ghost use Rattle.std.specs.Prelude.{◌≡◌, ◌×◌, ◌≤◌, ◌++◌, ℕ, List, Ok, length, take, IfOk};
+ghost use Rattle.std.specs.Prelude.{◌≡◌, ◌≤◌, ◌++◌, ℕ, List, Ok, length, take, IfOk};
 ghost use Rattle.squall_wire.specs.declared.message.Message.{Message as MessageValue};
 ghost use Rattle.squall_wire.specs.Messages.{body_of, spell, IsMessage};
 ghost use Rattle.squall_wire.specs.Reading.{Gives, message_at};
