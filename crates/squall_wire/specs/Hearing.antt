@@ -15,8 +15,8 @@ EndsIn (Some e) rest = (e ≢ Short) × (e ≢ NoMemory) × (message_at rest ≡
 -- the stream begins with the frames of the messages, and what is left begins with no frame: it is too short, or has
 -- the fault
 pub record IsHeard (stream : List ℕ) (messages : List Message) (fault : Option WireFault) (rest : List ℕ) : Type 0 where
-  pub messages : AllByRecursion IsMessage messages
-  pub parts : stream ≡ spell_all messages ++ rest
+  pub each : AllByRecursion IsMessage messages
+  pub frames : stream ≡ spell_all messages ++ rest
   pub ends : EndsIn fault rest
 
 -- a feed: the bytes of an unfinished frame, and whether a fault has ended it
@@ -43,7 +43,7 @@ feed_after (Some e) rest = feed_with [] true
 
 -- the feed takes the piece: after the bytes that waited it begins with the frames of the messages, and the rest waits or has the fault
 pub record HearsOn (old : FeedValue) (piece : List ℕ) (messages : List Message) (fault : Option WireFault) (new : FeedValue) : Type 0 where
-  pub open : old.failed ≡ false
+  pub unended : old.failed ≡ false
   pub rest : List ℕ
   pub heard : IsHeard (old.waiting ++ piece) messages fault rest
   pub after : new ≡ feed_after fault rest

@@ -1,5 +1,5 @@
 -- Reading a frame from the front, and the first fault that is met (this project's form).
-use Rattle.std.specs.Prelude.{◌≡◌, ◌≢◌, ℕ, zero, suc, ◌+◌, ◌==◌, ◌&&◌, ◌||◌, not, List, [], ◌∷◌, length, take, drop, slice_index, Result, Ok, Err, nat_lt, nat_le, Bool, if◌then◌else◌}
+use Rattle.std.specs.Prelude.{◌≡◌, ◌≢◌, ℕ, zero, suc, ◌+◌, ◌==◌, ◌&&◌, ◌||◌, not, List, [], ◌∷◌, length, take, drop, slice_index, Result, Ok, Err, nat_lt, nat_le, Bool, true, if◌then◌else◌}
 use Rattle.std.specs.Int.{Width, w32, w64, byte_len, from_be_bytes}
 use Rattle.squall_span.specs.Spans.{Interval, interval}
 use Rattle.squall_join.specs.declared.flat.Flat.{Flat}
@@ -81,7 +81,7 @@ opening_at last bytes = do
   number ← number_at w32 bytes
   count ← number_at w32 number.1
   let opening : Opening = record { number = number.0; count = count.0 } in
-    checked (opening_in_range opening) (nat_lt last number.0) (opening, count.1)
+      checked (opening_in_range opening) (nat_lt last number.0) (opening, count.1)
 
 unfoldable pub span_at : ℕ → List ℕ → Read Interval
 span_at floor bytes = do
@@ -107,7 +107,7 @@ head_at last bytes = do
   done ← byte_at part.1
   count ← number_at w32 done.1
   let head : CellHead = record { place = place_at number.0 sub.0 part.0; done = done.0; count = count.0 } in
-    checked (head_in_range head) (is_later last head.place) (head, count.1)
+      checked (head_in_range head) (is_later last head.place) (head, count.1)
 
 unfoldable pub cell_at : CellPlace → List ℕ → Read CellEntry
 cell_at last bytes = do
@@ -120,7 +120,7 @@ range_at point bytes = do
   hi ← number_at w64 bytes
   part ← number_at w32 hi.1
   let range : PlanRange = record { span = interval point.from hi.0; part = part.0 } in
-    checked (range_in_range point range) (range_in_order point range) (range, part.1)
+      checked (range_in_range point range) (range_in_order point range) (range, part.1)
 
 unfoldable pub plan_at : List ℕ → Read (List PlanRange)
 plan_at bytes = do
@@ -159,7 +159,7 @@ row_at last bytes = do
   sub ← number_at w32 number.1
   hash ← hash_at sub.1
   let row : DigestRow = record { number = number.0; sub = sub.0; hash = hash.0 } in
-    checked (row_in_range row) (is_later_row last row) (row, hash.1)
+      checked (row_in_range row) (is_later_row last row) (row, hash.1)
 
 -- ---- bodies
 
@@ -174,8 +174,8 @@ unfoldable pub digest_at : ℕ → List ℕ → Read DigestValue
 digest_at version bytes = do
   openings ← list_at opening_at after_opening 0 bytes
   issue_rows ← second_at version issue_row_at after_issue_row 0 openings.1
-  rows ← list_at row_at after_row (0, 0) issue_rows.1
-  Ok (record { openings = openings.0; issue_rows = issue_rows.0; rows = rows.0 }, rows.1)
+  others ← list_at row_at after_row (0, 0) issue_rows.1
+  Ok (record { openings = openings.0; issue_rows = issue_rows.0; rows = others.0 }, others.1)
 
 -- nothing may be left in the body
 unfoldable pub whole : {X : Type 0} → Read X → Result X WireFault
