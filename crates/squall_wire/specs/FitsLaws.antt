@@ -1,6 +1,6 @@
 -- The lists of a board fit into a frame where their bytes are few.
-use Rattle.std.specs.Prelude.{◌≡◌, ◌≢◌, ℕ, zero, suc, ◌<◌, ◌≤◌, ◌+◌, ◌-◌, ◌==◌, ◌&&◌, ◌||◌, not, nat_lt, nat_le, Bool, true, false, List, [], ◌∷◌, ◌++◌, length, Option, None, Some, refl}
-use Rattle.std.proofs.Common.{sym, ap, subst, ◌∙◌, arith, length-append, Less}
+use Rattle.std.specs.Prelude.{◌≡◌, ◌≢◌, ℕ, zero, suc, ◌<◌, ◌≤◌, ◌+◌, ◌-◌, ◌*◌, ◌==◌, ◌&&◌, ◌||◌, not, nat_lt, nat_le, Bool, true, false, cond, List, [], ◌∷◌, ◌++◌, length, Option, None, Some, refl}
+use Rattle.std.proofs.Common.{sym, ap, subst, ◌∙◌, arith, length-append, Less, Equal, Greater}
 use Rattle.std.proofs.lemmas.Bool.Decides.{nat_tests}
 use Rattle.std.specs.List.{flat_map, AllByRecursion}
 use Rattle.std.specs.Cmp.{first_so}
@@ -72,7 +72,10 @@ spans_turn floor (s ∷ ss) from canonical ends = (span_fits floor s from canoni
 
 first_later : (n : ℕ) → 1 ≤ n → nat_cmp 0 n ≡ Less
 first_later zero some = absurd (omega arith)
-first_later (suc n) some = refl
+first_later (suc n) some = ap (λ b. cond b Less (cond (0 == suc n) Equal Greater)) (below n)
+  where
+    below : (n : ℕ) → nat_lt 0 (suc n) ≡ true
+    below n = grind (arith, nat_tests)
 
 later_than_none : (c : CellPlace) → is_cell_place c ≡ true → is_later no_place c ≡ true
 later_than_none c is = ap (λ o. is_lt (ordering_then o (ordering_then (nat_cmp 0 c.sub) (nat_cmp 0 c.part)))) (first_later c.number (grind (arith, nat_tests)))
@@ -162,6 +165,14 @@ spans_length ss = fewer_items spell_span ss (λ s. omega arith)
 
 cell_length : (c : CellEntry) → length c.spans ≤ length (spell_cell c)
 cell_length c = omega (arith, spans_length c.spans)
+
+spans_bytes : (ss : List Interval) → length (flat_map spell_span ss) ≡ 16 * length ss
+spans_bytes [] = refl
+spans_bytes (s ∷ ss) = omega (arith, spans_bytes ss)
+
+-- a cell of too many spans is too long
+pub many_spans : (old : List ℕ) (c : CellEntry) → 65536 < length c.spans → body_limit < length (old ++ spell_cell c)
+many_spans old c many = omega (arith, spans_bytes c.spans, length-append old (spell_cell c))
 
 few_spans : (cs : List CellEntry) (n : ℕ) → n < word_limit → length (flat_map spell_cell cs) ≤ n → AllByRecursion FewSpans cs
 few_spans [] n lt short = tt

@@ -5,17 +5,25 @@ ghost use Rattle.std.specs.Arc.{arc_value};
 ghost use Rattle.squall_join.specs.Flats.{flat_map, flat_is};
 ghost use Rattle.squall_wire.specs.Limits.{word_limit, FitsPlan};
 ghost use Rattle.squall_wire.specs.Fits.{ArePlans, IsWordOpening, IsWordIssue};
-ghost use Rattle.squall_wire.specs.Spelling.{spell_opening, spell_span, spell_range, spell_plan, spell_issued, spell_issue, spell_issue_row, spell_row};
+ghost use Rattle.squall_wire.specs.Spelling.{rank, spell_opening, spell_span, spell_range, spell_plan, spell_issued, spell_issue, spell_issue_row, spell_row};
 
 use crate::digest::{DigestRow, IssueRow};
 use crate::write::{Spelled, write_list};
 use squall_board::Opening;
 use squall_join::Flat;
+use squall_key::Bound;
 use squall_plan::{Plan, PlanRange};
 use squall_report::Issue;
 use squall_span::Span;
 use std::alloc::AllocError;
 use std::sync::Arc;
+
+/// Adds the eight bytes of the bound's rank.
+fn write_bound(out: &mut Vec<u8>, bound: Bound) -> Result<(), AllocError>
+    ensures { OnOk result (out.new.items ≡ out.old.items ++ rank bound) }
+{
+    out.extend_from_slice(&bound.rank().to_be_bytes())
+}
 
 impl Spelled for Opening {
     ghost spelling = { spell_opening };
@@ -32,8 +40,8 @@ impl Spelled for Span {
     ghost spelling = { spell_span };
 
     fn write(&self, out: &mut Vec<u8>) -> Result<(), AllocError> {
-        out.extend_from_slice(&self.lo().rank().to_be_bytes())?;
-        out.extend_from_slice(&self.hi().rank().to_be_bytes())
+        write_bound(out, self.lo())?;
+        write_bound(out, self.hi())
     }
 }
 
@@ -41,7 +49,7 @@ impl Spelled for PlanRange {
     ghost spelling = { spell_range };
 
     fn write(&self, out: &mut Vec<u8>) -> Result<(), AllocError> {
-        out.extend_from_slice(&self.span.hi().rank().to_be_bytes())?;
+        write_bound(out, self.span.hi())?;
         out.extend_from_slice(&self.part.get().to_be_bytes())
     }
 }
