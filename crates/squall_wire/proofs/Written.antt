@@ -1,5 +1,5 @@
 -- What is written, one item after another.
-use Rattle.std.specs.Prelude.{◌≡◌, ℕ, ◌<◌, ◌≤◌, ◌+◌, length, List, [], ◌∷◌, ◌++◌, Result, IfOk, OnOk, refl}
+use Rattle.std.specs.Prelude.{◌≡◌, ℕ, ◌<◌, ◌≤◌, ◌+◌, length, List, [], ◌∷◌, ◌++◌, Result, Err, refl}
 use Rattle.std.proofs.Common.{sym, ap, subst, ◌∙◌, arith, take, drop, get_or, append_assoc, length-append}
 use Rattle.std.proofs.lemmas.List.{append-nil, take_more, take-append-drop}
 use Rattle.std.proofs.lemmas.List.Concat.{flat_map-append}
@@ -51,3 +51,7 @@ front_long most old a b long = omega (arith, length-append old a, length-append 
 
 pub first_long : (most : ℕ) (a b : List ℕ) → most < length a → most < length (a ++ b)
 first_long most a b long = omega (arith, length-append a b, long)
+
+-- the fault of a step that is passed on
+pub passed_on : {A B E : Type 0} (r : Result A E) (s : Result B E) (x y e : E) → r ≡ Err x → s ≡ Err y → y ≡ x → s ≡ Err e → r ≡ Err e
+passed_on r s x y e p q same is = cc

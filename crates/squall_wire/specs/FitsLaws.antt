@@ -117,10 +117,13 @@ range_fits p r from some ends part last other = record { from = from; range = bo
   where
     le : {a b : ℕ} → a ≤ b → nat_le a b ≡ true
     le {a} {b} h = grind (arith, nat_tests)
+
     lt : {a b : ℕ} → a < b → nat_lt a b ≡ true
     lt {a} {b} h = grind (arith, nat_tests)
+
     both : (a b : Bool) → a ≡ true → b ≡ true → (a && b) ≡ true
     both a b x y = ap (λ v. v && b) x ∙ y
+
     both3 : (a b c : Bool) → a ≡ true → b ≡ true → c ≡ true → (a && (b && c)) ≡ true
     both3 a b c x y z = both a (b && c) x (both b c y z)
 

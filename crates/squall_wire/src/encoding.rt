@@ -1,10 +1,11 @@
 //! Messages as the bytes of frames.
 
-ghost use Rattle.std.specs.Prelude.{◌≡◌, ◌<◌, ◌≤◌, length, IfOk, Err};
+ghost use Rattle.std.specs.Prelude.{◌≡◌, ◌<◌, ◌≤◌, ◌++◌, length, IfOk, Err};
+ghost use Rattle.squall_board.specs.Listed.{issues_of};
 ghost use Rattle.squall_wire.specs.declared.encoding.EncodeFault.TheVariants.{TooLong, NoMemory};
 ghost use Rattle.squall_wire.specs.declared.message.Message.TheVariants.{Delta, Digest as DigestMessage};
 ghost use Rattle.squall_wire.specs.Limits.{body_limit};
-ghost use Rattle.squall_wire.specs.Messages.{body_of, spell, spell_body, spell_frame, IsMessage};
+ghost use Rattle.squall_wire.specs.Messages.{body_of, lists_of, spell, spell_lists, spell_body, spell_frame, version_with, AreLists, IsMessage};
 ghost use Rattle.squall_wire.specs.Spelling.{spell_cell};
 
 use crate::cells::{write_cell, write_cells};
@@ -56,7 +57,24 @@ fn frame(alloc: Global, version: u8, kind: u8, body: &[u8]) -> Result<Vec<u8>, E
     Ok(bytes)
 }
 
-/// The frame of a delta that the board is. No keys are copied but into the frame.
+/// Adds the lists of the board, as far as the bytes are not too many for a body. Returns the
+/// version of their frame.
+fn write_lists(out: &mut Vec<u8>, board: &Board) -> Result<u8, EncodeFault>
+    ensures written { IfOk result (λ _. out.new.items ≡ out.old.items ++ spell_lists (lists_of board.now)) }
+    ensures version { IfOk result (λ version. version ≡ version_with (issues_of board.now)) }
+    ensures lists { IfOk result (λ _. length (spell_lists (lists_of board.now)) ≤ body_limit → AreLists (lists_of board.now)) }
+    ensures long { result ≡ Err TooLong → body_limit < length (out.old.items ++ spell_lists (lists_of board.now)) }
+{
+    board.known();
+    let openings = board.openings()?;
+    let issues = board.issues()?;
+    write_all(out, &openings)?;
+    write_some(out, &issues)?;
+    write_cells(out, board)?;
+    Ok(version_of(&issues))
+}
+
+/// The frame of a delta, which is the board. No keys are copied but into the frame.
 ///
 /// `TooLong` where its body would have more than 1,048,576 bytes.
 pub fn encode_board(alloc: Global, board: &Board) -> Result<Vec<u8>, EncodeFault>
@@ -65,13 +83,9 @@ pub fn encode_board(alloc: Global, board: &Board) -> Result<Vec<u8>, EncodeFault
     ensures long { result ≡ Err TooLong → body_limit < length (spell_body (body_of (Delta board.now))) }
 {
     board.known();
-    let openings = board.openings()?;
-    let issues = board.issues()?;
     let mut body = Vec::new(alloc);
-    write_all(&mut body, &openings)?;
-    write_some(&mut body, &issues)?;
-    write_cells(&mut body, board)?;
-    frame(alloc, version_of(&issues), DELTA, &body)
+    let version = write_lists(&mut body, board)?;
+    frame(alloc, version, DELTA, &body)
 }
 
 /// The frame of a digest.

@@ -25,8 +25,8 @@ loop-place-preserved c =
       | in-Some+in_ok-write_within w ↦
           let h = cell_here b c.deref-place-items.result.now c.loop-place.place-index c.place-item.result w.in-Some.cell.now (c.deref-place-items.ensures.value ∙ c.in_ok-places.ensures) c.loop-place-test.true c.place-item.is c.cells_at_their_places.ensures (sym c.cell_at.ensures ∙ ap option_copied w.in-Some.is) in
           record {
-            written = list_more spell_cell c.args.out.now.items (word (length (cells_of b))) (cells_of b) c.loop-place.place-index (cell_entry c.place-item.result w.in-Some.cell.now) c.loop-place.out.items c.match-cell_at.out.items h.0 h.1 c.loop-place.invariant.written ?;
+            written = list_more spell_cell c.args.out.now.items (word (length (cells_of b))) (cells_of b) c.loop-place.place-index (cell_entry c.place-item.result w.in-Some.cell.now) c.loop-place.out.items c.match-cell_at.out.items h.0 h.1 c.loop-place.invariant.written (ap (λ v. v.items) w.out-is ∙ w.in_ok-write_within.ensures.written);
             known = all_more IsWordCell (cells_of b) c.loop-place.place-index (cell_entry c.place-item.result w.in-Some.cell.now) h.0 h.1 c.loop-place.invariant.known w.in_ok-write_within.ensures.known;
           }
-      | in_default w ↦ absurd (cell_there b c.deref-place-items.result.now c.loop-place.place-index c.place-item.result (c.deref-place-items.ensures.value ∙ c.in_ok-places.ensures) c.loop-place-test.true c.place-item.is c.cells_at_their_places.ensures (let g = w.in_default in ?))
+      | in_default w ↦ absurd (cell_there b c.deref-place-items.result.now c.loop-place.place-index c.place-item.result (c.deref-place-items.ensures.value ∙ c.in_ok-places.ensures) c.loop-place-test.true c.place-item.is c.cells_at_their_places.ensures (sym c.cell_at.ensures ∙ ap option_copied w.in_default.is))
     ]

@@ -8,5 +8,5 @@ use Rattle.squall_wire.proofs.cells.write_cells.Given as goal
 abbrev pub invariant-loop-place : goal.invariant-loop-place
 invariant-loop-place l = record {
   written : l.out.items ≡ l.fn.out.items ++ (word (length (cells_of l.board)) ++ flat_map spell_cell (take l.place-index (cells_of l.board)));
-  known : AllByRecursion IsWordCell (take l.place-index (cells_of l.board))
+  known : AllByRecursion IsWordCell (take l.place-index (cells_of l.board));
 }
