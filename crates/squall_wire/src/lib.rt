@@ -14,6 +14,7 @@ mod feed;
 mod issue;
 mod items;
 mod message;
+mod order;
 mod write;
 
 pub use decoding::decode;
