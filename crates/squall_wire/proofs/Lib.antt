@@ -1,6 +1,6 @@
-<<<<<<< HEAD
 mod Front
-=======
 pub mod Loop
 pub mod Spans
->>>>>>> w-read
+pub mod Written
+pub mod Placed
+pub mod Bodies

@@ -5,19 +5,23 @@
 #![tactic(auto)]
 
 mod build;
+mod cells;
 mod decoding;
 mod digest;
 mod encoding;
 mod fault;
 mod feed;
 mod issue;
+mod items;
 mod laws;
 mod message;
+mod order;
 mod reading;
+mod write;
 
 pub use decoding::decode;
 pub use digest::{Digest, DigestFault, DigestRow, IssueRow};
-pub use encoding::{EncodeFault, cell_bytes, encode};
+pub use encoding::{EncodeFault, cell_bytes, encode, encode_board};
 pub use fault::WireFault;
 pub use feed::{Feed, FeedFault, Heard};
 pub use laws::{
