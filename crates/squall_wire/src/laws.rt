@@ -1,10 +1,11 @@
 //! Laws of frames and of streams of them, each the contract of a function that does nothing.
 
-ghost use Rattle.std.specs.Prelude.{◌≡◌, ◌++◌, ℕ, List, [], Option, None, Some};
+ghost use Rattle.std.specs.Prelude.{◌≡◌, ◌++◌, ℕ, List, [], map, Option, None, Some};
 ghost use Rattle.std.specs.List.{AllByRecursion, concat};
 ghost use Rattle.squall_wire.specs.declared.fault.WireFault.{WireFault};
 ghost use Rattle.squall_wire.specs.declared.message.Message.{Message as MessageValue};
-ghost use Rattle.squall_wire.specs.Messages.{spell, spell_all, IsMessage};
+ghost use Rattle.squall_wire.specs.Messages.{body_of, spell, spell_all, IsMessage};
+ghost use Rattle.squall_wire.specs.Heard.{heard_of, heard_with};
 ghost use Rattle.squall_wire.specs.Hearing.{IsHeard, FeedValue, new_feed, HearsOn, HearsAll};
 
 /// Each message has one frame, and no frame begins another: bytes that begin with the frames of
@@ -54,4 +55,10 @@ pub fn pieces_begin_the_stream()
 /// ways, give the same messages and the same fault, and end as the same feed.
 pub fn cutting_tells_nothing()
     ensures { (ps qs : List (List ℕ)) (ms ns : List MessageValue) (f g : Option WireFault) (new end : FeedValue) → concat ps ≡ concat qs → HearsAll new_feed ps ms f new → HearsAll new_feed qs ns g end → (ms ≡ ns) × (f ≡ g) × (new ≡ end) }
+{}
+
+/// What is heard in a stream is what its frames say, taken one after the other.
+#[tactic(auto, using(crate::specs::HeardLaws::heard_is))]
+pub fn heard_frame_by_frame()
+    ensures { (stream : List ℕ) (ms : List MessageValue) (f : Option WireFault) (r : List ℕ) → IsHeard stream ms f r → heard_of stream ≡ heard_with (map body_of ms) f r }
 {}
