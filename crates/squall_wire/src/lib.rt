@@ -24,3 +24,6 @@ pub use laws::{
     pieces_begin_the_stream, pushes_are_one, spelled_messages_are_heard,
 };
 pub use message::Message;
+
+#[cfg(test)]
+mod tests;
