@@ -1,2 +1,4 @@
 pub mod Loop
 pub mod Spans
+pub mod Cells
+pub mod Plans

@@ -1,9 +1,10 @@
 -- What readers give, seen as the definitions see it (this project's form).
 use Rattle.std.specs.Prelude.{◌≡◌, ℕ, List, Ok}
-use Rattle.squall_span.specs.Spans.{Interval, insert_span}
+use Rattle.squall_span.specs.Spans.{Interval, interval, insert_span}
+use Rattle.squall_plan.specs.declared.range.PlanRange.{PlanRange}
 use Rattle.squall_report.specs.Cells.{place_at}
 use Rattle.squall_wire.specs.declared.reading.cell.CellHead.{CellHead}
-use Rattle.squall_wire.specs.Limits.{after_span}
+use Rattle.squall_wire.specs.Limits.{after_span, PlanPoint}
 use Rattle.squall_wire.specs.Reading.{CellHead as HeadSeen, span_at}
 
 abbrev pub head_seen : CellHead → HeadSeen
@@ -15,3 +16,7 @@ pub record HasAdded (floor : ℕ) (bytes : List ℕ) (old new : List Interval) (
   pub read : span_at floor bytes ≡ Ok (span, rest)
   pub goes_on : next ≡ after_span floor span
   pub added : new ≡ insert_span span old
+
+-- the range from a point to a bound, of a partition
+abbrev pub range_of : PlanPoint → ℕ → ℕ → PlanRange
+range_of point hi part = record { span = interval point.from hi; part = part }

@@ -5,5 +5,7 @@ mod field;
 mod item;
 mod list;
 mod opening;
+mod plan;
+mod range;
 mod row;
 mod span;
