@@ -2,6 +2,7 @@
 
 mod cell;
 mod field;
+mod issued;
 mod item;
 mod list;
 mod opening;
