@@ -1,4 +1,8 @@
+mod Front
 pub mod Loop
 pub mod Spans
 pub mod Cells
 pub mod Plans
+pub mod Written
+pub mod Placed
+pub mod Bodies

@@ -11,8 +11,10 @@ pub mod DigestValue
 pub mod FaultText
 pub mod Spelling
 pub mod Messages
+pub mod Fits
 pub mod BoardOf
 pub mod Reading
+pub mod Views
 pub mod Hearing
 pub mod Heard
 pub mod FieldLaws
@@ -21,4 +23,7 @@ pub mod ItemLaws
 pub mod IssueItemLaws
 pub mod BodyLaws
 pub mod FrameLaws
-pub mod Views
+pub mod FitsLaws
+pub mod ReadingLaws
+pub mod HearingLaws
+pub mod HeardLaws
