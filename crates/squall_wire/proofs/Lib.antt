@@ -1,7 +1,7 @@
 mod Front
 pub mod Loop
 pub mod Spans
-pub mod Cells
+pub mod Heads
 pub mod Plans
 pub mod Written
 pub mod Placed

@@ -1,7 +1,9 @@
 //! Reading from the front of bytes.
 
+pub(crate) mod body;
 mod cell;
 mod field;
+pub(crate) mod frame;
 mod issued;
 mod item;
 mod list;

@@ -1,7 +1,7 @@
 use Rattle.std.proofs.Common.{◌∙◌}
 use Rattle.squall_board.specs.Listed.{entry_with}
 use Rattle.squall_wire.specs.Views.{head_seen}
-use Rattle.squall_wire.proofs.Cells.{cell_is_there, not_none}
+use Rattle.squall_wire.proofs.Heads.{cell_is_there, not_none}
 use Rattle.squall_wire.proofs.reading.cell.CellItem.read.Goals as goal
 
 pub returns-in_err-cell : goal.returns-in_err-cell
