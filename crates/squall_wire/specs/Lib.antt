@@ -17,3 +17,5 @@ pub mod Hearing
 pub mod Heard
 pub mod Fits
 pub mod FitsLaws
+pub mod TurnLaws
+pub mod BoardOfLaws
