@@ -1,5 +1,6 @@
 -- What a feed hears in a stream of frames (this project).
-use Rattle.std.specs.Prelude.{◌≡◌, ◌≢◌, ℕ, List, [], ◌++◌, Option, Some, None, Bool, true, false, Result, Ok, Err, length}
+use Rattle.std.specs.Prelude.{◌≡◌, ◌≢◌, ◌⊎◌, ℕ, List, [], ◌∷◌, ◌++◌, Option, Some, None, Bool, true, false, Result, Ok, Err, length}
+use Rattle.std.specs.Option.{IsSome}
 use Rattle.std.specs.List.{AllByRecursion}
 use Rattle.squall_wire.specs.declared.fault.WireFault.{WireFault}
 use Rattle.squall_wire.specs.declared.fault.WireFault.TheVariants.{Short, NoMemory}
@@ -27,6 +28,10 @@ pub record FeedValue : Type 0 where
 abbrev pub feed_with : List ℕ → Bool → FeedValue
 feed_with waiting failed = record { waiting = waiting; failed = failed }
 
+-- a feed that has taken nothing
+abbrev pub new_feed : FeedValue
+new_feed = feed_with [] false
+
 -- no more bytes wait: one less than those of the longest frame
 abbrev pub waiting_limit : ℕ
 waiting_limit = 1048583
@@ -47,3 +52,22 @@ pub record HearsOn (old : FeedValue) (piece : List ℕ) (messages : List Message
   pub rest : List ℕ
   pub heard : IsHeard (old.waiting ++ piece) messages fault rest
   pub after : new ≡ feed_after fault rest
+
+-- the first piece has a fault, which ends the stream: what comes after it is not heard
+pub record EndsAt (old : FeedValue) (piece : List ℕ) (messages : List Message) (fault : Option WireFault) (new : FeedValue) : Type 0 where
+  pub faulty : IsSome fault
+  pub heard : HearsOn old piece messages fault new
+
+-- the first piece has no fault, and the others are heard after it
+pub record GoesOn (old : FeedValue) (piece : List ℕ) (messages : List Message) (Others : List Message → FeedValue → Type 0) : Type 0 where
+  pub first : List Message
+  pub others : List Message
+  pub middle : FeedValue
+  pub all : messages ≡ first ++ others
+  pub heard : HearsOn old piece first None middle
+  pub after : Others others middle
+
+-- the feed takes piece after piece, up to the first that has a fault: the messages of them all, and the fault
+abbrev pub HearsAll : FeedValue → List (List ℕ) → List Message → Option WireFault → FeedValue → Type 0
+HearsAll old [] messages fault new = (messages ≡ []) × (fault ≡ None) × (new ≡ old)
+HearsAll old (piece ∷ pieces) messages fault new = EndsAt old piece messages fault new ⊎ GoesOn old piece messages (λ others middle. HearsAll middle pieces others fault new)

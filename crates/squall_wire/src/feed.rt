@@ -1,8 +1,9 @@
 //! Messages from a stream of bytes that comes in pieces.
 
-ghost use Rattle.std.specs.Prelude.{◌≡◌, ◌++◌, ◌↔◌, ◌≤◌, [], List, ℕ, length, true, false, Err, IfOk, OnErr};
+ghost use Rattle.std.specs.Prelude.{◌≡◌, ◌≢◌, ◌++◌, ◌↔◌, ◌≤◌, [], List, ℕ, length, true, false, Err, IfOk, OnErr, is_some, IsOk};
 ghost use Rattle.squall_wire.specs.declared.feed.FeedFault.TheVariants.{Failed, NoMemory};
-ghost use Rattle.squall_wire.specs.Hearing.{IsFeed, HearsOn, feed_with, waiting_limit};
+ghost use Rattle.squall_wire.specs.Hearing.{EndsIn, IsHeard, IsFeed, HearsOn, feed_with, waiting_limit};
+ghost use Rattle.squall_wire.specs.Reading.{message_at};
 
 use crate::decoding::decode;
 use crate::fault::WireFault;
@@ -60,6 +61,87 @@ impl Model for Feed {
     ghost invariant = { λ f. IsFeed (feed_with f.waiting.items f.failed) };
 }
 
+/// What a feed tells of the fault of the bytes that `decode` was asked for: nothing where the
+/// bytes to come may mend it.
+fn lasting(fault: WireFault) -> Result<Option<WireFault>, AllocError>
+    ensures told { IfOk result (λ told. (bytes : List ℕ) → (fault ≢ WireFault.NoMemory → message_at bytes ≡ Err fault) → EndsIn told bytes) }
+    ensures memory { fault ≢ WireFault.NoMemory → IsOk result }
+{
+    match fault {
+        WireFault::Short => Ok(None),
+        WireFault::NoMemory => Err(AllocError),
+        other => Ok(Some(other)),
+    }
+}
+
+/// What is heard in the bytes, and what is left of them. Each byte of a frame is read once.
+fn hear(alloc: Global, bytes: &[u8]) -> Result<(Heard, &[u8]), AllocError>
+    ensures { IfOk result (λ x. IsHeard bytes.now x.0.messages.items x.0.fault x.1.now) }
+{
+    let mut messages = Vec::new(alloc);
+    let mut rest = bytes;
+    loop {
+        match decode(alloc, rest) {
+            Ok((message, used)) => {
+                messages.push(message)?;
+                rest = rest.split_at(used).1;
+            }
+            Err(fault) => {
+                let fault = lasting(fault)?;
+                return Ok((Heard { messages, fault }, rest));
+            }
+        }
+    }
+}
+
+/// Takes a piece where no bytes wait. Nothing is copied but what has to wait.
+fn take_first(waiting: &mut Vec<u8>, piece: &[u8]) -> Result<Heard, AllocError>
+    requires { waiting.old.items ≡ [] }
+    ensures heard { IfOk result (λ heard. HearsOn (feed_with waiting.old.items false) piece.now heard.messages.items heard.fault (feed_with waiting.new.items (is_some heard.fault))) }
+    ensures err { OnErr result (waiting.new.items ≡ waiting.old.items) }
+{
+    let (heard, rest) = hear(*waiting.allocator(), piece)?;
+    if heard.fault.is_none() {
+        waiting.extend_from_slice(rest)?;
+    }
+    Ok(heard)
+}
+
+/// Takes a piece after the bytes that wait.
+fn take_next(waiting: &mut Vec<u8>, piece: &[u8]) -> Result<Heard, AllocError>
+    ensures heard { IfOk result (λ heard. HearsOn (feed_with waiting.old.items false) piece.now heard.messages.items heard.fault (feed_with waiting.new.items (is_some heard.fault))) }
+    ensures err { OnErr result (waiting.new.items ≡ waiting.old.items) }
+{
+    let had = waiting.len();
+    waiting.extend_from_slice(piece)?;
+    let (heard, left) = match hear(*waiting.allocator(), waiting) {
+        Ok((heard, rest)) => (heard, rest.len()),
+        Err(error) => {
+            waiting.truncate(had);
+            return Err(error);
+        }
+    };
+    if heard.fault.is_some() {
+        waiting.clear();
+    } else {
+        let used = waiting.len() - left;
+        drop(waiting.drain(..used));
+    }
+    Ok(heard)
+}
+
+/// Takes a piece after the bytes that wait.
+fn take_piece(waiting: &mut Vec<u8>, piece: &[u8]) -> Result<Heard, AllocError>
+    ensures heard { IfOk result (λ heard. HearsOn (feed_with waiting.old.items false) piece.now heard.messages.items heard.fault (feed_with waiting.new.items (is_some heard.fault))) }
+    ensures err { OnErr result (waiting.new.items ≡ waiting.old.items) }
+{
+    if waiting.is_empty() {
+        take_first(waiting, piece)
+    } else {
+        take_next(waiting, piece)
+    }
+}
+
 impl Feed {
     /// A feed that has taken nothing. It allocates nothing.
     pub fn new(alloc: Global) -> Feed
@@ -82,7 +164,9 @@ impl Feed {
         if self.failed {
             return Err(FeedFault::Failed);
         }
-        Err(FeedFault::NoMemory)
+        let heard = take_piece(&mut self.waiting, piece)?;
+        self.failed = heard.fault.is_some();
+        Ok(heard)
     }
 
     /// Changes nothing: after it a proof knows what holds of every feed. What waits is too short

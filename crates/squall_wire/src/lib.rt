@@ -13,9 +13,10 @@ mod fault;
 mod feed;
 mod issue;
 mod items;
-mod listed;
+mod laws;
 mod message;
 mod order;
+mod reading;
 mod write;
 
 pub use decoding::decode;
@@ -23,5 +24,8 @@ pub use digest::{Digest, DigestFault, DigestRow, IssueRow};
 pub use encoding::{EncodeFault, cell_bytes, encode, encode_board};
 pub use fault::WireFault;
 pub use feed::{Feed, FeedFault, Heard};
-pub use listed::lists_make_the_board;
+pub use laws::{
+    cutting_tells_nothing, faults_stay, lists_make_the_board, one_frame, one_hearing,
+    pieces_are_one_stream, pieces_begin_the_stream, pushes_are_one, spelled_messages_are_heard,
+};
 pub use message::Message;

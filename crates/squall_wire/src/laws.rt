@@ -1,0 +1,67 @@
+//! Laws of frames and of streams of them, each the contract of a function that does nothing.
+
+ghost use Rattle.std.specs.Prelude.{◌≡◌, ◌++◌, ℕ, List, [], Option, None, Some};
+ghost use Rattle.std.specs.List.{AllByRecursion, concat};
+ghost use Rattle.squall_wire.specs.declared.fault.WireFault.{WireFault};
+ghost use Rattle.squall_wire.specs.declared.message.Message.{Message as MessageValue};
+ghost use Rattle.squall_wire.specs.BoardOf.{board_of_lists};
+ghost use Rattle.squall_wire.specs.Messages.{lists_of, spell, spell_all, IsMessage};
+ghost use Rattle.squall_wire.specs.Hearing.{IsHeard, FeedValue, new_feed, HearsOn, HearsAll};
+
+use squall_board::Board;
+
+/// Each message has one frame, and no frame begins another: bytes that begin with the frames of
+/// two messages have one message, and go on alike after it.
+pub fn one_frame()
+    ensures { (m n : MessageValue) (x y : List ℕ) → IsMessage m → IsMessage n → spell m ++ x ≡ spell n ++ y → (m ≡ n) × (x ≡ y) }
+{}
+
+/// In a stream one thing is heard: one list of messages, one fault or none, and one rest. So the
+/// messages that a feed has given are those whose frames begin the stream, and no others can be.
+pub fn one_hearing()
+    ensures { (stream : List ℕ) (ms ns : List MessageValue) (f g : Option WireFault) (r q : List ℕ) → IsHeard stream ms f r → IsHeard stream ns g q → (ms ≡ ns) × (f ≡ g) × (r ≡ q) }
+{}
+
+/// The frames of messages, one after the other, are heard as these messages, with no fault and
+/// nothing left.
+pub fn spelled_messages_are_heard()
+    ensures { (ms : List MessageValue) → AllByRecursion IsMessage ms → IsHeard (spell_all ms) ms None [] }
+{}
+
+/// What is heard first, and then in what was left and the bytes that come after it, is heard in
+/// the whole stream.
+pub fn pieces_are_one_stream()
+    ensures { (s t : List ℕ) (ms ns : List MessageValue) (f : Option WireFault) (r q : List ℕ) → IsHeard s ms None r → IsHeard (r ++ t) ns f q → IsHeard (s ++ t) (ms ++ ns) f q }
+{}
+
+/// After a fault nothing more can be heard: whatever bytes come, the messages stay those before
+/// it, and the fault stays.
+pub fn faults_stay()
+    ensures { (s t : List ℕ) (ms : List MessageValue) (f : WireFault) (r : List ℕ) → IsHeard s ms (Some f) r → IsHeard (s ++ t) ms (Some f) (r ++ t) }
+{}
+
+/// Two pieces that a feed takes one after the other give what both give as one piece, and leave
+/// the same feed.
+pub fn pushes_are_one()
+    ensures { (old middle new : FeedValue) (s t : List ℕ) (ms ns : List MessageValue) (f : Option WireFault) → HearsOn old s ms None middle → HearsOn middle t ns f new → HearsOn old (s ++ t) (ms ++ ns) f new }
+{}
+
+/// Whatever pieces a new feed has taken, the messages that it gave are those whose frames begin
+/// the stream of all the pieces, its fault is that of what follows them, and what waits in it is
+/// the rest of the stream.
+pub fn pieces_begin_the_stream()
+    ensures { (pieces : List (List ℕ)) (ms : List MessageValue) (f : Option WireFault) (new : FeedValue) → HearsAll new_feed pieces ms f new → HearsOn new_feed (concat pieces) ms f new }
+{}
+
+/// Where a stream is cut tells nothing: new feeds that take the pieces of one stream, cut in two
+/// ways, give the same messages and the same fault, and end as the same feed.
+pub fn cutting_tells_nothing()
+    ensures { (ps qs : List (List ℕ)) (ms ns : List MessageValue) (f g : Option WireFault) (new end : FeedValue) → concat ps ≡ concat qs → HearsAll new_feed ps ms f new → HearsAll new_feed qs ns g end → (ms ≡ ns) × (f ≡ g) × (new ≡ end) }
+{}
+
+/// The openings, the issues and the cells of a board, joined one after another, make that board.
+pub fn lists_make_the_board(board: &Board)
+    ensures { board_of_lists (lists_of board.now) ≡ board.now }
+{
+    board.known();
+}
