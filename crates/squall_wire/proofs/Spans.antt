@@ -43,6 +43,7 @@ insert_last floor s (t ∷ ts) low some below =
   where
     later : (x y : ℕ) → y ≤ x → nat_lt x y ≡ false
     later x y le = grind (arith, nat_tests)
+
     sooner : (x y : ℕ) → x < y → nat_lt x y ≡ true
     sooner x y lt = grind (arith, nat_tests)
 

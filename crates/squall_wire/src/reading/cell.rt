@@ -102,8 +102,9 @@ impl Item for Cell {
     fn read(alloc: Global, last: CellPoint, bytes: &[u8]) -> Result<(Cell, &[u8]), WireFault> {
         let (head, rest) = head_of(last, bytes)?;
         let (spans, rest) = spans_of(alloc, head.count, rest)?;
-        let cell = Cell::new(head.number, head.sub, head.part, head.done == 1, spans)
-            .ok_or(WireFault::Range)?;
+        let cell = Cell::new(head.number, head.sub, head.part, head.done == 1, spans).ok_or(
+            WireFault::Range,
+        )?;
         Ok((cell, rest))
     }
 
