@@ -6,3 +6,4 @@ pub mod Plans
 pub mod Written
 pub mod Placed
 pub mod Bodies
+pub mod Decoded

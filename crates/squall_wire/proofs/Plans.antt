@@ -24,10 +24,13 @@ told p r f =
   where
     below : (x y : ℕ) → nat_lt x y ≡ true → x < y
     below x y h = grind (arith, nat_tests)
+
     by_range : (q : PlanPoint) (s : PlanRange) → range_in_range q s ≡ true → s.span.hi ≤ top
     by_range q s h = grind (arith, nat_tests)
+
     at_top : (q : PlanPoint) (s : PlanRange) → range_in_range q s ≡ true → q.left ≡ 1 → s.span.hi ≡ top
     at_top q s h one = grind (arith, nat_tests)
+
     part_low : (q : PlanPoint) (s : PlanRange) → range_in_range q s ≡ true → s.part < part_limit
     part_low q s h = grind (arith, nat_tests)
 

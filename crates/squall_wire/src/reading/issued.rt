@@ -34,11 +34,7 @@ fn head_of(last: u32, bytes: &[u8]) -> Result<(u32, u8, &[u8]), WireFault>
 /// What is issued, at the front of the bytes, and the bytes after it: a clash after mark 2, else
 /// two plans.
 #[tactic(auto, unfolding(crate::specs::Reading::issued_at))]
-fn issued_of(
-    alloc: Global,
-    mark: u8,
-    bytes: &[u8],
-) -> Result<(Flat<Arc<Issue>>, &[u8]), WireFault>
+fn issued_of(alloc: Global, mark: u8, bytes: &[u8]) -> Result<(Flat<Arc<Issue>>, &[u8]), WireFault>
     ensures { Gives (λ x. (flat_map arc_value x.0, x.1.now)) result (issued_at mark bytes.now) }
 {
     if mark == 2 {
