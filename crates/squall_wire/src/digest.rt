@@ -2,8 +2,10 @@
 
 ghost use Rattle.std.specs.Prelude.{◌≡◌, IfOk, Err};
 ghost use Rattle.squall_wire.specs.DigestValue.{digest_with, IsDigest};
+ghost use Rattle.squall_wire.specs.Limits.{AreListed, FitsOpening, after_opening, FitsIssueRow, after_issue_row, FitsRow, after_row};
 ghost use Rattle.squall_wire.specs.declared.digest.DigestFault.TheVariants.{BadDigest, NoMemory};
 
+use crate::order::{are_issue_rows, are_openings, are_rows};
 use squall_board::Opening;
 use std::alloc::{AllocError, Global};
 use std::marker::Model;
@@ -67,23 +69,55 @@ impl Model for Digest {
 }
 
 impl Digest {
-    /// The openings, by rising number.
+    /// The digest of three lists: of how many sub-plans are opened and of the hashes of issues, by
+    /// rising number, and of the hashes of rows, by rising number and sub-plan.
+    ///
+    /// `BadDigest` where a list is not in order or has more items than four bytes can count, where
+    /// a number is 0, a count 0 or above 10,000, or a sub-plan above 9999; `NoMemory` where an
+    /// allocation failed.
+    pub fn of(
+        alloc: Global,
+        openings: &[Opening],
+        issue_rows: &[IssueRow],
+        rows: &[DigestRow],
+    ) -> Result<Digest, DigestFault>
+        ensures value { IfOk result (λ d. d ≡ digest_with openings.now issue_rows.now rows.now) }
+        ensures ok { IfOk result (λ _. IsDigest (digest_with openings.now issue_rows.now rows.now)) }
+        ensures bad { result ≡ Err BadDigest → IsDigest (digest_with openings.now issue_rows.now rows.now) → ⊥ }
+    {
+        if !are_openings(openings) || !are_issue_rows(issue_rows) || !are_rows(rows) {
+            return Err(DigestFault::BadDigest);
+        }
+        let openings = Vec::from_slice(alloc, openings)?;
+        let issue_rows = Vec::from_slice(alloc, issue_rows)?;
+        let rows = Vec::from_slice(alloc, rows)?;
+        Ok(Digest {
+            openings,
+            issue_rows,
+            rows,
+        })
+    }
+
+    /// How many sub-plans are opened, by rising number.
     pub fn openings(&self) -> &[Opening]
-        ensures { result.now ≡ self.now.openings }
+        ensures value { result.now ≡ self.now.openings }
+        ensures listed { AreListed FitsOpening after_opening 0 result.now }
     {
         &self.openings
     }
 
     /// The hashes of issues, by rising number.
     pub fn issue_rows(&self) -> &[IssueRow]
-        ensures { result.now ≡ self.now.issue_rows }
+        ensures value { result.now ≡ self.now.issue_rows }
+        ensures listed { AreListed FitsIssueRow after_issue_row 0 result.now }
     {
         &self.issue_rows
     }
 
     /// The hashes of rows, by rising number and sub-plan.
     pub fn rows(&self) -> &[DigestRow]
-        ensures { result.now ≡ self.now.rows }
+        ensures value { result.now ≡ self.now.rows }
+        ensures listed { AreListed FitsRow after_row (0, 0) result.now }
     {
         &self.rows
     }
@@ -93,5 +127,21 @@ impl Digest {
         ensures { IsDigest self.now }
     {
         let _openings = &self.openings;
+    }
+
+    /// The digest of three lists that are known to be in order and within their limits.
+    pub(crate) fn of_lists(
+        openings: Vec<Opening>,
+        issue_rows: Vec<IssueRow>,
+        rows: Vec<DigestRow>,
+    ) -> Digest
+        requires { IsDigest (digest_with openings.items issue_rows.items rows.items) }
+        ensures { result ≡ digest_with openings.items issue_rows.items rows.items }
+    {
+        Digest {
+            openings,
+            issue_rows,
+            rows,
+        }
     }
 }

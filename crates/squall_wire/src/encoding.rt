@@ -1,15 +1,25 @@
 //! Messages as the bytes of frames.
 
-ghost use Rattle.std.specs.Prelude.{◌≡◌, ◌<◌, length, IfOk, Err};
-ghost use Rattle.squall_board.specs.Listed.{CellEntry};
+ghost use Rattle.std.specs.Prelude.{◌≡◌, ◌<◌, ◌≤◌, ◌++◌, length, IfOk, Err};
+ghost use Rattle.squall_board.specs.Listed.{issues_of};
 ghost use Rattle.squall_wire.specs.declared.encoding.EncodeFault.TheVariants.{TooLong, NoMemory};
+ghost use Rattle.squall_wire.specs.declared.message.Message.TheVariants.{Delta, Digest as DigestMessage};
 ghost use Rattle.squall_wire.specs.Limits.{body_limit};
-ghost use Rattle.squall_wire.specs.Messages.{body_of, spell, spell_body, IsMessage};
+ghost use Rattle.squall_wire.specs.Messages.{body_of, lists_of, spell, spell_lists, spell_body, spell_frame, version_with, AreLists, IsMessage};
 ghost use Rattle.squall_wire.specs.Spelling.{spell_cell};
 
+use crate::cells::{write_cell, write_cells};
+use crate::digest::Digest;
 use crate::message::Message;
-use squall_board::Cell;
+use crate::write::{BODY_LIMIT, count_bytes, version_of, write_all, write_some};
+use squall_board::{Board, Cell};
 use std::alloc::{AllocError, Global};
+
+/// The fourth byte of the frame of a delta.
+const DELTA: u8 = 1;
+
+/// The fourth byte of the frame of a digest.
+const DIGEST: u8 = 2;
 
 /// Why a message has no frame.
 #[derive(Clone, Copy, Debug, PartialEq, Eq)]
@@ -31,13 +41,79 @@ impl From<AllocError> for EncodeFault {
     }
 }
 
+/// The frame of a body of that version and kind. `TooLong` where the body is.
+fn frame(alloc: Global, version: u8, kind: u8, body: &[u8]) -> Result<Vec<u8>, EncodeFault>
+    ensures spelled { IfOk result (λ bytes. bytes.items ≡ spell_frame version kind body.now) }
+    ensures short { IfOk result (λ _. length body.now ≤ body_limit) }
+    ensures long { result ≡ Err TooLong → body_limit < length body.now }
+{
+    if body.len() > BODY_LIMIT {
+        return Err(EncodeFault::TooLong);
+    }
+    let mut bytes = Vec::with_capacity(alloc, 8 + body.len())?;
+    bytes.extend_from_slice(&[83, 81, version, kind])?;
+    bytes.extend_from_slice(&count_bytes(body.len()))?;
+    bytes.extend_from_slice(body)?;
+    Ok(bytes)
+}
+
+/// Adds the lists of the board, as far as the bytes are not too many for a body. Returns the
+/// version of their frame.
+fn write_lists(out: &mut Vec<u8>, board: &Board) -> Result<u8, EncodeFault>
+    ensures written { IfOk result (λ _. out.new.items ≡ out.old.items ++ spell_lists (lists_of board.now)) }
+    ensures version { IfOk result (λ version. version ≡ version_with (issues_of board.now)) }
+    ensures lists { IfOk result (λ _. length (spell_lists (lists_of board.now)) ≤ body_limit → AreLists (lists_of board.now)) }
+    ensures long { result ≡ Err TooLong → body_limit < length (out.old.items ++ spell_lists (lists_of board.now)) }
+{
+    board.known();
+    let openings = board.openings()?;
+    let issues = board.issues()?;
+    write_all(out, &openings)?;
+    write_some(out, &issues)?;
+    write_cells(out, board)?;
+    Ok(version_of(&issues))
+}
+
+/// The frame of a delta, which is the board. No keys are copied but into the frame.
+///
+/// `TooLong` where its body would have more than 1,048,576 bytes.
+pub fn encode_board(alloc: Global, board: &Board) -> Result<Vec<u8>, EncodeFault>
+    ensures spelled { IfOk result (λ bytes. bytes.items ≡ spell (Delta board.now)) }
+    ensures message { IfOk result (λ _. IsMessage (Delta board.now)) }
+    ensures long { result ≡ Err TooLong → body_limit < length (spell_body (body_of (Delta board.now))) }
+{
+    board.known();
+    let mut body = Vec::new(alloc);
+    let version = write_lists(&mut body, board)?;
+    frame(alloc, version, DELTA, &body)
+}
+
+/// The frame of a digest.
+fn encode_digest(alloc: Global, digest: &Digest) -> Result<Vec<u8>, EncodeFault>
+    ensures spelled { IfOk result (λ bytes. bytes.items ≡ spell (DigestMessage digest.now)) }
+    ensures message { IfOk result (λ _. IsMessage (DigestMessage digest.now)) }
+    ensures long { result ≡ Err TooLong → body_limit < length (spell_body (body_of (DigestMessage digest.now))) }
+{
+    digest.known();
+    let mut body = Vec::new(alloc);
+    write_all(&mut body, digest.openings())?;
+    write_some(&mut body, digest.issue_rows())?;
+    write_all(&mut body, digest.rows())?;
+    frame(alloc, version_of(digest.issue_rows()), DIGEST, &body)
+}
+
 /// The frame of the message. No keys are copied but into the frame.
+///
+/// `TooLong` where its body would have more than 1,048,576 bytes.
 pub fn encode(alloc: Global, message: &Message) -> Result<Vec<u8>, EncodeFault>
     ensures spelled { IfOk result (λ bytes. bytes.items ≡ spell message.now) }
     ensures message { IfOk result (λ _. IsMessage message.now) }
     ensures long { result ≡ Err TooLong → body_limit < length (spell_body (body_of message.now)) }
 {
-    Err(EncodeFault::NoMemory)
+    match message {
+        Message::Delta(board) => encode_board(alloc, board),
+        Message::Digest(digest) => encode_digest(alloc, digest),
+    }
 }
 
 /// The bytes of the cell as it stands in a delta, with its spans. It fails only where an
@@ -45,6 +121,7 @@ pub fn encode(alloc: Global, message: &Message) -> Result<Vec<u8>, EncodeFault>
 pub fn cell_bytes(alloc: Global, cell: &Cell) -> Result<Vec<u8>, AllocError>
     ensures { IfOk result (λ bytes. bytes.items ≡ spell_cell cell.now) }
 {
-    let _place = cell.place();
-    Err(AllocError)
+    let mut bytes = Vec::new(alloc);
+    write_cell(&mut bytes, cell.place(), cell.complete(), cell.spans())?;
+    Ok(bytes)
 }

@@ -4,8 +4,11 @@ ghost use Rattle.std.specs.Prelude.{◌≡◌, ◌++◌, ℕ, List, [], Option, 
 ghost use Rattle.std.specs.List.{AllByRecursion, concat};
 ghost use Rattle.squall_wire.specs.declared.fault.WireFault.{WireFault};
 ghost use Rattle.squall_wire.specs.declared.message.Message.{Message as MessageValue};
-ghost use Rattle.squall_wire.specs.Messages.{spell, spell_all, IsMessage};
+ghost use Rattle.squall_wire.specs.BoardOf.{board_of_lists};
+ghost use Rattle.squall_wire.specs.Messages.{lists_of, spell, spell_all, IsMessage};
 ghost use Rattle.squall_wire.specs.Hearing.{IsHeard, FeedValue, new_feed, HearsOn, HearsAll};
+
+use squall_board::Board;
 
 /// Each message has one frame, and no frame begins another: bytes that begin with the frames of
 /// two messages have one message, and go on alike after it.
@@ -55,3 +58,10 @@ pub fn pieces_begin_the_stream()
 pub fn cutting_tells_nothing()
     ensures { (ps qs : List (List ℕ)) (ms ns : List MessageValue) (f g : Option WireFault) (new end : FeedValue) → concat ps ≡ concat qs → HearsAll new_feed ps ms f new → HearsAll new_feed qs ns g end → (ms ≡ ns) × (f ≡ g) × (new ≡ end) }
 {}
+
+/// The openings, the issues and the cells of a board, joined one after another, make that board.
+pub fn lists_make_the_board(board: &Board)
+    ensures { board_of_lists (lists_of board.now) ≡ board.now }
+{
+    board.known();
+}

@@ -5,23 +5,28 @@
 #![tactic(auto)]
 
 mod build;
+mod cells;
 mod decoding;
 mod digest;
 mod encoding;
 mod fault;
 mod feed;
 mod issue;
+mod items;
 mod laws;
 mod message;
+mod order;
+mod reading;
+mod write;
 
 pub use decoding::decode;
 pub use digest::{Digest, DigestFault, DigestRow, IssueRow};
-pub use encoding::{EncodeFault, cell_bytes, encode};
+pub use encoding::{EncodeFault, cell_bytes, encode, encode_board};
 pub use fault::WireFault;
 pub use feed::{Feed, FeedFault, Heard};
 pub use laws::{
-    cutting_tells_nothing, faults_stay, one_frame, one_hearing, pieces_are_one_stream,
-    pieces_begin_the_stream, pushes_are_one, spelled_messages_are_heard,
+    cutting_tells_nothing, faults_stay, lists_make_the_board, one_frame, one_hearing,
+    pieces_are_one_stream, pieces_begin_the_stream, pushes_are_one, spelled_messages_are_heard,
 };
 pub use message::Message;
 

@@ -1,0 +1,40 @@
+-- What stands at the place of each cell of a board.
+use Rattle.std.specs.Prelude.{◌≡◌, ℕ, zero, suc, ◌<◌, length, map, List, [], ◌∷◌, Option, None, Some, refl}
+use Rattle.std.proofs.Common.{sym, ap, ◌∙◌, arith, get_or}
+use Rattle.std.specs.List.{AllByRecursion}
+use Rattle.squall_report.specs.Cells.{CellPlace}
+use Rattle.squall_board.specs.Boards.{CellValue, BoardValue, cell_of}
+use Rattle.squall_board.specs.Listed.{CellEntry, cell_entry, entry_value, cells_of, places_of}
+
+-- a cell of a list, and what the board has at its place
+record Stands (b : BoardValue) (cs : List CellEntry) (i : ℕ) (p : CellPlace) : Type 0 where
+  entry : CellEntry
+  within : i < length cs
+  at : (d : CellEntry) → get_or cs i d ≡ entry
+  place : p ≡ entry.cell
+  found : cell_of b p ≡ Some (entry_value entry)
+
+stands : (b : BoardValue) (cs : List CellEntry) (i : ℕ) (p : CellPlace) → i < length (map (λ c. c.cell) cs) → p ≡ get_or (map (λ c. c.cell) cs) i p → AllByRecursion (λ c. cell_of b c.cell ≡ Some (entry_value c)) cs → Stands b cs i p
+stands b [] i p lt is h = absurd (omega arith)
+stands b (c ∷ cs) zero p lt is h = record { entry = c; within = omega arith; at = λ d. refl; place = is; found = ap (cell_of b) is ∙ h.0 }
+stands b (c ∷ cs) (suc i) p lt is h =
+    let s = stands b cs i p (omega arith) is h.1 in
+    record { entry = s.entry; within = omega (arith, s.within); at = s.at; place = s.place; found = s.found }
+
+some_same : {X : Type 0} (x y : X) → Some x ≡ Some y → x ≡ y
+some_same x y e = cc
+
+-- the entry of what stands at a place is the cell of that index
+pub cell_here : (b : BoardValue) (ps : List CellPlace) (i : ℕ) (p : CellPlace) (v : CellValue) → ps ≡ places_of b → i < length ps → p ≡ get_or ps i p → AllByRecursion (λ c. cell_of b c.cell ≡ Some (entry_value c)) (cells_of b) → cell_of b p ≡ Some v → (i < length (cells_of b)) × (cell_entry p v ≡ get_or (cells_of b) i (cell_entry p v))
+cell_here b ps i p v same lt is h found =
+    let s = stands b (cells_of b) i p (omega (arith, ap length same)) (is ∙ ap (λ l. get_or l i p) same) h in
+    let value : v ≡ entry_value s.entry = some_same v (entry_value s.entry) (sym found ∙ s.found) in
+    let entry : cell_entry p v ≡ s.entry = λ j. cell_entry (s.place j) (value j) in
+    (s.within, entry ∙ sym (s.at (cell_entry p v)))
+
+-- at each place something stands
+pub cell_there : (b : BoardValue) (ps : List CellPlace) (i : ℕ) (p : CellPlace) → ps ≡ places_of b → i < length ps → p ≡ get_or ps i p → AllByRecursion (λ c. cell_of b c.cell ≡ Some (entry_value c)) (cells_of b) → cell_of b p ≡ None → ⊥
+cell_there b ps i p same lt is h gone =
+    let s = stands b (cells_of b) i p (omega (arith, ap length same)) (is ∙ ap (λ l. get_or l i p) same) h in
+    let both : Some (entry_value s.entry) ≡ None = sym s.found ∙ gone in
+    cc

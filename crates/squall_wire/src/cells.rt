@@ -1,0 +1,86 @@
+//! How cells are written.
+
+ghost use Rattle.std.specs.Prelude.{◌≡◌, ◌∷◌, [], ◌<◌, ◌++◌, length, OnOk, Err};
+ghost use Rattle.std.specs.List.{AllByRecursion};
+ghost use Rattle.squall_board.specs.Listed.{entry_with, cell_entry, cells_of};
+ghost use Rattle.squall_wire.specs.declared.encoding.EncodeFault.TheVariants.{TooLong};
+ghost use Rattle.squall_wire.specs.Fits.{IsWordCell};
+ghost use Rattle.squall_wire.specs.Limits.{body_limit, word_limit};
+ghost use Rattle.squall_wire.specs.Spelling.{spell_place, spell_done, spell_cell, spell_list};
+
+use crate::encoding::EncodeFault;
+use crate::write::{BODY_LIMIT, count_bytes, write_list};
+use squall_board::{Board, CellParts, cells_at_their_places};
+use squall_report::CellId;
+use squall_span::SpanSet;
+use std::alloc::AllocError;
+
+/// How many spans of 16 bytes a body could hold.
+const SPAN_LIMIT: usize = 65_536;
+
+/// Adds the number, the sub-plan and the partition.
+fn write_place(out: &mut Vec<u8>, place: CellId) -> Result<(), AllocError>
+    ensures written { OnOk result (out.new.items ≡ out.old.items ++ spell_place place) }
+    ensures known { OnOk result (place.number < word_limit) }
+{
+    out.extend_from_slice(&place.number().to_be_bytes())?;
+    out.extend_from_slice(&place.sub().to_be_bytes())?;
+    out.extend_from_slice(&place.part().to_be_bytes())
+}
+
+/// The byte that says whether a cell is complete.
+fn done_byte(complete: bool) -> u8
+    ensures { spell_done complete ≡ result ∷ [] }
+{
+    if complete { 1 } else { 0 }
+}
+
+/// Adds the cell: its place, whether it is complete, and its spans.
+pub(crate) fn write_cell(
+    out: &mut Vec<u8>,
+    place: CellId,
+    complete: bool,
+    spans: &SpanSet,
+) -> Result<(), AllocError>
+    ensures written { OnOk result (out.new.items ≡ out.old.items ++ spell_cell (entry_with place complete spans.now)) }
+    ensures known { OnOk result (place.number < word_limit) }
+{
+    write_place(out, place)?;
+    out.push(done_byte(complete))?;
+    write_list(out, spans.spans())
+}
+
+/// Adds the cell, unless the bytes are too many for a body with it.
+fn write_within(out: &mut Vec<u8>, place: CellId, cell: &CellParts) -> Result<(), EncodeFault>
+    ensures written { OnOk result (out.new.items ≡ out.old.items ++ spell_cell (cell_entry place cell.now)) }
+    ensures known { OnOk result (place.number < word_limit) }
+    ensures long { result ≡ Err TooLong → body_limit < length (out.old.items ++ spell_cell (cell_entry place cell.now)) }
+{
+    if cell.first.spans().len() > SPAN_LIMIT {
+        return Err(EncodeFault::TooLong);
+    }
+    write_cell(out, place, cell.second.get(), &cell.first)?;
+    if out.len() > BODY_LIMIT {
+        return Err(EncodeFault::TooLong);
+    }
+    Ok(())
+}
+
+/// Adds the count of the cells of the board and the cells, as far as the bytes are not too many
+/// for a body. No keys are copied but into the bytes.
+pub(crate) fn write_cells(out: &mut Vec<u8>, board: &Board) -> Result<(), EncodeFault>
+    ensures written { OnOk result (out.new.items ≡ out.old.items ++ spell_list spell_cell (cells_of board.now)) }
+    ensures known { OnOk result (AllByRecursion IsWordCell (cells_of board.now)) }
+    ensures long { result ≡ Err TooLong → body_limit < length (out.old.items ++ spell_list spell_cell (cells_of board.now)) }
+{
+    let places = board.places()?;
+    cells_at_their_places(board);
+    out.extend_from_slice(&count_bytes(places.len()))?;
+    for place in &places {
+        // Each place is that of a cell.
+        if let Some(cell) = board.cell_at(*place) {
+            write_within(out, *place, cell)?;
+        }
+    }
+    Ok(())
+}

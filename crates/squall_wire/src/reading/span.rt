@@ -1,0 +1,64 @@
+//! The spans of a cell.
+
+ghost use Rattle.std.specs.Prelude.{◌≡◌, ◌≢◌, Err, IfOk, IfErr};
+ghost use Rattle.squall_span.specs.Spans.{interval};
+ghost use Rattle.squall_wire.specs.declared.fault.WireFault.TheVariants.{NoMemory};
+ghost use Rattle.squall_wire.specs.Limits.{span_in_range, span_in_order, after_span};
+ghost use Rattle.squall_wire.specs.Reading.{Gives, checked, many_at, span_at};
+ghost use Rattle.squall_wire.specs.Views.{HasAdded};
+
+use crate::fault::WireFault;
+use crate::reading::field::rank_at;
+use squall_key::Bound;
+use squall_span::{Span, SpanSet};
+use std::alloc::Global;
+
+/// The span of two ranks. It begins at the floor or above.
+fn span_of(floor: u64, lo: u64, hi: u64) -> Result<Span, WireFault>
+    ensures { Gives (λ s. s) result (checked (span_in_range (interval lo hi)) (span_in_order floor (interval lo hi)) (interval lo hi)) }
+{
+    let from = Bound::of_rank(lo).ok_or(WireFault::Range)?;
+    let to = Bound::of_rank(hi).ok_or(WireFault::Range)?;
+    if lo < floor {
+        return Err(WireFault::Order);
+    }
+    Span::new(from, to).ok_or(WireFault::Order)
+}
+
+/// Adds the span at the front of the bytes to the set. It gives the floor of the next span, and
+/// the bytes after this one.
+#[tactic(auto, unfolding(crate::specs::Reading::span_at))]
+fn add_span<'a>(
+    spans: &mut SpanSet,
+    floor: u64,
+    bytes: &'a [u8],
+) -> Result<(u64, &'a [u8]), WireFault>
+    ensures ok { IfOk result (λ x. HasAdded floor bytes.now spans.old spans.new x.0 x.1.now) }
+    ensures err { IfErr result (λ e. e ≢ NoMemory → span_at floor bytes.now ≡ Err e) }
+{
+    let (lo, rest) = rank_at(bytes)?;
+    let (hi, rest) = rank_at(rest)?;
+    let span = span_of(floor, lo, hi)?;
+    spans.insert(span)?;
+    Ok((span.hi().rank() + 1, rest))
+}
+
+/// So many spans at the front of the bytes as a set, and the bytes after them. Each begins above
+/// the end of the one before it.
+pub(crate) fn spans_of(
+    alloc: Global,
+    count: u32,
+    bytes: &[u8],
+) -> Result<(SpanSet, &[u8]), WireFault>
+    ensures { Gives (λ x. (x.0, x.1.now)) result (many_at span_at after_span count 0 bytes.now) }
+{
+    let mut spans = SpanSet::empty(alloc);
+    let mut floor = 0;
+    let mut rest = bytes;
+    for _ in 0..count {
+        let (next, after) = add_span(&mut spans, floor, rest)?;
+        floor = next;
+        rest = after;
+    }
+    Ok((spans, rest))
+}
