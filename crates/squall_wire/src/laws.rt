@@ -47,6 +47,12 @@ pub fn pushes_are_one()
     ensures { (old middle new : FeedValue) (s t : List ℕ) (ms ns : List MessageValue) (f : Option WireFault) → HearsOn old s ms None middle → HearsOn middle t ns f new → HearsOn old (s ++ t) (ms ++ ns) f new }
 {}
 
+/// What comes after a piece with a fault is not heard: the feed would hear the same in the piece
+/// and any bytes after it as one piece.
+pub fn faults_end_the_stream()
+    ensures { (old new : FeedValue) (s t : List ℕ) (ms : List MessageValue) (f : WireFault) → HearsOn old s ms (Some f) new → HearsOn old (s ++ t) ms (Some f) new }
+{}
+
 /// Whatever pieces a new feed has taken, the messages that it gave are those whose frames begin
 /// the stream of all the pieces, its fault is that of what follows them, and what waits in it is
 /// the rest of the stream.

@@ -1,8 +1,10 @@
 //! Tests of frames.
 
+mod clients;
 mod digests;
 mod feeds;
 mod first_version;
+mod limits;
 mod second_version;
 mod tolerant;
 

@@ -11,7 +11,7 @@ const THREE: &str =
     "53510101 00000029 00000000 00000001 00000001 00000000 00000003 00 00000001 0000000200000000 0000000300000000 53510102 00000008 00000000 00000000 53510201 00000011 00000000 00000001 00000002 02 00000000";
 
 /// What a new feed hears in the stream, cut into pieces of that length.
-fn hear_in_pieces(alloc: Global, stream: &[u8], length: usize) -> Result<Heard, Fail>
+pub(crate) fn hear_in_pieces(alloc: Global, stream: &[u8], length: usize) -> Result<Heard, Fail>
     requires { 0 < length }
 {
     let mut feed = Feed::new(alloc);
