@@ -1,11 +1,12 @@
 //! Laws of frames and of streams of them, each the contract of a function that does nothing.
 
-ghost use Rattle.std.specs.Prelude.{◌≡◌, ◌++◌, ℕ, List, [], Option, None, Some};
+ghost use Rattle.std.specs.Prelude.{◌≡◌, ◌++◌, ℕ, List, [], map, Option, None, Some};
 ghost use Rattle.std.specs.List.{AllByRecursion, concat};
 ghost use Rattle.squall_wire.specs.declared.fault.WireFault.{WireFault};
 ghost use Rattle.squall_wire.specs.declared.message.Message.{Message as MessageValue};
 ghost use Rattle.squall_wire.specs.BoardOf.{board_of_lists};
-ghost use Rattle.squall_wire.specs.Messages.{lists_of, spell, spell_all, IsMessage};
+ghost use Rattle.squall_wire.specs.Messages.{body_of, lists_of, spell, spell_all, IsMessage};
+ghost use Rattle.squall_wire.specs.Heard.{heard_of, heard_with};
 ghost use Rattle.squall_wire.specs.Hearing.{IsHeard, FeedValue, new_feed, HearsOn, HearsAll};
 
 use squall_board::Board;
@@ -65,3 +66,9 @@ pub fn lists_make_the_board(board: &Board)
 {
     board.known();
 }
+
+/// What is heard in a stream is what its frames say, taken one after the other.
+#[tactic(auto, using(crate::specs::HeardLaws::heard_is))]
+pub fn heard_frame_by_frame()
+    ensures { (stream : List ℕ) (ms : List MessageValue) (f : Option WireFault) (r : List ℕ) → IsHeard stream ms f r → heard_of stream ≡ heard_with (map body_of ms) f r }
+{}
