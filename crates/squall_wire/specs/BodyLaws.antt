@@ -136,6 +136,13 @@ whole_from read y e = bind_from read ended (y, []) (Ok y) e refl
 to_the_end : (bytes text : List ℕ) → Takes bytes text [] → bytes ≡ text
 to_the_end bytes text took = took.parts ∙ append-nil text
 
+-- the lists of a whole body are in order and within their limits
+pub are_lists : (version : ℕ) (bytes : List ℕ) (d : BoardLists) → IsVersion version → IsBytes bytes → whole (lists_at version bytes) ≡ Ok d → AreLists d
+are_lists version bytes d is_version fits e = (lists_takes version bytes (d, []) is_version fits (whole_ok (lists_at version bytes) d e)).1
+
+pub is_digest : (version : ℕ) (bytes : List ℕ) (d : DigestValue) → IsVersion version → IsBytes bytes → whole (digest_at version bytes) ≡ Ok d → IsDigest d
+is_digest version bytes d is_version fits e = (digest_takes version bytes (d, []) is_version fits (whole_ok (digest_at version bytes) d e)).1
+
 -- ---- bodies
 
 abbrev as_lists : BoardLists → Result Body WireFault

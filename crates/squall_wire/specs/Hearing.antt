@@ -1,6 +1,6 @@
 -- What a feed hears in a stream of frames (this project).
 use Rattle.std.specs.Prelude.{◌≡◌, ◌≢◌, ◌⊎◌, ℕ, List, [], ◌∷◌, ◌++◌, Option, Some, None, Bool, true, false, Result, Ok, Err, length}
-use Rattle.std.specs.Option.{IsSome}
+use Rattle.std.specs.Option.{IsSome, is_some}
 use Rattle.std.specs.List.{AllByRecursion}
 use Rattle.squall_wire.specs.declared.fault.WireFault.{WireFault}
 use Rattle.squall_wire.specs.declared.fault.WireFault.TheVariants.{Short, NoMemory}
@@ -52,6 +52,10 @@ pub record HearsOn (old : FeedValue) (piece : List ℕ) (messages : List Message
   pub rest : List ℕ
   pub heard : IsHeard (old.waiting ++ piece) messages fault rest
   pub after : new ≡ feed_after fault rest
+
+-- the same of the bytes alone: of those that waited, and of those that wait then
+abbrev pub WaitsOn : List ℕ → List ℕ → List Message → Option WireFault → List ℕ → Type 0
+WaitsOn waiting piece messages fault left = HearsOn (feed_with waiting false) piece messages fault (feed_with left (is_some fault))
 
 -- the first piece has a fault, which ends the stream: what comes after it is not heard
 pub record EndsAt (old : FeedValue) (piece : List ℕ) (messages : List Message) (fault : Option WireFault) (new : FeedValue) : Type 0 where

@@ -131,6 +131,20 @@ head_takes last bytes x fits e =
     let e04 = Takes-then bytes (spell_place place) c.0.1 ((d.0.0 ∷ []) ++ word f.0.0) f.0.1 e02 e34 in
     subst (λ (y : CellHead × List ℕ). Takes bytes (spell_head y.0) y.1 × FitsHead last y.0) g.2 (e04, record { number = t0.1; count = t4.1; range = g.0; order = g.1 })
 
+-- a head that is read lies within its limits
+pub head_ranged : (last : CellPlace) (bytes : List ℕ) (x : CellHead × List ℕ) → head_at last bytes ≡ Ok x → head_in_range x.0 ≡ true
+unfolding head_at
+head_ranged last bytes x e =
+    let a = bind_ok (number_at w32 bytes) (head_number_step last) x e in
+    let b = bind_ok (number_at w32 a.0.1) (head_sub_step last a.0.0) x a.2 in
+    let c = bind_ok (number_at w32 b.0.1) (head_part_step last a.0.0 b.0.0) x b.2 in
+    let place : CellPlace = place_at a.0.0 b.0.0 c.0.0 in
+    let d = bind_ok (byte_at c.0.1) (head_done_step last place) x c.2 in
+    let f = bind_ok (number_at w32 d.0.1) (head_count_step last place d.0.0) x d.2 in
+    let made : CellHead × List ℕ = (head_with place d.0.0 f.0.0, f.0.1) in
+    let g = checked_ok (head_in_range (head_with place d.0.0 f.0.0)) (is_later last place) made x f.2 in
+    subst (λ (y : CellHead × List ℕ). head_in_range y.0 ≡ true) g.2 g.0
+
 head_small : (place : CellPlace) (done count : ℕ) → head_in_range (head_with place done count) ≡ true → (place.sub < 2 ^ 32) × (place.part < 2 ^ 32) × (done ≤ 1)
 head_small place done count h = (grind (arith, nat_tests), grind (arith, nat_tests), grind (arith, nat_tests))
 

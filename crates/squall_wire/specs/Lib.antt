@@ -24,6 +24,8 @@ pub mod IssueItemLaws
 pub mod BodyLaws
 pub mod FrameLaws
 pub mod FitsLaws
+pub mod TurnLaws
+pub mod BoardOfLaws
 pub mod ReadingLaws
 pub mod HearingLaws
 pub mod HeardLaws

@@ -128,4 +128,20 @@ impl Digest {
     {
         let _openings = &self.openings;
     }
+
+    /// The digest of three lists that are known to be in order and within their limits.
+    pub(crate) fn of_lists(
+        openings: Vec<Opening>,
+        issue_rows: Vec<IssueRow>,
+        rows: Vec<DigestRow>,
+    ) -> Digest
+        requires { IsDigest (digest_with openings.items issue_rows.items rows.items) }
+        ensures { result ≡ digest_with openings.items issue_rows.items rows.items }
+    {
+        Digest {
+            openings,
+            issue_rows,
+            rows,
+        }
+    }
 }

@@ -1,8 +1,8 @@
 //! Messages from a stream of bytes that comes in pieces.
 
-ghost use Rattle.std.specs.Prelude.{◌≡◌, ◌≢◌, ◌++◌, ◌↔◌, ◌≤◌, [], List, ℕ, length, true, false, Err, IfOk, OnErr, is_some, IsOk};
+ghost use Rattle.std.specs.Prelude.{◌≡◌, ◌≢◌, ◌++◌, ◌↔◌, ◌≤◌, [], List, ℕ, length, true, false, Err, IfOk, OnErr, IsOk};
 ghost use Rattle.squall_wire.specs.declared.feed.FeedFault.TheVariants.{Failed, NoMemory};
-ghost use Rattle.squall_wire.specs.Hearing.{EndsIn, IsHeard, IsFeed, HearsOn, feed_with, waiting_limit};
+ghost use Rattle.squall_wire.specs.Hearing.{EndsIn, IsHeard, IsFeed, HearsOn, WaitsOn, feed_with, waiting_limit};
 ghost use Rattle.squall_wire.specs.Reading.{message_at};
 
 use crate::decoding::decode;
@@ -61,8 +61,8 @@ impl Model for Feed {
     ghost invariant = { λ f. IsFeed (feed_with f.waiting.items f.failed) };
 }
 
-/// What a feed tells of the fault of the bytes that `decode` was asked for: nothing where the
-/// bytes to come may mend it.
+/// The fault that a feed tells where `decode` answered this one: none where the bytes to come may
+/// mend it. It fails where an allocation failed.
 fn lasting(fault: WireFault) -> Result<Option<WireFault>, AllocError>
     ensures told { IfOk result (λ told. (bytes : List ℕ) → (fault ≢ WireFault.NoMemory → message_at bytes ≡ Err fault) → EndsIn told bytes) }
     ensures memory { fault ≢ WireFault.NoMemory → IsOk result }
@@ -94,10 +94,10 @@ fn hear(alloc: Global, bytes: &[u8]) -> Result<(Heard, &[u8]), AllocError>
     }
 }
 
-/// Takes a piece where no bytes wait. Nothing is copied but what has to wait.
+/// Takes a piece where no bytes wait. Of the piece only what has to wait is copied.
 fn take_first(waiting: &mut Vec<u8>, piece: &[u8]) -> Result<Heard, AllocError>
     requires { waiting.old.items ≡ [] }
-    ensures heard { IfOk result (λ heard. HearsOn (feed_with waiting.old.items false) piece.now heard.messages.items heard.fault (feed_with waiting.new.items (is_some heard.fault))) }
+    ensures heard { IfOk result (λ heard. WaitsOn waiting.old.items piece.now heard.messages.items heard.fault waiting.new.items) }
     ensures err { OnErr result (waiting.new.items ≡ waiting.old.items) }
 {
     let (heard, rest) = hear(*waiting.allocator(), piece)?;
@@ -107,9 +107,9 @@ fn take_first(waiting: &mut Vec<u8>, piece: &[u8]) -> Result<Heard, AllocError>
     Ok(heard)
 }
 
-/// Takes a piece after the bytes that wait.
+/// Takes a piece after bytes that wait, which are the beginning of its first frame.
 fn take_next(waiting: &mut Vec<u8>, piece: &[u8]) -> Result<Heard, AllocError>
-    ensures heard { IfOk result (λ heard. HearsOn (feed_with waiting.old.items false) piece.now heard.messages.items heard.fault (feed_with waiting.new.items (is_some heard.fault))) }
+    ensures heard { IfOk result (λ heard. WaitsOn waiting.old.items piece.now heard.messages.items heard.fault waiting.new.items) }
     ensures err { OnErr result (waiting.new.items ≡ waiting.old.items) }
 {
     let had = waiting.len();
@@ -130,9 +130,9 @@ fn take_next(waiting: &mut Vec<u8>, piece: &[u8]) -> Result<Heard, AllocError>
     Ok(heard)
 }
 
-/// Takes a piece after the bytes that wait.
+/// Takes a piece after the bytes that wait, if any do. Where it fails they are as they were.
 fn take_piece(waiting: &mut Vec<u8>, piece: &[u8]) -> Result<Heard, AllocError>
-    ensures heard { IfOk result (λ heard. HearsOn (feed_with waiting.old.items false) piece.now heard.messages.items heard.fault (feed_with waiting.new.items (is_some heard.fault))) }
+    ensures heard { IfOk result (λ heard. WaitsOn waiting.old.items piece.now heard.messages.items heard.fault waiting.new.items) }
     ensures err { OnErr result (waiting.new.items ≡ waiting.old.items) }
 {
     if waiting.is_empty() {

@@ -4,9 +4,12 @@ ghost use Rattle.std.specs.Prelude.{◌≡◌, ◌++◌, ℕ, List, [], map, Opt
 ghost use Rattle.std.specs.List.{AllByRecursion, concat};
 ghost use Rattle.squall_wire.specs.declared.fault.WireFault.{WireFault};
 ghost use Rattle.squall_wire.specs.declared.message.Message.{Message as MessageValue};
-ghost use Rattle.squall_wire.specs.Messages.{body_of, spell, spell_all, IsMessage};
+ghost use Rattle.squall_wire.specs.BoardOf.{board_of_lists};
+ghost use Rattle.squall_wire.specs.Messages.{lists_of, body_of, spell, spell_all, IsMessage};
 ghost use Rattle.squall_wire.specs.Heard.{heard_of, heard_with};
 ghost use Rattle.squall_wire.specs.Hearing.{IsHeard, FeedValue, new_feed, HearsOn, HearsAll};
+
+use squall_board::Board;
 
 /// Each message has one frame, and no frame begins another: bytes that begin with the frames of
 /// two messages have one message, and go on alike after it.
@@ -44,6 +47,12 @@ pub fn pushes_are_one()
     ensures { (old middle new : FeedValue) (s t : List ℕ) (ms ns : List MessageValue) (f : Option WireFault) → HearsOn old s ms None middle → HearsOn middle t ns f new → HearsOn old (s ++ t) (ms ++ ns) f new }
 {}
 
+/// What comes after a piece with a fault is not heard: the feed would hear the same in the piece
+/// and any bytes after it as one piece.
+pub fn faults_end_the_stream()
+    ensures { (old new : FeedValue) (s t : List ℕ) (ms : List MessageValue) (f : WireFault) → HearsOn old s ms (Some f) new → HearsOn old (s ++ t) ms (Some f) new }
+{}
+
 /// Whatever pieces a new feed has taken, the messages that it gave are those whose frames begin
 /// the stream of all the pieces, its fault is that of what follows them, and what waits in it is
 /// the rest of the stream.
@@ -56,6 +65,13 @@ pub fn pieces_begin_the_stream()
 pub fn cutting_tells_nothing()
     ensures { (ps qs : List (List ℕ)) (ms ns : List MessageValue) (f g : Option WireFault) (new end : FeedValue) → concat ps ≡ concat qs → HearsAll new_feed ps ms f new → HearsAll new_feed qs ns g end → (ms ≡ ns) × (f ≡ g) × (new ≡ end) }
 {}
+
+/// The openings, the issues and the cells of a board, joined one after another, make that board.
+pub fn lists_make_the_board(board: &Board)
+    ensures { board_of_lists (lists_of board.now) ≡ board.now }
+{
+    board.known();
+}
 
 /// What is heard in a stream is what its frames say, taken one after the other.
 #[tactic(auto, using(crate::specs::HeardLaws::heard_is))]

@@ -25,7 +25,11 @@ pub use encoding::{EncodeFault, cell_bytes, encode, encode_board};
 pub use fault::WireFault;
 pub use feed::{Feed, FeedFault, Heard};
 pub use laws::{
-    cutting_tells_nothing, faults_stay, heard_frame_by_frame, one_frame, one_hearing,
-    pieces_are_one_stream, pieces_begin_the_stream, pushes_are_one, spelled_messages_are_heard,
+    cutting_tells_nothing, faults_end_the_stream, faults_stay, heard_frame_by_frame,
+    lists_make_the_board, one_frame, one_hearing, pieces_are_one_stream, pieces_begin_the_stream,
+    pushes_are_one, spelled_messages_are_heard,
 };
 pub use message::Message;
+
+#[cfg(test)]
+mod tests;

@@ -1,0 +1,41 @@
+//! What callers of a feed can learn from its contract.
+
+ghost use Rattle.std.specs.Prelude.{◌++◌, IfOk};
+ghost use Rattle.squall_wire.specs.Hearing.{HearsOn};
+
+use super::*;
+use std::test::Fail;
+
+/// Pushes one piece, and then the other where the first has no fault. What is heard is what the
+/// feed would hear in both as one piece.
+fn push_both(feed: &mut Feed, first: &[u8], second: &[u8]) -> Result<Heard, FeedFault>
+    ensures { IfOk result (λ heard. HearsOn feed.old (first.now ++ second.now) heard.messages.items heard.fault feed.new) }
+{
+    pushes_are_one();
+    faults_end_the_stream();
+    let Heard {
+        mut messages,
+        fault,
+    } = feed.push(first)?;
+    if fault.is_some() {
+        return Ok(Heard { messages, fault });
+    }
+    let mut second = feed.push(second)?;
+    messages.append(&mut second.messages)?;
+    Ok(Heard {
+        messages,
+        fault: second.fault,
+    })
+}
+
+#[test]
+fn two_pieces_as_one(rt: HostRuntime) -> Result<(), Fail> {
+    let frame = hex(rt.alloc(), LOAD)?;
+    assert_eq!(rt; frame.len(), 49);
+    let mut feed = Feed::new(rt.alloc());
+    let heard = push_both(&mut feed, &frame[..30], &frame[30..])?;
+    assert!(rt; heard.messages.len() == 1 && heard.fault.is_none());
+    let heard = push_both(&mut feed, &[0x54], &frame)?;
+    assert!(rt; heard.messages.is_empty() && heard.fault == Some(WireFault::Magic));
+    Ok(())
+}
