@@ -9,6 +9,7 @@ use Rattle.squall_run.specs.declared.reason.Reason.{Reason}
 use Rattle.squall_board.specs.Boards.{BoardValue}
 use Rattle.squall_lines.specs.Script.{Script, TakesLine, after, last_word}
 use Rattle.squall_lines.specs.Words.{without_cr}
+use Rattle.squall_wire.specs.Hearing.{FeedValue}
 use Rattle.squall_run.specs.State.{StageState, ScenarioState}
 use Rattle.squall_run.specs.Replies.{Reply, Goes, Ends, bad_line, at_next_line, follow, reply_to_line, script_from}
 use Rattle.squall_run.specs.Answered.{Answers, IsReply, IsAnswer}
@@ -46,19 +47,19 @@ said_end text t n (Goes said u) h lines = absurd h
 said_end text t n (Ends reason) h lines = ap last_word (sym h)
 
 -- the count of lines went up by one, and nothing else changed
-next_is : (l n : ℕ) (stage : StageState) (board : BoardValue) (s : ScenarioState) → record { line = l; stage = stage; board = board } ≡ s → n ≡ min (l + 1) (2 ^ 64 - 1) → record { line = n; stage = stage; board = board } ≡ at_next_line s
-next_is l n stage board s view e = subst (λ u. record { line = n; stage = stage; board = board } ≡ at_next_line u) view (ap (λ m. record { line = m; stage = stage; board = board }) e)
+next_is : (l n : ℕ) (stage : StageState) (board : BoardValue) (feed : FeedValue) (s : ScenarioState) → record { line = l; stage = stage; board = board; feed = feed } ≡ s → n ≡ min (l + 1) (2 ^ 64 - 1) → record { line = n; stage = stage; board = board; feed = feed } ≡ at_next_line s
+next_is l n stage board feed s view e = subst (λ u. record { line = n; stage = stage; board = board; feed = feed } ≡ at_next_line u) view (ap (λ m. record { line = m; stage = stage; board = board; feed = feed }) e)
 
 moved : (flow : Flow) (text w line : List ℕ) (s next t : ScenarioState) → next ≡ at_next_line s → w ≡ without_cr line → IsAnswer flow text t next.line (reply_to_line next w)
     → IsAnswer flow text t (at_next_line s).line (reply_to_line (at_next_line s) (without_cr line))
 moved flow text w line s next t e h a =
     subst (λ v. IsAnswer flow text t (at_next_line s).line (reply_to_line (at_next_line s) v)) h (subst (λ u. IsAnswer flow text t u.line (reply_to_line u w)) e a)
 
-pub taken_line : (r : Result Flow AllocError) (o o1 w line : List ℕ) (l n : ℕ) (stage : StageState) (board : BoardValue) (s t : ScenarioState) → record { line = l; stage = stage; board = board } ≡ s → n ≡ min (l + 1) (2 ^ 64 - 1) → w ≡ without_cr line
-    → IfOk r (λ flow. (text : List ℕ) × (o1 ≡ o ++ text) × IsAnswer flow text t n (reply_to_line (record { line = n; stage = stage; board = board }) w))
+pub taken_line : (r : Result Flow AllocError) (o o1 w line : List ℕ) (l n : ℕ) (stage : StageState) (board : BoardValue) (feed : FeedValue) (s t : ScenarioState) → record { line = l; stage = stage; board = board; feed = feed } ≡ s → n ≡ min (l + 1) (2 ^ 64 - 1) → w ≡ without_cr line
+    → IfOk r (λ flow. (text : List ℕ) × (o1 ≡ o ++ text) × IsAnswer flow text t n (reply_to_line (record { line = n; stage = stage; board = board; feed = feed }) w))
     → IfOk r (λ flow. (text : List ℕ) × (o1 ≡ o ++ text) × TakesLine flow text (script_from s) (script_from t) line)
-taken_line (Ok On) o o1 w line l n stage board s t view e h a =
-    (a.0, a.1, said_on a.0 t (at_next_line s).line (reply_to_line (at_next_line s) (without_cr line)) (moved On a.0 w line s (record { line = n; stage = stage; board = board }) t (next_is l n stage board s view e) h a.2))
-taken_line (Ok End) o o1 w line l n stage board s t view e h a =
-    (a.0, a.1, said_end a.0 t (at_next_line s).line (reply_to_line (at_next_line s) (without_cr line)) (moved End a.0 w line s (record { line = n; stage = stage; board = board }) t (next_is l n stage board s view e) h a.2))
-taken_line (Err x) o o1 w line l n stage board s t view e h a = tt
+taken_line (Ok On) o o1 w line l n stage board feed s t view e h a =
+    (a.0, a.1, said_on a.0 t (at_next_line s).line (reply_to_line (at_next_line s) (without_cr line)) (moved On a.0 w line s (record { line = n; stage = stage; board = board; feed = feed }) t (next_is l n stage board feed s view e) h a.2))
+taken_line (Ok End) o o1 w line l n stage board feed s t view e h a =
+    (a.0, a.1, said_end a.0 t (at_next_line s).line (reply_to_line (at_next_line s) (without_cr line)) (moved End a.0 w line s (record { line = n; stage = stage; board = board; feed = feed }) t (next_is l n stage board feed s view e) h a.2))
+taken_line (Err x) o o1 w line l n stage board feed s t view e h a = tt

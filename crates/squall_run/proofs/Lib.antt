@@ -1,5 +1,6 @@
 pub mod Answered
 pub mod Boards
+pub mod Heard
 pub mod LineTexts
 pub mod Outputs
 pub mod Placed

@@ -19,13 +19,13 @@ abbrev pub no_lf : List ℕ → Bool
 no_lf [] = true
 no_lf (x ∷ xs) = not (x == 10) && no_lf xs
 
-with_first : (x : ℕ) (a : List ℕ) → x == 10 ≡ false → no_lf a ≡ true → no_lf (x ∷ a) ≡ true
+pub with_first : (x : ℕ) (a : List ℕ) → x == 10 ≡ false → no_lf a ≡ true → no_lf (x ∷ a) ≡ true
 with_first x a e h = rw e h
 
-first_is : (x : ℕ) (a : List ℕ) → no_lf (x ∷ a) ≡ true → x == 10 ≡ false
+pub first_is : (x : ℕ) (a : List ℕ) → no_lf (x ∷ a) ≡ true → x == 10 ≡ false
 first_is x a h = grind (arith, h)
 
-rest_is : (x : ℕ) (a : List ℕ) → no_lf (x ∷ a) ≡ true → no_lf a ≡ true
+pub rest_is : (x : ℕ) (a : List ℕ) → no_lf (x ∷ a) ≡ true → no_lf a ≡ true
 rest_is x a h = grind (arith, h)
 
 pub no_lf-append : (a b : List ℕ) → no_lf a ≡ true → no_lf b ≡ true → no_lf (a ++ b) ≡ true

@@ -1,5 +1,5 @@
 -- Which runs are refused, by the last line of what they answer.
-use Rattle.std.proofs.Common.{◌≡◌, ◌≢◌, ℕ, List, [], ◌∷◌, ◌++◌, length, true, false, Option, None, Some, Result, Ok, Err, suc, refl, sym, ap, ◌∙◌, subst, arith, append_assoc}
+use Rattle.std.proofs.Common.{◌≡◌, ◌≢◌, ℕ, List, [], ◌∷◌, ◌++◌, length, Bool, true, false, Option, None, Some, Result, Ok, Err, suc, refl, sym, ap, ◌∙◌, subst, arith, append_assoc}
 use Rattle.std.proofs.lemmas.Bool.{false≢true}
 use Rattle.std.proofs.lemmas.List.{append-nil}
 use Rattle.std.specs.Prelude.{codes}
@@ -21,11 +21,15 @@ use Rattle.squall_lines.specs.Words.{without_cr}
 use Rattle.squall_run.specs.declared.reason.Reason.{Reason}
 use Rattle.squall_run.specs.declared.reason.Reason.TheVariants.{Long, Word, Order, Limit, Plan}
 use Rattle.squall_run.specs.State.{StageState, NoPlan, OldPlan, BothPlans, ScenarioState, at_start}
-use Rattle.squall_run.specs.Requests.{Request, Skip, Old, New, Loaded, Done, Opened, Route, Board, Bad, request_of}
-use Rattle.squall_run.specs.Replies.{Reply, Goes, Ends, text_of_reason, old_plan, old_reply, new_plan, new_reply, take_reply, load_of, report_reply, first_course, route_reply, board_reply, reply_to, reply_to_line, bad_line, follow, at_next_line, script_from}
+use Rattle.squall_run.specs.Requests.{Request, Skip, Old, New, Loaded, Done, Opened, Route, Board, Hear, Frame, Bad, request_of}
+use Rattle.squall_run.specs.Replies.{Reply, Goes, Ends, text_of_reason, old_plan, old_reply, new_plan, new_reply, take_reply, load_of, report_reply, first_course, route_reply, board_reply, feed_reply, bytes_reply, hear_reply, frame_reply, reply_to, reply_to_line, bad_line, follow, at_next_line, script_from}
 use Rattle.squall_run.specs.Text.{EndsInBadLine, EndsInNoBadLine, HasNoBadLine}
 use Rattle.squall_run.proofs.LineTexts.{no_lf, no_lf-append, decimal_no_lf, key_no_lf, fault_no_lf, Spells, spells_nothing, spells_lf, spells_glued, spells_append, NotBegun, differs_at, Lacks, lacks_nothing, lacks_line, lacks_append, last_is, last_lacks, all_lines}
 use Rattle.squall_run.proofs.Boards.{board_lacks}
+use Rattle.squall_run.proofs.Heard.{text_lacks, failed_lacks, frame_lacks}
+use Rattle.squall_wire.specs.Heard.{heard_of}
+use Rattle.hex.specs.Hex.{decode_of}
+use Rattle.hex.specs.declared.error.FromHexError.{FromHexError}
 
 abbrev bad : List ℕ
 bad = codes "bad line "
@@ -90,6 +94,24 @@ board_good s NoPlan = tt
 board_good s (OldPlan old) = tt
 board_good s (BothPlans old new) = board_lacks s.board
 
+feed_good : (s : ScenarioState) (failed : Bool) (bytes : List ℕ) → NotBad (feed_reply s failed bytes)
+feed_good s true bytes = failed_lacks
+feed_good s false bytes = text_lacks (heard_of (s.feed.waiting ++ bytes)).bodies (heard_of (s.feed.waiting ++ bytes)).fault
+
+bytes_good : (s : ScenarioState) (stage : StageState) (bytes : List ℕ) → NotBad (bytes_reply s stage bytes)
+bytes_good s NoPlan bytes = tt
+bytes_good s (OldPlan old) bytes = tt
+bytes_good s (BothPlans old new) bytes = feed_good s s.feed.failed bytes
+
+hear_good : (s : ScenarioState) (bytes : Result (List ℕ) FromHexError) → NotBad (hear_reply s bytes)
+hear_good s (Ok bytes) = bytes_good s s.stage bytes
+hear_good s (Err fault) = tt
+
+frame_good : (s : ScenarioState) (stage : StageState) → NotBad (frame_reply s stage)
+frame_good s NoPlan = tt
+frame_good s (OldPlan old) = tt
+frame_good s (BothPlans old new) = frame_lacks s.board
+
 reply_good : (s : ScenarioState) (request : Request) → NotBad (reply_to s request)
 reply_good s Skip = lacks_nothing bad
 reply_good s (Old text) = old_good s s.stage text
@@ -99,6 +121,8 @@ reply_good s (Done number sub part) = report_good s s.stage (done_of number sub 
 reply_good s (Opened number sub) = report_good s s.stage (opened_of number sub)
 reply_good s (Route key) = route_good s s.stage key
 reply_good s Board = board_good s s.stage
+reply_good s (Hear digits) = hear_good s (decode_of digits)
+reply_good s Frame = frame_good s s.stage
 reply_good s (Bad reason) = tt
 
 line_good : (s : ScenarioState) (line : List ℕ) → NotBad (reply_to_line s line)

@@ -30,11 +30,15 @@ text_of_heard bodies (Some fault) = heard_lines bodies ++ fault_line fault
 text_of_heard [] None = codes "heard nothing\n"
 text_of_heard (b ∷ bodies) None = heard_lines (b ∷ bodies)
 
--- the board after the messages: deltas are merged into it, digests have no effect
+-- the board after a message: a delta is merged into it, a digest has no effect
+abbrev pub after_body : BoardValue → Body → BoardValue
+after_body b (lists d) = board_join b (board_of_lists d)
+after_body b (rows d) = b
+
+-- the board after the messages, one after the other
 abbrev pub after_bodies : BoardValue → List Body → BoardValue
 after_bodies b [] = b
-after_bodies b (lists d ∷ bodies) = after_bodies (board_join b (board_of_lists d)) bodies
-after_bodies b (rows d ∷ bodies) = after_bodies b bodies
+after_bodies b (body ∷ bodies) = after_bodies (after_body b body) bodies
 
 -- ---- frame
 

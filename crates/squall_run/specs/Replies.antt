@@ -101,8 +101,7 @@ heard_reply s heard = Goes (text_of_heard heard.bodies heard.fault) (record s { 
 
 -- a feed that a fault has ended takes nothing
 abbrev pub feed_reply : ScenarioState → Bool → List ℕ → Reply
-feed_reply s true bytes = Goes (codes "no Failed
-") s
+feed_reply s true bytes = Goes (codes "no Failed\n") s
 feed_reply s false bytes = heard_reply s (heard_of (s.feed.waiting ++ bytes))
 
 abbrev pub bytes_reply : ScenarioState → StageState → List ℕ → Reply

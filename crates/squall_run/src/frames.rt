@@ -3,8 +3,7 @@
 ghost use Rattle.std.specs.Prelude.{◌≡◌, ◌++◌, OnOk, OnErr, IfOk, map, string_bytes};
 ghost use Rattle.hex.specs.Hex.{decode_of};
 ghost use Rattle.squall_wire.specs.Messages.{body_of};
-ghost use Rattle.squall_wire.specs.FaultText.{text_of_fault};
-ghost use Rattle.squall_run.specs.Frames.{heard_lines, fault_line, text_of_heard, after_bodies, frame_text};
+ghost use Rattle.squall_run.specs.Frames.{heard_line, heard_lines, text_of_heard, after_body, after_bodies, frame_text};
 ghost use Rattle.squall_run.specs.Replies.{hear_reply, bytes_reply, feed_reply, frame_reply};
 ghost use Rattle.squall_run.specs.Answered.{Answers};
 
@@ -12,18 +11,28 @@ use crate::reason::Reason;
 use crate::scenario::{Scenario, Stage};
 use hex::FromHexError;
 use squall_board::Board;
-use squall_wire::{EncodeFault, FeedFault, Heard, Message, encode_board, heard_frame_by_frame};
+use squall_wire::{
+    EncodeFault, FeedFault, Heard, Message, encode_board, heard_frame_by_frame,
+    lists_make_the_board,
+};
 use std::alloc::AllocError;
+
+/// Adds the line of a message.
+fn add_message(message: &Message, out: &mut String) -> Result<(), AllocError>
+    ensures { OnOk result (string_bytes out.new ≡ string_bytes out.old ++ heard_line (body_of message.now)) }
+{
+    match message {
+        Message::Delta(_) => write!(out, "heard delta\n"),
+        Message::Digest(_) => write!(out, "heard digest\n"),
+    }
+}
 
 /// Adds a line for each message.
 fn add_messages(messages: &[Message], out: &mut String) -> Result<(), AllocError>
     ensures { OnOk result (string_bytes out.new ≡ string_bytes out.old ++ heard_lines (map body_of messages.now)) }
 {
     for message in messages {
-        match message {
-            Message::Delta(_) => write!(out, "heard delta\n")?,
-            Message::Digest(_) => write!(out, "heard digest\n")?,
-        }
+        add_message(message, out)?;
     }
     Ok(())
 }
@@ -40,15 +49,25 @@ fn add_heard(heard: &Heard, out: &mut String) -> Result<(), AllocError>
     }
 }
 
-/// Merges the deltas into the board. Digests have no effect.
+/// Merges a delta into the board. A digest has no effect.
+fn merge_message(board: &mut Board, message: &Message) -> Result<(), AllocError>
+    ensures { OnOk result (board.new ≡ after_body board.old (body_of message.now)) }
+{
+    match message {
+        Message::Delta(delta) => {
+            lists_make_the_board(delta);
+            board.merge(delta)
+        }
+        Message::Digest(_) => Ok(()),
+    }
+}
+
+/// Merges the deltas into the board, one after the other.
 fn merge_messages(board: &mut Board, messages: &[Message]) -> Result<(), AllocError>
     ensures { OnOk result (board.new ≡ after_bodies board.old (map body_of messages.now)) }
 {
     for message in messages {
-        if let Message::Delta(delta) = message {
-            delta.known();
-            board.merge(delta)?;
-        }
+        merge_message(board, message)?;
     }
     Ok(())
 }
