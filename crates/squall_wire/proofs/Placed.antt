@@ -1,10 +1,12 @@
--- What stands at the place of each cell of a board.
-use Rattle.std.specs.Prelude.{◌≡◌, ℕ, zero, suc, ◌<◌, length, map, List, [], ◌∷◌, Option, None, Some, refl}
-use Rattle.std.proofs.Common.{sym, ap, ◌∙◌, arith, get_or}
-use Rattle.std.specs.List.{AllByRecursion}
+-- What is written of a cell, and what stands at the place of each cell of a board.
+use Rattle.std.specs.Prelude.{◌≡◌, ℕ, zero, suc, ◌<◌, length, map, Bool, List, [], ◌∷◌, ◌++◌, Option, None, Some, refl}
+use Rattle.std.proofs.Common.{sym, ap, ◌∙◌, arith, get_or, append_assoc}
+use Rattle.std.specs.List.{flat_map, AllByRecursion}
+use Rattle.squall_span.specs.Spans.{Interval}
 use Rattle.squall_report.specs.Cells.{CellPlace}
 use Rattle.squall_board.specs.Boards.{CellValue, BoardValue, cell_of}
-use Rattle.squall_board.specs.Listed.{CellEntry, cell_entry, entry_value, cells_of, places_of}
+use Rattle.squall_board.specs.Listed.{CellEntry, entry_with, cell_entry, entry_value, cells_of, places_of}
+use Rattle.squall_wire.specs.Spelling.{word, spell_place, spell_done, spell_span, spell_cell}
 
 -- a cell of a list, and what the board has at its place
 record Stands (b : BoardValue) (cs : List CellEntry) (i : ℕ) (p : CellPlace) : Type 0 where
@@ -38,3 +40,12 @@ cell_there b ps i p same lt is h gone =
     let s = stands b (cells_of b) i p (omega (arith, ap length same)) (is ∙ ap (λ l. get_or l i p) same) h in
     let both : Some (entry_value s.entry) ≡ None = sym s.found ∙ gone in
     cc
+
+-- a cell is written as what stands before its spans, and its spans
+pub cell_written : (place : CellPlace) (complete : Bool) (spans ss : List Interval) (old head now new : List ℕ) → ss ≡ spans → head ≡ spell_place place ++ (spell_done complete ++ word (length ss)) → now ≡ old ++ head → new ≡ now ++ flat_map spell_span ss → new ≡ old ++ spell_cell (entry_with place complete spans)
+cell_written place complete spans ss old head now new same is step last =
+    last
+    ∙ ap (λ v. v ++ flat_map spell_span ss) step
+    ∙ append_assoc old head (flat_map spell_span ss)
+    ∙ ap (λ v. old ++ (v ++ flat_map spell_span ss)) is
+    ∙ ap (λ v. old ++ spell_cell (entry_with place complete v)) same

@@ -6,10 +6,10 @@ ghost use Rattle.squall_board.specs.Listed.{entry_with, cell_entry, cells_of};
 ghost use Rattle.squall_wire.specs.declared.encoding.EncodeFault.TheVariants.{TooLong};
 ghost use Rattle.squall_wire.specs.Fits.{IsWordCell};
 ghost use Rattle.squall_wire.specs.Limits.{body_limit, word_limit};
-ghost use Rattle.squall_wire.specs.Spelling.{spell_place, spell_done, spell_cell, spell_list};
+ghost use Rattle.squall_wire.specs.Spelling.{word, spell_place, spell_done, spell_cell, spell_list};
 
 use crate::encoding::EncodeFault;
-use crate::write::{BODY_LIMIT, count_bytes, write_list};
+use crate::write::{BODY_LIMIT, count_bytes, write_items};
 use squall_board::{Board, CellParts, cells_at_their_places};
 use squall_report::CellId;
 use squall_span::SpanSet;
@@ -18,21 +18,35 @@ use std::alloc::AllocError;
 /// How many spans of 16 bytes a body could hold.
 const SPAN_LIMIT: usize = 65_536;
 
-/// Adds the number, the sub-plan and the partition.
-fn write_place(out: &mut Vec<u8>, place: CellId) -> Result<(), AllocError>
-    ensures written { OnOk result (out.new.items ≡ out.old.items ++ spell_place place) }
-    ensures known { OnOk result (place.number < word_limit) }
-{
-    out.extend_from_slice(&place.number().to_be_bytes())?;
-    out.extend_from_slice(&place.sub().to_be_bytes())?;
-    out.extend_from_slice(&place.part().to_be_bytes())
-}
-
 /// The byte that says whether a cell is complete.
 fn done_byte(complete: bool) -> u8
     ensures { spell_done complete ≡ result ∷ [] }
 {
     if complete { 1 } else { 0 }
+}
+
+/// The bytes of the place.
+fn place_bytes(place: CellId) -> [u8; 12]
+    ensures bytes { result ≡ spell_place place }
+    ensures known { place.number < word_limit }
+{
+    let mut bytes = [0; 12];
+    bytes[..4].copy_from_slice(&place.number().to_be_bytes());
+    bytes[4..8].copy_from_slice(&place.sub().to_be_bytes());
+    bytes[8..].copy_from_slice(&place.part().to_be_bytes());
+    bytes
+}
+
+/// The bytes of what stands before the spans of a cell.
+fn head_bytes(place: CellId, complete: bool, spans: usize) -> [u8; 17]
+    ensures bytes { result ≡ spell_place place ++ (spell_done complete ++ word spans) }
+    ensures known { place.number < word_limit }
+{
+    let mut bytes = [0; 17];
+    bytes[..12].copy_from_slice(&place_bytes(place));
+    bytes[12] = done_byte(complete);
+    bytes[13..].copy_from_slice(&count_bytes(spans));
+    bytes
 }
 
 /// Adds the cell: its place, whether it is complete, and its spans.
@@ -45,9 +59,9 @@ pub(crate) fn write_cell(
     ensures written { OnOk result (out.new.items ≡ out.old.items ++ spell_cell (entry_with place complete spans.now)) }
     ensures known { OnOk result (place.number < word_limit) }
 {
-    write_place(out, place)?;
-    out.push(done_byte(complete))?;
-    write_list(out, spans.spans())
+    let spans = spans.spans();
+    out.extend_from_slice(&head_bytes(place, complete, spans.len()))?;
+    write_items(out, spans)
 }
 
 /// Adds the cell, unless the bytes are too many for a body with it.

@@ -36,12 +36,21 @@ impl Spelled for Opening {
     }
 }
 
+/// The bytes of a span.
+fn span_bytes(span: Span) -> [u8; 16]
+    ensures { result ≡ spell_span span }
+{
+    let mut bytes = [0; 16];
+    bytes[..8].copy_from_slice(&span.lo().rank().to_be_bytes());
+    bytes[8..].copy_from_slice(&span.hi().rank().to_be_bytes());
+    bytes
+}
+
 impl Spelled for Span {
     ghost spelling = { spell_span };
 
     fn write(&self, out: &mut Vec<u8>) -> Result<(), AllocError> {
-        write_bound(out, self.lo())?;
-        write_bound(out, self.hi())
+        out.extend_from_slice(&span_bytes(*self))
     }
 }
 

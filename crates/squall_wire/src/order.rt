@@ -29,7 +29,7 @@ impl Placed<u32> for Opening {
     ghost place = { λ opening. opening.number };
 
     fn follows(&self, last: u32) -> bool {
-        last < self.number && self.number >= 1 && self.count >= 1 && self.count <= 10000
+        last < self.number && self.count >= 1 && self.count <= 10000
     }
 
     fn place(&self) -> u32 {
@@ -43,7 +43,7 @@ impl Placed<u32> for IssueRow {
     ghost place = { λ row. row.number };
 
     fn follows(&self, last: u32) -> bool {
-        last < self.number && self.number >= 1
+        last < self.number
     }
 
     fn place(&self) -> u32 {

@@ -1,7 +1,7 @@
 //! Writing at the end of bytes.
 
 ghost use Rattle.std.specs.Prelude.{◌≡◌, ◌++◌, ◌<◌, ℕ, List, length, OnOk, Err};
-ghost use Rattle.std.specs.List.{AllByRecursion};
+ghost use Rattle.std.specs.List.{flat_map, AllByRecursion};
 ghost use Rattle.squall_wire.specs.declared.encoding.EncodeFault.TheVariants.{TooLong};
 ghost use Rattle.squall_wire.specs.Limits.{body_limit};
 ghost use Rattle.squall_wire.specs.Messages.{version_with};
@@ -34,16 +34,24 @@ pub(crate) fn count_bytes(count: usize) -> [u8; 4]
     ((count % 4_294_967_296) as u32).to_be_bytes()
 }
 
+/// Adds the items. It fails only where an allocation fails.
+pub(crate) fn write_items<T: Spelled>(out: &mut Vec<u8>, items: &[T]) -> Result<(), AllocError>
+    ensures written { OnOk result (out.new.items ≡ out.old.items ++ flat_map T.spelling items.now) }
+    ensures known { OnOk result (AllByRecursion T.holds items.now) }
+{
+    for item in items {
+        item.write(out)?;
+    }
+    Ok(())
+}
+
 /// Adds the count of the items and the items. It fails only where an allocation fails.
 pub(crate) fn write_list<T: Spelled>(out: &mut Vec<u8>, items: &[T]) -> Result<(), AllocError>
     ensures written { OnOk result (out.new.items ≡ out.old.items ++ spell_list T.spelling items.now) }
     ensures known { OnOk result (AllByRecursion T.holds items.now) }
 {
     out.extend_from_slice(&count_bytes(items.len()))?;
-    for item in items {
-        item.write(out)?;
-    }
-    Ok(())
+    write_items(out, items)
 }
 
 /// Adds the value, unless the bytes are too many for a body with it.
