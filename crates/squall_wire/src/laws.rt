@@ -3,13 +3,16 @@
 ghost use Rattle.std.specs.Prelude.{◌≡◌, ◌++◌, ℕ, List, [], map, Option, None, Some};
 ghost use Rattle.std.specs.List.{AllByRecursion, concat};
 ghost use Rattle.squall_wire.specs.declared.fault.WireFault.{WireFault};
+ghost use Rattle.squall_report.specs.Told.{SameTold};
+ghost use Rattle.squall_board.specs.Boards.{told};
 ghost use Rattle.squall_wire.specs.declared.message.Message.{Message as MessageValue};
+ghost use Rattle.squall_wire.specs.declared.message.Message.TheVariants.{Delta};
 ghost use Rattle.squall_wire.specs.BoardOf.{board_of_lists};
 ghost use Rattle.squall_wire.specs.Messages.{lists_of, body_of, spell, spell_all, IsMessage};
 ghost use Rattle.squall_wire.specs.Heard.{heard_of, heard_with};
 ghost use Rattle.squall_wire.specs.Hearing.{IsHeard, FeedValue, new_feed, HearsOn, HearsAll};
 
-use squall_board::Board;
+use squall_board::{Board, equal_facts_equal_boards};
 
 /// Each message has one frame, and no frame begins another: bytes that begin with the frames of
 /// two messages have one message, and go on alike after it.
@@ -78,3 +81,10 @@ pub fn lists_make_the_board(board: &Board)
 pub fn heard_frame_by_frame()
     ensures { (stream : List ℕ) (ms : List MessageValue) (f : Option WireFault) (r : List ℕ) → IsHeard stream ms f r → heard_of stream ≡ heard_with (map body_of ms) f r }
 {}
+
+/// Boards that tell the same have one frame, whatever reports and messages made them.
+pub fn same_facts_same_frame(a: &Board, b: &Board)
+    ensures { SameTold (told a.now) (told b.now) → spell (Delta a.now) ≡ spell (Delta b.now) }
+{
+    equal_facts_equal_boards(a, b);
+}

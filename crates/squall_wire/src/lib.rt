@@ -27,7 +27,7 @@ pub use feed::{Feed, FeedFault, Heard};
 pub use laws::{
     cutting_tells_nothing, faults_end_the_stream, faults_stay, heard_frame_by_frame,
     lists_make_the_board, one_frame, one_hearing, pieces_are_one_stream, pieces_begin_the_stream,
-    pushes_are_one, spelled_messages_are_heard,
+    pushes_are_one, same_facts_same_frame, spelled_messages_are_heard,
 };
 pub use message::Message;
 

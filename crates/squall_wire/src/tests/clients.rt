@@ -32,8 +32,9 @@ fn push_both(feed: &mut Feed, first: &[u8], second: &[u8]) -> Result<Heard, Feed
 fn two_pieces_as_one(rt: HostRuntime) -> Result<(), Fail> {
     let frame = hex(rt.alloc(), LOAD)?;
     assert_eq!(rt; frame.len(), 49);
+    let (first, second) = frame.split_at(30);
     let mut feed = Feed::new(rt.alloc());
-    let heard = push_both(&mut feed, &frame[..30], &frame[30..])?;
+    let heard = push_both(&mut feed, first, second)?;
     assert!(rt; heard.messages.len() == 1 && heard.fault.is_none());
     let heard = push_both(&mut feed, &[0x54], &frame)?;
     assert!(rt; heard.messages.is_empty() && heard.fault == Some(WireFault::Magic));
