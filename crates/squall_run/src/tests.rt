@@ -62,6 +62,31 @@ const BOARD_ANSWERS: [&str; 11] = [
     "cell 1 0 4 done [6:0,7:0) [8:0,end)\n",
 ];
 
+/// Two pieces of the frame of one load, and an empty digest; then a byte that begins no frame.
+const FRAME_LINES: [&str; 9] = [
+    OLD,
+    NEW,
+    "hear 53510101000000290000\n",
+    "hear 000000000001000000010000000000000003000000000100000002000000000000000300000000\n",
+    "hear 53510102000000080000000000000000535101\n",
+    "route 2:0\n",
+    "frame\n",
+    "hear 54\n",
+    "hear 53\n",
+];
+
+const FRAME_ANSWERS: [&str; 9] = [
+    "old 4\n",
+    "new 5\n",
+    "heard nothing\n",
+    "heard delta\n",
+    "heard digest\n",
+    "route 2:0 3\n",
+    "frame 53510101000000290000000000000001000000010000000000000003000000000100000002000000000000000300000000\n",
+    "fault Kind\n",
+    "no Failed\n",
+];
+
 /// The texts, one after another.
 fn joined(alloc: Global, texts: &[&str]) -> Result<String, AllocError> {
     let mut all = String::new(alloc);
@@ -163,12 +188,44 @@ fn board(rt: HostRuntime) -> Result<(), Fail> {
 }
 
 #[test]
-fn tolerant_board(rt: HostRuntime) -> Result<(), Fail> {
+fn frames(rt: HostRuntime) -> Result<(), Fail> {
     let alloc = rt.alloc();
-    let Ok(input) = joined(alloc, BOARD_LINES.as_slice()) else {
+    let input = joined(alloc, FRAME_LINES.as_slice())?;
+    let wanted = joined(alloc, FRAME_ANSWERS.as_slice())?;
+    let mut out = Vec::new(alloc);
+    let mut reader = Reader::new(input.as_bytes());
+    let mut writer = Writer::new(&mut out);
+    assert_eq!(rt; run_text(alloc, &mut reader, &mut writer), Ok(Ended::Fine));
+    assert!(rt; out.as_slice() == wanted.as_bytes());
+    Ok(())
+}
+
+#[test]
+fn tolerant_board(rt: HostRuntime) -> Result<(), Fail> {
+    tolerant(
+        &rt,
+        rt.alloc(),
+        BOARD_LINES.as_slice(),
+        BOARD_ANSWERS.as_slice(),
+    )
+}
+
+#[test]
+fn tolerant_frames(rt: HostRuntime) -> Result<(), Fail> {
+    tolerant(
+        &rt,
+        rt.alloc(),
+        FRAME_LINES.as_slice(),
+        FRAME_ANSWERS.as_slice(),
+    )
+}
+
+/// A run of the lines writes the answers, or where an allocation fails a prefix of them.
+fn tolerant(rt: &impl Abort, alloc: Global, lines: &[&str], answers: &[&str]) -> Result<(), Fail> {
+    let Ok(input) = joined(alloc, lines) else {
         return Ok(());
     };
-    let Ok(wanted) = joined(alloc, BOARD_ANSWERS.as_slice()) else {
+    let Ok(wanted) = joined(alloc, answers) else {
         return Ok(());
     };
     let mut out = Vec::new(alloc);
