@@ -27,6 +27,10 @@ below_by a b n e t = omega (arith, lt_from_cmp a b (sym t))
 pub from_by : (a b n : ℕ) → a ≡ n → false ≡ is_lt (nat_cmp a b) → b ≤ n
 from_by a b n e t = omega (arith, ge_from_cmp a b (sym t))
 
+-- a test of a bound that was read
+pub is_below_by : (a b n : ℕ) → a ≡ n → n < b → is_lt (nat_cmp a b) ≡ true
+is_below_by a b n e lt = grind (arith, nat_tests)
+
 pub some_by : (n : ℕ) → false ≡ (n == 0) → 0 < n
 some_by n e = grind (arith, nat_tests)
 

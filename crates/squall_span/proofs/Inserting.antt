@@ -51,6 +51,13 @@ insert_between s (x ∷ xs) (suc i) c p a b =
     let ends = a.before 0 x (omega arith) in
     ap (λ l. x ∷ l) (insert_between s xs i c.2 p (apart_tail x xs s.lo i a) (started_tail x xs s.hi i b)) ∙ sym (insert_after s x xs p c.0 ends)
 
+-- where all end before the span, it goes to the end
+pub insert_beyond : (s : Interval) (xs : List Interval) → IsCanonical xs → s.lo < s.hi → Apart xs s.lo (length xs) → insert_span s xs ≡ xs ++ (s ∷ [])
+insert_beyond s [] c p a = refl
+insert_beyond s (x ∷ xs) c p a =
+    let ends = a.before 0 x (omega arith) in
+    insert_after s x xs p c.0 ends ∙ ap (λ l. x ∷ l) (insert_beyond s xs c.2 p (apart_tail x xs s.lo (length xs) a))
+
 hull_beyond : (s x : Interval) (xs : List Interval) → Beyond s.hi xs → Beyond x.hi xs → Beyond (hull s x).hi xs
 hull_beyond s x [] b c = tt
 hull_beyond s x (y ∷ ys) b c = omega arith

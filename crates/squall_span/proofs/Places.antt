@@ -1,11 +1,11 @@
 -- What a binary search finds among the spans of a set.
-use Rattle.std.proofs.Common.{◌≡◌, ℕ, zero, suc, ◌+◌, ◌<◌, ◌≤◌, false, ◌||◌, List, [], ◌∷◌, length, get_or, take, drop, refl, sym, ap, subst, ◌∙◌, arith}
+use Rattle.std.proofs.Common.{◌≡◌, ℕ, zero, suc, ◌+◌, ◌-◌, ◌<◌, ◌≤◌, false, ◌||◌, List, [], ◌∷◌, length, get_or, take, drop, refl, sym, ap, subst, ◌∙◌, arith}
 use Rattle.std.specs.List.Sorted.{IsNonDecreasingBy}
 use Rattle.std.proofs.Math.Bool.{or-false}
-use Rattle.std.proofs.lemmas.List.{drop_more, drop_all}
+use Rattle.std.proofs.lemmas.List.{drop_more, drop_all, get_or_default}
 use Rattle.squall_span.specs.Spans.{Interval, span_has, has, Beyond, IsCanonical, EndsBy, EndsBeyond}
 use Rattle.squall_span.specs.SpanLaws.{outside_above, has_below}
-use Rattle.squall_span.specs.Places.{Ended}
+use Rattle.squall_span.specs.Places.{Ended, Apart}
 
 pub starts_above : (h : ℕ) (xs : List Interval) (j : ℕ) (d : Interval) → Beyond h xs → IsCanonical xs → j < length xs → h < (get_or xs j d).lo
 starts_above h [] j d b c lt = absurd (omega arith)
@@ -81,3 +81,14 @@ has_found xs k i x c e lt is =
 
 pub has_none : (xs : List Interval) (k i : ℕ) → Ended xs k i → length xs ≤ i → has xs k ≡ false
 has_none xs k i e le = ended_same xs k i k e (omega arith) ∙ ap (λ l. has l k) (drop_all i xs le)
+
+-- all end before the bound where the last one does
+pub last_apart : (xs : List Interval) (bound : ℕ) (x : Interval) → IsCanonical xs → 0 < length xs → x ≡ get_or xs (length xs - 1) x → x.hi < bound → Apart xs bound (length xs)
+last_apart xs bound x c some is lt = record {
+  within = omega arith;
+  before = λ j d below.
+      let rise = ends_rise xs c j (length xs - 1) d (omega arith) (omega arith) in
+      let same : x.hi ≡ (get_or xs (length xs - 1) d).hi = ap (λ (t : Interval). t.hi) (is ∙ get_or_default xs (length xs - 1) x d (omega arith)) in
+      omega (arith, rise, same);
+  from = λ j d le below. absurd (omega arith);
+}

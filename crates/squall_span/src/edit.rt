@@ -5,7 +5,7 @@ ghost use Rattle.std.specs.List.{insert as inserted};
 ghost use Rattle.squall_span.specs.Places.{IsCut};
 ghost use Rattle.squall_span.specs.Spans.{IsCanonical, insert_span};
 
-use crate::search::{apart, ended, started};
+use crate::search::{all_apart, apart, ended, started};
 use crate::span::Span;
 use squall_key::Bound;
 use std::alloc::{AllocError, Global};
@@ -43,6 +43,11 @@ pub(crate) fn insert(spans: &mut Vec<Span>, span: Span) -> Result<(), AllocError
     ensures value { OnOk result (spans.new.items ≡ insert_span span spans.old.items) }
     ensures err { OnErr result (spans.new.items ≡ spans.old.items) }
 {
+    // Spans mostly come in order: one beyond the last goes to the end, with no search.
+    if all_apart(spans, span.lo()) {
+        spans.push(span)?;
+        return Ok(());
+    }
     let from = apart(spans, span.lo());
     let to = started(spans, span.hi());
     if from == to {

@@ -1,6 +1,6 @@
 //! Searches among the spans of a set.
 
-ghost use Rattle.std.specs.Prelude.{◌≡◌, ℕ, ◌≤◌, length, take, drop};
+ghost use Rattle.std.specs.Prelude.{◌≡◌, ◌↔◌, ℕ, ◌≤◌, length, take, drop, IsTrue};
 ghost use Rattle.squall_span.specs.Spans.{IsCanonical};
 ghost use Rattle.squall_span.specs.Places.{Ended, Apart, Started};
 
@@ -21,6 +21,18 @@ pub(crate) fn apart(spans: &[Span], bound: Bound) -> usize
     ensures { Apart spans.now bound result }
 {
     spans.partition_point(|span| span.hi() < bound)
+}
+
+/// Whether all spans end before the bound, and do not touch it. The last one ends furthest, so that
+/// it alone is looked at.
+pub(crate) fn all_apart(spans: &[Span], bound: Bound) -> bool
+    requires { IsCanonical spans.now }
+    ensures { IsTrue result ↔ Apart spans.now bound (length spans.now) }
+{
+    match spans.last() {
+        Some(last) => last.hi() < bound,
+        None => true,
+    }
 }
 
 /// How many spans start at the bound or before it.

@@ -62,6 +62,17 @@ fn union_of_two_spans(rt: HostRuntime) -> Result<(), Fail> {
 }
 
 #[test]
+fn spans_in_rising_order(rt: HostRuntime) -> Result<(), Fail> {
+    let three = [("0:0", "1:0"), ("2:0", "3:0"), ("4:0", "5:0")];
+    let mut rising = set(&rt, rt.alloc(), &three)?;
+    assert!(rt; has_spans(&rt, &rising, &three));
+    rising.insert(span(&rt, "5:0", "6:0"))?;
+    let last_longer = [("0:0", "1:0"), ("2:0", "3:0"), ("4:0", "6:0")];
+    assert!(rt; has_spans(&rt, &rising, &last_longer));
+    Ok(())
+}
+
+#[test]
 fn meet_split_and_first_keys(rt: HostRuntime) -> Result<(), Fail> {
     let two = set(&rt, rt.alloc(), &TWO)?;
     let middle = SpanSet::of(rt.alloc(), &span(&rt, "0:5", "2:5"))?;
