@@ -2,6 +2,7 @@ use super::*;
 use std::alloc::AllocError;
 use std::io;
 use std::io::{ErrorKind, Read, Write};
+use std::process::Abort;
 use std::test::Fail;
 
 mod program;
