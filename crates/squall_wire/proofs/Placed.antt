@@ -1,5 +1,5 @@
 -- What is written of a cell, and what stands at the place of each cell of a board.
-use Rattle.std.specs.Prelude.{◌≡◌, ℕ, zero, suc, ◌<◌, length, map, Bool, List, [], ◌∷◌, ◌++◌, Option, None, Some, refl}
+use Rattle.std.specs.Prelude.{◌≡◌, ℕ, zero, suc, ◌<◌, length, map, Bool, List, [], ◌∷◌, ◌++◌, None, Some, refl}
 use Rattle.std.proofs.Common.{sym, ap, ◌∙◌, arith, get_or, append_assoc}
 use Rattle.std.specs.List.{flat_map, AllByRecursion}
 use Rattle.squall_span.specs.Spans.{Interval}

@@ -1,10 +1,9 @@
-use Rattle.std.proofs.Common.{◌≡◌, ℕ, length, Err, sym, ap, ◌∙◌, option_copied}
+use Rattle.std.proofs.Common.{length, sym, ap, ◌∙◌, option_copied}
 use Rattle.std.proofs.lemmas.Result.{err_from_is_err_and}
 use Rattle.squall_board.specs.Listed.{cell_entry, cells_of}
 use Rattle.squall_wire.specs.Limits.{body_limit}
 use Rattle.squall_wire.specs.Spelling.{word, spell_cell}
 use Rattle.squall_wire.specs.Fits.{IsWordCell}
-use Rattle.squall_wire.specs.declared.encoding.EncodeFault.TheVariants.{TooLong}
 use Rattle.squall_wire.proofs.Written.{list_more, list_long, all_more}
 use Rattle.squall_wire.proofs.Placed.{cell_here, cell_there}
 use Rattle.squall_wire.proofs.cells.write_cells.Goals as goal
