@@ -29,8 +29,7 @@ squall help COMMAND shows the help of a command, and squall help run the lines o
 const SCENARIO: &str = "Lines of a scenario, one question or report each:
   old JSON            the old plan, once and first
   new JSON            the new plan, once and right after the old one
-  loaded N S P LO HI  partition P has loaded the keys from LO on, below HI, in sub-plan S of
-                      reconfiguration N
+  loaded N S P LO HI  partition P has loaded [LO,HI) in sub-plan S of reconfiguration N
   done N S P          partition P has all that sub-plan S of reconfiguration N brings it
   opened N S          sub-plan S of reconfiguration N is opened, and all those before it
   route K             asks which partition has key K

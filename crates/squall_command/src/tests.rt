@@ -123,6 +123,8 @@ fn help_names_commands_and_lines(rt: HostRuntime) -> Result<(), Fail> {
         "  opened N S ",
         "  route K ",
         "  board ",
+        "  hear HEX ",
+        "  frame ",
         "  # ",
     ] {
         assert!(rt; help.as_str().contains(line));
