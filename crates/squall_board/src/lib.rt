@@ -5,6 +5,7 @@ mod board;
 mod cell;
 mod facts_laws;
 mod laws;
+mod lent;
 mod list;
 mod listed;
 mod newest;
