@@ -1,13 +1,11 @@
 -- What is decoded is spelled so, and no other message begins the bytes.
 use Rattle.std.proofs.Common.{◌≡◌, ℕ, ◌≤◌, List, ◌++◌, length, take, Result, Ok, Err, sym, ap, ◌∙◌}
-use Rattle.std.specs.Prelude.{◌≢◌, IfOk}
+use Rattle.std.specs.Prelude.{IfOk}
 use Rattle.squall_board.specs.Boards.{BoardValue, IsBoard}
 use Rattle.squall_wire.specs.declared.fault.WireFault.{WireFault}
-use Rattle.squall_wire.specs.declared.fault.WireFault.TheVariants.{NoMemory}
 use Rattle.squall_wire.specs.declared.message.Message.{Message}
 use Rattle.squall_wire.specs.declared.message.Message.TheVariants.{Delta, Digest}
-use Rattle.squall_wire.specs.DigestValue.{DigestValue}
-use Rattle.squall_wire.specs.Messages.{BoardLists, Body, lists, rows, lists_of, body_of, spell, IsContent, IsMessage}
+use Rattle.squall_wire.specs.Messages.{Body, lists_of, body_of, spell, IsContent, IsMessage}
 use Rattle.squall_wire.specs.BoardOf.{board_of_lists}
 use Rattle.squall_wire.specs.BoardOfLaws.{lists_back}
 use Rattle.squall_wire.specs.Reading.{Gives, message_at}

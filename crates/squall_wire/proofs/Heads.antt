@@ -1,5 +1,5 @@
 -- A cell is made of every head that is read and its spans.
-use Rattle.std.proofs.Common.{◌≡◌, ℕ, ◌==◌, Bool, true, cond, List, Option, None, Some, Ok, ap, ◌∙◌, sym}
+use Rattle.std.proofs.Common.{◌≡◌, ℕ, ◌==◌, Bool, cond, List, Option, None, Some, Ok, ap, ◌∙◌, sym}
 use Rattle.squall_span.specs.Spans.{Interval}
 use Rattle.squall_report.specs.Cells.{CellPlace}
 use Rattle.squall_board.specs.Listed.{CellEntry, entry_with, entry_of}

@@ -1,13 +1,12 @@
 -- Ranges that stand as those of a plan do are the list of a plan.
-use Rattle.std.proofs.Common.{◌≡◌, ℕ, ◌-◌, ◌<◌, ◌≤◌, ◌==◌, Bool, true, false, List, [], ◌∷◌, length, Option, Some, None, Ok, refl, sym, ap, subst, ◌∙◌, arith}
-use Rattle.std.specs.Prelude.{◌≢◌, ◌&&◌, not, nat_lt, nat_le}
+use Rattle.std.proofs.Common.{◌≡◌, ℕ, ◌<◌, ◌≤◌, ◌==◌, true, List, [], ◌∷◌, length, Option, Some, refl, sym, ap, ◌∙◌, arith}
+use Rattle.std.specs.Prelude.{◌≢◌, not, nat_lt}
 use Rattle.std.proofs.lemmas.Bool.{and_parts}
 use Rattle.std.proofs.lemmas.Bool.Decides.{nat_tests}
 use Rattle.squall_key.specs.Keys.{top, part_limit}
 use Rattle.squall_plan.specs.declared.range.PlanRange.{PlanRange}
-use Rattle.squall_plan.specs.Ranges.{IsRange, AreRanges, ArePlan, IsTiling, DifferFrom, Differ, IsCanonical, IsPlanOf, owner_of}
-use Rattle.squall_plan.specs.Arranged.{range_limit}
-use Rattle.squall_wire.specs.Limits.{AreInTurn, PlanPoint, plan_start, range_in_range, range_in_order, is_other_part, after_range, plan_count_in_range, FitsRange, FitsPlan}
+use Rattle.squall_plan.specs.Ranges.{AreRanges, IsTiling, DifferFrom, Differ, IsCanonical}
+use Rattle.squall_wire.specs.Limits.{AreInTurn, PlanPoint, plan_start, range_in_range, is_other_part, after_range, plan_count_in_range, FitsRange, FitsPlan}
 
 -- what the tests of a range tell
 record Told (p : PlanPoint) (r : PlanRange) : Type 0 where

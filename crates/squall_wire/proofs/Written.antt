@@ -3,7 +3,6 @@ use Rattle.std.specs.Prelude.{◌≡◌, ℕ, ◌<◌, ◌≤◌, ◌+◌, lengt
 use Rattle.std.proofs.Common.{sym, ap, subst, ◌∙◌, arith, take, drop, get_or, append_assoc, length-append}
 use Rattle.std.proofs.lemmas.List.{append-nil, take_more, take-append-drop}
 use Rattle.std.proofs.lemmas.List.Concat.{flat_map-append}
-use Rattle.std.proofs.lemmas.Result.{on_ok_weaker}
 use Rattle.std.specs.List.{flat_map, AllByRecursion}
 
 -- two parts, one after the other

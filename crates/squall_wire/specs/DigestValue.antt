@@ -1,5 +1,5 @@
 -- A digest: what is opened, and hashes of what else a board holds (this project).
-use Rattle.std.specs.Prelude.{ℕ, List}
+use Rattle.std.specs.Prelude.{List}
 use Rattle.squall_board.specs.declared.opening.Opening.{Opening}
 use Rattle.squall_wire.specs.declared.digest.IssueRow.{IssueRow}
 use Rattle.squall_wire.specs.declared.digest.DigestRow.{DigestRow}

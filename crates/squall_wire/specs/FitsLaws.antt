@@ -1,26 +1,25 @@
 -- The lists of a board fit into a frame where their bytes are few.
-use Rattle.std.specs.Prelude.{◌≡◌, ◌≢◌, ℕ, zero, suc, ◌<◌, ◌≤◌, ◌+◌, ◌-◌, ◌*◌, ◌==◌, ◌&&◌, ◌||◌, not, nat_lt, nat_le, Bool, true, false, cond, List, [], ◌∷◌, ◌++◌, length, Option, None, Some, refl}
-use Rattle.std.proofs.Common.{sym, ap, subst, ◌∙◌, arith, length-append, Less, Equal, Greater}
+use Rattle.std.specs.Prelude.{◌≡◌, ◌≢◌, ℕ, zero, suc, ◌<◌, ◌≤◌, ◌+◌, ◌*◌, ◌==◌, ◌&&◌, ◌||◌, not, nat_lt, nat_le, Bool, true, cond, List, [], ◌∷◌, ◌++◌, length, Option, None, Some, refl}
+use Rattle.std.proofs.Common.{ap, subst, ◌∙◌, arith, length-append, Less, Equal, Greater}
 use Rattle.std.proofs.lemmas.Bool.Decides.{nat_tests}
 use Rattle.std.specs.List.{flat_map, AllByRecursion}
 use Rattle.std.specs.Cmp.{first_so}
-use Rattle.std.specs.declared.cmp.Ordering.{Ordering}
 use Rattle.std.specs.Ordering.{nat_cmp, is_lt, ordering_then}
 use Rattle.squall_key.specs.Keys.{top, part_limit}
-use Rattle.squall_span.specs.Spans.{Interval, Beyond, IsCanonical, EndsBy, IsSet}
+use Rattle.squall_span.specs.Spans.{Interval, Beyond, IsCanonical, EndsBy}
 use Rattle.squall_join.specs.declared.flat.Flat.{Flat}
 use Rattle.squall_join.specs.declared.flat.Flat.TheVariants.{Unknown, One, Clash}
 use Rattle.squall_plan.specs.declared.range.PlanRange.{PlanRange}
 use Rattle.squall_plan.specs.Arranged.{range_limit}
 use Rattle.squall_plan.specs.Ranges.{IsTiling, DifferFrom, Differ, AreRanges, IsCanonical as IsPlanList}
 use Rattle.squall_report.specs.Issues.{PlanPair}
-use Rattle.squall_report.specs.Cells.{CellPlace, is_cell_place, cell_cmp}
+use Rattle.squall_report.specs.Cells.{CellPlace, is_cell_place}
 use Rattle.squall_board.specs.declared.opening.Opening.{Opening}
 use Rattle.squall_board.specs.Boards.{BoardValue, IsBoard}
-use Rattle.squall_board.specs.Listed.{CellEntry, IsCell, ComesBefore, CellsRise, cells_of, IsOpening, OpeningsRise, openings_of, IssuesRise, issues_of}
-use Rattle.squall_board.specs.ListedLaws.{all_weaker, all_both, openings_listed, issues_listed, cells_listed}
-use Rattle.squall_wire.specs.Limits.{body_limit, word_limit, AreInTurn, AreListed, opening_in_range, FitsOpening, after_opening, FitsSpan, after_span, no_place, is_later, FitsCell, after_cell, PlanPoint, plan_start, is_other_part, FitsRange, after_range, FitsPlan, FitsIssued, FitsIssue, after_issue}
-use Rattle.squall_wire.specs.Messages.{BoardLists, lists_of, spell_lists, AreLists}
+use Rattle.squall_board.specs.Listed.{CellEntry, IsCell, CellsRise, cells_of, IsOpening, OpeningsRise, openings_of, IssuesRise, issues_of}
+use Rattle.squall_board.specs.ListedLaws.{all_weaker, openings_listed, issues_listed, cells_listed}
+use Rattle.squall_wire.specs.Limits.{body_limit, word_limit, AreInTurn, FitsOpening, after_opening, FitsSpan, after_span, no_place, is_later, FitsCell, after_cell, PlanPoint, plan_start, is_other_part, FitsRange, after_range, FitsPlan, FitsIssued, FitsIssue, after_issue}
+use Rattle.squall_wire.specs.Messages.{lists_of, spell_lists, AreLists}
 use Rattle.squall_wire.specs.Spelling.{spell_list, spell_some, spell_opening, spell_span, spell_issue, spell_cell}
 use Rattle.squall_wire.specs.Fits.{ArePlans, IsWordOpening, IsWordIssue, IsWordCell}
 

@@ -1,7 +1,6 @@
 -- The laws of frames: no frame begins another, and each body has one frame (this project's form).
-use Rattle.std.proofs.Common.{◌≡◌, ℕ, zero, suc, ◌+◌, ◌^◌, ◌<◌, ◌≤◌, ◌==◌, Bool, true, false, cond, ltb, List, [], ◌∷◌, ◌++◌, length, take, drop, get_or, Result, Ok, Err, refl, sym, ap, subst, ◌∙◌, arith, inl, inr}
+use Rattle.std.proofs.Common.{◌≡◌, ℕ, suc, ◌+◌, ◌<◌, ◌≤◌, Bool, true, false, cond, ltb, List, [], ◌∷◌, ◌++◌, length, take, drop, get_or, Result, Ok, Err, refl, sym, ap, subst, ◌∙◌, arith, inl, inr}
 use Rattle.std.specs.Prelude.{◌⊎◌, not, ◌&&◌, ◌||◌, slice_index}
-use Rattle.std.specs.Int.{w32, to_be_bytes, from_be_bytes}
 use Rattle.std.proofs.lemmas.Bool.{cases_Bool, ltb-false, le-ltb, and_left, and_right}
 use Rattle.std.proofs.lemmas.Bool.Decides.{nat_tests}
 use Rattle.std.proofs.lemmas.List.{take_at, take-append-drop, length-append, length-take, length-drop}
@@ -13,7 +12,7 @@ use Rattle.squall_wire.specs.Spelling.{word}
 use Rattle.squall_wire.specs.Messages.{Body, lists, rows, spell_body, spell_frame, spell_whole, version_with, version_of, kind_of, IsBody}
 use Rattle.squall_wire.specs.Reading.{◌>>=◌, is_other, body_length, has_head, Frame, frame_at, body_at, message_at}
 use Rattle.squall_wire.specs.FieldLaws.{IsBytes, IsBytes-take, IsBytes-drop, bind_ok, bind_from, ok_is, wide32}
-use Rattle.squall_wire.specs.BodyLaws.{IsVersion, IsSpelled, body_takes, body_again}
+use Rattle.squall_wire.specs.BodyLaws.{IsVersion, body_takes, body_again}
 
 -- ---- the tests of the head
 

@@ -1,5 +1,5 @@
 -- What a feed hears is what the frames say, computed one by one.
-use Rattle.std.specs.Prelude.{◌≡◌, ◌≢◌, ℕ, zero, suc, ◌+◌, ◌<◌, ◌≤◌, List, [], ◌∷◌, ◌++◌, length, map, drop, Option, Some, None, Result, Ok, Err, refl}
+use Rattle.std.specs.Prelude.{◌≡◌, ◌≢◌, ℕ, zero, suc, ◌≤◌, List, [], ◌∷◌, ◌++◌, length, map, drop, Option, Some, None, Result, Ok, Err, refl}
 use Rattle.std.specs.List.{AllByRecursion}
 use Rattle.std.proofs.Common.{sym, ap, subst, ◌∙◌, append_assoc, arith}
 use Rattle.std.proofs.lemmas.List.{nil_from_length, drop_at, length-append}
@@ -7,7 +7,7 @@ use Rattle.squall_wire.specs.declared.fault.WireFault.{WireFault}
 use Rattle.squall_wire.specs.declared.fault.WireFault.TheVariants.{Magic, Version, Kind, TooLong, Short, Count, Range, Order, Spare, NoMemory}
 use Rattle.squall_wire.specs.declared.message.Message.{Message}
 use Rattle.squall_wire.specs.Messages.{Body, body_of, spell, spell_all, IsMessage}
-use Rattle.squall_wire.specs.Reading.{message_at, frame_at, ◌>>=◌}
+use Rattle.squall_wire.specs.Reading.{message_at, frame_at}
 use Rattle.squall_wire.specs.Hearing.{EndsIn, IsHeard}
 use Rattle.squall_wire.specs.FrameLaws.{message_again}
 use Rattle.squall_wire.specs.Heard.{HeardValue, heard_with, heard_first, heard_next, frames_in, heard_of}

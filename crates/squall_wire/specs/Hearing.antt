@@ -1,5 +1,5 @@
 -- What a feed hears in a stream of frames (this project).
-use Rattle.std.specs.Prelude.{◌≡◌, ◌≢◌, ◌⊎◌, ℕ, List, [], ◌∷◌, ◌++◌, Option, Some, None, Bool, true, false, Result, Ok, Err, length}
+use Rattle.std.specs.Prelude.{◌≡◌, ◌≢◌, ◌⊎◌, ℕ, List, [], ◌∷◌, ◌++◌, Option, Some, None, Bool, true, false, Err}
 use Rattle.std.specs.Option.{IsSome, is_some}
 use Rattle.std.specs.List.{AllByRecursion}
 use Rattle.squall_wire.specs.declared.fault.WireFault.{WireFault}

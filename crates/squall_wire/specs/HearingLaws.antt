@@ -1,21 +1,21 @@
 -- Laws of what is heard in a stream of frames.
-use Rattle.std.specs.Prelude.{◌≡◌, ◌≢◌, ◌⊎◌, ℕ, ◌≤◌, Bool, true, false, List, [], ◌∷◌, ◌++◌, length, Option, None, Some, Result, Ok, Err, refl}
+use Rattle.std.specs.Prelude.{◌≡◌, ℕ, Bool, false, List, [], ◌∷◌, ◌++◌, length, Option, None, Some, Result, Ok, Err, refl}
 use Rattle.std.specs.Option.{IsSome}
 use Rattle.std.specs.List.{AllByRecursion, concat}
-use Rattle.std.proofs.Common.{sym, ap, subst, ◌∙◌, append_assoc, ⊎_elim, inl, inr}
+use Rattle.std.proofs.Common.{sym, ap, subst, ◌∙◌, append_assoc, ⊎_elim}
 use Rattle.std.proofs.lemmas.List.{append_cancel_left, append-nil}
 use Rattle.squall_report.specs.Told.{SameTold}
 use Rattle.squall_board.specs.Boards.{BoardValue, IsBoard, told}
 use Rattle.squall_board.specs.Listed.{told_by_lists}
 use Rattle.squall_board.specs.ListedLaws.{lists_tell, lists_equal}
 use Rattle.squall_wire.specs.declared.fault.WireFault.{WireFault}
-use Rattle.squall_wire.specs.declared.fault.WireFault.TheVariants.{Short, NoMemory}
+use Rattle.squall_wire.specs.declared.fault.WireFault.TheVariants.{Short}
 use Rattle.squall_wire.specs.declared.message.Message.{Message}
 use Rattle.squall_wire.specs.declared.message.Message.TheVariants.{Delta, Digest}
 use Rattle.squall_wire.specs.DigestValue.{DigestValue}
 use Rattle.squall_wire.specs.Messages.{BoardLists, Body, lists, rows, lists_of, body_of, spell, spell_all, IsContent, IsMessage}
 use Rattle.squall_wire.specs.Reading.{message_at}
-use Rattle.squall_wire.specs.Hearing.{EndsIn, IsHeard, FeedValue, feed_with, new_feed, IsFeed, feed_after, HearsOn, EndsAt, GoesOn, HearsAll}
+use Rattle.squall_wire.specs.Hearing.{EndsIn, IsHeard, FeedValue, feed_with, new_feed, IsFeed, feed_after, HearsOn, HearsAll}
 use Rattle.squall_wire.specs.FrameLaws.{message_again}
 use Rattle.squall_wire.specs.ReadingLaws.{reading_stays, nothing_is_short}
 

@@ -1,5 +1,5 @@
 -- The laws of openings, spans and cells, and of the rows of a digest (this project's form).
-use Rattle.std.proofs.Common.{◌≡◌, ℕ, zero, suc, ◌+◌, ◌^◌, ◌<◌, ◌≤◌, ◌==◌, Bool, true, false, cond, List, [], ◌∷◌, ◌++◌, length, Result, Ok, Err, refl, sym, ap, subst, ◌∙◌, append_assoc, arith}
+use Rattle.std.proofs.Common.{◌≡◌, ℕ, zero, suc, ◌^◌, ◌<◌, ◌≤◌, ◌==◌, Bool, true, false, cond, List, [], ◌∷◌, ◌++◌, length, Ok, refl, sym, ap, subst, ◌∙◌, arith}
 use Rattle.std.specs.Prelude.{◌&&◌, ◌||◌, nat_lt, nat_le}
 use Rattle.std.specs.List.{flat_map}
 use Rattle.std.specs.Int.{w32, w64}
@@ -10,8 +10,8 @@ use Rattle.squall_board.specs.declared.opening.Opening.{Opening}
 use Rattle.squall_board.specs.Listed.{CellEntry, entry_with, has_spans, is_entry}
 use Rattle.squall_wire.specs.declared.digest.IssueRow.{IssueRow}
 use Rattle.squall_wire.specs.declared.digest.DigestRow.{DigestRow}
-use Rattle.squall_wire.specs.Limits.{opening_in_range, FitsOpening, span_in_range, span_in_order, FitsSpan, after_span, is_later, FitsCell, AreListed, FitsIssueRow, row_in_range, is_later_row, FitsRow}
-use Rattle.squall_wire.specs.Spelling.{word, rank, spell_opening, spell_span, spell_done, spell_place, spell_list, spell_cell, spell_issue_row, spell_row}
+use Rattle.squall_wire.specs.Limits.{opening_in_range, FitsOpening, span_in_range, span_in_order, FitsSpan, after_span, is_later, FitsCell, FitsIssueRow, row_in_range, is_later_row, FitsRow}
+use Rattle.squall_wire.specs.Spelling.{word, rank, spell_opening, spell_span, spell_place, spell_list, spell_cell, spell_issue_row, spell_row}
 use Rattle.squall_wire.specs.Reading.{◌>>=◌, Read, number_at, byte_at, hash_at, checked, many_at, opening_at, span_at, CellHead, head_in_range, head_at, cell_at, issue_row_at, row_at}
 use Rattle.squall_wire.specs.FieldLaws.{IsBytes, Takes, Takes-then, bind_ok, bind_from, ok_is, checked_ok, checked_from, word_takes, word_again, rank_takes, rank_again, byte_takes, hash_takes, hash_again}
 use Rattle.squall_wire.specs.ListLaws.{IsItem, many_takes, many_again}

@@ -8,9 +8,9 @@ use Rattle.squall_join.specs.declared.flat.Flat.TheVariants.{Unknown, One, Clash
 use Rattle.squall_plan.specs.declared.range.PlanRange.{PlanRange}
 use Rattle.squall_plan.specs.Arranged.{range_limit}
 use Rattle.squall_report.specs.Issues.{PlanPair}
-use Rattle.squall_report.specs.Cells.{CellPlace, is_cell_place, cell_cmp}
+use Rattle.squall_report.specs.Cells.{CellPlace, cell_cmp}
 use Rattle.squall_board.specs.declared.opening.Opening.{Opening}
-use Rattle.squall_board.specs.Listed.{CellEntry, is_entry, has_spans}
+use Rattle.squall_board.specs.Listed.{CellEntry, is_entry}
 use Rattle.squall_wire.specs.declared.digest.IssueRow.{IssueRow}
 use Rattle.squall_wire.specs.declared.digest.DigestRow.{DigestRow}
 

@@ -1,13 +1,12 @@
 -- The two laws of a reader: what is read is spelled so, and what is spelled so is read. They hold of a list where they
 -- hold of its items (this project's form).
-use Rattle.std.proofs.Common.{◌≡◌, ℕ, zero, suc, ◌+◌, ◌^◌, ◌<◌, ◌≤◌, Bool, true, false, cond, ◌==◌, nat_le, List, [], ◌∷◌, ◌++◌, length, Result, Ok, Err, refl, sym, ap, subst, ◌∙◌, append_assoc, arith, inl, inr}
+use Rattle.std.proofs.Common.{◌≡◌, ℕ, zero, suc, Bool, true, nat_le, List, [], ◌∷◌, ◌++◌, length, Ok, refl, sym, ap, subst, ◌∙◌, append_assoc, arith, inl, inr}
 use Rattle.std.specs.Prelude.{◌⊎◌}
 use Rattle.std.specs.List.{flat_map}
 use Rattle.std.specs.Int.{w32}
 use Rattle.std.proofs.lemmas.Bool.Decides.{nat_tests}
 use Rattle.std.proofs.lemmas.List.Concat.{flat_map-cons}
-use Rattle.squall_wire.specs.declared.fault.WireFault.{WireFault}
-use Rattle.squall_wire.specs.Limits.{word_limit, AreInTurn, AreListed}
+use Rattle.squall_wire.specs.Limits.{AreInTurn, AreListed}
 use Rattle.squall_wire.specs.Spelling.{word, spell_list, spell_some}
 use Rattle.squall_wire.specs.Messages.{version_with}
 use Rattle.squall_wire.specs.Reading.{◌>>=◌, Read, number_at, checked, many_at, list_at, some_at, second_at}

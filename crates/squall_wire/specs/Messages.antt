@@ -1,13 +1,10 @@
 -- What the bodies of frames say, and which bytes spell a message (this project's form).
-use Rattle.std.specs.Prelude.{◌≡◌, ℕ, ◌<◌, ◌≤◌, List, [], ◌∷◌, ◌++◌, length}
-use Rattle.std.specs.List.{AllByRecursion}
+use Rattle.std.specs.Prelude.{ℕ, ◌≤◌, List, [], ◌∷◌, ◌++◌, length}
 use Rattle.squall_join.specs.declared.flat.Flat.{Flat}
 use Rattle.squall_report.specs.Issues.{PlanPair}
 use Rattle.squall_board.specs.declared.opening.Opening.{Opening}
 use Rattle.squall_board.specs.Boards.{BoardValue, IsBoard}
 use Rattle.squall_board.specs.Listed.{CellEntry, openings_of, issues_of, cells_of}
-use Rattle.squall_wire.specs.declared.digest.IssueRow.{IssueRow}
-use Rattle.squall_wire.specs.declared.digest.DigestRow.{DigestRow}
 use Rattle.squall_wire.specs.declared.message.Message.{Message}
 use Rattle.squall_wire.specs.declared.message.Message.TheVariants.{Delta, Digest}
 use Rattle.squall_wire.specs.DigestValue.{DigestValue, IsDigest}

@@ -2,19 +2,19 @@
 use Rattle.std.specs.Prelude.{◌≡◌, ◌≢◌, ℕ, zero, suc, ◌+◌, ◌<◌, ◌≤◌, ◌==◌, ◌&&◌, ◌||◌, not, nat_lt, nat_le, Bool, true, false, cond, List, [], ◌∷◌, ◌++◌, length, take, drop, slice_index, Result, Ok, Err, refl}
 use Rattle.std.proofs.Common.{sym, ap, subst, ◌∙◌, arith, ⊎_elim}
 use Rattle.std.specs.Int.{Width, w32, w64, byte_len, from_be_bytes}
-use Rattle.std.proofs.lemmas.Bool.{cases_Bool, or_cases, or_parts, or_left, or_right, and_parts, and_from, ltb-true, ltb-false, le-leb, leb-true, lt-ltb, le-ltb}
+use Rattle.std.proofs.lemmas.Bool.{or_cases, or_parts, or_left, or_right, and_parts, ltb-true, ltb-false, le-leb, leb-true, lt-ltb, le-ltb}
 use Rattle.std.proofs.lemmas.Bool.Decides.{nat_tests}
 use Rattle.std.proofs.lemmas.List.{length-append, get_or_append_left, take-append-le, drop-append-le, length-drop}
 use Rattle.squall_wire.specs.declared.fault.WireFault.{WireFault}
 use Rattle.squall_wire.specs.declared.fault.WireFault.TheVariants.{Magic, Version, Kind, TooLong, Short, Count, Range, Order, Spare}
-use Rattle.squall_span.specs.Spans.{Interval, interval}
+use Rattle.squall_span.specs.Spans.{interval}
 use Rattle.squall_plan.specs.declared.range.PlanRange.{PlanRange}
 use Rattle.squall_report.specs.Cells.{place_at}
 use Rattle.squall_board.specs.declared.opening.Opening.{Opening}
 use Rattle.squall_wire.specs.declared.digest.IssueRow.{IssueRow}
 use Rattle.squall_wire.specs.declared.digest.DigestRow.{DigestRow}
-use Rattle.squall_wire.specs.Limits.{body_limit, hash_length, opening_in_range, span_in_range, span_in_order, is_later, PlanPoint, range_in_range, range_in_order, plan_count_in_range, row_in_range, is_later_row}
-use Rattle.squall_wire.specs.Messages.{Body, lists, rows}
+use Rattle.squall_wire.specs.Limits.{body_limit, hash_length, opening_in_range, span_in_range, span_in_order, is_later, range_in_range, range_in_order, plan_count_in_range, row_in_range, is_later_row}
+use Rattle.squall_wire.specs.Messages.{Body}
 use Rattle.squall_wire.specs.Reading.{◌>>=◌, Read, number_at, byte_at, hash_at, checked, many_at, list_at, some_at, second_at, opening_at, span_at, CellHead, head_in_range, head_at, cell_at, range_at, plan_at, issue_head_at, issued_at, issue_at, issue_row_at, row_at, lists_at, digest_at, whole, body_at, is_other, body_length, has_head, Frame, frame_at, message_at}
 
 -- ---- the fault Short is the frame's alone

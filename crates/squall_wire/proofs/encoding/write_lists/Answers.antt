@@ -1,4 +1,4 @@
-use Rattle.std.proofs.Common.{◌≡◌, ◌<◌, ◌++◌, ℕ, length, Err, List, ap, subst, ◌∙◌}
+use Rattle.std.proofs.Common.{◌<◌, ◌++◌, ℕ, length, List, ap, subst, ◌∙◌}
 use Rattle.std.proofs.lemmas.Result.{err_from_is_err_and}
 use Rattle.std.specs.Arc.{arc_value}
 use Rattle.squall_join.specs.Flats.{flat_map}

@@ -1,7 +1,5 @@
-use Rattle.std.proofs.Common.{◌≡◌, subst, length, ◌≤◌}
+use Rattle.std.proofs.Common.{subst}
 use Rattle.std.proofs.lemmas.Result.{on_ok_weaker}
-use Rattle.squall_plan.specs.Arranged.{range_limit}
-use Rattle.squall_plan.specs.Ranges.{IsCanonical, AreRanges}
 use Rattle.squall_wire.specs.Limits.{FitsPlan}
 use Rattle.squall_wire.specs.FitsLaws.{plan_fits}
 use Rattle.squall_wire.proofs.items.write_plan.Goals as goal

@@ -1,8 +1,7 @@
-use Rattle.std.proofs.Common.{◌≡◌, ℕ, length, Err}
+use Rattle.std.proofs.Common.{length}
 use Rattle.std.proofs.lemmas.Result.{err_from_is_err_and}
 use Rattle.squall_wire.specs.Limits.{body_limit}
 use Rattle.squall_wire.specs.Spelling.{word}
-use Rattle.squall_wire.specs.declared.encoding.EncodeFault.TheVariants.{TooLong}
 use Rattle.squall_wire.proofs.Written.{list_long}
 use Rattle.squall_wire.proofs.write.write_all.Goals as goal
 

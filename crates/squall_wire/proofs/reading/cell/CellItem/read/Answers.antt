@@ -1,5 +1,4 @@
 use Rattle.std.proofs.Common.{◌∙◌}
-use Rattle.squall_board.specs.Listed.{entry_with}
 use Rattle.squall_wire.specs.Views.{head_seen}
 use Rattle.squall_wire.proofs.Heads.{cell_is_there, not_none}
 use Rattle.squall_wire.proofs.reading.cell.CellItem.read.Goals as goal
