@@ -61,20 +61,6 @@ cells_of_numbers numbers = flat_map (λ e. cells_of_subs e.0 e.1) numbers
 abbrev pub cells_of : BoardValue → List CellEntry
 cells_of b = cells_of_numbers (cells_in b)
 
--- where they stand
-abbrev pub places_of_parts : ℕ → ℕ → Parts → List CellPlace
-places_of_parts n s parts = map (λ e. place_at n s e.0) parts
-
-abbrev pub places_of_subs : ℕ → Subs → List CellPlace
-places_of_subs n subs = flat_map (λ e. places_of_parts n e.0 e.1) subs
-
-abbrev pub places_of_numbers : Cells → List CellPlace
-places_of_numbers numbers = flat_map (λ e. places_of_subs e.0 e.1) numbers
-
--- the places of the cells of a board
-abbrev pub places_of : BoardValue → List CellPlace
-places_of b = map (λ c. c.cell) (cells_of b)
-
 -- each entry of the nested maps is a cell
 abbrev pub AreCellsOfParts : ℕ → ℕ → Parts → Type 0
 AreCellsOfParts n s parts = AllByRecursion (λ e. IsCell (cell_entry (place_at n s e.0) e.1)) parts

@@ -5,11 +5,11 @@ mod board;
 mod cell;
 mod facts_laws;
 mod laws;
+mod lent;
 mod list;
 mod listed;
 mod newest;
 mod opening;
-mod places;
 mod put;
 mod route_laws;
 mod update;
@@ -25,8 +25,8 @@ pub use laws::{
     same_reports_equal_boards,
 };
 pub use listed::{
-    cells_at_their_places, lists_determine_the_board, lists_tell_the_board, one_list_of_cells,
-    one_list_of_issues, one_list_of_openings,
+    lists_determine_the_board, lists_tell_the_board, one_list_of_cells, one_list_of_issues,
+    one_list_of_openings,
 };
 pub use opening::Opening;
 pub use route_laws::{

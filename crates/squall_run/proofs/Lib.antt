@@ -3,7 +3,7 @@ pub mod Boards
 pub mod Heard
 pub mod LineTexts
 pub mod Outputs
-pub mod Placed
+pub mod BoardLists
 pub mod Refusals
 pub mod Sent
 pub mod TaskLemmas

@@ -7,7 +7,6 @@ pub mod State
 pub mod Stages
 pub mod Requests
 pub mod BoardText
-pub mod BoardPlaces
 pub mod Frames
 pub mod Replies
 pub mod Answered

@@ -4,10 +4,9 @@ ghost use Rattle.std.specs.Prelude.{◌≡◌, ◌++◌, OnOk, map, string_bytes
 ghost use Rattle.std.specs.Arc.{arc_value};
 ghost use Rattle.squall_join.specs.Flats.{flat_map};
 ghost use Rattle.squall_board.specs.Listed.{cell_entry};
-ghost use Rattle.squall_run.specs.BoardText.{opening_lines, line_of_issue, issue_lines, text_of_complete, next_spans, cell_line, board_text};
-ghost use Rattle.squall_run.specs.BoardPlaces.{line_at, lines_at, text_of_places};
+ghost use Rattle.squall_run.specs.BoardText.{opening_lines, line_of_issue, issue_lines, text_of_complete, next_spans, cell_line, cell_lines, text_of_lists, board_text};
 
-use squall_board::{Board, CellParts, Opening, cells_at_their_places};
+use squall_board::{Board, CellParts, Opening};
 use squall_join::Flat;
 use squall_report::{CellId, Issue};
 use squall_span::Span;
@@ -77,54 +76,41 @@ fn add_cell(place: CellId, cell: &CellParts, out: &mut String) -> Result<(), All
     write!(out, "\n")
 }
 
-/// Adds the line of what the board has at the place.
-fn add_place(board: &Board, place: CellId, out: &mut String) -> Result<(), AllocError>
-    ensures { OnOk result (string_bytes out.new ≡ string_bytes out.old ++ line_at board.now place) }
+/// Adds the lines of the cells.
+fn add_cells(cells: &[(CellId, &CellParts)], out: &mut String) -> Result<(), AllocError>
+    ensures { OnOk result (string_bytes out.new ≡ string_bytes out.old ++ cell_lines (map (λ c. cell_entry c.0 c.1.now) cells.now)) }
 {
-    match board.cell_at(place) {
-        Some(cell) => add_cell(place, cell, out),
-        None => Ok(()),
-    }
-}
-
-/// Adds the lines of what the board has at the places.
-fn add_places(board: &Board, places: &[CellId], out: &mut String) -> Result<(), AllocError>
-    ensures { OnOk result (string_bytes out.new ≡ string_bytes out.old ++ lines_at board.now places.now) }
-{
-    for place in places {
-        add_place(board, *place, out)?;
+    for cell in cells {
+        add_cell(cell.0, cell.1, out)?;
     }
     Ok(())
 }
 
-/// Adds the lines of openings, of what is issued, and of what the board has at the places, or
-/// `empty`.
+/// Adds the lines of openings, of what is issued, and of cells, or `empty`.
 fn add_lists(
     openings: &[Opening],
     issues: &[(u32, Flat<Arc<Issue>>)],
-    board: &Board,
-    places: &[CellId],
+    cells: &[(CellId, &CellParts)],
     out: &mut String,
 ) -> Result<(), AllocError>
-    ensures { OnOk result (string_bytes out.new ≡ string_bytes out.old ++ text_of_places openings.now (map (λ e. (e.0, flat_map arc_value e.1)) issues.now) board.now places.now) }
+    ensures { OnOk result (string_bytes out.new ≡ string_bytes out.old ++ text_of_lists openings.now (map (λ e. (e.0, flat_map arc_value e.1)) issues.now) (map (λ c. cell_entry c.0 c.1.now) cells.now)) }
 {
-    if openings.is_empty() && issues.is_empty() && places.is_empty() {
+    if openings.is_empty() && issues.is_empty() && cells.is_empty() {
         return write!(out, "empty\n");
     }
     add_openings(openings, out)?;
     add_issues(issues, out)?;
-    add_places(board, places, out)
+    add_cells(cells, out)
 }
 
 /// Adds what the board tells: a line for each number with openings, for each number under which
 /// plans are issued, and for each cell, or `empty`. It copies no keys.
-#[tactic(auto, using(crate::proofs::Placed::places_tell_the_board))]
+#[tactic(auto, using(crate::proofs::BoardLists::lists_tell_the_board))]
 pub(crate) fn add_board(board: &Board, out: &mut String) -> Result<(), AllocError>
     ensures { OnOk result (string_bytes out.new ≡ string_bytes out.old ++ board_text board.now) }
 {
-    cells_at_their_places(board);
     let openings = board.openings()?;
     let issues = board.issues()?;
-    let places = board.places()?;
-    add_lists(&openings, &issues, board, &places, out)
+    let cells = board.lent_cells()?;
+    add_lists(&openings, &issues, &cells, out)
 }

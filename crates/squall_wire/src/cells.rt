@@ -10,7 +10,7 @@ ghost use Rattle.squall_wire.specs.Spelling.{word, spell_place, spell_done, spel
 
 use crate::encoding::EncodeFault;
 use crate::write::{BODY_LIMIT, count_bytes, write_items};
-use squall_board::{Board, CellParts, cells_at_their_places};
+use squall_board::{Board, CellParts};
 use squall_report::CellId;
 use squall_span::SpanSet;
 use std::alloc::AllocError;
@@ -87,14 +87,10 @@ pub(crate) fn write_cells(out: &mut Vec<u8>, board: &Board) -> Result<(), Encode
     ensures known { OnOk result (AllByRecursion IsWordCell (cells_of board.now)) }
     ensures long { result ≡ Err TooLong → body_limit < length (out.old.items ++ spell_list spell_cell (cells_of board.now)) }
 {
-    let places = board.places()?;
-    cells_at_their_places(board);
-    out.extend_from_slice(&count_bytes(places.len()))?;
-    for place in &places {
-        // Each place is that of a cell.
-        if let Some(cell) = board.cell_at(*place) {
-            write_within(out, *place, cell)?;
-        }
+    let cells = board.lent_cells()?;
+    out.extend_from_slice(&count_bytes(cells.len()))?;
+    for cell in &cells {
+        write_within(out, cell.0, cell.1)?;
     }
     Ok(())
 }

@@ -113,6 +113,16 @@ fn cells_of_a_board(rt: HostRuntime) -> Result<(), Fail> {
 }
 
 #[test]
+fn cells_lent(rt: HostRuntime) -> Result<(), Fail> {
+    let board = loaded(rt.alloc()).ok_or("a board")?;
+    let cells = board.lent_cells()?;
+    assert!(rt; cells.len() == 2 && cells[0].0.part() == 3 && cells[1].0.part() == 4);
+    assert!(rt; !cells[0].1.second.get() && cells[1].1.second.get());
+    assert!(rt; cells[0].1.first.count() == 4294967296);
+    Ok(())
+}
+
+#[test]
 fn cells_put_again(rt: HostRuntime) -> Result<(), Fail> {
     let board = loaded(rt.alloc()).ok_or("a board")?;
     let mut again = Board::new(rt.alloc());

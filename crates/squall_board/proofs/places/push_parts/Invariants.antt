@@ -1,6 +1,0 @@
-use Rattle.std.proofs.Common.{◌≡◌, ◌++◌, take}
-use Rattle.squall_board.specs.Listed.{places_of_parts}
-use Rattle.squall_board.proofs.places.push_parts.Given as goal
-
-abbrev pub invariant-loop-entry : goal.invariant-loop-entry
-invariant-loop-entry l = l.out.items ≡ l.fn.out.items ++ places_of_parts l.number l.sub (take l.entry-index l.parts)
