@@ -16,6 +16,7 @@ pub mod BoardLaws
 pub mod Listed
 pub mod ListedLaws
 pub mod OneListLaws
+pub mod PlaceLaws
 pub mod Route
 pub mod Equal
 pub mod EqualLaws

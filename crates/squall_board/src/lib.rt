@@ -25,8 +25,8 @@ pub use laws::{
     same_reports_equal_boards,
 };
 pub use listed::{
-    lists_determine_the_board, lists_tell_the_board, one_list_of_cells, one_list_of_issues,
-    one_list_of_openings,
+    cells_at_their_places, lists_determine_the_board, lists_tell_the_board, one_list_of_cells,
+    one_list_of_issues, one_list_of_openings,
 };
 pub use opening::Opening;
 pub use route_laws::{

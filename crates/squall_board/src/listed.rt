@@ -1,12 +1,13 @@
 //! What the lists of a board tell, each law the contract of a function that does nothing.
 
-ghost use Rattle.std.specs.Prelude.{◌≡◌, ℕ, List};
+ghost use Rattle.std.specs.Prelude.{◌≡◌, ℕ, List, Some};
+ghost use Rattle.std.specs.List.{AllByRecursion};
 ghost use Rattle.squall_join.specs.declared.flat.Flat.{Flat};
 ghost use Rattle.squall_report.specs.Issues.{PlanPair};
 ghost use Rattle.squall_board.specs.declared.opening.Opening.{Opening};
 ghost use Rattle.squall_report.specs.Told.{SameTold};
-ghost use Rattle.squall_board.specs.Boards.{told};
-ghost use Rattle.squall_board.specs.Listed.{CellEntry, AreOpenings, AreIssues, AreCells, openings_of, issues_of, cells_of, told_by_lists};
+ghost use Rattle.squall_board.specs.Boards.{cell_of, told};
+ghost use Rattle.squall_board.specs.Listed.{CellEntry, entry_value, AreOpenings, AreIssues, AreCells, openings_of, issues_of, cells_of, told_by_lists};
 
 use crate::board::Board;
 
@@ -43,6 +44,13 @@ pub fn one_list_of_issues(board: &Board)
 /// What lists the cells of a board is the board's own list of them.
 pub fn one_list_of_cells(board: &Board)
     ensures { (cells : List CellEntry) → AreCells board.now cells → cells ≡ cells_of board.now }
+{
+    board.known();
+}
+
+/// At the place of each cell of a board stands that cell.
+pub fn cells_at_their_places(board: &Board)
+    ensures { AllByRecursion (λ c. cell_of board.now c.cell ≡ Some (entry_value c)) (cells_of board.now) }
 {
     board.known();
 }
