@@ -3,6 +3,7 @@
 mod headline;
 mod plain;
 mod random;
+mod streams;
 
 use squall_key::Bound;
 use squall_plan::Plan;

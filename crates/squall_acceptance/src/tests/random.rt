@@ -15,17 +15,17 @@ use std::test::Fail;
 
 /// A linear congruential generator (the multiplier of Knuth's MMIX).
 #[derive(Drop)]
-struct Random {
+pub(crate) struct Random {
     state: u64,
 }
 
 impl Random {
-    fn new(seed: u64) -> Random {
+    pub(crate) fn new(seed: u64) -> Random {
         Random { state: seed }
     }
 
     /// The next number below n.
-    fn below(&mut self, n: u64) -> u64
+    pub(crate) fn below(&mut self, n: u64) -> u64
         requires { 0 < n }
         ensures { result < n }
     {
@@ -67,7 +67,7 @@ fn report(random: &mut Random, issues: &[Arc<Issue>; 2]) -> Option<Report> {
 }
 
 /// A list of reports.
-fn reports(
+pub(crate) fn reports(
     alloc: Global,
     random: &mut Random,
     issues: &[Arc<Issue>; 2],
@@ -93,7 +93,7 @@ fn shuffle(random: &mut Random, list: &mut [Report]) {
 }
 
 /// The board that took the reports one by one.
-fn one_by_one(alloc: Global, list: &[Report]) -> Result<Board, AllocError> {
+pub(crate) fn one_by_one(alloc: Global, list: &[Report]) -> Result<Board, AllocError> {
     let mut board = Board::new(alloc);
     for report in list {
         board.take(report)?;
@@ -182,7 +182,7 @@ fn try_list(
 }
 
 /// Both issues: of the example plans, and back.
-fn two_issues(alloc: Global) -> Result<[Arc<Issue>; 2], Fail> {
+pub(crate) fn two_issues(alloc: Global) -> Result<[Arc<Issue>; 2], Fail> {
     let old = plan(alloc, OLD)?;
     let new = plan(alloc, NEW)?;
     Ok([
