@@ -162,43 +162,41 @@ impl Write for Drops {
     }
 }
 
-#[test]
-fn whole_input(rt: HostRuntime) -> Result<(), Fail> {
-    let alloc = rt.alloc();
-    let input = joined(alloc, LINES.as_slice())?;
-    let answers = joined(alloc, ANSWERS.as_slice())?;
+/// A run of the lines writes the answers.
+fn runs(rt: &impl Abort, alloc: Global, lines: &[&str], answers: &[&str]) -> Result<(), Fail> {
+    let input = joined(alloc, lines)?;
+    let wanted = joined(alloc, answers)?;
     let mut out = Vec::new(alloc);
     let mut reader = Reader::new(input.as_bytes());
     let mut writer = Writer::new(&mut out);
     assert_eq!(rt; run_text(alloc, &mut reader, &mut writer), Ok(Ended::Fine));
-    assert!(rt; out.as_slice() == answers.as_bytes());
+    assert!(rt; out.as_slice() == wanted.as_bytes());
     Ok(())
+}
+
+#[test]
+fn whole_input(rt: HostRuntime) -> Result<(), Fail> {
+    runs(&rt, rt.alloc(), LINES.as_slice(), ANSWERS.as_slice())
 }
 
 #[test]
 fn board(rt: HostRuntime) -> Result<(), Fail> {
-    let alloc = rt.alloc();
-    let input = joined(alloc, BOARD_LINES.as_slice())?;
-    let wanted = joined(alloc, BOARD_ANSWERS.as_slice())?;
-    let mut out = Vec::new(alloc);
-    let mut reader = Reader::new(input.as_bytes());
-    let mut writer = Writer::new(&mut out);
-    assert_eq!(rt; run_text(alloc, &mut reader, &mut writer), Ok(Ended::Fine));
-    assert!(rt; out.as_slice() == wanted.as_bytes());
-    Ok(())
+    runs(
+        &rt,
+        rt.alloc(),
+        BOARD_LINES.as_slice(),
+        BOARD_ANSWERS.as_slice(),
+    )
 }
 
 #[test]
 fn frames(rt: HostRuntime) -> Result<(), Fail> {
-    let alloc = rt.alloc();
-    let input = joined(alloc, FRAME_LINES.as_slice())?;
-    let wanted = joined(alloc, FRAME_ANSWERS.as_slice())?;
-    let mut out = Vec::new(alloc);
-    let mut reader = Reader::new(input.as_bytes());
-    let mut writer = Writer::new(&mut out);
-    assert_eq!(rt; run_text(alloc, &mut reader, &mut writer), Ok(Ended::Fine));
-    assert!(rt; out.as_slice() == wanted.as_bytes());
-    Ok(())
+    runs(
+        &rt,
+        rt.alloc(),
+        FRAME_LINES.as_slice(),
+        FRAME_ANSWERS.as_slice(),
+    )
 }
 
 #[test]
