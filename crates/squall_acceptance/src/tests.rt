@@ -1,6 +1,7 @@
 //! Tests that cross crates.
 
 mod headline;
+mod messages;
 mod plain;
 mod random;
 mod streams;

@@ -1,0 +1,31 @@
+//! Boards that travel in frames, as a caller meets them, over public names alone.
+
+ghost use Rattle.std.specs.Prelude.{◌≡◌, Some, IfOk};
+
+use crate::tests::load;
+use squall_board::Board;
+use squall_wire::{Message, decode, encode_board};
+use std::alloc::Global;
+use std::test::Fail;
+
+/// The board as its frame brings it.
+fn sent(alloc: Global, board: &Board) -> Result<Option<Board>, Fail>
+    ensures { IfOk result (λ sent. sent ≡ Some board.now) }
+{
+    let frame = encode_board(alloc, board)?;
+    let (message, _) = decode(alloc, &frame)?;
+    match message {
+        Message::Delta(sent) => Ok(Some(sent)),
+        Message::Digest(_) => Ok(None),
+    }
+}
+
+/// A board that a frame brought is equal to the one that was sent, and routes as it does.
+#[test]
+fn a_board_sent(rt: HostRuntime) -> Result<(), Fail> {
+    let mut board = Board::new(rt.alloc());
+    board.take(&load("2:0", "3:0").ok_or("load")?)?;
+    let other = sent(rt.alloc(), &board)?.ok_or("a board")?;
+    assert!(rt; other == board);
+    Ok(())
+}
