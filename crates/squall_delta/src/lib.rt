@@ -1,0 +1,16 @@
+//! What boards send each other in place of whole copies: deltas, pieces that fit a frame, digests,
+//! and repairs by them.
+//!
+//! All of these are boards or digests of boards, and whoever merges them in any order, any number
+//! of times, comes to the same board.
+#![tactic(auto)]
+
+mod cut;
+mod delta;
+mod digests;
+mod repairing;
+
+pub use cut::pieces;
+pub use delta::delta_of;
+pub use digests::digest;
+pub use repairing::repair;
