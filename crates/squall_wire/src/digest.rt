@@ -1,13 +1,16 @@
 //! Digests of boards.
 
-ghost use Rattle.std.specs.Prelude.{◌≡◌, IfOk, Err};
+ghost use Rattle.std.specs.Prelude.{◌≡◌, IfOk, Err, Some};
 ghost use Rattle.squall_wire.specs.DigestValue.{digest_with, IsDigest};
+ghost use Rattle.squall_wire.specs.FaultText.{text_of_digest_fault};
 ghost use Rattle.squall_wire.specs.Limits.{AreListed, FitsOpening, after_opening, FitsIssueRow, after_issue_row, FitsRow, after_row};
 ghost use Rattle.squall_wire.specs.declared.digest.DigestFault.TheVariants.{BadDigest, NoMemory};
 
 use crate::order::{are_issue_rows, are_openings, are_rows};
 use squall_board::Opening;
 use std::alloc::{AllocError, Global};
+use std::error::Error;
+use std::fmt;
 use std::marker::Model;
 
 /// The hash of what is issued under a number.
@@ -38,6 +41,20 @@ pub enum DigestFault {
     /// An allocation failed.
     NoMemory,
 }
+
+/// The name of the fault.
+impl fmt::Display for DigestFault {
+    ghost output = { λ e. Some (text_of_digest_fault e) };
+
+    fn fmt<W: fmt::Write>(&self, f: &mut fmt::Formatter<W>) -> fmt::Result {
+        match self {
+            DigestFault::BadDigest => write!(f, "BadDigest"),
+            DigestFault::NoMemory => write!(f, "no memory"),
+        }
+    }
+}
+
+impl Error for DigestFault {}
 
 impl From<AllocError> for DigestFault {
     ghost from_gives = { λ _ e. e ≡ NoMemory };

@@ -1,9 +1,10 @@
 //! Messages as the bytes of frames.
 
-ghost use Rattle.std.specs.Prelude.{◌≡◌, ◌<◌, ◌≤◌, ◌++◌, length, IfOk, Err};
+ghost use Rattle.std.specs.Prelude.{◌≡◌, ◌<◌, ◌≤◌, ◌++◌, length, IfOk, Err, Some};
 ghost use Rattle.squall_board.specs.Listed.{issues_of};
 ghost use Rattle.squall_wire.specs.declared.encoding.EncodeFault.TheVariants.{TooLong, NoMemory};
 ghost use Rattle.squall_wire.specs.declared.message.Message.TheVariants.{Delta, Digest as DigestMessage};
+ghost use Rattle.squall_wire.specs.FaultText.{text_of_encode_fault};
 ghost use Rattle.squall_wire.specs.Limits.{body_limit};
 ghost use Rattle.squall_wire.specs.Messages.{body_of, lists_of, spell, spell_lists, spell_body, spell_frame, version_with, AreLists, IsMessage};
 ghost use Rattle.squall_wire.specs.Spelling.{spell_cell};
@@ -14,6 +15,8 @@ use crate::message::Message;
 use crate::write::{BODY_LIMIT, count_bytes, version_of, write_all, write_some};
 use squall_board::{Board, Cell};
 use std::alloc::{AllocError, Global};
+use std::error::Error;
+use std::fmt;
 
 /// The fourth byte of the frame of a delta.
 const DELTA: u8 = 1;
@@ -29,6 +32,20 @@ pub enum EncodeFault {
     /// An allocation failed.
     NoMemory,
 }
+
+/// The name of the fault.
+impl fmt::Display for EncodeFault {
+    ghost output = { λ e. Some (text_of_encode_fault e) };
+
+    fn fmt<W: fmt::Write>(&self, f: &mut fmt::Formatter<W>) -> fmt::Result {
+        match self {
+            EncodeFault::TooLong => write!(f, "TooLong"),
+            EncodeFault::NoMemory => write!(f, "no memory"),
+        }
+    }
+}
+
+impl Error for EncodeFault {}
 
 impl From<AllocError> for EncodeFault {
     ghost use Rattle.std.specs.Prelude.{◌≡◌};

@@ -1,7 +1,8 @@
 //! Messages from a stream of bytes that comes in pieces.
 
-ghost use Rattle.std.specs.Prelude.{◌≡◌, ◌≢◌, ◌++◌, ◌↔◌, ◌≤◌, [], List, ℕ, length, true, false, Err, IfOk, OnErr, IsOk};
+ghost use Rattle.std.specs.Prelude.{◌≡◌, ◌≢◌, ◌++◌, ◌↔◌, ◌≤◌, [], List, ℕ, length, true, false, Err, IfOk, OnErr, IsOk, Some};
 ghost use Rattle.squall_wire.specs.declared.feed.FeedFault.TheVariants.{Failed, NoMemory};
+ghost use Rattle.squall_wire.specs.FaultText.{text_of_feed_fault};
 ghost use Rattle.squall_wire.specs.Hearing.{EndsIn, IsHeard, IsFeed, HearsOn, WaitsOn, feed_with, waiting_limit};
 ghost use Rattle.squall_wire.specs.Reading.{message_at};
 
@@ -9,6 +10,8 @@ use crate::decoding::decode;
 use crate::fault::WireFault;
 use crate::message::Message;
 use std::alloc::{AllocError, Global};
+use std::error::Error;
+use std::fmt;
 use std::marker::Model;
 
 /// What a feed heard in a piece.
@@ -28,6 +31,20 @@ pub enum FeedFault {
     /// An allocation failed.
     NoMemory,
 }
+
+/// The name of the fault.
+impl fmt::Display for FeedFault {
+    ghost output = { λ e. Some (text_of_feed_fault e) };
+
+    fn fmt<W: fmt::Write>(&self, f: &mut fmt::Formatter<W>) -> fmt::Result {
+        match self {
+            FeedFault::Failed => write!(f, "Failed"),
+            FeedFault::NoMemory => write!(f, "no memory"),
+        }
+    }
+}
+
+impl Error for FeedFault {}
 
 impl From<AllocError> for FeedFault {
     ghost use Rattle.std.specs.Prelude.{◌≡◌};

@@ -6,6 +6,7 @@ mod feeds;
 mod first_version;
 mod limits;
 mod second_version;
+mod texts;
 mod tolerant;
 
 use super::*;
