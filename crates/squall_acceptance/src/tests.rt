@@ -1,5 +1,6 @@
 //! Tests that cross crates.
 
+mod deltas;
 mod headline;
 mod messages;
 mod plain;

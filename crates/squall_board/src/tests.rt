@@ -59,7 +59,7 @@ fn load_moves_the_route(rt: HostRuntime) -> Result<(), Fail> {
     let mut board = Board::new(rt.alloc());
     let key = Key::read("2:0").ok_or("key")?;
     assert_eq!(rt; Some(board.route(&course, key)), PartId::new(1));
-    board.take(&load("2:0", "3:0").ok_or("load")?)?;
+    take(&mut board, load("2:0", "3:0"))?;
     assert!(rt; board.says_loaded(1, 0, 3, key) && !board.says_loaded(2, 0, 3, key));
     assert_eq!(rt; Some(board.route(&course, key)), PartId::new(3));
     Ok(())
@@ -75,18 +75,21 @@ fn completion_moves_the_route(rt: HostRuntime) -> Result<(), Fail> {
     Ok(())
 }
 
+/// Takes the report, where there is one. A helper of its own, as some below are: a test then sees no more than that it
+/// came back, which keeps what its proof has to look through small.
+pub(crate) fn take(board: &mut Board, report: Option<Report>) -> Result<(), Fail> {
+    board.take(&report.ok_or("report")?)?;
+    Ok(())
+}
+
 #[test]
 fn reports_of_others_move_nothing(rt: HostRuntime) -> Result<(), Fail> {
     let course = course(rt.alloc())?;
     let mut board = Board::new(rt.alloc());
     let key = Key::read("2:0").ok_or("key")?;
-    for report in [
-        Report::done(2, 0, 3),
-        Report::done(1, 1, 3),
-        Report::done(1, 0, 4),
-    ] {
-        board.take(&report.ok_or("report")?)?;
-    }
+    take(&mut board, Report::done(2, 0, 3))?;
+    take(&mut board, Report::done(1, 1, 3))?;
+    take(&mut board, Report::done(1, 0, 4))?;
     assert_eq!(rt; Some(board.route(&course, key)), PartId::new(1));
     Ok(())
 }
@@ -94,8 +97,8 @@ fn reports_of_others_move_nothing(rt: HostRuntime) -> Result<(), Fail> {
 #[test]
 fn openings(rt: HostRuntime) -> Result<(), Fail> {
     let mut board = Board::new(rt.alloc());
-    board.take(&Report::opened(1, 1).ok_or("opening")?)?;
-    board.take(&Report::opened(1, 0).ok_or("earlier opening")?)?;
+    take(&mut board, Report::opened(1, 1))?;
+    take(&mut board, Report::opened(1, 0))?;
     assert!(rt; board.opened(1) == 2 && board.opened(2) == 0);
     Ok(())
 }
@@ -136,30 +139,45 @@ fn issue(alloc: Global, number: u32, old: &str, new: &str) -> Result<Report, Fai
 fn issues_and_clashes(rt: HostRuntime) -> Result<(), Fail> {
     let alloc = rt.alloc();
     let mut board = Board::new(alloc);
-    board.take(&issue(alloc, 2, OLD, NEW)?)?;
+    take_issue(alloc, &mut board, 2, OLD, NEW)?;
     assert!(rt;
         matches!(board.issuing(2), Flat::One(_)) && matches!(board.issuing(1), Flat::Unknown)
     );
-    board.take(&issue(alloc, 2, OLD, NEW)?)?;
+    take_issue(alloc, &mut board, 2, OLD, NEW)?;
     assert!(rt; matches!(board.issuing(2), Flat::One(_)));
-    board.take(&issue(alloc, 2, NEW, OLD)?)?;
+    take_issue(alloc, &mut board, 2, NEW, OLD)?;
     assert!(rt; matches!(board.issuing(2), Flat::Clash));
     Ok(())
+}
+
+/// The number of the newest course after course 1.
+fn newest_number(alloc: Global, board: &Board) -> Result<Option<u32>, Fail> {
+    let course = course(alloc)?;
+    Ok(board.newest(&course).map(|newest| newest.0))
+}
+
+/// Takes that one plan follows the other under the number.
+fn take_issue(
+    alloc: Global,
+    board: &mut Board,
+    number: u32,
+    old: &str,
+    new: &str,
+) -> Result<(), Fail> {
+    let report = issue(alloc, number, old, new)?;
+    take(board, Some(report))
 }
 
 #[test]
 fn newest_course(rt: HostRuntime) -> Result<(), Fail> {
     let alloc = rt.alloc();
-    let course = course(alloc)?;
-    let reports = [
-        issue(alloc, 1, NEW, OLD)?,
-        issue(alloc, 3, NEW, OLD)?,
-        issue(alloc, 2, OLD, NEW)?,
-    ];
-    let mut board = board(alloc, &reports)?;
-    assert!(rt; board.newest(&course).is_some_and(|newest| newest.0 == 3));
-    board.take(&issue(alloc, 3, OLD, NEW)?)?;
-    assert!(rt; board.newest(&course).is_some_and(|newest| newest.0 == 2));
-    assert!(rt; Board::new(alloc).newest(&course).is_none());
+    let mut board = Board::new(alloc);
+    assert!(rt; newest_number(alloc, &board)?.is_none());
+    take_issue(alloc, &mut board, 1, NEW, OLD)?;
+    take_issue(alloc, &mut board, 3, NEW, OLD)?;
+    take_issue(alloc, &mut board, 2, OLD, NEW)?;
+    assert!(rt; newest_number(alloc, &board)? == Some(3));
+    take_issue(alloc, &mut board, 3, OLD, NEW)?;
+    assert!(rt; newest_number(alloc, &board)? == Some(2));
     Ok(())
 }

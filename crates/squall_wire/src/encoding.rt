@@ -58,19 +58,23 @@ impl From<AllocError> for EncodeFault {
     }
 }
 
-/// The frame of a body of that version and kind. `TooLong` where the body is.
-fn frame(alloc: Global, version: u8, kind: u8, body: &[u8]) -> Result<Vec<u8>, EncodeFault>
-    ensures spelled { IfOk result (λ bytes. bytes.items ≡ spell_frame version kind body.now) }
-    ensures short { IfOk result (λ _. length body.now ≤ body_limit) }
-    ensures long { result ≡ Err TooLong → body_limit < length body.now }
+/// The frame of a body of that version and kind, in the body's own room. `TooLong` where the body is.
+///
+/// The head goes to the end and is turned round to the front, which is one block move: a second room of the size of the
+/// frame would cost more than the move.
+fn frame(version: u8, kind: u8, body: Vec<u8>) -> Result<Vec<u8>, EncodeFault>
+    ensures spelled { IfOk result (λ bytes. bytes.items ≡ spell_frame version kind body.items) }
+    ensures short { IfOk result (λ _. length body.items ≤ body_limit) }
+    ensures long { result ≡ Err TooLong → body_limit < length body.items }
 {
     if body.len() > BODY_LIMIT {
         return Err(EncodeFault::TooLong);
     }
-    let mut bytes = Vec::with_capacity(alloc, 8 + body.len())?;
+    let count = count_bytes(body.len());
+    let mut bytes = body;
     bytes.extend_from_slice(&[83, 81, version, kind])?;
-    bytes.extend_from_slice(&count_bytes(body.len()))?;
-    bytes.extend_from_slice(body)?;
+    bytes.extend_from_slice(&count)?;
+    bytes.rotate_right(8);
     Ok(bytes)
 }
 
@@ -102,7 +106,7 @@ pub fn encode_board(alloc: Global, board: &Board) -> Result<Vec<u8>, EncodeFault
     board.known();
     let mut body = Vec::new(alloc);
     let version = write_lists(&mut body, board)?;
-    frame(alloc, version, DELTA, &body)
+    frame(version, DELTA, body)
 }
 
 /// The frame of a digest.
@@ -116,7 +120,7 @@ fn encode_digest(alloc: Global, digest: &Digest) -> Result<Vec<u8>, EncodeFault>
     write_all(&mut body, digest.openings())?;
     write_some(&mut body, digest.issue_rows())?;
     write_all(&mut body, digest.rows())?;
-    frame(alloc, version_of(digest.issue_rows()), DIGEST, &body)
+    frame(version_of(digest.issue_rows()), DIGEST, body)
 }
 
 /// The frame of the message. No keys are copied but into the frame.

@@ -144,7 +144,7 @@ fn same_openings(rt: &impl Abort, board: &Board, list: &[Report], number: u32) {
 }
 
 /// Both are nothing, both a clash, or both one pair of the same plans.
-fn same_issue(first: &Flat<&Arc<Issue>>, second: &Flat<&Arc<Issue>>) -> bool {
+pub(crate) fn same_issue(first: &Flat<&Arc<Issue>>, second: &Flat<&Arc<Issue>>) -> bool {
     match (first, second) {
         (Flat::Unknown, Flat::Unknown) => true,
         (Flat::One(x), Flat::One(y)) => ***x == ***y,

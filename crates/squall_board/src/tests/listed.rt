@@ -206,14 +206,18 @@ fn tolerant_issues(rt: HostRuntime) -> Result<(), Fail> {
     Ok(())
 }
 
+/// Whether the completion of partition 3 in sub-plan 1 of number 2 was put into the board.
+fn put_completion(alloc: Global, board: &mut Board) -> Result<bool, Fail> {
+    let cell = complete(alloc, 2, 1, 3).ok_or("a cell")?;
+    Ok(board.put_cell(&cell).is_ok())
+}
+
 #[test]
 fn tolerant_put_cell(rt: HostRuntime) -> Result<(), Fail> {
-    let alloc = rt.alloc();
-    let Some((mut board, before)) = full_and_copy(alloc) else {
+    let Some((mut board, before)) = full_and_copy(rt.alloc()) else {
         return Ok(());
     };
-    let cell = complete(alloc, 2, 1, 3).ok_or("a cell")?;
-    if board.put_cell(&cell).is_ok() {
+    if put_completion(rt.alloc(), &mut board)? {
         assert!(rt; board.says_done(2, 1, 3) && board.covers(&before));
     } else {
         assert!(rt; board == before);

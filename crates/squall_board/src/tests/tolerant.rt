@@ -15,30 +15,41 @@ fn small_board(alloc: Global) -> Option<Board> {
     Some(board)
 }
 
+/// A small board, and a copy of it. None where an allocation fails.
+fn board_and_copy(alloc: Global) -> Option<(Board, Board)> {
+    let board = small_board(alloc)?;
+    let copy = board.copied(alloc).ok()?;
+    Some((board, copy))
+}
+
+/// Whether the board took another load.
+fn takes_a_load(board: &mut Board) -> Result<bool, Fail> {
+    let report = load("4:0", "5:0").ok_or("load")?;
+    Ok(board.take(&report).is_ok())
+}
+
 #[test]
 fn tolerant_take(rt: HostRuntime) -> Result<(), Fail> {
-    let Some(mut board) = small_board(rt.alloc()) else {
+    let Some((mut board, before)) = board_and_copy(rt.alloc()) else {
         return Ok(());
     };
-    let Ok(before) = board.copied(rt.alloc()) else {
-        return Ok(());
-    };
-    let report = load("4:0", "5:0").ok_or("load")?;
-    let taken = board.take(&report).is_ok();
+    let taken = takes_a_load(&mut board)?;
     assert!(rt; board.covers(&before) && taken == (board != before));
     Ok(())
 }
 
+/// Whether the board took a load and a completion.
+fn takes_two(board: &mut Board) -> Result<bool, Fail> {
+    let reports = two_reports().ok_or("reports")?;
+    Ok(board.take_all(&reports).is_ok())
+}
+
 #[test]
 fn tolerant_take_all(rt: HostRuntime) -> Result<(), Fail> {
-    let Some(mut board) = small_board(rt.alloc()) else {
+    let Some((mut board, before)) = board_and_copy(rt.alloc()) else {
         return Ok(());
     };
-    let Ok(before) = board.copied(rt.alloc()) else {
-        return Ok(());
-    };
-    let reports = two_reports().ok_or("reports")?;
-    let taken = board.take_all(&reports).is_ok();
+    let taken = takes_two(&mut board)?;
     assert!(rt; board.covers(&before) && taken == board.says_done(1, 0, 4));
     assert!(rt; taken == (board != before));
     Ok(())
@@ -46,15 +57,13 @@ fn tolerant_take_all(rt: HostRuntime) -> Result<(), Fail> {
 
 #[test]
 fn tolerant_merge(rt: HostRuntime) -> Result<(), Fail> {
-    let (Some(mut board), Some(mut other)) = (small_board(rt.alloc()), small_board(rt.alloc()))
-    else {
+    let Some((mut board, before)) = board_and_copy(rt.alloc()) else {
         return Ok(());
     };
-    let Ok(before) = board.copied(rt.alloc()) else {
+    let Some((mut other, _copy)) = board_and_copy(rt.alloc()) else {
         return Ok(());
     };
-    let reports = two_reports().ok_or("reports")?;
-    if other.take_all(&reports).is_err() {
+    if !takes_two(&mut other)? {
         return Ok(());
     }
     let merged = board.merge(&other).is_ok();
@@ -65,43 +74,44 @@ fn tolerant_merge(rt: HostRuntime) -> Result<(), Fail> {
 
 #[test]
 fn tolerant_copied(rt: HostRuntime) -> Result<(), Fail> {
-    let Some(board) = small_board(rt.alloc()) else {
+    let Some((board, copy)) = board_and_copy(rt.alloc()) else {
         return Ok(());
     };
-    if let Ok(copy) = board.copied(rt.alloc()) {
-        assert!(rt; copy == board);
-    }
-    assert!(rt; board.opened(1) == 1);
+    assert!(rt; copy == board && board.opened(1) == 1);
     Ok(())
 }
 
-#[test]
-fn tolerant_put_opening(rt: HostRuntime) -> Result<(), Fail> {
-    let Some(mut board) = small_board(rt.alloc()) else {
-        return Ok(());
-    };
-    let Ok(before) = board.copied(rt.alloc()) else {
-        return Ok(());
-    };
+/// Whether an opening was put into the board.
+fn put_three(board: &mut Board) -> bool {
     let opening = Opening {
         number: 2,
         count: 3,
     };
-    let put = board.put_opening(&opening).is_ok();
+    board.put_opening(&opening).is_ok()
+}
+
+#[test]
+fn tolerant_put_opening(rt: HostRuntime) -> Result<(), Fail> {
+    let Some((mut board, before)) = board_and_copy(rt.alloc()) else {
+        return Ok(());
+    };
+    let put = put_three(&mut board);
     assert!(rt; board.covers(&before) && put == (board != before));
     assert!(rt; put == (board.opened(2) == 3));
     Ok(())
 }
 
+/// Whether a clash was put into the board.
+fn put_clash(board: &mut Board) -> bool {
+    board.put_issue(3, &Flat::Clash).is_ok()
+}
+
 #[test]
 fn tolerant_put_issue(rt: HostRuntime) -> Result<(), Fail> {
-    let Some(mut board) = small_board(rt.alloc()) else {
+    let Some((mut board, before)) = board_and_copy(rt.alloc()) else {
         return Ok(());
     };
-    let Ok(before) = board.copied(rt.alloc()) else {
-        return Ok(());
-    };
-    let put = board.put_issue(3, &Flat::Clash).is_ok();
+    let put = put_clash(&mut board);
     assert!(rt; board.covers(&before) && put == (board != before));
     assert!(rt; put == matches!(board.issuing(3), Flat::Clash));
     Ok(())
