@@ -6,8 +6,8 @@ use Rattle.std.specs.List.{AllByRecursion}
 use Rattle.std.specs.Ordering.{nat_cmp}
 use Rattle.std.specs.FinMap.Entries.{find}
 use Rattle.squall_report.specs.Cells.{place_at}
-use Rattle.squall_board.specs.Boards.{Parts, Subs, Cells, BoardValue, cells_in, found_in, cell_of, IsBoard}
-use Rattle.squall_board.specs.Listed.{cell_entry, entry_value, cells_of_parts, cells_of_subs, cells_of_numbers, cells_of}
+use Rattle.squall_board.specs.Boards.{Parts, Subs, BoardValue, cells_in, found_in, cell_of, IsBoard}
+use Rattle.squall_board.specs.Listed.{cell_entry, entry_value, cells_of_parts, cells_of_subs, cells_of}
 use Rattle.squall_board.specs.ListedLaws.{KeysRise, SubsRise, keys_rise, numbers_keys, all_both, all_weaker, all_map, all_flat, cmp_eq, same_key}
 
 -- ---- each cell is found at its place

@@ -7,7 +7,7 @@ use Rattle.squall_lines.specs.declared.Flow.{Flow}
 use Rattle.squall_lines.specs.declared.Flow.TheVariants.{On, End}
 use Rattle.squall_run.specs.declared.reason.Reason.{Reason}
 use Rattle.squall_board.specs.Boards.{BoardValue}
-use Rattle.squall_lines.specs.Script.{Script, TakesLine, after, last_word}
+use Rattle.squall_lines.specs.Script.{TakesLine, after, last_word}
 use Rattle.squall_lines.specs.Words.{without_cr}
 use Rattle.squall_wire.specs.Hearing.{FeedValue}
 use Rattle.squall_run.specs.State.{StageState, ScenarioState}

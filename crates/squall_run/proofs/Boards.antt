@@ -2,7 +2,7 @@
 use Rattle.std.proofs.Common.{◌≡◌, ℕ, List, [], ◌∷◌, ◌++◌, length, Bool, true, false, ◌&&◌, ◌==◌, refl, arith}
 use Rattle.std.specs.Prelude.{codes}
 use Rattle.std.specs.Fmt.{decimal}
-use Rattle.squall_span.specs.Spans.{Interval, text_of_span}
+use Rattle.squall_span.specs.Spans.{Interval}
 use Rattle.squall_join.specs.declared.flat.Flat.{Flat}
 use Rattle.squall_join.specs.declared.flat.Flat.TheVariants.{Unknown, One, Clash}
 use Rattle.squall_report.specs.Issues.{PlanPair}

@@ -1,5 +1,5 @@
 -- What `hear` and `frame` answer has no bad line.
-use Rattle.std.proofs.Common.{◌≡◌, ℕ, zero, suc, List, [], ◌∷◌, ◌++◌, length, Bool, true, false, Option, None, Some, refl, ap, ◌∙◌, arith, eqb, nat_lt}
+use Rattle.std.proofs.Common.{◌≡◌, ℕ, zero, suc, List, [], ◌∷◌, ◌++◌, length, true, false, Option, None, Some, refl, arith, nat_lt}
 use Rattle.std.specs.Prelude.{codes, slice_index, ◌==◌, ◌/◌, ◌%◌}
 use Rattle.hex.specs.Hex.{encode_with, encode_lower, lower_digits}
 use Rattle.squall_board.specs.Boards.{BoardValue}

@@ -1,15 +1,13 @@
 -- Which runs are refused, by the last line of what they answer.
-use Rattle.std.proofs.Common.{◌≡◌, ◌≢◌, ℕ, List, [], ◌∷◌, ◌++◌, length, Bool, true, false, Option, None, Some, Result, Ok, Err, suc, refl, sym, ap, ◌∙◌, subst, arith, append_assoc}
+use Rattle.std.proofs.Common.{◌≡◌, ◌≢◌, ℕ, List, [], ◌∷◌, ◌++◌, length, Bool, true, false, Option, None, Some, Result, Ok, Err, suc, refl, sym, ap, subst, arith, append_assoc}
 use Rattle.std.proofs.lemmas.Bool.{false≢true}
 use Rattle.std.proofs.lemmas.List.{append-nil}
 use Rattle.std.specs.Prelude.{codes}
 use Rattle.std.specs.Fmt.{decimal}
-use Rattle.std.specs.List.{concat}
 use Rattle.squall_key.specs.Keys.{text_of_key}
 use Rattle.squall_span.specs.Spans.{span_at}
 use Rattle.squall_plan.specs.declared.range.PlanRange.{PlanRange}
 use Rattle.squall_plan.specs.declared.fault.PlanFault.{PlanFault}
-use Rattle.squall_plan.specs.Faults.{text_of_fault}
 use Rattle.squall_plan.specs.Form.{plan_of_text}
 use Rattle.squall_report.specs.declared.report.ReportKind.{ReportKind}
 use Rattle.squall_report.specs.Issues.{PlanPair}
@@ -24,7 +22,7 @@ use Rattle.squall_run.specs.State.{StageState, NoPlan, OldPlan, BothPlans, Scena
 use Rattle.squall_run.specs.Requests.{Request, Skip, Old, New, Loaded, Done, Opened, Route, Board, Hear, Frame, Bad, request_of}
 use Rattle.squall_run.specs.Replies.{Reply, Goes, Ends, text_of_reason, old_plan, old_reply, new_plan, new_reply, take_reply, load_of, report_reply, first_course, route_reply, board_reply, feed_reply, bytes_reply, hear_reply, frame_reply, reply_to, reply_to_line, bad_line, follow, at_next_line, script_from}
 use Rattle.squall_run.specs.Text.{EndsInBadLine, EndsInNoBadLine, HasNoBadLine}
-use Rattle.squall_run.proofs.LineTexts.{no_lf, no_lf-append, decimal_no_lf, key_no_lf, fault_no_lf, Spells, spells_nothing, spells_lf, spells_glued, spells_append, NotBegun, differs_at, Lacks, lacks_nothing, lacks_line, lacks_append, last_is, last_lacks, all_lines}
+use Rattle.squall_run.proofs.LineTexts.{no_lf, no_lf-append, decimal_no_lf, key_no_lf, fault_no_lf, Spells, spells_lf, spells_glued, spells_append, NotBegun, differs_at, Lacks, lacks_nothing, lacks_line, lacks_append, last_is, last_lacks, all_lines}
 use Rattle.squall_run.proofs.Boards.{board_lacks}
 use Rattle.squall_run.proofs.Heard.{text_lacks, failed_lacks, frame_lacks}
 use Rattle.squall_wire.specs.Heard.{heard_of}

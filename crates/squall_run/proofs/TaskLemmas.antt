@@ -1,10 +1,10 @@
 -- What is done for a task where something stops it, and which task words ask for.
-use Rattle.std.proofs.Common.{◌≡◌, ◌≢◌, ◌⊎◌, inl, inr, ℕ, ◌<◌, List, [], ◌∷◌, Bool, true, false, not, ◌&&◌, Option, None, Some, Result, Ok, Err, refl, sym, subst, ap, ◌∙◌, arith}
+use Rattle.std.proofs.Common.{◌≡◌, ◌≢◌, ◌⊎◌, inl, inr, ℕ, ◌<◌, List, [], Bool, true, false, not, ◌&&◌, Option, None, Err, refl, sym, subst, ap, ◌∙◌, arith}
 use Rattle.std.proofs.KnownBytes.{Appends-nil, Consumes-nil}
 use Rattle.std.proofs.lemmas.Bool.{false≢true}
 use Rattle.std.specs.Prelude.{MatchBool}
 use Rattle.std.specs.List.{list_any}
-use Rattle.std.specs.Io.KnownBytes.{Consumes, Appends}
+use Rattle.std.specs.Io.KnownBytes.{Consumes}
 use Rattle.squall_lines.specs.declared.RunFault.{RunFault}
 use Rattle.squall_lines.specs.declared.RunFault.TheVariants.{Read, Write, NoMemory}
 use Rattle.squall_command.specs.Line.{Job, check, course, run, title, Asks, AsksForHelp, IsFaulty, shows_help}
@@ -12,7 +12,7 @@ use Rattle.squall_run.specs.declared.tasks.Purpose.{Purpose}
 use Rattle.squall_run.specs.declared.tasks.Purpose.TheVariants as purpose
 use Rattle.squall_run.specs.Files.{KnownFile, Unknown, Missing, Holds, BeginsFile, is_input}
 use Rattle.squall_run.specs.Output.{Output, course_of, IsWritten}
-use Rattle.squall_run.specs.Tasks.{status_of, Bytes, bytes_of, ReadsFrom, ShowsCourseWith, IsDone, EndsInput, NamesFile, ShowsHelp}
+use Rattle.squall_run.specs.Tasks.{status_of, bytes_of, ReadsFrom, ShowsCourseWith, IsDone, EndsInput, NamesFile, ShowsHelp}
 use Rattle.squall_run.specs.Sources.{IsDoneBy, IsUnread}
 
 -- ---- nothing is read

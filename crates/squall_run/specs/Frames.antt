@@ -1,5 +1,5 @@
 -- What the lines `hear` and `frame` do and answer (this project's scenario language).
-use Rattle.std.specs.Prelude.{ℕ, List, [], ◌∷◌, ◌++◌, length, Option, None, Some, Bool, true, false, Result, Ok, Err, nat_lt, codes, if◌then◌else◌}
+use Rattle.std.specs.Prelude.{ℕ, List, [], ◌∷◌, ◌++◌, length, Option, None, Some, nat_lt, codes, if◌then◌else◌}
 use Rattle.std.specs.List.{flat_map}
 use Rattle.hex.specs.Hex.{encode_lower}
 use Rattle.squall_board.specs.Boards.{BoardValue, board_join}
@@ -9,7 +9,6 @@ use Rattle.squall_wire.specs.FaultText.{text_of_fault}
 use Rattle.squall_wire.specs.Limits.{body_limit}
 use Rattle.squall_wire.specs.Messages.{Body, lists, rows, body_of, spell_body, spell}
 use Rattle.squall_wire.specs.BoardOf.{board_of_lists}
-use Rattle.squall_wire.specs.Heard.{HeardValue}
 
 -- ---- hear
 

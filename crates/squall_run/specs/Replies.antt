@@ -16,7 +16,7 @@ use Rattle.squall_course.specs.Change.{Change}
 use Rattle.squall_board.specs.Route.{route}
 use Rattle.hex.specs.Hex.{decode_of}
 use Rattle.hex.specs.declared.error.FromHexError.{FromHexError}
-use Rattle.squall_wire.specs.Hearing.{FeedValue, feed_after}
+use Rattle.squall_wire.specs.Hearing.{feed_after}
 use Rattle.squall_wire.specs.Heard.{HeardValue, heard_of}
 use Rattle.squall_lines.specs.Script.{Script, silence, after, last_word}
 use Rattle.squall_lines.specs.Words.{without_cr}

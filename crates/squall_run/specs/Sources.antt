@@ -1,5 +1,5 @@
 -- What is done with the bytes of one file, for the functions that do the tasks.
-use Rattle.std.specs.Prelude.{◌≡◌, ◌≢◌, ℕ, ◌<◌, List, Result, Ok, Err}
+use Rattle.std.specs.Prelude.{◌≡◌, ◌≢◌, ℕ, ◌<◌, List, Result, Err}
 use Rattle.squall_lines.specs.Script.{IsOutcome}
 use Rattle.squall_lines.specs.declared.Ended.{Ended}
 use Rattle.squall_lines.specs.declared.RunFault.{RunFault}

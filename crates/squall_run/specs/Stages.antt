@@ -1,5 +1,5 @@
 -- How contracts see the stage that the code keeps, for `Scenario`'s model.
-use Rattle.std.specs.Prelude.{◌≡◌, ℕ}
+use Rattle.std.specs.Prelude.{◌≡◌}
 use Rattle.squall_run.specs.declared.scenario.Stage.{Stage}
 use Rattle.squall_run.specs.declared.scenario.Stage.TheVariants.{Unplanned, Planned, Running}
 use Rattle.squall_run.specs.State.{StageState, NoPlan, OldPlan, BothPlans}

@@ -1,5 +1,5 @@
 -- What the program does for a task, and its status (this project's command line).
-use Rattle.std.specs.Prelude.{◌≡◌, ◌⊎◌, ℕ, ◌<◌, ◌≤◌, List, [], Bool, true, false, ◌&&◌, ◌||◌, Option, Result, Ok, Err, MatchBool}
+use Rattle.std.specs.Prelude.{◌≡◌, ◌⊎◌, ℕ, ◌<◌, ◌≤◌, List, [], true, false, ◌&&◌, ◌||◌, Option, Result, Ok, Err, MatchBool}
 use Rattle.std.specs.Io.{StartsWith}
 use Rattle.std.specs.Io.KnownBytes.{Appends, Consumes, IsAtEnd}
 use Rattle.squall_device.specs.Counts.{IsCountedSince, times_more}

@@ -1,6 +1,5 @@
 use Rattle.std.proofs.Common.{inl, inr}
 use Rattle.squall_run.proofs.TaskLemmas.{nothing_done, device_of_words, help_unwritten}
-use Rattle.squall_run.specs.Tasks.{InputFails, OutputFails}
 use Rattle.squall_command.specs.Line.{words_of, job_seen}
 use Rattle.squall_run.proofs.program.perform.Goals as goal
 
