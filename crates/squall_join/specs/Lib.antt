@@ -5,6 +5,7 @@ pub mod Entries
 pub mod Looked
 pub mod Facts
 pub mod Flats
+pub mod Rests
 pub mod BasicLaws
 pub mod PairLaws
 pub mod SetLaws
@@ -12,3 +13,5 @@ pub mod MapLaws
 pub mod LookedLaws
 pub mod FactLaws
 pub mod FlatLaws
+pub mod BeyondLaws
+pub mod MapBeyondLaws

@@ -5,18 +5,21 @@
 #![tactic(auto)]
 
 mod basic;
+mod beyond;
 mod flat;
 mod join;
 mod laws;
 mod map;
 mod merge;
 mod pair;
+mod rest;
 mod search;
 mod set;
 mod shared;
 mod update;
 
 pub use basic::{Flag, Max};
+pub use beyond::Beyond;
 pub use flat::{Exact, Flat};
 pub use join::Join;
 pub use laws::{
