@@ -28,3 +28,5 @@ pub mod MovesRoute
 pub mod MovesRouteLaws
 pub mod BoardTests
 pub mod BoardTestsLaws
+pub mod BoardBeyond
+pub mod BoardBeyondLaws
