@@ -6,6 +6,7 @@ pub mod Looked
 pub mod Facts
 pub mod Flats
 pub mod Rests
+pub mod Units
 pub mod BasicLaws
 pub mod PairLaws
 pub mod SetLaws

@@ -1,6 +1,7 @@
 -- The laws of what a map has beyond another (this project).
 use Rattle.std.specs.Prelude.{◌≡◌, ◌≢◌, ℕ, Bool, true, false, ◌&&◌, cond, T, List, [], ◌∷◌, ◌++◌, Option, None, Some, ◌↔◌, refl}
 use Rattle.std.proofs.Common.{sym, ap, subst, ◌∙◌}
+use Rattle.std.proofs.Math.Bool.{and-true}
 use Rattle.std.specs.List.{flat_map, list_all, AllByRecursion}
 use Rattle.std.proofs.lemmas.Bool.{true≢false, false≢true, and_parts}
 use Rattle.std.specs.declared.cmp.Ordering.{Ordering}
@@ -13,6 +14,8 @@ use Rattle.squall_join.specs.Entries.{merged, IsKept, IsMap}
 use Rattle.squall_join.specs.Looked.{looked}
 use Rattle.squall_join.specs.LookedLaws.{looked_merged, same_looked_map}
 use Rattle.squall_join.specs.MapLaws.{both, first, second, equal, find_tied_below, merged_is, map_laws, find_All, Found, values_of_kept}
+use Rattle.squall_join.specs.Units.{entry_unit}
+use Rattle.squall_join.specs.BeyondLaws.{bottom_covered}
 use Rattle.squall_join.specs.Rests.{BeyondLaws, found_beyond, entry_of, entry_beyond, map_covered, map_beyond}
 
 and_true : (a b : Bool) → a ≡ true → b ≡ true → (a && b) ≡ true
@@ -63,17 +66,14 @@ module _ {K V : Type 0} (R : K → K → Ordering) where
           | false ↦ λ t. rest
         ] refl
 
-module _ {V : Type 0} {is_value : V → Type 0} {bottom : V} {join : V → V → V} {covered : V → V → Bool} {beyond : V → V → V} (l : JoinLaws is_value bottom join) (m : BeyondLaws is_value bottom join covered beyond) where
-  -- the least value is covered by all, and beyond it each value is whole
-  pub bottom_covered : (x : V) → is_value x → covered bottom x ≡ true
-  bottom_covered x a = (m.tested bottom x l.bottom_is a).1 (l.neutral x a)
-
+module _ {V : Type 0} {is_value : V → Type 0} {bottom : V} {join : V → V → V} {covered : V → V → Bool} {unit : V → V → Type 0} {beyond : V → V → V} (l : JoinLaws is_value bottom join) (m : BeyondLaws is_value bottom join covered unit beyond) where
+  -- beyond the least value each value is whole
   pub beyond_bottom : (x : V) → is_value x → beyond x bottom ≡ x
   beyond_bottom x a = sym (l.neutral _ (m.closed x bottom a l.bottom_is)) ∙ m.joined x bottom a l.bottom_is ∙ l.neutral x a
 
   looked_beyond : (x y : Option V) → Found is_value x → Found is_value y → looked bottom (found_beyond covered beyond x y) ≡ beyond (looked bottom x) (looked bottom y)
-  looked_beyond None None a b = sym (m.nothing bottom bottom l.bottom_is l.bottom_is (bottom_covered bottom l.bottom_is))
-  looked_beyond None (Some y) a b = sym (m.nothing bottom y l.bottom_is b (bottom_covered y b))
+  looked_beyond None None a b = sym (m.nothing bottom bottom l.bottom_is l.bottom_is (bottom_covered l m bottom l.bottom_is))
+  looked_beyond None (Some y) a b = sym (m.nothing bottom y l.bottom_is b (bottom_covered l m y b))
   looked_beyond (Some x) None a b = sym (beyond_bottom x a)
   looked_beyond (Some x) (Some y) a b = elim (covered x y) as (λ t. covered x y ≡ t → looked bottom (cond t None (Some (beyond x y))) ≡ beyond x y) [
     | true ↦ λ t. sym (m.nothing x y a b t)
@@ -97,7 +97,7 @@ module _ {V : Type 0} {is_value : V → Type 0} {bottom : V} {join : V → V →
     kept_beyond [] fs h g = tt
     kept_beyond (e ∷ es) fs h g = kept_entry e.0 (found_beyond covered beyond (Some e.1) (find R e.0 fs)) _ (kept_found (Some e.1) (find R e.0 fs) h.0 (find_All R is_value e.0 fs g)) (kept_beyond es fs h.1 g)
 
-module _ {K V : Type 0} {R : K → K → Ordering} (o : IsTotalOrder R) (exact : CmpEqualImpliesEq R) {is_value : V → Type 0} {bottom : V} {join : V → V → V} {covered : V → V → Bool} {beyond : V → V → V} (l : JoinLaws is_value bottom join) (m : BeyondLaws is_value bottom join covered beyond) where
+module _ {K V : Type 0} {R : K → K → Ordering} (o : IsTotalOrder R) (exact : CmpEqualImpliesEq R) {is_value : V → Type 0} {bottom : V} {join : V → V → V} {covered : V → V → Bool} {unit : V → V → Type 0} {beyond : V → V → V} (l : JoinLaws is_value bottom join) (m : BeyondLaws is_value bottom join covered unit beyond) where
   -- what the map has at the key
   abbrev at : List (K × V) → K → V
   at es q = looked bottom (find R q es)
@@ -171,7 +171,51 @@ module _ {K V : Type 0} {R : K → K → Ordering} (o : IsTotalOrder R) (exact :
   map_at_most : (x y : List (K × V)) → IsMap R is_value bottom x → IsMap R is_value bottom y → Covers (merged R join) x (map_beyond R covered beyond x y)
   map_at_most x y a b = covers_by_keys x _ a (map_beyond_is x y a b) (λ q. ap (join (at x q)) (looked_map_beyond q x y a b) ∙ m.at_most _ _ (value_at x a q) (value_at y b q))
 
-  pub map_beyond_laws : BeyondLaws (IsMap R is_value bottom) [] (merged R join) (map_covered R bottom covered) (map_beyond R covered beyond)
+  -- ---- its units
+
+  -- the map of one entry has the value at its key, and nothing at others
+  single_is : (k : K) (w : V) → is_value w → w ≢ bottom → IsMap R is_value bottom ((k, w) ∷ [])
+  single_is k w a n = record { sorted = tt; kept = ((a, n), tt) }
+
+  single_at : (k : K) (w : V) → at ((k, w) ∷ []) k ≡ w
+  single_at k w = ap (λ r. looked bottom (cond (is_eq r) (Some w) None)) (tied_itself o k)
+
+  -- a map covers the map of one entry where it does at the key
+  covers_single : (x : List (K × V)) (k : K) (w : V) → IsMap R is_value bottom x → is_value w → w ≢ bottom → Covers join (at x k) w → Covers (merged R join) x ((k, w) ∷ [])
+  covers_single x k w a b n c = covers_by_keys x ((k, w) ∷ []) a (single_is k w b n) (λ q.
+      elim (eq_by_cmp R q k) as (λ t. eq_by_cmp R q k ≡ t → Covers join (at x q) (looked bottom (cond t (Some w) None))) [
+        | true ↦ λ t. subst (λ i. Covers join (at x i) w) (sym (exact q k (equal _ t))) c
+        | false ↦ λ t. l.neutral (at x q) (value_at x a q)
+      ] refl)
+
+  single_covered : (x : List (K × V)) (k : K) (w : V) → IsMap R is_value bottom x → is_value w → w ≢ bottom → Covers (merged R join) x ((k, w) ∷ []) → Covers join (at x k) w
+  single_covered x k w a b n c = subst (Covers join (at x k)) (single_at k w) (covers_at x ((k, w) ∷ []) a (single_is k w b n) c k)
+
+  unit_value : (x : List (K × V)) (k : K) (w : V) → IsMap R is_value bottom x → unit (at x k) w → is_value w
+  unit_value x k w a e = m.unit_is (at x k) w (value_at x a k) e
+
+  map_unit_is : (x u : List (K × V)) → IsMap R is_value bottom x → entry_unit R bottom unit x u → IsMap R is_value bottom u
+  map_unit_is x u a (k, w, e, n, is) = subst (IsMap R is_value bottom) (sym is) (single_is k w (unit_value x k w a e) n)
+
+  map_unit_in : (x u : List (K × V)) → IsMap R is_value bottom x → entry_unit R bottom unit x u → Covers (merged R join) x u
+  map_unit_in x u a (k, w, e, n, is) = subst (Covers (merged R join) x) (sym is) (covers_single x k w a (unit_value x k w a e) n (m.unit_in (at x k) w (value_at x a k) e))
+
+  one_covered : (w v : V) → (covered w v && true) ≡ covered w v
+  one_covered w v = and-true (covered w v)
+
+  map_has : (x y u : List (K × V)) → IsMap R is_value bottom x → IsMap R is_value bottom y → entry_unit R bottom unit x u → map_covered R bottom covered u y ≡ false → Covers (merged R join) (map_beyond R covered beyond x y) u
+  map_has x y u a b (k, w, e, n, is) t =
+      let lacks : covered w (at y k) ≡ false = sym (one_covered w (at y k)) ∙ ap (λ z. map_covered R bottom covered z y) (sym is) ∙ t in
+      subst (Covers (merged R join) (map_beyond R covered beyond x y)) (sym is) (covers_single (map_beyond R covered beyond x y) k w (map_beyond_is x y a b) (unit_value x k w a e) n
+      (subst (λ v. Covers join v w) (sym (looked_map_beyond k x y a b)) (m.has (at x k) (at y k) w (value_at x a k) (value_at y b k) e lacks)))
+
+  map_least : (x y z : List (K × V)) → IsMap R is_value bottom x → IsMap R is_value bottom y → IsMap R is_value bottom z → ((u : List (K × V)) → entry_unit R bottom unit x u → map_covered R bottom covered u y ≡ false → Covers (merged R join) z u) → Covers (merged R join) z (map_beyond R covered beyond x y)
+  map_least x y z a b c all = covers_by_keys z (map_beyond R covered beyond x y) c (map_beyond_is x y a b) (λ q.
+      subst (Covers join (at z q)) (sym (looked_map_beyond q x y a b)) (m.least (at x q) (at y q) (at z q) (value_at x a q) (value_at y b q) (value_at z c q) (λ w e t.
+      let n : w ≢ bottom = λ none. true≢false (sym (ap (λ v. covered v (at y q)) none ∙ bottom_covered l m (at y q) (value_at y b q)) ∙ t) in
+      single_covered z q w c (unit_value x q w a e) n (all ((q, w) ∷ []) (q, w, e, n, refl) (one_covered w (at y q) ∙ t)))))
+
+  pub map_beyond_laws : BeyondLaws (IsMap R is_value bottom) [] (merged R join) (map_covered R bottom covered) (entry_unit R bottom unit) (map_beyond R covered beyond)
   map_beyond_laws = record {
     closed = map_beyond_is;
     tested = map_tested;
@@ -179,4 +223,8 @@ module _ {K V : Type 0} {R : K → K → Ordering} (o : IsTotalOrder R) (exact :
     some = map_some;
     joined = map_joined;
     at_most = map_at_most;
+    unit_is = map_unit_is;
+    unit_in = map_unit_in;
+    has = map_has;
+    least = map_least;
   }

@@ -11,15 +11,20 @@ use Rattle.squall_join.specs.Laws.{Covers}
 use Rattle.squall_join.specs.Looked.{looked}
 use Rattle.squall_join.specs.Pairs.{pair_of}
 
--- the rest is a value again, which is the least one where the other value covers all; with the other it joins to the join of
--- both, and it has nothing that the first value lacks
-pub record BeyondLaws {X : Type 0} (is_value : X → Type 0) (bottom : X) (join : X → X → X) (covered : X → X → Bool) (beyond : X → X → X) : Type 0 where
+-- What a value has beyond another is a value again, and bottom exactly where the other covers the value. With the other it joins
+-- to the join of both, it has nothing that the value lacks, and it is the least value with each unit of the value that the other
+-- lacks; a unit is a value, and the value has it.
+pub record BeyondLaws {X : Type 0} (is_value : X → Type 0) (bottom : X) (join : X → X → X) (covered : X → X → Bool) (unit : X → X → Type 0) (beyond : X → X → X) : Type 0 where
   pub closed : (x y : X) → is_value x → is_value y → is_value (beyond x y)
   pub tested : (x y : X) → is_value x → is_value y → (covered x y ≡ true) ↔ Covers join y x
   pub nothing : (x y : X) → is_value x → is_value y → covered x y ≡ true → beyond x y ≡ bottom
   pub some : (x y : X) → is_value x → is_value y → covered x y ≡ false → beyond x y ≢ bottom
   pub joined : (x y : X) → is_value x → is_value y → join (beyond x y) y ≡ join x y
   pub at_most : (x y : X) → is_value x → is_value y → Covers join x (beyond x y)
+  pub unit_is : (x u : X) → is_value x → unit x u → is_value u
+  pub unit_in : (x u : X) → is_value x → unit x u → Covers join x u
+  pub has : (x y u : X) → is_value x → is_value y → unit x u → covered u y ≡ false → Covers join (beyond x y) u
+  pub least : (x y z : X) → is_value x → is_value y → is_value z → ((u : X) → unit x u → covered u y ≡ false → Covers join z u) → Covers join z (beyond x y)
 
 -- ---- numbers and flags
 

@@ -4,6 +4,7 @@ ghost use Rattle.std.specs.Prelude.{◌≡◌, ◌||◌, max, nat_le, false};
 ghost use Rattle.squall_join.specs.Basic.{is_max};
 ghost use Rattle.squall_join.specs.BasicLaws.{max_laws, flag_laws};
 ghost use Rattle.squall_join.specs.Rests.{max_beyond, flag_covered, flag_beyond};
+ghost use Rattle.squall_join.specs.Units.{whole_unit};
 ghost use Rattle.squall_join.specs.BeyondLaws.{max_beyond_laws, flag_beyond_laws};
 
 use crate::{Beyond, Join};
@@ -85,6 +86,8 @@ impl Join for Max {
 
 impl Beyond for Max {
     ghost covered = { nat_le };
+
+    ghost unit = { whole_unit };
 
     ghost beyond = { max_beyond };
 
@@ -170,6 +173,8 @@ impl Join for Flag {
 
 impl Beyond for Flag {
     ghost covered = { flag_covered };
+
+    ghost unit = { whole_unit };
 
     ghost beyond = { flag_beyond };
 

@@ -4,6 +4,7 @@ ghost use Rattle.std.specs.Prelude.{◌≡◌, ◌==◌, IfOk, Bool};
 ghost use Rattle.squall_join.specs.Flats.{IsExactEq, flat_bottom, flat_is, flat_join, flat_map};
 ghost use Rattle.squall_join.specs.FlatLaws.{flat_laws, number_exact};
 ghost use Rattle.squall_join.specs.Rests.{flat_covered, flat_beyond};
+ghost use Rattle.squall_join.specs.Units.{whole_unit};
 ghost use Rattle.squall_join.specs.BeyondLaws.{flat_beyond_laws};
 
 use crate::{Beyond, Join};
@@ -138,6 +139,8 @@ impl<T: Exact> Join for Flat<T> {
 
 impl<T: Exact> Beyond for Flat<T> {
     ghost covered = { flat_covered T.eq };
+
+    ghost unit = { whole_unit };
 
     ghost beyond = { flat_beyond T.eq };
 

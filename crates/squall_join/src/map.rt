@@ -7,6 +7,7 @@ ghost use Rattle.std.specs.declared.cmp.Ordering.TheVariants.{Less};
 ghost use Rattle.squall_join.specs.Entries.{merged, IsMap, IsAt, IsGap};
 ghost use Rattle.squall_join.specs.MapLaws.{map_laws};
 ghost use Rattle.squall_join.specs.Rests.{map_covered, map_beyond};
+ghost use Rattle.squall_join.specs.Units.{entry_unit};
 ghost use Rattle.squall_join.specs.MapBeyondLaws.{map_beyond_laws};
 
 use crate::merge::{merge, push_copies};
@@ -201,6 +202,8 @@ impl<K: MapKey, V: Join> Join for JoinMap<K, V> {
 
 impl<K: MapKey, V: Beyond> Beyond for JoinMap<K, V> {
     ghost covered = { map_covered K.cmp V.bottom V.covered };
+
+    ghost unit = { entry_unit K.cmp V.bottom V.unit };
 
     ghost beyond = { map_beyond K.cmp V.covered V.beyond };
 

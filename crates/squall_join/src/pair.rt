@@ -4,6 +4,7 @@ ghost use Rattle.std.specs.Prelude.{◌≡◌};
 ghost use Rattle.squall_join.specs.Pairs.{pair_of, pair_is, pair_join};
 ghost use Rattle.squall_join.specs.PairLaws.{pair_laws};
 ghost use Rattle.squall_join.specs.Rests.{pair_covered, pair_beyond};
+ghost use Rattle.squall_join.specs.Units.{pair_unit};
 ghost use Rattle.squall_join.specs.BeyondLaws.{pair_beyond_laws};
 
 use crate::{Beyond, Join};
@@ -91,9 +92,11 @@ impl<A: Join, B: Join> Join for Pair<A, B> {
 impl<A: Beyond, B: Beyond> Beyond for Pair<A, B> {
     ghost covered = { pair_covered A.covered B.covered };
 
+    ghost unit = { pair_unit A.unit B.unit A.bottom B.bottom };
+
     ghost beyond = { pair_beyond A.beyond B.beyond };
 
-    ghost beyond_laws = { pair_beyond_laws A.beyond_laws B.beyond_laws };
+    ghost beyond_laws = { pair_beyond_laws A.laws B.laws A.beyond_laws B.beyond_laws };
 
     fn beyond(&self, alloc: Global, other: &Pair<A, B>) -> Result<Pair<A, B>, AllocError> {
         Ok(Pair {

@@ -4,6 +4,7 @@ ghost use Rattle.std.specs.Prelude.{[]};
 ghost use Rattle.squall_span.specs.Spans.{IsSet, union, minus};
 ghost use Rattle.squall_join.specs.SetLaws.{set_laws};
 ghost use Rattle.squall_join.specs.Rests.{set_covered};
+ghost use Rattle.squall_join.specs.Units.{key_unit};
 ghost use Rattle.squall_join.specs.BeyondLaws.{set_beyond_laws};
 
 use crate::{Beyond, Join};
@@ -59,6 +60,8 @@ impl Join for SpanSet {
 
 impl Beyond for SpanSet {
     ghost covered = { set_covered };
+
+    ghost unit = { key_unit };
 
     ghost beyond = { minus };
 
