@@ -12,7 +12,11 @@ use Rattle.squall_join.specs.declared.flat.Flat.{Flat}
 use Rattle.squall_join.specs.declared.flat.Flat.TheVariants.{Unknown}
 use Rattle.squall_join.specs.Laws.{JoinLaws, Covers}
 use Rattle.squall_join.specs.Basic.{is_max}
-use Rattle.squall_join.specs.BasicLaws.{max_laws}
+use Rattle.squall_join.specs.BasicLaws.{max_laws, flag_laws}
+use Rattle.squall_join.specs.SetLaws.{set_laws}
+use Rattle.squall_join.specs.Pairs.{pair_of}
+use Rattle.squall_join.specs.PairLaws.{pair_laws}
+use Rattle.squall_join.specs.Units.{whole_unit, key_unit, pair_unit, entry_unit}
 use Rattle.squall_join.specs.Entries.{merged, IsKept, IsMap}
 use Rattle.squall_join.specs.MapLaws.{find_All, Found, values_of_kept, map_laws}
 use Rattle.squall_join.specs.Facts.{Factual, flag_says, pair_says, found_says, map_says}
@@ -27,26 +31,41 @@ use Rattle.squall_report.specs.Facts.{Fact, LoadedKey, DonePart, OpenedSub, is_f
 use Rattle.squall_report.specs.Told.{both_issued, SameTold}
 use Rattle.squall_report.specs.ToldLaws.{issue_laws}
 use Rattle.squall_board.specs.Boards.{CellValue, Parts, Subs, BoardValue, openings_in, issues_in, cells_in, cell_is, cell_bottom, cell_join, issue_is, is_nested, empty_board, board_join, opened_count, issued, says, told, IsBoard}
-use Rattle.squall_board.specs.BoardLaws.{cell_laws, parts_laws, subs_laws, board_laws, tells_both, same_board, opened_found}
+use Rattle.squall_board.specs.BoardLaws.{cell_laws, parts_laws, subs_laws, cells_laws, board_laws, tells_both, same_board, opened_found}
 use Rattle.squall_board.specs.BoardBeyond.{issue_beyond, TellsBeyond, cell_beyond, cell_covered, parts_beyond, parts_covered, subs_beyond, subs_covered, cells_beyond, board_beyond, board_covered}
 
--- ---- the laws of its parts
+-- ---- the units of its parts, and their laws
 
-cell_beyond_laws : BeyondLaws cell_is cell_bottom cell_join cell_covered cell_beyond
-cell_beyond_laws = pair_beyond_laws set_beyond_laws flag_beyond_laws
+abbrev cell_unit : CellValue → CellValue → Type 0
+cell_unit = pair_unit key_unit whole_unit [] false
 
-parts_beyond_laws : BeyondLaws (IsMap nat_cmp cell_is cell_bottom) [] (merged nat_cmp cell_join) parts_covered parts_beyond
+abbrev parts_unit : Parts → Parts → Type 0
+parts_unit = entry_unit nat_cmp cell_bottom cell_unit
+
+abbrev subs_unit : Subs → Subs → Type 0
+subs_unit = entry_unit nat_cmp [] parts_unit
+
+-- the units of a board: one count of openings, what is issued under one number, one key loaded in one cell, or one cell done
+abbrev board_unit : BoardValue → BoardValue → Type 0
+board_unit = pair_unit (pair_unit (entry_unit nat_cmp 0 whole_unit) (entry_unit nat_cmp Unknown whole_unit) [] []) (entry_unit nat_cmp [] subs_unit) (pair_of [] []) []
+
+cell_beyond_laws : BeyondLaws cell_is cell_bottom cell_join cell_covered cell_unit cell_beyond
+cell_beyond_laws = pair_beyond_laws set_laws flag_laws set_beyond_laws flag_beyond_laws
+
+parts_beyond_laws : BeyondLaws (IsMap nat_cmp cell_is cell_bottom) [] (merged nat_cmp cell_join) parts_covered parts_unit parts_beyond
 parts_beyond_laws = map_beyond_laws nat_cmp_total exact_unsigned cell_laws cell_beyond_laws
 
-subs_beyond_laws : BeyondLaws (IsMap nat_cmp (IsMap nat_cmp cell_is cell_bottom) []) [] (merged nat_cmp (merged nat_cmp cell_join)) subs_covered subs_beyond
+subs_beyond_laws : BeyondLaws (IsMap nat_cmp (IsMap nat_cmp cell_is cell_bottom) []) [] (merged nat_cmp (merged nat_cmp cell_join)) subs_covered subs_unit subs_beyond
 subs_beyond_laws = map_beyond_laws nat_cmp_total exact_unsigned parts_laws parts_beyond_laws
 
-issue_beyond_laws : BeyondLaws issue_is Unknown both_issued (flat_covered is_same_pair) issue_beyond
+issue_beyond_laws : BeyondLaws issue_is Unknown both_issued (flat_covered is_same_pair) whole_unit issue_beyond
 issue_beyond_laws = flat_beyond_laws same_pairs_are_equal
 
-pub board_beyond_laws : BeyondLaws is_nested empty_board board_join board_covered board_beyond
+pub board_beyond_laws : BeyondLaws is_nested empty_board board_join board_covered board_unit board_beyond
 board_beyond_laws = pair_beyond_laws
-    (pair_beyond_laws (map_beyond_laws nat_cmp_total exact_unsigned max_laws max_beyond_laws) (map_beyond_laws nat_cmp_total exact_unsigned issue_laws issue_beyond_laws))
+    (pair_laws (map_laws nat_cmp_total exact_unsigned max_laws) (map_laws nat_cmp_total exact_unsigned issue_laws))
+    cells_laws
+    (pair_beyond_laws (map_laws nat_cmp_total exact_unsigned max_laws) (map_laws nat_cmp_total exact_unsigned issue_laws) (map_beyond_laws nat_cmp_total exact_unsigned max_laws max_beyond_laws) (map_beyond_laws nat_cmp_total exact_unsigned issue_laws issue_beyond_laws))
     (map_beyond_laws nat_cmp_total exact_unsigned subs_laws subs_beyond_laws)
 
 -- ---- its facts
@@ -55,7 +74,7 @@ board_beyond_laws = pair_beyond_laws
 abbrev Leaves : {X F : Type 0} → (X → Type 0) → (X → X → X) → (X → F → Bool) → Type 0
 Leaves {X} {F} P beyond says = (x y : X) → P x → P y → (f : F) → says (beyond x y) f ≡ (says x f && not (says y f))
 
-module _ {V F : Type 0} {is_value : V → Type 0} {bottom : V} {join : V → V → V} {covered : V → V → Bool} {beyond : V → V → V} {says : V → F → Bool} (m : BeyondLaws is_value bottom join covered beyond) (facts : Factual is_value bottom join says) (leaves : Leaves is_value beyond says) where
+module _ {V F : Type 0} {is_value : V → Type 0} {bottom : V} {join : V → V → V} {covered : V → V → Bool} {unit : V → V → Type 0} {beyond : V → V → V} {says : V → F → Bool} (m : BeyondLaws is_value bottom join covered unit beyond) (facts : Factual is_value bottom join says) (leaves : Leaves is_value beyond says) where
   found_leaves : (x y : Option V) → Found is_value x → Found is_value y → (f : F) → found_says says (found_beyond covered beyond x y) f ≡ (found_says says x f && not (found_says says y f))
   found_leaves None y a b f = refl
   found_leaves (Some x) None a b f = sym (and-true (says x f))

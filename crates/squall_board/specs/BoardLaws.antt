@@ -44,7 +44,7 @@ parts_laws = map_laws nat_cmp_total exact_unsigned cell_laws
 pub subs_laws : JoinLaws (IsMap nat_cmp (IsMap nat_cmp cell_is cell_bottom) []) [] (merged nat_cmp (merged nat_cmp cell_join))
 subs_laws = map_laws nat_cmp_total exact_unsigned parts_laws
 
-cells_laws : JoinLaws (IsMap nat_cmp (IsMap nat_cmp (IsMap nat_cmp cell_is cell_bottom) []) []) [] (merged nat_cmp (merged nat_cmp (merged nat_cmp cell_join)))
+pub cells_laws : JoinLaws (IsMap nat_cmp (IsMap nat_cmp (IsMap nat_cmp cell_is cell_bottom) []) []) [] (merged nat_cmp (merged nat_cmp (merged nat_cmp cell_join)))
 cells_laws = map_laws nat_cmp_total exact_unsigned subs_laws
 
 pub board_laws : JoinLaws is_nested empty_board board_join

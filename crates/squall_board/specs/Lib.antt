@@ -1,6 +1,7 @@
 -- what the clauses here cite of the crates below
 pub use Rattle.squall_key.specs.Keys
 pub use Rattle.squall_join.specs.Flats
+pub use Rattle.squall_join.specs.Rests
 pub use Rattle.squall_plan.specs.Ranges
 pub use Rattle.squall_course.specs.Subplans
 pub use Rattle.squall_course.specs.Change

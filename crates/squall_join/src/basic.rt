@@ -94,11 +94,10 @@ impl Beyond for Max {
     ghost beyond_laws = { max_beyond_laws };
 
     fn beyond(&self, _alloc: Global, other: &Max) -> Result<Max, AllocError> {
-        if other.number < self.number {
-            Ok(*self)
-        } else {
-            Ok(Max::new(0))
+        if self.number <= other.number {
+            return Ok(Max::new(0));
         }
+        Ok(Max::new(self.number))
     }
 }
 
