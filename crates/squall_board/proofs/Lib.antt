@@ -1,3 +1,4 @@
 mod Merged
 mod Lists
 mod PutAgain
+pub mod Remains

@@ -38,13 +38,13 @@ use Rattle.squall_board.specs.Boards.{CellValue, BoardValue, openings_in, issues
 pub cell_laws : JoinLaws cell_is cell_bottom cell_join
 cell_laws = pair_laws set_laws flag_laws
 
-parts_laws : JoinLaws (IsMap nat_cmp cell_is cell_bottom) [] (merged nat_cmp cell_join)
+pub parts_laws : JoinLaws (IsMap nat_cmp cell_is cell_bottom) [] (merged nat_cmp cell_join)
 parts_laws = map_laws nat_cmp_total exact_unsigned cell_laws
 
-subs_laws : JoinLaws (IsMap nat_cmp (IsMap nat_cmp cell_is cell_bottom) []) [] (merged nat_cmp (merged nat_cmp cell_join))
+pub subs_laws : JoinLaws (IsMap nat_cmp (IsMap nat_cmp cell_is cell_bottom) []) [] (merged nat_cmp (merged nat_cmp cell_join))
 subs_laws = map_laws nat_cmp_total exact_unsigned parts_laws
 
-cells_laws : JoinLaws (IsMap nat_cmp (IsMap nat_cmp (IsMap nat_cmp cell_is cell_bottom) []) []) [] (merged nat_cmp (merged nat_cmp (merged nat_cmp cell_join)))
+pub cells_laws : JoinLaws (IsMap nat_cmp (IsMap nat_cmp (IsMap nat_cmp cell_is cell_bottom) []) []) [] (merged nat_cmp (merged nat_cmp (merged nat_cmp cell_join)))
 cells_laws = map_laws nat_cmp_total exact_unsigned subs_laws
 
 pub board_laws : JoinLaws is_nested empty_board board_join

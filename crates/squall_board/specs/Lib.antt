@@ -1,6 +1,7 @@
 -- what the clauses here cite of the crates below
 pub use Rattle.squall_key.specs.Keys
 pub use Rattle.squall_join.specs.Flats
+pub use Rattle.squall_join.specs.Rests
 pub use Rattle.squall_plan.specs.Ranges
 pub use Rattle.squall_course.specs.Subplans
 pub use Rattle.squall_course.specs.Change
@@ -28,3 +29,5 @@ pub mod MovesRoute
 pub mod MovesRouteLaws
 pub mod BoardTests
 pub mod BoardTestsLaws
+pub mod BoardBeyond
+pub mod BoardBeyondLaws

@@ -1,6 +1,7 @@
 //! Boards: what was reported, and where it sends each key.
 #![tactic(auto)]
 
+mod beyond;
 mod board;
 mod cell;
 mod facts_laws;
@@ -14,6 +15,7 @@ mod put;
 mod route_laws;
 mod update;
 
+pub use beyond::{beyond_covered_is_empty, one_beyond};
 pub use board::{Board, CellParts, Delta};
 pub use cell::Cell;
 pub use facts_laws::{

@@ -2,6 +2,7 @@
 
 mod clients;
 mod listed;
+mod rests;
 mod route_clients;
 mod tolerant;
 
@@ -129,7 +130,7 @@ fn copies_and_cuts(rt: HostRuntime) -> Result<(), Fail> {
 }
 
 /// The report that the plan of a text follows that of another under the number.
-fn issue(alloc: Global, number: u32, old: &str, new: &str) -> Result<Report, Fail> {
+pub(crate) fn issue(alloc: Global, number: u32, old: &str, new: &str) -> Result<Report, Fail> {
     let issue = Issue::new(alloc, &plan(alloc, old)?, &plan(alloc, new)?)?;
     let report = Report::issued(number, issue).ok_or("issue")?;
     Ok(report)

@@ -1,6 +1,7 @@
 -- what the clauses here cite of the crates below
 pub use Rattle.squall_report.specs.Told
 pub use Rattle.squall_board.specs.Boards
+pub use Rattle.squall_board.specs.BoardBeyond
 pub use Rattle.squall_board.specs.Listed
 pub use Rattle.squall_wire.specs.Spelling
 pub use Rattle.squall_wire.specs.Messages

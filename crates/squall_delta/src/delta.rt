@@ -1,8 +1,9 @@
-//! Boards of one report.
+//! Boards of one report, and of what one board tells beyond another.
 
 ghost use Rattle.std.specs.Prelude.{◌≡◌, ◌∷◌, [], IfOk};
-ghost use Rattle.squall_report.specs.Told.{SameTold, told_by_report};
-ghost use Rattle.squall_board.specs.Boards.{HasTaken, report_board, told};
+ghost use Rattle.squall_report.specs.Told.{SameTold, TellsAll, told_by_report};
+ghost use Rattle.squall_board.specs.Boards.{HasTaken, board_join, report_board, told};
+ghost use Rattle.squall_board.specs.BoardBeyond.{TellsBeyond};
 
 use squall_board::{Board, Delta};
 use squall_report::Report;
@@ -17,4 +18,15 @@ pub fn delta_of(alloc: Global, report: &Report) -> Result<Delta, AllocError>
     let mut delta = Board::new(alloc);
     delta.take(report)?;
     Ok(delta)
+}
+
+/// What board `a` tells beyond board `b`: the loads and completions that `b` lacks, each count of
+/// openings greater than that of `b`, and what is issued under each number unless `b` covers it.
+/// It fails where an allocation fails, or where the count of an issue's owners is full.
+pub fn beyond(alloc: Global, a: &Board, b: &Board) -> Result<Delta, AllocError>
+    ensures told { IfOk result (λ c. TellsBeyond a.now b.now c) }
+    ensures joined { IfOk result (λ c. board_join c b.now ≡ board_join a.now b.now) }
+    ensures at_most { IfOk result (λ c. TellsAll (told a.now) (told c)) }
+{
+    a.beyond(alloc, b)
 }

@@ -11,6 +11,6 @@ mod digests;
 mod repairing;
 
 pub use cut::pieces;
-pub use delta::delta_of;
+pub use delta::{beyond, delta_of};
 pub use digests::digest;
 pub use repairing::repair;

@@ -1,3 +1,3 @@
 pub mod Places
 pub mod Searching
-pub mod Sets
+pub mod Remains

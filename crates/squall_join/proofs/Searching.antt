@@ -6,17 +6,11 @@ use Rattle.std.specs.Cmp.{IsTotalOrder}
 use Rattle.std.specs.FinMap.Entries.{is_sorted}
 use Rattle.std.proofs.lemmas.Bool.{cases_lt, false≢true}
 use Rattle.std.proofs.lemmas.List.{get_or_default}
-use Rattle.std.specs.Ordering.{is_eq}
+use Rattle.std.specs.Ordering.{is_eq, is_lt}
 use Rattle.std.proofs.lemmas.Cmp.{alike_right}
-use Rattle.squall_join.specs.Entries.{IsPlace, IsAt, IsGap}
+use Rattle.squall_join.specs.Entries.{IsPlace, IsAmong, IsFrom, IsAt, IsGap}
 use Rattle.squall_join.specs.MapLaws.{equal}
 use Rattle.squall_join.proofs.Places.{sorted_at}
-
--- the place is one of so many from `from` on
-pub record IsAmong {K V : Type 0} (R : K → K → Ordering) (es : List (K × V)) (key : K) (from size : ℕ) : Type 0 where
-  pub in_range : from + size ≤ length es
-  pub less_before : (j : ℕ) (d : K × V) → j < from → R (get_or es j d).0 key ≡ Less
-  pub no_less_from : (j : ℕ) (d : K × V) → from + size ≤ j → j < length es → R (get_or es j d).0 key ≢ Less
 
 -- the step of a comparison with the entry x
 pub record IsStep {K V : Type 0} (R : K → K → Ordering) (key : K) (x : K × V) (step taken : ℕ) : Type 0 where
@@ -27,6 +21,14 @@ is_less_or_not : (o : Ordering) (P : Type 0) → (o ≡ Less → P) → (o ≢ L
 is_less_or_not Less P f g = f refl
 is_less_or_not Equal P f g = g (λ e. cc)
 is_less_or_not Greater P f g = g (λ e. cc)
+
+less_if : (r : Ordering) → is_lt r ≡ true → r ≡ Less
+less_if Less e = refl
+less_if Equal e = absurd (false≢true e)
+less_if Greater e = absurd (false≢true e)
+
+not_less_if : (r : Ordering) → is_lt r ≡ false → r ≢ Less
+not_less_if r e is = false≢true (sym e ∙ ap is_lt is)
 
 pub among_all : {K V : Type 0} (R : K → K → Ordering) (es : List (K × V)) (key : K) (size : ℕ) → size ≡ length es → IsAmong R es key 0 size
 among_all R es key size e = record {
@@ -72,6 +74,29 @@ module _ {K V : Type 0} {R : K → K → Ordering} (o : IsTotalOrder R) (es : Li
         less_before = λ j d lt. m.less_before j d (omega arith);
         no_less_from = λ j d le lt. no_less_on from j x d (omega arith) lt not;
       })
+
+module _ {K V : Type 0} {R : K → K → Ordering} (o : IsTotalOrder R) (es : List (K × V)) (sorted : T (is_sorted R es)) (key : K) where
+  -- beyond the entry at a place, which has a smaller key
+  pub from_next : (i : ℕ) (x : K × V) → i < length es → is_lt (R (get_or es i x).0 key) ≡ true → IsFrom R es key (i + 1)
+  from_next i x lt less = record {
+    in_range = omega arith;
+    less_before = λ j d below. less_upto o es sorted key i j x d lt (omega arith) (less_if _ less);
+  }
+
+  -- before the entry at a place or at it, whose key is not smaller
+  pub among_before : (from left : ℕ) (x : K × V) → from + left < length es → is_lt (R (get_or es (from + left) x).0 key) ≡ false → IsFrom R es key from → IsAmong R es key from left
+  among_before from left x lt not m = record {
+    in_range = omega arith;
+    less_before = m.less_before;
+    no_less_from = λ j d at below. no_less_on o es sorted key (from + left) j x d at below (not_less_if _ not);
+  }
+
+  pub place_at_end : (from : ℕ) → length es ≤ from → IsFrom R es key from → IsPlace R es key from
+  place_at_end from le m = record {
+    in_range = m.in_range;
+    less_before = m.less_before;
+    no_less_from = λ j d at below. absurd (omega arith);
+  }
 
 pub place_by_none : {K V : Type 0} (R : K → K → Ordering) (es : List (K × V)) (key : K) (from size : ℕ) → size ≡ 0 → IsAmong R es key from size → IsPlace R es key from
 place_by_none R es key from size e m = record {

@@ -5,6 +5,8 @@ pub mod Entries
 pub mod Looked
 pub mod Facts
 pub mod Flats
+pub mod Rests
+pub mod Units
 pub mod BasicLaws
 pub mod PairLaws
 pub mod SetLaws
@@ -12,3 +14,5 @@ pub mod MapLaws
 pub mod LookedLaws
 pub mod FactLaws
 pub mod FlatLaws
+pub mod BeyondLaws
+pub mod MapBeyondLaws

@@ -1,10 +1,13 @@
 //! The greatest number, and a flag.
 
-ghost use Rattle.std.specs.Prelude.{◌≡◌, ◌||◌, max, false};
+ghost use Rattle.std.specs.Prelude.{◌≡◌, ◌||◌, max, nat_le, false};
 ghost use Rattle.squall_join.specs.Basic.{is_max};
 ghost use Rattle.squall_join.specs.BasicLaws.{max_laws, flag_laws};
+ghost use Rattle.squall_join.specs.Rests.{max_beyond, flag_covered, flag_beyond};
+ghost use Rattle.squall_join.specs.Units.{whole_unit};
+ghost use Rattle.squall_join.specs.BeyondLaws.{max_beyond_laws, flag_beyond_laws};
 
-use crate::Join;
+use crate::{Beyond, Join};
 use std::alloc::{AllocError, Global};
 use std::marker::Model;
 
@@ -81,6 +84,23 @@ impl Join for Max {
     }
 }
 
+impl Beyond for Max {
+    ghost covered = { nat_le };
+
+    ghost unit = { whole_unit };
+
+    ghost beyond = { max_beyond };
+
+    ghost beyond_laws = { max_beyond_laws };
+
+    fn beyond(&self, _alloc: Global, other: &Max) -> Result<Max, AllocError> {
+        if self.number <= other.number {
+            return Ok(Max::new(0));
+        }
+        Ok(Max::new(self.number))
+    }
+}
+
 /// A flag, which a join sets where either is set. The least value is `false`.
 ///
 /// Contracts see it as that `bool`.
@@ -147,5 +167,19 @@ impl Join for Flag {
     fn join_in(&mut self, _alloc: Global, other: &Flag) -> Result<(), AllocError> {
         self.is_set = self.is_set | other.is_set;
         Ok(())
+    }
+}
+
+impl Beyond for Flag {
+    ghost covered = { flag_covered };
+
+    ghost unit = { whole_unit };
+
+    ghost beyond = { flag_beyond };
+
+    ghost beyond_laws = { flag_beyond_laws };
+
+    fn beyond(&self, _alloc: Global, other: &Flag) -> Result<Flag, AllocError> {
+        Ok(Flag::new(self.is_set & !other.is_set))
     }
 }

@@ -3,8 +3,11 @@
 ghost use Rattle.std.specs.Prelude.{◌≡◌, ◌==◌, IfOk, Bool};
 ghost use Rattle.squall_join.specs.Flats.{IsExactEq, flat_bottom, flat_is, flat_join, flat_map};
 ghost use Rattle.squall_join.specs.FlatLaws.{flat_laws, number_exact};
+ghost use Rattle.squall_join.specs.Rests.{flat_covered, flat_beyond};
+ghost use Rattle.squall_join.specs.Units.{whole_unit};
+ghost use Rattle.squall_join.specs.BeyondLaws.{flat_beyond_laws};
 
-use crate::Join;
+use crate::{Beyond, Join};
 use std::alloc::{AllocError, Global};
 
 /// A type whose values are told apart by a test, and copied.
@@ -131,5 +134,24 @@ impl<T: Exact> Join for Flat<T> {
         let joined = self.joined(alloc, other)?;
         *self = joined;
         Ok(())
+    }
+}
+
+impl<T: Exact> Beyond for Flat<T> {
+    ghost covered = { flat_covered T.eq };
+
+    ghost unit = { whole_unit };
+
+    ghost beyond = { flat_beyond T.eq };
+
+    ghost beyond_laws = { flat_beyond_laws T.exact };
+
+    fn beyond(&self, alloc: Global, other: &Self) -> Result<Self, AllocError> {
+        match (self, other) {
+            (Flat::Unknown, _) | (_, Flat::Clash) => Ok(Flat::Unknown),
+            (Flat::One(x), Flat::One(y)) if x.is_same(y) => Ok(Flat::Unknown),
+            (Flat::One(x), _) => Ok(Flat::One(x.copied(alloc)?)),
+            (Flat::Clash, _) => Ok(Flat::Clash),
+        }
     }
 }

@@ -7,9 +7,10 @@ ghost use Rattle.squall_join.specs.Entries.{join_found, merged, IsMap};
 ghost use Rattle.squall_join.specs.Looked.{looked};
 ghost use Rattle.squall_join.specs.Pairs.{pair_of, pair_is, pair_join};
 ghost use Rattle.squall_join.specs.Facts.{Factual, pair_says, map_says};
+ghost use Rattle.squall_join.specs.Rests.{BeyondLaws, map_beyond};
 
-use crate::Join;
 use crate::map::MapKey;
+use crate::{Beyond, Join};
 
 /// The join of two values is the least value that covers both.
 pub fn join_is_least_upper_bound<J: Join>()
@@ -44,4 +45,17 @@ pub fn pairs_lift_facts<A: Join, B: Join, F, G>()
 /// has the facts of either.
 pub fn maps_lift_facts<K: MapKey, V: Join, F>()
     ensures { (says : V → F → Bool) → Factual V.is_value V.bottom V.join says → Factual (IsMap K.cmp V.is_value V.bottom) [] (merged K.cmp V.join) (map_says K.cmp says) }
+{}
+
+/// What a value has beyond another joins with the other to the join of both, and it is the least
+/// value with each unit of the value that the other lacks.
+pub fn beyond_joins_to_the_join<J: Beyond>()
+    ensures { BeyondLaws J.is_value J.bottom J.join J.covered J.unit J.beyond }
+{}
+
+/// What a map has beyond another is a map, which has at each key what the one has there beyond what
+/// the other has there, where an absent key has the least value.
+pub fn beyond_of_lookups<K: MapKey, V: Beyond>()
+    ensures map { (x y : List (K × V)) → IsMap K.cmp V.is_value V.bottom x → IsMap K.cmp V.is_value V.bottom y → IsMap K.cmp V.is_value V.bottom (map_beyond K.cmp V.covered V.beyond x y) }
+    ensures beyond { (x y : List (K × V)) (q : K) → IsMap K.cmp V.is_value V.bottom x → IsMap K.cmp V.is_value V.bottom y → looked V.bottom (find K.cmp q (map_beyond K.cmp V.covered V.beyond x y)) ≡ V.beyond (looked V.bottom (find K.cmp q x)) (looked V.bottom (find K.cmp q y)) }
 {}

@@ -5,23 +5,26 @@
 #![tactic(auto)]
 
 mod basic;
+mod beyond;
 mod flat;
 mod join;
 mod laws;
 mod map;
 mod merge;
 mod pair;
+mod rest;
 mod search;
 mod set;
 mod shared;
 mod update;
 
 pub use basic::{Flag, Max};
+pub use beyond::Beyond;
 pub use flat::{Exact, Flat};
 pub use join::Join;
 pub use laws::{
-    equal_lookups_equal_maps, join_is_least_upper_bound, join_of_entries, join_of_lookups,
-    maps_lift_facts, pairs_lift_facts,
+    beyond_joins_to_the_join, beyond_of_lookups, equal_lookups_equal_maps,
+    join_is_least_upper_bound, join_of_entries, join_of_lookups, maps_lift_facts, pairs_lift_facts,
 };
 pub use map::{JoinMap, MapKey};
 pub use pair::Pair;

@@ -6,11 +6,15 @@ ghost use Rattle.std.proofs.lemmas.Map.Lookups.{CmpEqualImpliesEq, exact_unsigne
 ghost use Rattle.std.specs.declared.cmp.Ordering.TheVariants.{Less};
 ghost use Rattle.squall_join.specs.Entries.{merged, IsMap, IsAt, IsGap};
 ghost use Rattle.squall_join.specs.MapLaws.{map_laws};
+ghost use Rattle.squall_join.specs.Rests.{map_covered, map_beyond};
+ghost use Rattle.squall_join.specs.Units.{entry_unit};
+ghost use Rattle.squall_join.specs.MapBeyondLaws.{map_beyond_laws};
 
-use crate::Join;
 use crate::merge::{merge, push_copies};
+use crate::rest::rests;
 use crate::search::place_of;
 use crate::update::Borrowed;
+use crate::{Beyond, Join};
 use std::alloc::{AllocError, Global};
 use std::marker::Model;
 
@@ -193,5 +197,23 @@ impl<K: MapKey, V: Join> Join for JoinMap<K, V> {
         let joined = self.joined(alloc, other)?;
         *self = joined;
         Ok(())
+    }
+}
+
+impl<K: MapKey, V: Beyond> Beyond for JoinMap<K, V> {
+    ghost covered = { map_covered K.cmp V.bottom V.covered };
+
+    ghost unit = { entry_unit K.cmp V.bottom V.unit };
+
+    ghost beyond = { map_beyond K.cmp V.covered V.beyond };
+
+    ghost beyond_laws = { map_beyond_laws K.total K.exact V.laws V.beyond_laws };
+
+    /// It searches the other map for each key of this one, from the place of the key before on by
+    /// doubled steps: so a small map beyond a large one takes about the size of the small one, and
+    /// two maps of like size take the sum of both.
+    fn beyond(&self, alloc: Global, other: &Self) -> Result<Self, AllocError> {
+        let entries = rests(alloc, &self.entries, &other.entries)?;
+        Ok(JoinMap { entries })
     }
 }

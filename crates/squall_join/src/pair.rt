@@ -3,8 +3,11 @@
 ghost use Rattle.std.specs.Prelude.{◌≡◌};
 ghost use Rattle.squall_join.specs.Pairs.{pair_of, pair_is, pair_join};
 ghost use Rattle.squall_join.specs.PairLaws.{pair_laws};
+ghost use Rattle.squall_join.specs.Rests.{pair_covered, pair_beyond};
+ghost use Rattle.squall_join.specs.Units.{pair_unit};
+ghost use Rattle.squall_join.specs.BeyondLaws.{pair_beyond_laws};
 
-use crate::Join;
+use crate::{Beyond, Join};
 use std::alloc::{AllocError, Global};
 
 /// Two values, which are joined each for itself.
@@ -83,5 +86,22 @@ impl<A: Join, B: Join> Join for Pair<A, B> {
         self.second.join_in(alloc, &other.second)?;
         self.first = first;
         Ok(())
+    }
+}
+
+impl<A: Beyond, B: Beyond> Beyond for Pair<A, B> {
+    ghost covered = { pair_covered A.covered B.covered };
+
+    ghost unit = { pair_unit A.unit B.unit A.bottom B.bottom };
+
+    ghost beyond = { pair_beyond A.beyond B.beyond };
+
+    ghost beyond_laws = { pair_beyond_laws A.laws B.laws A.beyond_laws B.beyond_laws };
+
+    fn beyond(&self, alloc: Global, other: &Pair<A, B>) -> Result<Pair<A, B>, AllocError> {
+        Ok(Pair {
+            first: self.first.beyond(alloc, &other.first)?,
+            second: self.second.beyond(alloc, &other.second)?,
+        })
     }
 }

@@ -1,19 +1,21 @@
 //! Where a key stands among the entries of a map.
 
-ghost use Rattle.std.specs.Prelude.{T};
-ghost use Rattle.std.specs.FinMap.Entries.{is_sorted};
-ghost use Rattle.squall_join.specs.Entries.{IsPlace};
+ghost use Rattle.std.specs.Prelude.{T, option_copied, ◌≡◌};
+ghost use Rattle.std.specs.FinMap.Entries.{is_sorted, find};
+ghost use Rattle.squall_join.specs.Entries.{IsPlace, IsAmong, IsFrom};
 
 use crate::Join;
 use crate::map::MapKey;
 
-/// How many entries have smaller keys.
-pub(crate) fn place_of<K: MapKey, V: Join>(entries: &[(K, V)], key: K) -> usize
-    requires { T (is_sorted K.cmp entries.now) }
+/// How many entries have smaller keys, where that is known to be at least `low`, and at most
+/// `low + left`.
+fn place_among<K: MapKey, V: Join>(entries: &[(K, V)], key: K, low: usize, left: usize) -> usize
+    requires sorted { T (is_sorted K.cmp entries.now) }
+    requires among { IsAmong K.cmp entries.now key low left }
     ensures { IsPlace K.cmp entries.now key result }
 {
-    let mut from = 0;
-    let mut size = entries.len();
+    let mut from = low;
+    let mut size = left;
     while size > 1 {
         let half = size / 2;
         from += entries[from + half - 1].0.step_if_less(key, half);
@@ -23,4 +25,45 @@ pub(crate) fn place_of<K: MapKey, V: Join>(entries: &[(K, V)], key: K) -> usize
         from += entries[from].0.step_if_less(key, 1);
     }
     from
+}
+
+/// How many entries have smaller keys.
+pub(crate) fn place_of<K: MapKey, V: Join>(entries: &[(K, V)], key: K) -> usize
+    requires { T (is_sorted K.cmp entries.now) }
+    ensures { IsPlace K.cmp entries.now key result }
+{
+    place_among(entries, key, 0, entries.len())
+}
+
+/// How many entries have smaller keys, where the first `from` have. It looks further and further
+/// from there on, by doubled steps, and then within the last one, so that it costs little where
+/// the place is near.
+pub(crate) fn reach<K: MapKey, V: Join>(entries: &[(K, V)], key: K, from: usize) -> usize
+    requires sorted { T (is_sorted K.cmp entries.now) }
+    requires from { IsFrom K.cmp entries.now key from }
+    ensures { IsPlace K.cmp entries.now key result }
+{
+    let mut low = from;
+    while low < entries.len() {
+        let step = (low - from).min(entries.len() - 1 - low);
+        let last = low + step;
+        if !entries[last].0.cmp(&key).is_lt() {
+            return place_among(entries, key, low, step);
+        }
+        low = last + 1;
+    }
+    low
+}
+
+/// The value at a key that has that place. None where the key is absent.
+pub(crate) fn value_at<K: MapKey, V: Join>(entries: &[(K, V)], key: K, at: usize) -> Option<&V>
+    requires sorted { T (is_sorted K.cmp entries.now) }
+    requires place { IsPlace K.cmp entries.now key at }
+    ensures { option_copied result ≡ find K.cmp key entries.now }
+{
+    if at < entries.len() && entries[at].0.cmp(&key).is_eq() {
+        Some(&entries[at].1)
+    } else {
+        None
+    }
 }

@@ -1,10 +1,13 @@
 //! Sets of keys under their union.
 
 ghost use Rattle.std.specs.Prelude.{[]};
-ghost use Rattle.squall_span.specs.Spans.{IsSet, union};
+ghost use Rattle.squall_span.specs.Spans.{IsSet, union, minus};
 ghost use Rattle.squall_join.specs.SetLaws.{set_laws};
+ghost use Rattle.squall_join.specs.Rests.{set_covered};
+ghost use Rattle.squall_join.specs.Units.{key_unit};
+ghost use Rattle.squall_join.specs.BeyondLaws.{set_beyond_laws};
 
-use crate::Join;
+use crate::{Beyond, Join};
 use squall_span::SpanSet;
 use std::alloc::{AllocError, Global};
 
@@ -52,5 +55,19 @@ impl Join for SpanSet {
         let joined = self.union(alloc, other)?;
         *self = joined;
         Ok(())
+    }
+}
+
+impl Beyond for SpanSet {
+    ghost covered = { set_covered };
+
+    ghost unit = { key_unit };
+
+    ghost beyond = { minus };
+
+    ghost beyond_laws = { set_beyond_laws };
+
+    fn beyond(&self, alloc: Global, other: &SpanSet) -> Result<SpanSet, AllocError> {
+        self.minus(alloc, other)
     }
 }

@@ -1,6 +1,7 @@
 //! Tests of joins.
 
 mod clients;
+mod rests;
 mod shared;
 mod tolerant;
 mod updates;

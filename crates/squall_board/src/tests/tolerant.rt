@@ -116,3 +116,15 @@ fn tolerant_put_issue(rt: HostRuntime) -> Result<(), Fail> {
     assert!(rt; put == matches!(board.issuing(3), Flat::Clash));
     Ok(())
 }
+
+#[test]
+fn tolerant_beyond(rt: HostRuntime) -> Result<(), Fail> {
+    let (Some(board), Some(before)) = (small_board(rt.alloc()), small_board(rt.alloc())) else {
+        return Ok(());
+    };
+    if let Ok(rest) = board.beyond(rt.alloc(), &Board::new(rt.alloc())) {
+        assert!(rt; rest == board);
+    }
+    assert!(rt; board == before);
+    Ok(())
+}

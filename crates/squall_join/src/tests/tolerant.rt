@@ -1,7 +1,7 @@
 //! Each call that allocates, any one of whose allocations may fail: then nothing has changed.
 
 use super::{map, span};
-use crate::{Join, JoinMap, Max, Pair};
+use crate::{Beyond, Join, JoinMap, Max, Pair};
 use squall_span::SpanSet;
 use std::alloc::{AllocError, Global};
 use std::process::Abort;
@@ -104,6 +104,23 @@ fn tolerant_copied(rt: HostRuntime) -> Result<(), Fail> {
     };
     if let Ok(copy) = value.copied(alloc) {
         assert!(rt; copy.same(&before));
+    }
+    assert!(rt; value.same(&before));
+    Ok(())
+}
+
+#[test]
+fn tolerant_beyond(rt: HostRuntime) -> Result<(), Fail> {
+    let alloc = rt.alloc();
+    let (Ok(value), Ok(before), Ok(other)) = (
+        one(&rt, alloc, 1, 2, 10, 5),
+        one(&rt, alloc, 1, 2, 10, 5),
+        one(&rt, alloc, 1, 2, 11, 4),
+    ) else {
+        return Ok(());
+    };
+    if let Ok(rest) = value.beyond(alloc, &other) {
+        assert!(rt; value.covers(&rest) && !rest.is_bottom());
     }
     assert!(rt; value.same(&before));
     Ok(())

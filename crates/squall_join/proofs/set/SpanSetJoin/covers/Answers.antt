@@ -1,4 +1,4 @@
-use Rattle.squall_join.proofs.Sets.{covers_by_keys}
+use Rattle.squall_join.specs.SetLaws.{covers_by_keys}
 use Rattle.squall_join.proofs.set.SpanSetJoin.covers.Goals as goal
 
 pub returns : goal.returns

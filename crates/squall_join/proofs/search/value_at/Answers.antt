@@ -1,0 +1,16 @@
+use Rattle.std.proofs.Common.{Some, is_eq, sym, ap, ◌∙◌, arith}
+use Rattle.squall_join.proofs.Places.{find_at, find_gap}
+use Rattle.squall_join.proofs.Searching.{found_at_place, gap_at_end, gap_at_place}
+use Rattle.squall_join.proofs.search.value_at.Goals as goal
+use Rattle.squall_join.proofs.search.value_at.Goals.{else-at-entries-via-then-at-entries+else-is_eq, else-at-entries-via-else-at-entries}
+
+pub returns-then-is_eq : goal.returns-then-is_eq
+returns-then-is_eq g c =
+    let at = found_at_place g.K.Ord.cmp c.args.entries.now c.args.key c.args.at c.index-entries-at.result c.if-at-entries.true c.index-entries-at.is (ap (λ (y : _ × _). is_eq (g.K.Ord.cmp y.0 c.args.key)) c.index-entries-at.is ∙ ap is_eq (sym c.cmp.ensures) ∙ sym c.if-is_eq.ensures) c.requires.place in
+    sym (find_at g.met.K.Ord.total c.args.entries.now c.args.key c.args.at c.index-entries-at-then-is_eq.result at)
+
+pub returns-else-at-entries : goal.returns-else-at-entries
+returns-else-at-entries g c = sym (find_gap g.met.K.Ord.total c.args.entries.now c.args.key c.args.at (elim c.else-at-entries.branch [
+  | else-at-entries-via-then-at-entries+else-is_eq w ↦ gap_at_place g.met.K.Ord.total c.args.entries.now c.requires.sorted c.args.key c.args.at w.index-entries-at.result w.if-at-entries.true w.index-entries-at.is (ap (λ (y : _ × _). is_eq (g.K.Ord.cmp y.0 c.args.key)) w.index-entries-at.is ∙ ap is_eq (sym w.cmp.ensures) ∙ sym w.if-is_eq.ensures) c.requires.place
+  | else-at-entries-via-else-at-entries w ↦ gap_at_end g.K.Ord.cmp c.args.entries.now c.args.key c.args.at w.if-at-entries.false c.requires.place
+]))
