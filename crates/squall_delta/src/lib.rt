@@ -14,3 +14,6 @@ pub use cut::pieces;
 pub use delta::delta_of;
 pub use digests::digest;
 pub use repairing::repair;
+
+#[cfg(test)]
+mod tests;
