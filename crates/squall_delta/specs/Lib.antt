@@ -9,3 +9,6 @@ pub mod Items
 pub mod Pieces
 pub mod Hashes
 pub mod Repairs
+pub mod Cutting
+pub mod PieceCellLaws
+pub mod PieceListLaws
