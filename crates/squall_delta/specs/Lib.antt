@@ -12,3 +12,4 @@ pub mod Repairs
 pub mod Cutting
 pub mod PieceCellLaws
 pub mod PieceListLaws
+pub mod PieceItemLaws

@@ -286,3 +286,16 @@ pub same_added : (cs : List CellEntry) (c d : CellEntry) → c.cell ≡ d.cell �
 same_added [] c d same = ap (λ b. joined_or_next b c d) (place_same c.cell d.cell same)
 same_added (e ∷ []) c d same = ap (λ l. e ∷ l) (same_added [] c d same)
 same_added (e ∷ q ∷ es) c d same = ap (λ l. e ∷ l) (same_added (q ∷ es) c d same)
+
+-- ---- what holds of each cell, whichever is joined
+
+cells_at_end : (P : CellEntry → Type 0) (c : CellEntry) (cs : List CellEntry) (d : CellEntry) → ((q : CellEntry) → P q → P d → q.cell ≡ d.cell → P (entry_joined q d)) → P d → AllByRecursion P (c ∷ cs) → AllByRecursion P (cell_at_end c cs d)
+cells_at_end P c [] d joins one all = elim (is_same_cell c.cell d.cell) as (λ b. is_same_cell c.cell d.cell ≡ b → AllByRecursion P (joined_or_next b c d)) [
+  | true ↦ λ e. (joins c all.0 one (same_place c.cell d.cell e), tt)
+  | false ↦ λ e. (all.0, (one, tt))
+] refl
+cells_at_end P c (e ∷ es) d joins one all = (all.0, cells_at_end P e es d joins one all.1)
+
+pub all_at_cells : (P : CellEntry → Type 0) (cs : List CellEntry) (d : CellEntry) → ((q : CellEntry) → P q → P d → q.cell ≡ d.cell → P (entry_joined q d)) → P d → AllByRecursion P cs → AllByRecursion P (add_cell cs d)
+all_at_cells P [] d joins one all = (one, tt)
+all_at_cells P (c ∷ cs) d joins one all = cells_at_end P c cs d joins one all
