@@ -12,7 +12,7 @@ use Rattle.squall_board.specs.Listed.{CellEntry, entry_with, ComesBefore, IsOpen
 use Rattle.squall_wire.specs.Limits.{body_limit}
 use Rattle.squall_wire.specs.Messages.{BoardLists, lists_with, lists_of}
 use Rattle.squall_wire.specs.Spelling.{spell_span, spell_issue, spell_cell}
-use Rattle.squall_delta.specs.Items.{Item, opening, issue, done, loaded, item_board}
+use Rattle.squall_delta.specs.Items.{Item, opening, issue, done, loaded, item_board, items_board}
 use Rattle.squall_delta.specs.Pieces.{body_length}
 
 -- ---- a board that is cut
@@ -57,6 +57,21 @@ empty_bytes = 8
 -- the pieces, with the one that took the last items
 abbrev pub pieces_with : CutBoard → List BoardValue
 pieces_with c = if nat_lt empty_bytes (body_length c.piece) then c.finished ++ c.piece ∷ [] else c.finished
+
+-- ---- groups of items
+
+-- how many bytes the body of the items has
+abbrev pub group_bytes : List Item → ℕ
+group_bytes g = body_length (items_board g)
+
+-- the items in groups, each as long as a frame can hold, where the first has begun
+abbrev pub cut_after : List Item → List Item → List (List Item)
+cut_after g [] = g ∷ []
+cut_after g (i ∷ is) = if nat_lt body_limit (group_bytes (g ++ i ∷ [])) then g ∷ cut_after (i ∷ []) is else cut_after (g ++ i ∷ []) is
+
+abbrev pub cut_items : List Item → List (List Item)
+cut_items [] = []
+cut_items (i ∷ is) = cut_after (i ∷ []) is
 
 -- ---- the lists of a piece, and what an item adds to them
 
@@ -169,6 +184,11 @@ cell_cost false d = length (spell_cell d)
 abbrev pub issue_cost : Bool → ℕ → ℕ
 issue_cost true bytes = bytes
 issue_cost false bytes = bytes + 4
+
+-- a span, and where it does not go on with the last cell the cell
+abbrev pub span_bytes : Bool → ℕ
+span_bytes true = 16
+span_bytes false = 33
 
 -- how many bytes an item adds to a body
 abbrev pub item_cost : BoardLists → Item → ℕ

@@ -13,3 +13,6 @@ pub mod Cutting
 pub mod PieceCellLaws
 pub mod PieceListLaws
 pub mod PieceItemLaws
+pub mod PieceRunLaws
+pub mod PieceStepLaws
+pub mod PieceLaws

@@ -120,6 +120,10 @@ cell_added b d is within follows =
 pub done_is : (c : CellPlace) → is_cell_place c ≡ true → IsCell (done_entry c)
 done_is c place = record { entry = ap (λ b. b && true) place; spans = (tt, tt) }
 
+-- a completion that comes after the cells follows each of them
+pub follow_done : (cs : List CellEntry) (c : CellPlace) → AllByRecursion (λ q. ComesBefore q (done_entry c)) cs → AllByRecursion (λ q. EntryFollows q (done_entry c)) cs
+follow_done cs c h = all_weaker (λ q. ComesBefore q (done_entry c)) (λ q. EntryFollows q (done_entry c)) cs h (λ q lt. inl lt)
+
 pub span_is : (c : CellPlace) (s : Interval) → IsItem (loaded c s) → IsCell (span_entry c s)
 span_is c s within = record { entry = ap (λ b. b && true) within.0; spans = ((within.1, tt, tt), (within.2, tt)) }
 
@@ -151,7 +155,7 @@ lists_added b (opening o) is within follows = same_lists _ _ _ _ _ _ (opening_ad
 lists_added b (issue (n, Unknown)) is within follows = absurd (within.1 refl)
 lists_added b (issue (n, One pair)) is within follows = same_lists _ _ _ _ _ _ (openings_kept b) (issue_added b (n, One pair) is within.0 within.1 follows) (cells_kept b (issue_board n (One pair)) refl)
 lists_added b (issue (n, Clash)) is within follows = same_lists _ _ _ _ _ _ (openings_kept b) (issue_added b (n, Clash) is within.0 within.1 follows) (cells_kept b (issue_board n Clash) refl)
-lists_added b (done c) is within follows = same_lists _ _ _ _ _ _ (openings_kept b) (issues_kept b) (cell_added b (done_entry c) is (done_is c within) (all_weaker (λ q. ComesBefore q (done_entry c)) (λ q. EntryFollows q (done_entry c)) (cells_of b) follows (λ q lt. inl lt)))
+lists_added b (done c) is within follows = same_lists _ _ _ _ _ _ (openings_kept b) (issues_kept b) (cell_added b (done_entry c) is (done_is c within) (follow_done (cells_of b) c follows))
 lists_added b (loaded c s) is within follows = same_lists _ _ _ _ _ _ (openings_kept b) (issues_kept b) (cell_added b (span_entry c s) is (span_is c s within) follows)
 
 -- ---- how long it is
