@@ -1,19 +1,28 @@
 -- What the pieces of a board are.
-use Rattle.std.specs.Prelude.{◌≡◌, ◌≢◌, ℕ, ◌<◌, ◌≤◌, List, [], ◌∷◌, ◌++◌, map, length, refl}
+use Rattle.std.specs.Prelude.{◌≡◌, ◌≢◌, ℕ, ◌<◌, ◌≤◌, true, List, [], ◌∷◌, ◌++◌, map, length, refl}
 use Rattle.std.proofs.Common.{sym, ap, subst, ◌∙◌, arith}
-use Rattle.std.specs.List.{AllByRecursion}
+use Rattle.std.specs.List.{flat_map, AllByRecursion}
+use Rattle.std.specs.Cmp.{first_so}
+use Rattle.squall_span.specs.Spans.{Interval, IsSet}
+use Rattle.squall_join.specs.declared.flat.Flat.{Flat}
 use Rattle.squall_join.specs.Laws.{JoinLaws}
+use Rattle.squall_report.specs.Issues.{PlanPair}
+use Rattle.squall_report.specs.Cells.{CellPlace, is_cell_place}
+use Rattle.squall_board.specs.declared.opening.Opening.{Opening}
 use Rattle.squall_board.specs.Boards.{BoardValue, IsBoard, is_nested, empty_board, board_join}
 use Rattle.squall_board.specs.BoardLaws.{board_laws, empty_is}
+use Rattle.squall_board.specs.Listed.{CellEntry, IsCell, IsOpening, openings_of, issues_of, cells_of}
+use Rattle.squall_board.specs.ListedLaws.{all_weaker, all_map, openings_listed, cells_listed}
 use Rattle.squall_wire.specs.declared.message.Message.TheVariants.{Delta}
 use Rattle.squall_wire.specs.Limits.{body_limit}
 use Rattle.squall_wire.specs.Messages.{body_of, spell_body}
-use Rattle.squall_delta.specs.Items.{Item, items_of, item_board, with_items, items_board}
+use Rattle.squall_delta.specs.Items.{Item, opening, issue, done, loaded, items_of_cell, items_of, item_board, with_items, items_board}
 use Rattle.squall_delta.specs.Pieces.{FitsFrame, AreLongestRuns, items_of_groups, ArePieces, joined_boards}
-use Rattle.squall_delta.specs.Cutting.{uncut, fed_all, pieces_with, cut_items, IsItem, AreNext}
+use Rattle.squall_delta.specs.Cutting.{CutBoard, uncut, fed_all, pieces_with, cut_items, IsItem, AreNext}
 use Rattle.squall_delta.specs.PieceListLaws.{item_board_is}
-use Rattle.squall_delta.specs.PieceItemLaws.{items_next, items_within, items_back}
+use Rattle.squall_delta.specs.PieceItemLaws.{items_next, items_within, items_back, all_of_items}
 use Rattle.squall_delta.specs.PieceRunLaws.{with_append, cut_joined, cut_runs, runs_are_cut, fed_is_cut}
+use Rattle.squall_delta.specs.PieceStepLaws.{IsFeeding, feeding_starts, feeding_next, feeding_on, opening_alone, done_alone, load_alone}
 
 -- ---- joins
 
@@ -107,3 +116,68 @@ not_too_long b fits long = neither (length (spell_body (body_of (Delta b)))) fit
   where
     neither : (n : ℕ) → n ≤ body_limit → body_limit < n → ⊥
     neither n le lt = omega (arith, le, lt)
+
+-- ---- the three lists of a board, one after the other
+
+map_map : {X Y Z : Type 0} (f : Y → Z) (g : X → Y) (xs : List X) → map f (map g xs) ≡ map (λ x. f (g x)) xs
+map_map f g [] = refl
+map_map f g (x ∷ xs) = ap (λ l. f (g x) ∷ l) (map_map f g xs)
+
+flat_of_map : {X Y Z : Type 0} (f : Y → List Z) (g : X → Y) (xs : List X) → flat_map f (map g xs) ≡ flat_map (λ x. f (g x)) xs
+flat_of_map f g [] = refl
+flat_of_map f g (x ∷ xs) = ap (λ l. f (g x) ++ l) (flat_of_map f g xs)
+
+append_none : {X : Type 0} (xs : List X) → xs ≡ xs ++ []
+append_none [] = refl
+append_none (x ∷ xs) = ap (λ l. x ∷ l) (append_none xs)
+
+abbrev issues_and_cells : BoardValue → List Item
+issues_and_cells b = map issue (issues_of b) ++ flat_map items_of_cell (cells_of b)
+
+first_left : (b : BoardValue) (os : List Opening) → os ≡ openings_of b → items_of b ≡ map opening os ++ issues_and_cells b
+first_left b os e = ap (λ l. map opening l ++ issues_and_cells b) (sym e)
+
+second_left : {X : Type 0} (f : X → ℕ × Flat PlanPair) (b : BoardValue) (xs : List X) → map f xs ≡ issues_of b → issues_and_cells b ≡ map (λ x. issue (f x)) xs ++ flat_map items_of_cell (cells_of b)
+second_left f b xs e = ap (λ l. l ++ flat_map items_of_cell (cells_of b)) (ap (map issue) (sym e) ∙ map_map issue f xs)
+
+third_left : {Y : Type 0} (g : Y → CellEntry) (b : BoardValue) (ys : List Y) → map g ys ≡ cells_of b → flat_map items_of_cell (cells_of b) ≡ flat_map (λ y. items_of_cell (g y)) ys ++ []
+third_left g b ys e = ap (flat_map items_of_cell) (sym e) ∙ flat_of_map items_of_cell g ys ∙ append_none (flat_map (λ y. items_of_cell (g y)) ys)
+
+none_fed : (b : BoardValue) (c : CutBoard) → IsBoard b → c ≡ uncut → IsFeeding uncut c (items_of b) (items_of b)
+none_fed b c is e = subst (λ d. IsFeeding uncut d (items_of b) (items_of b)) (sym e) (feeding_starts uncut (items_of b) (items_next b is))
+
+first_fed : (b : BoardValue) (c d : CutBoard) (os : List Opening) → IsBoard b → os ≡ openings_of b → c ≡ uncut → d ≡ fed_all c (map opening os) → IsFeeding uncut d (items_of b) (issues_and_cells b)
+first_fed b c d os is e start step = feeding_on uncut c d (items_of b) (items_of b) (map opening os) (issues_and_cells b) (first_left b os e) step (none_fed b c is start)
+
+second_fed : {X : Type 0} (f : X → ℕ × Flat PlanPair) (b : BoardValue) (d e : CutBoard) (xs : List X) → map f xs ≡ issues_of b → IsFeeding uncut d (items_of b) (issues_and_cells b) → e ≡ fed_all d (map (λ x. issue (f x)) xs) → IsFeeding uncut e (items_of b) (flat_map items_of_cell (cells_of b))
+second_fed f b d e xs are feeding step = feeding_on uncut d e (items_of b) (issues_and_cells b) (map (λ x. issue (f x)) xs) (flat_map items_of_cell (cells_of b)) (second_left f b xs are) step feeding
+
+-- the openings may be put first
+pub openings_next : (b : BoardValue) (c : CutBoard) (os : List Opening) → IsBoard b → os ≡ openings_of b → c ≡ uncut → AreNext c.piece (map opening os)
+openings_next b c os is e start = feeding_next uncut c (items_of b) (items_of b) (map opening os) (issues_and_cells b) (first_left b os e) (none_fed b c is start)
+
+-- then the issues
+pub issues_next : {X : Type 0} (f : X → ℕ × Flat PlanPair) (b : BoardValue) (c d : CutBoard) (os : List Opening) (xs : List X) → IsBoard b → os ≡ openings_of b → map f xs ≡ issues_of b → c ≡ uncut → d ≡ fed_all c (map opening os) → AreNext d.piece (map (λ x. issue (f x)) xs)
+issues_next f b c d os xs is e are start step = feeding_next uncut d (items_of b) (issues_and_cells b) (map (λ x. issue (f x)) xs) (flat_map items_of_cell (cells_of b)) (second_left f b xs are) (first_fed b c d os is e start step)
+
+-- then the cells
+pub cells_next : {X Y : Type 0} (f : X → ℕ × Flat PlanPair) (g : Y → CellEntry) (b : BoardValue) (c d e : CutBoard) (os : List Opening) (xs : List X) (ys : List Y) → IsBoard b → os ≡ openings_of b → map f xs ≡ issues_of b → map g ys ≡ cells_of b → c ≡ uncut → d ≡ fed_all c (map opening os) → e ≡ fed_all d (map (λ x. issue (f x)) xs) → AreNext e.piece (flat_map (λ y. items_of_cell (g y)) ys)
+cells_next f g b c d e os xs ys is x y z start one two = feeding_next uncut e (items_of b) (flat_map items_of_cell (cells_of b)) (flat_map (λ y. items_of_cell (g y)) ys) [] (third_left g b ys z) (second_fed f b d e xs y (first_fed b c d os is x start one) two)
+
+-- an issue alone has a frame, and so each item has
+alone_items : (b : BoardValue) → IsBoard b → AllByRecursion (λ e. FitsFrame (items_board (issue e ∷ []))) (issues_of b) → AllByRecursion (λ i. FitsFrame (items_board (i ∷ []))) (items_of b)
+alone_items b is issues = all_of_items (λ i. FitsFrame (items_board (i ∷ []))) b
+    (all_weaker IsOpening (λ o. FitsFrame (items_board (opening o ∷ []))) (openings_of b) (openings_listed b is).within opening_alone)
+    issues
+    (all_weaker IsCell (λ c. FitsFrame (items_board (done c.cell ∷ [])) × AllByRecursion (λ s. FitsFrame (items_board (loaded c.cell s ∷ []))) c.spans) (cells_of b) (cells_listed b is).within (λ c k. (done_alone c.cell (first_so _ _ k.entry), spans_alone c.cell c.spans (first_so _ _ k.entry) k.spans)))
+  where
+    spans_alone : (p : CellPlace) (ss : List Interval) → is_cell_place p ≡ true → IsSet ss → AllByRecursion (λ s. FitsFrame (items_board (loaded p s ∷ []))) ss
+    spans_alone p [] place is = tt
+    spans_alone p (s ∷ ss) place is = (load_alone p s (place, is.0.0, is.1.0), spans_alone p ss place (is.0.2, is.1.1))
+
+-- and all of it makes the pieces
+pub all_are_pieces : {X Y : Type 0} (f : X → ℕ × Flat PlanPair) (g : Y → CellEntry) (b : BoardValue) (c d e h : CutBoard) (os : List Opening) (xs : List X) (ys : List Y) → IsBoard b → os ≡ openings_of b → map f xs ≡ issues_of b → map g ys ≡ cells_of b → c ≡ uncut → d ≡ fed_all c (map opening os) → e ≡ fed_all d (map (λ x. issue (f x)) xs) → h ≡ fed_all e (flat_map (λ y. items_of_cell (g y)) ys)
+    → AllByRecursion (λ x. FitsFrame (items_board (issue (f x) ∷ []))) xs → ArePieces b (pieces_with h)
+all_are_pieces f g b c d e h os xs ys is x y z start one two three alone =
+    let fed : IsFeeding uncut h (items_of b) [] = feeding_on uncut e h (items_of b) (flat_map items_of_cell (cells_of b)) (flat_map (λ y. items_of_cell (g y)) ys) [] (third_left g b ys z) three (second_fed f b d e xs y (first_fed b c d os is x start one) two) in
+    subst (λ k. ArePieces b (pieces_with k)) (sym fed.fed) (fed_are_pieces b is (alone_items b is (subst (λ l. AllByRecursion (λ e. FitsFrame (items_board (issue e ∷ []))) l) y (all_map f (λ e. FitsFrame (items_board (issue e ∷ []))) xs alone))))

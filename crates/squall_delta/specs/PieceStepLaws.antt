@@ -220,3 +220,7 @@ all_are_taken P xs i le h = subst (AllByRecursion P) (take_all i xs le) h
 
 pub left_first : {X : Type 0} (f : X → Item) (xs : List X) (i : ℕ) (d : X) → i < length xs → map f (drop i xs) ≡ (f (get_or xs i d) ∷ []) ++ map f (drop (i + 1) xs)
 left_first f xs i d lt = ap (map f) (drop_more xs i d lt)
+
+-- after the first of two lists of items the second may come
+pub next_second : (f0 f1 : List BoardValue) (p0 p1 : BoardValue) (xs ys : List Item) → cut_with f1 p1 ≡ fed_all (cut_with f0 p0) xs → AreNext p0 (xs ++ ys) → AreNext p1 ys
+next_second f0 f1 p0 p1 xs ys step next = subst (λ b. AreNext b ys) (sym (ap (λ (c : CutBoard). c.piece) step)) (next_fed_all (cut_with f0 p0) xs ys next)

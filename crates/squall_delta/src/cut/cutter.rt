@@ -8,7 +8,7 @@ ghost use Rattle.squall_report.specs.declared.report.ReportKind.TheVariants.{Don
 ghost use Rattle.squall_board.specs.Listed.{cell_entry};
 ghost use Rattle.squall_wire.specs.Limits.{body_limit};
 ghost use Rattle.squall_wire.specs.Spelling.{spell_plan, spell_issued};
-ghost use Rattle.squall_delta.specs.Items.{Item, opening as an_opening, issue as an_issue, done as a_done, loaded as a_load, items_of_cell, items_board};
+ghost use Rattle.squall_delta.specs.Items.{Item, opening as an_opening, issue as an_issue, done as a_done, loaded as a_load, flag_items, items_of_cell, items_board};
 ghost use Rattle.squall_delta.specs.Pieces.{FitsFrame};
 ghost use Rattle.squall_delta.specs.Cutting.{AreNext, IsMeasured, cut_with, uncut, turned, roomy, fed, fed_all, pieces_with, issue_cost, span_bytes, is_last};
 
@@ -181,6 +181,19 @@ impl Cutter {
         Ok(())
     }
 
+    /// Puts the completion of a cell into the piece, where it is complete.
+    fn put_flag(&mut self, place: CellId, complete: bool) -> Result<(), AllocError>
+        requires measured { IsMeasured self.old.piece self.old.length self.old.has_issues self.old.last }
+        requires next { AreNext self.old.piece (flag_items place complete) }
+        ensures measured { OnOk result (IsMeasured self.new.piece self.new.length self.new.has_issues self.new.last) }
+        ensures fed { OnOk result (cut_with self.new.finished.items self.new.piece ≡ fed_all (cut_with self.old.finished.items self.old.piece) (flag_items place complete)) }
+    {
+        if complete {
+            self.put_done(place)?;
+        }
+        Ok(())
+    }
+
     /// How many bytes the piece's body grows by with a span of the cell.
     fn bytes_with_cell(&self, place: CellId) -> usize
         ensures { result ≡ span_bytes (is_last self.now.last place) }
@@ -257,9 +270,7 @@ impl Cutter {
         ensures measured { OnOk result (IsMeasured self.new.piece self.new.length self.new.has_issues self.new.last) }
         ensures fed { OnOk result (cut_with self.new.finished.items self.new.piece ≡ fed_all (cut_with self.old.finished.items self.old.piece) (items_of_cell (cell_entry place cell.now))) }
     {
-        if cell.second.get() {
-            self.put_done(place)?;
-        }
+        self.put_flag(place, cell.second.get())?;
         self.put_spans(place, cell.first.spans())
     }
 
