@@ -169,11 +169,11 @@ items_rise b is =
     let es = issues_listed b is in
     let cs = cells_listed b is in
     rise_append (map opening (openings_of b)) (map issue (issues_of b) ++ flat_map items_of_cell (cells_of b)) (rise_openings (openings_of b) os.rise)
-        (rise_append (map issue (issues_of b)) (flat_map items_of_cell (cells_of b)) (rise_issues (issues_of b) es.rise) (rise_cells (cells_of b) cs.rise cs.within)
-        (all_map issue (λ x. AllByRecursion (ItemBefore x) (flat_map items_of_cell (cells_of b))) (issues_of b) (all_true (λ e. AllByRecursion (ItemBefore (issue e)) (flat_map items_of_cell (cells_of b))) (λ e. all_cells (ItemBefore (issue e)) (λ c. tt) (λ c s. tt) (cells_of b)) (issues_of b))))
-        (all_map opening (λ x. AllByRecursion (ItemBefore x) (map issue (issues_of b) ++ flat_map items_of_cell (cells_of b))) (openings_of b) (all_true (λ o. AllByRecursion (ItemBefore (opening o)) (map issue (issues_of b) ++ flat_map items_of_cell (cells_of b)))
-        (λ o. all_append (ItemBefore (opening o)) (map issue (issues_of b)) (flat_map items_of_cell (cells_of b)) (all_map issue (ItemBefore (opening o)) (issues_of b) (all_true (λ e. ItemBefore (opening o) (issue e)) (λ e. tt) (issues_of b))) (all_cells (ItemBefore (opening o)) (λ c. tt) (λ c s. tt) (cells_of b)))
-        (openings_of b)))
+    (rise_append (map issue (issues_of b)) (flat_map items_of_cell (cells_of b)) (rise_issues (issues_of b) es.rise) (rise_cells (cells_of b) cs.rise cs.within)
+    (all_map issue (λ x. AllByRecursion (ItemBefore x) (flat_map items_of_cell (cells_of b))) (issues_of b) (all_true (λ e. AllByRecursion (ItemBefore (issue e)) (flat_map items_of_cell (cells_of b))) (λ e. all_cells (ItemBefore (issue e)) (λ c. tt) (λ c s. tt) (cells_of b)) (issues_of b))))
+    (all_map opening (λ x. AllByRecursion (ItemBefore x) (map issue (issues_of b) ++ flat_map items_of_cell (cells_of b))) (openings_of b) (all_true (λ o. AllByRecursion (ItemBefore (opening o)) (map issue (issues_of b) ++ flat_map items_of_cell (cells_of b)))
+    (λ o. all_append (ItemBefore (opening o)) (map issue (issues_of b)) (flat_map items_of_cell (cells_of b)) (all_map issue (ItemBefore (opening o)) (issues_of b) (all_true (λ e. ItemBefore (opening o) (issue e)) (λ e. tt) (issues_of b))) (all_cells (ItemBefore (opening o)) (λ c. tt) (λ c s. tt) (cells_of b)))
+    (openings_of b)))
 
 -- ---- they lie within their limits
 
@@ -193,8 +193,8 @@ pub items_within : (b : BoardValue) → IsBoard b → AllByRecursion IsItem (ite
 items_within b is =
     let es = issues_listed b is in
     all_of_items IsItem b (openings_listed b is).within
-        (both_all (λ e. 1 ≤ e.0) (λ e. e.1 ≢ Unknown) (issues_of b) es.within es.known)
-        (all_weaker IsCell (λ c. IsItem (done c.cell) × AllByRecursion (λ s. IsItem (loaded c.cell s)) c.spans) (cells_of b) (cells_listed b is).within (λ c k. (first_so _ _ k.entry, spans_within c.cell c.spans (first_so _ _ k.entry) k.spans.0 k.spans.1)))
+    (both_all (λ e. 1 ≤ e.0) (λ e. e.1 ≢ Unknown) (issues_of b) es.within es.known)
+    (all_weaker IsCell (λ c. IsItem (done c.cell) × AllByRecursion (λ s. IsItem (loaded c.cell s)) c.spans) (cells_of b) (cells_listed b is).within (λ c k. (first_so _ _ k.entry, spans_within c.cell c.spans (first_so _ _ k.entry) k.spans.0 k.spans.1)))
 
 -- so they may be put into the board that tells nothing
 pub items_next : (b : BoardValue) → IsBoard b → AreNext empty_board (items_of b)

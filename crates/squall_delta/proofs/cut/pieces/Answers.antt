@@ -1,9 +1,8 @@
-use Rattle.std.proofs.Common.{◌≡◌, List, map, sym, ap, subst, ◌∙◌}
+use Rattle.std.proofs.Common.{◌≡◌, map, sym, ap, subst, ◌∙◌}
 use Rattle.std.proofs.lemmas.Result.{IfOk-weaker}
 use Rattle.std.specs.Arc.{arc_value}
 use Rattle.std.specs.List.{AllByRecursion}
 use Rattle.squall_join.specs.Flats.{flat_map}
-use Rattle.squall_board.specs.Boards.{BoardValue}
 use Rattle.squall_board.specs.Listed.{cell_entry}
 use Rattle.squall_delta.specs.Pieces.{ArePieces, FitsFrame, joined_boards}
 use Rattle.squall_delta.specs.Cutting.{cut_with, pieces_with}

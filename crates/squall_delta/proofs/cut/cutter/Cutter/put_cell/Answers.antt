@@ -1,4 +1,4 @@
-use Rattle.std.proofs.Common.{map, ◌++◌, sym, ap, subst, ◌∙◌}
+use Rattle.std.proofs.Common.{map, sym, ap, subst, ◌∙◌}
 use Rattle.squall_delta.specs.Items.{loaded, flag_items}
 use Rattle.squall_delta.specs.Cutting.{AreNext, cut_with, fed_all}
 use Rattle.squall_delta.specs.PieceStepLaws.{next_second}

@@ -1,4 +1,4 @@
-use Rattle.std.proofs.Common.{[], ◌∷◌, ◌+◌, drop, refl}
+use Rattle.std.proofs.Common.{◌+◌, drop}
 use Rattle.std.specs.List.{flat_map}
 use Rattle.squall_board.specs.Listed.{cell_entry}
 use Rattle.squall_delta.specs.Items.{items_of_cell}

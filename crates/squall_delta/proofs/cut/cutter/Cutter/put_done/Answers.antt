@@ -1,4 +1,4 @@
-use Rattle.std.proofs.Common.{Some, refl, ap, ◌+◌, ◌∙◌, [], ◌∷◌}
+use Rattle.std.proofs.Common.{Some, ap, ◌+◌, ◌∙◌, [], ◌∷◌}
 use Rattle.squall_board.specs.Boards.{board_join, report_board}
 use Rattle.squall_delta.specs.Items.{done}
 use Rattle.squall_delta.specs.PieceStepLaws.{fed_step, measured_step, done_alone, done_costs, done_last, next_room}

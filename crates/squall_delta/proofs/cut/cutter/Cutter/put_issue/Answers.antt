@@ -1,10 +1,9 @@
-use Rattle.std.proofs.Common.{ℕ, true, refl, ◌+◌, ◌≤◌, ◌∙◌, [], ◌∷◌, length, subst}
+use Rattle.std.proofs.Common.{ℕ, true, ◌≤◌, ◌∙◌, subst}
 use Rattle.std.specs.Arc.{arc_value}
 use Rattle.squall_join.specs.Flats.{flat_map}
 use Rattle.squall_join.specs.declared.flat.Flat.{Flat}
 use Rattle.squall_report.specs.Issues.{PlanPair}
 use Rattle.squall_board.specs.Listed.{issues_of}
-use Rattle.squall_wire.specs.Spelling.{spell_issued}
 use Rattle.squall_delta.specs.Items.{issue}
 use Rattle.squall_delta.specs.PieceStepLaws.{fed_step, measured_step, issue_alone, issue_costs, some_issue}
 use Rattle.squall_delta.proofs.cut.cutter.Cutter.put_issue.Goals as goal

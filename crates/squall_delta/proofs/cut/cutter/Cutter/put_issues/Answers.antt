@@ -1,4 +1,4 @@
-use Rattle.std.proofs.Common.{map, [], ◌∷◌, ◌+◌, drop, refl}
+use Rattle.std.proofs.Common.{map, [], ◌∷◌, ◌+◌, drop}
 use Rattle.std.specs.Arc.{arc_value}
 use Rattle.squall_join.specs.Flats.{flat_map}
 use Rattle.squall_delta.specs.Items.{issue, items_board}

@@ -1,4 +1,4 @@
-use Rattle.std.proofs.Common.{map, [], ◌∷◌, ◌+◌, drop, refl, slice_index_or}
+use Rattle.std.proofs.Common.{map, [], ◌∷◌, ◌+◌, drop, slice_index_or}
 use Rattle.squall_board.specs.declared.opening.Opening.{Opening}
 use Rattle.squall_delta.specs.Items.{opening}
 use Rattle.squall_delta.specs.Cutting.{cut_with}

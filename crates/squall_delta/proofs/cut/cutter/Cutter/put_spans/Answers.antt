@@ -1,4 +1,4 @@
-use Rattle.std.proofs.Common.{map, [], ◌∷◌, ◌+◌, drop, refl}
+use Rattle.std.proofs.Common.{map, [], ◌∷◌, ◌+◌, drop}
 use Rattle.squall_delta.specs.Items.{loaded}
 use Rattle.squall_delta.specs.Cutting.{cut_with}
 use Rattle.squall_delta.specs.PieceStepLaws.{feeding_starts, feeding_ends, feeding_next, feeding_on, left_map, none_left_map}
