@@ -30,10 +30,11 @@ fn small_board(alloc: Global) -> Option<Board> {
 }
 
 /// A board of one cell with so many spans of one key each.
-fn board_of_spans(alloc: Global, count: u64) -> Result<Board, Fail> {
+fn board_of_spans(alloc: Global, count: u32) -> Result<Board, Fail> {
     let mut board = Board::new(alloc);
     for index in 0..count {
-        board.take(&load(2 * index, 2 * index + 1).ok_or("load")?)?;
+        let rank = 2 * u64::from(index);
+        board.take(&load(rank, rank + 1).ok_or("load")?)?;
     }
     Ok(board)
 }
