@@ -17,9 +17,13 @@ pub data Item : Type 0 where
   done : CellPlace → Item
   loaded : CellPlace → Interval → Item
 
+-- that a cell is done, where it is
+abbrev pub flag_items : CellPlace → Bool → List Item
+flag_items c complete = if complete then done c ∷ [] else []
+
 -- that it is done where it is, then each of its spans
 abbrev pub items_of_cell : CellEntry → List Item
-items_of_cell c = (if c.complete then done c.cell ∷ [] else []) ++ map (loaded c.cell) c.spans
+items_of_cell c = flag_items c.cell c.complete ++ map (loaded c.cell) c.spans
 
 -- the items of a board, in the order of its delta: each opening, each issue, and those of each cell
 abbrev pub items_of : BoardValue → List Item

@@ -10,3 +10,10 @@ pub mod Items
 pub mod Pieces
 pub mod Hashes
 pub mod Repairs
+pub mod Cutting
+pub mod PieceCellLaws
+pub mod PieceListLaws
+pub mod PieceItemLaws
+pub mod PieceRunLaws
+pub mod PieceStepLaws
+pub mod PieceLaws

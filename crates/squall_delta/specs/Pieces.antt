@@ -1,6 +1,5 @@
 -- The pieces of a board, each of which fits a frame (this project's form).
 use Rattle.std.specs.Prelude.{◌≡◌, ◌≢◌, ℕ, ◌<◌, ◌≤◌, List, [], ◌∷◌, ◌++◌, length, map}
-use Rattle.std.specs.List.{concat}
 use Rattle.squall_board.specs.Boards.{BoardValue, empty_board, board_join}
 use Rattle.squall_wire.specs.Limits.{body_limit}
 use Rattle.squall_wire.specs.Messages.{lists_of, spell_lists}
@@ -25,11 +24,16 @@ abbrev pub AreLongestRuns : List (List Item) → Type 0
 AreLongestRuns [] = Unit {0}
 AreLongestRuns (g ∷ gs) = (g ≢ []) × FitsFrame (items_board g) × IsFull g gs × AreLongestRuns gs
 
+-- the items of groups, one group after the other
+abbrev pub items_of_groups : List (List Item) → List Item
+items_of_groups [] = []
+items_of_groups (g ∷ gs) = g ++ items_of_groups gs
+
 -- the groups of items of which the boards are made: together all items of the board, in order, each as many as a
 -- frame can hold
 pub record ArePieces (b : BoardValue) (ps : List BoardValue) : Type 0 where
   pub groups : List (List Item)
-  pub items : concat groups ≡ items_of b
+  pub items : items_of_groups groups ≡ items_of b
   pub runs : AreLongestRuns groups
   pub boards : ps ≡ map items_board groups
 

@@ -1,9 +1,12 @@
 //! Boards in pieces that fit a frame.
 
+mod cutter;
+
 ghost use Rattle.std.specs.Prelude.{◌≡◌, IfOk};
 ghost use Rattle.std.specs.List.{AllByRecursion};
 ghost use Rattle.squall_delta.specs.Pieces.{ArePieces, FitsFrame, joined_boards};
 
+use self::cutter::Cutter;
 use squall_board::{Board, Delta};
 use std::alloc::{AllocError, Global};
 
@@ -16,6 +19,10 @@ pub fn pieces(alloc: Global, board: &Board) -> Result<Vec<Delta>, AllocError>
     ensures joined { IfOk result (λ ps. joined_boards ps.items ≡ board.now) }
     ensures fit { IfOk result (λ ps. AllByRecursion FitsFrame ps.items) }
 {
-    let _unused = (alloc, board);
-    Err(AllocError)
+    board.known();
+    let mut cutter = Cutter::new(alloc);
+    cutter.put_openings(&board.openings()?)?;
+    cutter.put_issues(&board.issues()?)?;
+    cutter.put_cells(&board.lent_cells()?)?;
+    cutter.finish()
 }

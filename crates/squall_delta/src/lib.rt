@@ -8,9 +8,17 @@
 mod cut;
 mod delta;
 mod digests;
+mod piece_laws;
 mod repairing;
 
 pub use cut::pieces;
 pub use delta::{beyond, delta_of};
 pub use digests::digest;
+pub use piece_laws::{
+    no_items_no_pieces, one_list_of_pieces, pieces_fit_frames, pieces_have_frames,
+    pieces_join_to_the_board,
+};
 pub use repairing::repair;
+
+#[cfg(test)]
+mod tests;

@@ -1,0 +1,300 @@
+//! What puts items into pieces, one after the other.
+
+ghost use Rattle.std.specs.Prelude.{◌≡◌, ◌≤◌, ◌+◌, ◌++◌, ◌∷◌, [], map, length, IfOk, OnOk, Some};
+ghost use Rattle.std.specs.Arc.{arc_value};
+ghost use Rattle.std.specs.List.{flat_map, AllByRecursion};
+ghost use Rattle.squall_join.specs.Flats.{flat_map as flat_with};
+ghost use Rattle.squall_report.specs.declared.report.ReportKind.TheVariants.{Done, Loaded};
+ghost use Rattle.squall_board.specs.Listed.{cell_entry};
+ghost use Rattle.squall_wire.specs.Limits.{body_limit};
+ghost use Rattle.squall_wire.specs.Spelling.{spell_plan, spell_issued};
+ghost use Rattle.squall_delta.specs.Items.{Item, opening as an_opening, issue as an_issue, done as a_done, loaded as a_load, flag_items, items_of_cell, items_board};
+ghost use Rattle.squall_delta.specs.Pieces.{FitsFrame};
+ghost use Rattle.squall_delta.specs.Cutting.{AreNext, IsMeasured, cut_with, uncut, turned, roomy, fed, fed_all, pieces_with, issue_cost, span_bytes, is_last};
+
+use squall_board::{Board, CellParts, Opening};
+use squall_join::Flat;
+use squall_plan::Plan;
+use squall_report::{CellId, Issue, Report};
+use squall_span::Span;
+use std::alloc::{AllocError, Global};
+use std::mem;
+use std::sync::Arc;
+
+/// No body of a frame has more bytes.
+const BODY_LIMIT: usize = 1_048_576;
+
+/// The bytes of a body without items: the counts of its openings and of its cells.
+const EMPTY_BYTES: usize = 8;
+
+/// The bytes of an opening.
+const OPENING_BYTES: usize = 8;
+
+/// The bytes of a cell without spans.
+const CELL_BYTES: usize = 17;
+
+/// The bytes of a span.
+const SPAN_BYTES: usize = 16;
+
+/// How many bytes the plan has in a frame: its count, and 12 for each range.
+fn plan_bytes(plan: &Plan) -> usize
+    ensures bytes { result ≡ length (spell_plan plan.now) }
+    ensures few { result ≤ 49156 }
+{
+    4 + 12 * plan.ranges().len()
+}
+
+/// How many bytes an issue has in a frame: its number, a mark, and both plans of a pair.
+fn issue_bytes(issue: &Flat<Arc<Issue>>) -> usize
+    ensures bytes { result ≡ 4 + length (spell_issued (flat_with arc_value issue.now)) }
+    ensures few { result ≤ 98317 }
+{
+    match issue {
+        Flat::Unknown => 4,
+        Flat::One(issue) => 5 + (plan_bytes(issue.old()) + plan_bytes(issue.new_plan())),
+        Flat::Clash => 5,
+    }
+}
+
+/// The report that the cell is complete.
+fn completion(place: CellId) -> Report
+    ensures { result ≡ Done place.number place.sub place.part }
+{
+    Report::done(place.number(), place.sub(), place.part()).unwrap()
+}
+
+/// The report that the keys of the span are loaded in the cell.
+fn load(place: CellId, span: Span) -> Report
+    ensures { result ≡ Loaded place.number place.sub place.part span }
+{
+    Report::loaded(place.number(), place.sub(), place.part(), span).unwrap()
+}
+
+/// A board that is cut: the pieces that are finished, the piece that takes the next items, and
+/// what is known of its body.
+#[derive(Drop)]
+pub(crate) struct Cutter {
+    finished: Vec<Board>,
+    piece: Board,
+    /// How many bytes the body of the piece has.
+    length: usize,
+    /// Whether the piece has an issue.
+    has_issues: bool,
+    /// The place of the last cell of the piece.
+    last: Option<CellId>,
+    alloc: Global,
+}
+
+impl Cutter {
+    /// No piece is finished, and nothing is in the one that takes the next items.
+    pub(crate) fn new(alloc: Global) -> Cutter
+        ensures measured { IsMeasured result.piece result.length result.has_issues result.last }
+        ensures uncut { cut_with result.finished.items result.piece ≡ uncut }
+    {
+        Cutter {
+            finished: Vec::new(alloc),
+            piece: Board::new(alloc),
+            length: EMPTY_BYTES,
+            has_issues: false,
+            last: None,
+            alloc,
+        }
+    }
+
+    /// Finishes the piece, and begins the next.
+    fn turn(&mut self) -> Result<(), AllocError>
+        ensures measured { OnOk result (IsMeasured self.new.piece self.new.length self.new.has_issues self.new.last) }
+        ensures fed { OnOk result (cut_with self.new.finished.items self.new.piece ≡ turned (cut_with self.old.finished.items self.old.piece)) }
+    {
+        self.finished.reserve(1)?;
+        let piece = mem::replace(&mut self.piece, Board::new(self.alloc));
+        self.finished.push_reserved(piece);
+        self.length = EMPTY_BYTES;
+        self.has_issues = false;
+        self.last = None;
+        Ok(())
+    }
+
+    /// Finishes the piece where its body would be too long by so many bytes more.
+    fn make_room(&mut self, bytes: usize) -> Result<(), AllocError>
+        requires measured { IsMeasured self.old.piece self.old.length self.old.has_issues self.old.last }
+        requires few { bytes ≤ 100000 }
+        ensures measured { OnOk result (IsMeasured self.new.piece self.new.length self.new.has_issues self.new.last) }
+        ensures fed { OnOk result (cut_with self.new.finished.items self.new.piece ≡ roomy (cut_with self.old.finished.items self.old.piece) (self.old.length + bytes)) }
+    {
+        if self.length + bytes > BODY_LIMIT {
+            self.turn()?;
+        }
+        Ok(())
+    }
+
+    /// Puts an opening into the piece.
+    fn put_opening(&mut self, opening: &Opening) -> Result<(), AllocError>
+        requires measured { IsMeasured self.old.piece self.old.length self.old.has_issues self.old.last }
+        requires next { AreNext self.old.piece (an_opening opening.now ∷ []) }
+        ensures measured { OnOk result (IsMeasured self.new.piece self.new.length self.new.has_issues self.new.last) }
+        ensures fed { OnOk result (cut_with self.new.finished.items self.new.piece ≡ fed (cut_with self.old.finished.items self.old.piece) (an_opening opening.now)) }
+    {
+        self.make_room(OPENING_BYTES)?;
+        self.piece.put_opening(opening)?;
+        self.length += OPENING_BYTES;
+        Ok(())
+    }
+
+    /// How many bytes the piece's body grows by with an issue of so many bytes: the first issue
+    /// brings the count of the issues.
+    fn bytes_with_count(&self, bytes: usize) -> usize
+        requires { bytes ≤ 98317 }
+        ensures { result ≡ issue_cost self.now.has_issues bytes }
+    {
+        if self.has_issues { bytes } else { bytes + 4 }
+    }
+
+    /// Puts what is issued under a number into the piece.
+    fn put_issue(&mut self, number: u32, issue: &Flat<Arc<Issue>>) -> Result<(), AllocError>
+        requires measured { IsMeasured self.old.piece self.old.length self.old.has_issues self.old.last }
+        requires next { AreNext self.old.piece (an_issue (number, flat_with arc_value issue.now) ∷ []) }
+        ensures measured { OnOk result (IsMeasured self.new.piece self.new.length self.new.has_issues self.new.last) }
+        ensures fed { OnOk result (cut_with self.new.finished.items self.new.piece ≡ fed (cut_with self.old.finished.items self.old.piece) (an_issue (number, flat_with arc_value issue.now))) }
+        ensures alone { OnOk result (FitsFrame (items_board (an_issue (number, flat_with arc_value issue.now) ∷ []))) }
+    {
+        let bytes = issue_bytes(issue);
+        self.make_room(self.bytes_with_count(bytes))?;
+        self.piece.put_issue(number, issue)?;
+        self.length += self.bytes_with_count(bytes);
+        self.has_issues = true;
+        Ok(())
+    }
+
+    /// Puts the completion of a cell into the piece.
+    fn put_done(&mut self, place: CellId) -> Result<(), AllocError>
+        requires measured { IsMeasured self.old.piece self.old.length self.old.has_issues self.old.last }
+        requires next { AreNext self.old.piece (a_done place ∷ []) }
+        ensures measured { OnOk result (IsMeasured self.new.piece self.new.length self.new.has_issues self.new.last) }
+        ensures fed { OnOk result (cut_with self.new.finished.items self.new.piece ≡ fed (cut_with self.old.finished.items self.old.piece) (a_done place)) }
+    {
+        self.make_room(CELL_BYTES)?;
+        let report = completion(place);
+        self.piece.take(&report)?;
+        self.length += CELL_BYTES;
+        self.last = Some(place);
+        Ok(())
+    }
+
+    /// Puts the completion of a cell into the piece, where it is complete.
+    fn put_flag(&mut self, place: CellId, complete: bool) -> Result<(), AllocError>
+        requires measured { IsMeasured self.old.piece self.old.length self.old.has_issues self.old.last }
+        requires next { AreNext self.old.piece (flag_items place complete) }
+        ensures measured { OnOk result (IsMeasured self.new.piece self.new.length self.new.has_issues self.new.last) }
+        ensures fed { OnOk result (cut_with self.new.finished.items self.new.piece ≡ fed_all (cut_with self.old.finished.items self.old.piece) (flag_items place complete)) }
+    {
+        if complete {
+            self.put_done(place)?;
+        }
+        Ok(())
+    }
+
+    /// How many bytes the piece's body grows by with a span of the cell.
+    fn bytes_with_cell(&self, place: CellId) -> usize
+        ensures { result ≡ span_bytes (is_last self.now.last place) }
+    {
+        if self.last == Some(place) {
+            SPAN_BYTES
+        } else {
+            CELL_BYTES + SPAN_BYTES
+        }
+    }
+
+    /// Puts a span of a cell into the piece.
+    fn put_span(&mut self, place: CellId, span: Span) -> Result<(), AllocError>
+        requires measured { IsMeasured self.old.piece self.old.length self.old.has_issues self.old.last }
+        requires next { AreNext self.old.piece (a_load place span ∷ []) }
+        ensures measured { OnOk result (IsMeasured self.new.piece self.new.length self.new.has_issues self.new.last) }
+        ensures fed { OnOk result (cut_with self.new.finished.items self.new.piece ≡ fed (cut_with self.old.finished.items self.old.piece) (a_load place span)) }
+    {
+        self.make_room(self.bytes_with_cell(place))?;
+        let report = load(place, span);
+        self.piece.take(&report)?;
+        self.length += self.bytes_with_cell(place);
+        self.last = Some(place);
+        Ok(())
+    }
+
+    /// Puts openings into pieces.
+    pub(crate) fn put_openings(&mut self, openings: &[Opening]) -> Result<(), AllocError>
+        requires measured { IsMeasured self.old.piece self.old.length self.old.has_issues self.old.last }
+        requires next { AreNext self.old.piece (map an_opening openings.now) }
+        ensures measured { OnOk result (IsMeasured self.new.piece self.new.length self.new.has_issues self.new.last) }
+        ensures fed { OnOk result (cut_with self.new.finished.items self.new.piece ≡ fed_all (cut_with self.old.finished.items self.old.piece) (map an_opening openings.now)) }
+    {
+        for opening in openings {
+            self.put_opening(opening)?;
+        }
+        Ok(())
+    }
+
+    /// Puts issues into pieces.
+    pub(crate) fn put_issues(
+        &mut self,
+        issues: &[(u32, Flat<Arc<Issue>>)],
+    ) -> Result<(), AllocError>
+        requires measured { IsMeasured self.old.piece self.old.length self.old.has_issues self.old.last }
+        requires next { AreNext self.old.piece (map (λ e. an_issue (e.0, flat_with arc_value e.1)) issues.now) }
+        ensures measured { OnOk result (IsMeasured self.new.piece self.new.length self.new.has_issues self.new.last) }
+        ensures fed { OnOk result (cut_with self.new.finished.items self.new.piece ≡ fed_all (cut_with self.old.finished.items self.old.piece) (map (λ e. an_issue (e.0, flat_with arc_value e.1)) issues.now)) }
+        ensures alone { OnOk result (AllByRecursion (λ e. FitsFrame (items_board (an_issue (e.0, flat_with arc_value e.1) ∷ []))) issues.now) }
+    {
+        for entry in issues {
+            self.put_issue(entry.0, &entry.1)?;
+        }
+        Ok(())
+    }
+
+    /// Puts spans of a cell into pieces.
+    fn put_spans(&mut self, place: CellId, spans: &[Span]) -> Result<(), AllocError>
+        requires measured { IsMeasured self.old.piece self.old.length self.old.has_issues self.old.last }
+        requires next { AreNext self.old.piece (map (a_load place) spans.now) }
+        ensures measured { OnOk result (IsMeasured self.new.piece self.new.length self.new.has_issues self.new.last) }
+        ensures fed { OnOk result (cut_with self.new.finished.items self.new.piece ≡ fed_all (cut_with self.old.finished.items self.old.piece) (map (a_load place) spans.now)) }
+    {
+        for span in spans {
+            self.put_span(place, *span)?;
+        }
+        Ok(())
+    }
+
+    /// Puts a cell into pieces: its completion, and each of its spans.
+    fn put_cell(&mut self, place: CellId, cell: &CellParts) -> Result<(), AllocError>
+        requires measured { IsMeasured self.old.piece self.old.length self.old.has_issues self.old.last }
+        requires next { AreNext self.old.piece (items_of_cell (cell_entry place cell.now)) }
+        ensures measured { OnOk result (IsMeasured self.new.piece self.new.length self.new.has_issues self.new.last) }
+        ensures fed { OnOk result (cut_with self.new.finished.items self.new.piece ≡ fed_all (cut_with self.old.finished.items self.old.piece) (items_of_cell (cell_entry place cell.now))) }
+    {
+        self.put_flag(place, cell.second.get())?;
+        self.put_spans(place, cell.first.spans())
+    }
+
+    /// Puts cells into pieces.
+    pub(crate) fn put_cells(&mut self, cells: &[(CellId, &CellParts)]) -> Result<(), AllocError>
+        requires measured { IsMeasured self.old.piece self.old.length self.old.has_issues self.old.last }
+        requires next { AreNext self.old.piece (flat_map (λ c. items_of_cell (cell_entry c.0 c.1.now)) cells.now) }
+        ensures measured { OnOk result (IsMeasured self.new.piece self.new.length self.new.has_issues self.new.last) }
+        ensures fed { OnOk result (cut_with self.new.finished.items self.new.piece ≡ fed_all (cut_with self.old.finished.items self.old.piece) (flat_map (λ c. items_of_cell (cell_entry c.0 c.1.now)) cells.now)) }
+    {
+        for cell in cells {
+            self.put_cell(cell.0, cell.1)?;
+        }
+        Ok(())
+    }
+
+    /// The pieces, with the one that took the last items.
+    pub(crate) fn finish(mut self) -> Result<Vec<Board>, AllocError>
+        requires { IsMeasured self.piece self.length self.has_issues self.last }
+        ensures { IfOk result (λ ps. ps.items ≡ pieces_with (cut_with self.finished.items self.piece)) }
+    {
+        if self.length > EMPTY_BYTES {
+            self.turn()?;
+        }
+        Ok(self.finished)
+    }
+}
