@@ -17,6 +17,7 @@ pub mod Listed
 pub mod ListedLaws
 pub mod OneListLaws
 pub mod PlaceLaws
+pub mod RowLaws
 pub mod Route
 pub mod Equal
 pub mod EqualLaws
