@@ -9,3 +9,4 @@ pub mod Items
 pub mod Pieces
 pub mod Hashes
 pub mod Repairs
+pub mod Kept

@@ -8,7 +8,9 @@
 mod cut;
 mod delta;
 mod digests;
+mod hashing;
 mod repairing;
+mod shown;
 
 pub use cut::pieces;
 pub use delta::delta_of;
