@@ -1,13 +1,26 @@
 -- The bytes of rows, one cell after another.
-use Rattle.std.specs.Prelude.{◌≡◌, ℕ, ◌<◌, ◌+◌, length, map, List, [], ◌∷◌, ◌++◌}
-use Rattle.std.proofs.Common.{sym, ap, ◌∙◌, take, get_or}
+use Rattle.std.specs.Prelude.{◌≡◌, ℕ, zero, suc, ◌<◌, ◌+◌, length, map, List, [], ◌∷◌, ◌++◌}
+use Rattle.std.proofs.Common.{sym, ap, subst, ◌∙◌, arith, take, get_or}
 use Rattle.std.proofs.lemmas.List.{append-nil, take_more, map-append}
 use Rattle.std.proofs.lemmas.List.Concat.{flat_map-append}
-use Rattle.std.specs.List.{flat_map}
+use Rattle.std.specs.List.{flat_map, AllByRecursion}
 use Rattle.squall_report.specs.Cells.{place_at}
-use Rattle.squall_board.specs.Boards.{CellValue, Parts}
-use Rattle.squall_board.specs.Listed.{cell_entry, cells_of_parts}
+use Rattle.squall_board.specs.Boards.{CellValue, Parts, Subs, Cells}
+use Rattle.squall_board.specs.Listed.{cell_entry, cells_of_parts, AreCellsOfSubs, AreCellsOfNumbers}
 use Rattle.squall_wire.specs.Spelling.{spell_cell}
+
+all_get : {X : Type 0} (P : X → Type 0) (xs : List X) (i : ℕ) (d : X) → i < length xs → AllByRecursion P xs → P (get_or xs i d)
+all_get P [] i d lt h = absurd (omega (arith, lt))
+all_get P (x ∷ xs) zero d lt h = h.0
+all_get P (x ∷ xs) (suc i) d lt h = all_get P xs i d (omega (arith, lt)) h.1
+
+-- what holds of each entry of a list holds of the next
+pub all_at : {X : Type 0} (P : X → Type 0) (xs : List X) (i : ℕ) (x : X) → i < length xs → x ≡ get_or xs i x → AllByRecursion P xs → P x
+all_at P xs i x lt is h = subst P (sym is) (all_get P xs i x lt h)
+
+-- the rows of a number, as its map gives them
+pub subs_at : (numbers : Cells) (i : ℕ) (e : ℕ × Subs) (subs : Subs) → i < length numbers → e ≡ get_or numbers i e → subs ≡ e.1 → AreCellsOfNumbers numbers → AreCellsOfSubs e.0 subs
+subs_at numbers i e subs lt is same h = subst (λ v. AreCellsOfSubs e.0 v) (sym same) (all_at (λ d. AreCellsOfSubs d.0 d.1) numbers i e lt is h)
 
 -- one cell more
 pub row_more : (n s : ℕ) (parts : Parts) (i : ℕ) (e : ℕ × CellValue) → i < length parts → e ≡ get_or parts i e

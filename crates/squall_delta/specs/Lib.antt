@@ -10,3 +10,5 @@ pub mod Pieces
 pub mod Hashes
 pub mod Repairs
 pub mod Kept
+pub mod HashLaws
+pub mod KeptLaws

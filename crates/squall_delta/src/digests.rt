@@ -20,12 +20,17 @@ use std::sync::Arc;
 /// Four bytes count no more.
 const MOST_ROWS: usize = 4_294_967_295;
 
+/// Changes nothing: after it a proof knows that four bytes hold the number.
+fn word_known(number: u32)
+    ensures { number < word_limit }
+{}
+
 /// Changes nothing: after it a proof knows that four bytes hold the number of each opening.
 fn words_known(openings: &[Opening])
     ensures { AllByRecursion IsWordOpening openings.now }
 {
     for opening in openings {
-        let _number = opening.number;
+        word_known(opening.number);
     }
 }
 
