@@ -19,7 +19,7 @@ map_twice : {X Y Z : Type 0} (f : Y → Z) (g : X → Y) (xs : List X) → map (
 map_twice f g [] = refl
 map_twice f g (x ∷ xs) = ap (λ v. f (g x) ∷ v) (map_twice f g xs)
 
-all_unmap : {X Y : Type 0} (f : X → Y) (P : Y → Type 0) (xs : List X) → AllByRecursion P (map f xs) → AllByRecursion (λ x. P (f x)) xs
+pub all_unmap : {X Y : Type 0} (f : X → Y) (P : Y → Type 0) (xs : List X) → AllByRecursion P (map f xs) → AllByRecursion (λ x. P (f x)) xs
 all_unmap f P [] h = tt
 all_unmap f P (x ∷ xs) h = (h.0, all_unmap f P xs h.1)
 

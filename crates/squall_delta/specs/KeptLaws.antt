@@ -264,7 +264,7 @@ turned false a b = refl
 
 module _ (b : BoardValue) (d : DigestValue) (is : IsBoard b) where
   openings_nested : AllByRecursion (λ o. is_nested (opening_board o.number o.count)) (openings_of b)
-  openings_nested = all_weaker IsOpening (λ o. is_nested (opening_board o.number o.count)) (openings_of b) (openings_within b is) (λ o w. (opening_board_is o.number o.count w.0 w.1.0 w.1.1).nested)
+  openings_nested = all_weaker IsOpening (λ o. is_nested (opening_board o.number o.count)) (openings_of b) (openings_within b is) (λ o w. (opening_board_is o.number o.count w.0 w.1 w.2).nested)
 
   issues_nested : AllByRecursion (λ e. is_nested (issue_board e.0 e.1)) (issues_of b)
   issues_nested = all_weaker (λ e. 1 ≤ e.0) (λ e. is_nested (issue_board e.0 e.1)) (issues_of b) (issues_within b is) (λ e w. (issue_board_is e.0 e.1 w).nested)

@@ -1,10 +1,10 @@
 //! What a digest does not show.
 
-ghost use Rattle.std.specs.Prelude.{◌≡◌, ◌≢◌, ◌≤◌, [], map, IfOk, OnOk};
+ghost use Rattle.std.specs.Prelude.{◌≡◌, ◌≢◌, ◌≤◌, [], ◌∷◌, map, IfOk, OnOk};
 ghost use Rattle.std.specs.Arc.{arc_value};
 ghost use Rattle.std.specs.List.{AllByRecursion};
 ghost use Rattle.squall_join.specs.Flats.{flat_map};
-ghost use Rattle.squall_board.specs.Listed.{IsOpening, AreCellsOfSubs, AreCellsOfNumbers, AreSomeRows};
+ghost use Rattle.squall_board.specs.Listed.{IsOpening, AreCellsOfParts, AreCellsOfSubs, AreCellsOfNumbers, AreSomeRows};
 ghost use Rattle.squall_delta.specs.Kept.{with_openings, with_issues, with_rows, with_cells};
 ghost use Rattle.squall_delta.specs.Repairs.{IsRepair};
 
@@ -51,6 +51,25 @@ fn put_issues(
     Ok(())
 }
 
+/// Puts in the row, unless the digest shows it.
+fn put_row(
+    delta: &mut Delta,
+    buffer: &mut Vec<u8>,
+    digest: &Digest,
+    number: u32,
+    sub: u32,
+    row: &JoinMap<u32, CellParts>,
+) -> Result<(), AllocError>
+    requires cells { AreCellsOfParts number sub row.now }
+    requires some { row.now ≢ [] }
+    ensures { OnOk result (delta.new ≡ with_rows digest.now number delta.old ((sub, row.now) ∷ [])) }
+{
+    if shows_row(buffer, digest, number, sub, row)? {
+        return Ok(());
+    }
+    delta.put_row(number, sub, row)
+}
+
 /// Puts in each row of the number that the digest does not show.
 fn put_rows(
     delta: &mut Delta,
@@ -64,9 +83,7 @@ fn put_rows(
     ensures { OnOk result (delta.new ≡ with_rows digest.now number delta.old subs.now) }
 {
     for entry in subs {
-        if !shows_row(buffer, digest, number, entry.0, &entry.1)? {
-            delta.put_row(number, entry.0, &entry.1)?;
-        }
+        put_row(delta, buffer, digest, number, entry.0, &entry.1)?;
     }
     Ok(())
 }
