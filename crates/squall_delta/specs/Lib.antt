@@ -12,3 +12,4 @@ pub mod Repairs
 pub mod Kept
 pub mod HashLaws
 pub mod KeptLaws
+pub mod RepairLaws

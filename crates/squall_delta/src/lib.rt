@@ -9,10 +9,14 @@ mod cut;
 mod delta;
 mod digests;
 mod hashing;
+mod repair_laws;
 mod repairing;
 mod shown;
 
 pub use cut::pieces;
 pub use delta::delta_of;
 pub use digests::digest;
+pub use repair_laws::{
+    digests_list_the_board, one_repair, repair_of_own_digest_is_empty, repairs_complete,
+};
 pub use repairing::repair;
