@@ -146,11 +146,11 @@ module _ {A : Type 0} (is_value : A → Type 0) (bottom : A) (join : A → A →
   seen_found {V} keep at q other (e ∷ es) r v =
       elim (e.0 == q) as (λ b. (e.0 == q) ≡ b → join (if keep e then at e else bottom) (seen keep at bottom join es) ≡ at_found keep at bottom q (cond b (Some e.1) (find nat_cmp q es))) [
         | true ↦ λ t. ap (join (if keep e then at e else bottom)) (seen_none keep at es (all_weaker (λ d. e.0 < d.0) (λ d. at d ≡ bottom) es r.0 (λ d lt. other d (later e.0 q d.0 t lt))))
-          ∙ l.neutral _ (either is_value (keep e) (at e) bottom v.0 l.bottom_is)
-          ∙ ap (λ k. if keep (k, e.1) then at (k, e.1) else bottom) (key_of e.0 q t)
+            ∙ l.neutral _ (either is_value (keep e) (at e) bottom v.0 l.bottom_is)
+            ∙ ap (λ k. if keep (k, e.1) then at (k, e.1) else bottom) (key_of e.0 q t)
         | false ↦ λ t. ap (λ x. join x (seen keep at bottom join es)) (either (λ x. x ≡ bottom) (keep e) (at e) bottom (other e t) refl)
-          ∙ left_neutral _ (seen_value keep at es v.1)
-          ∙ seen_found keep at q other es r.1 v.1
+            ∙ left_neutral _ (seen_value keep at es v.1)
+            ∙ seen_found keep at q other es r.1 v.1
       ] refl
       ∙ sym (ap (λ b. at_found keep at bottom q (cond b (Some e.1) (find nat_cmp q es))) (cmp_eq q e.0))
     where
@@ -179,10 +179,10 @@ module _ {A : Type 0} (is_value : A → Type 0) (bottom : A) (join : A → A →
       let value : is_value rest = seen_value is_value bottom join l.laws keep (λ x. look (make x)) xs (values make xs a.1) in
       elim (keep x) as (λ k. look (with_kept keep make (if k then board_join b (make x) else b) xs) ≡ join (look b) (join (if k then look (make x) else bottom) rest)) [
         | true ↦ look_kept keep make (board_join b (make x)) xs (board_laws.closed b (make x) n a.0) a.1
-          ∙ ap (λ v. join v rest) (l.joined b (make x) n a.0)
-          ∙ l.laws.assoc (look b) (look (make x)) rest (l.value b n) (l.value (make x) a.0) value
+            ∙ ap (λ v. join v rest) (l.joined b (make x) n a.0)
+            ∙ l.laws.assoc (look b) (look (make x)) rest (l.value b n) (l.value (make x) a.0) value
         | false ↦ look_kept keep make b xs n a.1
-          ∙ ap (join (look b)) (sym (left_neutral is_value bottom join l.laws rest value))
+            ∙ ap (join (look b)) (sym (left_neutral is_value bottom join l.laws rest value))
       ]
 
   -- a board looks as before where the items look as nothing
@@ -302,7 +302,7 @@ module _ (b : BoardValue) (d : DigestValue) (is : IsBoard b) where
       ∙ left_neutral is_max 0 max max_laws _ (seen_value is_max 0 max max_laws (is_newer d.openings) (λ o. opened_count (opening_board o.number o.count) n) (openings_of b) (values is_max 0 max (λ b. opened_count b n) (opened_look n) (λ o. opening_board o.number o.count) (openings_of b) openings_nested))
       ∙ seen_map (λ e. record { number = e.0; count = e.1 }) (is_newer d.openings) (λ o. opened_count (opening_board o.number o.count) n) 0 max (openings_in b)
       ∙ seen_found is_max 0 max max_laws (λ e. nat_lt (count_in d.openings e.0) e.1) (count_at n) n (λ e t. found_one 0 e.0 e.1 n ∙ ap (λ k. if k then e.1 else 0) t) (openings_in b) (keys_rise (openings_in b) is.nested.0.0.sorted)
-        (all_weaker (λ e. IsKept is_max 0 e.1) (λ e. is_max (count_at n e)) (openings_in b) is.nested.0.0.kept (λ e k. subst is_max (sym (found_one 0 e.0 e.1 n)) (either is_max (e.0 == n) e.1 0 k.0 max_laws.bottom_is)))
+      (all_weaker (λ e. IsKept is_max 0 e.1) (λ e. is_max (count_at n e)) (openings_in b) is.nested.0.0.kept (λ e k. subst is_max (sym (found_one 0 e.0 e.1 n)) (either is_max (e.0 == n) e.1 0 k.0 max_laws.bottom_is)))
       ∙ count_found n (find nat_cmp n (openings_in b))
 
   -- ---- what is issued
@@ -325,7 +325,7 @@ module _ (b : BoardValue) (d : DigestValue) (is : IsBoard b) where
       ∙ look_kept issue_is Unknown both_issued (λ b. issued b n) (issued_look n) (lacks_issue d) (λ e. issue_board e.0 e.1) opened_part (issues_of b) opened_nested issues_nested
       ∙ ap (λ v. both_issued v (seen (lacks_issue d) (issue_at n) Unknown both_issued (issues_of b))) (look_same issue_is Unknown both_issued (λ b. issued b n) (issued_look n) (is_newer d.openings) (λ o. opening_board o.number o.count) empty_board (openings_of b) board_laws.bottom_is openings_nested (λ o. refl))
       ∙ seen_found issue_is Unknown both_issued issue_laws (lacks_issue d) (issue_at n) n (λ e t. issue_one n e ∙ ap (λ k. if k then e.1 else Unknown) t) (issues_in b) (keys_rise (issues_in b) is.nested.0.1.sorted)
-        (values issue_is Unknown both_issued (λ b. issued b n) (issued_look n) (λ e. issue_board e.0 e.1) (issues_of b) issues_nested)
+      (values issue_is Unknown both_issued (λ b. issued b n) (issued_look n) (λ e. issue_board e.0 e.1) (issues_of b) issues_nested)
       ∙ issue_found n (find nat_cmp n (issues_in b))
 
   -- ---- rows
@@ -353,10 +353,10 @@ module _ (b : BoardValue) (d : DigestValue) (is : IsBoard b) where
   lacking_row n s =
       look_cells parts_are [] parts_join (λ b. row_in b n s) (row_look n s) d issued_part (cells_in b) issued_nested rows_nested
       ∙ ap (λ v. parts_join v (seen (λ e. true) (row_at n s) [] parts_join (cells_in b)))
-        (look_same parts_are [] parts_join (λ b. row_in b n s) (row_look n s) (lacks_issue d) (λ e. issue_board e.0 e.1) opened_part (issues_of b) opened_nested issues_nested (λ e. no_row e.0 e.1 n s)
-        ∙ look_same parts_are [] parts_join (λ b. row_in b n s) (row_look n s) (is_newer d.openings) (λ o. opening_board o.number o.count) empty_board (openings_of b) board_laws.bottom_is openings_nested (λ o. refl))
+      (look_same parts_are [] parts_join (λ b. row_in b n s) (row_look n s) (lacks_issue d) (λ e. issue_board e.0 e.1) opened_part (issues_of b) opened_nested issues_nested (λ e. no_row e.0 e.1 n s)
+      ∙ look_same parts_are [] parts_join (λ b. row_in b n s) (row_look n s) (is_newer d.openings) (λ o. opening_board o.number o.count) empty_board (openings_of b) board_laws.bottom_is openings_nested (λ o. refl))
       ∙ seen_found parts_are [] parts_join parts_laws (λ e. true) (row_at n s) n (λ e t. seen_none parts_are [] parts_join parts_laws (lacks_row d e.0) (λ f. row_in (row_board e.0 f.0 f.1) n s) e.1 (all_true (λ f. row_in (row_board e.0 f.0 f.1) n s ≡ []) (λ f. row_other e.0 f.0 f.1 n s t) e.1)) (cells_in b) (keys_rise (cells_in b) is.nested.1.sorted)
-        (rows_value parts_are [] parts_join (λ b. row_in b n s) (row_look n s) d (cells_in b) rows_nested)
+      (rows_value parts_are [] parts_join (λ b. row_in b n s) (row_look n s) d (cells_in b) rows_nested)
       ∙ subs_found n s (find nat_cmp n (cells_in b)) (find_All nat_cmp AreSubs n (cells_in b) (values_of_kept AreSubs [] (cells_in b) is.nested.1.kept))
 
   lacking_cell : (c : CellPlace) → cell_of (lacking b d) c ≡ (if shows_row d c.number c.sub (row_hash c.number c.sub (row_in b c.number c.sub)) then None else cell_of b c)

@@ -28,7 +28,7 @@ use Rattle.squall_board.specs.ListedLaws.{KeysRise, keys_rise, all_weaker, any_n
 use Rattle.squall_wire.specs.DigestValue.{DigestValue}
 use Rattle.squall_delta.specs.Hashes.{row_hash, issue_hash, row_of, issue_row_of, rows_of, digest_of, row_in}
 use Rattle.squall_delta.specs.HashLaws.{all_true}
-use Rattle.squall_delta.specs.Repairs.{count_in, is_same_hash, shows_issue, shows_row, IsRepair, NoCollisions}
+use Rattle.squall_delta.specs.Repairs.{count_in, is_same_hash, issue_is_hashed, row_is_hashed, shows_issue, shows_row, IsRepair, NoCollisions}
 use Rattle.squall_delta.specs.KeptLaws.{cell_in_row, parts_are}
 
 -- ---- boards that look alike
@@ -74,7 +74,7 @@ any_at g q [] r = refl
 any_at g q (e ∷ es) r =
     elim (e.0 == q) as (λ b. (e.0 == q) ≡ b → ((b && g e) || list_any (λ d. (d.0 == q) && g d) es) ≡ tested g q (cond b (Some e.1) (find nat_cmp q es))) [
       | true ↦ λ t. sym (or_none (g e) _ (any_none (λ d. (d.0 == q) && g d) es (all_weaker (λ d. e.0 < d.0) (λ d. ((d.0 == q) && g d) ≡ false) es r.0 (λ d lt. ap (λ b. b && g d) (later e.0 q d.0 t lt)))))
-        ∙ ap (λ k. g (k, e.1)) (key_of e.0 q t)
+          ∙ ap (λ k. g (k, e.1)) (key_of e.0 q t)
       | false ↦ λ t. any_at g q es r.1
     ] refl
     ∙ sym (ap (λ b. tested g q (cond b (Some e.1) (find nat_cmp q es))) (cmp_eq q e.0))
@@ -88,15 +88,6 @@ any_at g q (e ∷ es) r =
 any_guard : {X : Type 0} (a : Bool) (f : X → Bool) (xs : List X) → list_any (λ x. a && f x) xs ≡ (a && list_any f xs)
 any_guard true f xs = refl
 any_guard false f xs = any_none (λ x. false) xs (all_true (λ x. false ≡ false) (λ x. refl) xs)
-
--- the hash of what was found is that one
-abbrev pub issue_is_hashed : ℕ → List ℕ → Option (Flat PlanPair) → Bool
-issue_is_hashed n h None = false
-issue_is_hashed n h (Some v) = is_same_hash (issue_hash n v) h
-
-abbrev pub row_is_hashed : ℕ → ℕ → List ℕ → Option Parts → Bool
-row_is_hashed n s h None = false
-row_is_hashed n s h (Some parts) = is_same_hash (row_hash n s parts) h
 
 module _ (a : BoardValue) (is : IsBoard a) where
   -- the digest of a board shows the hash of each issue, and no other
@@ -214,7 +205,7 @@ module _ (a b r : BoardValue) (is : IsBoard a) (too : IsBoard b) (ris : IsBoard 
       ⊎_elim
       (λ e. or_none (fact a c g) (fact b c g) (ap (λ o. found_says (pair_says has flag_says) o g) (cell_in_row b c ∙ ap (find nat_cmp c.part) e)))
       (λ k. let rows = none.rows c.number c.sub same.0 k same.1 in
-        sym (ap (λ v. fact a c g || v) (ap (λ o. found_says (pair_says has flag_says) o g) (cell_in_row b c ∙ ap (find nat_cmp c.part) (sym rows) ∙ sym (cell_in_row a c))) ∙ or_self (fact a c g)))
+      sym (ap (λ v. fact a c g || v) (ap (λ o. found_says (pair_says has flag_says) o g) (cell_in_row b c ∙ ap (find nat_cmp c.part) (sym rows) ∙ sym (cell_in_row a c))) ∙ or_self (fact a c g)))
       (empty_or_not (row_in b c.number c.sub))
 
   cell_facts : (c : CellPlace) (g : ℕ ⊎ Unit {0}) → (fact r c g || fact a c g) ≡ (fact a c g || fact b c g)

@@ -5,8 +5,7 @@ ghost use Rattle.std.specs.Ordering.{nat_cmp};
 ghost use Rattle.std.specs.FinMap.Entries.{find};
 ghost use Rattle.squall_board.specs.Boards.{board_join, cells_in, empty_board, found_in, issues_in};
 ghost use Rattle.squall_delta.specs.Hashes.{digest_of};
-ghost use Rattle.squall_delta.specs.RepairLaws.{issue_is_hashed, row_is_hashed};
-ghost use Rattle.squall_delta.specs.Repairs.{IsRepair, NoCollisions, shows_issue, shows_row};
+ghost use Rattle.squall_delta.specs.Repairs.{IsRepair, NoCollisions, issue_is_hashed, row_is_hashed, shows_issue, shows_row};
 
 use squall_board::Board;
 use squall_wire::Digest;

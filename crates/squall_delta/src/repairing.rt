@@ -17,11 +17,7 @@ use std::alloc::{AllocError, Global};
 use std::sync::Arc;
 
 /// Puts in each opening whose count is greater than the digest's.
-fn put_openings(
-    delta: &mut Delta,
-    digest: &Digest,
-    openings: &[Opening],
-) -> Result<(), AllocError>
+fn put_openings(delta: &mut Delta, digest: &Digest, openings: &[Opening]) -> Result<(), AllocError>
     requires { AllByRecursion IsOpening openings.now }
     ensures { OnOk result (delta.new ≡ with_openings digest.now.openings delta.old openings.now) }
 {

@@ -1,0 +1,3 @@
+//! Tests of what boards send each other.
+
+mod digests;
