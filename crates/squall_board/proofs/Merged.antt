@@ -11,7 +11,7 @@ use Rattle.squall_report.specs.declared.report.ReportKind.{ReportKind}
 use Rattle.squall_report.specs.Issues.{PlanPair}
 use Rattle.squall_report.specs.Cells.{CellPlace}
 use Rattle.squall_report.specs.Told.{Told, both_issued, told_by_report, told_by, SameTold, TellsBoth, TellsAll}
-use Rattle.squall_board.specs.Boards.{BoardValue, CellValue, Cells, Openings, Issues, board_of, openings_in, issues_in, cells_in, cell_join, cell_board, opening_board, issue_board, told_by_cell, told_by_issue, board_join, report_board, issued, says, told, IsBoard, HasTaken}
+use Rattle.squall_board.specs.Boards.{BoardValue, CellValue, Cells, Openings, Issues, board_of, openings_in, issues_in, cells_in, cell_join, cell_board, row_board, Parts, opening_board, issue_board, told_by_cell, told_by_issue, board_join, report_board, issued, says, told, IsBoard, HasTaken}
 use Rattle.squall_board.specs.declared.update.Issuing.{Issuing}
 use Rattle.squall_board.specs.declared.update.Issuing.TheVariants.{One, Clash}
 use Rattle.squall_join.specs.declared.flat.Flat.{Flat}
@@ -43,6 +43,12 @@ pub cell_put : (r : Result (Unit {0}) AllocError) (new : Cells) (x : BoardValue)
 cell_put r new x c cell es is ok = on_ok_weaker r (λ (e : new ≡ merged nat_cmp (merged nat_cmp (merged nat_cmp cell_join)) (cells_in x) es). same_pair _ _ _ _
     (same_pair _ _ _ _ (sym (merged_none _ (openings_in x))) (sym (merged_none _ (issues_in x))))
     (e ∙ ap (merged nat_cmp (merged nat_cmp (merged nat_cmp cell_join)) (cells_in x)) is)) ok
+
+pub row_put : (r : Result (Unit {0}) AllocError) (new : Cells) (x : BoardValue) (n s t : ℕ) (parts ps : Parts) → t ≡ s → ps ≡ parts → OnOk r (new ≡ merged nat_cmp (merged nat_cmp (merged nat_cmp cell_join)) (cells_in x) ((n, (t, ps) ∷ []) ∷ []))
+    → OnOk r (board_of (openings_in x) (issues_in x) new ≡ board_join x (row_board n s parts))
+row_put r new x n s t parts ps p q ok = on_ok_weaker r (λ (e : new ≡ merged nat_cmp (merged nat_cmp (merged nat_cmp cell_join)) (cells_in x) ((n, (t, ps) ∷ []) ∷ [])). same_pair _ _ _ _
+    (same_pair _ _ _ _ (sym (merged_none _ (openings_in x))) (sym (merged_none _ (issues_in x))))
+    (e ∙ (λ i. merged nat_cmp (merged nat_cmp (merged nat_cmp cell_join)) (cells_in x) ((n, (p i, q i) ∷ []) ∷ [])))) ok
 
 pub cell_not_put : (r : Result (Unit {0}) AllocError) (new : Cells) (x : BoardValue) → OnErr r (new ≡ cells_in x) → OnErr r (board_of (openings_in x) (issues_in x) new ≡ x)
 cell_not_put (Ok u) new x err = tt

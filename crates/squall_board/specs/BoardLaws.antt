@@ -122,7 +122,7 @@ cmp_eq : (x y : ℕ) → is_eq (nat_cmp x y) ≡ (y == x)
 cmp_eq x y = grind (arith, nat_tests)
 
 -- a map of one entry
-says_single : {V F : Type 0} (p : V → F → Bool) (k : ℕ) (v : V) (q : ℕ) (f : F) → map_says nat_cmp p ((k, v) ∷ []) (q, f) ≡ ((k == q) && p v f)
+pub says_single : {V F : Type 0} (p : V → F → Bool) (k : ℕ) (v : V) (q : ℕ) (f : F) → map_says nat_cmp p ((k, v) ∷ []) (q, f) ≡ ((k == q) && p v f)
 says_single p k v q f =
     ap (λ b. found_says p (cond b (Some v) None) f) (cmp_eq q k)
     ∙ elim (k == q) as (λ b. found_says p (cond b (Some v) None) f ≡ (b && p v f)) [ true ↦ refl | false ↦ refl ]
@@ -239,7 +239,7 @@ both_true : (a b : Bool) → a ≡ true → b ≡ true → (a && b) ≡ true
 both_true a b p q = ap (λ x. x && b) p ∙ q
 
 -- a key of a set lies below the top
-key_below : (ss : List Interval) (k : ℕ) → IsSet ss → has ss k ≡ true → nat_lt k top ≡ true
+pub key_below : (ss : List Interval) (k : ℕ) → IsSet ss → has ss k ≡ true → nat_lt k top ≡ true
 key_below ss k is e = elim (cases_lt k top) [
   | inl lt ↦ grind (arith, nat_tests)
   | inr ge ↦ absurd (true≢false (sym e ∙ has_ended top k ss is.1 ge))

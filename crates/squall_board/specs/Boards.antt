@@ -158,6 +158,10 @@ told_by_issue number issue = record { says = no_fact; issues = one_issue number 
 abbrev pub cell_board : CellPlace → CellValue → BoardValue
 cell_board c cell = board_of [] [] ((c.number, (c.sub, (c.part, cell) ∷ []) ∷ []) ∷ [])
 
+-- of one row: the cells of one number and sub-plan
+abbrev pub row_board : ℕ → ℕ → Parts → BoardValue
+row_board n s parts = board_of [] [] ((n, (s, parts) ∷ []) ∷ [])
+
 -- of one count of opened sub-plans
 abbrev pub opening_board : ℕ → ℕ → BoardValue
 opening_board n count = board_of ((n, count) ∷ []) [] []

@@ -18,6 +18,7 @@ pub mod Listed
 pub mod ListedLaws
 pub mod OneListLaws
 pub mod PlaceLaws
+pub mod RowLaws
 pub mod Route
 pub mod Equal
 pub mod EqualLaws

@@ -71,6 +71,10 @@ AreCellsOfSubs n subs = AllByRecursion (λ e. AreCellsOfParts n e.0 e.1) subs
 abbrev pub AreCellsOfNumbers : Cells → Type 0
 AreCellsOfNumbers numbers = AllByRecursion (λ e. AreCellsOfSubs e.0 e.1) numbers
 
+-- each row of the nested maps has a cell
+abbrev pub AreSomeRows : Cells → Type 0
+AreSomeRows numbers = AllByRecursion (λ e. AllByRecursion (λ d. d.1 ≢ []) e.1) numbers
+
 abbrev pub entry_says : CellEntry → Fact → Bool
 entry_says c f = cell_says c.cell (entry_value c) f
 

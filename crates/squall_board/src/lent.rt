@@ -1,7 +1,8 @@
 //! The cells of a board, lent.
 
 ghost use Rattle.std.specs.Prelude.{◌≡◌, ◌++◌, map, IfOk, OnOk};
-ghost use Rattle.squall_board.specs.Listed.{AreCellsOfParts, AreCellsOfSubs, AreCellsOfNumbers, cell_entry, cells_of_parts, cells_of_subs, cells_of_numbers, cells_of};
+ghost use Rattle.squall_board.specs.Boards.{cells_in};
+ghost use Rattle.squall_board.specs.Listed.{AreCellsOfParts, AreCellsOfSubs, AreCellsOfNumbers, AreSomeRows, cell_entry, cells_of_parts, cells_of_subs, cells_of_numbers, cells_of};
 
 use crate::board::{Board, CellParts};
 use squall_join::JoinMap;
@@ -55,6 +56,17 @@ fn push_numbers<'a>(
 }
 
 impl Board {
+    /// The cells of which something was reported, by number, by sub-plan and by partition. No entry
+    /// of the maps is empty.
+    pub fn cell_map(&self) -> &JoinMap<u32, JoinMap<u32, JoinMap<u32, CellParts>>>
+        ensures cells { result.now ≡ cells_in self.now }
+        ensures within { AreCellsOfNumbers result.now }
+        ensures rows { AreSomeRows result.now }
+    {
+        self.known();
+        &self.parts.second
+    }
+
     /// The cells of which something was reported, each with its place, by rising number, sub-plan
     /// and partition. No keys are copied. It fails where an allocation fails.
     pub fn lent_cells(&self) -> Result<Vec<(CellId, &CellParts)>, AllocError>

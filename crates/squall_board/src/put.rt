@@ -1,20 +1,20 @@
 //! Boards that take what lists of a board hold.
 
-ghost use Rattle.std.specs.Prelude.{◌≡◌, ◌≤◌, ◌<◌, ◌++◌, List, OnOk, OnErr};
+ghost use Rattle.std.specs.Prelude.{◌≡◌, ◌≢◌, ◌≤◌, ◌<◌, ◌++◌, [], List, OnOk, OnErr};
 ghost use Rattle.std.specs.Arc.{arc_value};
 ghost use Rattle.squall_key.specs.Keys.{part_limit};
 ghost use Rattle.squall_join.specs.Flats.{flat_map};
 ghost use Rattle.squall_report.specs.Told.{TellsBoth, SameTold, told_by};
 ghost use Rattle.squall_report.specs.declared.report.ReportKind.{ReportKind};
 ghost use Rattle.squall_report.specs.Issues.{PlanPair};
-ghost use Rattle.squall_board.specs.Boards.{HasTaken, board_join, cell_board, opening_board, issue_board, told, told_by_cell, told_by_count, told_by_issue};
-ghost use Rattle.squall_board.specs.Listed.{entry_value};
+ghost use Rattle.squall_board.specs.Boards.{HasTaken, board_join, cell_board, row_board, opening_board, issue_board, told, told_by_cell, told_by_count, told_by_issue};
+ghost use Rattle.squall_board.specs.Listed.{entry_value, AreCellsOfParts};
 
-use crate::board::Board;
+use crate::board::{Board, CellParts};
 use crate::cell::Cell;
 use crate::opening::Opening;
-use crate::update::{Issuing, WholeCell};
-use squall_join::Flat;
+use crate::update::{Issuing, Row, WholeCell};
+use squall_join::{Flat, Join, JoinMap, UpdateAt};
 use squall_report::Issue;
 use std::alloc::AllocError;
 use std::sync::Arc;
@@ -42,6 +42,28 @@ impl Board {
         ensures err { OnErr result (self.new ≡ self.old) }
     {
         self.update_cell(cell.place(), WholeCell { cell })
+    }
+
+    /// Takes all that the cells of a row say: of one number and sub-plan, by partition. The row is
+    /// copied where the board has none there. It fails where an allocation fails, and then the board
+    /// is as it was.
+    pub fn put_row(
+        &mut self,
+        number: u32,
+        sub: u32,
+        row: &JoinMap<u32, CellParts>,
+    ) -> Result<(), AllocError>
+        requires cells { AreCellsOfParts number sub row.now }
+        requires some { row.now ≢ [] }
+        ensures board { OnOk result (self.new ≡ board_join self.old (row_board number sub row.now)) }
+        ensures told { OnOk result (TellsBoth (told self.new) (told self.old) (told (row_board number sub row.now))) }
+        ensures taken { OnOk result ((rs qs : List (ReportKind PlanPair)) → HasTaken self.old rs → HasTaken (row_board number sub row.now) qs → HasTaken self.new (rs ++ qs)) }
+        ensures err { OnErr result (self.new ≡ self.old) }
+    {
+        row.known();
+        let alloc = self.allocator();
+        let at_sub = UpdateAt::new(sub, Row { cells: row });
+        self.parts.second.update_at(alloc, number, &at_sub)
     }
 
     /// Takes what is issued under the number, of which nothing is copied. It fails where

@@ -13,7 +13,7 @@ ghost use Rattle.squall_board.specs.Updates.{issuing_value};
 
 use crate::board::{Board, CellParts};
 use crate::cell::Cell;
-use squall_join::{Flag, Flat, Join, Max, Pair, Shared, Update, UpdateAt};
+use squall_join::{Flag, Flat, Join, JoinMap, Max, Pair, Shared, Update, UpdateAt};
 use squall_report::{CellId, Issue};
 use squall_span::{Span, SpanSet};
 use std::alloc::{AllocError, Global};
@@ -82,6 +82,29 @@ impl<'a> Update<CellParts> for WholeCell<'a> {
         target.first.join_in(alloc, self.cell.spans())?;
         target.second = Flag::new(target.second.get() || self.cell.complete());
         Ok(())
+    }
+}
+
+/// A row: all cells of one number and sub-plan.
+#[derive(Clone, Copy)]
+pub(crate) struct Row<'a> {
+    pub(crate) cells: &'a JoinMap<u32, CellParts>,
+    ghost some: { cells.now ≢ [] },
+}
+
+impl<'a> Update<JoinMap<u32, CellParts>> for Row<'a> {
+    ghost value = { λ row. row.cells.now };
+
+    fn known(&self) {
+        self.cells.known();
+    }
+
+    fn build(&self, alloc: Global) -> Result<JoinMap<u32, CellParts>, AllocError> {
+        self.cells.copied(alloc)
+    }
+
+    fn apply(&self, alloc: Global, target: &mut JoinMap<u32, CellParts>) -> Result<(), AllocError> {
+        target.join_in(alloc, self.cells)
     }
 }
 

@@ -10,6 +10,7 @@ pub mod Items
 pub mod Pieces
 pub mod Hashes
 pub mod Repairs
+pub mod Kept
 pub mod Cutting
 pub mod PieceCellLaws
 pub mod PieceListLaws
@@ -17,3 +18,6 @@ pub mod PieceItemLaws
 pub mod PieceRunLaws
 pub mod PieceStepLaws
 pub mod PieceLaws
+pub mod HashLaws
+pub mod KeptLaws
+pub mod RepairLaws

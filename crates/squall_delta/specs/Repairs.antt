@@ -1,11 +1,13 @@
 -- What a board has that a digest does not show (this project).
-use Rattle.std.specs.Prelude.{◌≡◌, ◌≢◌, ℕ, Bool, ◌==◌, ◌&&◌, nat_lt, List, [], ◌∷◌, Option, None, if◌then◌else◌}
+use Rattle.std.specs.Prelude.{◌≡◌, ◌≢◌, ℕ, Bool, ◌==◌, ◌&&◌, nat_lt, List, [], ◌∷◌, Option, None, Some, false, if◌then◌else◌}
 use Rattle.std.specs.List.{list_any}
 use Rattle.std.specs.Cmp.Lexicographic.{pointwise}
+use Rattle.squall_join.specs.declared.flat.Flat.{Flat}
 use Rattle.squall_join.specs.declared.flat.Flat.TheVariants.{Unknown}
+use Rattle.squall_report.specs.Issues.{PlanPair}
 use Rattle.squall_report.specs.Cells.{CellPlace}
 use Rattle.squall_board.specs.declared.opening.Opening.{Opening}
-use Rattle.squall_board.specs.Boards.{BoardValue, opened_count, issued, cell_of}
+use Rattle.squall_board.specs.Boards.{Parts, BoardValue, opened_count, issued, cell_of}
 use Rattle.squall_wire.specs.DigestValue.{DigestValue}
 use Rattle.squall_delta.specs.Hashes.{row_hash, issue_hash, row_in}
 
@@ -25,6 +27,16 @@ shows_issue d number hash = list_any (λ r. (r.number == number) && is_same_hash
 -- the digest shows that hash of the row of the number and sub-plan
 abbrev pub shows_row : DigestValue → ℕ → ℕ → List ℕ → Bool
 shows_row d number sub hash = list_any (λ r. (r.number == number) && ((r.sub == sub) && is_same_hash r.hash hash)) d.rows
+
+-- something is issued under the number, with that hash
+abbrev pub issue_is_hashed : ℕ → List ℕ → Option (Flat PlanPair) → Bool
+issue_is_hashed n h None = false
+issue_is_hashed n h (Some v) = is_same_hash (issue_hash n v) h
+
+-- there is a row of the number and sub-plan, with that hash
+abbrev pub row_is_hashed : ℕ → ℕ → List ℕ → Option Parts → Bool
+row_is_hashed n s h None = false
+row_is_hashed n s h (Some parts) = is_same_hash (row_hash n s parts) h
 
 -- of the board b what the digest d does not show: each opening with a count above the digest's, and whole each issue and
 -- each row whose hash the digest lacks

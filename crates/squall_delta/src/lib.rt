@@ -8,8 +8,11 @@
 mod cut;
 mod delta;
 mod digests;
+mod hashing;
 mod piece_laws;
+mod repair_laws;
 mod repairing;
+mod shown;
 
 pub use cut::pieces;
 pub use delta::{beyond, delta_of};
@@ -17,6 +20,9 @@ pub use digests::digest;
 pub use piece_laws::{
     no_items_no_pieces, one_list_of_pieces, pieces_fit_frames, pieces_have_frames,
     pieces_join_to_the_board,
+};
+pub use repair_laws::{
+    digests_list_the_board, one_repair, repair_of_own_digest_is_empty, repairs_complete,
 };
 pub use repairing::repair;
 

@@ -28,7 +28,7 @@ use Rattle.squall_wire.specs.Fits.{ArePlans, IsWordOpening, IsWordIssue, IsWordC
 opening_fits : (last : ℕ) (o : Opening) → last < o.number → IsOpening o → IsWordOpening o → FitsOpening last o
 opening_fits last o lt (a, b, c) word = record { word = word; range = grind (arith, nat_tests); order = grind (arith, nat_tests) }
 
-openings_turn : (last : ℕ) (os : List Opening) → AllByRecursion (λ o. last < o.number) os → OpeningsRise os → AllByRecursion IsOpening os → AllByRecursion IsWordOpening os → AreInTurn FitsOpening after_opening last os
+pub openings_turn : (last : ℕ) (os : List Opening) → AllByRecursion (λ o. last < o.number) os → OpeningsRise os → AllByRecursion IsOpening os → AllByRecursion IsWordOpening os → AreInTurn FitsOpening after_opening last os
 openings_turn last [] above rise within words = tt
 openings_turn last (o ∷ os) above rise within words = (opening_fits last o above.0 within.0 words.0, openings_turn o.number os rise.0 rise.1 within.1 words.1)
 

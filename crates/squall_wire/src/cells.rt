@@ -64,6 +64,14 @@ pub(crate) fn write_cell(
     write_items(out, spans)
 }
 
+/// Adds a cell of a board as it stands in a delta: its place, whether it is complete, and its spans.
+/// It fails only where an allocation fails, and then a part of the cell may have been added.
+pub fn write_lent_cell(out: &mut Vec<u8>, place: CellId, cell: &CellParts) -> Result<(), AllocError>
+    ensures { OnOk result (out.new.items ≡ out.old.items ++ spell_cell (cell_entry place cell.now)) }
+{
+    write_cell(out, place, cell.second.get(), &cell.first)
+}
+
 /// Adds the cell, unless the bytes are too many for a body with it.
 fn write_within(out: &mut Vec<u8>, place: CellId, cell: &CellParts) -> Result<(), EncodeFault>
     ensures written { OnOk result (out.new.items ≡ out.old.items ++ spell_cell (cell_entry place cell.now)) }

@@ -147,7 +147,7 @@ impl Digest {
     }
 
     /// The digest of three lists that are known to be in order and within their limits.
-    pub(crate) fn of_lists(
+    pub fn of_lists(
         openings: Vec<Opening>,
         issue_rows: Vec<IssueRow>,
         rows: Vec<DigestRow>,

@@ -1,6 +1,6 @@
 //! How the items of lists are written.
 
-ghost use Rattle.std.specs.Prelude.{◌≡◌, ◌<◌, ◌++◌, OnOk};
+ghost use Rattle.std.specs.Prelude.{◌≡◌, ◌<◌, ◌++◌, IfOk, OnOk};
 ghost use Rattle.std.specs.Arc.{arc_value};
 ghost use Rattle.squall_join.specs.Flats.{flat_map, flat_is};
 ghost use Rattle.squall_wire.specs.Limits.{word_limit, FitsPlan};
@@ -15,7 +15,7 @@ use squall_key::Bound;
 use squall_plan::{Plan, PlanRange};
 use squall_report::Issue;
 use squall_span::Span;
-use std::alloc::AllocError;
+use std::alloc::{AllocError, Global};
 use std::sync::Arc;
 
 /// Adds the eight bytes of the bound's rank.
@@ -107,6 +107,21 @@ fn write_issued(out: &mut Vec<u8>, issue: &Flat<Arc<Issue>>) -> Result<(), Alloc
             Ok(())
         }
     }
+}
+
+/// The bytes of what is issued under the number, as it stands in a delta: the number, a mark, and
+/// both plans of a pair. It fails only where an allocation fails.
+pub fn issue_bytes(
+    alloc: Global,
+    number: u32,
+    issue: &Flat<Arc<Issue>>,
+) -> Result<Vec<u8>, AllocError>
+    ensures { IfOk result (λ bytes. bytes.items ≡ spell_issue (number, flat_map arc_value issue.now)) }
+{
+    let mut bytes = Vec::new(alloc);
+    bytes.extend_from_slice(&number.to_be_bytes())?;
+    write_issued(&mut bytes, issue)?;
+    Ok(bytes)
 }
 
 /// A number, and what is issued under it.

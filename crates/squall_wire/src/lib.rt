@@ -19,11 +19,13 @@ mod order;
 mod reading;
 mod write;
 
+pub use cells::write_lent_cell;
 pub use decoding::decode;
 pub use digest::{Digest, DigestFault, DigestRow, IssueRow};
 pub use encoding::{EncodeFault, cell_bytes, encode, encode_board};
 pub use fault::WireFault;
 pub use feed::{Feed, FeedFault, Heard};
+pub use items::issue_bytes;
 pub use laws::{
     cutting_tells_nothing, faults_end_the_stream, faults_stay, heard_frame_by_frame,
     lists_make_the_board, one_frame, one_hearing, pieces_are_one_stream, pieces_begin_the_stream,

@@ -1,0 +1,4 @@
+mod Rows
+mod Digested
+mod Searched
+mod Repaired
