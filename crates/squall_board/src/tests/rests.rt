@@ -2,8 +2,7 @@
 
 use crate::Board;
 use crate::tests::{NEW, OLD, issue, load};
-use squall_join::Flat;
-use squall_report::{CellId, Report};
+use squall_report::Report;
 use std::alloc::{AllocError, Global};
 use std::test::Fail;
 
@@ -14,59 +13,67 @@ fn taken(alloc: Global, reports: &[Report]) -> Result<Board, AllocError> {
     Ok(board)
 }
 
+/// Whether the first board tells what the wanted one tells beyond the second.
+fn leaves(alloc: Global, a: &Board, b: &Board, wanted: &Board) -> Result<bool, AllocError> {
+    let rest = a.beyond(alloc, b)?;
+    Ok(rest == *wanted)
+}
+
+/// Whether of these reports the wanted ones are left.
+fn leave(alloc: Global, a: &[Report], b: &[Report], wanted: &[Report]) -> Result<bool, AllocError> {
+    let first = taken(alloc, a)?;
+    let second = taken(alloc, b)?;
+    let rest = taken(alloc, wanted)?;
+    leaves(alloc, &first, &second, &rest)
+}
+
+fn loads_and_openings() -> Option<[Report; 6]> {
+    Some([
+        load("2:0", "3:0")?,
+        Report::opened(1, 1)?,
+        load("2:7", "2:9")?,
+        Report::opened(1, 0)?,
+        load("2:9", "3:0")?,
+        load("2:0", "2:7")?,
+    ])
+}
+
 #[test]
 fn loads_and_openings_beyond(rt: HostRuntime) -> Result<(), Fail> {
-    let a = [
-        load("2:0", "3:0").ok_or("load")?,
-        Report::opened(1, 1).ok_or("opening")?,
-    ];
-    let b = [
-        load("2:7", "2:9").ok_or("load")?,
-        Report::opened(1, 0).ok_or("opening")?,
-    ];
-    let wanted = [
-        load("2:9", "3:0").ok_or("end")?,
-        load("2:0", "2:7").ok_or("start")?,
-        Report::opened(1, 1).ok_or("opening")?,
-    ];
-    let rest = taken(rt.alloc(), &a)?.beyond(rt.alloc(), &taken(rt.alloc(), &b)?)?;
-    assert!(rt; rest == taken(rt.alloc(), &wanted)? && rest.opened(1) == 2);
-    let place = CellId::new(1, 0, 3).ok_or("place")?;
-    let cell = rest.cell_at(place).ok_or("cell")?;
-    assert!(rt; cell.first.spans().len() == 2 && !cell.second.get());
+    let alloc = rt.alloc();
+    let reports = loads_and_openings().ok_or("reports")?;
+    let list = &reports[..];
+    assert!(rt; leave(alloc, &list[..1], &list[2..4], &list[4..])?);
+    assert!(rt; leave(alloc, &list[1..2], &list[2..4], &list[1..2])?);
     Ok(())
+}
+
+fn completions() -> Option<[Report; 3]> {
+    Some([
+        Report::done(1, 0, 3)?,
+        load("2:0", "3:0")?,
+        Report::done(1, 0, 4)?,
+    ])
 }
 
 #[test]
 fn completions_beyond(rt: HostRuntime) -> Result<(), Fail> {
     let alloc = rt.alloc();
-    let loaded = [load("2:0", "3:0").ok_or("load")?];
-    let done = [
-        Report::done(1, 0, 3).ok_or("done")?,
-        Report::done(1, 0, 4).ok_or("done")?,
-    ];
-    let complete = taken(alloc, &done)?;
-    let mut both = taken(alloc, &loaded)?;
-    both.merge(&complete)?;
-    assert!(rt; both.beyond(alloc, &complete)? == taken(alloc, &loaded)?);
-    assert!(rt; both.beyond(alloc, &taken(alloc, &loaded)?)? == complete);
-    assert!(rt; both.beyond(alloc, &both)? == Board::new(alloc));
-    assert!(rt; both.beyond(alloc, &Board::new(alloc))? == both);
+    let reports = completions().ok_or("reports")?;
+    let list = &reports[..];
+    assert!(rt; leave(alloc, list, &list[..1], &list[1..])?);
+    assert!(rt; leave(alloc, list, list, &[])?);
+    assert!(rt; leave(alloc, list, &[], list)?);
     Ok(())
 }
 
 #[test]
 fn issues_beyond(rt: HostRuntime) -> Result<(), Fail> {
     let alloc = rt.alloc();
-    let none = Board::new(alloc);
-    let one = taken(alloc, &[issue(alloc, 2, OLD, NEW)?])?;
-    let other = taken(alloc, &[issue(alloc, 2, NEW, OLD)?])?;
-    let mut clash = one.copied(alloc)?;
-    clash.merge(&other)?;
-    assert!(rt; one.beyond(alloc, &none)? == one && one.beyond(alloc, &other)? == one);
-    assert!(rt; one.beyond(alloc, &one)? == none && one.beyond(alloc, &clash)? == none);
-    let rest = clash.beyond(alloc, &one)?;
-    assert!(rt; matches!(rest.issuing(2), Flat::Clash));
-    assert!(rt; clash.beyond(alloc, &clash)? == none);
+    let reports = [issue(alloc, 2, OLD, NEW)?, issue(alloc, 2, NEW, OLD)?];
+    let list = &reports[..];
+    assert!(rt; leave(alloc, &list[..1], &list[1..], &list[..1])?);
+    assert!(rt; leave(alloc, &list[..1], list, &[])?);
+    assert!(rt; leave(alloc, list, &list[..1], list)?);
     Ok(())
 }
