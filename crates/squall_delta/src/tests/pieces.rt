@@ -1,6 +1,9 @@
 //! Boards that are cut.
 
-use crate::pieces;
+ghost use Rattle.std.specs.Prelude.{◌≢◌, Err};
+ghost use Rattle.squall_wire.specs.declared.encoding.EncodeFault.TheVariants.{TooLong};
+
+use crate::{pieces, pieces_have_frames};
 use squall_board::Board;
 use squall_key::Bound;
 use squall_plan::Plan;
@@ -92,6 +95,8 @@ fn a_piece_as_long_as_a_frame(rt: HostRuntime) -> Result<(), Fail> {
     assert_eq!(rt; frame.len(), 8 + 1_048_569);
     let cut = pieces(rt.alloc(), &board)?;
     assert!(rt; cut.len() == 1 && cut[0] == board);
+    let first = first_frame(rt.alloc(), &board)?;
+    assert!(rt; first.is_some_and(|bytes| bytes.as_slice() == frame.as_slice()));
     Ok(())
 }
 
@@ -127,6 +132,20 @@ fn issues_and_many_cells(rt: HostRuntime) -> Result<(), Fail> {
     assert!(rt; cut[0].opened(10) == 4 && cut[1].opened(10) == 0);
     assert!(rt; come_back(rt.alloc(), &cut, &board)?);
     Ok(())
+}
+
+/// The frame of the first piece of the board. None where it has no piece.
+fn first_frame(alloc: Global, board: &Board) -> Result<Option<Vec<u8>>, EncodeFault>
+    ensures { result ≢ Err TooLong }
+{
+    let cut = pieces(alloc, board)?;
+    match cut.first() {
+        Some(piece) => {
+            pieces_have_frames(piece);
+            Ok(Some(encode_board(alloc, piece)?))
+        }
+        None => Ok(None),
+    }
 }
 
 #[test]
