@@ -1,5 +1,5 @@
 -- The lists of a board, one entry after another.
-use Rattle.std.specs.Prelude.{◌≡◌, ℕ, ◌<◌, suc, zero, length, List, [], ◌∷◌, Result, IfOk}
+use Rattle.std.specs.Prelude.{◌≡◌, ◌≢◌, ℕ, ◌<◌, suc, zero, length, List, [], ◌∷◌, Result, IfOk}
 use Rattle.std.proofs.Common.{sym, subst, ap, ◌∙◌, arith, get_or}
 use Rattle.std.proofs.lemmas.Result.{IfOk-weaker}
 use Rattle.std.specs.List.{AllByRecursion}
@@ -7,7 +7,7 @@ use Rattle.squall_join.specs.declared.flat.Flat.{Flat}
 use Rattle.squall_report.specs.Issues.{PlanPair}
 use Rattle.squall_board.specs.declared.opening.Opening.{Opening}
 use Rattle.squall_board.specs.Boards.{Parts, Subs, Cells, Openings, BoardValue, openings_in, issues_in, cells_in, IsBoard}
-use Rattle.squall_board.specs.Listed.{CellEntry, AreCellsOfParts, AreCellsOfSubs, AreCellsOfNumbers, cells_of, AreCells, openings_of_counts, AreOpenings, AreIssues}
+use Rattle.squall_board.specs.Listed.{CellEntry, AreCellsOfParts, AreCellsOfSubs, AreCellsOfNumbers, AreSomeRows, cells_of, AreCells, openings_of_counts, AreOpenings, AreIssues}
 use Rattle.squall_board.specs.ListedLaws.{board_cells, cells_listed, openings_listed, issues_listed}
 
 all_get : {X : Type 0} (P : X → Type 0) (xs : List X) (i : ℕ) (d : X) → i < length xs → AllByRecursion P xs → P (get_or xs i d)
@@ -21,6 +21,10 @@ all_at P xs i x lt is h = subst P (sym is) (all_get P xs i x lt h)
 -- what the loops over the entries of a map of maps require of the next
 pub parts_at : (n : ℕ) (subs : Subs) (i : ℕ) (e : ℕ × Parts) (parts : Parts) → i < length subs → e ≡ get_or subs i e → parts ≡ e.1 → AreCellsOfSubs n subs → AreCellsOfParts n e.0 parts
 parts_at n subs i e parts lt is same h = subst (λ v. AreCellsOfParts n e.0 v) (sym same) (all_at (λ d. AreCellsOfParts n d.0 d.1) subs i e lt is h)
+
+-- each row of a number has a cell
+pub some_at : (numbers : Cells) (i : ℕ) (e : ℕ × Subs) (subs : Subs) → i < length numbers → e ≡ get_or numbers i e → subs ≡ e.1 → AreSomeRows numbers → AllByRecursion (λ d. d.1 ≢ []) subs
+some_at numbers i e subs lt is same h = subst (λ v. AllByRecursion (λ d. d.1 ≢ []) v) (sym same) (all_at (λ d. AllByRecursion (λ f. f.1 ≢ []) d.1) numbers i e lt is h)
 
 pub subs_at : (numbers : Cells) (i : ℕ) (e : ℕ × Subs) (subs : Subs) → i < length numbers → e ≡ get_or numbers i e → subs ≡ e.1 → AreCellsOfNumbers numbers → AreCellsOfSubs e.0 subs
 subs_at numbers i e subs lt is same h = subst (λ v. AreCellsOfSubs e.0 v) (sym same) (all_at (λ d. AreCellsOfSubs d.0 d.1) numbers i e lt is h)

@@ -69,7 +69,8 @@ pub(crate) fn write_cell(
 pub fn write_lent_cell(out: &mut Vec<u8>, place: CellId, cell: &CellParts) -> Result<(), AllocError>
     ensures { OnOk result (out.new.items ≡ out.old.items ++ spell_cell (cell_entry place cell.now)) }
 {
-    write_cell(out, place, cell.second.get(), &cell.first)
+    let complete = cell.second.get();
+    write_cell(out, place, complete, &cell.first)
 }
 
 /// Adds the cell, unless the bytes are too many for a body with it.

@@ -1,15 +1,15 @@
 //! Tests of the lists of a board.
 
-ghost use Rattle.std.specs.Prelude.{◌≡◌, ◌≤◌, [], map, IfOk, OnOk};
+ghost use Rattle.std.specs.Prelude.{◌≡◌, ◌≢◌, ◌≤◌, [], map, IfOk, OnOk};
 ghost use Rattle.std.specs.List.{AllByRecursion};
 ghost use Rattle.std.specs.Arc.{arc_value};
 ghost use Rattle.squall_join.specs.Flats.{flat_map};
 ghost use Rattle.squall_report.specs.Told.{TellsBoth};
 ghost use Rattle.squall_board.specs.Boards.{told};
-ghost use Rattle.squall_board.specs.Listed.{IsOpening, told_by_lists};
+ghost use Rattle.squall_board.specs.Listed.{IsOpening, AreCellsOfSubs, AreCellsOfNumbers, AreSomeRows, told_by_lists};
 
 use super::*;
-use squall_join::Flat;
+use squall_join::{Flat, JoinMap};
 use squall_key::{Bound, PartId};
 use squall_plan::{Plan, PlanRange};
 use squall_report::{Issue, Report};
@@ -46,6 +46,35 @@ fn put_cells(board: &mut Board, cells: &[Cell]) -> Result<(), AllocError>
 {
     for cell in cells {
         board.put_cell(cell)?;
+    }
+    Ok(())
+}
+
+/// Puts each row of the number into the board.
+fn put_rows(
+    board: &mut Board,
+    number: u32,
+    subs: &[(u32, JoinMap<u32, CellParts>)],
+) -> Result<(), AllocError>
+    requires cells { AreCellsOfSubs number subs.now }
+    requires some { AllByRecursion (λ e. e.1 ≢ []) subs.now }
+{
+    for entry in subs {
+        board.put_row(number, entry.0, &entry.1)?;
+    }
+    Ok(())
+}
+
+/// Puts each row into the board.
+fn put_all_rows(
+    board: &mut Board,
+    numbers: &[(u32, JoinMap<u32, JoinMap<u32, CellParts>>)],
+) -> Result<(), AllocError>
+    requires cells { AreCellsOfNumbers numbers.now }
+    requires some { AreSomeRows numbers.now }
+{
+    for entry in numbers {
+        put_rows(board, entry.0, entry.1.entries())?;
     }
     Ok(())
 }
@@ -109,6 +138,17 @@ fn cells_of_a_board(rt: HostRuntime) -> Result<(), Fail> {
     let cells = board.cells()?;
     assert!(rt; cells.len() == 2 && cells[0].part() == 3 && cells[1].part() == 4);
     assert!(rt; !cells[0].complete() && cells[0].spans().count() == 4294967296);
+    Ok(())
+}
+
+#[test]
+fn rows_put_whole(rt: HostRuntime) -> Result<(), Fail> {
+    let board = loaded(rt.alloc()).ok_or("a board")?;
+    let mut again = Board::new(rt.alloc());
+    put_all_rows(&mut again, board.cell_map().entries())?;
+    assert!(rt; again == board && again.cell_map().len() == 1);
+    put_all_rows(&mut again, board.cell_map().entries())?;
+    assert!(rt; again == board);
     Ok(())
 }
 

@@ -48,6 +48,18 @@ fn the_bytes_of_a_cell(rt: HostRuntime) -> Result<(), Fail> {
 }
 
 #[test]
+fn the_bytes_of_a_lent_cell(rt: HostRuntime) -> Result<(), Fail> {
+    let board = board_of(rt.alloc(), LOAD)?;
+    let cells = board.lent_cells()?;
+    assert!(rt; cells.len() == 1);
+    let mut bytes = Vec::new(rt.alloc());
+    write_lent_cell(&mut bytes, cells[0].0, cells[0].1)?;
+    let wanted = hex(rt.alloc(), CELL)?;
+    assert!(rt; bytes.as_slice() == wanted.as_slice());
+    Ok(())
+}
+
+#[test]
 fn the_digest_of_a_load(rt: HostRuntime) -> Result<(), Fail> {
     let row = load_row(rt.alloc()).ok_or("a row")?;
     let digest = Digest::of(rt.alloc(), &[], &[], &[row])?;

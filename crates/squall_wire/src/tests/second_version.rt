@@ -19,6 +19,21 @@ const ISSUE: &str =
 const ISSUE_ROW: &str =
     "53510202 00000030 00000000 00000001 00000001 25868db80855a707339da598e4f3a16ab6b7b5400f2c937e7a625817d02bfa4a 00000000";
 
+/// What is issued under number 1, as it stands there.
+const ISSUED: &str =
+    "00000001 01 00000001 ffffffff00000000 00000001 00000001 ffffffff00000000 00000002";
+
+#[test]
+fn the_bytes_of_an_issue(rt: HostRuntime) -> Result<(), Fail> {
+    let issues = board_of(rt.alloc(), ISSUE)?.issues()?;
+    assert!(rt; issues.len() == 1);
+    let bytes = issue_bytes(rt.alloc(), issues[0].0, &issues[0].1)?;
+    assert!(rt; bytes.as_slice() == hex(rt.alloc(), ISSUED)?.as_slice());
+    let bytes = issue_bytes(rt.alloc(), 2, &Flat::Clash)?;
+    assert!(rt; bytes.as_slice() == hex(rt.alloc(), "00000002 02")?.as_slice());
+    Ok(())
+}
+
 #[test]
 fn counts_and_marks_with_faults(rt: HostRuntime) -> Result<(), Fail> {
     for (text, fault) in [

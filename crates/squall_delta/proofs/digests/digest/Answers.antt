@@ -1,11 +1,10 @@
-use Rattle.std.proofs.Common.{◌≡◌, sym, ap, subst, ◌∙◌, map, arith, length, ◌≤◌, List}
+use Rattle.std.proofs.Common.{ap, subst, ◌∙◌, map, arith}
 use Rattle.std.specs.Arc.{arc_value}
 use Rattle.std.specs.List.{AllByRecursion}
 use Rattle.squall_join.specs.Flats.{flat_map}
-use Rattle.squall_wire.specs.declared.digest.DigestRow.{DigestRow}
 use Rattle.squall_wire.specs.Fits.{IsWordOpening}
 use Rattle.squall_delta.specs.Hashes.{issue_row_of}
-use Rattle.squall_delta.proofs.Digested.{AreMade, digest_made, digest_fits}
+use Rattle.squall_delta.proofs.Digested.{digest_made, digest_fits}
 use Rattle.squall_delta.proofs.digests.digest.Goals as goal
 
 pub of_lists-requires : goal.of_lists-requires
