@@ -1,20 +1,20 @@
 -- The cells of a piece with one cell more.
-use Rattle.std.specs.Prelude.{◌≡◌, ℕ, suc, ◌+◌, ◌<◌, Bool, true, false, ◌||◌, ◌&&◌, ◌==◌, List, [], ◌∷◌, ◌++◌, length, Option, None, Some, ◌⊎◌, refl}
-use Rattle.std.proofs.Common.{sym, ap, subst, ◌∙◌, arith, inl, inr, ⊎_elim, length-append, Less, Equal, Greater}
-use Rattle.std.proofs.lemmas.Bool.{true≢false, or_left}
+use Rattle.std.specs.Prelude.{◌≡◌, ℕ, suc, ◌+◌, Bool, true, false, ◌||◌, ◌&&◌, ◌==◌, List, [], ◌∷◌, ◌++◌, length, Some, refl}
+use Rattle.std.proofs.Common.{sym, ap, subst, ◌∙◌, arith, ⊎_elim, length-append, Less, Equal, Greater}
+use Rattle.std.proofs.lemmas.Bool.{true≢false}
 use Rattle.std.proofs.lemmas.Bool.Decides.{nat_tests}
 use Rattle.std.specs.List.{flat_map, AllByRecursion}
 use Rattle.std.specs.declared.cmp.Ordering.{Ordering}
 use Rattle.std.specs.Ordering.{nat_cmp, is_eq, is_lt, ordering_then}
 use Rattle.std.specs.Cmp.{IsTotalOrder, nat_cmp_total, on_total, then_total, first_so, second_so}
 use Rattle.squall_key.specs.Keys.{top}
-use Rattle.squall_span.specs.Spans.{Interval, has, span_has, Beyond, IsCanonical, EndsBy, IsSet}
+use Rattle.squall_span.specs.Spans.{Interval, has, span_has, Beyond, IsCanonical, EndsBy}
 use Rattle.squall_join.specs.Pairs.{pair_of}
-use Rattle.squall_report.specs.Cells.{CellPlace, is_cell_place, is_same_cell, cell_cmp, place_at}
+use Rattle.squall_report.specs.Cells.{CellPlace, is_same_cell, cell_cmp, place_at}
 use Rattle.squall_report.specs.Facts.{Fact, LoadedKey, DonePart, OpenedSub}
 use Rattle.squall_board.specs.Boards.{cell_says}
-use Rattle.squall_board.specs.Listed.{CellEntry, entry_with, entry_value, has_spans, is_entry, IsCell, entry_says, entries_say, ComesBefore, CellsRise}
-use Rattle.squall_wire.specs.Spelling.{word, spell_list, spell_span, spell_place, spell_done, spell_cell}
+use Rattle.squall_board.specs.Listed.{CellEntry, entry_value, has_spans, IsCell, entry_says, entries_say, ComesBefore, CellsRise}
+use Rattle.squall_wire.specs.Spelling.{spell_span, spell_cell}
 use Rattle.squall_delta.specs.Cutting.{entry_joined, joined_or_next, cell_at_end, add_cell, GoesOn, EntryFollows, last_after, last_place, is_last, cell_cost}
 
 -- ---- the order of places

@@ -1,25 +1,25 @@
 -- The items of a board come in order, and make the board.
-use Rattle.std.specs.Prelude.{◌≡◌, ◌≢◌, ℕ, ◌+◌, ◌<◌, ◌≤◌, Bool, true, false, ◌||◌, ◌&&◌, List, [], ◌∷◌, ◌++◌, map, length, Option, None, Some, ◌⊎◌, if◌then◌else◌, cond, refl}
+use Rattle.std.specs.Prelude.{◌≡◌, ◌≢◌, ℕ, ◌<◌, ◌≤◌, Bool, true, false, ◌||◌, ◌&&◌, List, [], ◌∷◌, ◌++◌, map, if◌then◌else◌, refl}
 use Rattle.std.proofs.Common.{sym, ap, subst, ◌∙◌, arith, inl, inr, ⊎_elim}
 use Rattle.std.proofs.lemmas.Bool.{true≢false}
 use Rattle.std.specs.List.{flat_map, AllByRecursion}
 use Rattle.std.specs.Cmp.{first_so}
 use Rattle.squall_key.specs.Keys.{top}
-use Rattle.squall_span.specs.Spans.{Interval, Beyond, IsCanonical, EndsBy, IsSet}
+use Rattle.squall_span.specs.Spans.{Interval, Beyond, IsCanonical, EndsBy}
 use Rattle.squall_join.specs.declared.flat.Flat.{Flat}
 use Rattle.squall_join.specs.declared.flat.Flat.TheVariants.{Unknown}
 use Rattle.squall_report.specs.Issues.{PlanPair}
-use Rattle.squall_report.specs.Cells.{CellPlace, is_cell_place, cell_cmp}
+use Rattle.squall_report.specs.Cells.{CellPlace, is_cell_place}
 use Rattle.squall_board.specs.declared.opening.Opening.{Opening}
 use Rattle.squall_board.specs.Boards.{BoardValue, IsBoard, empty_board, board_join}
 use Rattle.squall_board.specs.BoardLaws.{join_is, empty_is}
-use Rattle.squall_board.specs.Listed.{CellEntry, entry_with, has_spans, IsCell, ComesBefore, CellsRise, cells_of, openings_of, IsOpening, OpeningsRise, issues_of, IssuesRise}
+use Rattle.squall_board.specs.Listed.{CellEntry, entry_with, has_spans, IsCell, ComesBefore, CellsRise, cells_of, openings_of, OpeningsRise, issues_of, IssuesRise}
 use Rattle.squall_board.specs.ListedLaws.{all_weaker, all_map, all_flat, openings_listed, issues_listed, cells_listed}
 use Rattle.squall_wire.specs.Messages.{BoardLists, lists_with, lists_of}
 use Rattle.squall_wire.specs.BoardOf.{board_of_lists}
 use Rattle.squall_wire.specs.BoardOfLaws.{lists_back}
 use Rattle.squall_delta.specs.Items.{Item, opening, issue, done, loaded, items_of_cell, items_of, item_board, with_items, items_board}
-use Rattle.squall_delta.specs.Cutting.{add_cell, done_entry, span_entry, entry_joined, add_item, add_items, no_lists, GoesOn, EntryFollows, ItemFollows, ItemBefore, ItemsRise, IsItem, AreNext}
+use Rattle.squall_delta.specs.Cutting.{done_entry, span_entry, entry_joined, add_item, add_items, no_lists, EntryFollows, ItemFollows, ItemBefore, ItemsRise, IsItem, AreNext}
 use Rattle.squall_delta.specs.PieceCellLaws.{all_at_cells, not_both, later_added, same_added}
 use Rattle.squall_delta.specs.PieceListLaws.{all_append, item_board_is, lists_added}
 

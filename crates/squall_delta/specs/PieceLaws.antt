@@ -1,11 +1,10 @@
 -- What the pieces of a board are.
-use Rattle.std.specs.Prelude.{◌≡◌, ◌≢◌, ℕ, ◌<◌, ◌≤◌, true, List, [], ◌∷◌, ◌++◌, map, length, refl}
+use Rattle.std.specs.Prelude.{◌≡◌, ℕ, ◌<◌, ◌≤◌, true, List, [], ◌∷◌, ◌++◌, map, length, refl}
 use Rattle.std.proofs.Common.{sym, ap, subst, ◌∙◌, arith}
 use Rattle.std.specs.List.{flat_map, AllByRecursion}
 use Rattle.std.specs.Cmp.{first_so}
 use Rattle.squall_span.specs.Spans.{Interval, IsSet}
 use Rattle.squall_join.specs.declared.flat.Flat.{Flat}
-use Rattle.squall_join.specs.Laws.{JoinLaws}
 use Rattle.squall_report.specs.Issues.{PlanPair}
 use Rattle.squall_report.specs.Cells.{CellPlace, is_cell_place}
 use Rattle.squall_board.specs.declared.opening.Opening.{Opening}

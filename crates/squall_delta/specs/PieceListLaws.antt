@@ -1,12 +1,12 @@
 -- The lists of a piece with one item more, and how long its body is.
-use Rattle.std.specs.Prelude.{◌≡◌, ◌≢◌, ℕ, suc, ◌+◌, ◌<◌, ◌≤◌, max, Bool, true, false, ◌||◌, ◌&&◌, List, [], ◌∷◌, ◌++◌, map, length, Option, None, Some, ◌⊎◌, nat_lt, refl}
-use Rattle.std.proofs.Common.{sym, ap, subst, ◌∙◌, arith, inl, inr, ⊎_elim, length-append}
+use Rattle.std.specs.Prelude.{◌≡◌, ◌≢◌, ℕ, suc, ◌+◌, ◌<◌, ◌≤◌, max, Bool, true, false, ◌||◌, ◌&&◌, List, [], ◌∷◌, ◌++◌, length, refl}
+use Rattle.std.proofs.Common.{sym, ap, ◌∙◌, arith, inl, length-append}
 use Rattle.std.proofs.lemmas.Bool.{true≢false}
 use Rattle.std.proofs.lemmas.List.Folds.{list_any-append}
-use Rattle.std.specs.List.{flat_map, list_any, AllByRecursion}
+use Rattle.std.specs.List.{flat_map, AllByRecursion}
 use Rattle.std.specs.Cmp.{first_so}
 use Rattle.std.specs.Ordering.{nat_cmp}
-use Rattle.squall_span.specs.Spans.{Interval, Beyond, IsSet}
+use Rattle.squall_span.specs.Spans.{Interval}
 use Rattle.squall_join.specs.declared.flat.Flat.{Flat}
 use Rattle.squall_join.specs.declared.flat.Flat.TheVariants.{Unknown, One, Clash}
 use Rattle.squall_join.specs.Pairs.{pair_of}
@@ -14,20 +14,20 @@ use Rattle.squall_join.specs.Entries.{merged}
 use Rattle.squall_report.specs.Issues.{PlanPair}
 use Rattle.squall_report.specs.Cells.{CellPlace, is_cell_place}
 use Rattle.squall_report.specs.Facts.{Fact, LoadedKey, DonePart, OpenedSub}
-use Rattle.squall_report.specs.Told.{Told, both_issued, SameTold, TellsBoth}
+use Rattle.squall_report.specs.Told.{both_issued}
 use Rattle.squall_report.specs.ToldLaws.{issued_assoc, issued_neutral}
 use Rattle.squall_board.specs.declared.opening.Opening.{Opening}
-use Rattle.squall_board.specs.Boards.{CellValue, BoardValue, IsBoard, openings_in, issues_in, cells_in, empty_board, board_join, opening_board, issue_board, cell_board, told, says, issued, one_issue, count_says, told_by_cell, told_by_count, told_by_issue}
-use Rattle.squall_board.specs.BoardLaws.{join_is, empty_is, cell_tells, count_tells, issue_tells, cell_board_is, opening_board_is, issue_board_is, joined_tells}
-use Rattle.squall_board.specs.Listed.{CellEntry, entry_with, entry_value, has_spans, is_entry, IsCell, entries_say, entry_says, ComesBefore, CellsRise, AreCells, cells_of_numbers, cells_of, openings_of_counts, openings_of, openings_say, IsOpening, OpeningsRise, AreOpenings, issues_of, entries_issue, IssuesRise, AreIssues}
+use Rattle.squall_board.specs.Boards.{CellValue, BoardValue, IsBoard, openings_in, issues_in, cells_in, board_join, opening_board, issue_board, cell_board, issued, one_issue, count_says, told_by_cell, told_by_count, told_by_issue}
+use Rattle.squall_board.specs.BoardLaws.{join_is, cell_tells, count_tells, issue_tells, cell_board_is, opening_board_is, issue_board_is, joined_tells}
+use Rattle.squall_board.specs.Listed.{CellEntry, entry_value, has_spans, IsCell, entry_says, ComesBefore, cells_of_numbers, cells_of, openings_of_counts, openings_of, openings_say, IsOpening, OpeningsRise, issues_of, entries_issue, IssuesRise}
 use Rattle.squall_board.specs.ListedLaws.{all_weaker, openings_listed, issues_listed, cells_listed}
 use Rattle.squall_board.specs.OneListLaws.{one_openings, one_issues, one_cells}
 use Rattle.squall_wire.specs.Messages.{BoardLists, lists_with, lists_of, spell_lists}
-use Rattle.squall_wire.specs.Spelling.{word, spell_list, spell_some, spell_opening, spell_issue, spell_cell, spell_span}
+use Rattle.squall_wire.specs.Spelling.{spell_list, spell_some, spell_opening, spell_issue, spell_cell}
 use Rattle.squall_delta.specs.Items.{Item, opening, issue, done, loaded, item_board}
 use Rattle.squall_delta.specs.Pieces.{body_length}
-use Rattle.squall_delta.specs.Cutting.{add_cell, done_entry, span_entry, entry_joined, add_item, add_items, no_lists, GoesOn, EntryFollows, ItemFollows, IsItem, has_some, last_place, is_last, cell_cost, issue_cost, item_cost}
-use Rattle.squall_delta.specs.PieceCellLaws.{rise_added, all_added, joined_cell, say_added, flat_append, length_added, last_added}
+use Rattle.squall_delta.specs.Cutting.{add_cell, done_entry, span_entry, add_item, EntryFollows, ItemFollows, IsItem, has_some, issue_cost, item_cost}
+use Rattle.squall_delta.specs.PieceCellLaws.{rise_added, all_added, joined_cell, say_added, flat_append, length_added}
 
 -- ---- lists
 

@@ -1,18 +1,17 @@
 -- How the bodies of runs of items grow, and how the runs are cut.
-use Rattle.std.specs.Prelude.{◌≡◌, ◌≢◌, ℕ, suc, ◌+◌, ◌<◌, ◌≤◌, nat_lt, Bool, true, false, List, [], ◌∷◌, ◌++◌, map, length, Option, None, Some, if◌then◌else◌, refl}
+use Rattle.std.specs.Prelude.{◌≡◌, ◌≢◌, ℕ, suc, ◌+◌, ◌<◌, ◌≤◌, nat_lt, Bool, true, false, List, [], ◌∷◌, ◌++◌, map, length, if◌then◌else◌, refl}
 use Rattle.std.proofs.Common.{sym, ap, subst, ◌∙◌, arith}
-use Rattle.std.proofs.lemmas.Bool.{true≢false}
 use Rattle.std.proofs.lemmas.Bool.Decides.{nat_tests}
 use Rattle.std.specs.List.{flat_map, AllByRecursion}
 use Rattle.squall_report.specs.Cells.{CellPlace, is_same_cell}
-use Rattle.squall_board.specs.Boards.{BoardValue, IsBoard, empty_board, board_join}
+use Rattle.squall_board.specs.Boards.{BoardValue, empty_board, board_join}
 use Rattle.squall_board.specs.Listed.{CellEntry, ComesBefore}
 use Rattle.squall_wire.specs.Limits.{body_limit}
 use Rattle.squall_wire.specs.Messages.{BoardLists, lists_of}
 use Rattle.squall_wire.specs.Spelling.{spell_issue, spell_cell, spell_span}
 use Rattle.squall_delta.specs.Items.{Item, opening, issue, done, loaded, item_board, with_items, items_board}
 use Rattle.squall_delta.specs.Pieces.{body_length, FitsFrame, IsFull, AreLongestRuns, items_of_groups}
-use Rattle.squall_delta.specs.Cutting.{CutBoard, cut_with, uncut, turned, roomy, put_item, fed, fed_all, empty_bytes, pieces_with, group_bytes, cut_after, cut_items, done_entry, span_entry, ItemFollows, ItemsRise, IsItem, AreNext, has_some, last_after, last_place, is_last, cell_cost, issue_cost, item_cost}
+use Rattle.squall_delta.specs.Cutting.{cut_with, uncut, turned, put_item, fed_all, empty_bytes, pieces_with, group_bytes, cut_after, cut_items, done_entry, span_entry, ItemFollows, ItemsRise, IsItem, AreNext, has_some, last_after, last_place, is_last, cell_cost, issue_cost, item_cost}
 use Rattle.squall_delta.specs.PieceCellLaws.{place_other}
 use Rattle.squall_delta.specs.PieceListLaws.{length_put}
 use Rattle.squall_delta.specs.PieceItemLaws.{next_put, next_first, all_first, rise_first}

@@ -1,5 +1,5 @@
 -- What one step of cutting leaves.
-use Rattle.std.specs.Prelude.{◌≡◌, ◌≢◌, ℕ, suc, ◌+◌, ◌*◌, ◌<◌, ◌≤◌, nat_lt, Bool, true, false, List, [], ◌∷◌, ◌++◌, map, length, Option, None, Some, if◌then◌else◌, refl}
+use Rattle.std.specs.Prelude.{◌≡◌, ℕ, suc, ◌+◌, ◌*◌, ◌<◌, ◌≤◌, nat_lt, Bool, true, false, List, [], ◌∷◌, ◌++◌, map, length, Option, Some, if◌then◌else◌, refl}
 use Rattle.std.proofs.Common.{sym, ap, subst, ◌∙◌, arith, length-append, get_or, take, drop}
 use Rattle.std.proofs.lemmas.List.{drop_more, drop_all, take_more, take_all}
 use Rattle.std.proofs.lemmas.Bool.Decides.{nat_tests}
@@ -9,16 +9,15 @@ use Rattle.squall_join.specs.declared.flat.Flat.{Flat}
 use Rattle.squall_plan.specs.declared.range.PlanRange.{PlanRange}
 use Rattle.squall_report.specs.Issues.{PlanPair}
 use Rattle.squall_report.specs.Cells.{CellPlace}
-use Rattle.squall_board.specs.Boards.{BoardValue, IsBoard, empty_board, board_join}
-use Rattle.squall_board.specs.BoardLaws.{empty_is}
-use Rattle.squall_board.specs.Listed.{CellEntry, cells_of, issues_of}
+use Rattle.squall_board.specs.Boards.{BoardValue, empty_board, board_join}
+use Rattle.squall_board.specs.Listed.{cells_of, issues_of}
 use Rattle.squall_board.specs.declared.opening.Opening.{Opening}
 use Rattle.squall_wire.specs.Limits.{body_limit}
 use Rattle.squall_wire.specs.Messages.{BoardLists, lists_of}
 use Rattle.squall_wire.specs.Spelling.{spell_range, spell_plan, spell_issue, spell_issued}
 use Rattle.squall_delta.specs.Items.{Item, opening, issue, done, loaded, item_board, items_board}
 use Rattle.squall_delta.specs.Pieces.{body_length, FitsFrame}
-use Rattle.squall_delta.specs.Cutting.{CutBoard, cut_with, turned, roomy, put_item, fed, fed_all, add_item, no_lists, ItemBefore, ItemsRise, IsItem, AreNext, IsMeasured, EntryFollows, done_entry, span_entry, has_some, last_place, is_last, cell_cost, issue_cost, span_bytes, item_cost}
+use Rattle.squall_delta.specs.Cutting.{CutBoard, cut_with, turned, roomy, put_item, fed, fed_all, add_item, no_lists, ItemBefore, ItemsRise, IsItem, AreNext, IsMeasured, done_entry, span_entry, has_some, last_place, is_last, cell_cost, issue_cost, span_bytes, item_cost}
 use Rattle.squall_delta.specs.PieceCellLaws.{last_added}
 use Rattle.squall_delta.specs.PieceListLaws.{lists_added, length_put, follow_done}
 use Rattle.squall_delta.specs.PieceItemLaws.{next_put, next_first}
