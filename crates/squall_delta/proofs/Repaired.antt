@@ -9,7 +9,7 @@ use Rattle.squall_board.specs.Boards.{Cells, BoardValue, cells_in, empty_board, 
 use Rattle.squall_board.specs.Listed.{openings_of, issues_of}
 use Rattle.squall_wire.specs.DigestValue.{DigestValue}
 use Rattle.squall_delta.specs.Repairs.{IsRepair}
-use Rattle.squall_delta.specs.Kept.{with_kept, with_openings, with_issues, with_cells, lacking}
+use Rattle.squall_delta.specs.Kept.{with_kept, with_newer_openings, with_lacking_issues, with_lacking_cells, lacking}
 use Rattle.squall_delta.specs.KeptLaws.{lacking_repairs}
 
 -- one item more is put in
@@ -20,8 +20,8 @@ next_kept keep make now new old xs i x lt is before step =
     ∙ before
 
 pub repaired : (b : BoardValue) (d : DigestValue) (first second third fourth : BoardValue) (os : List Opening) (es : List (ℕ × Flat PlanPair)) (cs : Cells) → IsBoard b → first ≡ empty_board → os ≡ openings_of b → es ≡ issues_of b → cs ≡ cells_in b
-    → second ≡ with_openings d.openings first os → third ≡ with_issues d second es → fourth ≡ with_cells d third cs → IsRepair b d fourth
-repaired b d first second third fourth os es cs is none opened issued celled x y z = subst (IsRepair b d) (sym (z ∙ (λ i. with_cells d (path i) (celled i)))) (lacking_repairs b d is)
+    → second ≡ with_newer_openings d.openings first os → third ≡ with_lacking_issues d second es → fourth ≡ with_lacking_cells d third cs → IsRepair b d fourth
+repaired b d first second third fourth os es cs is none opened issued celled x y z = subst (IsRepair b d) (sym (z ∙ (λ i. with_lacking_cells d (path i) (celled i)))) (lacking_repairs b d is)
   where
-    path : third ≡ with_issues d (with_openings d.openings empty_board (openings_of b)) (issues_of b)
-    path = y ∙ (λ i. with_issues d (x i) (issued i)) ∙ (λ i. with_issues d (with_openings d.openings (none i) (opened i)) (issues_of b))
+    path : third ≡ with_lacking_issues d (with_newer_openings d.openings empty_board (openings_of b)) (issues_of b)
+    path = y ∙ (λ i. with_lacking_issues d (x i) (issued i)) ∙ (λ i. with_lacking_issues d (with_newer_openings d.openings (none i) (opened i)) (issues_of b))

@@ -27,22 +27,22 @@ abbrev pub lacks_row : DigestValue → ℕ → ℕ × Parts → Bool
 lacks_row d number e = not (shows_row d number e.0 (row_hash number e.0 e.1))
 
 -- the board with each opening joined in of which the list has a lower count
-abbrev pub with_openings : List Opening → BoardValue → List Opening → BoardValue
-with_openings os = with_kept (is_newer os) (λ o. opening_board o.number o.count)
+abbrev pub with_newer_openings : List Opening → BoardValue → List Opening → BoardValue
+with_newer_openings os = with_kept (is_newer os) (λ o. opening_board o.number o.count)
 
 -- the board with each issue joined in that the digest lacks
-abbrev pub with_issues : DigestValue → BoardValue → List (ℕ × Flat PlanPair) → BoardValue
-with_issues d = with_kept (lacks_issue d) (λ e. issue_board e.0 e.1)
+abbrev pub with_lacking_issues : DigestValue → BoardValue → List (ℕ × Flat PlanPair) → BoardValue
+with_lacking_issues d = with_kept (lacks_issue d) (λ e. issue_board e.0 e.1)
 
 -- the board with each row of the number joined in that the digest lacks
-abbrev pub with_rows : DigestValue → ℕ → BoardValue → Subs → BoardValue
-with_rows d number = with_kept (lacks_row d number) (λ e. row_board number e.0 e.1)
+abbrev pub with_lacking_rows : DigestValue → ℕ → BoardValue → Subs → BoardValue
+with_lacking_rows d number = with_kept (lacks_row d number) (λ e. row_board number e.0 e.1)
 
 -- the board with each row joined in that the digest lacks
-abbrev pub with_cells : DigestValue → BoardValue → Cells → BoardValue
-with_cells d b [] = b
-with_cells d b (e ∷ es) = with_cells d (with_rows d e.0 b e.1) es
+abbrev pub with_lacking_cells : DigestValue → BoardValue → Cells → BoardValue
+with_lacking_cells d b [] = b
+with_lacking_cells d b (e ∷ es) = with_lacking_cells d (with_lacking_rows d e.0 b e.1) es
 
 -- the board of what the digest lacks of the board
 abbrev pub lacking : BoardValue → DigestValue → BoardValue
-lacking b d = with_cells d (with_issues d (with_openings d.openings empty_board (openings_of b)) (issues_of b)) (cells_in b)
+lacking b d = with_lacking_cells d (with_lacking_issues d (with_newer_openings d.openings empty_board (openings_of b)) (issues_of b)) (cells_in b)

@@ -30,7 +30,7 @@ use Rattle.squall_wire.specs.DigestValue.{DigestValue}
 use Rattle.squall_delta.specs.Hashes.{row_hash, issue_hash, row_in}
 use Rattle.squall_delta.specs.HashLaws.{all_true}
 use Rattle.squall_delta.specs.Repairs.{count_in, shows_issue, shows_row, IsRepair}
-use Rattle.squall_delta.specs.Kept.{with_kept, is_newer, lacks_issue, lacks_row, with_openings, with_issues, with_rows, with_cells, lacking}
+use Rattle.squall_delta.specs.Kept.{with_kept, is_newer, lacks_issue, lacks_row, with_newer_openings, with_lacking_issues, with_lacking_rows, with_lacking_cells, lacking}
 
 -- ---- looks at a board
 
@@ -194,9 +194,9 @@ module _ {A : Type 0} (is_value : A → Type 0) (bottom : A) (join : A → A →
 abbrev AreRowsNested : Cells → Type 0
 AreRowsNested numbers = AllByRecursion (λ e. AllByRecursion (λ f. is_nested (row_board e.0 f.0 f.1)) e.1) numbers
 
-nested_cells : (d : DigestValue) (b : BoardValue) (es : Cells) → is_nested b → AreRowsNested es → is_nested (with_cells d b es)
+nested_cells : (d : DigestValue) (b : BoardValue) (es : Cells) → is_nested b → AreRowsNested es → is_nested (with_lacking_cells d b es)
 nested_cells d b [] n a = n
-nested_cells d b (e ∷ es) n a = nested_cells d (with_rows d e.0 b e.1) es (nested_kept (lacks_row d e.0) (λ f. row_board e.0 f.0 f.1) b e.1 n a.0) a.1
+nested_cells d b (e ∷ es) n a = nested_cells d (with_lacking_rows d e.0 b e.1) es (nested_kept (lacks_row d e.0) (λ f. row_board e.0 f.0 f.1) b e.1 n a.0) a.1
 
 module _ {A : Type 0} (is_value : A → Type 0) (bottom : A) (join : A → A → A) (look : BoardValue → A) (l : IsLook is_value bottom join look) (d : DigestValue) where
   -- what is seen of the rows of a number
@@ -207,16 +207,16 @@ module _ {A : Type 0} (is_value : A → Type 0) (bottom : A) (join : A → A →
   rows_value es a = all_weaker (λ e. AllByRecursion (λ f. is_nested (row_board e.0 f.0 f.1)) e.1) (λ e. is_value (seen_rows e)) es a
       (λ e n. seen_value is_value bottom join l.laws (lacks_row d e.0) (λ f. look (row_board e.0 f.0 f.1)) e.1 (values is_value bottom join look l (λ f. row_board e.0 f.0 f.1) e.1 n))
 
-  look_cells : (b : BoardValue) (es : Cells) → is_nested b → AreRowsNested es → look (with_cells d b es) ≡ join (look b) (seen (λ e. true) seen_rows bottom join es)
+  look_cells : (b : BoardValue) (es : Cells) → is_nested b → AreRowsNested es → look (with_lacking_cells d b es) ≡ join (look b) (seen (λ e. true) seen_rows bottom join es)
   look_cells b [] n a = sym (l.laws.neutral (look b) (l.value b n))
   look_cells b (e ∷ es) n a =
       let rest = seen (λ e. true) seen_rows bottom join es in
       let made = nested_kept (lacks_row d e.0) (λ f. row_board e.0 f.0 f.1) b e.1 n a.0 in
-      look_cells (with_rows d e.0 b e.1) es made a.1
+      look_cells (with_lacking_rows d e.0 b e.1) es made a.1
       ∙ ap (λ v. join v rest) (look_kept is_value bottom join look l (lacks_row d e.0) (λ f. row_board e.0 f.0 f.1) b e.1 n a.0)
       ∙ l.laws.assoc (look b) (seen_rows e) rest (l.value b n) (rows_value (e ∷ es) a).0 (seen_value is_value bottom join l.laws (λ e. true) seen_rows es (rows_value es a.1))
 
-  same_cells : (b : BoardValue) (es : Cells) → is_nested b → AreRowsNested es → ((n s : ℕ) (parts : Parts) → look (row_board n s parts) ≡ bottom) → look (with_cells d b es) ≡ look b
+  same_cells : (b : BoardValue) (es : Cells) → is_nested b → AreRowsNested es → ((n s : ℕ) (parts : Parts) → look (row_board n s parts) ≡ bottom) → look (with_lacking_cells d b es) ≡ look b
   same_cells b es n a none =
       look_cells b es n a
       ∙ ap (join (look b)) (seen_none is_value bottom join l.laws (λ e. true) seen_rows es (all_true (λ e. seen_rows e ≡ bottom) (λ e. seen_none is_value bottom join l.laws (lacks_row d e.0) (λ f. look (row_board e.0 f.0 f.1)) e.1 (all_true (λ f. look (row_board e.0 f.0 f.1) ≡ bottom) (λ f. none e.0 f.0 f.1) e.1)) es))
@@ -274,10 +274,10 @@ module _ (b : BoardValue) (d : DigestValue) (is : IsBoard b) where
       (λ e k. all_weaker (λ f. IsKept parts_are [] f.1) (λ f. is_nested (row_board e.0 f.0 f.1)) e.1 k.0.kept (λ f j. row_nested e.0 f.0 f.1 j.0 j.1))
 
   abbrev opened_part : BoardValue
-  opened_part = with_openings d.openings empty_board (openings_of b)
+  opened_part = with_newer_openings d.openings empty_board (openings_of b)
 
   abbrev issued_part : BoardValue
-  issued_part = with_issues d opened_part (issues_of b)
+  issued_part = with_lacking_issues d opened_part (issues_of b)
 
   opened_nested : is_nested opened_part
   opened_nested = nested_kept (is_newer d.openings) (λ o. opening_board o.number o.count) empty_board (openings_of b) board_laws.bottom_is openings_nested

@@ -5,7 +5,7 @@ ghost use Rattle.std.specs.Arc.{arc_value};
 ghost use Rattle.std.specs.List.{AllByRecursion};
 ghost use Rattle.squall_join.specs.Flats.{flat_map};
 ghost use Rattle.squall_board.specs.Listed.{IsOpening, AreCellsOfParts, AreCellsOfSubs, AreCellsOfNumbers, AreSomeRows};
-ghost use Rattle.squall_delta.specs.Kept.{with_openings, with_issues, with_rows, with_cells};
+ghost use Rattle.squall_delta.specs.Kept.{with_newer_openings, with_lacking_issues, with_lacking_rows, with_lacking_cells};
 ghost use Rattle.squall_delta.specs.Repairs.{IsRepair};
 
 use crate::shown::{count_in, shows_issue, shows_row};
@@ -19,7 +19,7 @@ use std::sync::Arc;
 /// Puts in each opening whose count is greater than the digest's.
 fn put_openings(delta: &mut Delta, digest: &Digest, openings: &[Opening]) -> Result<(), AllocError>
     requires { AllByRecursion IsOpening openings.now }
-    ensures { OnOk result (delta.new ≡ with_openings digest.now.openings delta.old openings.now) }
+    ensures { OnOk result (delta.new ≡ with_newer_openings digest.now.openings delta.old openings.now) }
 {
     for opening in openings {
         if count_in(digest.openings(), opening.number) < opening.count {
@@ -37,7 +37,7 @@ fn put_issues(
     issues: &[(u32, Flat<Arc<Issue>>)],
 ) -> Result<(), AllocError>
     requires { AllByRecursion (λ e. 1 ≤ e.0) issues.now }
-    ensures { OnOk result (delta.new ≡ with_issues digest.now delta.old (map (λ e. (e.0, flat_map arc_value e.1)) issues.now)) }
+    ensures { OnOk result (delta.new ≡ with_lacking_issues digest.now delta.old (map (λ e. (e.0, flat_map arc_value e.1)) issues.now)) }
 {
     for entry in issues {
         if !shows_issue(alloc, digest, entry.0, &entry.1)? {
@@ -58,7 +58,7 @@ fn put_row(
 ) -> Result<(), AllocError>
     requires cells { AreCellsOfParts number sub row.now }
     requires some { row.now ≢ [] }
-    ensures { OnOk result (delta.new ≡ with_rows digest.now number delta.old ((sub, row.now) ∷ [])) }
+    ensures { OnOk result (delta.new ≡ with_lacking_rows digest.now number delta.old ((sub, row.now) ∷ [])) }
 {
     if shows_row(buffer, digest, number, sub, row)? {
         return Ok(());
@@ -76,7 +76,7 @@ fn put_rows(
 ) -> Result<(), AllocError>
     requires cells { AreCellsOfSubs number subs.now }
     requires some { AllByRecursion (λ e. e.1 ≢ []) subs.now }
-    ensures { OnOk result (delta.new ≡ with_rows digest.now number delta.old subs.now) }
+    ensures { OnOk result (delta.new ≡ with_lacking_rows digest.now number delta.old subs.now) }
 {
     for entry in subs {
         put_row(delta, buffer, digest, number, entry.0, &entry.1)?;
@@ -93,7 +93,7 @@ fn put_cells(
 ) -> Result<(), AllocError>
     requires cells { AreCellsOfNumbers numbers.now }
     requires some { AreSomeRows numbers.now }
-    ensures { OnOk result (delta.new ≡ with_cells digest.now delta.old numbers.now) }
+    ensures { OnOk result (delta.new ≡ with_lacking_cells digest.now delta.old numbers.now) }
 {
     for entry in numbers {
         put_rows(delta, buffer, digest, entry.0, entry.1.entries())?;
