@@ -25,21 +25,23 @@ fn opened_by(list: &[Report], number: u32) -> u32 {
     count
 }
 
-/// The board says of a place what the test says of each key, and of completion.
-fn says_at(
+/// The board says of a place what the list says and the other does not.
+fn says_without(
     rt: &impl Abort,
     board: &Board,
     place: (u32, u32, u32),
-    done: bool,
-    loaded: impl Fn(Key) -> bool,
+    list: &[Report],
+    other: &[Report],
 ) {
-    assert_eq!(rt; board.says_done(place.0, place.1, place.2), done);
+    let (number, sub, part) = place;
+    let done = plain::says_done(list, number, sub, part);
+    let also = plain::says_done(other, number, sub, part);
+    assert_eq!(rt; board.says_done(number, sub, part), done && !also);
     for rank in 0..31u64 {
         if let Some(key) = Key::of_rank(rank) {
-            assert_eq!(rt;
-                board.says_loaded(place.0, place.1, place.2, key),
-                loaded(key)
-            );
+            let loaded = plain::says_loaded(list, number, sub, part, key);
+            let also = plain::says_loaded(other, number, sub, part, key);
+            assert_eq!(rt; board.says_loaded(number, sub, part, key), loaded && !also);
         }
     }
 }
@@ -58,7 +60,11 @@ fn same_at(a: &[Report], b: &[Report], number: u32, sub: u32, part: u32) -> bool
 
 /// Whether both lists say the same of all places of a row.
 fn same_row(a: &[Report], b: &[Report], number: u32, sub: u32) -> bool {
-    (0..4u32).all(|part| same_at(a, b, number, sub, part))
+    let mut same = true;
+    for part in 0..4u32 {
+        same = same && same_at(a, b, number, sub, part);
+    }
+    same
 }
 
 /// What is issued beyond what another list issues.
@@ -82,14 +88,7 @@ fn tells_beyond(rt: &impl Abort, board: &Board, a: &[Report], b: &[Report]) {
     for number in 1..4u32 {
         for sub in 0..2u32 {
             for part in 0..4u32 {
-                let (x, y) = (
-                    plain::says_done(a, number, sub, part),
-                    plain::says_done(b, number, sub, part),
-                );
-                says_at(rt, board, (number, sub, part), x && !y, |key| {
-                    plain::says_loaded(a, number, sub, part, key)
-                        && !plain::says_loaded(b, number, sub, part, key)
-                });
+                says_without(rt, board, (number, sub, part), a, b);
             }
         }
         greater_openings(rt, board, a, b, number);
@@ -98,49 +97,87 @@ fn tells_beyond(rt: &impl Abort, board: &Board, a: &[Report], b: &[Report]) {
     }
 }
 
+/// What a repair of the list b sends of an issue, where the other list is a.
+fn issue_sent<'a>(a: &'a [Report], b: &'a [Report], number: u32) -> Flat<&'a Arc<Issue>> {
+    let (first, second) = (plain::issuing(a, number), plain::issuing(b, number));
+    if same_issue(&first, &second) {
+        Flat::Unknown
+    } else {
+        second
+    }
+}
+
 /// The board tells the openings, the issues and whole the rows of the list b in which the list a
 /// tells anything else.
 fn repairs(rt: &impl Abort, board: &Board, a: &[Report], b: &[Report]) {
     for number in 1..4u32 {
         for sub in 0..2u32 {
-            let sent = !same_row(a, b, number, sub);
+            let sent = if same_row(a, b, number, sub) {
+                &b[..0]
+            } else {
+                b
+            };
             for part in 0..4u32 {
-                let done = sent && plain::says_done(b, number, sub, part);
-                says_at(rt, board, (number, sub, part), done, |key| {
-                    sent && plain::says_loaded(b, number, sub, part, key)
-                });
+                says_without(rt, board, (number, sub, part), sent, &b[..0]);
             }
         }
         greater_openings(rt, board, b, a, number);
-        let (first, second) = (plain::issuing(a, number), plain::issuing(b, number));
-        let wanted = if same_issue(&first, &second) {
-            Flat::Unknown
-        } else {
-            second
-        };
-        assert!(rt; same_issue(&board.issuing(number), &wanted));
+        assert!(rt; same_issue(&board.issuing(number), &issue_sent(a, b, number)));
     }
+}
+
+/// The join of both boards.
+fn join_of(alloc: Global, a: &Board, b: &Board) -> Result<Board, Fail> {
+    let mut both = a.copied(alloc)?;
+    both.merge(b)?;
+    Ok(both)
+}
+
+/// Whether a board, with another joined in, is the join of two.
+fn completes(alloc: Global, part: &Board, whole: &Board, other: &Board) -> Result<bool, Fail> {
+    let joined = join_of(alloc, part, whole)?;
+    let both = join_of(alloc, whole, other)?;
+    Ok(joined == both)
+}
+
+/// What the board of the list a tells beyond that of the list b.
+fn try_beyond(rt: &impl Abort, alloc: Global, a: &[Report], b: &[Report]) -> Result<(), Fail> {
+    let first = one_by_one(alloc, a)?;
+    let second = one_by_one(alloc, b)?;
+    let rest = beyond(alloc, &first, &second)?;
+    tells_beyond(rt, &rest, a, b);
+    assert!(rt; completes(alloc, &rest, &second, &first)?);
+    Ok(())
+}
+
+/// The repair of the board of the list b by the digest of that of the list a.
+fn try_repair(rt: &impl Abort, alloc: Global, a: &[Report], b: &[Report]) -> Result<(), Fail> {
+    let first = one_by_one(alloc, a)?;
+    let second = one_by_one(alloc, b)?;
+    let shown = digest(alloc, &first)?;
+    let rest = repair(alloc, &second, &shown)?;
+    repairs(rt, &rest, a, b);
+    assert!(rt; completes(alloc, &rest, &first, &second)?);
+    Ok(())
+}
+
+/// The pieces of a board make it again.
+fn try_pieces(rt: &impl Abort, alloc: Global, list: &[Report]) -> Result<(), Fail> {
+    let board = one_by_one(alloc, list)?;
+    let cut = pieces(alloc, &board)?;
+    let mut joined = Board::new(alloc);
+    for piece in &cut {
+        joined.merge(piece)?;
+    }
+    assert!(rt; joined == board);
+    Ok(())
 }
 
 /// Two boards, and what each sends the other.
 fn try_pair(rt: &impl Abort, alloc: Global, a: &[Report], b: &[Report]) -> Result<(), Fail> {
-    let (first, second) = (one_by_one(alloc, a)?, one_by_one(alloc, b)?);
-    let mut both = first.copied(alloc)?;
-    both.merge(&second)?;
-    let mut rest = beyond(alloc, &first, &second)?;
-    tells_beyond(rt, &rest, a, b);
-    rest.merge(&second)?;
-    assert!(rt; rest == both);
-    let mut repaired = repair(alloc, &second, &digest(alloc, &first)?)?;
-    repairs(rt, &repaired, a, b);
-    repaired.merge(&first)?;
-    assert!(rt; repaired == both);
-    let mut joined = Board::new(alloc);
-    for piece in &pieces(alloc, &both)? {
-        joined.merge(piece)?;
-    }
-    assert!(rt; joined == both);
-    Ok(())
+    try_beyond(rt, alloc, a, b)?;
+    try_repair(rt, alloc, a, b)?;
+    try_pieces(rt, alloc, a)
 }
 
 #[test]
