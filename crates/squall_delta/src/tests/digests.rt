@@ -108,40 +108,87 @@ fn the_digest_of_nothing(rt: HostRuntime) -> Result<(), Fail> {
     Ok(())
 }
 
+/// The repair of the second board by the digest of the first.
+fn repair_by(alloc: Global, first: &Board, second: &Board) -> Result<Board, Fail> {
+    let shown = digest(alloc, first)?;
+    let delta = repair(alloc, second, &shown)?;
+    Ok(delta)
+}
+
+/// The repair of the board of the load and the completion by the digest of that of the load.
+fn repair_of_completed(alloc: Global) -> Result<Board, Fail> {
+    let first = loaded(alloc).ok_or("a board")?;
+    let second = completed(alloc).ok_or("a second board")?;
+    repair_by(alloc, &first, &second)
+}
+
 #[test]
-fn a_repair_has_what_a_digest_lacks(rt: HostRuntime) -> Result<(), Fail> {
-    let mut first = loaded(rt.alloc()).ok_or("a board")?;
-    let second = completed(rt.alloc()).ok_or("a second board")?;
-    let shown = digest(rt.alloc(), &first)?;
-    let delta = repair(rt.alloc(), &second, &shown)?;
+fn the_frame_of_a_repair(rt: HostRuntime) -> Result<(), Fail> {
+    let delta = repair_of_completed(rt.alloc())?;
     let bytes = encode_board(rt.alloc(), &delta)?;
     assert!(rt; bytes.as_slice() == hex(rt.alloc(), DONE)?.as_slice());
-    assert!(rt; repair(rt.alloc(), &first, &shown)? == Board::new(rt.alloc()));
-    first.merge(&delta)?;
-    assert!(rt; first == second);
     Ok(())
 }
 
 #[test]
+fn a_repair_completes_a_board(rt: HostRuntime) -> Result<(), Fail> {
+    let mut board = loaded(rt.alloc()).ok_or("a board")?;
+    board.merge(&repair_of_completed(rt.alloc())?)?;
+    let both = completed(rt.alloc()).ok_or("a second board")?;
+    assert!(rt; board == both);
+    Ok(())
+}
+
+#[test]
+fn a_repair_of_what_is_shown_is_empty(rt: HostRuntime) -> Result<(), Fail> {
+    let board = loaded(rt.alloc()).ok_or("a board")?;
+    let delta = repair_by(rt.alloc(), &board, &board)?;
+    assert!(rt; delta == Board::new(rt.alloc()));
+    Ok(())
+}
+
+/// A repair of openings: of a greater count, an equal one, a lower one, and one that is lacking.
+fn repair_of_openings(alloc: Global) -> Result<Board, Fail> {
+    let first = opened(alloc, &[(1, 0), (2, 1), (3, 2)]).ok_or("a board")?;
+    let second = opened(alloc, &[(1, 1), (2, 1), (3, 0), (4, 6)]).ok_or("a second board")?;
+    repair_by(alloc, &first, &second)
+}
+
+#[test]
 fn a_repair_has_greater_openings(rt: HostRuntime) -> Result<(), Fail> {
-    let first = opened(rt.alloc(), &[(1, 0), (2, 1), (3, 2)]).ok_or("a board")?;
-    let second = opened(rt.alloc(), &[(1, 1), (2, 1), (3, 0), (4, 6)]).ok_or("a second board")?;
-    let delta = repair(rt.alloc(), &second, &digest(rt.alloc(), &first)?)?;
+    let delta = repair_of_openings(rt.alloc())?;
     assert!(rt; delta.opened(1) == 2 && delta.opened(2) == 0);
     assert!(rt; delta.opened(3) == 0 && delta.opened(4) == 7);
     Ok(())
 }
 
+/// A board of two issues.
+fn two_issues(alloc: Global) -> Result<Board, Fail> {
+    let board = issuing(alloc, &[(2, 1), (3, 1)]).ok_or("a board")?;
+    Ok(board)
+}
+
+/// A repair of issues: one that is lacking, an equal one, and another.
+fn repair_of_issues(alloc: Global) -> Result<Board, Fail> {
+    let first = two_issues(alloc)?;
+    let second = issuing(alloc, &[(1, 1), (2, 1), (3, 2)]).ok_or("a second board")?;
+    repair_by(alloc, &first, &second)
+}
+
 #[test]
 fn a_repair_has_other_issues(rt: HostRuntime) -> Result<(), Fail> {
-    let mut first = issuing(rt.alloc(), &[(2, 1), (3, 1)]).ok_or("a board")?;
-    let second = issuing(rt.alloc(), &[(1, 1), (2, 1), (3, 2)]).ok_or("a second board")?;
-    let delta = repair(rt.alloc(), &second, &digest(rt.alloc(), &first)?)?;
+    let delta = repair_of_issues(rt.alloc())?;
     assert!(rt; matches!(delta.issuing(1), Flat::One(_)));
     assert!(rt; matches!(delta.issuing(2), Flat::Unknown));
     assert!(rt; matches!(delta.issuing(3), Flat::One(_)));
-    first.merge(&delta)?;
-    assert!(rt; matches!(first.issuing(3), Flat::Clash));
+    Ok(())
+}
+
+#[test]
+fn other_issues_clash(rt: HostRuntime) -> Result<(), Fail> {
+    let mut board = two_issues(rt.alloc())?;
+    board.merge(&repair_of_issues(rt.alloc())?)?;
+    assert!(rt; matches!(board.issuing(3), Flat::Clash));
     Ok(())
 }
 
