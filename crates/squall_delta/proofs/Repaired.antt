@@ -9,7 +9,7 @@ use Rattle.squall_board.specs.Boards.{Cells, BoardValue, cells_in, empty_board, 
 use Rattle.squall_board.specs.Listed.{openings_of, issues_of}
 use Rattle.squall_wire.specs.DigestValue.{DigestValue}
 use Rattle.squall_delta.specs.Repairs.{IsRepair}
-use Rattle.squall_delta.specs.Kept.{with_kept, with_newer_openings, with_lacking_issues, with_lacking_cells, lacking}
+use Rattle.squall_delta.specs.Kept.{with_kept, with_newer_openings, with_lacking_issues, with_lacking_cells}
 use Rattle.squall_delta.specs.KeptLaws.{lacking_repairs}
 
 -- one item more is put in

@@ -1,5 +1,5 @@
 -- The bytes of rows, one cell after another.
-use Rattle.std.specs.Prelude.{◌≡◌, ◌≢◌, ℕ, zero, suc, ◌<◌, ◌+◌, length, map, List, [], ◌∷◌, ◌++◌}
+use Rattle.std.specs.Prelude.{◌≡◌, ◌≢◌, ℕ, zero, suc, ◌<◌, ◌+◌, length, List, [], ◌∷◌, ◌++◌}
 use Rattle.std.proofs.Common.{sym, ap, subst, ◌∙◌, arith, take, get_or}
 use Rattle.std.proofs.lemmas.List.{append-nil, take_more, map-append}
 use Rattle.std.proofs.lemmas.List.Concat.{flat_map-append}

@@ -1,5 +1,5 @@
 -- What a binary search finds in a list by rising keys.
-use Rattle.std.specs.Prelude.{◌≡◌, ◌≢◌, ℕ, zero, suc, ◌<◌, ◌≤◌, ◌+◌, ◌==◌, Bool, true, false, ◌||◌, ◌&&◌, if◌then◌else◌, nat_lt, length, List, [], ◌∷◌, refl}
+use Rattle.std.specs.Prelude.{◌≡◌, ◌≢◌, ℕ, zero, suc, ◌<◌, ◌+◌, ◌==◌, Bool, true, false, ◌||◌, ◌&&◌, if◌then◌else◌, nat_lt, length, List, [], ◌∷◌, refl}
 use Rattle.std.proofs.Common.{sym, ap, subst, ◌∙◌, arith, get_or, inl, inr, Less, Equal, Greater}
 use Rattle.std.proofs.lemmas.Bool.{true≢false, cases_lt}
 use Rattle.std.proofs.lemmas.Bool.Decides.{nat_tests}
@@ -15,7 +15,7 @@ use Rattle.squall_board.specs.ListedLaws.{all_weaker, any_none, cmp_eq}
 use Rattle.squall_wire.specs.declared.digest.IssueRow.{IssueRow}
 use Rattle.squall_wire.specs.declared.digest.DigestRow.{DigestRow}
 use Rattle.squall_wire.specs.DigestValue.{DigestValue}
-use Rattle.squall_wire.specs.Limits.{AreInTurn, FitsOpening, after_opening, FitsIssueRow, after_issue_row, is_later_row, FitsRow, after_row}
+use Rattle.squall_wire.specs.Limits.{AreInTurn, FitsOpening, after_opening, FitsIssueRow, after_issue_row, FitsRow, after_row}
 use Rattle.squall_delta.specs.Repairs.{count_in, is_same_hash, shows_issue, shows_row}
 use Rattle.squall_delta.proofs.Rows.{all_get}
 

@@ -1,6 +1,6 @@
 -- The digest of a board is in order and within its limits.
-use Rattle.std.specs.Prelude.{◌≡◌, ◌≢◌, ℕ, ◌<◌, ◌≤◌, ◌+◌, ◌&&◌, ◌||◌, ◌==◌, true, Bool, nat_lt, nat_le, length, map, List, [], ◌∷◌, ◌++◌, refl}
-use Rattle.std.proofs.Common.{sym, ap, subst, ◌∙◌, arith}
+use Rattle.std.specs.Prelude.{◌≡◌, ◌≢◌, ℕ, ◌<◌, ◌≤◌, ◌+◌, ◌&&◌, true, nat_lt, nat_le, length, map, List, [], ◌∷◌, ◌++◌, refl}
+use Rattle.std.proofs.Common.{arith}
 use Rattle.std.proofs.lemmas.Bool.Decides.{nat_tests}
 use Rattle.std.specs.Cmp.{first_so}
 use Rattle.std.specs.List.{flat_map, AllByRecursion}
@@ -10,17 +10,17 @@ use Rattle.squall_join.specs.declared.flat.Flat.{Flat}
 use Rattle.squall_report.specs.Issues.{PlanPair}
 use Rattle.squall_report.specs.Cells.{place_at, is_cell_place}
 use Rattle.squall_board.specs.declared.opening.Opening.{Opening}
-use Rattle.squall_board.specs.Boards.{Parts, Subs, Cells, BoardValue, cells_in, issues_in, IsBoard}
-use Rattle.squall_board.specs.Listed.{IsOpening, OpeningsRise, IssuesRise, AreCellsOfParts, AreCellsOfSubs, AreCellsOfNumbers, AreSomeRows, openings_of, issues_of}
-use Rattle.squall_board.specs.ListedLaws.{KeysRise, SubsRise, keys_rise, numbers_keys, all_weaker, all_map, openings_listed, issues_listed, board_cells}
+use Rattle.squall_board.specs.Boards.{Parts, Subs, Cells, BoardValue, cells_in, IsBoard}
+use Rattle.squall_board.specs.Listed.{IsOpening, IssuesRise, AreCellsOfParts, AreCellsOfSubs, AreCellsOfNumbers, AreSomeRows, openings_of, issues_of}
+use Rattle.squall_board.specs.ListedLaws.{KeysRise, SubsRise, keys_rise, numbers_keys, all_weaker, openings_listed, issues_listed, board_cells}
 use Rattle.squall_board.specs.RowLaws.{some_rows}
 use Rattle.squall_wire.specs.declared.digest.IssueRow.{IssueRow}
 use Rattle.squall_wire.specs.declared.digest.DigestRow.{DigestRow}
 use Rattle.squall_wire.specs.DigestValue.{IsDigest}
 use Rattle.squall_wire.specs.Fits.{IsWordOpening}
 use Rattle.squall_wire.specs.FitsLaws.{openings_turn}
-use Rattle.squall_wire.specs.Limits.{word_limit, AreInTurn, AreListed, FitsOpening, after_opening, FitsIssueRow, after_issue_row, row_in_range, is_later_row, FitsRow, after_row}
-use Rattle.squall_delta.specs.Hashes.{issue_hash, row_hash, row_of, issue_row_of, rows_of, digest_of}
+use Rattle.squall_wire.specs.Limits.{word_limit, AreInTurn, FitsOpening, after_opening, FitsIssueRow, after_issue_row, row_in_range, is_later_row, FitsRow, after_row}
+use Rattle.squall_delta.specs.Hashes.{row_of, issue_row_of, rows_of, digest_of}
 
 lt_test : (a b : ℕ) → a < b → nat_lt a b ≡ true
 lt_test a b lt = grind (arith, nat_tests)

@@ -7,7 +7,7 @@ use Rattle.sha2.specs.Sha256.{sha256}
 use Rattle.squall_join.specs.declared.flat.Flat.{Flat}
 use Rattle.squall_join.specs.Looked.{looked}
 use Rattle.squall_report.specs.Issues.{PlanPair}
-use Rattle.squall_board.specs.Boards.{Parts, Subs, BoardValue, cells_in, found_in}
+use Rattle.squall_board.specs.Boards.{Parts, BoardValue, cells_in, found_in}
 use Rattle.squall_board.specs.Listed.{cells_of_parts, openings_of, issues_of}
 use Rattle.squall_wire.specs.declared.digest.IssueRow.{IssueRow}
 use Rattle.squall_wire.specs.declared.digest.DigestRow.{DigestRow}

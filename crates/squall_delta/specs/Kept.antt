@@ -1,5 +1,5 @@
 -- A board with some of a list's items joined in (this project).
-use Rattle.std.specs.Prelude.{ℕ, Bool, not, nat_lt, true, if◌then◌else◌, List, [], ◌∷◌}
+use Rattle.std.specs.Prelude.{ℕ, Bool, not, nat_lt, if◌then◌else◌, List, [], ◌∷◌}
 use Rattle.squall_join.specs.declared.flat.Flat.{Flat}
 use Rattle.squall_report.specs.Issues.{PlanPair}
 use Rattle.squall_board.specs.declared.opening.Opening.{Opening}

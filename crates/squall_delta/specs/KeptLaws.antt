@@ -1,5 +1,5 @@
 -- What a digest lacks of a board is a repair.
-use Rattle.std.specs.Prelude.{◌≡◌, ◌≢◌, ℕ, ◌<◌, ◌≤◌, ◌==◌, max, Bool, true, false, not, cond, nat_lt, if◌then◌else◌, map, List, [], ◌∷◌, Option, None, Some, refl}
+use Rattle.std.specs.Prelude.{◌≡◌, ℕ, ◌<◌, ◌≤◌, ◌==◌, max, Bool, true, false, not, cond, nat_lt, if◌then◌else◌, map, List, [], ◌∷◌, Option, None, Some, refl}
 use Rattle.std.proofs.Common.{sym, ap, subst, ◌∙◌, arith}
 use Rattle.std.proofs.lemmas.Bool.Decides.{nat_tests}
 use Rattle.std.proofs.lemmas.Map.Lookups.{exact_unsigned}
@@ -20,12 +20,11 @@ use Rattle.squall_report.specs.Issues.{PlanPair}
 use Rattle.squall_report.specs.Cells.{CellPlace}
 use Rattle.squall_report.specs.Told.{both_issued}
 use Rattle.squall_report.specs.ToldLaws.{issue_laws}
-use Rattle.squall_board.specs.declared.opening.Opening.{Opening}
-use Rattle.squall_board.specs.Boards.{CellValue, Parts, Subs, Cells, Openings, BoardValue, openings_in, issues_in, cells_in, cell_is, cell_bottom, cell_join, issue_is, is_nested, empty_board, board_join, opened_count, issued, found_in, cell_of, opening_board, issue_board, row_board, IsBoard}
+use Rattle.squall_board.specs.Boards.{Parts, Subs, Cells, BoardValue, openings_in, issues_in, cells_in, cell_is, cell_bottom, cell_join, issue_is, is_nested, empty_board, board_join, opened_count, issued, found_in, cell_of, opening_board, issue_board, row_board, IsBoard}
 use Rattle.squall_board.specs.BoardLaws.{board_laws, cell_laws, opening_board_is, issue_board_is, issue_tells}
 use Rattle.squall_board.specs.Listed.{IsOpening, openings_of, issues_of}
-use Rattle.squall_board.specs.ListedLaws.{KeysRise, keys_rise, all_weaker, all_both, cmp_eq, same_key, openings_within, issues_within}
-use Rattle.squall_board.specs.RowLaws.{row_nested, some_rows}
+use Rattle.squall_board.specs.ListedLaws.{KeysRise, keys_rise, all_weaker, cmp_eq, same_key, openings_within, issues_within}
+use Rattle.squall_board.specs.RowLaws.{row_nested}
 use Rattle.squall_wire.specs.DigestValue.{DigestValue}
 use Rattle.squall_delta.specs.Hashes.{row_hash, issue_hash, row_in}
 use Rattle.squall_delta.specs.HashLaws.{all_true}

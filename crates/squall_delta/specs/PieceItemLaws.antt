@@ -1,7 +1,8 @@
 -- The items of a board come in order, and make the board.
 use Rattle.std.specs.Prelude.{◌≡◌, ◌≢◌, ℕ, ◌<◌, ◌≤◌, Bool, true, false, ◌||◌, ◌&&◌, List, [], ◌∷◌, ◌++◌, map, if◌then◌else◌, refl}
-use Rattle.std.proofs.Common.{sym, ap, subst, ◌∙◌, arith, inl, inr, ⊎_elim}
+use Rattle.std.proofs.Common.{sym, ap, subst, ◌∙◌, arith, inl, inr, ⊎_elim, append_assoc}
 use Rattle.std.proofs.lemmas.Bool.{true≢false}
+use Rattle.std.proofs.lemmas.List.{append-nil}
 use Rattle.std.specs.List.{flat_map, AllByRecursion}
 use Rattle.std.specs.Cmp.{first_so}
 use Rattle.squall_key.specs.Keys.{top}
@@ -215,20 +216,15 @@ add_append : (d : BoardLists) (xs ys : List Item) → add_items d (xs ++ ys) ≡
 add_append d [] ys = refl
 add_append d (x ∷ xs) ys = add_append (add_item d x) xs ys
 
-append_one : {X : Type 0} (xs : List X) (x : X) (ys : List X) → (xs ++ x ∷ []) ++ ys ≡ xs ++ x ∷ ys
-append_one [] x ys = refl
-append_one (z ∷ zs) x ys = ap (λ l. z ∷ l) (append_one zs x ys)
-
-append_none : {X : Type 0} (xs : List X) → xs ++ [] ≡ xs
-append_none [] = refl
-append_none (x ∷ xs) = ap (λ l. x ∷ l) (append_none xs)
+pub append_one : {X : Type 0} (xs : List X) (x : X) (ys : List X) → (xs ++ x ∷ []) ++ ys ≡ xs ++ x ∷ ys
+append_one xs x ys = append_assoc xs (x ∷ []) ys
 
 add_openings : (os us : List Opening) (es : List (ℕ × Flat PlanPair)) (cs : List CellEntry) → add_items (lists_with os es cs) (map opening us) ≡ lists_with (os ++ us) es cs
-add_openings os [] es cs = ap (λ l. lists_with l es cs) (sym (append_none os))
+add_openings os [] es cs = ap (λ l. lists_with l es cs) (sym (append-nil os))
 add_openings os (u ∷ us) es cs = add_openings (os ++ u ∷ []) us es cs ∙ ap (λ l. lists_with l es cs) (append_one os u us)
 
 add_issues : (os : List Opening) (es hs : List (ℕ × Flat PlanPair)) (cs : List CellEntry) → add_items (lists_with os es cs) (map issue hs) ≡ lists_with os (es ++ hs) cs
-add_issues os es [] cs = ap (λ l. lists_with os l cs) (sym (append_none es))
+add_issues os es [] cs = ap (λ l. lists_with os l cs) (sym (append-nil es))
 add_issues os es (h ∷ hs) cs = add_issues os (es ++ h ∷ []) hs cs ∙ ap (λ l. lists_with os l cs) (append_one es h hs)
 
 same_entry : (p : CellPlace) (k : Bool) (ss ts : List Interval) → k || false ≡ k
@@ -236,7 +232,7 @@ same_entry p true ss ts = refl
 same_entry p false ss ts = refl
 
 add_spans : (os : List Opening) (es : List (ℕ × Flat PlanPair)) (cs : List CellEntry) (p : CellPlace) (k : Bool) (ss ts : List Interval) → add_items (lists_with os es (cs ++ entry_with p k ss ∷ [])) (map (loaded p) ts) ≡ lists_with os es (cs ++ entry_with p k (ss ++ ts) ∷ [])
-add_spans os es cs p k ss [] = ap (λ l. lists_with os es (cs ++ entry_with p k l ∷ [])) (sym (append_none ss))
+add_spans os es cs p k ss [] = ap (λ l. lists_with os es (cs ++ entry_with p k l ∷ [])) (sym (append-nil ss))
 add_spans os es cs p k ss (t ∷ ts) =
     ap (λ l. add_items (lists_with os es l) (map (loaded p) ts)) (same_added cs (entry_with p k ss) (span_entry p t) refl)
     ∙ ap (λ b. add_items (lists_with os es (cs ++ entry_with p b (ss ++ t ∷ []) ∷ [])) (map (loaded p) ts)) (same_entry p k ss ts)
@@ -261,7 +257,7 @@ before_more cs d [] x y = tt
 before_more cs d (e ∷ ds) x y = (all_append (λ c. ComesBefore c e) cs (d ∷ []) x.0 (y.0, tt), before_more cs d ds x.1 y.1)
 
 add_cells : (os : List Opening) (es : List (ℕ × Flat PlanPair)) (cs ds : List CellEntry) → CellsRise ds → AllByRecursion IsCell ds → AllBefore cs ds → add_items (lists_with os es cs) (flat_map items_of_cell ds) ≡ lists_with os es (cs ++ ds)
-add_cells os es cs [] rise within before = ap (λ l. lists_with os es l) (sym (append_none cs))
+add_cells os es cs [] rise within before = ap (λ l. lists_with os es l) (sym (append-nil cs))
 add_cells os es cs (d ∷ ds) rise within before =
     add_append (lists_with os es cs) (items_of_cell d) (flat_map items_of_cell ds)
     ∙ ap (λ l. add_items l (flat_map items_of_cell ds)) (add_some os es cs d.cell d.complete d.spans (second_of (is_cell_place d.cell) _ within.0.entry) before.0)

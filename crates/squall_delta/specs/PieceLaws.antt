@@ -1,6 +1,7 @@
 -- What the pieces of a board are.
 use Rattle.std.specs.Prelude.{◌≡◌, ℕ, ◌<◌, ◌≤◌, true, List, [], ◌∷◌, ◌++◌, map, length, refl}
 use Rattle.std.proofs.Common.{sym, ap, subst, ◌∙◌, arith}
+use Rattle.std.proofs.lemmas.List.{append-nil}
 use Rattle.std.specs.List.{flat_map, AllByRecursion}
 use Rattle.std.specs.Cmp.{first_so}
 use Rattle.squall_span.specs.Spans.{Interval, IsSet}
@@ -126,10 +127,6 @@ flat_of_map : {X Y Z : Type 0} (f : Y → List Z) (g : X → Y) (xs : List X) �
 flat_of_map f g [] = refl
 flat_of_map f g (x ∷ xs) = ap (λ l. f (g x) ++ l) (flat_of_map f g xs)
 
-append_none : {X : Type 0} (xs : List X) → xs ≡ xs ++ []
-append_none [] = refl
-append_none (x ∷ xs) = ap (λ l. x ∷ l) (append_none xs)
-
 abbrev issues_and_cells : BoardValue → List Item
 issues_and_cells b = map issue (issues_of b) ++ flat_map items_of_cell (cells_of b)
 
@@ -140,7 +137,7 @@ second_left : {X : Type 0} (f : X → ℕ × Flat PlanPair) (b : BoardValue) (xs
 second_left f b xs e = ap (λ l. l ++ flat_map items_of_cell (cells_of b)) (ap (map issue) (sym e) ∙ map_map issue f xs)
 
 third_left : {Y : Type 0} (g : Y → CellEntry) (b : BoardValue) (ys : List Y) → map g ys ≡ cells_of b → flat_map items_of_cell (cells_of b) ≡ flat_map (λ y. items_of_cell (g y)) ys ++ []
-third_left g b ys e = ap (flat_map items_of_cell) (sym e) ∙ flat_of_map items_of_cell g ys ∙ append_none (flat_map (λ y. items_of_cell (g y)) ys)
+third_left g b ys e = ap (flat_map items_of_cell) (sym e) ∙ flat_of_map items_of_cell g ys ∙ sym (append-nil (flat_map (λ y. items_of_cell (g y)) ys))
 
 none_fed : (b : BoardValue) (c : CutBoard) → IsBoard b → c ≡ uncut → IsFeeding uncut c (items_of b) (items_of b)
 none_fed b c is e = subst (λ d. IsFeeding uncut d (items_of b) (items_of b)) (sym e) (feeding_starts uncut (items_of b) (items_next b is))

@@ -17,7 +17,7 @@ use Rattle.squall_report.specs.Facts.{Fact, LoadedKey, DonePart, OpenedSub}
 use Rattle.squall_report.specs.Told.{both_issued}
 use Rattle.squall_report.specs.ToldLaws.{issued_assoc, issued_neutral}
 use Rattle.squall_board.specs.declared.opening.Opening.{Opening}
-use Rattle.squall_board.specs.Boards.{CellValue, BoardValue, IsBoard, openings_in, issues_in, cells_in, board_join, opening_board, issue_board, cell_board, issued, one_issue, count_says, told_by_cell, told_by_count, told_by_issue}
+use Rattle.squall_board.specs.Boards.{CellValue, BoardValue, IsBoard, openings_in, issues_in, cells_in, board_join, opening_board, issue_board, cell_board, one_issue, count_says, told_by_cell, told_by_count, told_by_issue}
 use Rattle.squall_board.specs.BoardLaws.{join_is, cell_tells, count_tells, issue_tells, cell_board_is, opening_board_is, issue_board_is, joined_tells}
 use Rattle.squall_board.specs.Listed.{CellEntry, entry_value, has_spans, IsCell, entry_says, ComesBefore, cells_of_numbers, cells_of, openings_of_counts, openings_of, openings_say, IsOpening, OpeningsRise, issues_of, entries_issue, IssuesRise}
 use Rattle.squall_board.specs.ListedLaws.{all_weaker, openings_listed, issues_listed, cells_listed}

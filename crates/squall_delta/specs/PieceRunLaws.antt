@@ -2,6 +2,7 @@
 use Rattle.std.specs.Prelude.{◌≡◌, ◌≢◌, ℕ, suc, ◌+◌, ◌<◌, ◌≤◌, nat_lt, Bool, true, false, List, [], ◌∷◌, ◌++◌, map, length, if◌then◌else◌, refl}
 use Rattle.std.proofs.Common.{sym, ap, subst, ◌∙◌, arith}
 use Rattle.std.proofs.lemmas.Bool.Decides.{nat_tests}
+use Rattle.std.proofs.lemmas.List.{append-nil}
 use Rattle.std.specs.List.{flat_map, AllByRecursion}
 use Rattle.squall_report.specs.Cells.{CellPlace, is_same_cell}
 use Rattle.squall_board.specs.Boards.{BoardValue, empty_board, board_join}
@@ -14,7 +15,7 @@ use Rattle.squall_delta.specs.Pieces.{body_length, FitsFrame, IsFull, AreLongest
 use Rattle.squall_delta.specs.Cutting.{cut_with, uncut, turned, put_item, fed_all, empty_bytes, pieces_with, group_bytes, cut_after, cut_items, done_entry, span_entry, ItemFollows, ItemsRise, IsItem, AreNext, has_some, last_after, last_place, is_last, cell_cost, issue_cost, item_cost}
 use Rattle.squall_delta.specs.PieceCellLaws.{place_other}
 use Rattle.squall_delta.specs.PieceListLaws.{length_put}
-use Rattle.squall_delta.specs.PieceItemLaws.{next_put, next_first, all_first, rise_first}
+use Rattle.squall_delta.specs.PieceItemLaws.{append_one, next_put, next_first, all_first, rise_first}
 
 -- ---- each item adds bytes
 
@@ -79,14 +80,6 @@ prefix_bytes xs ys next = subst (λ b. group_bytes xs ≤ body_length b) (sym (w
 
 -- ---- lists
 
-append_one : {X : Type 0} (xs : List X) (x : X) (ys : List X) → (xs ++ x ∷ []) ++ ys ≡ xs ++ x ∷ ys
-append_one [] x ys = refl
-append_one (z ∷ zs) x ys = ap (λ l. z ∷ l) (append_one zs x ys)
-
-append_none : {X : Type 0} (xs : List X) → xs ++ [] ≡ xs
-append_none [] = refl
-append_none (x ∷ xs) = ap (λ l. x ∷ l) (append_none xs)
-
 one_more : {X : Type 0} (xs : List X) (x : X) → (xs ++ x ∷ []) ≢ []
 one_more [] x e = cc
 one_more (y ∷ ys) x e = cc
@@ -142,11 +135,11 @@ le_trans : (a b c : ℕ) → a ≤ b → b ≤ c → a ≤ c
 le_trans a b c x y = omega (arith, x, y)
 
 run_is_cut : (p r : List Item) (gs : List (List Item)) → FitsFrame (items_board (p ++ r)) → IsFull (p ++ r) gs → AreLongestRuns gs → AreNext empty_board (p ++ r) → cut_after p (r ++ items_of_groups gs) ≡ (p ++ r) ∷ cut_items (items_of_groups gs)
-run_is_cut p [] [] fits full runs next = ap (λ l. l ∷ []) (sym (append_none p))
+run_is_cut p [] [] fits full runs next = ap (λ l. l ∷ []) (sym (append-nil p))
 run_is_cut p [] ([] ∷ gs) fits full runs next = absurd (runs.0 refl)
 run_is_cut p [] ((i ∷ is) ∷ gs) fits full runs next =
-    ap (λ b. if b then p ∷ cut_after (i ∷ []) (is ++ items_of_groups gs) else cut_after (p ++ i ∷ []) (is ++ items_of_groups gs)) (is_over (group_bytes (p ++ i ∷ [])) (subst (λ l. body_limit < group_bytes (l ++ i ∷ [])) (append_none p) full))
-    ∙ ap (λ l. l ∷ cut_after (i ∷ []) (is ++ items_of_groups gs)) (sym (append_none p))
+    ap (λ b. if b then p ∷ cut_after (i ∷ []) (is ++ items_of_groups gs) else cut_after (p ++ i ∷ []) (is ++ items_of_groups gs)) (is_over (group_bytes (p ++ i ∷ [])) (subst (λ l. body_limit < group_bytes (l ++ i ∷ [])) (append-nil p) full))
+    ∙ ap (λ l. l ∷ cut_after (i ∷ []) (is ++ items_of_groups gs)) (sym (append-nil p))
 run_is_cut p (i ∷ r) gs fits full runs next =
     ap (λ b. if b then p ∷ cut_after (i ∷ []) (r ++ items_of_groups gs) else cut_after (p ++ i ∷ []) (r ++ items_of_groups gs))
     (is_within (group_bytes (p ++ i ∷ [])) (le_trans (group_bytes (p ++ i ∷ [])) (group_bytes ((p ++ i ∷ []) ++ r)) body_limit (prefix_bytes (p ++ i ∷ []) r (subst (λ l. AreNext empty_board l) (sym (append_one p i r)) next)) (subst (λ l. FitsFrame (items_board l)) (sym (append_one p i r)) fits)))

@@ -1,12 +1,12 @@
 -- Laws of repairs.
-use Rattle.std.specs.Prelude.{◌≡◌, ◌≢◌, ℕ, ◌<◌, ◌==◌, Bool, true, false, ◌||◌, ◌&&◌, cond, nat_lt, if◌then◌else◌, map, List, [], ◌∷◌, ◌++◌, Option, None, Some, ◌⊎◌, refl}
-use Rattle.std.proofs.Common.{sym, ap, subst, ◌∙◌, arith, inl, inr, ⊎_elim, Decides}
+use Rattle.std.specs.Prelude.{◌≡◌, ◌≢◌, ℕ, ◌<◌, ◌==◌, Bool, true, false, ◌||◌, ◌&&◌, cond, nat_lt, if◌then◌else◌, map, List, [], ◌∷◌, Option, None, Some, ◌⊎◌, refl}
+use Rattle.std.proofs.Common.{sym, ap, ◌∙◌, arith, inl, inr, ⊎_elim, Decides}
 use Rattle.std.proofs.Math.Bool.{or_comm, or_self}
 use Rattle.std.proofs.lemmas.Bool.{true≢false}
 use Rattle.std.proofs.lemmas.Bool.Decides.{nat_tests}
 use Rattle.std.proofs.lemmas.List.Folds.{list_any-append}
-use Rattle.std.specs.List.{flat_map, list_any, AllByRecursion}
-use Rattle.std.specs.Cmp.Lexicographic.{pointwise, pointwise_decides}
+use Rattle.std.specs.List.{flat_map, list_any}
+use Rattle.std.specs.Cmp.Lexicographic.{pointwise_decides}
 use Rattle.std.specs.Ordering.{nat_cmp}
 use Rattle.std.specs.FinMap.Entries.{find}
 use Rattle.squall_span.specs.Spans.{has}
@@ -26,7 +26,7 @@ use Rattle.squall_board.specs.BoardLaws.{board_laws, same_board, tells_both, loa
 use Rattle.squall_board.specs.Listed.{openings_of_counts, openings_of, issues_of}
 use Rattle.squall_board.specs.ListedLaws.{KeysRise, keys_rise, all_weaker, any_none, any_map, cmp_eq, or_none}
 use Rattle.squall_wire.specs.DigestValue.{DigestValue}
-use Rattle.squall_delta.specs.Hashes.{row_hash, issue_hash, row_of, issue_row_of, rows_of, digest_of, row_in}
+use Rattle.squall_delta.specs.Hashes.{row_hash, issue_hash, row_of, issue_row_of, digest_of, row_in}
 use Rattle.squall_delta.specs.HashLaws.{all_true}
 use Rattle.squall_delta.specs.Repairs.{count_in, is_same_hash, issue_is_hashed, row_is_hashed, shows_issue, shows_row, IsRepair, NoCollisions}
 use Rattle.squall_delta.specs.KeptLaws.{cell_in_row, parts_are}
