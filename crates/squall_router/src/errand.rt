@@ -1,0 +1,121 @@
+//! Errands.
+
+ghost use Rattle.std.specs.Prelude.{◌≡◌};
+ghost use Rattle.squall_router.specs.Routers.{route_of_router};
+ghost use Rattle.squall_router.specs.Errands.{errand_from, step_of};
+
+use crate::router::Router;
+use squall_key::{Key, PartId};
+use std::marker::Model;
+
+/// What a partition replies when it is asked for a key.
+#[derive(Clone, Copy, Debug, PartialEq, Eq)]
+pub enum Reply {
+    /// It holds the key.
+    Held,
+    /// It gave the key to `dest` in the reconfiguration of that number.
+    Moved {
+        /// The partition to which the key went.
+        dest: PartId,
+        /// The reconfiguration's number.
+        number: u32,
+    },
+    /// The key is on its way from `source`.
+    Pending {
+        /// The partition from which it comes.
+        source: PartId,
+    },
+    /// It has not heard of the reconfiguration by which the key was sent to it.
+    Behind,
+    /// The key was never there: the old plan has it at `dest`.
+    Elsewhere {
+        /// The key's partition in the old plan.
+        dest: PartId,
+    },
+}
+
+/// What to do after a reply.
+#[derive(Clone, Copy, Debug, PartialEq, Eq)]
+pub enum Next {
+    /// Ask this partition, to which the key went.
+    Ask(PartId),
+    /// Ask this partition again, later.
+    Again(PartId),
+    /// The key was found: nothing is left to do.
+    Served,
+    /// The replies contradict each other: start a new errand once the router has heard more.
+    Lost,
+}
+
+/// The search for the partition that holds a key: it starts where a router sends the key, and
+/// follows the partitions' replies. It changes no board: a reply is no report.
+///
+/// Contracts see an errand as the partition that it asks, the number of its last `Moved` and how it
+/// ended.
+#[derive(Clone, Copy, Debug)]
+pub struct Errand {
+    asked: PartId,
+    number: u32,
+    ended: Option<Next>,
+}
+
+impl Model for Errand {
+    ghost use Rattle.squall_router.specs.Errands.{ErrandValue, errand_with};
+
+    ghost Value = { ErrandValue };
+
+    ghost view = { λ e. errand_with e.asked e.number e.ended };
+
+    ghost inverse = { λ v. record { asked = v.asked; number = v.number; ended = v.ended } };
+}
+
+impl Errand {
+    /// An errand for the key, which asks the partition to which the router sends it.
+    pub fn start(router: &Router, key: Key) -> Errand
+        ensures { result ≡ errand_from (route_of_router router.now key) }
+    {
+        Errand {
+            asked: router.route(key),
+            number: 0,
+            ended: None,
+        }
+    }
+
+    /// The partition to ask.
+    pub fn asked(&self) -> PartId
+        ensures { result ≡ self.now.asked }
+    {
+        self.asked
+    }
+
+    /// The number of the last `Moved` that was followed, 0 before the first. A partition that is
+    /// asked is told it: one that has not heard of that reconfiguration replies `Behind`.
+    pub fn number(&self) -> u32
+        ensures { result ≡ self.now.number }
+    {
+        self.number
+    }
+
+    /// Takes the reply of the partition that was asked, and says what to do. After `Served` or
+    /// `Lost` it says the same for ever.
+    pub fn heed(&mut self, reply: Reply) -> Next
+        ensures next { result ≡ (step_of self.old reply).next }
+        ensures after { self.new ≡ (step_of self.old reply).after }
+    {
+        if let Some(next) = self.ended {
+            return next;
+        }
+        let next = match reply {
+            Reply::Held => Next::Served,
+            Reply::Moved { dest, number } if self.number < number => {
+                self.asked = dest;
+                self.number = number;
+                return Next::Ask(dest);
+            }
+            Reply::Pending { .. } | Reply::Behind => return Next::Again(self.asked),
+            Reply::Moved { .. } | Reply::Elsewhere { .. } => Next::Lost,
+        };
+        self.ended = Some(next);
+        next
+    }
+}

@@ -1,0 +1,20 @@
+//! Route tables: the legs of all keys, each with the partition to ask, built from a course and a
+//! board and patched for what a delta changed.
+//!
+//! A table has, by rising key, one leg for each longest run of keys that are asked for at one
+//! partition. So a course and a board have one table, however it came to be.
+#![tactic(auto)]
+
+mod laws;
+mod meter;
+mod table;
+mod touch;
+
+pub use laws::{
+    all_in_is_the_new_plan, legs_are_key_by_key, one_list_of_legs, older_tables_stay_outside,
+    touched_by_cells,
+};
+pub use meter::Meter;
+pub use table::{Leg, RouteTable};
+pub use touch::touched;
+
