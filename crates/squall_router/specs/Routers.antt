@@ -26,7 +26,7 @@ route_of_router r k = route_by_newest r.first r.board k
 abbrev pub IsTableOf : RouterValue → List PlanRange → Type 0
 IsTableOf r legs = IsTable (course_of_router r) r.board legs
 
--- what a router keeps: the plans of its course are plans, its board is a board, and its table is theirs
+-- what a router keeps: its newest course, and the table of that course and its board
 pub record InStep (r : RouterValue) (course : Change) (legs : List PlanRange) : Type 0 where
-  pub course : course ≡ course_of_router r
+  pub newest : course ≡ course_of_router r
   pub table : IsTableOf r legs
