@@ -1,8 +1,8 @@
 -- Routers: a first course, and a board of what was heard since (this project).
-use Rattle.std.specs.Prelude.{ℕ, List}
+use Rattle.std.specs.Prelude.{◌≡◌, ℕ, List}
 use Rattle.squall_plan.specs.declared.range.PlanRange.{PlanRange}
-use Rattle.squall_course.specs.Change.{Change, ArePlans}
-use Rattle.squall_board.specs.Boards.{BoardValue, IsBoard}
+use Rattle.squall_course.specs.Change.{Change}
+use Rattle.squall_board.specs.Boards.{BoardValue}
 use Rattle.squall_board.specs.CourseRoute.{course_of_board, route_by_newest}
 use Rattle.squall_table.specs.Tables.{IsTable}
 
