@@ -1,0 +1,45 @@
+//! Why a leader does not go on.
+
+ghost use Rattle.std.specs.Prelude.{◌≡◌};
+ghost use Rattle.squall_leader.specs.declared.fault.LeaderFault.TheVariants.{NoMemory};
+
+use squall_key::PartId;
+use std::alloc::AllocError;
+use thiserror::Error;
+
+/// Why a leader does not begin or open.
+#[derive(Debug, Drop, Error)]
+pub enum LeaderFault {
+    /// The course begun last is not over.
+    #[error("Running")]
+    Running,
+    /// The greatest number is used.
+    #[error("NoNumber")]
+    NoNumber,
+    /// No course is begun.
+    #[error("Idle")]
+    Idle,
+    /// In the sub-plan opened last, `part` is the least partition that receives keys and has not
+    /// reported that it has all.
+    #[error("NotDone {sub} {part}")]
+    NotDone {
+        /// The sub-plan.
+        sub: u32,
+        /// The partition.
+        part: PartId,
+    },
+    /// All sub-plans are opened, and the last one is done.
+    #[error("NoMore")]
+    NoMore,
+    /// An allocation failed.
+    #[error("NoMemory")]
+    NoMemory,
+}
+
+impl From<AllocError> for LeaderFault {
+    ghost from_gives = { λ _ e. e ≡ NoMemory };
+
+    fn from(_error: AllocError) -> LeaderFault {
+        LeaderFault::NoMemory
+    }
+}
