@@ -6,6 +6,7 @@ mod messages;
 mod plain;
 mod random;
 mod streams;
+mod tables;
 
 use squall_key::Bound;
 use squall_plan::Plan;

@@ -37,7 +37,7 @@ impl Random {
     }
 
     /// The same as a `u32`.
-    fn small(&mut self, n: u32) -> u32
+    pub(crate) fn small(&mut self, n: u32) -> u32
         requires { 0 < n }
         ensures { result < n }
     {
