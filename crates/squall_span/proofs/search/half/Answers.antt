@@ -1,0 +1,13 @@
+use Rattle.std.proofs.Common.{◌+◌, ◌-◌, List, length, arith}
+use Rattle.squall_key.specs.Search.{halved}
+use Rattle.squall_span.specs.Spans.{Interval}
+use Rattle.squall_span.specs.Places.{end_at}
+use Rattle.squall_span.proofs.Places.{ends_rise_by_place, back_at}
+use Rattle.squall_span.proofs.search.half.Goals as goal
+
+pub returns : goal.returns
+returns c =
+    let xs : List Interval = c.args.spans.now in
+    let fits = c.requires.sought.within in
+    let first = back_at xs c.args.bound c.args.step (c.args.base + c.args.step - 1) c.index-spans-first.result c.hi.result c.step_beyond.result (omega (arith, fits, c.requires.some, c.requires.parts)) c.index-spans-first.is c.hi.ensures.value c.step_beyond.ensures.beyond c.step_beyond.ensures.not_beyond in
+    halved (end_at xs) (length xs) c.args.bound c.args.base c.args.size c.args.step c.step_beyond.result (ends_rise_by_place xs c.requires.canonical) c.requires.sought c.requires.some c.requires.parts first
