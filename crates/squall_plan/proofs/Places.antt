@@ -50,5 +50,5 @@ place_is from k (r ∷ rs) (suc i) t le below m =
     record { within = omega (arith, rest.within); owner = λ d. rw (has_above k r past) (rest.owner d) }
 
 -- the place that the search ends at
-pub place_found : (k bound : ℕ) (rs : List PlanRange) (i size : ℕ) → IsTiling 0 top rs → k < top → bound ≡ k → size ≡ 0 → IsSoughtEnd rs bound i size → IsPlace k rs i
-place_found k bound rs i size t below same none m = place_is 0 k rs i t (omega arith) below (subst (λ (n : ℕ). IsSoughtEnd rs k i n) none (subst (λ (b : ℕ). IsSoughtEnd rs b i size) same m))
+pub place_found : (k bound : ℕ) (rs : List PlanRange) (i : ℕ) → IsTiling 0 top rs → k < top → bound ≡ k → IsSoughtEnd rs bound i 0 → IsPlace k rs i
+place_found k bound rs i t below same m = place_is 0 k rs i t (omega arith) below (subst (λ (b : ℕ). IsSoughtEnd rs b i 0) same m)

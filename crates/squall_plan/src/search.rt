@@ -7,34 +7,8 @@ ghost use Rattle.squall_plan.specs.Ranges.{IsTiling, IsPlace, IsSoughtEnd};
 use crate::range::PlanRange;
 use squall_key::{Bound, Key};
 
-/// One of two parts: one end is read.
-#[inline(always)]
-fn half(ranges: &[PlanRange], bound: Bound, base: usize, size: usize, step: usize) -> usize
-    requires tiles { IsTiling 0 top ranges.now }
-    requires sought { IsSoughtEnd ranges.now bound base size }
-    requires some { 0 < step }
-    requires parts { 2 * step ≤ size + 1 }
-    ensures { IsSoughtEnd ranges.now bound result (size - step) }
-{
-    let first = base + step;
-    first - ranges[first - 1].span.hi().step_beyond(bound, step)
-}
-
-/// One of three parts: two ends are read side by side.
-#[inline(always)]
-fn third(ranges: &[PlanRange], bound: Bound, base: usize, size: usize, step: usize) -> usize
-    requires tiles { IsTiling 0 top ranges.now }
-    requires sought { IsSoughtEnd ranges.now bound base size }
-    requires some { 0 < step }
-    requires parts { 3 * step ≤ size + 1 }
-    ensures { IsSoughtEnd ranges.now bound result (size - 2 * step) }
-{
-    let first = base + step;
-    let second = first + step;
-    second
-        - ranges[first - 1].span.hi().step_beyond(bound, step)
-        - ranges[second - 1].span.hi().step_beyond(bound, step)
-}
+/// So many ranges are sooner looked at one after the other than by quarters.
+const FEW: usize = 8;
 
 /// One of four parts: three ends are read side by side.
 #[inline(always)]
@@ -54,6 +28,20 @@ fn quarter(ranges: &[PlanRange], bound: Bound, base: usize, size: usize, step: u
         - ranges[third - 1].span.hi().step_beyond(bound, step)
 }
 
+/// How many ranges end at the bound or before it, where few are left: one after the other.
+#[inline(always)]
+fn in_turn(ranges: &[PlanRange], bound: Bound, base: usize, size: usize) -> usize
+    requires tiles { IsTiling 0 top ranges.now }
+    requires sought { IsSoughtEnd ranges.now bound base size }
+    ensures { IsSoughtEnd ranges.now bound result 0 }
+{
+    let mut place = base;
+    for at in base..base + size {
+        place += 1 - ranges[at].span.hi().step_beyond(bound, 1);
+    }
+    place
+}
+
 /// Where the range of a key stands.
 ///
 /// By quarters, and without a branch on the key: for keys in no order a processor would guess
@@ -65,14 +53,10 @@ pub(crate) fn place_of(ranges: &[PlanRange], key: Key) -> usize
     let bound = Bound::of_key(key);
     let mut base = 0;
     let mut size = ranges.len();
-    while size > 2 {
+    while size > FEW {
         let step = (size + 1) / 4;
         base = quarter(ranges, bound, base, size, step);
         size -= 3 * step;
     }
-    match size {
-        2 => third(ranges, bound, base, 2, 1),
-        1 => half(ranges, bound, base, 1, 1),
-        _ => base,
-    }
+    in_turn(ranges, bound, base, size)
 }

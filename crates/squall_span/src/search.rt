@@ -7,34 +7,8 @@ ghost use Rattle.squall_span.specs.Places.{Ended, Apart, Started, IsSoughtEnd};
 use crate::span::Span;
 use squall_key::Bound;
 
-/// One of two parts: one end is read.
-#[inline(always)]
-fn half(spans: &[Span], bound: Bound, base: usize, size: usize, step: usize) -> usize
-    requires canonical { IsCanonical spans.now }
-    requires sought { IsSoughtEnd spans.now bound base size }
-    requires some { 0 < step }
-    requires parts { 2 * step ≤ size + 1 }
-    ensures { IsSoughtEnd spans.now bound result (size - step) }
-{
-    let first = base + step;
-    first - spans[first - 1].hi().step_beyond(bound, step)
-}
-
-/// One of three parts: two ends are read side by side.
-#[inline(always)]
-fn third(spans: &[Span], bound: Bound, base: usize, size: usize, step: usize) -> usize
-    requires canonical { IsCanonical spans.now }
-    requires sought { IsSoughtEnd spans.now bound base size }
-    requires some { 0 < step }
-    requires parts { 3 * step ≤ size + 1 }
-    ensures { IsSoughtEnd spans.now bound result (size - 2 * step) }
-{
-    let first = base + step;
-    let second = first + step;
-    second
-        - spans[first - 1].hi().step_beyond(bound, step)
-        - spans[second - 1].hi().step_beyond(bound, step)
-}
+/// So many spans are sooner looked at one after the other than by quarters.
+const FEW: usize = 8;
 
 /// One of four parts: three ends are read side by side.
 #[inline(always)]
@@ -54,6 +28,20 @@ fn quarter(spans: &[Span], bound: Bound, base: usize, size: usize, step: usize) 
         - spans[third - 1].hi().step_beyond(bound, step)
 }
 
+/// How many spans end at the bound or before it, where few are left: one after the other.
+#[inline(always)]
+fn in_turn(spans: &[Span], bound: Bound, base: usize, size: usize) -> usize
+    requires canonical { IsCanonical spans.now }
+    requires sought { IsSoughtEnd spans.now bound base size }
+    ensures { Ended spans.now bound result }
+{
+    let mut place = base;
+    for at in base..base + size {
+        place += 1 - spans[at].hi().step_beyond(bound, 1);
+    }
+    place
+}
+
 /// How many spans end at the bound or before it.
 ///
 /// By quarters, and without a branch on the bound: for keys in no order a processor would guess
@@ -64,16 +52,12 @@ pub(crate) fn ended(spans: &[Span], bound: Bound) -> usize
 {
     let mut base = 0;
     let mut size = spans.len();
-    while size > 2 {
+    while size > FEW {
         let step = (size + 1) / 4;
         base = quarter(spans, bound, base, size, step);
         size -= 3 * step;
     }
-    match size {
-        2 => third(spans, bound, base, 2, 1),
-        1 => half(spans, bound, base, 1, 1),
-        _ => base,
-    }
+    in_turn(spans, bound, base, size)
 }
 
 /// How many spans end before the bound, and do not touch it.
