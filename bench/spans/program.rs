@@ -1,5 +1,6 @@
 //! The same in Rust, over a sorted vector.
 
+use std::hint::black_box;
 use std::time::Instant;
 
 /// Look-ups in a round.
@@ -186,7 +187,7 @@ fn owners_in_turn(plan: &Plan, seed: u64) -> u64 {
 }
 
 fn measure_set(count: u32) {
-    let set = filled(1, count);
+    let set = black_box(filled(1, count));
     for _ in 0..20 {
         let start = Instant::now();
         let keys = found(&set, 3);
@@ -199,7 +200,8 @@ fn measure_set(count: u32) {
 }
 
 fn measure_plan() {
-    let plan = planned();
+    // Else the compiler would lay out a search of just so many ranges.
+    let plan = black_box(planned());
     for _ in 0..20 {
         let start = Instant::now();
         let sum = owners(&plan, 3);

@@ -105,10 +105,10 @@ turn_past ends count bound place at up fits all past = record {
   from = λ j ge lt. absurd (omega arith);
 }
 
-pub turn_next : (ends : ℕ → ℕ) (count bound place at r : ℕ) → Rises ends count → at < count → IsSought ends at bound place 0 → IsBack bound 1 (ends at) r → IsSought ends (at + 1) bound (place + (1 - r)) 0
-turn_next ends count bound place at r up fits m b = elim (cases_lt bound (ends at)) [
-  | inl far ↦ at_place _ _ _ _ _ _ (omega (arith, b.beyond far)) (turn_beyond ends bound place at m far)
-  | inr past ↦ at_place _ _ _ _ _ _ (omega (arith, b.not_beyond past)) (turn_past ends count bound place at up fits (none_beyond ends count bound place at up fits m past) past)
+pub turn_next : (ends : ℕ → ℕ) (count bound place at r : ℕ) → Rises ends count → at < count → IsSought ends at bound place 0 → (bound < ends at → r ≡ 0) → (ends at ≤ bound → r ≡ 1) → IsSought ends (at + 1) bound (place + r) 0
+turn_next ends count bound place at r up fits m none one = elim (cases_lt bound (ends at)) [
+  | inl far ↦ at_place _ _ _ _ _ _ (omega (arith, none far)) (turn_beyond ends bound place at m far)
+  | inr past ↦ at_place _ _ _ _ _ _ (omega (arith, one past)) (turn_past ends count bound place at up fits (none_beyond ends count bound place at up fits m past) past)
 ]
 
 pub turn_last : (ends : ℕ → ℕ) (count bound base size place at : ℕ) → IsSought ends count bound base size → at ≡ base + size → IsSought ends at bound place 0 → IsSought ends count bound place 0

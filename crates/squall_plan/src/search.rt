@@ -37,7 +37,7 @@ fn in_turn(ranges: &[PlanRange], bound: Bound, base: usize, size: usize) -> usiz
 {
     let mut place = base;
     for at in base..base + size {
-        place += 1 - ranges[at].span.hi().step_beyond(bound, 1);
+        place += usize::from(ranges[at].span.hi() <= bound);
     }
     place
 }

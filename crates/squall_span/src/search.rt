@@ -37,7 +37,7 @@ fn in_turn(spans: &[Span], bound: Bound, base: usize, size: usize) -> usize
 {
     let mut place = base;
     for at in base..base + size {
-        place += 1 - spans[at].hi().step_beyond(bound, 1);
+        place += usize::from(spans[at].hi() <= bound);
     }
     place
 }
