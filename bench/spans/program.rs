@@ -1,8 +1,14 @@
 //! The same in Rust, over a sorted vector.
 
+use std::hint::black_box;
 use std::time::Instant;
 
-const COUNT: u32 = 100000;
+/// Look-ups in a round.
+const LOOKS: u32 = 100000;
+const MANY: u32 = 100000;
+const FEW: u32 = 1000;
+const RANGES: u64 = 4096;
+const TOP: u64 = 18446744069414584320;
 
 #[derive(Clone, Copy)]
 struct Span {
@@ -91,10 +97,10 @@ fn next(state: u64) -> u64 {
         .wrapping_add(1442695040888963407)
 }
 
-fn filled(seed: u64) -> SpanSet {
+fn filled(seed: u64, count: u32) -> SpanSet {
     let mut set = SpanSet::default();
     let mut state = seed;
-    for _ in 0..COUNT {
+    for _ in 0..count {
         state = next(state);
         let lo = state >> 24;
         let hi = lo + 1 + ((state >> 4) & 1048575);
@@ -106,22 +112,113 @@ fn filled(seed: u64) -> SpanSet {
 fn found(set: &SpanSet, seed: u64) -> u64 {
     let mut state = seed;
     let mut found = 0;
-    for _ in 0..COUNT {
+    for _ in 0..LOOKS {
         state = next(state);
         found += u64::from(set.has(state >> 24));
     }
     found
 }
 
-fn main() {
+fn found_in_turn(set: &SpanSet, seed: u64) -> u64 {
+    let mut state = seed;
+    let mut found = 0;
+    for _ in 0..LOOKS {
+        state = next(state ^ found);
+        found += u64::from(set.has(state >> 24));
+    }
+    found
+}
+
+struct PlanRange {
+    span: Span,
+    part: u32,
+}
+
+struct Plan {
+    ranges: Vec<PlanRange>,
+}
+
+impl Plan {
+    fn owner(&self, key: u64) -> u32 {
+        let place = self.ranges.partition_point(|range| range.span.hi <= key);
+        self.ranges[place].part
+    }
+}
+
+fn start(place: u64) -> u64 {
+    match place {
+        0 => 0,
+        RANGES => TOP,
+        _ => place * 268435456 + (next(place) >> 40),
+    }
+}
+
+fn planned() -> Plan {
+    let ranges = (0..RANGES)
+        .map(|place| PlanRange {
+            span: Span {
+                lo: start(place),
+                hi: start(place + 1),
+            },
+            part: (place % 4001) as u32,
+        })
+        .collect();
+    Plan { ranges }
+}
+
+fn owners(plan: &Plan, seed: u64) -> u64 {
+    let mut state = seed;
+    let mut sum = 0;
+    for _ in 0..LOOKS {
+        state = next(state);
+        sum += u64::from(plan.owner(state >> 24));
+    }
+    sum
+}
+
+fn owners_in_turn(plan: &Plan, seed: u64) -> u64 {
+    let mut state = seed;
+    let mut sum = 0;
+    for _ in 0..LOOKS {
+        state = next(state ^ sum);
+        sum += u64::from(plan.owner(state >> 24));
+    }
+    sum
+}
+
+fn measure_set(count: u32) {
+    let set = black_box(filled(1, count));
+    for _ in 0..20 {
+        let start = Instant::now();
+        let keys = found(&set, 3);
+        let alone = start.elapsed().as_micros();
+        let start = Instant::now();
+        let others = found_in_turn(&set, 3);
+        let turn = start.elapsed().as_micros();
+        println!("has of {count}: {alone} us, in turn {turn} us ({keys} {others})");
+    }
+}
+
+fn measure_plan() {
+    // Else the compiler would lay out a search of just so many ranges.
+    let plan = black_box(planned());
+    for _ in 0..20 {
+        let start = Instant::now();
+        let sum = owners(&plan, 3);
+        let alone = start.elapsed().as_micros();
+        let start = Instant::now();
+        let other = owners_in_turn(&plan, 3);
+        let turn = start.elapsed().as_micros();
+        println!("owner: {alone} us, in turn {turn} us ({sum} {other})");
+    }
+}
+
+fn measure_large() {
     for _ in 0..3 {
         let start = Instant::now();
-        let first = filled(1);
+        let first = filled(1, MANY);
         let inserts = start.elapsed().as_micros();
-        let second = filled(2);
-        let start = Instant::now();
-        let keys = found(&first, 3);
-        let lookups = start.elapsed().as_micros();
+        let second = filled(2, MANY);
         let start = Instant::now();
         let both = first.union(&second);
         let union = start.elapsed().as_micros();
@@ -129,10 +226,17 @@ fn main() {
         let common = first.meet(&second);
         let meet = start.elapsed().as_micros();
         println!(
-            "inserts {inserts} us, has {lookups} us, union {union} us, meet {meet} us ({} {keys} {} {})",
+            "inserts {inserts} us, union {union} us, meet {meet} us ({} {} {})",
             first.spans.len(),
             both.count(),
             common.count()
         );
     }
+}
+
+fn main() {
+    measure_set(FEW);
+    measure_set(MANY);
+    measure_plan();
+    measure_large();
 }

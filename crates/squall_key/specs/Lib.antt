@@ -1,3 +1,4 @@
 pub mod Numbers
 pub mod Keys
 pub mod Lemmas
+pub mod Search

@@ -103,6 +103,17 @@ impl Bound {
     {
         (self.rank % 4294967296) as u32
     }
+
+    /// `step` where this bound lies beyond the other, else 0: made of the bits of a borrow, so
+    /// that a search that steps by it has no branch on what it compares.
+    #[inline(always)]
+    pub fn step_beyond(self, other: Bound, step: usize) -> usize
+        ensures beyond { other < self → result ≡ step }
+        ensures not_beyond { self ≤ other → result ≡ 0 }
+    {
+        let borrow = u128::from(other.rank).wrapping_sub(u128::from(self.rank)) >> 64;
+        step & borrow as usize
+    }
 }
 
 /// `root:second`, without leading zeros, or `end` for the top.

@@ -34,6 +34,19 @@ fn ranks(rt: HostRuntime) -> Result<(), Fail> {
 }
 
 #[test]
+fn steps(rt: HostRuntime) -> Result<(), Fail> {
+    let low = Bound::new(0, 0).ok_or("low")?;
+    let next = Bound::new(0, 1).ok_or("next")?;
+    assert_eq!(rt; next.step_beyond(low, 5), 5);
+    assert_eq!(rt; low.step_beyond(next, 5), 0);
+    assert_eq!(rt; low.step_beyond(low, 5), 0);
+    assert_eq!(rt; Bound::TOP.step_beyond(low, usize::MAX), usize::MAX);
+    assert_eq!(rt; low.step_beyond(Bound::TOP, usize::MAX), 0);
+    assert_eq!(rt; Bound::TOP.step_beyond(next, 0), 0);
+    Ok(())
+}
+
+#[test]
 fn texts(rt: HostRuntime) -> Result<(), Fail> {
     assert_eq!(rt; Bound::read("end"), Some(Bound::TOP));
     assert_eq!(rt; Bound::read("4294967295:0"), Some(Bound::TOP));

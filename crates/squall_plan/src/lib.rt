@@ -11,6 +11,7 @@ mod form;
 mod laws;
 mod plan;
 mod range;
+mod search;
 mod sweep;
 
 pub use fault::PlanFault;

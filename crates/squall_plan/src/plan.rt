@@ -12,6 +12,7 @@ ghost use Rattle.std.specs.Cmp.{partial_equiv_from_equiv};
 use crate::fault::PlanFault;
 use crate::form::read_text;
 use crate::range::PlanRange;
+use crate::search::place_of;
 use crate::sweep::{first_clash, first_hole, join, sort};
 use squall_key::{Bound, Key, PartId};
 use std::alloc::{AllocError, Global};
@@ -59,15 +60,6 @@ fn know_ranges(ranges: &[PlanRange])
     for range in ranges {
         know_range(range);
     }
-}
-
-/// Where the range of a key stands.
-fn place_of(ranges: &[PlanRange], key: Key) -> usize
-    requires { IsTiling 0 top ranges.now }
-    ensures { IsPlace key ranges.now result }
-{
-    let rank = key.rank();
-    ranges.partition_point(|range| range.span.hi().rank() <= rank)
 }
 
 /// The plan of ranges that are not too many, which it sorts.

@@ -181,3 +181,22 @@ fn first_keys(rt: HostRuntime) -> Result<(), Fail> {
     }
     Ok(())
 }
+
+/// Whether the set has, of the keys below a thousand, the first five of each ten below the end.
+fn has_fives(rt: &impl Abort, set: &SpanSet, end: u32) -> bool {
+    (0..1000u32).all(|rank| {
+        let key = Key::of_rank(u64::from(rank)).expect(rt, "a key");
+        set.has(key) == (rank < end && rank % 10 < 5)
+    })
+}
+
+#[test]
+fn look_ups_in_sets_of_each_size(rt: HostRuntime) -> Result<(), Fail> {
+    let mut set = SpanSet::empty(rt.alloc());
+    assert!(rt; has_fives(&rt, &set, 0));
+    for at in 0..100u32 {
+        set.insert(span(&rt, 10 * at, 10 * at + 5))?;
+        assert!(rt; has_fives(&rt, &set, 10 * at + 10));
+    }
+    Ok(())
+}
