@@ -1,0 +1,5 @@
+mod Kept
+mod Among
+mod Bounds
+mod Picks
+mod Moving

@@ -11,5 +11,6 @@ pub use Rattle.squall_board.specs.Route
 pub use Rattle.squall_board.specs.MovesRoute
 pub mod Tables
 pub mod Legs
+pub mod LegLaws
 pub mod Touched
 pub mod Reach

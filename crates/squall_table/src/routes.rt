@@ -83,7 +83,7 @@ fn push_move(
     hi: Bound,
 ) -> Result<(), AllocError>
     requires { lo ≤ hi }
-    ensures { OnOk result (Grows (route_in_move number (said heard) moved.now) lo hi out.old.items out.new.items) }
+    ensures { OnOk result (Grows (route_in_move number (said heard.entry) moved.now) lo hi out.old.items out.new.items) }
 {
     let board = match heard {
         Heard::Board(board) => board,
@@ -123,7 +123,7 @@ pub(crate) fn push_routes(
     requires rise { MovesRise 0 moves.now }
     requires first { FirstMove moves.now lo first }
     requires order { lo ≤ hi }
-    ensures grows { OnOk result (Grows (route_by_moves number legs.now moves.now (said heard)) lo hi out.old.items out.new.items) }
+    ensures grows { OnOk result (Grows (route_by_moves number legs.now moves.now (said heard.entry)) lo hi out.old.items out.new.items) }
     ensures end { IfOk result (EndMove moves.now hi first) }
 {
     let mut reach = lo;
