@@ -14,3 +14,4 @@ pub mod Legs
 pub mod LegLaws
 pub mod Touched
 pub mod Reach
+pub mod TableLaws
