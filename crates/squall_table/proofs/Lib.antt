@@ -1,0 +1,8 @@
+mod Kept
+mod Pushed
+mod Among
+mod Bounds
+mod Picks
+mod Moving
+mod Coming
+mod Built
