@@ -11,3 +11,4 @@ pub use Rattle.squall_board.specs.Route
 pub mod Tables
 pub mod Touched
 pub mod Reach
+pub mod Touching
