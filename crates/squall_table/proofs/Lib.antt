@@ -1,1 +1,6 @@
+mod Kept
+mod Among
+mod Bounds
+mod Picks
+mod Moving
 pub mod Touching

@@ -2,7 +2,6 @@
 use Rattle.std.proofs.Common.{◌≡◌, ℕ, zero, suc, ◌+◌, ◌-◌, ◌<◌, ◌≤◌, Bool, true, false, cond, List, [], ◌∷◌, ◌++◌, Option, None, Some, length, get_or, take, drop, refl, sym, ap, ◌∙◌, arith, inl, inr, length-drop}
 use Rattle.std.specs.Prelude.{◌==◌, ◌||◌, ◌&&◌, not}
 use Rattle.std.specs.List.{list_any, AllByRecursion}
-use Rattle.std.specs.List.Sorted.{IsNonDecreasingBy}
 use Rattle.std.specs.Ordering.{nat_cmp}
 use Rattle.std.specs.FinMap.Entries.{find}
 use Rattle.std.proofs.lemmas.Bool.{cases_lt}
@@ -21,40 +20,23 @@ use Rattle.squall_course.proofs.Gathered.{incoming_keys}
 use Rattle.squall_report.specs.Facts.{LoadedKey, DonePart}
 use Rattle.squall_report.specs.Told.{TellsBoth}
 use Rattle.squall_board.specs.Boards.{CellValue, Parts, Subs, BoardValue, cells_in, cell_is, cell_bottom, says, told, found_in}
-use Rattle.squall_board.specs.ListedLaws.{KeysRise, keys_rise, says_some, any_and, any_same, all_weaker}
+use Rattle.squall_board.specs.ListedLaws.{KeysRise, keys_rise, says_some, all_weaker}
 use Rattle.squall_board.specs.Route.{has_come, place_of_key}
 use Rattle.squall_board.specs.MovesRoute.{cell_has_come}
 use Rattle.squall_board.specs.MovesRouteLaws.{cell_says_what_came}
 use Rattle.squall_table.specs.Touched.{is_touched, ChangesWithin}
-use Rattle.squall_table.specs.Touching.{MovesRise, MovesEnd, brought, touched_by_cell, touched_by_parts, touched_by_subs}
+use Rattle.squall_table.specs.Legs.{MovesRise, FirstMove}
+use Rattle.squall_table.specs.Touching.{brought, touched_by_cell, touched_by_parts, touched_by_subs}
 
 -- ---- moves by rising key
 
-move_at : (a : ℕ) (ms : List Move) (i : ℕ) (d : Move) → MovesRise a ms → i < length ms → (a ≤ (get_or ms i d).span.lo) × ((get_or ms i d).span.lo < (get_or ms i d).span.hi)
-move_at a [] i d r lt = absurd (omega arith)
-move_at a (m ∷ ms) zero d r lt = (r.0, r.1)
-move_at a (m ∷ ms) (suc i) d r lt = let rest = move_at m.span.hi ms i d r.2 (omega arith) in (omega (arith, r.0, r.1, rest.0), rest.1)
-
-pub ends_rise : (a : ℕ) (ms : List Move) → MovesRise a ms → IsNonDecreasingBy (λ m. m.span.hi) ms
-ends_rise a [] r i j d le lt = absurd (omega arith)
-ends_rise a (m ∷ ms) r zero zero d le lt = omega arith
-ends_rise a (m ∷ ms) r zero (suc j) d le lt = let above = move_at m.span.hi ms j d r.2 (omega arith) in omega (arith, above.0, above.1)
-ends_rise a (m ∷ ms) r (suc i) zero d le lt = absurd (omega arith)
-ends_rise a (m ∷ ms) r (suc i) (suc j) d le lt = ends_rise m.span.hi ms r.2 i j d (omega arith) (omega arith)
-
-pub all_end : (ms : List Move) (bound i : ℕ) → ((j : ℕ) (d : Move) → j < i → j < length ms → (get_or ms j d).span.hi ≤ bound) → MovesEnd bound i ms
-all_end [] bound zero e = tt
-all_end [] bound (suc i) e = tt
-all_end (m ∷ ms) bound zero e = tt
-all_end (m ∷ ms) bound (suc i) e = (e 0 m (omega arith) (omega arith), all_end ms bound i (λ j d lt w. e (suc j) d (omega arith) (omega arith)))
-
 rise_weaker : (a b : ℕ) (ms : List Move) → a ≤ b → MovesRise b ms → MovesRise a ms
-rise_weaker a b [] le r = tt
+rise_weaker a b [] le r = omega arith
 rise_weaker a b (m ∷ ms) le r = (omega (arith, r.0), r.1, r.2)
 
 pub rise_drop : (a : ℕ) (ms : List Move) (i : ℕ) → MovesRise a ms → MovesRise a (drop i ms)
-rise_drop a [] zero r = tt
-rise_drop a [] (suc i) r = tt
+rise_drop a [] zero r = r
+rise_drop a [] (suc i) r = r
 rise_drop a (m ∷ ms) zero r = r
 rise_drop a (m ∷ ms) (suc i) r = rise_weaker a m.span.hi (drop i ms) (omega (arith, r.0, r.1)) (rise_drop m.span.hi ms i r.2)
 
@@ -87,17 +69,18 @@ span_cut sub part a k s ms i d r lt le = elim (cases_lt k s.hi) [
 ]
 
 -- a key is in none of the moves that end before it
-past_all : (sub part : ℕ) (bound k : ℕ) (ms : List Move) (i : ℕ) → MovesEnd bound i ms → bound ≤ k → brought sub part (drop i ms) k ≡ brought sub part ms k
+past_all : (sub part : ℕ) (bound k : ℕ) (ms : List Move) (i : ℕ) → ((j : ℕ) (d : Move) → j < i → (get_or ms j d).span.hi ≤ bound) → bound ≤ k → brought sub part (drop i ms) k ≡ brought sub part ms k
 past_all sub part bound k [] zero e le = refl
 past_all sub part bound k [] (suc i) e le = refl
 past_all sub part bound k (m ∷ ms) zero e le = refl
 past_all sub part bound k (m ∷ ms) (suc i) e le =
-    past_all sub part bound k ms i e.1 le ∙ sym (ap (λ b. b || brought sub part ms k) (not_here sub part m k (outside_above m.span k (omega (arith, e.0)))))
+    past_all sub part bound k ms i (λ j d lt. e (suc j) d (omega arith)) le ∙ sym (ap (λ b. b || brought sub part ms k) (not_here sub part m k (outside_above m.span k (omega (arith, e 0 m (omega arith))))))
 
-pub span_past : (sub part k : ℕ) (s : Interval) (ms : List Move) (i : ℕ) → MovesEnd s.lo i ms → (span_has s k && brought sub part (drop i ms) k) ≡ (span_has s k && brought sub part ms k)
-span_past sub part k s ms i e = elim (cases_lt k s.lo) [
+-- of the keys of a span no earlier move has one
+pub span_past : (sub part k : ℕ) (s : Interval) (ms : List Move) (i : ℕ) → FirstMove ms s.lo i → (span_has s k && brought sub part (drop i ms) k) ≡ (span_has s k && brought sub part ms k)
+span_past sub part k s ms i f = elim (cases_lt k s.lo) [
   | inl below ↦ rw (outside_below s k below) refl
-  | inr from ↦ ap (λ b. span_has s k && b) (past_all sub part s.lo k ms i e from)
+  | inr from ↦ ap (λ b. span_has s k && b) (past_all sub part s.lo k ms i f.before from)
 ]
 
 pub take_rest : (ms : List Move) (i : ℕ) → take (length ms - i) (drop i ms) ≡ drop i ms
@@ -120,7 +103,16 @@ one_span_more has0 has1 has2 b xs i k x lt is e f =
 
 -- ---- the cells of a delta
 
-comes : CellValue → ℕ → Bool
+any_same : {X : Type 0} (g h : X → Bool) (xs : List X) → AllByRecursion (λ x. g x ≡ h x) xs → list_any g xs ≡ list_any h xs
+any_same g h [] p = refl
+any_same g h (x ∷ xs) p = (λ i. p.0 i || any_same g h xs p.1 i)
+
+any_and : {X : Type 0} (a : Bool) (g : X → Bool) (xs : List X) → list_any (λ x. a && g x) xs ≡ (a && list_any g xs)
+any_and true g xs = refl
+any_and false g [] = refl
+any_and false g (x ∷ xs) = any_and false g xs
+
+abbrev comes : CellValue → ℕ → Bool
 comes cell k = cell_has_come (Some cell) k
 
 abbrev moves_at : Change → ℕ → Bool

@@ -8,7 +8,10 @@ pub use Rattle.squall_course.specs.Moves
 pub use Rattle.squall_report.specs.Told
 pub use Rattle.squall_board.specs.Boards
 pub use Rattle.squall_board.specs.Route
+pub use Rattle.squall_board.specs.MovesRoute
 pub mod Tables
+pub mod Legs
+pub mod LegLaws
 pub mod Touched
 pub mod Reach
 pub mod Touching

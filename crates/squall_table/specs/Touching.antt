@@ -1,19 +1,10 @@
 -- The keys that moves bring to the cells of a delta (this project).
-use Rattle.std.specs.Prelude.{ℕ, ◌<◌, ◌≤◌, ◌&&◌, Bool, List, [], ◌∷◌, Some, take}
-use Rattle.std.specs.List.{list_any, AllByRecursion}
+use Rattle.std.specs.Prelude.{ℕ, ◌&&◌, Bool, List, Some}
+use Rattle.std.specs.List.{list_any}
 use Rattle.squall_course.specs.declared.moving.Move.{Move}
 use Rattle.squall_course.specs.Moves.{goes_to, move_has}
 use Rattle.squall_board.specs.Boards.{CellValue, Parts, Subs}
 use Rattle.squall_board.specs.MovesRoute.{cell_has_come}
-
--- moves by rising key from a bound on, none without a key
-abbrev pub MovesRise : ℕ → List Move → Type 0
-MovesRise from [] = Unit {0}
-MovesRise from (m ∷ ms) = (from ≤ m.span.lo) × (m.span.lo < m.span.hi) × MovesRise m.span.hi ms
-
--- the first so many moves end at the bound or before it
-abbrev pub MovesEnd : ℕ → ℕ → List Move → Type 0
-MovesEnd bound count ms = AllByRecursion (λ m. m.span.hi ≤ bound) (take count ms)
 
 -- the key lies in a move to the partition in the sub-plan
 abbrev pub brought : ℕ → ℕ → List Move → ℕ → Bool

@@ -5,16 +5,19 @@
 //! partition. So a course and a board have one table, however it came to be.
 #![tactic(auto)]
 
+mod index;
 mod laws;
+mod legs;
 mod meter;
+mod routes;
+mod search;
 mod table;
 mod touch;
 
 pub use laws::{
-    all_in_is_the_new_plan, legs_are_key_by_key, one_list_of_legs, older_tables_stay_outside,
+    all_in_is_the_new_plan, legs_are_key_by_key, older_tables_stay_outside, one_list_of_legs,
     touched_by_cells,
 };
 pub use meter::Meter;
 pub use table::{Leg, RouteTable};
 pub use touch::touched;
-

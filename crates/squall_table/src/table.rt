@@ -10,10 +10,14 @@ ghost use Rattle.squall_table.specs.Tables.{AreLegs, IsTable};
 ghost use Rattle.squall_table.specs.Touched.{WasTable};
 ghost use Rattle.squall_table.specs.Reach.{moves_in, reach};
 
+use crate::index::{grow, refill};
+use crate::legs::copy_legs;
 use crate::meter::Meter;
+use crate::routes::{Heard, first_move, push_routes};
+use crate::search::place_by;
 use squall_board::{Board, Delta};
 use squall_course::Course;
-use squall_key::{Key, PartId};
+use squall_key::{Bound, Key, PartId};
 use squall_plan::PlanRange;
 use squall_span::{Span, SpanSet};
 use std::alloc::{AllocError, Global};
@@ -29,18 +33,28 @@ pub type Leg = PlanRange;
 #[derive(Drop)]
 pub struct RouteTable {
     pub(crate) legs: Vec<Leg>,
+    /// Where every 16th leg begins: what stands behind that is of no account.
+    pub(crate) tops: Vec<Bound>,
 }
 
 impl Model for RouteTable {
     ghost use Rattle.std.specs.Prelude.{List};
     ghost use Rattle.squall_plan.specs.declared.range.PlanRange.{PlanRange};
-    ghost use Rattle.squall_plan.specs.Ranges.{IsCanonical};
+    ghost use Rattle.squall_plan.specs.Ranges.{IsCanonical, AreRanges};
+    ghost use Rattle.squall_table.specs.Legs.{HasIndex};
 
     ghost Value = { List PlanRange };
 
     ghost view = { λ t. t.legs.items };
 
-    ghost invariant = { λ t. IsCanonical t.legs.items };
+    ghost invariant = { λ t. IsCanonical t.legs.items × AreRanges t.legs.items × HasIndex t.tops.items t.legs.items };
+}
+
+/// The bound at the least key.
+fn bottom() -> Bound
+    ensures { result ≡ 0 }
+{
+    Bound::of_rank(0).unwrap_or(Bound::TOP)
 }
 
 impl RouteTable {
@@ -48,15 +62,34 @@ impl RouteTable {
     pub fn build(alloc: Global, course: &Course, board: &Board) -> Result<RouteTable, AllocError>
         ensures table { IfOk result (IsTable course.now board.now) }
     {
-        let _ = (alloc, course, board);
-        Err(AllocError)
+        let mut legs = Vec::new(alloc);
+        let moves = course.moves();
+        let old = course.old_plan().ranges();
+        let first = first_move(moves, bottom());
+        let heard = Heard::Board(board);
+        push_routes(
+            &mut legs,
+            old,
+            moves,
+            course.number(),
+            heard,
+            first,
+            bottom(),
+            Bound::TOP,
+        )?;
+        let mut tops = Vec::new(alloc);
+        grow(&mut tops, (legs.len() + 15) / 16)?;
+        refill(&mut tops, &legs, 0);
+        Ok(RouteTable { legs, tops })
     }
 
     /// The partition to ask for the key, by a binary search.
     pub fn owner(&self, key: Key) -> PartId
         ensures { result ≡ owner_of self.now key }
     {
-        self.owner(key)
+        let count = (self.legs.len() + 15) / 16;
+        let at = place_by(&self.tops[..count], &self.legs, Bound::of_key(key));
+        self.legs[at].part
     }
 
     /// The legs, by rising key.
@@ -72,8 +105,9 @@ impl RouteTable {
     pub fn legs(&self, alloc: Global, span: &Span) -> Result<Vec<Leg>, AllocError>
         ensures { IfOk result (λ legs. AreLegs (owner_of self.now) span.now.lo span.now.hi legs.items) }
     {
-        let _ = (alloc, span);
-        Err(AllocError)
+        let mut legs = Vec::new(alloc);
+        copy_legs(&mut legs, &self.legs, span.lo(), span.hi())?;
+        Ok(legs)
     }
 
     /// Makes the table that of the board, where it is that of an older board whose routes differ at

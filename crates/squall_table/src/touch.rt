@@ -1,28 +1,20 @@
 //! The keys that a delta touches.
 
-ghost use Rattle.std.specs.Prelude.{◌≡◌, ℕ, ◌≤◌, ◌||◌, ◌&&◌, max, min, length, IfOk, OnOk};
+ghost use Rattle.std.specs.Prelude.{◌≡◌, ℕ, ◌||◌, ◌&&◌, max, min, IfOk, OnOk};
 ghost use Rattle.squall_span.specs.Spans.{has, span_has, span_at};
 ghost use Rattle.squall_course.specs.Moves.{goes_to, move_has};
 ghost use Rattle.squall_report.specs.Told.{TellsBoth};
 ghost use Rattle.squall_board.specs.Boards.{BoardValue, says, told};
+ghost use Rattle.squall_table.specs.Legs.{MovesRise};
 ghost use Rattle.squall_table.specs.Touched.{is_touched, ChangesWithin};
-ghost use Rattle.squall_table.specs.Touching.{MovesRise, MovesEnd, brought, touched_by_cell, touched_by_parts, touched_by_subs};
+ghost use Rattle.squall_table.specs.Touching.{brought, touched_by_cell, touched_by_parts, touched_by_subs};
 
+use crate::routes::first_move;
 use squall_board::{CellParts, Delta};
 use squall_course::{Course, Move};
 use squall_join::JoinMap;
-use squall_key::Bound;
 use squall_span::{Span, SpanSet};
 use std::alloc::{AllocError, Global};
-
-/// How many moves end at the bound or before it.
-fn ended(moves: &[Move], bound: Bound) -> usize
-    requires { MovesRise 0 moves.now }
-    ensures within { result ≤ length moves.now }
-    ensures past { MovesEnd bound result moves.now }
-{
-    moves.partition_point(|one| one.span.hi() <= bound)
-}
 
 /// The keys of both spans. None where they share none.
 fn shared(span: Span, other: Span) -> Option<Span>
@@ -83,7 +75,7 @@ fn add_span(
     requires { MovesRise 0 moves.now }
     ensures { OnOk result ((k : ℕ) → has out.new k ≡ (has out.old k || (span_has span k && brought sub part moves.now k))) }
 {
-    let first = ended(moves, span.lo());
+    let first = first_move(moves, span.lo());
     add_first(out, &moves[first..], sub, part, span)
 }
 

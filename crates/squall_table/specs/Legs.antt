@@ -1,0 +1,108 @@
+-- Lists of legs as they grow, and places among legs, moves and spans (this project).
+use Rattle.std.specs.Prelude.{◌≡◌, ◌≢◌, ℕ, ◌+◌, ◌*◌, ◌<◌, ◌≤◌, Bool, true, List, [], ◌∷◌, if◌then◌else◌, length, slice_index, slice_index_or}
+use Rattle.squall_key.specs.Keys.{top}
+use Rattle.squall_span.specs.Spans.{Interval, has}
+use Rattle.squall_plan.specs.declared.range.PlanRange.{PlanRange}
+use Rattle.squall_course.specs.declared.moving.Move.{Move}
+use Rattle.squall_report.specs.Facts.{Fact}
+use Rattle.squall_board.specs.Boards.{says}
+use Rattle.squall_table.specs.declared.routes.Heard.{Heard}
+use Rattle.squall_table.specs.declared.routes.Heard.TheVariants.{Board, All}
+
+-- ---- lists that grow
+
+-- the first leg, if any, is of another partition
+abbrev pub Differs : ℕ → List PlanRange → Type 0
+Differs p [] = Unit {0}
+Differs p (l ∷ ls) = p ≢ l.part
+
+-- the legs of a route from one bound to another, as `AreLegs` has them, leg by leg
+abbrev pub Legs : (ℕ → ℕ) → ℕ → ℕ → List PlanRange → Type 0
+Legs f from to [] = from ≡ to
+Legs f from to (l ∷ ls) = (l.span.lo ≡ from) × (l.span.lo < l.span.hi) × ((k : ℕ) → l.span.lo ≤ k → k < l.span.hi → f k ≡ l.part) × Differs l.part ls × Legs f l.span.hi to ls
+
+-- a list that is the legs of a route up to lo, with what is added at its end is the legs of that route up to hi, where that route
+-- is g from lo to hi
+abbrev pub Grows : (ℕ → ℕ) → ℕ → ℕ → List PlanRange → List PlanRange → Type 0
+Grows g lo hi old new = (f : ℕ → ℕ) (from : ℕ) → ((k : ℕ) → lo ≤ k → k < hi → f k ≡ g k) → Legs f from lo old → Legs f from hi new
+
+-- ---- places of legs
+
+-- the leg at i has the key
+pub record IsAt (ls : List PlanRange) (k i : ℕ) : Type 0 where
+  pub within : i < length ls
+  pub from : (d : PlanRange) → (slice_index_or ls i d).span.lo ≤ k
+  pub below : (d : PlanRange) → k < (slice_index_or ls i d).span.hi
+
+-- one of so many legs from a place on has the key
+pub record IsAmong (ls : List PlanRange) (k base size : ℕ) : Type 0 where
+  pub some : 0 < size
+  pub within : base + size ≤ length ls
+  pub from : (d : PlanRange) → (slice_index_or ls base d).span.lo ≤ k
+  pub beyond : (j : ℕ) (d : PlanRange) → base + size ≤ j → j < length ls → k < (slice_index_or ls j d).span.lo
+
+-- the leg at i has the keys before the bound
+pub record EndsAt (ls : List PlanRange) (bound i : ℕ) : Type 0 where
+  pub within : i < length ls
+  pub from : (d : PlanRange) → (slice_index_or ls i d).span.lo < bound
+  pub below : (d : PlanRange) → bound ≤ (slice_index_or ls i d).span.hi
+
+-- ---- the index
+
+-- one of so many bounds from a place on is the last that is not beyond the key
+pub record IsAmongBounds (xs : List ℕ) (k base size : ℕ) : Type 0 where
+  pub some : 0 < size
+  pub within : base + size ≤ length xs
+  pub from : slice_index xs base ≤ k
+  pub beyond : (j : ℕ) → base + size ≤ j → j < length xs → k < slice_index xs j
+
+-- bounds that never fall
+abbrev pub BoundsRise : List ℕ → Type 0
+BoundsRise xs = (i j : ℕ) → i ≤ j → j < length xs → slice_index xs i ≤ slice_index xs j
+
+-- where every 16th leg begins
+pub record IsIndex (tops : List ℕ) (ls : List PlanRange) : Type 0 where
+  pub no_more : 16 * length tops < length ls + 16
+  pub no_fewer : length ls ≤ 16 * length tops
+  pub begins : (i : ℕ) (d : PlanRange) → i < length tops → slice_index tops i ≡ (slice_index_or ls (16 * i) d).span.lo
+
+-- bounds that begin with the index of the legs: what stands behind it is of no account
+pub record HasIndex (tops : List ℕ) (ls : List PlanRange) : Type 0 where
+  pub room : length ls ≤ 16 * length tops
+  pub begins : (i : ℕ) (d : PlanRange) → 16 * i < length ls → slice_index tops i ≡ (slice_index_or ls (16 * i) d).span.lo
+
+-- ---- spans
+
+-- the first span, if any, ends beyond the bound
+abbrev pub EndsBeyond : ℕ → List Interval → Type 0
+EndsBeyond bound [] = Unit {0}
+EndsBeyond bound (s ∷ ss) = bound < s.hi
+
+-- one partition in the spans, another outside them
+abbrev pub pick : List Interval → ℕ → ℕ → ℕ → ℕ
+pick spans dest source k = if has spans k then dest else source
+
+-- ---- moves
+
+-- moves by rising key from a bound on, none empty, none sharing a key with another
+abbrev pub MovesRise : ℕ → List Move → Type 0
+MovesRise from [] = from ≤ top
+MovesRise from (m ∷ ms) = (from ≤ m.span.lo) × (m.span.lo < m.span.hi) × MovesRise m.span.hi ms
+
+-- the first place of a move that ends beyond the bound
+pub record FirstMove (ms : List Move) (bound i : ℕ) : Type 0 where
+  pub within : i ≤ length ms
+  pub before : (j : ℕ) (d : Move) → j < i → (slice_index_or ms j d).span.hi ≤ bound
+  pub after : (j : ℕ) (d : Move) → i ≤ j → j < length ms → bound < (slice_index_or ms j d).span.hi
+
+-- from the first place on, the place of the first move that begins at the bound or later
+pub record EndMove (ms : List Move) (bound first i : ℕ) : Type 0 where
+  pub from : first ≤ i
+  pub within : i ≤ length ms
+  pub before : (j : ℕ) (d : Move) → first ≤ j → j < i → (slice_index_or ms j d).span.lo < bound
+  pub after : (j : ℕ) (d : Move) → i ≤ j → j < length ms → bound ≤ (slice_index_or ms j d).span.lo
+
+-- what is said: what the board has, or that every key of a move has come
+abbrev pub said : Heard → Fact → Bool
+said (Board b) fact = says b.now fact
+said All fact = true

@@ -1,0 +1,141 @@
+//! The legs of a route by the moves of a course.
+
+ghost use Rattle.std.specs.Prelude.{◌≡◌, ℕ, ◌≤◌, OnOk, IfOk, length, drop, option_copied};
+ghost use Rattle.squall_key.specs.Keys.{top};
+ghost use Rattle.squall_span.specs.Spans.{has, IsCanonical as IsCanonicalSet};
+ghost use Rattle.squall_plan.specs.Ranges.{owner_of, IsCanonical};
+ghost use Rattle.squall_report.specs.Cells.{place_at};
+ghost use Rattle.squall_board.specs.Boards.{says};
+ghost use Rattle.squall_board.specs.MovesRoute.{has_come_to, cell_has_come, route_in_move, route_by_moves};
+ghost use Rattle.squall_table.specs.Legs.{Grows, EndsBeyond, pick, MovesRise, FirstMove, EndMove, said};
+
+use crate::legs::{copy_legs, push_leg};
+use crate::table::Leg;
+use squall_board::{Board, CellParts, coming_by_the_cell};
+use squall_course::Move;
+use squall_key::{Bound, PartId};
+use squall_report::CellId;
+use squall_span::Span;
+use std::alloc::AllocError;
+
+/// What is heard of the keys of moves.
+#[derive(Clone, Copy)]
+pub(crate) enum Heard<'a> {
+    /// What the board has.
+    Board(&'a Board),
+    /// That each of them has come.
+    All,
+}
+
+/// Where the first span stands that ends beyond a bound.
+fn first_beyond(spans: &[Span], bound: Bound) -> usize
+    requires { IsCanonicalSet spans.now }
+    ensures within { result ≤ length spans.now }
+    ensures before { (k : ℕ) → bound ≤ k → has spans.now k ≡ has (drop result spans.now) k }
+    ensures ahead { EndsBeyond bound (drop result spans.now) }
+{
+    spans.partition_point(|span| span.hi() <= bound)
+}
+
+/// Adds the keys from `lo` to `hi`: those of the spans to `dest`, the others to `source`.
+fn push_picked(
+    out: &mut Vec<Leg>,
+    spans: &[Span],
+    dest: PartId,
+    source: PartId,
+    lo: Bound,
+    hi: Bound,
+) -> Result<(), AllocError>
+    requires canonical { IsCanonicalSet spans.now }
+    requires order { lo ≤ hi }
+    ensures { OnOk result (Grows (pick spans.now dest source) lo hi out.old.items out.new.items) }
+{
+    let mut reach = lo;
+    let mut at = first_beyond(spans, lo);
+    while at < spans.len() && spans[at].lo() < hi {
+        let span = spans[at];
+        let start = span.lo().max(reach);
+        push_leg(out, reach, start, source)?;
+        reach = span.hi().min(hi);
+        push_leg(out, start, reach, dest)?;
+        at += 1;
+    }
+    push_leg(out, reach, hi, source)
+}
+
+/// What the board has of the cell to which a move goes.
+fn cell_of_move<'a>(board: &'a Board, number: u32, moved: &Move) -> Option<&'a CellParts>
+    ensures { (k : ℕ) → has_come_to (says board.now) (place_at number moved.now.sub moved.now.dest) k ≡ cell_has_come (option_copied result) k }
+{
+    board.known();
+    coming_by_the_cell(board);
+    let cell = CellId::new(number, moved.sub, moved.dest.get())?;
+    board.cell_at(cell)
+}
+
+/// Adds the keys from `lo` to `hi` of a move.
+fn push_move(
+    out: &mut Vec<Leg>,
+    moved: &Move,
+    number: u32,
+    heard: Heard,
+    lo: Bound,
+    hi: Bound,
+) -> Result<(), AllocError>
+    requires { lo ≤ hi }
+    ensures { OnOk result (Grows (route_in_move number (said heard.entry) moved.now) lo hi out.old.items out.new.items) }
+{
+    let board = match heard {
+        Heard::Board(board) => board,
+        Heard::All => return push_leg(out, lo, hi, moved.dest),
+    };
+    let Some(cell) = cell_of_move(board, number, moved) else {
+        return push_leg(out, lo, hi, moved.source);
+    };
+    if cell.second.get() {
+        return push_leg(out, lo, hi, moved.dest);
+    }
+    push_picked(out, cell.first.spans(), moved.dest, moved.source, lo, hi)
+}
+
+/// Where the first move stands that ends beyond a bound, by a binary search.
+pub(crate) fn first_move(moves: &[Move], bound: Bound) -> usize
+    requires { MovesRise 0 moves.now }
+    ensures { FirstMove moves.now bound result }
+{
+    moves.partition_point(|moved| moved.span.hi() <= bound)
+}
+
+/// Adds the keys from `lo` to `hi` by their routes in the course of that number, the keys of no move
+/// as among the legs. The first move is the first that ends beyond `lo`; the result is the place
+/// after the last that begins below `hi`. After an error the list may have changed.
+pub(crate) fn push_routes(
+    out: &mut Vec<Leg>,
+    legs: &[Leg],
+    moves: &[Move],
+    number: u32,
+    heard: Heard,
+    first: usize,
+    lo: Bound,
+    hi: Bound,
+) -> Result<usize, AllocError>
+    requires canonical { IsCanonical legs.now }
+    requires rise { MovesRise 0 moves.now }
+    requires first { FirstMove moves.now lo first }
+    requires order { lo ≤ hi }
+    ensures grows { OnOk result (Grows (route_by_moves number legs.now moves.now (said heard.entry)) lo hi out.old.items out.new.items) }
+    ensures end { IfOk result (EndMove moves.now hi first) }
+{
+    let mut reach = lo;
+    let mut at = first;
+    while at < moves.len() && moves[at].span.lo() < hi {
+        let moved = moves[at];
+        let start = moved.span.lo().max(reach);
+        copy_legs(out, legs, reach, start)?;
+        reach = moved.span.hi().min(hi);
+        push_move(out, &moved, number, heard, start, reach)?;
+        at += 1;
+    }
+    copy_legs(out, legs, reach, hi)?;
+    Ok(at)
+}
