@@ -4,3 +4,4 @@ mod Bounds
 mod Picks
 mod Moving
 pub mod Touching
+mod Shifted

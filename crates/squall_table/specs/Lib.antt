@@ -15,3 +15,4 @@ pub mod LegLaws
 pub mod Touched
 pub mod Reach
 pub mod Touching
+pub mod Patching
