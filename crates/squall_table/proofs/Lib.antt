@@ -5,3 +5,6 @@ mod Picks
 mod Moving
 pub mod Touching
 mod Shifted
+mod Counting
+mod About
+mod Patching
