@@ -106,5 +106,9 @@ quarter f ls k base size step l l' l'' r r' r'' d t m pos parts s s' s'' b b' b'
           subst (λ n. IsAmong ls k n (size - 3 * step)) (sym e) (fewer ls k _ _ _ (omega arith) (third f ls k (base + step) (size - step) step l' l'' r' r'' d t m' pos (omega arith) s' s'' b' b''))
     ]
 
-pub starts : (ls : List PlanRange) (i : ℕ) (d : PlanRange) → i < length ls → Starts ls i (get_or ls i d).span.lo
-starts ls i d lt e = ap (λ l. l.span.lo) (get_or_default ls i e d lt)
+pub starts_as : (ls : List PlanRange) (i : ℕ) (t : PlanRange) (l : ℕ) → i < length ls → t ≡ get_or ls i t → l ≡ (get_or ls i t).span.lo → Starts ls i l
+starts_as ls i t l lt is e d = ap (λ l. l.span.lo) (get_or_default ls i d t lt) ∙ sym e
+
+-- the same step back at an equal bound
+pub back_at : (k step bound at r : ℕ) → bound ≡ at → Back k step bound r → Back k step at r
+back_at k step bound at r e b = subst (λ x. Back k step x r) e b

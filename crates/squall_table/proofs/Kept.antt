@@ -127,3 +127,20 @@ starts_rise f a b (r ∷ rs) t zero (suc j) d le lt = let above = legs_at f r.sp
 starts_rise f a b (r ∷ rs) t (suc i) zero d le lt = absurd (omega arith)
 starts_rise f a b (r ∷ rs) t (suc i) (suc j) d le lt = starts_rise f r.span.hi b rs t.4 i j d (omega arith) (omega arith)
 
+-- the same, by the legs as they were read
+pub copied_one : (g : ℕ → ℕ) (legs : List PlanRange) (lo hi i j : ℕ) (a : PlanRange) (x w : List PlanRange) → Legs g 0 top legs → IsAt legs lo i → EndsAt legs hi j → j ≤ i
+    → a ≡ get_or legs i a → Grows (λ _. a.part) lo hi x w → Grows g lo hi x w
+copied_one g legs lo hi i j a x w t at end le is p = grows_one g legs lo hi i j a x w t at end le (subst (λ (l : PlanRange). Grows (λ _. l.part) lo hi x w) is p)
+
+pub copied : (g : ℕ → ℕ) (legs : List PlanRange) (lo hi i j : ℕ) (a b : PlanRange) (u v : ℕ) (x y z w : List PlanRange) → Legs g 0 top legs → lo < hi → hi ≤ top → IsAt legs lo i → EndsAt legs hi j → i < j
+    → a ≡ get_or legs i a → u ≡ a.span.hi → b ≡ get_or legs j b → v ≡ b.span.lo
+    → Grows (λ _. a.part) lo u x y
+    → z ≡ y ++ take (j - (i + 1)) (drop (i + 1) legs)
+    → Grows (λ _. b.part) v hi z w
+    → Grows g lo hi x w
+copied g legs lo hi i j a b u v x y z w t lt high at end less is ends is' begins p e q =
+    let same : b ≡ get_or legs j a = is' ∙ get_or_default legs j b a end.within in
+    grows_kept g legs lo hi i j a x y z w t lt high at end less
+    (subst (λ (l : PlanRange). Grows (λ _. l.part) lo l.span.hi x y) is (subst (λ n. Grows (λ _. a.part) lo n x y) ends p))
+    e
+    (subst (λ (l : PlanRange). Grows (λ _. l.part) l.span.lo hi z w) same (subst (λ n. Grows (λ _. b.part) n hi z w) begins q))

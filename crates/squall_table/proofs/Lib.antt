@@ -1,4 +1,5 @@
 mod Kept
+mod Pushed
 mod Among
 mod Bounds
 mod Picks
@@ -8,3 +9,5 @@ mod Shifted
 mod Counting
 mod About
 mod Patching
+mod Coming
+mod Built

@@ -29,8 +29,8 @@ route old ms cs k = route_by_moves cs.0 old ms cs.1 k
 abbrev pub piece : Said → Move → ℕ → ℕ
 piece cs m k = route_in_move cs.0 cs.1 m k
 
-abbrev pub none : Move
-none = record { span = interval 0 0; source = 0; dest = 0; sub = 0 }
+abbrev pub no_move : Move
+no_move = record { span = interval 0 0; source = 0; dest = 0; sub = 0 }
 
 -- the moves between two plans rise, and none is empty
 pub moves_rise_of : (old new : List PlanRange) (from : ℕ) (ms : List Move) → from ≤ top → AllByRecursion (IsMove old new) ms → Rise from ms → MovesRise from ms
@@ -164,7 +164,7 @@ walk_done old xs cs lo reach hi first i was new end c past w p =
     none : (k : ℕ) → reach ≤ k → k < hi → route old xs cs k ≡ owner_of old k
     none k a b = elim (cases_lt i (length xs)) [
       | inl lt ↦
-          let d : Move = none in
+          let d : Move = no_move in
           let x = get_or xs i d in
           let rest : drop i xs ≡ x ∷ drop (i + 1) xs = drop_more xs i d lt in
           let dropped = rise_drop 0 xs i c in
@@ -191,4 +191,3 @@ end_is old xs cs lo reach hi first i was new c past w = record {
         subst (λ (n : ℕ). hi ≤ (get_or xs n d).span.lo) at (past d (omega arith))
   ];
 }
-

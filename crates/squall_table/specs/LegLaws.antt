@@ -156,11 +156,11 @@ legs_tile f a b (x ∷ xs) t = (t.0, t.1, legs_tile f x.span.hi b xs t.4)
 
 legs_differ : (f : ℕ → ℕ) (a b : ℕ) (xs : List PlanRange) → Legs f a b xs → Differ xs
 legs_differ f a b [] t = tt
-legs_differ f a b (x ∷ xs) t = from xs t.3 t.4
+legs_differ f a b (x ∷ xs) t = from xs t.3 (legs_differ f x.span.hi b xs t.4)
   where
-    from : (ys : List PlanRange) → Differs x.part ys → Legs f x.span.hi b ys → DifferFrom x ys
-    from [] d l = tt
-    from (y ∷ ys) d l = (d, legs_differ f x.span.hi b (y ∷ ys) l)
+    from : (ys : List PlanRange) → Differs x.part ys → Differ ys → DifferFrom x ys
+    from [] d rest = tt
+    from (y ∷ ys) d rest = (d, rest)
 
 pub canonical_of_legs : (f : ℕ → ℕ) (xs : List PlanRange) → Legs f 0 top xs → IsCanonical xs
 canonical_of_legs f xs l = record { tiles = legs_tile f 0 top xs l; differ = legs_differ f 0 top xs l }

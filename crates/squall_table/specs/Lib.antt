@@ -16,3 +16,4 @@ pub mod Touched
 pub mod Reach
 pub mod Touching
 pub mod Patching
+pub mod TableLaws

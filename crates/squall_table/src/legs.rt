@@ -49,15 +49,19 @@ pub(crate) fn copy_legs(
     requires order { lo ≤ hi }
     ensures { OnOk result (Grows (owner_of legs.now) lo hi out.old.items out.new.items) }
 {
-    if lo == hi {
+    if lo.rank() == hi.rank() {
         return Ok(());
     }
     let first = place_of(legs, lo);
     let last = end_of(legs, hi);
+    let head = legs[first];
     if last <= first {
-        return push_leg(out, lo, hi, legs[first].part);
+        push_leg(out, lo, hi, head.part)?;
+        return Ok(());
     }
-    push_leg(out, lo, legs[first].span.hi(), legs[first].part)?;
+    let tail = legs[last];
+    push_leg(out, lo, head.span.hi(), head.part)?;
     out.extend_from_slice(&legs[first + 1..last])?;
-    push_leg(out, legs[last].span.lo(), hi, legs[last].part)
+    push_leg(out, tail.span.lo(), hi, tail.part)?;
+    Ok(())
 }

@@ -24,3 +24,6 @@ pub use laws::{
 pub use meter::Meter;
 pub use table::{Leg, RouteTable};
 pub use touch::touched;
+
+#[cfg(test)]
+mod tests;

@@ -1,6 +1,6 @@
 //! The legs of a route by the moves of a course.
 
-ghost use Rattle.std.specs.Prelude.{◌≡◌, ℕ, ◌≤◌, OnOk, IfOk, length, drop, option_copied};
+ghost use Rattle.std.specs.Prelude.{◌≡◌, ℕ, ◌≤◌, OnOk, IfOk, length, drop, min, max, option_copied};
 ghost use Rattle.squall_key.specs.Keys.{top};
 ghost use Rattle.squall_span.specs.Spans.{has, IsCanonical as IsCanonicalSet};
 ghost use Rattle.squall_plan.specs.Ranges.{owner_of, IsCanonical};
@@ -25,6 +25,28 @@ pub(crate) enum Heard<'a> {
     Board(&'a Board),
     /// That each of them has come.
     All,
+}
+
+/// The later of two bounds.
+fn later(first: Bound, second: Bound) -> Bound
+    ensures { result ≡ max first second }
+{
+    if first.rank() < second.rank() {
+        second
+    } else {
+        first
+    }
+}
+
+/// The earlier of two bounds.
+fn earlier(first: Bound, second: Bound) -> Bound
+    ensures { result ≡ min first second }
+{
+    if first.rank() < second.rank() {
+        first
+    } else {
+        second
+    }
 }
 
 /// Where the first span stands that ends beyond a bound.
@@ -52,15 +74,16 @@ fn push_picked(
 {
     let mut reach = lo;
     let mut at = first_beyond(spans, lo);
-    while at < spans.len() && spans[at].lo() < hi {
+    while at < spans.len() && spans[at].lo().rank() < hi.rank() {
         let span = spans[at];
-        let start = span.lo().max(reach);
+        let start = later(span.lo(), reach);
         push_leg(out, reach, start, source)?;
-        reach = span.hi().min(hi);
+        reach = earlier(span.hi(), hi);
         push_leg(out, start, reach, dest)?;
         at += 1;
     }
-    push_leg(out, reach, hi, source)
+    push_leg(out, reach, hi, source)?;
+    Ok(())
 }
 
 /// What the board has of the cell to which a move goes.
@@ -69,8 +92,10 @@ fn cell_of_move<'a>(board: &'a Board, number: u32, moved: &Move) -> Option<&'a C
 {
     board.known();
     coming_by_the_cell(board);
-    let cell = CellId::new(number, moved.sub, moved.dest.get())?;
-    board.cell_at(cell)
+    match CellId::new(number, moved.sub, moved.dest.get()) {
+        Some(cell) => board.cell_at(cell),
+        None => None,
+    }
 }
 
 /// Adds the keys from `lo` to `hi` of a move.
@@ -128,11 +153,11 @@ pub(crate) fn push_routes(
 {
     let mut reach = lo;
     let mut at = first;
-    while at < moves.len() && moves[at].span.lo() < hi {
+    while at < moves.len() && moves[at].span.lo().rank() < hi.rank() {
         let moved = moves[at];
-        let start = moved.span.lo().max(reach);
+        let start = later(moved.span.lo(), reach);
         copy_legs(out, legs, reach, start)?;
-        reach = moved.span.hi().min(hi);
+        reach = earlier(moved.span.hi(), hi);
         push_move(out, &moved, number, heard, start, reach)?;
         at += 1;
     }

@@ -1,33 +1,43 @@
-use Rattle.std.proofs.Common.{◌≡◌, ◌<◌, ◌≤◌, ℕ, get_or, length, drop, refl, sym, ap, subst, arith, Option}
+use Rattle.std.proofs.Common.{◌≡◌, ◌<◌, ◌≤◌, max, min, ℕ, get_or, length, sym, ap, ◌∙◌, subst, arith}
 use Rattle.std.proofs.lemmas.List.{get_or_default}
 use Rattle.squall_course.specs.declared.moving.Move.{Move}
 use Rattle.squall_table.specs.Legs.{said}
-use Rattle.squall_table.proofs.Moving.{none, move_at, walk_none, walk_more, walk_done, end_is}
+use Rattle.squall_table.proofs.Moving.{walk_none, walk_more, walk_done, end_is}
 use Rattle.squall_table.proofs.routes.push_routes.Goals as goal
-use Rattle.squall_table.proofs.routes.push_routes.Goals.{then-loop-at-test+else-moves-at, else-loop-at-test}
+use Rattle.squall_table.proofs.routes.push_routes.Goals.{then-loop-at-test+else-rank, else-loop-at-test}
 
 pub loop-at-init : goal.loop-at-init
-loop-at-init c = walk_none c.args.legs.now c.args.moves.now (c.args.number, said c.args.heard) c.args.span.lo c.args.span.hi c.args.first _ c.requires.order (record { within = c.requires.first.within; before = c.requires.first.before; after = c.requires.first.after })
+loop-at-init c = walk_none c.args.legs.now c.args.moves.now (c.args.number, said c.args.heard) c.args.lo c.args.hi c.args.first _ c.requires.order (record { within = c.requires.first.within; before = c.requires.first.before; after = c.requires.first.after })
 
 pub push_move-requires : goal.push_move-requires
 push_move-requires c =
-    let full = move_at 0 c.args.moves.now c.loop-at.at none c.requires.rise c.loop-at-test.true in
-    omega (arith, c.loop-at.invariant.high, c.loop-at.invariant.ahead none c.loop-at-test.true, full.1)
+    let x : Move = c.index-moves-at-in-loop-at.result in
+    let ends : c.loop-at.reach < x.span.hi = subst (λ (m : Move). c.loop-at.reach < m.span.hi) (sym c.index-moves-at-in-loop-at.is) (c.loop-at.invariant.ahead x c.loop-at-test.true) in
+    let same : get_or c.args.moves.now c.loop-at.at c.index-moves-at.result ≡ x = get_or_default c.args.moves.now c.loop-at.at c.index-moves-at.result x c.loop-at-test.true ∙ sym c.index-moves-at-in-loop-at.is in
+    let low : c.lo.result ≡ x.span.lo = c.lo.ensures.value ∙ ap (λ (m : Move). m.span.lo) same in
+    omega (arith, c.loop-at.invariant.high, ends, low, c.rank.ensures.value, c.rank-in-loop-at.ensures.value, c.if-rank.true, c.lo-in-loop-at.ensures.value, c.lo-in-loop-at.ensures.below, c.hi.ensures.value, c.later-start.ensures, c.earlier-reach.ensures)
 
 pub loop-at-preserved : goal.loop-at-preserved
 loop-at-preserved c =
-    let x : Move = get_or c.args.moves.now c.loop-at.at none in
-    walk_more c.args.legs.now c.args.moves.now (c.args.number, said c.args.heard) c.args.span.lo c.loop-at.reach c.args.span.hi c.args.first c.loop-at.at x none c.max-start.result c.min-reach.result _ _ _ _ c.requires.rise c.loop-at-test.true refl c.if-moves-at.true c.max-start.ensures c.min-reach.ensures c.loop-at.invariant c.in_ok-copy_legs.ensures
-    c.in_ok-push_move.ensures
+    let x : Move = c.index-moves-at-in-loop-at.result in
+    let same : get_or c.args.moves.now c.loop-at.at c.index-moves-at.result ≡ x = get_or_default c.args.moves.now c.loop-at.at c.index-moves-at.result x c.loop-at-test.true ∙ sym c.index-moves-at-in-loop-at.is in
+    let low : c.lo.result ≡ x.span.lo = c.lo.ensures.value ∙ ap (λ (m : Move). m.span.lo) same in
+    let below : x.span.lo < c.args.hi = omega (arith, low, c.rank.ensures.value, c.rank-in-loop-at.ensures.value, c.if-rank.true) in
+    walk_more c.args.legs.now c.args.moves.now (c.args.number, said c.args.heard) c.args.lo c.loop-at.reach c.args.hi c.args.first c.loop-at.at x x c.later-start.result c.earlier-reach.result _ _ _ _ c.requires.rise c.loop-at-test.true c.index-moves-at-in-loop-at.is below
+    (c.later-start.ensures ∙ ap (λ n. max n c.loop-at.reach) c.lo-in-loop-at.ensures.value) (c.earlier-reach.ensures ∙ ap (λ n. min n c.args.hi) c.hi.ensures.value) c.loop-at.invariant c.in_ok-copy_legs.ensures c.in_ok-push_move.ensures
 
 pub returns-clause-grows : goal.returns-clause-grows
-returns-clause-grows c = walk_done c.args.legs.now c.args.moves.now (c.args.number, said c.args.heard) c.args.span.lo c.loop-at.reach c.args.span.hi c.args.first c.loop-at.at _ _ _ c.requires.rise (λ d lt. elim c.loop-at-test.branch [
-  | then-loop-at-test+else-moves-at w ↦ subst (λ (s : Move). c.args.span.hi ≤ s.span.lo) (get_or_default c.args.moves.now c.loop-at.at none d lt) w.if-moves-at.false
+returns-clause-grows c = walk_done c.args.legs.now c.args.moves.now (c.args.number, said c.args.heard) c.args.lo c.loop-at.reach c.args.hi c.args.first c.loop-at.at _ _ _ c.requires.rise (λ d lt. elim c.loop-at-test.branch [
+  | then-loop-at-test+else-rank w ↦
+      let low : w.lo.result ≡ (get_or c.args.moves.now c.loop-at.at d).span.lo = w.lo.ensures.value ∙ ap (λ (m : Move). m.span.lo) (get_or_default c.args.moves.now c.loop-at.at w.index-moves-at.result d lt) in
+      omega (arith, low, w.rank.ensures.value, w.rank-in-loop-at.ensures.value, w.if-rank.false)
   | else-loop-at-test w ↦ absurd (omega arith)
 ]) c.loop-at.invariant c.in_ok-copy_legs-2.ensures
 
 pub returns-clause-end : goal.returns-clause-end
-returns-clause-end c = end_is c.args.legs.now c.args.moves.now (c.args.number, said c.args.heard) c.args.span.lo c.loop-at.reach c.args.span.hi c.args.first c.loop-at.at _ _ c.requires.rise (λ d lt. elim c.loop-at-test.branch [
-  | then-loop-at-test+else-moves-at w ↦ subst (λ (s : Move). c.args.span.hi ≤ s.span.lo) (get_or_default c.args.moves.now c.loop-at.at none d lt) w.if-moves-at.false
+returns-clause-end c = end_is c.args.legs.now c.args.moves.now (c.args.number, said c.args.heard) c.args.lo c.loop-at.reach c.args.hi c.args.first c.loop-at.at _ _ c.requires.rise (λ d lt. elim c.loop-at-test.branch [
+  | then-loop-at-test+else-rank w ↦
+      let low : w.lo.result ≡ (get_or c.args.moves.now c.loop-at.at d).span.lo = w.lo.ensures.value ∙ ap (λ (m : Move). m.span.lo) (get_or_default c.args.moves.now c.loop-at.at w.index-moves-at.result d lt) in
+      omega (arith, low, w.rank.ensures.value, w.rank-in-loop-at.ensures.value, w.if-rank.false)
   | else-loop-at-test w ↦ absurd (omega arith)
 ]) c.loop-at.invariant

@@ -1,15 +1,10 @@
 use Rattle.std.proofs.Common.{◌+◌, ◌*◌, ◌≤◌, length, arith}
-use Rattle.squall_plan.specs.declared.range.PlanRange.{PlanRange}
 use Rattle.squall_plan.specs.Ranges.{owner_of}
-use Rattle.squall_table.specs.Tables.{leg_of}
-use Rattle.squall_table.proofs.Among.{starts, half}
 use Rattle.squall_table.specs.LegLaws.{canonical_legs}
+use Rattle.squall_table.proofs.Among.{starts_as, half}
 use Rattle.squall_table.proofs.search.half.Goals as goal
-
-abbrev none : PlanRange
-none = leg_of 0 0 0
 
 pub returns : goal.returns
 returns c =
     let ls = c.args.legs.now in
-    half (owner_of ls) ls c.args.key c.args.base c.args.size c.args.step _ c.back.result (canonical_legs _ c.requires.canonical) c.requires.among c.requires.some c.requires.parts (starts ls (c.args.base + c.args.step) none (omega (arith, c.requires.among.within))) (record { beyond = c.back.ensures.beyond; before = c.back.ensures.before })
+    half (owner_of ls) ls c.args.key c.args.base c.args.size c.args.step _ c.back.result (canonical_legs ls c.requires.canonical) c.requires.among c.requires.some c.requires.parts (starts_as ls (c.args.base + c.args.step) c.index-legs-first.result c.lo.result (omega (arith, c.requires.among.within)) c.index-legs-first.is c.lo.ensures.value) (record { beyond = c.back.ensures.beyond; before = c.back.ensures.before })

@@ -1,5 +1,10 @@
+use Rattle.std.proofs.Common.{◌+◌, ◌∙◌, length, arith}
+use Rattle.std.proofs.lemmas.List.{get_or_default}
 use Rattle.squall_table.proofs.Bounds.{half}
+use Rattle.squall_table.proofs.Among.{back_at}
 use Rattle.squall_table.proofs.search.half_of.Goals as goal
 
 pub returns : goal.returns
-returns c = half c.args.bounds.now c.args.key c.args.base c.args.size c.args.step c.back.result c.requires.rise c.requires.among c.requires.some c.requires.parts (record { beyond = c.back.ensures.beyond; before = c.back.ensures.before })
+returns c =
+    let xs = c.args.bounds.now in
+    half xs c.args.key c.args.base c.args.size c.args.step c.back.result c.requires.rise c.requires.among c.requires.some c.requires.parts (back_at c.args.key c.args.step _ _ _ (c.index-bounds-first.is ∙ get_or_default xs (c.args.base + c.args.step) c.index-bounds-first.result 0 (omega (arith, c.requires.among.within))) (record { beyond = c.back.ensures.beyond; before = c.back.ensures.before }))
