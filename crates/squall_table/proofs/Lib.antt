@@ -11,3 +11,4 @@ mod About
 mod Patching
 mod Coming
 mod Built
+mod Patched

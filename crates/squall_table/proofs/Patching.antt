@@ -14,7 +14,7 @@ use Rattle.squall_table.specs.LegLaws.{grows_more, grows_as, grows_none}
 use Rattle.squall_table.specs.Patching.{StartsFrom, renewed}
 use Rattle.squall_table.specs.Reach.{is_shared, moves_in}
 use Rattle.squall_table.proofs.Picks.{canonical_drop}
-use Rattle.squall_table.proofs.Moving.{move_at, none}
+use Rattle.squall_table.proofs.Moving.{move_at, no_move as none}
 use Rattle.squall_table.proofs.Counting.{count_all, count_none}
 
 shared_below : (ss : List Interval) (h : ℕ) (t : Interval) → StartsFrom h ss → IsCanonical ss → t.hi ≤ h → is_shared ss t ≡ false
