@@ -11,6 +11,7 @@ mod laws;
 mod legs;
 mod meter;
 mod near;
+mod patch;
 mod ready;
 mod routes;
 mod search;
