@@ -1,11 +1,9 @@
 -- The legs among which a search looks.
 use Rattle.std.proofs.Common.{◌≡◌, ℕ, zero, suc, ◌+◌, ◌-◌, ◌*◌, ◌<◌, ◌≤◌, List, [], ◌∷◌, length, get_or, refl, sym, ap, subst, ◌∙◌, arith, inl, inr}
 use Rattle.std.proofs.lemmas.Bool.{cases_lt}
-use Rattle.std.specs.List.Sorted.{IsNonDecreasingBy}
 use Rattle.std.proofs.lemmas.List.{get_or_default}
 use Rattle.squall_plan.specs.declared.range.PlanRange.{PlanRange}
 use Rattle.squall_key.specs.Keys.{top}
-use Rattle.squall_plan.specs.Ranges.{owner_of}
 use Rattle.squall_table.specs.Legs.{Legs, IsAt, IsAmong}
 use Rattle.squall_table.proofs.Kept.{legs_next}
 use Rattle.squall_table.proofs.Kept.{starts_rise}

@@ -1,12 +1,10 @@
 -- The bounds among which a search looks, and an index over the legs.
-use Rattle.std.proofs.Common.{◌≡◌, ℕ, zero, suc, ◌+◌, ◌-◌, ◌*◌, ◌<◌, ◌≤◌, min, ◌/◌, take, drop, ◌++◌, length-take, length-drop, length-append, List, [], ◌∷◌, length, get_or, refl, sym, ap, subst, ◌∙◌, arith, inl, inr}
+use Rattle.std.proofs.Common.{◌≡◌, ℕ, ◌+◌, ◌-◌, ◌*◌, ◌<◌, ◌≤◌, min, ◌/◌, take, length-take, List, length, get_or, sym, subst, ◌∙◌, arith, inl, inr}
 use Rattle.std.proofs.lemmas.Bool.{cases_lt}
-use Rattle.std.proofs.lemmas.List.{get_or-take, get_or_append_left}
-use Rattle.std.specs.List.{splice}
+use Rattle.std.proofs.lemmas.List.{get_or-take}
 use Rattle.squall_plan.specs.declared.range.PlanRange.{PlanRange}
 use Rattle.squall_key.specs.Keys.{top}
-use Rattle.squall_plan.specs.Ranges.{owner_of}
-use Rattle.squall_table.specs.Legs.{Legs, IsAt, IsAmong, IsAmongBounds, BoundsRise, IsIndex, HasIndex}
+use Rattle.squall_table.specs.Legs.{Legs, IsAmong, IsAmongBounds, BoundsRise, IsIndex, HasIndex}
 use Rattle.squall_table.specs.Tables.{leg_of}
 use Rattle.squall_table.proofs.Kept.{starts_rise}
 use Rattle.squall_table.proofs.Among.{Back, among_all}

@@ -1,7 +1,6 @@
 -- The walk over moves.
-use Rattle.std.proofs.Common.{◌≡◌, ◌≢◌, ℕ, zero, suc, ◌+◌, ◌-◌, ◌<◌, ◌≤◌, max, min, Bool, true, false, ◌||◌, cond, leb, ltb, List, [], ◌∷◌, ◌++◌, length, get_or, set, take, drop, refl, sym, ap, subst, ◌∙◌, arith, inl, inr}
-use Rattle.std.proofs.lemmas.Bool.{cases_lt, leb-true, leb-false, ltb-true, ltb-false}
-use Rattle.std.proofs.lemmas.Bool.Decides.{nat_tests}
+use Rattle.std.proofs.Common.{◌≡◌, ℕ, zero, suc, ◌+◌, ◌<◌, ◌≤◌, max, min, Bool, true, false, cond, leb, List, [], ◌∷◌, length, get_or, drop, refl, sym, ap, subst, ◌∙◌, arith, inl, inr}
+use Rattle.std.proofs.lemmas.Bool.{cases_lt, leb-true, leb-false}
 use Rattle.std.specs.List.Sorted.{IsNonDecreasingBy, IsPartitionPoint}
 use Rattle.std.proofs.lemmas.List.{drop_more, drop_all, get_or_default}
 use Rattle.squall_plan.specs.declared.range.PlanRange.{PlanRange}
@@ -14,7 +13,7 @@ use Rattle.squall_course.specs.Moves.{IsMove, Rise}
 use Rattle.squall_board.specs.MovesRoute.{route_in_move, route_by_moves}
 use Rattle.squall_key.specs.Keys.{top}
 use Rattle.squall_plan.specs.Ranges.{owner_of}
-use Rattle.squall_table.specs.Legs.{Legs, Grows, MovesRise, FirstMove, EndMove}
+use Rattle.squall_table.specs.Legs.{Grows, MovesRise, FirstMove, EndMove}
 use Rattle.squall_course.specs.Moves.{move_has}
 use Rattle.squall_table.specs.LegLaws.{grows_more, grows_as}
 

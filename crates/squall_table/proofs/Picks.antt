@@ -1,8 +1,6 @@
 -- The walk over spans.
-use Rattle.std.proofs.Common.{◌≡◌, ◌≢◌, ℕ, zero, suc, ◌+◌, ◌-◌, ◌<◌, ◌≤◌, max, min, Bool, true, false, ◌||◌, cond, leb, ltb, List, [], ◌∷◌, ◌++◌, length, get_or, set, take, drop, refl, sym, ap, subst, ◌∙◌, arith, inl, inr}
-use Rattle.std.proofs.lemmas.Bool.{cases_lt, leb-true, leb-false, ltb-true, ltb-false}
-use Rattle.std.proofs.lemmas.Bool.Decides.{nat_tests}
-use Rattle.std.proofs.lemmas.Grind.{common_steps}
+use Rattle.std.proofs.Common.{◌≡◌, ℕ, zero, suc, ◌+◌, ◌<◌, ◌≤◌, max, min, true, false, ◌||◌, cond, leb, List, [], ◌∷◌, length, get_or, drop, refl, sym, ap, subst, ◌∙◌, arith, inl, inr}
+use Rattle.std.proofs.lemmas.Bool.{cases_lt, leb-true, leb-false}
 use Rattle.std.specs.List.Sorted.{IsNonDecreasingBy, IsPartitionPoint}
 use Rattle.std.proofs.lemmas.List.{drop_more, drop_all}
 use Rattle.squall_plan.specs.declared.range.PlanRange.{PlanRange}
@@ -10,7 +8,7 @@ use Rattle.squall_span.specs.Spans.{Interval}
 use Rattle.squall_span.specs.Spans.{span_has, has, Beyond, IsCanonical}
 use Rattle.squall_span.specs.SpanLaws.{outside_below, outside_above, inside, has_below}
 use Rattle.squall_table.specs.Legs.{EndsBeyond}
-use Rattle.squall_table.specs.Legs.{Legs, Grows, pick}
+use Rattle.squall_table.specs.Legs.{Grows, pick}
 use Rattle.squall_table.specs.LegLaws.{grows_more, grows_as}
 
 pub canonical_drop : (xs : List Interval) (i : ℕ) → IsCanonical xs → IsCanonical (drop i xs)

@@ -1,10 +1,9 @@
 -- One leg more at the end.
-use Rattle.std.proofs.Common.{◌≡◌, ◌≢◌, ℕ, zero, suc, ◌+◌, ◌-◌, ◌<◌, ◌≤◌, Bool, true, false, cond, ltb, List, [], ◌∷◌, ◌++◌, Option, Some, None, length, get_or, set, refl, sym, ap, subst, ◌∙◌, arith}
+use Rattle.std.proofs.Common.{◌≡◌, ◌≢◌, ℕ, zero, suc, ◌<◌, ◌≤◌, Bool, true, false, cond, ltb, List, [], ◌∷◌, ◌++◌, Some, None, length, get_or, set, refl, sym, ap, subst, ◌∙◌, arith}
 use Rattle.std.proofs.lemmas.Bool.{ltb-true}
 use Rattle.std.proofs.lemmas.Option.{same_Some, none-some}
 use Rattle.squall_span.specs.Spans.{Interval, interval, span_at}
 use Rattle.squall_plan.specs.declared.range.PlanRange.{PlanRange}
-use Rattle.squall_table.specs.Tables.{leg_of}
 use Rattle.squall_table.specs.Legs.{Legs}
 use Rattle.squall_table.specs.LegLaws.{legs_widen, legs_push}
 

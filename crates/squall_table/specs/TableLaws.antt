@@ -1,5 +1,5 @@
 -- Laws of route tables (this project).
-use Rattle.std.specs.Prelude.{◌≡◌, ◌↔◌, ◌≢◌, ℕ, zero, suc, ◌+◌, ◌-◌, ◌<◌, ◌≤◌, ◌==◌, not, ◌||◌, Bool, true, false, cond, nat_eq, List, [], ◌∷◌, refl}
+use Rattle.std.specs.Prelude.{◌≡◌, ◌↔◌, ◌≢◌, ℕ, zero, suc, ◌+◌, ◌-◌, ◌<◌, ◌≤◌, ◌==◌, not, ◌||◌, Bool, true, false, cond, List, [], ◌∷◌, refl}
 use Rattle.std.proofs.Common.{sym, ap, subst, ◌∙◌, arith, inl, inr}
 use Rattle.std.proofs.lemmas.Bool.{cases_Bool}
 use Rattle.std.proofs.lemmas.Bool.Decides.{nat_tests}
@@ -12,7 +12,7 @@ use Rattle.squall_board.specs.Boards.{BoardValue, says}
 use Rattle.squall_board.specs.Route.{has_come, route}
 use Rattle.squall_table.specs.Legs.{Differs, Legs}
 use Rattle.squall_table.specs.Tables.{AreLegs, IsTable, leg_of, key_before, legs_of, legs_between}
-use Rattle.squall_table.specs.LegLaws.{legs_up, legs_as, same_legs, legs_are, are_legs, canonical_legs}
+use Rattle.squall_table.specs.LegLaws.{legs_as, same_legs, legs_are, are_legs, canonical_legs}
 
 pub one_list : (f g : ℕ → ℕ) (lo hi : ℕ) (a b : List PlanRange) → ((k : ℕ) → lo ≤ k → k < hi → f k ≡ g k) → AreLegs f lo hi a → AreLegs g lo hi b → a ≡ b
 one_list f g lo hi a b same p q = same_legs f lo hi a b (legs_are f lo hi a p) (legs_as g f lo hi b same (legs_are g lo hi b q))

@@ -1,4 +1,4 @@
-use Rattle.std.proofs.Common.{leb, arith, rules}
+use Rattle.std.proofs.Common.{leb, rules}
 use Rattle.std.proofs.lemmas.List.Sorted.{IsPartitionPoint-from_clause, IsPartitionedBy-leb}
 use Rattle.squall_table.proofs.Moving.{moves_rise, first_is}
 use Rattle.squall_table.proofs.routes.first_move.Goals as goal

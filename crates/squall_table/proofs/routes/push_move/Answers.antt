@@ -1,4 +1,4 @@
-use Rattle.std.proofs.Common.{◌≡◌, ◌<◌, ◌≤◌, ℕ, None, Some, sym, subst}
+use Rattle.std.proofs.Common.{None, Some, sym, subst}
 use Rattle.squall_board.specs.Boards.{says}
 use Rattle.squall_board.specs.MovesRoute.{route_in_move}
 use Rattle.squall_table.specs.declared.routes.Heard.{Heard}

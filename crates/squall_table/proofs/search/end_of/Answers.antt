@@ -1,4 +1,4 @@
-use Rattle.std.proofs.Common.{ltb, ◌≤◌, subst, arith, rules}
+use Rattle.std.proofs.Common.{ltb, ◌≤◌, subst, rules}
 use Rattle.std.proofs.lemmas.List.Sorted.{IsPartitionPoint-from_clause, IsPartitionedBy-ltb}
 use Rattle.squall_key.specs.Keys.{top}
 use Rattle.squall_table.proofs.Kept.{ends_rise, end_is}

@@ -1,4 +1,4 @@
-use Rattle.std.proofs.Common.{◌+◌, ◌*◌, ◌≤◌, length, arith}
+use Rattle.std.proofs.Common.{◌+◌, arith}
 use Rattle.squall_plan.specs.Ranges.{owner_of}
 use Rattle.squall_table.specs.LegLaws.{canonical_legs}
 use Rattle.squall_table.proofs.Among.{starts_as, half}

@@ -1,4 +1,4 @@
-use Rattle.std.proofs.Common.{◌≡◌, arith}
+use Rattle.std.proofs.Common.{arith}
 use Rattle.squall_plan.specs.Ranges.{owner_of}
 use Rattle.squall_table.proofs.Among.{among_one}
 use Rattle.squall_table.proofs.Bounds.{index_rises, index_all, in_block}

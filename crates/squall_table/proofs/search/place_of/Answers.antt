@@ -1,7 +1,6 @@
-use Rattle.std.proofs.Common.{◌≡◌, ◌-◌, ◌*◌, subst, arith}
+use Rattle.std.proofs.Common.{◌≡◌, arith}
 use Rattle.squall_plan.specs.Ranges.{owner_of}
-use Rattle.squall_table.specs.Legs.{IsAmong}
-use Rattle.squall_table.proofs.Among.{among_all, among_one, fewer}
+use Rattle.squall_table.proofs.Among.{among_one, fewer}
 use Rattle.squall_table.specs.LegLaws.{canonical_legs}
 use Rattle.squall_table.proofs.search.place_of.Goals as goal
 

@@ -1,15 +1,10 @@
-use Rattle.std.proofs.Common.{◌≡◌, ◌<◌, ◌≤◌, ℕ, List, [], sym, ap, ◌∙◌, subst, refl, arith}
-use Rattle.squall_key.specs.Keys.{top, part_limit}
-use Rattle.squall_plan.specs.declared.range.PlanRange.{PlanRange}
-use Rattle.squall_plan.specs.Ranges.{owner_of, IsCanonical, AreRanges}
-use Rattle.squall_course.specs.Change.{Change}
-use Rattle.squall_course.specs.declared.moving.Move.{Move}
+use Rattle.std.proofs.Common.{◌∙◌, subst}
+use Rattle.squall_key.specs.Keys.{top}
 use Rattle.squall_board.specs.Boards.{says}
 use Rattle.squall_board.specs.Route.{route}
-use Rattle.squall_board.specs.MovesRoute.{route_by_moves}
-use Rattle.squall_table.specs.Legs.{Legs, Grows, HasIndex}
+use Rattle.squall_table.specs.Legs.{Legs, HasIndex}
 use Rattle.squall_table.specs.LegLaws.{are_legs, canonical_of_legs}
-use Rattle.squall_table.proofs.Built.{rising, made, route_low, made_ranges}
+use Rattle.squall_table.proofs.Built.{rising, made, made_ranges}
 use Rattle.squall_table.proofs.table.RouteTable.build.Goals as goal
 
 pub first_move-first-requires : goal.first_move-first-requires

@@ -1,6 +1,6 @@
-use Rattle.std.proofs.Common.{◌≡◌, ◌<◌, ◌≤◌, ℕ, [], sym, ap, ◌∙◌, subst}
+use Rattle.std.proofs.Common.{◌∙◌, subst}
 use Rattle.squall_plan.specs.Ranges.{owner_of}
-use Rattle.squall_table.specs.Legs.{Legs, Grows}
+use Rattle.squall_table.specs.Legs.{Legs}
 use Rattle.squall_table.specs.LegLaws.{are_legs, grown}
 use Rattle.squall_table.proofs.table.RouteTable.legs.Goals as goal
 
