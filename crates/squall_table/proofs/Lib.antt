@@ -12,3 +12,4 @@ mod Patching
 mod Coming
 mod Built
 mod Patched
+mod Renewed

@@ -1,11 +1,12 @@
 //! Legs to be put in the place of others.
 
-ghost use Rattle.std.specs.Prelude.{◌≡◌, ◌<◌, ◌≤◌, [], length, IfOk};
+ghost use Rattle.std.specs.Prelude.{◌≡◌, ◌<◌, ◌≤◌, ◌^◌, [], length, IfOk};
 ghost use Rattle.std.specs.List.{splice};
 ghost use Rattle.squall_key.specs.Keys.{top};
 ghost use Rattle.squall_span.specs.Spans.{IsCanonical as IsCanonicalSet, IsSet, EndsBy};
 ghost use Rattle.squall_plan.specs.Ranges.{owner_of, IsCanonical};
-ghost use Rattle.squall_course.specs.Moves.{moves_of};
+ghost use Rattle.squall_course.specs.Change.{ArePlans};
+ghost use Rattle.squall_course.specs.Moves.{moves_of, AreMoves};
 ghost use Rattle.squall_board.specs.MovesRoute.{route_by_moves};
 ghost use Rattle.squall_table.specs.Legs.{Legs, Grows, MovesRise, said};
 ghost use Rattle.squall_table.specs.Patching.{StartsFrom, renewed};
@@ -57,6 +58,18 @@ fn fresh_legs(
     }
     copy_legs(&mut out, legs, reach, hi)?;
     Ok((out, taken))
+}
+
+/// Changes nothing: after it a proof knows the moves of the course by their meaning, and that they
+/// are few, since its plans have few ranges.
+pub(crate) fn know_moves(course: &Course)
+    ensures meaning { AreMoves course.now.old course.now.new (moves_of course.now.old course.now.new) }
+    ensures plans { ArePlans course.now.old course.now.new }
+    ensures few { length (moves_of course.now.old course.now.new) ≤ 2 ^ 24 }
+{
+    let _moves = course.moves();
+    let _old = course.old_plan().ranges();
+    let _new = course.new_plan().ranges();
 }
 
 /// What renews the keys of a set in a table: the legs from `first` to `end` go, and fresh ones come

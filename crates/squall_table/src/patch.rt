@@ -12,7 +12,7 @@ ghost use Rattle.squall_table.specs.Legs.{HasIndex};
 ghost use Rattle.squall_table.specs.Touched.{WasTable};
 ghost use Rattle.squall_table.specs.Reach.{moves_in, reach};
 
-use crate::fresh::{Renewal, renew};
+use crate::fresh::{Renewal, know_moves, renew};
 use crate::index::{grow, refill};
 use crate::meter::Meter;
 use crate::near::near_count;
@@ -78,6 +78,7 @@ impl RouteTable {
         ensures err { OnErr result (self.new ≡ self.old) }
         ensures unmetered { OnErr result (meter.new ≡ meter.old) }
     {
+        know_moves(course);
         let spans = set.spans();
         if spans.is_empty() {
             return Ok(());
@@ -106,6 +107,7 @@ impl RouteTable {
         ensures err { OnErr result (self.new ≡ self.old) }
         ensures board_err { OnErr result (board.new ≡ board.old) }
     {
+        know_moves(course);
         let alloc = *self.legs.allocator();
         let set = touched(alloc, course, delta)?;
         let spans = set.spans();
