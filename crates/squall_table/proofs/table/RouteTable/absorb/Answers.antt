@@ -16,12 +16,12 @@ returns-then-is_empty-clause-table c = on_ok_weaker c.merge.result (λ both. abs
 
 pub invariant_of-self-2 : goal.invariant_of-self-2
 invariant_of-self-2 c =
-    let l = absorbed_legs c.args.course.now c.args.board.now c.merge.new.self c.args.delta.now c.in_ok-set.set c.args.self.now c.put.new.legs.items (moves_of c.args.course.now.old c.args.course.now.new) (said All) c.know_moves.ensures.meaning (λ f. refl) c.requires.was c.in_ok-set.ensures.keys c.in_ok-merge.ensures.told (c.in_ok-set.ensures.changed c.args.board.now c.merge.new.self c.in_ok-merge.ensures.told)
+    let l = absorbed_legs c.args.course.now c.args.board.now c.merge-2.new.self c.args.delta.now c.in_ok-set.set c.args.self.now c.put.new.legs.items (moves_of c.args.course.now.old c.args.course.now.new) (said All) c.know_moves.ensures.meaning (λ f. refl) c.requires.was c.in_ok-set.ensures.keys c.in_ok-merge.ensures.told (c.in_ok-set.ensures.changed c.args.board.now c.merge-2.new.self c.in_ok-merge.ensures.told)
     (renewed_legs c.args.course.now c.in_ok-set.set c.spans-spans.result.now c.args.self.now c.self.inside.legs.items c.deref.result.now c.make_room.new.legs.items c.put.new.legs.items c.in_ok-made.made.fresh.items (moves_of c.args.course.now.old c.args.course.now.new) (said All) c.in_ok-made.made.first c.in_ok-made.made.end
     c.spans-spans.ensures.value c.self.view_is c.deref.ensures.value c.in_ok-make_room.ensures.legs c.put.ensures.legs c.in_ok-made.ensures.legs) in
-    (canonical_of_legs _ _ l, made_ranges c.args.course.now (says c.merge.new.self) _ c.know_moves.ensures.plans l, c.put.ensures.index)
+    (canonical_of_legs _ _ l, made_ranges c.args.course.now (says c.merge-2.new.self) _ c.know_moves.ensures.plans l, c.put.ensures.index)
 
 pub returns-clause-table : goal.returns-clause-table
-returns-clause-table c = are_legs _ 0 top _ (absorbed_legs c.args.course.now c.args.board.now c.merge.new.self c.args.delta.now c.in_ok-set.set c.args.self.now c.put.new.legs.items (moves_of c.args.course.now.old c.args.course.now.new) (said All) c.know_moves.ensures.meaning (λ f. refl) c.requires.was c.in_ok-set.ensures.keys c.in_ok-merge.ensures.told (c.in_ok-set.ensures.changed c.args.board.now c.merge.new.self c.in_ok-merge.ensures.told)
+returns-clause-table c = are_legs _ 0 top _ (absorbed_legs c.args.course.now c.args.board.now c.merge-2.new.self c.args.delta.now c.in_ok-set.set c.args.self.now c.put.new.legs.items (moves_of c.args.course.now.old c.args.course.now.new) (said All) c.know_moves.ensures.meaning (λ f. refl) c.requires.was c.in_ok-set.ensures.keys c.in_ok-merge.ensures.told (c.in_ok-set.ensures.changed c.args.board.now c.merge-2.new.self c.in_ok-merge.ensures.told)
     (renewed_legs c.args.course.now c.in_ok-set.set c.spans-spans.result.now c.args.self.now c.self.inside.legs.items c.deref.result.now c.make_room.new.legs.items c.put.new.legs.items c.in_ok-made.made.fresh.items (moves_of c.args.course.now.old c.args.course.now.new) (said All) c.in_ok-made.made.first c.in_ok-made.made.end
     c.spans-spans.ensures.value c.self.view_is c.deref.ensures.value c.in_ok-make_room.ensures.legs c.put.ensures.legs c.in_ok-made.ensures.legs))
