@@ -8,7 +8,8 @@ ghost use Rattle.squall_table.specs.Legs.{IsAt, IsAmong, IsAmongBounds, BoundsRi
 use crate::table::Leg;
 use squall_key::Bound;
 
-/// A step where the bound is beyond the key, else nothing. The bits of a borrow, so that no branch depends on the key.
+/// A step where the bound is beyond the key, else nothing: the bits of a borrow, so that no branch
+/// depends on the key.
 #[inline(always)]
 fn back(step: usize, bound: Bound, key: Bound) -> usize
     ensures beyond { key < bound → result ≡ step }
