@@ -4,5 +4,12 @@ mod Among
 mod Bounds
 mod Picks
 mod Moving
+pub mod Touching
+mod Shifted
+mod Counting
+mod About
+mod Patching
 mod Coming
 mod Built
+mod Patched
+mod Renewed

@@ -14,4 +14,6 @@ pub mod Legs
 pub mod LegLaws
 pub mod Touched
 pub mod Reach
+pub mod Touching
+pub mod Patching
 pub mod TableLaws

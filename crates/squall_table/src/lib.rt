@@ -5,10 +5,14 @@
 //! partition. So a course and a board have one table, however it came to be.
 #![tactic(auto)]
 
+mod fresh;
 mod index;
 mod laws;
 mod legs;
 mod meter;
+mod near;
+mod patch;
+mod ready;
 mod routes;
 mod search;
 mod table;

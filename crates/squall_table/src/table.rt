@@ -1,25 +1,18 @@
 //! Route tables.
 
-ghost use Rattle.std.specs.Prelude.{◌≡◌, ℕ, ◌<◌, ◌≤◌, ◌+◌, ◌^◌, false, IfOk, OnOk, OnErr};
-ghost use Rattle.squall_key.specs.Keys.{top};
-ghost use Rattle.squall_span.specs.Spans.{has};
+ghost use Rattle.std.specs.Prelude.{◌≡◌, IfOk};
 ghost use Rattle.squall_plan.specs.Ranges.{owner_of, AreRanges, IsCanonical};
-ghost use Rattle.squall_course.specs.Moves.{moves_of};
-ghost use Rattle.squall_board.specs.Boards.{board_join};
 ghost use Rattle.squall_table.specs.Tables.{AreLegs, IsTable};
-ghost use Rattle.squall_table.specs.Touched.{WasTable};
-ghost use Rattle.squall_table.specs.Reach.{moves_in, reach};
 
 use crate::index::{grow, refill};
 use crate::legs::copy_legs;
-use crate::meter::Meter;
 use crate::routes::{Heard, first_move, push_routes};
 use crate::search::place_by;
-use squall_board::{Board, Delta};
+use squall_board::Board;
 use squall_course::Course;
 use squall_key::{Bound, Key, PartId};
 use squall_plan::PlanRange;
-use squall_span::{Span, SpanSet};
+use squall_span::Span;
 use std::alloc::{AllocError, Global};
 use std::marker::Model;
 
@@ -108,52 +101,5 @@ impl RouteTable {
         let mut legs = Vec::new(alloc);
         copy_legs(&mut legs, &self.legs, span.lo(), span.hi())?;
         Ok(legs)
-    }
-
-    /// Makes the table that of the board, where it is that of an older board whose routes differ at
-    /// most in the set: searches for the legs about the set, and puts others in their place. The
-    /// meter counts the moves that share a key with the set, and of the old entries some that share
-    /// one or border on a span of it. It fails only where an allocation fails, and then table and
-    /// meter are as they were.
-    ///
-    /// [`RouteTable::build`] and this call say whose table it is, [`touched`](crate::touched) that
-    /// routes change at most in its set.
-    pub fn patch(
-        &mut self,
-        course: &Course,
-        board: &Board,
-        set: &SpanSet,
-        meter: &mut Meter,
-    ) -> Result<(), AllocError>
-        requires was { WasTable course.now board.now set.now self.old }
-        requires room { meter.old < 2 ^ 63 }
-        ensures table { OnOk result (IsTable course.now board.now self.new) }
-        ensures others { OnOk result ((k : ℕ) → k < top → has set.now k ≡ false → owner_of self.new k ≡ owner_of self.old k) }
-        ensures at_least { OnOk result (meter.old + moves_in set.now (moves_of course.now.old course.now.new) ≤ meter.new) }
-        ensures at_most { OnOk result (meter.new ≤ meter.old + reach set.now (moves_of course.now.old course.now.new) self.old) }
-        ensures err { OnErr result (self.new ≡ self.old) }
-        ensures unmetered { OnErr result (meter.new ≡ meter.old) }
-    {
-        let _ = (course, board, set, meter);
-        Err(AllocError)
-    }
-
-    /// Merges the delta into the board whose table this is, and patches the table for what the delta
-    /// touches: both, or neither where an allocation fails. What can fail for the table is done
-    /// before the merge, so that neither is ever copied.
-    pub fn absorb(
-        &mut self,
-        course: &Course,
-        board: &mut Board,
-        delta: &Delta,
-    ) -> Result<(), AllocError>
-        requires was { IsTable course.now board.old self.old }
-        ensures board { OnOk result (board.new ≡ board_join board.old delta.now) }
-        ensures table { OnOk result (IsTable course.now board.new self.new) }
-        ensures err { OnErr result (self.new ≡ self.old) }
-        ensures board_err { OnErr result (board.new ≡ board.old) }
-    {
-        let _ = (course, board, delta);
-        Err(AllocError)
     }
 }

@@ -1,6 +1,8 @@
 //! Tests of route tables: their rows were worked out by hand.
 
+mod patches;
 mod searches;
+mod tolerant;
 
 use crate::{Leg, RouteTable};
 use squall_board::Board;
@@ -12,10 +14,10 @@ use squall_span::Span;
 use std::alloc::Global;
 use std::test::Fail;
 
-const OLD: &str =
+pub(crate) const OLD: &str =
     "{\"plan\":[{\"part\":1,\"from\":[0,0],\"to\":[3,0]},{\"part\":2,\"from\":[3,0],\"to\":[5,0]},{\"part\":3,\"from\":[5,0],\"to\":[9,0]},{\"part\":4,\"from\":[9,0],\"to\":\"end\"}]}";
 
-const NEW: &str =
+pub(crate) const NEW: &str =
     "{\"plan\":[{\"part\":1,\"from\":[0,0],\"to\":[2,0]},{\"part\":2,\"from\":[3,0],\"to\":[5,0]},{\"part\":3,\"from\":[2,0],\"to\":[3,0]},{\"part\":3,\"from\":[5,0],\"to\":[6,0]},{\"part\":4,\"from\":[6,0],\"to\":\"end\"}]}";
 
 /// The plan of a text.

@@ -1,15 +1,161 @@
 //! The keys that a delta touches.
 
-ghost use Rattle.std.specs.Prelude.{◌≡◌, ℕ, IfOk};
-ghost use Rattle.squall_span.specs.Spans.{has};
+ghost use Rattle.std.specs.Prelude.{◌≡◌, ℕ, ◌||◌, ◌&&◌, max, min, IfOk, OnOk};
+ghost use Rattle.squall_span.specs.Spans.{has, span_has, span_at};
+ghost use Rattle.squall_course.specs.Moves.{goes_to, move_has};
 ghost use Rattle.squall_report.specs.Told.{TellsBoth};
 ghost use Rattle.squall_board.specs.Boards.{BoardValue, says, told};
+ghost use Rattle.squall_table.specs.Legs.{MovesRise};
 ghost use Rattle.squall_table.specs.Touched.{is_touched, ChangesWithin};
+ghost use Rattle.squall_table.specs.Touching.{brought, touched_by_cell, touched_by_parts, touched_by_subs};
 
-use squall_board::Delta;
-use squall_course::Course;
-use squall_span::SpanSet;
+use crate::routes::first_move;
+use squall_board::{CellParts, Delta};
+use squall_course::{Course, Move};
+use squall_join::JoinMap;
+use squall_span::{Span, SpanSet};
 use std::alloc::{AllocError, Global};
+
+/// The keys of both spans. None where they share none.
+fn shared(span: Span, other: Span) -> Option<Span>
+    ensures { result ≡ span_at (max span.lo other.lo) (min span.hi other.hi) }
+{
+    Span::new(span.lo().max(other.lo()), span.hi().min(other.hi()))
+}
+
+/// Adds the keys of the span that the move brings to the partition in the sub-plan.
+fn add_shared(
+    out: &mut SpanSet,
+    one: &Move,
+    sub: u32,
+    part: u32,
+    span: Span,
+) -> Result<(), AllocError>
+    ensures { OnOk result ((k : ℕ) → has out.new k ≡ (has out.old k || (span_has span k && (goes_to sub part one.now && move_has k one.now)))) }
+{
+    if one.sub != sub || one.dest.get() != part {
+        return Ok(());
+    }
+    match shared(span, one.span) {
+        Some(keys) => out.insert(keys),
+        None => Ok(()),
+    }
+}
+
+/// Adds the keys of the span that moves bring to the partition in the sub-plan: of the first moves,
+/// those that begin before the span's end.
+fn add_first(
+    out: &mut SpanSet,
+    moves: &[Move],
+    sub: u32,
+    part: u32,
+    span: Span,
+) -> Result<(), AllocError>
+    requires { MovesRise 0 moves.now }
+    ensures { OnOk result ((k : ℕ) → has out.new k ≡ (has out.old k || (span_has span k && brought sub part moves.now k))) }
+{
+    for one in moves {
+        if span.hi() <= one.span.lo() {
+            return Ok(());
+        }
+        add_shared(out, one, sub, part, span)?;
+    }
+    Ok(())
+}
+
+/// Adds the keys of the span that moves bring to the partition in the sub-plan. The first of them
+/// is searched for.
+fn add_span(
+    out: &mut SpanSet,
+    moves: &[Move],
+    sub: u32,
+    part: u32,
+    span: Span,
+) -> Result<(), AllocError>
+    requires { MovesRise 0 moves.now }
+    ensures { OnOk result ((k : ℕ) → has out.new k ≡ (has out.old k || (span_has span k && brought sub part moves.now k))) }
+{
+    let first = first_move(moves, span.lo());
+    add_first(out, &moves[first..], sub, part, span)
+}
+
+/// Adds the keys that go to the partition in the sub-plan, of all moves.
+fn add_moves(out: &mut SpanSet, moves: &[Move], sub: u32, part: u32) -> Result<(), AllocError>
+    ensures { OnOk result ((k : ℕ) → has out.new k ≡ (has out.old k || brought sub part moves.now k)) }
+{
+    for one in moves {
+        if one.sub == sub && one.dest.get() == part {
+            out.insert(one.span)?;
+        }
+    }
+    Ok(())
+}
+
+/// Adds the keys of the spans that go to the partition in the sub-plan.
+fn add_spans(
+    out: &mut SpanSet,
+    moves: &[Move],
+    sub: u32,
+    part: u32,
+    spans: &[Span],
+) -> Result<(), AllocError>
+    requires { MovesRise 0 moves.now }
+    ensures { OnOk result ((k : ℕ) → has out.new k ≡ (has out.old k || (has spans.now k && brought sub part moves.now k))) }
+{
+    for span in spans {
+        add_span(out, moves, sub, part, *span)?;
+    }
+    Ok(())
+}
+
+/// Adds the keys that the cell touches: those that go to it, all of them where it is complete, and
+/// else those that were loaded.
+fn add_cell(
+    out: &mut SpanSet,
+    moves: &[Move],
+    sub: u32,
+    part: u32,
+    cell: &CellParts,
+) -> Result<(), AllocError>
+    requires { MovesRise 0 moves.now }
+    ensures { OnOk result ((k : ℕ) → has out.new k ≡ (has out.old k || touched_by_cell moves.now sub part cell.now k)) }
+{
+    if cell.second.get() {
+        return add_moves(out, moves, sub, part);
+    }
+    add_spans(out, moves, sub, part, cell.first.spans())
+}
+
+/// Adds the keys that the cells of a sub-plan touch.
+fn add_parts(
+    out: &mut SpanSet,
+    moves: &[Move],
+    sub: u32,
+    parts: &[(u32, CellParts)],
+) -> Result<(), AllocError>
+    requires { MovesRise 0 moves.now }
+    ensures { OnOk result ((k : ℕ) → has out.new k ≡ (has out.old k || touched_by_parts moves.now sub parts.now k)) }
+{
+    for entry in parts {
+        add_cell(out, moves, sub, entry.0, &entry.1)?;
+    }
+    Ok(())
+}
+
+/// Adds the keys that the cells of the sub-plans touch.
+fn add_subs(
+    out: &mut SpanSet,
+    moves: &[Move],
+    subs: &[(u32, JoinMap<u32, CellParts>)],
+) -> Result<(), AllocError>
+    requires { MovesRise 0 moves.now }
+    ensures { OnOk result ((k : ℕ) → has out.new k ≡ (has out.old k || touched_by_subs moves.now subs.now k)) }
+{
+    for entry in subs {
+        add_parts(out, moves, entry.0, entry.1.entries())?;
+    }
+    Ok(())
+}
 
 /// The keys that the delta touches: of each cell of the course's number its spans that are incoming
 /// there, and all that is incoming there where the cell is complete. So it has each key whose route
@@ -19,6 +165,11 @@ pub fn touched(alloc: Global, course: &Course, delta: &Delta) -> Result<SpanSet,
     ensures keys { IfOk result (λ set. (k : ℕ) → has set k ≡ is_touched course.now (says delta.now) k) }
     ensures changed { IfOk result (λ set. (before after : BoardValue) → TellsBoth (told after) (told before) (told delta.now) → ChangesWithin course.now before after set) }
 {
-    let _ = (alloc, course, delta);
-    Err(AllocError)
+    delta.known();
+    let mut set = SpanSet::empty(alloc);
+    let Some(subs) = delta.cell_map().get(&course.number()) else {
+        return Ok(set);
+    };
+    add_subs(&mut set, course.moves(), subs.entries())?;
+    Ok(set)
 }

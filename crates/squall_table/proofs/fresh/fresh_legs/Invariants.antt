@@ -1,0 +1,9 @@
+use Rattle.squall_plan.specs.Ranges.{owner_of}
+use Rattle.squall_board.specs.MovesRoute.{route_by_moves}
+use Rattle.squall_table.specs.Legs.{said}
+use Rattle.squall_table.specs.Patching.{renewed}
+use Rattle.squall_table.proofs.Patching.{Patching}
+use Rattle.squall_table.proofs.fresh.fresh_legs.Given as goal
+
+abbrev pub invariant-loop-span : goal.invariant-loop-span
+invariant-loop-span l = Patching (renewed l.set (route_by_moves l.number l.legs l.moves (said l.heard)) (owner_of l.legs)) l.set l.moves l.fn.lo l.reach l.hi l.span-index l.seen l.taken l.out.items

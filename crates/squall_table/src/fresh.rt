@@ -1,0 +1,115 @@
+//! Legs to be put in the place of others.
+
+ghost use Rattle.std.specs.Prelude.{◌≡◌, ◌<◌, ◌≤◌, ◌^◌, [], length, IfOk};
+ghost use Rattle.std.specs.List.{splice};
+ghost use Rattle.squall_key.specs.Keys.{top};
+ghost use Rattle.squall_span.specs.Spans.{IsCanonical as IsCanonicalSet, IsSet, EndsBy};
+ghost use Rattle.squall_plan.specs.Ranges.{owner_of, IsCanonical};
+ghost use Rattle.squall_course.specs.Change.{ArePlans};
+ghost use Rattle.squall_course.specs.Moves.{moves_of, AreMoves};
+ghost use Rattle.squall_board.specs.MovesRoute.{route_by_moves};
+ghost use Rattle.squall_table.specs.Legs.{Legs, Grows, MovesRise, said};
+ghost use Rattle.squall_table.specs.Patching.{StartsFrom, renewed};
+ghost use Rattle.squall_table.specs.Reach.{moves_in};
+
+use crate::legs::copy_legs;
+use crate::near::{near_end, near_start};
+use crate::routes::{Heard, first_move, push_routes};
+use crate::table::Leg;
+use squall_course::{Course, Move};
+use squall_key::Bound;
+use squall_span::Span;
+use std::alloc::{AllocError, Global};
+
+/// Legs for the keys from `lo` to `hi`, those of the set by their routes and the others as among
+/// the legs, and how many moves share a key with the set. A move is taken up once, though it may
+/// share keys with more than one span.
+fn fresh_legs(
+    alloc: Global,
+    legs: &[Leg],
+    moves: &[Move],
+    number: u32,
+    heard: Heard,
+    set: &[Span],
+    lo: Bound,
+    hi: Bound,
+) -> Result<(Vec<Leg>, usize), AllocError>
+    requires legs { IsCanonical legs.now }
+    requires rise { MovesRise 0 moves.now }
+    requires set { IsCanonicalSet set.now }
+    requires starts { StartsFrom lo set.now }
+    requires ends { EndsBy hi set.now }
+    requires order { lo ≤ hi }
+    ensures legs { IfOk result (λ made. Grows (renewed set.now (route_by_moves number legs.now moves.now (said heard.entry)) (owner_of legs.now)) lo hi [] made.0.items) }
+    ensures moves { IfOk result (λ made. made.1 ≡ moves_in set.now moves.now) }
+{
+    let mut out = Vec::new(alloc);
+    let mut reach = lo;
+    let mut seen = 0;
+    let mut taken = 0;
+    for span in set {
+        copy_legs(&mut out, legs, reach, span.lo())?;
+        let first = first_move(moves, span.lo());
+        let (from, to) = (span.lo(), span.hi());
+        let end = push_routes(&mut out, legs, moves, number, heard, first, from, to)?;
+        taken += end.saturating_sub(first.max(seen));
+        seen = seen.max(end);
+        reach = span.hi();
+    }
+    copy_legs(&mut out, legs, reach, hi)?;
+    Ok((out, taken))
+}
+
+/// Changes nothing: after it a proof knows the moves of the course by their meaning, and that they
+/// are few, since its plans have few ranges.
+pub(crate) fn know_moves(course: &Course)
+    ensures meaning { AreMoves course.now.old course.now.new (moves_of course.now.old course.now.new) }
+    ensures plans { ArePlans course.now.old course.now.new }
+    ensures few { length (moves_of course.now.old course.now.new) ≤ 2 ^ 24 }
+{
+    let _moves = course.moves();
+    let _old = course.old_plan().ranges();
+    let _new = course.new_plan().ranges();
+}
+
+/// What renews the keys of a set in a table: the legs from `first` to `end` go, and fresh ones come
+/// in their place.
+#[derive(Drop)]
+pub(crate) struct Renewal {
+    pub(crate) first: usize,
+    pub(crate) end: usize,
+    pub(crate) fresh: Vec<Leg>,
+    /// How many moves share a key with the set.
+    pub(crate) moves: usize,
+}
+
+/// What renews the keys of the set, which has one. The legs that go begin at the first that shares
+/// a key with the set or borders on it, and end at the last, so that no others need be joined.
+pub(crate) fn renew(
+    alloc: Global,
+    legs: &[Leg],
+    course: &Course,
+    heard: Heard,
+    set: &[Span],
+) -> Result<Renewal, AllocError>
+    requires legs { IsCanonical legs.now }
+    requires set { IsSet set.now }
+    requires some { 0 < length set.now }
+    ensures order { IfOk result (λ r. r.first ≤ r.end) }
+    ensures within { IfOk result (λ r. r.end ≤ length legs.now) }
+    ensures legs { IfOk result (λ r. Legs (renewed set.now (route_by_moves course.now.number legs.now (moves_of course.now.old course.now.new) (said heard.entry)) (owner_of legs.now)) 0 top (splice legs.now r.first r.end r.fresh.items)) }
+    ensures moves { IfOk result (λ r. r.moves ≡ moves_in set.now (moves_of course.now.old course.now.new)) }
+{
+    let first = near_start(legs, set[0].lo());
+    let end = near_end(legs, set[set.len() - 1].hi());
+    let lo = legs[first].span.lo();
+    let hi = legs[end - 1].span.hi();
+    let number = course.number();
+    let (fresh, moves) = fresh_legs(alloc, legs, course.moves(), number, heard, set, lo, hi)?;
+    Ok(Renewal {
+        first,
+        end,
+        fresh,
+        moves,
+    })
+}

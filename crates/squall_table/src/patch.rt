@@ -1,0 +1,124 @@
+//! Patches of route tables.
+
+ghost use Rattle.std.specs.Prelude.{◌≡◌, ℕ, ◌<◌, ◌≤◌, ◌+◌, ◌*◌, ◌^◌, false, length, vec_len, vec_capacity, OnOk, OnErr};
+ghost use Rattle.std.specs.List.{splice};
+ghost use Rattle.squall_key.specs.Keys.{top};
+ghost use Rattle.squall_span.specs.Spans.{has};
+ghost use Rattle.squall_plan.specs.Ranges.{owner_of};
+ghost use Rattle.squall_course.specs.Moves.{moves_of};
+ghost use Rattle.squall_board.specs.Boards.{board_join};
+ghost use Rattle.squall_table.specs.Tables.{IsTable};
+ghost use Rattle.squall_table.specs.Legs.{HasIndex};
+ghost use Rattle.squall_table.specs.Touched.{WasTable};
+ghost use Rattle.squall_table.specs.Reach.{moves_in, reach};
+
+use crate::fresh::{Renewal, know_moves, renew};
+use crate::index::{grow, refill};
+use crate::meter::Meter;
+use crate::near::near_count;
+use crate::ready::replace_ready;
+use crate::routes::Heard;
+use crate::table::{Leg, RouteTable};
+use crate::touch::touched;
+use squall_board::{Board, Delta};
+use squall_course::Course;
+use squall_key::Bound;
+use squall_span::SpanSet;
+use std::alloc::AllocError;
+
+/// Makes room for fresh legs, and for their index. Where that fails, legs and index are as they
+/// were, but for room.
+fn make_room(legs: &mut Vec<Leg>, tops: &mut Vec<Bound>, fresh: &[Leg]) -> Result<(), AllocError>
+    requires index { HasIndex tops.old.items legs.old.items }
+    ensures legs { legs.new.items ≡ legs.old.items }
+    ensures index { HasIndex tops.new.items legs.new.items }
+    ensures room { OnOk result (vec_len legs.new + length fresh.now ≤ vec_capacity legs.new) }
+    ensures tops { OnOk result (length legs.new.items + length fresh.now ≤ 16 * length tops.new.items) }
+{
+    legs.reserve(fresh.len())?;
+    grow(tops, (legs.len() + fresh.len() + 15) / 16)
+}
+
+/// Puts fresh legs in their place, in room that was made, and renews the index from there on.
+fn put(legs: &mut Vec<Leg>, tops: &mut Vec<Bound>, made: &Renewal)
+    requires order { made.now.first ≤ made.now.end }
+    requires within { made.now.end ≤ length legs.old.items }
+    requires index { HasIndex tops.old.items legs.old.items }
+    requires room { vec_len legs.old + length made.now.fresh.items ≤ vec_capacity legs.old }
+    requires tops { length legs.old.items + length made.now.fresh.items ≤ 16 * length tops.old.items }
+    ensures legs { legs.new.items ≡ splice legs.old.items made.now.first made.now.end made.now.fresh.items }
+    ensures index { HasIndex tops.new.items legs.new.items }
+{
+    replace_ready(legs, made.first, made.end, &made.fresh);
+    refill(tops, legs, made.first);
+}
+
+impl RouteTable {
+    /// Makes the table that of the board, where it is that of an older board whose routes differ at
+    /// most in the set: searches for the legs about the set, and puts others in their place. The
+    /// meter counts the moves that share a key with the set, and of the old entries some that share
+    /// one or border on a span of it. It fails only where an allocation fails, and then table and
+    /// meter are as they were.
+    ///
+    /// [`RouteTable::build`] and this call say whose table it is, [`touched`](crate::touched) that
+    /// routes change at most in its set.
+    pub fn patch(
+        &mut self,
+        course: &Course,
+        board: &Board,
+        set: &SpanSet,
+        meter: &mut Meter,
+    ) -> Result<(), AllocError>
+        requires was { WasTable course.now board.now set.now self.old }
+        requires room { meter.old < 2 ^ 63 }
+        ensures table { OnOk result (IsTable course.now board.now self.new) }
+        ensures others { OnOk result ((k : ℕ) → k < top → has set.now k ≡ false → owner_of self.new k ≡ owner_of self.old k) }
+        ensures at_least { OnOk result (meter.old + moves_in set.now (moves_of course.now.old course.now.new) ≤ meter.new) }
+        ensures at_most { OnOk result (meter.new ≤ meter.old + reach set.now (moves_of course.now.old course.now.new) self.old) }
+        ensures err { OnErr result (self.new ≡ self.old) }
+        ensures unmetered { OnErr result (meter.new ≡ meter.old) }
+    {
+        know_moves(course);
+        let spans = set.spans();
+        if spans.is_empty() {
+            return Ok(());
+        }
+        let entries = near_count(&self.legs, spans);
+        let alloc = *self.legs.allocator();
+        let made = renew(alloc, &self.legs, course, Heard::Board(board), spans)?;
+        make_room(&mut self.legs, &mut self.tops, &made.fresh)?;
+        put(&mut self.legs, &mut self.tops, &made);
+        meter.count += made.moves as u64 + entries as u64;
+        Ok(())
+    }
+
+    /// Merges the delta into the board whose table this is, and patches the table for what the delta
+    /// touches: both, or neither where an allocation fails. What can fail for the table is done
+    /// before the merge, so that neither is ever copied.
+    pub fn absorb(
+        &mut self,
+        course: &Course,
+        board: &mut Board,
+        delta: &Delta,
+    ) -> Result<(), AllocError>
+        requires was { IsTable course.now board.old self.old }
+        ensures board { OnOk result (board.new ≡ board_join board.old delta.now) }
+        ensures table { OnOk result (IsTable course.now board.new self.new) }
+        ensures err { OnErr result (self.new ≡ self.old) }
+        ensures board_err { OnErr result (board.new ≡ board.old) }
+    {
+        know_moves(course);
+        let alloc = *self.legs.allocator();
+        let set = touched(alloc, course, delta)?;
+        let spans = set.spans();
+        if spans.is_empty() {
+            return board.merge(delta);
+        }
+        // Every key of the set has come, once the delta is merged.
+        let made = renew(alloc, &self.legs, course, Heard::All, spans)?;
+        make_room(&mut self.legs, &mut self.tops, &made.fresh)?;
+        board.merge(delta)?;
+        put(&mut self.legs, &mut self.tops, &made);
+        Ok(())
+    }
+}
