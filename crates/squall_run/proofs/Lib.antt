@@ -1,7 +1,10 @@
 pub mod Answered
 pub mod Boards
 pub mod Heard
+pub mod ShownLegs
+pub mod Reported
 pub mod LineTexts
+pub mod LineWords
 pub mod Outputs
 pub mod BoardLists
 pub mod Refusals

@@ -2,28 +2,30 @@
 use Rattle.std.proofs.Common.{◌≡◌, ◌≢◌, ℕ, List, [], ◌∷◌, ◌++◌, length, Bool, true, false, Option, None, Some, Result, Ok, Err, suc, refl, sym, ap, subst, arith, append_assoc}
 use Rattle.std.proofs.lemmas.Bool.{false≢true}
 use Rattle.std.proofs.lemmas.List.{append-nil}
-use Rattle.std.specs.Prelude.{codes}
+use Rattle.std.specs.Prelude.{codes, ◌==◌}
 use Rattle.std.specs.Fmt.{decimal}
 use Rattle.squall_key.specs.Keys.{text_of_key}
-use Rattle.squall_span.specs.Spans.{span_at}
+use Rattle.squall_span.specs.Spans.{Interval, span_at}
 use Rattle.squall_plan.specs.declared.range.PlanRange.{PlanRange}
 use Rattle.squall_plan.specs.declared.fault.PlanFault.{PlanFault}
 use Rattle.squall_plan.specs.Form.{plan_of_text}
 use Rattle.squall_report.specs.declared.report.ReportKind.{ReportKind}
-use Rattle.squall_report.specs.Issues.{PlanPair}
-use Rattle.squall_report.specs.Facts.{done_of, opened_of}
-use Rattle.squall_board.specs.Boards as boards
-use Rattle.squall_board.specs.Route.{route}
+use Rattle.squall_report.specs.Issues.{PlanPair, plan_pair}
+use Rattle.squall_report.specs.Facts.{done_of, opened_of, issued_of}
+use Rattle.squall_board.specs.CourseRoute.{route_by_newest}
 use Rattle.squall_lines.specs.Script.{Script, text_of}
 use Rattle.squall_lines.specs.Words.{without_cr}
 use Rattle.squall_run.specs.declared.reason.Reason.{Reason}
 use Rattle.squall_run.specs.declared.reason.Reason.TheVariants.{Long, Word, Order, Limit, Plan}
 use Rattle.squall_run.specs.State.{StageState, NoPlan, OldPlan, BothPlans, ScenarioState, at_start}
-use Rattle.squall_run.specs.Requests.{Request, Skip, Old, New, Loaded, Done, Opened, Route, Board, Hear, Frame, Bad, request_of}
-use Rattle.squall_run.specs.Replies.{Reply, Goes, Ends, text_of_reason, old_plan, old_reply, new_plan, new_reply, take_reply, load_of, report_reply, first_course, route_reply, board_reply, feed_reply, bytes_reply, hear_reply, frame_reply, reply_to, reply_to_line, bad_line, follow, at_next_line, script_from}
+use Rattle.squall_run.specs.Requests.{Request, Skip, Old, New, Loaded, Done, Opened, Issued, Route, Legs, Board, Hear, Frame, Bad, request_of}
+use Rattle.squall_run.specs.Replies.{Reply, Goes, Ends, text_of_reason, old_plan, old_reply, new_plan, new_reply, take_reply, load_of, report_reply, issue_reply, limit_where, issued_reply, first_course, route_reply, span_reply, legs_reply, board_reply, feed_reply, bytes_reply, hear_reply, frame_reply, reply_to, reply_to_line, bad_line, follow, at_next_line, script_from}
 use Rattle.squall_run.specs.Text.{EndsInBadLine, EndsInNoBadLine, HasNoBadLine}
 use Rattle.squall_run.proofs.LineTexts.{no_lf, no_lf-append, decimal_no_lf, key_no_lf, fault_no_lf, Spells, spells_lf, spells_glued, spells_append, NotBegun, differs_at, Lacks, lacks_nothing, lacks_line, lacks_append, last_is, last_lacks, all_lines}
 use Rattle.squall_run.proofs.Boards.{board_lacks}
+use Rattle.squall_run.proofs.ShownLegs.{legs_lack}
+use Rattle.squall_run.specs.LegText.{legs_of_span}
+use Rattle.squall_course.specs.Change.{Change}
 use Rattle.squall_run.proofs.Heard.{text_lacks, failed_lacks, frame_lacks}
 use Rattle.squall_wire.specs.Heard.{heard_of}
 use Rattle.hex.specs.Hex.{decode_of}
@@ -85,7 +87,29 @@ route_lacks key part =
 route_good : (s : ScenarioState) (stage : StageState) (key : ℕ) → NotBad (route_reply s stage key)
 route_good s NoPlan key = tt
 route_good s (OldPlan old) key = tt
-route_good s (BothPlans old new) key = route_lacks key (route (first_course old new) (boards.says s.board) key)
+route_good s (BothPlans old new) key = route_lacks key (route_by_newest (first_course old new) s.board key)
+
+issue_good : (s : ScenarioState) (number : ℕ) (new : List PlanRange) (r : Result (List PlanRange) PlanFault) → NotBad (issue_reply s number new r)
+issue_good s number new (Ok plan) = take_good s (issued_of number (plan_pair new plan))
+issue_good s number new (Err fault) = tt
+
+limit_good : (limit : Bool) (reply : Reply) → NotBad reply → NotBad (limit_where limit reply)
+limit_good true reply h = tt
+limit_good false reply h = h
+
+issued_good : (s : ScenarioState) (stage : StageState) (number : ℕ) (text : List ℕ) → NotBad (issued_reply s stage number text)
+issued_good s NoPlan number text = tt
+issued_good s (OldPlan old) number text = tt
+issued_good s (BothPlans old new) number text = limit_good (number == 0) (issue_reply s number new (plan_of_text text)) (issue_good s number new (plan_of_text text))
+
+span_good : (s : ScenarioState) (first : Change) (span : Option Interval) → NotBad (span_reply s first span)
+span_good s first None = tt
+span_good s first (Some span) = legs_lack (legs_of_span first s.board span)
+
+legs_good : (s : ScenarioState) (stage : StageState) (span : Option Interval) → NotBad (legs_reply s stage span)
+legs_good s NoPlan span = tt
+legs_good s (OldPlan old) span = tt
+legs_good s (BothPlans old new) span = span_good s (first_course old new) span
 
 board_good : (s : ScenarioState) (stage : StageState) → NotBad (board_reply s stage)
 board_good s NoPlan = tt
@@ -117,7 +141,9 @@ reply_good s (New text) = new_good s s.stage text
 reply_good s (Loaded number sub part lo hi) = report_good s s.stage (load_of (span_at lo hi) number sub part)
 reply_good s (Done number sub part) = report_good s s.stage (done_of number sub part)
 reply_good s (Opened number sub) = report_good s s.stage (opened_of number sub)
+reply_good s (Issued number text) = issued_good s s.stage number text
 reply_good s (Route key) = route_good s s.stage key
+reply_good s (Legs lo hi) = legs_good s s.stage (span_at lo hi)
 reply_good s Board = board_good s s.stage
 reply_good s (Hear digits) = hear_good s (decode_of digits)
 reply_good s Frame = frame_good s s.stage

@@ -7,7 +7,7 @@ use Rattle.squall_run.specs.declared.command.Command.{Command}
 use Rattle.squall_run.specs.declared.command.Command.TheVariants as code
 use Rattle.squall_run.specs.declared.reason.Reason.{Reason}
 use Rattle.squall_run.specs.State.{ScenarioState}
-use Rattle.squall_run.specs.Requests.{Request, Skip, Old, New, Loaded, Done, Opened, Route, Board, Hear, Frame, Bad}
+use Rattle.squall_run.specs.Requests.{Request, Skip, Old, New, Loaded, Done, Opened, Issued, Route, Legs, Board, Hear, Frame, Bad}
 use Rattle.squall_run.specs.Replies.{Reply, Goes, Ends, bad_line}
 
 -- the request that a command stands for
@@ -18,7 +18,9 @@ request_seen (code.New text) = New text.now
 request_seen (code.Loaded number sub part lo hi) = Loaded number sub part lo hi
 request_seen (code.Done number sub part) = Done number sub part
 request_seen (code.Opened number sub) = Opened number sub
+request_seen (code.Issued number text) = Issued number text.now
 request_seen (code.Route key) = Route key
+request_seen (code.Legs lo hi) = Legs lo hi
 request_seen code.Board = Board
 request_seen (code.Hear digits) = Hear digits.now
 request_seen code.Frame = Frame

@@ -8,6 +8,7 @@ pub mod Stages
 pub mod Requests
 pub mod BoardText
 pub mod Frames
+pub mod LegText
 pub mod Replies
 pub mod Answered
 pub mod Text

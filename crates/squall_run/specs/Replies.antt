@@ -1,5 +1,5 @@
 -- What a scenario answers, line by line (this project's scenario language).
-use Rattle.std.specs.Prelude.{ℕ, ◌+◌, ◌-◌, ◌^◌, min, Bool, true, false, List, [], ◌∷◌, ◌++◌, length, Option, None, Some, Result, Ok, Err, codes}
+use Rattle.std.specs.Prelude.{ℕ, ◌+◌, ◌-◌, ◌^◌, min, Bool, true, false, List, [], ◌∷◌, ◌++◌, length, Option, None, Some, Result, Ok, Err, codes, ◌==◌}
 use Rattle.std.specs.Fmt.{decimal}
 use Rattle.squall_key.specs.Keys.{text_of_key}
 use Rattle.squall_span.specs.Spans.{Interval, span_at}
@@ -8,12 +8,11 @@ use Rattle.squall_plan.specs.declared.fault.PlanFault.{PlanFault}
 use Rattle.squall_plan.specs.Faults.{text_of_fault}
 use Rattle.squall_plan.specs.Form.{plan_of_text}
 use Rattle.squall_report.specs.declared.report.ReportKind.{ReportKind}
-use Rattle.squall_report.specs.Issues.{PlanPair}
-use Rattle.squall_report.specs.Facts.{loaded_of, done_of, opened_of}
+use Rattle.squall_report.specs.Issues.{PlanPair, plan_pair}
+use Rattle.squall_report.specs.Facts.{loaded_of, done_of, opened_of, issued_of}
 use Rattle.squall_board.specs.Boards.{BoardValue, board_join, report_board}
-use Rattle.squall_board.specs.Boards as boards
 use Rattle.squall_course.specs.Change.{Change}
-use Rattle.squall_board.specs.Route.{route}
+use Rattle.squall_board.specs.CourseRoute.{route_by_newest}
 use Rattle.hex.specs.Hex.{decode_of}
 use Rattle.hex.specs.declared.error.FromHexError.{FromHexError}
 use Rattle.squall_wire.specs.Hearing.{feed_after}
@@ -23,9 +22,10 @@ use Rattle.squall_lines.specs.Words.{without_cr}
 use Rattle.squall_run.specs.declared.reason.Reason.{Reason}
 use Rattle.squall_run.specs.declared.reason.Reason.TheVariants.{Long, Word, Order, Limit, Plan}
 use Rattle.squall_run.specs.State.{StageState, NoPlan, OldPlan, BothPlans, ScenarioState}
-use Rattle.squall_run.specs.Requests.{Request, Skip, Old, New, Loaded, Done, Opened, Route, Board, Hear, Frame, Bad, request_of}
+use Rattle.squall_run.specs.Requests.{Request, Skip, Old, New, Loaded, Done, Opened, Issued, Route, Legs, Board, Hear, Frame, Bad, request_of}
 use Rattle.squall_run.specs.BoardText.{board_text}
 use Rattle.squall_run.specs.Frames.{text_of_heard, after_bodies, frame_text}
+use Rattle.squall_run.specs.LegText.{leg_lines, legs_of_span}
 
 abbrev pub text_of_reason : Reason → List ℕ
 text_of_reason Long = codes "long"
@@ -79,15 +79,40 @@ report_reply s NoPlan report = Ends Order
 report_reply s (OldPlan old) report = Ends Order
 report_reply s (BothPlans old new) report = take_reply s report
 
+-- issued N JSON: a report that under N the plan changes from that of the line `new` to that of the text
+abbrev pub issue_reply : ScenarioState → ℕ → List PlanRange → Result (List PlanRange) PlanFault → Reply
+issue_reply s number new (Ok plan) = take_reply s (issued_of number (plan_pair new plan))
+issue_reply s number new (Err fault) = Ends (Plan fault)
+
+-- a value outside its limits is the reason, and not a fault of the text
+abbrev pub limit_where : Bool → Reply → Reply
+limit_where true reply = Ends Limit
+limit_where false reply = reply
+
+abbrev pub issued_reply : ScenarioState → StageState → ℕ → List ℕ → Reply
+issued_reply s NoPlan number text = Ends Order
+issued_reply s (OldPlan old) number text = Ends Order
+issued_reply s (BothPlans old new) number text = limit_where (number == 0) (issue_reply s number new (plan_of_text text))
+
 -- course 1 goes from the old plan to the new one
 abbrev pub first_course : List PlanRange → List PlanRange → Change
 first_course old new = record { number = 1; old = old; new = new }
 
--- route K: the partition to ask for the key
+-- route K: the partition to ask for the key, by the newest course that is known
 abbrev pub route_reply : ScenarioState → StageState → ℕ → Reply
 route_reply s NoPlan key = Ends Order
 route_reply s (OldPlan old) key = Ends Order
-route_reply s (BothPlans old new) key = Goes (codes "route " ++ (text_of_key key ++ (codes " " ++ (decimal (route (first_course old new) (boards.says s.board) key) ++ codes "\n")))) s
+route_reply s (BothPlans old new) key = Goes (codes "route " ++ (text_of_key key ++ (codes " " ++ (decimal (route_by_newest (first_course old new) s.board key) ++ codes "\n")))) s
+
+-- legs LO HI: the legs of the span, which must have a key
+abbrev pub span_reply : ScenarioState → Change → Option Interval → Reply
+span_reply s first None = Ends Limit
+span_reply s first (Some span) = Goes (leg_lines (legs_of_span first s.board span)) s
+
+abbrev pub legs_reply : ScenarioState → StageState → Option Interval → Reply
+legs_reply s NoPlan span = Ends Order
+legs_reply s (OldPlan old) span = Ends Order
+legs_reply s (BothPlans old new) span = span_reply s (first_course old new) span
 
 -- board: what was reported
 abbrev pub board_reply : ScenarioState → StageState → Reply
@@ -128,7 +153,9 @@ reply_to s (New text) = new_reply s s.stage text
 reply_to s (Loaded number sub part lo hi) = report_reply s s.stage (load_of (span_at lo hi) number sub part)
 reply_to s (Done number sub part) = report_reply s s.stage (done_of number sub part)
 reply_to s (Opened number sub) = report_reply s s.stage (opened_of number sub)
+reply_to s (Issued number text) = issued_reply s s.stage number text
 reply_to s (Route key) = route_reply s s.stage key
+reply_to s (Legs lo hi) = legs_reply s s.stage (span_at lo hi)
 reply_to s Board = board_reply s s.stage
 reply_to s (Hear digits) = hear_reply s (decode_of digits)
 reply_to s Frame = frame_reply s s.stage

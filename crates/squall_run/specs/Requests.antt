@@ -9,8 +9,8 @@ use Rattle.squall_run.specs.declared.reason.Reason.{Reason}
 use Rattle.squall_run.specs.declared.reason.Reason.TheVariants.{Long, Word}
 
 -- what a line asks for: nothing, where it has no word or is a remark; to take the plan that stands in a text, as the old one or
--- the new one; to take a report of a load, a completion or an opening; a route; the board; to hear the bytes that a text writes; the
--- frame of the board. Or why it is bad.
+-- the new one; to take a report of a load, a completion or an opening, or of an issue, whose plan stands in a text; a route; the legs
+-- between two bounds; the board; to hear the bytes that a text writes; the frame of the board. Or why it is bad.
 pub data Request : Type 0 where
   Skip : Request
   Old : List ℕ → Request
@@ -18,7 +18,9 @@ pub data Request : Type 0 where
   Loaded : ℕ → ℕ → ℕ → ℕ → ℕ → Request
   Done : ℕ → ℕ → ℕ → Request
   Opened : ℕ → ℕ → Request
+  Issued : ℕ → List ℕ → Request
   Route : ℕ → Request
+  Legs : ℕ → ℕ → Request
   Board : Request
   Hear : List ℕ → Request
   Frame : Request
@@ -61,9 +63,17 @@ done_line words = option_and_then (λ (c : ℕ × ℕ × ℕ × List (List ℕ))
 abbrev pub opened_line : List (List ℕ) → Option Request
 opened_line words = option_and_then (λ (n : ℕ × List (List ℕ)). option_map (λ s. Opened n.0 s) (option_and_then number_of (only_word n.1))) (number_first words)
 
+-- issued N JSON: the text is what stands after the number
+abbrev pub issued_line : List (List ℕ) → List ℕ → Option Request
+issued_line words text = option_map (λ (n : ℕ × List (List ℕ)). Issued n.0 (after_first_word text)) (number_first words)
+
 -- route K
 abbrev pub route_line : List (List ℕ) → Option Request
 route_line words = option_map Route (option_and_then key_of (only_word words))
+
+-- legs LO HI
+abbrev pub legs_line : List (List ℕ) → Option Request
+legs_line words = option_map (λ (b : ℕ × ℕ). Legs b.0 b.1) (two_bounds words)
 
 -- board
 abbrev pub board_line : List (List ℕ) → Option Request
@@ -78,18 +88,20 @@ abbrev pub frame_line : List (List ℕ) → Option Request
 frame_line words = alone Frame words
 
 -- the request that the first word names: the words after it must have its form, but for `old` and `new`, whose text is the rest
--- of the line
+-- of the line, and for `issued`, whose text is the rest after its number
 abbrev pub request_by : List ℕ → List (List ℕ) → List ℕ → Option Request
 request_by name words text = if bytes_eq name (codes "old") then Some (Old text)
     else (if bytes_eq name (codes "new") then Some (New text)
     else (if bytes_eq name (codes "loaded") then loaded_line words
     else (if bytes_eq name (codes "done") then done_line words
     else (if bytes_eq name (codes "opened") then opened_line words
+    else (if bytes_eq name (codes "issued") then issued_line words text
     else (if bytes_eq name (codes "route") then route_line words
+    else (if bytes_eq name (codes "legs") then legs_line words
     else (if bytes_eq name (codes "board") then board_line words
     else (if bytes_eq name (codes "hear") then hear_line words
     else (if bytes_eq name (codes "frame") then frame_line words
-    else None))))))))
+    else None))))))))))
 
 -- a line without words, or whose first word begins with #, is skipped
 abbrev pub of_words : List (List ℕ) → List ℕ → Request

@@ -3,7 +3,7 @@
 ghost use Rattle.std.specs.Prelude.{◌≡◌, ◌↔◌, ℕ, [], IsSome};
 ghost use Rattle.std.specs.Option.{option_map};
 ghost use Rattle.squall_lines.specs.Words.{words_of, is_letter, from_first};
-ghost use Rattle.squall_run.specs.Requests.{number_first, two_words, cell_first, two_bounds, loaded_line, done_line, opened_line, route_line, board_line, hear_line, frame_line, request_by, request_of};
+ghost use Rattle.squall_run.specs.Requests.{number_first, two_words, cell_first, two_bounds, loaded_line, done_line, opened_line, issued_line, route_line, legs_line, board_line, hear_line, frame_line, request_by, request_of};
 ghost use Rattle.squall_run.specs.Answered.{request_seen};
 
 use crate::reason::Reason;
@@ -36,7 +36,17 @@ pub(crate) enum Command<'a> {
         number: u32,
         sub: u32,
     },
+    /// To take the issue of a number, whose plan is that of this text.
+    Issued {
+        number: u32,
+        text: &'a [u8],
+    },
     Route(Key),
+    /// To show the legs between two bounds.
+    Legs {
+        lo: Bound,
+        hi: Bound,
+    },
     Board,
     /// To hear the bytes that these digits write.
     Hear(&'a [u8]),
@@ -124,12 +134,31 @@ fn opened_line(rest: &[u8]) -> Option<Command<'static>>
     Some(Command::Opened { number, sub })
 }
 
+/// `issued N JSON`
+#[tactic(auto, using(crate::proofs::LineWords::after_first_word_again))]
+fn issued_line(rest: &[u8]) -> Option<Command>
+    ensures { option_map request_seen result ≡ issued_line (words_of rest.now) (from_first is_letter rest.now) }
+{
+    let (word, rest) = next_word(rest)?;
+    let number = read_number(word)?;
+    let text = after_blanks(rest);
+    Some(Command::Issued { number, text })
+}
+
 /// `route K`
 fn route_line(rest: &[u8]) -> Option<Command<'static>>
     ensures { option_map request_seen result ≡ route_line (words_of rest.now) }
 {
     let key = Key::read_bytes(only_word(rest)?)?;
     Some(Command::Route(key))
+}
+
+/// `legs LO HI`
+fn legs_line(rest: &[u8]) -> Option<Command<'static>>
+    ensures { option_map request_seen result ≡ legs_line (words_of rest.now) }
+{
+    let (lo, hi) = two_bounds(rest)?;
+    Some(Command::Legs { lo, hi })
 }
 
 /// `board`
@@ -174,8 +203,14 @@ fn command_by<'a>(name: &[u8], rest: &'a [u8]) -> Option<Command<'a>>
     if name == b"opened".as_slice() {
         return opened_line(rest);
     }
+    if name == b"issued".as_slice() {
+        return issued_line(rest);
+    }
     if name == b"route".as_slice() {
         return route_line(rest);
+    }
+    if name == b"legs".as_slice() {
+        return legs_line(rest);
     }
     if name == b"board".as_slice() {
         return board_line(rest);

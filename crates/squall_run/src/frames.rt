@@ -4,13 +4,14 @@ ghost use Rattle.std.specs.Prelude.{◌≡◌, ◌++◌, OnOk, OnErr, IfOk, map,
 ghost use Rattle.hex.specs.Hex.{decode_of};
 ghost use Rattle.squall_wire.specs.Messages.{body_of};
 ghost use Rattle.squall_run.specs.Frames.{heard_line, heard_lines, text_of_heard, after_body, after_bodies, frame_text};
-ghost use Rattle.squall_run.specs.Replies.{hear_reply, bytes_reply, feed_reply, frame_reply};
+ghost use Rattle.squall_run.specs.Replies.{hear_reply, bytes_reply, frame_reply};
 ghost use Rattle.squall_run.specs.Answered.{Answers};
 
 use crate::reason::Reason;
 use crate::scenario::{Scenario, Stage};
 use hex::FromHexError;
 use squall_board::Board;
+use squall_router::Router;
 use squall_wire::{
     EncodeFault, FeedFault, Heard, Message, encode_board, heard_frame_by_frame,
     lists_make_the_board,
@@ -49,37 +50,42 @@ fn add_heard(heard: &Heard, out: &mut String) -> Result<(), AllocError>
     }
 }
 
-/// Merges a delta into the board. A digest has no effect.
-fn merge_message(board: &mut Board, message: &Message) -> Result<(), AllocError>
-    ensures { OnOk result (board.new ≡ after_body board.old (body_of message.now)) }
+/// Has the router hear a delta. A digest has no effect.
+fn absorb_message(router: &mut Router, message: &Message) -> Result<(), AllocError>
+    ensures first { router.new.first ≡ router.old.first }
+    ensures board { OnOk result (router.new.board ≡ after_body router.old.board (body_of message.now)) }
 {
     match message {
         Message::Delta(delta) => {
             lists_make_the_board(delta);
-            board.merge(delta)
+            router.absorb(delta)
         }
         Message::Digest(_) => Ok(()),
     }
 }
 
-/// Merges the deltas into the board, one after the other.
-fn merge_messages(board: &mut Board, messages: &[Message]) -> Result<(), AllocError>
-    ensures { OnOk result (board.new ≡ after_bodies board.old (map body_of messages.now)) }
+/// Has the router hear the deltas, one after the other.
+fn absorb_messages(router: &mut Router, messages: &[Message]) -> Result<(), AllocError>
+    ensures first { router.new.first ≡ router.old.first }
+    ensures board { OnOk result (router.new.board ≡ after_bodies router.old.board (map body_of messages.now)) }
 {
     for message in messages {
-        merge_message(board, message)?;
+        absorb_message(router, message)?;
     }
     Ok(())
 }
 
-/// Hears the bytes, where no fault has ended the feed.
+/// Hears the bytes, once both plans are read and where no fault has ended the feed.
 fn hear_piece(
     scenario: &mut Scenario,
     bytes: &[u8],
     out: &mut String,
 ) -> Result<Option<Reason>, AllocError>
-    ensures { Answers result (string_bytes out.old) (string_bytes out.new) scenario.new (feed_reply scenario.old scenario.old.feed.failed bytes.now) }
+    ensures { Answers result (string_bytes out.old) (string_bytes out.new) scenario.new (bytes_reply scenario.old scenario.old.stage bytes.now) }
 {
+    let Stage::Running(router) = &mut scenario.stage else {
+        return Ok(Some(Reason::Order));
+    };
     let heard = match scenario.feed.push(bytes) {
         Ok(heard) => heard,
         Err(FeedFault::Failed) => {
@@ -89,12 +95,12 @@ fn hear_piece(
         Err(FeedFault::NoMemory) => return Err(AllocError),
     };
     heard_frame_by_frame();
-    merge_messages(&mut scenario.board, &heard.messages)?;
+    absorb_messages(router, &heard.messages)?;
     add_heard(&heard, out)?;
     Ok(None)
 }
 
-/// Hears the bytes that the digits write, once both plans are read.
+/// Hears the bytes that the digits write.
 pub(crate) fn hear(
     scenario: &mut Scenario,
     digits: &[u8],
@@ -106,9 +112,6 @@ pub(crate) fn hear(
         Ok(bytes) => bytes,
         Err(FromHexError::OutOfMemory) => return Err(AllocError),
         Err(_) => return Ok(Some(Reason::Word)),
-    };
-    let Stage::Running(_) = &scenario.stage else {
-        return Ok(Some(Reason::Order));
     };
     hear_piece(scenario, &bytes, out)
 }
@@ -134,9 +137,9 @@ pub(crate) fn show_frame(
 ) -> Result<Option<Reason>, AllocError>
     ensures { Answers result (string_bytes out.old) (string_bytes out.new) scenario.now (frame_reply scenario.now scenario.now.stage) }
 {
-    let Stage::Running(_) = &scenario.stage else {
+    let Stage::Running(router) = &scenario.stage else {
         return Ok(Some(Reason::Order));
     };
-    add_frame(&scenario.board, out)?;
+    add_frame(router.board(), out)?;
     Ok(None)
 }

@@ -14,6 +14,7 @@ mod course;
 mod files;
 mod frames;
 mod laws;
+mod legs;
 mod messages;
 mod output;
 mod program;

@@ -1,26 +1,31 @@
 //! What a scenario answers to a line.
 
-ghost use Rattle.std.specs.Prelude.{◌≡◌, ◌++◌, ℕ, List, IfOk, string_bytes, codes, refl};
+ghost use Rattle.std.specs.Prelude.{◌≡◌, ◌++◌, ℕ, List, IfOk, OnOk, string_bytes, codes, refl};
 ghost use Rattle.squall_lines.specs.declared.Flow.TheVariants.{End};
 ghost use Rattle.squall_plan.specs.Form.{plan_of_text};
 ghost use Rattle.squall_span.specs.Spans.{span_at};
-ghost use Rattle.squall_run.specs.Replies.{old_reply, new_reply, first_course, load_of, report_reply, route_reply, board_reply, reply_to_line, bad_line, script_from};
+ghost use Rattle.squall_board.specs.Boards.{board_join, report_board};
+ghost use Rattle.squall_run.specs.Replies.{old_reply, new_reply, first_course, load_of, report_reply, issued_reply, route_reply, board_reply, reply_to_line, bad_line, script_from};
 ghost use Rattle.squall_run.specs.Answered.{Answers, IsAnswer};
 
 use crate::board_text::add_board;
 use crate::command::{Command, read_line};
 use crate::frames::{hear, show_frame};
+use crate::legs::show_legs;
 use crate::reason::Reason;
 use crate::scenario::{Scenario, Stage};
 use squall_course::Course;
+use squall_delta::delta_of;
 use squall_key::{Bound, Key};
 use squall_lines::Flow;
 use squall_lines::machine::Machine;
 use squall_lines::words::without_cr;
 use squall_plan::{Plan, PlanFault};
-use squall_report::Report;
+use squall_report::{Issue, Report};
+use squall_router::Router;
 use squall_span::Span;
 use std::alloc::{AllocError, Global};
+use std::sync::Arc;
 
 /// The plan of the text, or its fault.
 pub(crate) fn read_plan(alloc: Global, text: &[u8]) -> Result<Result<Plan, PlanFault>, AllocError>
@@ -80,10 +85,11 @@ fn new_plan(
         Ok(plan) => plan,
         Err(fault) => return Ok(Some(Reason::Plan(fault))),
     };
-    let course = first_course(alloc, old, &plan)?;
+    let course = Arc::new(alloc, first_course(alloc, old, &plan)?)?;
+    let router = Router::new(alloc, &course)?;
     let ranges = plan.ranges().len();
     write!(out, "new {ranges}\n")?;
-    scenario.stage = Stage::Running(course);
+    scenario.stage = Stage::Running(router);
     Ok(None)
 }
 
@@ -95,6 +101,20 @@ fn load_report(number: u32, sub: u32, part: u32, lo: Bound, hi: Bound) -> Option
     Report::loaded(number, sub, part, span)
 }
 
+/// Has the router hear what the report tells.
+#[tactic(auto, using(crate::proofs::Reported::one_board))]
+fn absorb_report(alloc: Global, router: &mut Router, report: &Report) -> Result<(), AllocError>
+    ensures first { router.new.first ≡ router.old.first }
+    ensures board { OnOk result (router.new.board ≡ board_join router.old.board (report_board report.now)) }
+{
+    let delta = delta_of(alloc, report)?;
+    // The proof learns that the delta is a board and the report one within its limits, so that what
+    // the delta tells is all that it is.
+    delta.known();
+    let _ = report.kind();
+    router.absorb(&delta)
+}
+
 /// Takes the report, where there is one, once both plans are read.
 fn take_report(
     scenario: &mut Scenario,
@@ -103,25 +123,50 @@ fn take_report(
 ) -> Result<Option<Reason>, AllocError>
     ensures { Answers result (string_bytes out.old) (string_bytes out.new) scenario.new (report_reply scenario.old scenario.old.stage report) }
 {
-    let Stage::Running(_) = &scenario.stage else {
+    let Stage::Running(router) = &mut scenario.stage else {
         return Ok(Some(Reason::Order));
     };
     let Some(report) = report else {
         return Ok(Some(Reason::Limit));
     };
-    scenario.board.take(&report)?;
+    absorb_report(*out.allocator(), router, &report)?;
     write!(out, "taken\n")?;
     Ok(None)
+}
+
+/// Takes the issue of that number from the new plan to the plan of the text, once both plans are
+/// read.
+fn take_issue(
+    scenario: &mut Scenario,
+    number: u32,
+    text: &[u8],
+    out: &mut String,
+) -> Result<Option<Reason>, AllocError>
+    ensures { Answers result (string_bytes out.old) (string_bytes out.new) scenario.new (issued_reply scenario.old scenario.old.stage number text.now) }
+{
+    let Stage::Running(router) = &scenario.stage else {
+        return Ok(Some(Reason::Order));
+    };
+    if number == 0 {
+        return Ok(Some(Reason::Limit));
+    }
+    let alloc = *out.allocator();
+    let plan = match read_plan(alloc, text)? {
+        Ok(plan) => plan,
+        Err(fault) => return Ok(Some(Reason::Plan(fault))),
+    };
+    let issue = Issue::new(alloc, router.first().new_plan(), &plan)?;
+    take_report(scenario, Report::issued(number, issue), out)
 }
 
 /// Says which partition to ask for the key, once both plans are read.
 fn route(scenario: &Scenario, key: Key, out: &mut String) -> Result<Option<Reason>, AllocError>
     ensures { Answers result (string_bytes out.old) (string_bytes out.new) scenario.now (route_reply scenario.now scenario.now.stage key) }
 {
-    let Stage::Running(course) = &scenario.stage else {
+    let Stage::Running(router) = &scenario.stage else {
         return Ok(Some(Reason::Order));
     };
-    let part = scenario.board.route(course, key);
+    let part = router.route(key);
     write!(out, "route {key} {part}\n")?;
     Ok(None)
 }
@@ -130,10 +175,10 @@ fn route(scenario: &Scenario, key: Key, out: &mut String) -> Result<Option<Reaso
 fn show_board(scenario: &Scenario, out: &mut String) -> Result<Option<Reason>, AllocError>
     ensures { Answers result (string_bytes out.old) (string_bytes out.new) scenario.now (board_reply scenario.now scenario.now.stage) }
 {
-    let Stage::Running(_) = &scenario.stage else {
+    let Stage::Running(router) = &scenario.stage else {
         return Ok(Some(Reason::Order));
     };
-    add_board(&scenario.board, out)?;
+    add_board(router.board(), out)?;
     Ok(None)
 }
 
@@ -162,7 +207,9 @@ fn reply(
         Command::Opened { number, sub } => {
             take_report(scenario, Report::opened(number, sub), out)
         }
+        Command::Issued { number, text } => take_issue(scenario, number, text, out),
         Command::Route(key) => route(scenario, key, out),
+        Command::Legs { lo, hi } => show_legs(scenario, Span::new(lo, hi), out),
         Command::Board => show_board(scenario, out),
         Command::Hear(digits) => hear(scenario, digits, out),
         Command::Frame => show_frame(scenario, out),

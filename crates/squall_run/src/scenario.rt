@@ -3,9 +3,8 @@
 ghost use Rattle.std.specs.Prelude.{◌≡◌};
 ghost use Rattle.squall_run.specs.State.{at_start};
 
-use squall_board::Board;
-use squall_course::Course;
 use squall_plan::Plan;
+use squall_router::Router;
 use squall_wire::Feed;
 use std::alloc::Global;
 use std::marker::Model;
@@ -17,19 +16,19 @@ pub(crate) enum Stage {
     Unplanned,
     /// The old plan.
     Planned(Plan),
-    /// Both plans: the course from the old one to the new one.
-    Running(Course),
+    /// Both plans: a router of the course from the old one to the new one, which has heard what was
+    /// reported.
+    Running(Router),
 }
 
 /// A scenario after some lines. Contracts see the lines counted, the plans that are read, the
-/// board, and the feed.
+/// board, and the feed. The board is that of the router: before both plans are read no line can
+/// report anything.
 #[derive(Drop)]
 pub(crate) struct Scenario {
     /// How many lines there were, bad and skipped ones too.
     pub(crate) line: u64,
     pub(crate) stage: Stage,
-    /// What was reported.
-    pub(crate) board: Board,
     /// What hears frames.
     pub(crate) feed: Feed,
 }
@@ -39,9 +38,9 @@ impl Model for Scenario {
 
     ghost Value = { ScenarioState };
 
-    ghost use Rattle.squall_run.specs.Stages.{stage_seen, IsFirstCourse};
+    ghost use Rattle.squall_run.specs.Stages.{stage_seen, board_seen, IsFirstCourse};
 
-    ghost view = { λ s. record { line = s.line; stage = stage_seen s.stage; board = s.board; feed = s.feed } };
+    ghost view = { λ s. record { line = s.line; stage = stage_seen s.stage; board = board_seen s.stage; feed = s.feed } };
 
     ghost invariant = { λ s. IsFirstCourse s.stage };
 }
@@ -53,7 +52,6 @@ pub(crate) fn start(alloc: Global) -> Scenario
     Scenario {
         line: 0,
         stage: Stage::Unplanned,
-        board: Board::new(alloc),
         feed: Feed::new(alloc),
     }
 }
