@@ -27,18 +27,18 @@ Example:
 squall help COMMAND shows the help of a command, and squall help run the lines of a scenario.";
 
 const SCENARIO: &str = "Lines of a scenario, one question or report each:
-  old JSON            the old plan, once and first
-  new JSON            the new plan, once and right after the old one
+  old JSON            the old plan, first: {\"plan\":[{\"part\":1,\"from\":[0,0],\"to\":\"end\"}]}
+  new JSON            the new plan, right after the old one
   loaded N S P LO HI  partition P has loaded [LO,HI) in sub-plan S of reconfiguration N
   done N S P          partition P has all that sub-plan S of reconfiguration N brings it
   opened N S          sub-plan S of reconfiguration N is opened, and all those before it
+  issued N JSON       reconfiguration N leads from the new plan to this one
   route K             asks which partition has key K
+  legs LO HI          asks which partitions have the keys of [LO,HI)
   board               asks what was reported
   hear HEX            hears the next bytes of a stream of frames, and takes their reports
   frame               asks for the frame of the board
-  # REMARK            is skipped, as is a line without words
-
-A plan is written on its line, as {\"plan\":[{\"part\":1,\"from\":[0,0],\"to\":\"end\"}]}.";
+  # REMARK            is skipped, as is a line without words";
 
 /// A file's name, which has to be there.
 fn file<'a>(alloc: Global, name: &'a str, help: &'a str) -> Arg<'a>

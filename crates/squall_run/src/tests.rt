@@ -88,6 +88,33 @@ const FRAME_ANSWERS: [&str; 9] = [
     "no Failed\n",
 ];
 
+/// Loads and issues, and the legs after each.
+const LEG_LINES: [&str; 10] = [
+    OLD,
+    NEW,
+    "loaded 1 0 3 2:0 2:7\n",
+    "legs 1:0 4:0\n",
+    "issued 2 {\"plan\":[{\"part\":1,\"from\":[0,0],\"to\":[5,0]},{\"part\":4,\"from\":[5,0],\"to\":\"end\"}]}\n",
+    "legs 1:0 6:1\n",
+    "done 2 0 1\n",
+    "legs 1:0 6:1\n",
+    "route 4:0\n",
+    "board\n",
+];
+
+const LEG_ANSWERS: [&str; 10] = [
+    "old 4\n",
+    "new 5\n",
+    "taken\n",
+    "leg [1:0,2:0) 1\nleg [2:0,2:7) 3\nleg [2:7,3:0) 1\nleg [3:0,4:0) 2\n",
+    "taken\n",
+    "leg [1:0,2:0) 1\nleg [2:0,3:0) 3\nleg [3:0,5:0) 2\nleg [5:0,6:0) 3\nleg [6:0,6:1) 4\n",
+    "taken\n",
+    "leg [1:0,5:0) 1\nleg [5:0,6:0) 3\nleg [6:0,6:1) 4\n",
+    "route 4:0 1\n",
+    "issue 2 one\ncell 1 0 3 open [2:0,2:7)\ncell 2 0 1 done\n",
+];
+
 /// The texts, one after another.
 fn joined(alloc: Global, texts: &[&str]) -> Result<String, AllocError> {
     let mut all = String::new(alloc);
@@ -200,6 +227,16 @@ fn frames(rt: HostRuntime) -> Result<(), Fail> {
 }
 
 #[test]
+fn legs_and_issues(rt: HostRuntime) -> Result<(), Fail> {
+    runs(
+        &rt,
+        rt.alloc(),
+        LEG_LINES.as_slice(),
+        LEG_ANSWERS.as_slice(),
+    )
+}
+
+#[test]
 fn tolerant_board(rt: HostRuntime) -> Result<(), Fail> {
     tolerant(
         &rt,
@@ -216,6 +253,16 @@ fn tolerant_frames(rt: HostRuntime) -> Result<(), Fail> {
         rt.alloc(),
         FRAME_LINES.as_slice(),
         FRAME_ANSWERS.as_slice(),
+    )
+}
+
+#[test]
+fn tolerant_legs_and_issues(rt: HostRuntime) -> Result<(), Fail> {
+    tolerant(
+        &rt,
+        rt.alloc(),
+        LEG_LINES.as_slice(),
+        LEG_ANSWERS.as_slice(),
     )
 }
 
