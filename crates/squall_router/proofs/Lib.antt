@@ -1,0 +1,8 @@
+pub mod Issued
+pub mod Newer
+pub mod Absorbed
+pub mod Cut
+pub mod Ended
+pub mod Alike
+mod Pieces
+mod Swapped

@@ -1,8 +1,9 @@
 //! Errands.
 
-ghost use Rattle.std.specs.Prelude.{◌≡◌};
+ghost use Rattle.std.specs.Prelude.{◌≡◌, Some};
 ghost use Rattle.squall_router.specs.Routers.{route_of_router};
-ghost use Rattle.squall_router.specs.Errands.{errand_from, step_of};
+ghost use Rattle.squall_router.specs.Errands.{errand_from, errand_with, step_of, step_on};
+ghost use Rattle.squall_router.specs.declared.errand.Reply.TheVariants.{Moved};
 
 use crate::router::Router;
 use squall_key::{Key, PartId};
@@ -74,8 +75,15 @@ impl Errand {
     pub fn start(router: &Router, key: Key) -> Errand
         ensures { result ≡ errand_from (route_of_router router.now key) }
     {
+        Errand::asking(router.route(key))
+    }
+
+    /// An errand that begins at the partition.
+    pub(crate) fn asking(part: PartId) -> Errand
+        ensures { result ≡ errand_from part }
+    {
         Errand {
-            asked: router.route(key),
+            asked: part,
             number: 0,
             ended: None,
         }
@@ -96,26 +104,66 @@ impl Errand {
         self.number
     }
 
+    /// How it ended, if it has.
+    fn ended(&self) -> Option<Next>
+        ensures { result ≡ self.now.ended }
+    {
+        self.ended
+    }
+
     /// Takes the reply of the partition that was asked, and says what to do. After `Served` or
     /// `Lost` it says the same for ever.
     pub fn heed(&mut self, reply: Reply) -> Next
         ensures next { result ≡ (step_of self.old reply).next }
         ensures after { self.new ≡ (step_of self.old reply).after }
     {
-        if let Some(next) = self.ended {
+        if let Some(next) = self.ended() {
             return next;
         }
-        let next = match reply {
-            Reply::Held => Next::Served,
-            Reply::Moved { dest, number } if self.number < number => {
-                self.asked = dest;
-                self.number = number;
-                return Next::Ask(dest);
-            }
-            Reply::Pending { .. } | Reply::Behind => return Next::Again(self.asked),
-            Reply::Moved { .. } | Reply::Elsewhere { .. } => Next::Lost,
-        };
-        self.ended = Some(next);
+        let before = *self;
+        let (next, after) = before.step(reply);
+        *self = after;
         next
+    }
+
+    /// The errand, ended so.
+    fn ending(self, next: Next) -> Errand
+        ensures { result ≡ errand_with self.asked self.number (Some next) }
+    {
+        Errand {
+            asked: self.asked,
+            number: self.number,
+            ended: Some(next),
+        }
+    }
+
+    /// What comes next after the reply, where the errand has not ended, and the errand after it.
+    fn step(self, reply: Reply) -> (Next, Errand)
+        ensures next { result.0 ≡ (step_on self reply).next }
+        ensures after { result.1 ≡ (step_on self reply).after }
+    {
+        match reply {
+            Reply::Held => (Next::Served, self.ending(Next::Served)),
+            Reply::Moved { dest, number } => self.sent_on(dest, number),
+            Reply::Pending { .. } | Reply::Behind => (Next::Again(self.asked), self),
+            Reply::Elsewhere { .. } => (Next::Lost, self.ending(Next::Lost)),
+        }
+    }
+
+    /// What comes next where the key went to `dest` in the reconfiguration of that number. A number
+    /// that is no greater than the last contradicts it: a key moves on under greater numbers only.
+    fn sent_on(self, dest: PartId, number: u32) -> (Next, Errand)
+        ensures next { result.0 ≡ (step_on self (Moved dest number)).next }
+        ensures after { result.1 ≡ (step_on self (Moved dest number)).after }
+    {
+        if number <= self.number {
+            return (Next::Lost, self.ending(Next::Lost));
+        }
+        let errand = Errand {
+            asked: dest,
+            number,
+            ended: None,
+        };
+        (Next::Ask(dest), errand)
     }
 }

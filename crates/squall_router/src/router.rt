@@ -1,21 +1,24 @@
 //! Routers.
 
-ghost use Rattle.std.specs.Prelude.{◌≡◌, ◌++◌, List, IfOk, OnOk, OnErr};
+ghost use Rattle.std.specs.Prelude.{◌≡◌, ◌++◌, List, IfOk, OnOk, OnErr, option_map, unwrap_or};
 ghost use Rattle.std.specs.Arc.{arc_value};
 ghost use Rattle.squall_course.specs.Change.{ArePlans};
 ghost use Rattle.squall_report.specs.declared.report.ReportKind.{ReportKind};
 ghost use Rattle.squall_report.specs.Issues.{PlanPair};
 ghost use Rattle.squall_report.specs.Told.{TellsBoth};
 ghost use Rattle.squall_board.specs.Boards.{IsBoard, HasTaken, empty_board, board_join, told};
+ghost use Rattle.squall_board.specs.CourseRoute.{course_by, course_of_board};
 ghost use Rattle.squall_table.specs.Tables.{AreLegs, legs_between};
 ghost use Rattle.squall_router.specs.Routers.{router_with, course_of_router, route_of_router, IsTableOf};
 
+use crate::issues::{both_issues, issues_nothing};
 use squall_board::{Board, Delta};
 use squall_course::Course;
 use squall_join::Shared;
 use squall_key::{Key, PartId};
+use squall_report::Issue;
 use squall_span::Span;
-use squall_table::{Leg, RouteTable};
+use squall_table::{Leg, RouteTable, legs_are_key_by_key};
 use std::alloc::{AllocError, Global};
 use std::marker::Model;
 use std::sync::Arc;
@@ -26,6 +29,7 @@ use std::sync::Arc;
 /// Contracts see a router as its first course and its board: what it answers is determined by both.
 #[derive(Drop)]
 pub struct Router {
+    alloc: Global,
     first: Shared<Course>,
     course: Shared<Course>,
     board: Board,
@@ -42,6 +46,38 @@ impl Model for Router {
     ghost invariant = { λ r. InStep (router_with r.first r.board) r.course r.table };
 }
 
+/// The newest issue after a first course, where there is one, with its number.
+type Newest<'a> = Option<(u32, &'a Arc<Issue>)>;
+
+/// The number of the newest course, or of the first where none is newer.
+fn number_of(first: &Course, newest: &Newest<'_>) -> u32
+    ensures { result ≡ (course_by first.now (option_map (λ e. (e.0, arc_value e.1.now)) newest.now)).number }
+{
+    match newest {
+        Some((number, _)) => *number,
+        None => first.number(),
+    }
+}
+
+/// The newest course, or the first again where none is newer. It fails where an allocation fails,
+/// or where the count of the first's owners is full.
+fn course_of(
+    alloc: Global,
+    first: &Shared<Course>,
+    newest: &Newest<'_>,
+) -> Result<Shared<Course>, AllocError>
+    ensures { IfOk result (λ c. c ≡ course_by first.now (option_map (λ e. (e.0, arc_value e.1.now)) newest.now)) }
+{
+    let Some((number, issue)) = newest else {
+        return first.again();
+    };
+    // Nothing is issued under the number 0, so no fault of a course is left but the want of memory.
+    match Course::new(alloc, *number, issue.old(), issue.new_plan()) {
+        Ok(course) => Ok(Shared::new(Arc::new(alloc, course)?)),
+        Err(_) => Err(AllocError),
+    }
+}
+
 impl Router {
     /// A router that has heard nothing: it goes by the first course, and sends each key to its old
     /// partition. It fails where an allocation fails, or where the count of the course's owners is
@@ -49,8 +85,17 @@ impl Router {
     pub fn new(alloc: Global, first: &Arc<Course>) -> Result<Router, AllocError>
         ensures { IfOk result (λ r. r ≡ router_with (arc_value first.now) empty_board) }
     {
-        let _ = (alloc, first);
-        Err(AllocError)
+        let board = Board::new(alloc);
+        let table = RouteTable::build(alloc, first, &board)?;
+        let first = Shared::new(Arc::try_clone(first)?);
+        let course = first.again()?;
+        Ok(Router {
+            alloc,
+            first,
+            course,
+            board,
+            table,
+        })
     }
 
     /// Changes nothing: after it a proof knows what holds of every router.
@@ -60,6 +105,8 @@ impl Router {
         ensures course { ArePlans (course_of_router self.now).old (course_of_router self.now).new }
     {
         self.board.known();
+        let _first = self.first.as_arc().old_plan();
+        let _course = self.course.as_arc().old_plan();
     }
 
     /// Takes all that the delta tells, and answers from then on by both: it patches its table where
@@ -74,8 +121,50 @@ impl Router {
         ensures taken { OnOk result ((rs qs : List (ReportKind PlanPair)) → HasTaken self.old.board rs → HasTaken delta.now qs → HasTaken self.new.board (rs ++ qs)) }
         ensures err { OnErr result (self.new ≡ self.old) }
     {
-        let _ = delta;
-        Err(AllocError)
+        self.board.known();
+        delta.known();
+        let news = delta.beyond(self.alloc, &self.board)?;
+        news.known();
+        match self.other_course(&news)? {
+            Some(course) => self.turn_to(course, &news),
+            None => self
+                .table
+                .absorb(self.course.as_arc(), &mut self.board, &news),
+        }
+    }
+
+    /// The course that the router has to go by once it takes the news, where that is another than it
+    /// goes by. What is issued decides it, so nothing else of the board is looked at.
+    fn other_course(&self, news: &Delta) -> Result<Option<Shared<Course>>, AllocError>
+        ensures { IfOk result (λ other. unwrap_or other (course_of_router self.now) ≡ course_of_board self.now.first (board_join self.now.board news.now)) }
+    {
+        self.board.known();
+        news.known();
+        if issues_nothing(news)? {
+            return Ok(None);
+        }
+        let issues = both_issues(self.alloc, &self.board, news)?;
+        issues.known();
+        let newest = issues.newest(self.first.as_arc());
+        if number_of(self.first.as_arc(), &newest) == self.course.as_arc().number() {
+            return Ok(None);
+        }
+        Ok(Some(course_of(self.alloc, &self.first, &newest)?))
+    }
+
+    /// Takes the news, and goes by the course from then on.
+    fn turn_to(&mut self, course: Shared<Course>, news: &Delta) -> Result<(), AllocError>
+        requires { course ≡ course_of_board self.old.first (board_join self.old.board news.now) }
+        ensures ok { OnOk result (self.new ≡ router_with self.old.first (board_join self.old.board news.now)) }
+        ensures err { OnErr result (self.new ≡ self.old) }
+    {
+        let mut board = self.board.copied(self.alloc)?;
+        board.merge(news)?;
+        let table = RouteTable::build(self.alloc, course.as_arc(), &board)?;
+        self.course = course;
+        self.board = board;
+        self.table = table;
+        Ok(())
     }
 
     /// The course with which the router was made.
@@ -107,6 +196,9 @@ impl Router {
         ensures legs { IfOk result (λ legs. AreLegs (route_of_router self.now) span.now.lo span.now.hi legs.items) }
         ensures value { IfOk result (λ legs. legs.items ≡ legs_between (route_of_router self.now) span.now.lo span.now.hi) }
     {
+        // The proof learns that the span ends at the top at most, so that the table has its keys.
+        let _ = (span.lo(), span.hi());
+        legs_are_key_by_key();
         self.table.legs(alloc, span)
     }
 

@@ -1,0 +1,57 @@
+//! What is issued by one board or another.
+
+ghost use Rattle.std.specs.Prelude.{◌≡◌, ◌≤◌, ℕ, map, IfOk, OnOk, IsTrue};
+ghost use Rattle.std.specs.List.{AllByRecursion};
+ghost use Rattle.std.specs.Arc.{arc_value};
+ghost use Rattle.squall_join.specs.declared.flat.Flat.TheVariants.{Unknown};
+ghost use Rattle.squall_join.specs.Flats.{flat_map};
+ghost use Rattle.squall_report.specs.Told.{both_issued};
+ghost use Rattle.squall_board.specs.Boards.{issued};
+ghost use Rattle.squall_board.specs.Listed.{entries_issue};
+
+use squall_board::Board;
+use squall_join::Flat;
+use squall_report::Issue;
+use std::alloc::{AllocError, Global};
+use std::sync::Arc;
+
+/// Puts in each of the issues under its number. It fails where an allocation fails, or where the
+/// count of an issue's owners is full.
+fn put_entries(board: &mut Board, entries: &[(u32, Flat<Arc<Issue>>)]) -> Result<(), AllocError>
+    requires { AllByRecursion (λ e. 1 ≤ e.0) entries.now }
+    ensures { OnOk result ((n : ℕ) → issued board.new n ≡ both_issued (issued board.old n) (entries_issue (map (λ e. (e.0, flat_map arc_value e.1)) entries.now) n)) }
+{
+    for entry in entries {
+        board.put_issue(entry.0, &entry.1)?;
+    }
+    Ok(())
+}
+
+/// Puts in what the other board issues, and nothing else. It fails where an allocation fails, or
+/// where the count of an issue's owners is full.
+fn put_issues(board: &mut Board, from: &Board) -> Result<(), AllocError>
+    ensures { OnOk result ((n : ℕ) → issued board.new n ≡ both_issued (issued board.old n) (issued from.now n)) }
+{
+    let issues = from.issues()?;
+    put_entries(board, &issues)
+}
+
+/// A board that issues what both issue, and says nothing. It fails where an allocation fails, or
+/// where the count of an issue's owners is full.
+pub(crate) fn both_issues(alloc: Global, first: &Board, second: &Board) -> Result<Board, AllocError>
+    ensures { IfOk result (λ b. (n : ℕ) → issued b n ≡ both_issued (issued first.now n) (issued second.now n)) }
+{
+    let mut board = Board::new(alloc);
+    put_issues(&mut board, first)?;
+    put_issues(&mut board, second)?;
+    Ok(board)
+}
+
+/// Whether the board issues nothing. It fails where an allocation fails, or where the count of an
+/// issue's owners is full.
+pub(crate) fn issues_nothing(board: &Board) -> Result<bool, AllocError>
+    ensures { IfOk result (λ none. IsTrue none → (n : ℕ) → issued board.now n ≡ Unknown) }
+{
+    let issues = board.issues()?;
+    Ok(issues.is_empty())
+}
