@@ -16,7 +16,6 @@ ghost use Rattle.squall_router.specs.Routers.{course_of_router, route_of_router,
 ghost use Rattle.squall_router.specs.Errands.{ErrandValue, step_of, answers_of};
 
 use crate::router::Router;
-use squall_plan::one_list;
 
 /// Once an errand answers that the key is served, or lost, it answers the same for ever, whatever is
 /// replied.
@@ -43,7 +42,6 @@ pub fn same_told_same_routers(one: &Router, other: &Router)
 {
     one.known();
     other.known();
-    one_list();
 }
 
 /// Once each key that moves by a router's course has come, its table is the list of the new plan's
@@ -52,5 +50,4 @@ pub fn all_in_is_the_new_plan(router: &Router)
     ensures { (ls : List PlanRange) → ((k : ℕ) → k < top → moves (course_of_router router.now).old (course_of_router router.now).new k ≡ true → has_come (course_of_router router.now) (says router.now.board) k ≡ true) → IsTableOf router.now ls → ls ≡ (course_of_router router.now).new }
 {
     router.known();
-    one_list();
 }

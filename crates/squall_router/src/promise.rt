@@ -14,7 +14,6 @@ ghost use Rattle.squall_router.specs.Ways.{Way, reports_of, LeadTo, BringTheSame
 
 use crate::router::Router;
 use squall_board::Board;
-use squall_plan::one_list;
 
 /// Whatever calls bring the same reports to two boards, one by one, in lists, in merged boards, or
 /// in frames that were encoded, cut anywhere, pushed into a feed and absorbed, in whatever order and
@@ -47,5 +46,4 @@ pub fn headline(a: &Board, b: &Board, one: &Router, other: &Router)
     b.known();
     one.known();
     other.known();
-    one_list();
 }

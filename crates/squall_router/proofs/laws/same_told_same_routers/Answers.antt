@@ -10,4 +10,4 @@ pub returns-clause-routes : goal.returns-clause-routes
 returns-clause-routes c firsts same k = ap (λ (r : RouterValue). route_of_router r k) (same_routers c.args.one.now c.args.other.now c.known.ensures.board c.known-2.ensures.board firsts same)
 
 pub returns-clause-tables : goal.returns-clause-tables
-returns-clause-tables c firsts same = same_tables c.one_list.ensures c.args.one.now c.args.other.now (same_routers c.args.one.now c.args.other.now c.known.ensures.board c.known-2.ensures.board firsts same)
+returns-clause-tables c firsts same = same_tables c.args.one.now c.args.other.now (same_routers c.args.one.now c.args.other.now c.known.ensures.board c.known-2.ensures.board firsts same)

@@ -1,5 +1,7 @@
 use Rattle.std.specs.Prelude.{◌≡◌, ℕ}
-use Rattle.std.proofs.Common.{sym, ap, subst, ◌∙◌, arith}
+use Rattle.std.proofs.Common.{sym, ap, subst, ◌∙◌}
+use Rattle.squall_key.specs.Keys.{top}
+use Rattle.squall_table.specs.TableLaws.{one_list}
 use Rattle.squall_course.specs.Change.{Change}
 use Rattle.squall_report.specs.Facts.{reports_say}
 use Rattle.squall_board.specs.CourseRoute.{course_of_reports, route_by_newest}
@@ -25,7 +27,7 @@ returns-clause-tables c ws vs legs entries first f g same t u =
     let one = c.args.one.now in
     let other = c.args.other.now in
     let boards : one.board ≡ other.board = same_boards ws vs one.board other.board c.known-3.ensures.board c.known-4.ensures.board f g same in
-    c.one_list.ensures legs entries (record { tiles = t.tiles; differ = t.differ }) (record { tiles = u.tiles; differ = u.differ }) (λ k below. t.routes k (omega arith) below ∙ ap (λ (x : Change). route_by_newest x one.board k) first ∙ ap (λ (b : BoardValue). route_by_newest other.first b k) boards ∙ sym (u.routes k (omega arith) below))
+    one_list (route_by_newest one.first one.board) (route_by_newest other.first other.board) 0 top legs entries (λ k from below. ap (λ (x : Change). route_by_newest x one.board k) first ∙ ap (λ (b : BoardValue). route_by_newest other.first b k) boards) t u
 
 pub returns-clause-routes : goal.returns-clause-routes
 returns-clause-routes c ws k leads below =
