@@ -82,7 +82,11 @@ fn head_of(spans: &[Span], at: usize, bound: Bound) -> Option<Span>
     requires ended { Ended spans.now bound at }
     ensures { take at spans.now ++ option_to_list result ≡ keys_below bound spans.now }
 {
-    if at < spans.len() { Span::new(spans[at].lo(), bound) } else { None }
+    if at < spans.len() {
+        Span::new(spans[at].lo(), bound)
+    } else {
+        None
+    }
 }
 
 /// Cuts off what lies below the bound of the span at a place, the first that ends beyond it.

@@ -1,6 +1,6 @@
 //! Sets of keys with room for more spans.
 
-ghost use Rattle.std.specs.Prelude.{◌≡◌, ℕ, ◌+◌, ◌<◌, ◌≤◌, ◌&&◌, ◌||◌, not, vec_len, vec_capacity};
+ghost use Rattle.std.specs.Prelude.{◌≡◌, ℕ, ◌+◌, ◌-◌, ◌<◌, ◌≤◌, ◌&&◌, ◌||◌, not, vec_len, vec_capacity};
 ghost use Rattle.squall_span.specs.Spans.{has, span_has, IsSet, insert_span, without_span};
 
 use crate::edit::{insert_ready, remove_ready};
@@ -36,11 +36,10 @@ impl Model for ReadySet {
 
 impl ReadySet {
     /// The set of these spans, with the room that the vector has.
-    pub(crate) fn of_spans(spans: Vec<Span>, more: usize) -> ReadySet
-        requires set { IsSet spans.items }
-        requires room { vec_len spans + more ≤ vec_capacity spans }
+    pub(crate) fn of_spans(spans: Vec<Span>) -> ReadySet
+        requires { IsSet spans.items }
         ensures set { result.set ≡ spans.items }
-        ensures room { more ≤ result.room }
+        ensures room { result.room ≡ vec_capacity spans - vec_len spans }
     {
         ReadySet { spans }
     }
@@ -51,6 +50,13 @@ impl ReadySet {
         ensures set { IsSet result.now }
     {
         &self.spans
+    }
+
+    /// How many more spans the set has room for.
+    pub fn room(&self) -> usize
+        ensures { result ≡ self.now.room }
+    {
+        self.spans.capacity() - self.spans.len()
     }
 
     /// Adds the keys of a span, in room that is there.

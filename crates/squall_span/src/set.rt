@@ -197,7 +197,7 @@ impl SpanSet {
     {
         let mut spans = self.spans;
         match spans.reserve(more) {
-            Ok(()) => Ok(ReadySet::of_spans(spans, more)),
+            Ok(()) => Ok(ReadySet::of_spans(spans)),
             Err(_) => Err(SpanSet { spans }),
         }
     }
