@@ -5,6 +5,7 @@ pub mod Sweeping
 pub mod Walking
 pub mod Inserting
 pub mod Cutting
+pub mod Removing
 pub mod Counting
 pub mod Equality
 pub mod Made

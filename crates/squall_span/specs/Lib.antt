@@ -2,3 +2,4 @@ pub mod Spans
 pub mod SpanLaws
 pub mod Places
 pub mod Sweeps
+pub mod Ready

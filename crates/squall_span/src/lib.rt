@@ -6,6 +6,7 @@
 
 mod edit;
 mod laws;
+mod ready;
 mod search;
 mod set;
 mod span;
@@ -16,6 +17,7 @@ pub use laws::{
     equality_is_exact, first_span_is_longest, insert_adds_the_span, lengths_count_keys,
     meet_is_a_set, minus_is_a_set, same_keys_same_set, split_makes_sets, union_has_both,
 };
+pub use ready::ReadySet;
 pub use set::SpanSet;
 pub use span::Span;
 

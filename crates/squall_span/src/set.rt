@@ -1,11 +1,12 @@
 //! Sets of keys.
 
-ghost use Rattle.std.specs.Prelude.{◌≡◌, ◌↔◌, ℕ, ◌+◌, ◌-◌, ◌<◌, ◌≤◌, ◌&&◌, ◌||◌, not, min, true, false, nat_lt, nat_le, List, [], ◌∷◌, IsTrue, IfOk, IfSome, OnOk, OnErr};
+ghost use Rattle.std.specs.Prelude.{◌≡◌, ◌↔◌, ℕ, ◌+◌, ◌-◌, ◌<◌, ◌≤◌, ◌&&◌, ◌||◌, not, min, true, false, nat_lt, nat_le, List, [], ◌∷◌, IsTrue, IfOk, IfErr, IfSome, OnOk, OnErr};
 ghost use Rattle.squall_key.specs.Keys.{top};
-ghost use Rattle.squall_span.specs.Spans.{Interval, has, span_has, IsSet, union, minus, meet, keys_below, keys_from, insert_span, first_keys, total_length, how_many, spans_eq};
+ghost use Rattle.squall_span.specs.Spans.{Interval, has, span_has, IsSet, union, minus, meet, keys_below, keys_from, insert_span, without_span, first_keys, total_length, how_many, spans_eq};
 ghost use Rattle.squall_span.specs.SpanLaws.{spans_eq-laws, spans_eq-equivalence};
 
-use crate::edit::{cut, insert};
+use crate::edit::{cut, insert, remove};
+use crate::ready::ReadySet;
 use crate::search::ended;
 use crate::span::Span;
 use crate::sweep::{Keep, merge, sweep};
@@ -41,6 +42,14 @@ impl SpanSet {
         SpanSet {
             spans: Vec::new(alloc),
         }
+    }
+
+    /// The set of these spans.
+    pub(crate) fn of_spans(spans: Vec<Span>) -> SpanSet
+        requires { IsSet spans.items }
+        ensures { result ≡ spans.items }
+    {
+        SpanSet { spans }
     }
 
     /// The set of the keys of a span. It fails only where an allocation fails.
@@ -168,6 +177,29 @@ impl SpanSet {
         ensures err { OnErr result (self.new ≡ self.old) }
     {
         insert(&mut self.spans, span)
+    }
+
+    /// Removes the keys of a span. It fails only where an allocation fails, and then the set is as
+    /// it was.
+    pub fn remove(&mut self, span: Span) -> Result<(), AllocError>
+        ensures value { OnOk result (self.new ≡ without_span span self.old) }
+        ensures keys { OnOk result ((k : ℕ) → has self.new k ≡ (has self.old k && not (span_has span k))) }
+        ensures err { OnErr result (self.new ≡ self.old) }
+    {
+        remove(&mut self.spans, span)
+    }
+
+    /// The set with room for so many more spans. Where an allocation fails the set is handed back
+    /// as it was.
+    pub fn with_room(self, more: usize) -> Result<ReadySet, SpanSet>
+        ensures ok { IfOk result (λ r. (r.set ≡ self) × (more ≤ r.room)) }
+        ensures err { IfErr result (λ s. s ≡ self) }
+    {
+        let mut spans = self.spans;
+        match spans.reserve(more) {
+            Ok(()) => Ok(ReadySet::of_spans(spans)),
+            Err(_) => Err(SpanSet { spans }),
+        }
     }
 }
 

@@ -2,6 +2,8 @@
 
 mod clients;
 mod plain;
+mod ready;
+mod removal;
 mod tolerant;
 
 use crate::{Span, SpanSet};

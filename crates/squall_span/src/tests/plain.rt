@@ -159,6 +159,23 @@ fn inserts(rt: HostRuntime) -> Result<(), Fail> {
 }
 
 #[test]
+fn removals(rt: HostRuntime) -> Result<(), Fail> {
+    let mut state = 7u32;
+    for _ in 0..ROUNDS {
+        let a = mask(state);
+        let lo = state % 20;
+        let length = (state >> 20) % 9 + 1;
+        state = next(state);
+        let mut set = made(&rt, rt.alloc(), a)?;
+        set.remove(span(&rt, lo, lo + length))?;
+        let wanted = a & !between(u64::from(lo), u64::from(lo + length));
+        assert!(rt; mask_of(&set) == wanted);
+        assert!(rt; set == made(&rt, rt.alloc(), wanted)?);
+    }
+    Ok(())
+}
+
+#[test]
 fn first_keys(rt: HostRuntime) -> Result<(), Fail> {
     let mut state = 5u32;
     for _ in 0..ROUNDS {

@@ -124,3 +124,45 @@ fn tolerant_split_at(rt: HostRuntime) -> Result<(), Fail> {
     assert!(rt; set == before);
     Ok(())
 }
+
+/// One long span, of which much can be cut out.
+fn long(rt: &impl Abort, alloc: Global) -> Result<SpanSet, AllocError> {
+    let mut set = SpanSet::empty(alloc);
+    set.insert(span(rt, 0, 1000))?;
+    Ok(set)
+}
+
+#[test]
+fn tolerant_remove(rt: HostRuntime) -> Result<(), Fail> {
+    let Ok(mut set) = long(&rt, rt.alloc()) else {
+        return Ok(());
+    };
+    for place in 0..20u64 {
+        let Ok(before) = set.copied(rt.alloc()) else {
+            return Ok(());
+        };
+        if set.remove(span(&rt, 10 * place, 10 * place + 5)).is_err() {
+            assert!(rt; set == before);
+            return Ok(());
+        }
+        assert!(rt; before.covers(&set) && !set.covers(&before));
+    }
+    assert!(rt; set.count() == 900);
+    Ok(())
+}
+
+#[test]
+fn tolerant_with_room(rt: HostRuntime) -> Result<(), Fail> {
+    let (Ok(set), Ok(before)) = (few(&rt, rt.alloc(), 0), few(&rt, rt.alloc(), 0)) else {
+        return Ok(());
+    };
+    match set.with_room(2) {
+        Ok(mut ready) => {
+            ready.insert(span(&rt, 70, 73));
+            ready.remove(span(&rt, 2, 3));
+            assert!(rt; ready.into_set().count() == 38);
+        }
+        Err(set) => assert!(rt; set == before),
+    }
+    Ok(())
+}
