@@ -1,7 +1,7 @@
 use Rattle.std.proofs.Common.{◌≡◌, ◌<◌, List, length, ap, ◌∙◌, arith}
 use Rattle.std.proofs.lemmas.Bool.Decides.{nat_tests}
 use Rattle.std.proofs.lemmas.List.{get_or_default}
-use Rattle.squall_key.specs.Search.{turn_first, turn_next, turn_last}
+use Rattle.squall_key.specs.SearchLaws.{turn_first, turn_next, turn_last}
 use Rattle.squall_plan.specs.declared.range.PlanRange.{PlanRange}
 use Rattle.squall_plan.specs.Ranges.{end_at, no_range}
 use Rattle.squall_plan.proofs.Places.{ends_rise_by_place}

@@ -1,5 +1,5 @@
 use Rattle.std.proofs.Common.{◌+◌, ◌-◌, List, length, arith}
-use Rattle.squall_key.specs.Search.{quartered}
+use Rattle.squall_key.specs.SearchLaws.{quartered}
 use Rattle.squall_plan.specs.declared.range.PlanRange.{PlanRange}
 use Rattle.squall_plan.specs.Ranges.{end_at}
 use Rattle.squall_plan.proofs.Places.{ends_rise_by_place, back_at}

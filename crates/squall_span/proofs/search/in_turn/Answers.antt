@@ -1,6 +1,6 @@
 use Rattle.std.proofs.Common.{◌≡◌, ◌<◌, List, length, ap, ◌∙◌, arith}
 use Rattle.std.proofs.lemmas.Bool.Decides.{nat_tests}
-use Rattle.squall_key.specs.Search.{turn_first, turn_next, turn_last}
+use Rattle.squall_key.specs.SearchLaws.{turn_first, turn_next, turn_last}
 use Rattle.squall_span.specs.Spans.{Interval, interval}
 use Rattle.squall_span.specs.Places.{end_at}
 use Rattle.std.proofs.lemmas.List.{get_or_default}

@@ -1,5 +1,5 @@
 use Rattle.std.proofs.Common.{◌+◌, ◌-◌, List, length, arith}
-use Rattle.squall_key.specs.Search.{quartered}
+use Rattle.squall_key.specs.SearchLaws.{quartered}
 use Rattle.squall_span.specs.Spans.{Interval}
 use Rattle.squall_span.specs.Places.{end_at}
 use Rattle.squall_span.proofs.Places.{ends_rise_by_place, back_at}
