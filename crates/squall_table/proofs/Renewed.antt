@@ -108,10 +108,10 @@ pub absorbed_legs : (c : Change) (before after d : BoardValue) (set : List Inter
     → Legs (renewed set (route_by_moves c.number ls ms said) (owner_of ls)) 0 top new → Legs (route c (says after)) 0 top new
 absorbed_legs c before after d set ls new ms said are all is touched both changes l = legs_as _ (route c (says after)) 0 top new (λ k from lt. sym (chosen (has set k) _ _ _
     (λ in_it.
-        let come : has_come c (says d) k ≡ true = (and_parts (moves c.old c.new k) (has_come c (says d) k) (sym (touched k) ∙ in_it)).1 in
-        by_table c before ls ms said k are is lt
-        ∙ all_come c said k (ap (λ t. t || said (DonePart (place_of_key c k))) (all (LoadedKey (place_of_key c k) k)))
-        ∙ sym (all_come c (says after) k ((λ i. both.facts (LoadedKey (place_of_key c k) k) i || both.facts (DonePart (place_of_key c k)) i) ∙ either (says before (LoadedKey (place_of_key c k) k)) (says d (LoadedKey (place_of_key c k) k)) (says before (DonePart (place_of_key c k))) (says d (DonePart (place_of_key c k))) come)))
+    let come : has_come c (says d) k ≡ true = (and_parts (moves c.old c.new k) (has_come c (says d) k) (sym (touched k) ∙ in_it)).1 in
+    by_table c before ls ms said k are is lt
+    ∙ all_come c said k (ap (λ t. t || said (DonePart (place_of_key c k))) (all (LoadedKey (place_of_key c k) k)))
+    ∙ sym (all_come c (says after) k ((λ i. both.facts (LoadedKey (place_of_key c k) k) i || both.facts (DonePart (place_of_key c k)) i) ∙ either (says before (LoadedKey (place_of_key c k) k)) (says d (LoadedKey (place_of_key c k) k)) (says before (DonePart (place_of_key c k))) (says d (DonePart (place_of_key c k))) come)))
     (λ out. is.routes k (omega arith) lt ∙ changes k lt out))) l
   where
     either : (a b c d : Bool) → (b || d) ≡ true → ((a || b) || (c || d)) ≡ true
