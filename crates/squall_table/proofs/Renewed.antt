@@ -1,7 +1,7 @@
 -- The routes of a table that was renewed for a set of keys.
-use Rattle.std.proofs.Common.{◌≡◌, ℕ, zero, suc, ◌+◌, ◌*◌, ◌<◌, ◌≤◌, Bool, true, false, cond, nat_eq, List, [], ◌∷◌, ◌++◌, length, refl, sym, ap, subst, ◌∙◌, arith, inl, inr, length-append}
-use Rattle.std.specs.Prelude.{◌==◌, ◌||◌, ◌&&◌, not, map, None, Some}
-use Rattle.std.specs.List.{flat_map, splice}
+use Rattle.std.proofs.Common.{◌≡◌, ℕ, ◌*◌, ◌<◌, ◌≤◌, Bool, true, false, cond, nat_eq, List, [], ◌∷◌, length, refl, sym, ap, subst, ◌∙◌, arith, inl, inr, length-append}
+use Rattle.std.specs.Prelude.{◌==◌, ◌||◌, ◌&&◌, not, None, Some}
+use Rattle.std.specs.List.{splice}
 use Rattle.std.proofs.lemmas.Bool.{cases_Bool, and_parts}
 use Rattle.std.proofs.lemmas.Bool.Decides.{nat_tests}
 use Rattle.std.proofs.lemmas.List.{length-map, take_all}
@@ -20,9 +20,9 @@ use Rattle.squall_board.specs.Boards.{BoardValue, says, told}
 use Rattle.squall_board.specs.Route.{has_come, route, place_of_key}
 use Rattle.squall_board.specs.MovesRoute.{route_in_move, route_by_moves}
 use Rattle.squall_board.specs.MovesRouteLaws.{route_by_moves_is}
-use Rattle.squall_table.specs.Tables.{IsTable, AreLegs}
+use Rattle.squall_table.specs.Tables.{IsTable}
 use Rattle.squall_table.specs.Legs.{Legs}
-use Rattle.squall_table.specs.LegLaws.{legs_as, legs_are, owner_is}
+use Rattle.squall_table.specs.LegLaws.{legs_as, owner_is}
 use Rattle.squall_table.specs.Touched.{is_touched, ChangesWithin, WasTable}
 use Rattle.squall_table.specs.Patching.{renewed}
 use Rattle.squall_table.specs.Reach.{is_shared, moves_in}
