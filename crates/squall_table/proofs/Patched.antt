@@ -1,10 +1,10 @@
 -- A table with some legs replaced.
-use Rattle.std.proofs.Common.{◌≡◌, ◌≢◌, ℕ, zero, suc, ◌+◌, ◌-◌, ◌<◌, ◌≤◌, Bool, true, false, cond, List, [], ◌∷◌, ◌++◌, length, get_or, take, drop, refl, sym, ap, subst, ◌∙◌, arith, inl, inr}
+use Rattle.std.proofs.Common.{◌≡◌, ◌≢◌, ℕ, zero, suc, ◌+◌, ◌-◌, ◌<◌, ◌≤◌, false, cond, List, [], ◌∷◌, ◌++◌, length, get_or, take, drop, refl, sym, ap, subst, ◌∙◌, arith, inl, inr}
 use Rattle.std.specs.List.{splice}
-use Rattle.std.proofs.lemmas.Bool.{cases_lt, cases_Bool}
+use Rattle.std.proofs.lemmas.Bool.{cases_lt}
 use Rattle.std.proofs.lemmas.List.{drop_all, get_or_default}
 use Rattle.squall_key.specs.Keys.{top}
-use Rattle.squall_span.specs.Spans.{Interval, has, Beyond, IsCanonical, IsSet, EndsBy}
+use Rattle.squall_span.specs.Spans.{Interval, has, IsCanonical, IsSet, EndsBy}
 use Rattle.squall_span.specs.SpanLaws.{outside_below, has_below, has_ended}
 use Rattle.squall_plan.specs.declared.range.PlanRange.{PlanRange}
 use Rattle.squall_plan.specs.Ranges.{owner_of}

@@ -1,7 +1,7 @@
 -- The routes of a table that was renewed for a set of keys.
-use Rattle.std.proofs.Common.{◌≡◌, ℕ, zero, suc, ◌+◌, ◌*◌, ◌<◌, ◌≤◌, Bool, true, false, cond, nat_eq, List, [], ◌∷◌, ◌++◌, length, refl, sym, ap, subst, ◌∙◌, arith, inl, inr, length-append}
-use Rattle.std.specs.Prelude.{◌==◌, ◌||◌, ◌&&◌, not, map, None, Some}
-use Rattle.std.specs.List.{flat_map, splice}
+use Rattle.std.proofs.Common.{◌≡◌, ℕ, ◌*◌, ◌<◌, ◌≤◌, Bool, true, false, cond, nat_eq, List, [], ◌∷◌, length, refl, sym, ap, subst, ◌∙◌, arith, inl, inr, length-append}
+use Rattle.std.specs.Prelude.{◌==◌, ◌||◌, ◌&&◌, not, None, Some}
+use Rattle.std.specs.List.{splice}
 use Rattle.std.proofs.lemmas.Bool.{cases_Bool, and_parts}
 use Rattle.std.proofs.lemmas.Bool.Decides.{nat_tests}
 use Rattle.std.proofs.lemmas.List.{length-map, take_all}
@@ -20,9 +20,9 @@ use Rattle.squall_board.specs.Boards.{BoardValue, says, told}
 use Rattle.squall_board.specs.Route.{has_come, route, place_of_key}
 use Rattle.squall_board.specs.MovesRoute.{route_in_move, route_by_moves}
 use Rattle.squall_board.specs.MovesRouteLaws.{route_by_moves_is}
-use Rattle.squall_table.specs.Tables.{IsTable, AreLegs}
+use Rattle.squall_table.specs.Tables.{IsTable}
 use Rattle.squall_table.specs.Legs.{Legs}
-use Rattle.squall_table.specs.LegLaws.{legs_as, legs_are, owner_is}
+use Rattle.squall_table.specs.LegLaws.{legs_as, owner_is}
 use Rattle.squall_table.specs.Touched.{is_touched, ChangesWithin, WasTable}
 use Rattle.squall_table.specs.Patching.{renewed}
 use Rattle.squall_table.specs.Reach.{is_shared, moves_in}
@@ -108,10 +108,10 @@ pub absorbed_legs : (c : Change) (before after d : BoardValue) (set : List Inter
     → Legs (renewed set (route_by_moves c.number ls ms said) (owner_of ls)) 0 top new → Legs (route c (says after)) 0 top new
 absorbed_legs c before after d set ls new ms said are all is touched both changes l = legs_as _ (route c (says after)) 0 top new (λ k from lt. sym (chosen (has set k) _ _ _
     (λ in_it.
-        let come : has_come c (says d) k ≡ true = (and_parts (moves c.old c.new k) (has_come c (says d) k) (sym (touched k) ∙ in_it)).1 in
-        by_table c before ls ms said k are is lt
-        ∙ all_come c said k (ap (λ t. t || said (DonePart (place_of_key c k))) (all (LoadedKey (place_of_key c k) k)))
-        ∙ sym (all_come c (says after) k ((λ i. both.facts (LoadedKey (place_of_key c k) k) i || both.facts (DonePart (place_of_key c k)) i) ∙ either (says before (LoadedKey (place_of_key c k) k)) (says d (LoadedKey (place_of_key c k) k)) (says before (DonePart (place_of_key c k))) (says d (DonePart (place_of_key c k))) come)))
+    let come : has_come c (says d) k ≡ true = (and_parts (moves c.old c.new k) (has_come c (says d) k) (sym (touched k) ∙ in_it)).1 in
+    by_table c before ls ms said k are is lt
+    ∙ all_come c said k (ap (λ t. t || said (DonePart (place_of_key c k))) (all (LoadedKey (place_of_key c k) k)))
+    ∙ sym (all_come c (says after) k ((λ i. both.facts (LoadedKey (place_of_key c k) k) i || both.facts (DonePart (place_of_key c k)) i) ∙ either (says before (LoadedKey (place_of_key c k) k)) (says d (LoadedKey (place_of_key c k) k)) (says before (DonePart (place_of_key c k))) (says d (DonePart (place_of_key c k))) come)))
     (λ out. is.routes k (omega arith) lt ∙ changes k lt out))) l
   where
     either : (a b c d : Bool) → (b || d) ≡ true → ((a || b) || (c || d)) ≡ true

@@ -163,7 +163,10 @@ fn absorbed(
     table.absorb(course, &mut board, first)?;
     table.absorb(course, &mut board, second)?;
     let other = RouteTable::build(alloc, course, &board)?;
-    Ok((shown(alloc, table.entries())?, shown(alloc, other.entries())?))
+    Ok((
+        shown(alloc, table.entries())?,
+        shown(alloc, other.entries())?,
+    ))
 }
 
 #[test]

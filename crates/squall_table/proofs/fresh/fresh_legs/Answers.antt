@@ -1,4 +1,4 @@
-use Rattle.std.proofs.Common.{◌≡◌, ◌+◌, ◌-◌, ℕ, subst, arith}
+use Rattle.std.proofs.Common.{◌+◌, ℕ, subst}
 use Rattle.squall_span.specs.Spans.{Interval}
 use Rattle.squall_plan.specs.Ranges.{owner_of}
 use Rattle.squall_board.specs.MovesRoute.{route_by_moves}

@@ -1,4 +1,4 @@
-use Rattle.std.proofs.Common.{◌≡◌, ℕ, List, [], length, arith, sym, ap, subst, ◌∙◌}
+use Rattle.std.proofs.Common.{◌≡◌, List, [], arith, sym, ap, subst, ◌∙◌}
 use Rattle.squall_course.specs.declared.moving.Move.{Move}
 use Rattle.squall_plan.specs.declared.range.PlanRange.{PlanRange}
 use Rattle.squall_plan.specs.Ranges.{owner_of}

@@ -1,4 +1,4 @@
-use Rattle.std.proofs.Common.{◌∙◌, ◌-◌, ap, subst}
+use Rattle.std.proofs.Common.{subst}
 use Rattle.squall_span.specs.Spans.{Interval}
 use Rattle.squall_plan.specs.Ranges.{owner_of}
 use Rattle.squall_table.specs.LegLaws.{canonical_legs}

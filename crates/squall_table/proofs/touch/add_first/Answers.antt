@@ -1,5 +1,5 @@
-use Rattle.std.proofs.Common.{◌≡◌, ◌≤◌, ◌∙◌, sym, ap, subst, arith}
-use Rattle.std.specs.Prelude.{◌||◌, ◌&&◌}
+use Rattle.std.proofs.Common.{◌≤◌, ◌∙◌, sym, ap, subst, arith}
+use Rattle.std.specs.Prelude.{◌||◌}
 use Rattle.squall_key.specs.Lemmas.{le_from_cmp}
 use Rattle.squall_span.specs.Spans.{has}
 use Rattle.squall_course.specs.declared.moving.Move.{Move}

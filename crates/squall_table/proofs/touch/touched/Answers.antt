@@ -1,11 +1,9 @@
-use Rattle.std.proofs.Common.{◌≡◌, ℕ, Option, None, Some, ◌∙◌, sym, ap, arith, subst}
+use Rattle.std.proofs.Common.{◌≡◌, None, Some, ◌∙◌, ap, arith}
 use Rattle.std.specs.Ordering.{nat_cmp}
 use Rattle.std.specs.FinMap.Entries.{find}
 use Rattle.std.specs.Prelude.{◌||◌}
 use Rattle.squall_span.specs.Spans.{has}
-use Rattle.squall_join.specs.Entries.{IsMap}
-use Rattle.squall_board.specs.Boards.{Subs, Cells, cells_in, cell_is, cell_bottom, says}
-use Rattle.squall_table.specs.Touched.{is_touched}
+use Rattle.squall_board.specs.Boards.{Subs, cells_in}
 use Rattle.squall_table.specs.Touching.{touched_by_subs}
 use Rattle.squall_table.proofs.Moving.{moves_rise_of}
 use Rattle.squall_table.proofs.Touching.{cells_touch, none_touched, changes_touched}

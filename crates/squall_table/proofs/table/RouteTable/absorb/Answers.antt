@@ -1,10 +1,9 @@
-use Rattle.std.proofs.Common.{◌≡◌, ℕ, List, [], sym, ap, subst, ◌∙◌, refl}
+use Rattle.std.proofs.Common.{sym, ◌∙◌, refl}
 use Rattle.std.proofs.lemmas.Result.{on_ok_weaker}
 use Rattle.squall_key.specs.Keys.{top}
 use Rattle.squall_course.specs.Moves.{moves_of}
 use Rattle.squall_board.specs.Boards.{says}
-use Rattle.squall_board.specs.Route.{route}
-use Rattle.squall_table.specs.Legs.{Legs, HasIndex, said}
+use Rattle.squall_table.specs.Legs.{said}
 use Rattle.squall_table.specs.declared.routes.Heard.TheVariants.{All}
 use Rattle.squall_table.specs.LegLaws.{are_legs, canonical_of_legs}
 use Rattle.squall_table.proofs.Built.{made_ranges}

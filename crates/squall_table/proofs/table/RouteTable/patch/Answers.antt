@@ -1,17 +1,11 @@
-use Rattle.std.proofs.Common.{◌≡◌, ◌≤◌, ◌<◌, ℕ, List, [], length, sym, ap, subst, ◌∙◌, arith}
+use Rattle.std.proofs.Common.{length, sym, ap, ◌∙◌, arith}
 use Rattle.std.proofs.lemmas.List.Sums.{count_by-le-length}
 use Rattle.squall_key.specs.Keys.{top}
-use Rattle.squall_span.specs.Spans.{Interval}
-use Rattle.squall_plan.specs.declared.range.PlanRange.{PlanRange}
 use Rattle.squall_plan.specs.Ranges.{owner_of}
 use Rattle.squall_course.specs.Moves.{moves_of}
 use Rattle.squall_board.specs.Boards.{says}
-use Rattle.squall_board.specs.Route.{route}
 use Rattle.squall_board.specs.MovesRoute.{route_by_moves}
-use Rattle.squall_table.specs.Legs.{Legs, HasIndex}
 use Rattle.squall_table.specs.LegLaws.{are_legs, canonical_of_legs}
-use Rattle.squall_table.specs.Touched.{WasTable}
-use Rattle.squall_table.specs.Patching.{renewed}
 use Rattle.squall_table.specs.Reach.{is_near}
 use Rattle.squall_table.proofs.Built.{made_ranges}
 use Rattle.squall_table.proofs.Renewed.{few_in, none_in, empty_is, patched_legs, others_keep, renewed_legs}
