@@ -1,5 +1,4 @@
-use Rattle.std.proofs.Common.{arith, List, ◌≡◌, take, drop, ◌++◌, option_to_list, subst, sym, ap}
-use Rattle.squall_span.specs.Spans.{Interval, keys_below, keys_from}
+use Rattle.std.proofs.Common.{arith}
 use Rattle.squall_span.proofs.Removing.{ends_in_order, removed_by}
 use Rattle.squall_span.proofs.edit.remove_ready.Goals as goal
 
