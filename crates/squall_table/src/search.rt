@@ -8,15 +8,13 @@ ghost use Rattle.squall_table.specs.Legs.{IsAt, IsAmong, IsAmongBounds, BoundsRi
 use crate::table::Leg;
 use squall_key::Bound;
 
-/// A step where the bound is beyond the key, else nothing: the bits of a borrow, so that no branch
-/// depends on the key.
+/// A step where the bound is beyond the key, else nothing, without a branch on the key.
 #[inline(always)]
 fn back(step: usize, bound: Bound, key: Bound) -> usize
     ensures beyond { key < bound → result ≡ step }
     ensures before { bound ≤ key → result ≡ 0 }
 {
-    let borrow = u128::from(key.rank()).wrapping_sub(u128::from(bound.rank())) >> 64;
-    step & borrow as usize
+    bound.step_beyond(key, step)
 }
 
 /// One of two parts.
