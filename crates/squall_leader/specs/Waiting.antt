@@ -1,5 +1,5 @@
 -- What private functions find on the way to whom a leader waits for (this project). No public contract cites these definitions.
-use Rattle.std.specs.Prelude.{◌≡◌, ℕ, ◌+◌, ◌<◌, ◌&&◌, nat_lt, not, Bool, true, false, List, Option, None, Some, Result, Ok, Err}
+use Rattle.std.specs.Prelude.{◌≡◌, ℕ, ◌+◌, ◌<◌, ◌==◌, ◌&&◌, if◌then◌else◌, nat_lt, not, Bool, true, false, List, Option, None, Some, Result, Ok, Err}
 use Rattle.std.specs.List.{list_any}
 use Rattle.squall_course.specs.declared.moving.Move.{Move}
 use Rattle.squall_course.specs.Change.{Change}
@@ -21,6 +21,10 @@ is_below (Some found) part = nat_lt part found
 -- the board does not say the partition done
 abbrev pub awaits : BoardValue → ℕ → ℕ → ℕ → Bool
 awaits b number sub part = not (says b (DonePart (place_at number sub part)))
+
+-- the number to which the move goes, where it passes the test, in the sub-plan, and is below the one found before; else that one
+abbrev pub least_with : (ℕ → Bool) → ℕ → Option ℕ → Move → Option ℕ
+least_with test sub found m = if is_below found m.dest && ((m.sub == sub) && test m.dest) then Some m.dest else found
 
 -- moves go to the partition in the sub-plan, and it passes the test
 abbrev pub is_goal : (ℕ → Bool) → ℕ → List Move → ℕ → Bool

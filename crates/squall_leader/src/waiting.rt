@@ -1,31 +1,46 @@
 //! Whom a leader waits for.
 
-ghost use Rattle.std.specs.Prelude.{◌≡◌, ◌==◌, ◌&&◌, not};
-ghost use Rattle.squall_report.specs.Cells.{place_at};
-ghost use Rattle.squall_report.specs.Facts.{DonePart};
-ghost use Rattle.squall_board.specs.Boards.{says};
+ghost use Rattle.std.specs.Prelude.{◌≡◌, ◌<◌, ◌==◌, ◌&&◌, IfSome};
+ghost use Rattle.squall_key.specs.Keys.{part_limit};
 ghost use Rattle.squall_leader.specs.Leaders.{waited_for};
-ghost use Rattle.squall_leader.specs.Waiting.{is_below, awaits};
+ghost use Rattle.squall_leader.specs.Waiting.{awaits, least_with};
 
 use squall_board::Board;
 use squall_course::{Course, Move};
 use squall_key::PartId;
 
-/// Whether the partition is below one that was found before, if any was.
-fn is_below(found: Option<PartId>, part: PartId) -> bool
-    ensures { result ≡ is_below found part }
-{
-    match found {
-        Some(found) => part < found,
-        None => true,
-    }
-}
-
 /// Whether the move goes, in the sub-plan, to a partition that the board does not say done.
 fn is_waited_for(board: &Board, number: u32, sub: u32, one: &Move) -> bool
-    ensures { result ≡ (one.now.sub == sub && awaits board.now number sub one.now.dest) }
+    ensures value { result ≡ (one.now.sub == sub && awaits board.now number sub one.now.dest) }
+    ensures limit { one.now.dest < part_limit }
 {
-    one.sub == sub && !board.says_done(number, sub, one.dest.get())
+    let part = one.dest.get();
+    one.sub == sub && !board.says_done(number, sub, part)
+}
+
+/// The partition to which the move goes, where it is waited for and below the one found before, if any
+/// was; else that one.
+fn least_with(
+    found: Option<PartId>,
+    board: &Board,
+    number: u32,
+    sub: u32,
+    one: &Move,
+) -> Option<PartId>
+    ensures value { result ≡ least_with (awaits board.now number sub) sub found one.now }
+    ensures limit { IfSome result (λ part. part < part_limit) }
+{
+    if let Some(low) = found {
+        if low <= one.dest || !is_waited_for(board, number, sub, one) {
+            return Some(low);
+        }
+        return Some(one.dest);
+    }
+    if is_waited_for(board, number, sub, one) {
+        Some(one.dest)
+    } else {
+        None
+    }
 }
 
 /// The least partition to which keys go in the sub-plan, and which the board does not say done: a
@@ -36,9 +51,7 @@ pub(crate) fn waited_for(course: &Course, board: &Board, sub: u32) -> Option<Par
     let number = course.number();
     let mut least = None;
     for one in course.moves() {
-        if is_below(least, one.dest) && is_waited_for(board, number, sub, one) {
-            least = Some(one.dest);
-        }
+        least = least_with(least, board, number, sub, one);
     }
     least
 }
