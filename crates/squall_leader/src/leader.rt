@@ -167,6 +167,8 @@ impl Leader {
         let newest = plan.copied(self.alloc)?;
         let report = issue_report(self.alloc, number, &self.plan, plan)?;
         self.board.take(&report)?;
+        // The proof learns that what took a report is a board.
+        self.board.known();
         self.plan = newest;
         self.last = number;
         self.course = Some(Shared::new(course));
@@ -184,6 +186,8 @@ impl Leader {
     {
         let report = self.opening()?;
         self.board.take(&report)?;
+        // The proof learns that what took a report is a board.
+        self.board.known();
         self.opened += 1;
         Ok(report)
     }
@@ -206,7 +210,10 @@ impl Leader {
         ensures told { OnOk result (TellsBoth (told self.new.board) (told self.old.board) (told delta.now)) }
         ensures err { OnErr result (self.new ≡ self.old) }
     {
-        self.board.merge(delta)
+        let merged = self.board.merge(delta);
+        // The proof learns that what took a delta is a board.
+        self.board.known();
+        merged
     }
 
     /// What it was told, and what it told itself.

@@ -1,4 +1,5 @@
+use Rattle.squall_leader.proofs.Kept.{with_board}
 use Rattle.squall_leader.proofs.leader.Leader.absorb.Goals as goal
 
 pub invariant_of-self : goal.invariant_of-self
-invariant_of-self c = let e = c.merge in let a = c.merge.auto in let b = c.merge.auto.self in ?
+invariant_of-self c = with_board _ c.merge-merged.new.self c.self.invariant c.known.ensures.board
