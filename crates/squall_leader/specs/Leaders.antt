@@ -1,6 +1,6 @@
 -- The leader, which begins reconfigurations and opens their sub-plans (a leader starts a reconfiguration and goes on once all
 -- partitions have reported: Squall, SIGMOD 2015; sub-plans and numbers are this project's).
-use Rattle.std.specs.Prelude.{◌≡◌, ◌≢◌, ℕ, ◌+◌, ◌^◌, ◌-◌, ◌<◌, ◌≤◌, ◌⊎◌, ◌&&◌, zero, suc, not, Bool, true, false, List, [], Result, Ok, Err, Option, None, Some}
+use Rattle.std.specs.Prelude.{◌≡◌, ℕ, ◌+◌, ◌^◌, ◌-◌, ◌<◌, ◌≤◌, zero, suc, not, List, Result, Ok, Err, Option, None, Some}
 use Rattle.std.specs.List.{find}
 use Rattle.squall_plan.specs.declared.range.PlanRange.{PlanRange}
 use Rattle.squall_plan.specs.Ranges.{IsCanonical, AreRanges}

@@ -165,8 +165,8 @@ impl Leader {
         let course = new_course(self.alloc, number, &self.plan, plan)?;
         let given = Arc::try_clone(&course)?;
         let newest = plan.copied(self.alloc)?;
-        let report = issue_report(self.alloc, number, &self.plan, plan)?;
-        self.board.take(&report)?;
+        let issued = issue_report(self.alloc, number, &self.plan, plan)?;
+        self.board.take(&issued)?;
         // The proof learns that what took a report is a board.
         self.board.known();
         self.plan = newest;
