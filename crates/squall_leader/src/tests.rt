@@ -1,5 +1,6 @@
 //! Leaders between plans whose moves were worked out by hand.
 
+mod clients;
 mod tolerant;
 
 use crate::{Leader, LeaderFault};
