@@ -1,10 +1,10 @@
 -- The leader, which begins reconfigurations and opens their sub-plans (a leader starts a reconfiguration and goes on once all
 -- partitions have reported: Squall, SIGMOD 2015; sub-plans and numbers are this project's).
-use Rattle.std.specs.Prelude.{◌≡◌, ◌≢◌, ℕ, ◌+◌, ◌^◌, ◌-◌, ◌<◌, ◌≤◌, ◌⊎◌, ◌&&◌, zero, suc, not, Bool, true, false, List, [], Result, Ok, Err, Option, None, Some}
+use Rattle.std.specs.Prelude.{◌≡◌, ℕ, ◌+◌, ◌^◌, ◌-◌, ◌<◌, ◌≤◌, zero, suc, not, List, Result, Ok, Err, Option, None, Some}
 use Rattle.std.specs.List.{find}
 use Rattle.squall_plan.specs.declared.range.PlanRange.{PlanRange}
 use Rattle.squall_plan.specs.Ranges.{IsCanonical, AreRanges}
-use Rattle.squall_course.specs.Change.{Change}
+use Rattle.squall_course.specs.Change.{Change, ArePlans}
 use Rattle.squall_course.specs.Subplans.{subplan_count}
 use Rattle.squall_course.specs.Moves.{moves_of, receivers_of}
 use Rattle.squall_report.specs.declared.report.ReportKind.{ReportKind}
@@ -95,10 +95,12 @@ IsOpened l (Err NoMore) m = (c : Change) × (l.course ≡ Some c) × (waited_aft
 IsOpened l (Err NoMemory) m = m ≡ l
 
 -- what holds of every leader: its board is a board, its newest plan is a plan, the course begun last leads to it under the last number,
--- and no more sub-plans are opened than there are
+-- which is from 1 on, both plans of that course are plans, and no more sub-plans are opened than there are
 pub record IsLeader (l : LeaderValue) : Type 0 where
   pub board : IsBoard l.board
   pub canonical : IsCanonical l.plan
   pub ranges : AreRanges l.plan
   pub course : (c : Change) → l.course ≡ Some c → (c.new ≡ l.plan) × (c.number ≡ l.last)
+  pub numbered : (c : Change) → l.course ≡ Some c → 1 ≤ c.number
+  pub plans : (c : Change) → l.course ≡ Some c → ArePlans c.old c.new
   pub opened : (c : Change) → l.course ≡ Some c → l.opened ≤ subplan_count c.old c.new

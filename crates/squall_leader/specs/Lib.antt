@@ -8,3 +8,4 @@ pub use Rattle.squall_report.specs.Facts
 pub use Rattle.squall_report.specs.Told
 pub use Rattle.squall_board.specs.Boards
 pub mod Leaders
+pub mod Waiting

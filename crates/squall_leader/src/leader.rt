@@ -3,16 +3,21 @@
 ghost use Rattle.std.specs.Prelude.{◌≡◌, ◌≤◌, ◌↔◌, ◌^◌, ◌-◌, OnOk, OnErr, IfOk, IsTrue};
 ghost use Rattle.std.specs.Result.{result_map_both};
 ghost use Rattle.std.specs.Arc.{arc_value};
+ghost use Rattle.squall_report.specs.declared.report.ReportKind.TheVariants.{Issued};
+ghost use Rattle.squall_report.specs.Issues.{plan_pair};
 ghost use Rattle.squall_report.specs.Told.{TellsBoth};
 ghost use Rattle.squall_board.specs.Boards.{board_join, told};
-ghost use Rattle.squall_leader.specs.Leaders.{IsLeader, IsBegun, IsOpened, IsFinished, new_leader};
+ghost use Rattle.squall_leader.specs.Leaders.{IsLeader, IsOver, IsRunning, IsBegun, IsOpened, IsFinished, new_leader};
+ghost use Rattle.squall_leader.specs.Waiting.{IsWaited, IsOpening};
 
 use crate::fault::LeaderFault;
+use crate::waiting::waited_for;
 use squall_board::{Board, Delta};
-use squall_course::Course;
+use squall_course::{Course, CourseFault};
 use squall_join::Shared;
+use squall_key::PartId;
 use squall_plan::Plan;
-use squall_report::Report;
+use squall_report::{Issue, Report};
 use std::alloc::{AllocError, Global};
 use std::marker::Model;
 use std::sync::Arc;
@@ -30,6 +35,7 @@ pub struct Leader {
     course: Option<Shared<Course>>,
     opened: u32,
     board: Board,
+    alloc: Global,
 }
 
 impl Model for Leader {
@@ -40,6 +46,29 @@ impl Model for Leader {
     ghost view = { λ l. record { plan = l.plan; last = l.last; course = l.course; opened = l.opened; board = l.board } };
 
     ghost invariant = { λ l. IsLeader (record { plan = l.plan; last = l.last; course = l.course; opened = l.opened; board = l.board }) };
+}
+
+/// The course of the number from the old plan to the new one, to be shared.
+fn new_course(alloc: Global, number: u32, old: &Plan, new: &Plan) -> Result<Arc<Course>, AllocError>
+    requires { 1 ≤ number }
+    ensures { IfOk result (λ course. arc_value course ≡ record { number = number; old = old.now; new = new.now }) }
+{
+    let course = match Course::new(alloc, number, old, new) {
+        Ok(course) => course,
+        Err(CourseFault::ZeroNumber) => unreachable!(),
+        Err(CourseFault::NoMemory) => return Err(AllocError),
+    };
+    let course = Arc::new(alloc, course)?;
+    Ok(course)
+}
+
+/// The report that the reconfiguration of the number leads from the old plan to the new one.
+fn issue_report(alloc: Global, number: u32, old: &Plan, new: &Plan) -> Result<Report, AllocError>
+    requires { 1 ≤ number }
+    ensures { IfOk result (λ report. report ≡ Issued number (plan_pair old.now new.now)) }
+{
+    let issue = Issue::new(alloc, old, new)?;
+    Ok(Report::issued(number, issue).unwrap())
 }
 
 impl Leader {
@@ -56,7 +85,15 @@ impl Leader {
     pub fn after(alloc: Global, plan: &Plan, last: u32) -> Result<Leader, AllocError>
         ensures { IfOk result (λ l. l ≡ new_leader plan.now last) }
     {
-        Err(AllocError)
+        let plan = plan.copied(alloc)?;
+        Ok(Leader {
+            plan,
+            last,
+            course: None,
+            opened: 0,
+            board: Board::new(alloc),
+            alloc,
+        })
     }
 
     /// Changes nothing: after it a proof knows what holds of every leader.
@@ -65,6 +102,49 @@ impl Leader {
         ensures number { self.now.last ≤ 2 ^ 32 - 1 }
     {
         let _last = self.last;
+    }
+
+    /// Whom the leader waits for before it goes on, with the sub-plan opened last.
+    fn waited_after(&self, course: &Course) -> Option<(u32, PartId)>
+        ensures { IsWaited self.now course.now result }
+    {
+        let sub = self.opened.checked_sub(1)?;
+        let part = waited_for(course, &self.board, sub)?;
+        Some((sub, part))
+    }
+
+    /// Whether all sub-plans of the course are opened, and the last one is done.
+    fn is_over(&self, course: &Course) -> bool
+        ensures { IsTrue result ↔ IsOver self.now course.now }
+    {
+        self.opened == course.subplans() && self.waited_after(course).is_none()
+    }
+
+    /// Whether a course is begun, and it is not over.
+    fn is_running(&self) -> bool
+        ensures { IsTrue result ↔ IsRunning self.now }
+    {
+        match &self.course {
+            Some(course) => !self.is_over(course.as_arc()),
+            None => false,
+        }
+    }
+
+    /// The report that opens the next sub-plan, or why there is none.
+    fn opening(&self) -> Result<Report, LeaderFault>
+        ensures { IsOpening self.now result }
+    {
+        let Some(course) = &self.course else {
+            return Err(LeaderFault::Idle);
+        };
+        let course = course.as_arc();
+        if let Some((sub, part)) = self.waited_after(course) {
+            return Err(LeaderFault::NotDone { sub, part });
+        }
+        if self.opened == course.subplans() {
+            return Err(LeaderFault::NoMore);
+        }
+        Ok(Report::opened(course.number(), self.opened).unwrap())
     }
 
     /// Begins the reconfiguration that leads from the newest plan to another, under the last number
@@ -76,7 +156,24 @@ impl Leader {
     pub fn begin(&mut self, plan: &Plan) -> Result<Arc<Course>, LeaderFault>
         ensures answer { IsBegun self.old plan.now (result_map_both (λ course. arc_value course) (λ fault. fault) result) self.new }
     {
-        Err(LeaderFault::NoMemory)
+        if self.is_running() {
+            return Err(LeaderFault::Running);
+        }
+        let Some(number) = self.last.checked_add(1) else {
+            return Err(LeaderFault::NoNumber);
+        };
+        let course = new_course(self.alloc, number, &self.plan, plan)?;
+        let given = Arc::try_clone(&course)?;
+        let newest = plan.copied(self.alloc)?;
+        let issued = issue_report(self.alloc, number, &self.plan, plan)?;
+        self.board.take(&issued)?;
+        // The proof learns that what took a report is a board.
+        self.board.known();
+        self.plan = newest;
+        self.last = number;
+        self.course = Some(Shared::new(course));
+        self.opened = 0;
+        Ok(given)
     }
 
     /// Opens the next sub-plan of the course begun last. The leader's own board takes the report.
@@ -87,7 +184,12 @@ impl Leader {
     pub fn open_next(&mut self) -> Result<Report, LeaderFault>
         ensures answer { IsOpened self.old result self.new }
     {
-        Err(LeaderFault::NoMemory)
+        let report = self.opening()?;
+        self.board.take(&report)?;
+        // The proof learns that what took a report is a board.
+        self.board.known();
+        self.opened += 1;
+        Ok(report)
     }
 
     /// Whether a course is begun, all its sub-plans are opened, and all partitions that receive keys
@@ -95,7 +197,10 @@ impl Leader {
     pub fn finished(&self) -> bool
         ensures { IsTrue result ↔ IsFinished self.now }
     {
-        false
+        match &self.course {
+            Some(course) => self.is_over(course.as_arc()),
+            None => false,
+        }
     }
 
     /// Takes all that the delta tells. It changes the board alone. It fails where an allocation
@@ -105,7 +210,10 @@ impl Leader {
         ensures told { OnOk result (TellsBoth (told self.new.board) (told self.old.board) (told delta.now)) }
         ensures err { OnErr result (self.new ≡ self.old) }
     {
-        Err(AllocError)
+        let merged = self.board.merge(delta);
+        // The proof learns that what took a delta is a board.
+        self.board.known();
+        merged
     }
 
     /// What it was told, and what it told itself.

@@ -4,7 +4,11 @@
 mod fault;
 mod laws;
 mod leader;
+mod waiting;
 
 pub use fault::LeaderFault;
 pub use laws::numbers_rise;
 pub use leader::Leader;
+
+#[cfg(test)]
+mod tests;
