@@ -5,7 +5,7 @@ use crate::{Meter, RouteTable, touched};
 use squall_board::{Board, Delta};
 use squall_course::Course;
 use squall_plan::Plan;
-use std::alloc::Global;
+use std::alloc::{AllocError, Global};
 use std::test::Fail;
 
 /// The example course. None where an allocation fails.
@@ -64,28 +64,34 @@ fn tolerant_touched(rt: HostRuntime) -> Result<(), Fail> {
     Ok(())
 }
 
+/// Whether a table was patched for the delta, how many legs it has then, and what its meter has
+/// counted. The error comes where an allocation failed before.
+fn patched(
+    alloc: Global,
+    course: &Course,
+    delta: &Delta,
+) -> Result<(bool, usize, u64), AllocError> {
+    let mut board = Board::new(alloc);
+    let mut table = RouteTable::build(alloc, course, &board)?;
+    let set = touched(alloc, course, delta)?;
+    board.merge(delta)?;
+    let mut meter = Meter::new();
+    let is_patched = table.patch(course, &board, &set, &mut meter).is_ok();
+    Ok((is_patched, table.entries().len(), meter.count()))
+}
+
 #[test]
 fn tolerant_patch(rt: HostRuntime) -> Result<(), Fail> {
     let Some(course) = small_course(rt.alloc()) else {
         return Ok(());
     };
-    let mut board = Board::new(rt.alloc());
-    let Ok(mut table) = RouteTable::build(rt.alloc(), &course, &board) else {
-        return Ok(());
-    };
     let Some(delta) = small_delta(rt.alloc()) else {
         return Ok(());
     };
-    let Ok(set) = touched(rt.alloc(), &course, &delta) else {
-        return Ok(());
-    };
-    if board.merge(&delta).is_err() {
-        return Ok(());
+    if let Ok((is_patched, legs, count)) = patched(rt.alloc(), &course, &delta) {
+        assert!(rt; legs == if is_patched { 6 } else { 4 });
+        assert!(rt; count == if is_patched { 2 } else { 0 });
     }
-    let mut meter = Meter::new();
-    let is_patched = table.patch(&course, &board, &set, &mut meter).is_ok();
-    assert!(rt; table.entries().len() == if is_patched { 6 } else { 4 });
-    assert!(rt; meter.count() == if is_patched { 2 } else { 0 });
     Ok(())
 }
 
