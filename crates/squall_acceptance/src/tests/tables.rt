@@ -89,7 +89,8 @@ fn sent(list: &[Report], number: u32, old: &Plan, new: &Plan, key: Key) -> u32 {
     let source = owner_in(old, key);
     let dest = owner_in(new, key);
     let sub = sub_in(old, new, source, dest);
-    if plain::says_loaded(list, number, sub, dest, key) || plain::says_done(list, number, sub, dest)
+    if plain::says_loaded(list, number, sub, dest, key)
+        || plain::says_done(list, number, sub, dest)
     {
         dest
     } else {
@@ -179,12 +180,7 @@ fn random_router(alloc: Global, random: &mut Random) -> Result<Router, Fail> {
 }
 
 /// A router hears so many random reports, each in a delta of its own.
-fn try_router(
-    rt: &impl Abort,
-    alloc: Global,
-    random: &mut Random,
-    count: u32,
-) -> Result<(), Fail> {
+fn try_router(rt: &impl Abort, alloc: Global, random: &mut Random, count: u32) -> Result<(), Fail> {
     let issues = random_issues(alloc, random)?;
     let mut router = random_router(alloc, random)?;
     let mut list = Vec::new(alloc);

@@ -10,11 +10,11 @@ ghost use Rattle.squall_wire.specs.declared.message.Message.{Message as MessageV
 ghost use Rattle.squall_wire.specs.Hearing.{HearsOn};
 ghost use Rattle.squall_router.specs.Ways.{ByTake, ByTakeAll, ByMerge, ByFrames, Packed, packed, TakesIn, LeadTo};
 
-use crate::{headline, Router};
+use crate::{Router, headline};
 use squall_board::Board;
 use squall_course::Course;
 use squall_report::Report;
-use squall_wire::{encode_board, Feed, Message};
+use squall_wire::{Feed, Message, encode_board};
 use std::alloc::{AllocError, Global};
 use std::sync::Arc;
 
