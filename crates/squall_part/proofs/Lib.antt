@@ -1,0 +1,12 @@
+pub mod Logs
+pub mod Known
+pub mod Carrying
+pub mod Held
+pub mod Opened
+pub mod Served
+pub mod Given
+pub mod Changed
+pub mod Absorbed
+pub mod Steps
+pub mod Replies
+pub mod Gone

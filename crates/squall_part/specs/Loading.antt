@@ -1,0 +1,97 @@
+-- What a partition loads and finishes (a partition reports what it loaded, and when it has all: Squall, SIGMOD 2015).
+use Rattle.std.specs.Prelude.{◌≡◌, ◌≢◌, ℕ, ◌<◌, ◌≤◌, ◌&&◌, not, Bool, true, false, List, [], ◌∷◌, Result, Ok, Err, Option, None, Some}
+use Rattle.squall_span.specs.Spans.{Interval, span_has, has, insert_span, union, without_span, minus}
+use Rattle.squall_course.specs.Change.{Change}
+use Rattle.squall_course.specs.Subplans.{moves, sub_of}
+use Rattle.squall_course.specs.Moves.{is_incoming}
+use Rattle.squall_plan.specs.Ranges.{owner_of}
+use Rattle.squall_report.specs.declared.report.ReportKind.{ReportKind}
+use Rattle.squall_report.specs.declared.report.ReportKind.TheVariants.{Loaded as LoadReport, Done as DoneReport}
+use Rattle.squall_report.specs.Issues.{PlanPair}
+use Rattle.squall_board.specs.Boards.{board_join, report_board}
+use Rattle.squall_part.specs.declared.loading.LoadFault.{LoadFault}
+use Rattle.squall_part.specs.declared.loading.LoadFault.TheVariants.{NotOpen as NotOpenYet, Stranger, NoMemory as NoRoom}
+use Rattle.squall_part.specs.declared.loading.Load.{Load}
+use Rattle.squall_part.specs.declared.loading.Load.TheVariants.{Again, Loaded}
+use Rattle.squall_part.specs.declared.finishing.FinishFault.{FinishFault}
+use Rattle.squall_part.specs.declared.finishing.FinishFault.TheVariants.{NotOpen, NotAll, NothingDue, NoMemory}
+use Rattle.squall_part.specs.Chunks.{ChunkValue}
+use Rattle.squall_part.specs.Parts.{PartValue, known_to, course_of_part, opened_at, loaded_by, with_loaded}
+use Rattle.squall_part.specs.Giving.{AreFirst}
+
+-- each key of the chunk moves from its source to its destination in its sub-plan, and that is the partition
+pub record Fits (p : PartValue) (course : Change) (c : ChunkValue) : Type 0 where
+  pub here : c.dest ≡ p.id
+  pub moving : (k : ℕ) → span_has c.span k ≡ true → moves course.old course.new k ≡ true
+  pub source : (k : ℕ) → span_has c.span k ≡ true → owner_of course.old k ≡ c.source
+  pub dest : (k : ℕ) → span_has c.span k ≡ true → owner_of course.new k ≡ c.dest
+  pub sub_plan : (k : ℕ) → span_has c.span k ≡ true → sub_of course.old course.new k ≡ c.sub
+
+-- the chunk's course is known, its sub-plan is opened under it, and the chunk fits it
+abbrev pub MayLoad : PartValue → ChunkValue → Type 0
+MayLoad p c = (course : Change) × (known_to p c.number ≡ Some course) × (c.sub < opened_at p c.number) × Fits p course c
+
+-- every key of the chunk was loaded before
+abbrev pub AllLoaded : PartValue → ChunkValue → Type 0
+AllLoaded p c = (k : ℕ) → span_has c.span k ≡ true → has (loaded_by p c.number) k ≡ true
+
+-- some key of it was not
+abbrev pub SomeMissing : PartValue → ChunkValue → Type 0
+SomeMissing p c = (k : ℕ) × (span_has c.span k ≡ true) × (has (loaded_by p c.number) k ≡ false)
+
+-- the report of the load of the whole chunk
+abbrev pub load_report : ChunkValue → ReportKind PlanPair
+load_report c = LoadReport c.number c.sub c.dest c.span
+
+-- the keys that were not loaded are held now, all are loaded, and the board has the report
+abbrev pub after_load : PartValue → ChunkValue → PartValue
+after_load p c =
+    record p {
+      board = board_join p.board (report_board (load_report c));
+      held = union p.held (minus (c.span ∷ []) (loaded_by p c.number));
+      logs = with_loaded c.number (insert_span c.span (loaded_by p c.number)) p.logs;
+    }
+
+-- the answer to a chunk
+abbrev pub IsLoaded : PartValue → ChunkValue → Result Load LoadFault → PartValue → Type 0
+IsLoaded p c (Ok (Loaded report)) q = MayLoad p c × SomeMissing p c × (report ≡ load_report c) × (q ≡ after_load p c)
+IsLoaded p c (Ok Again) q = MayLoad p c × AllLoaded p c × (q ≡ p)
+IsLoaded p c (Err NotOpenYet) q = ((course : Change) × (known_to p c.number ≡ Some course)) × (opened_at p c.number ≤ c.sub) × (q ≡ p)
+IsLoaded p c (Err Stranger) q = (MayLoad p c → ⊥) × ((course : Change) → known_to p c.number ≡ Some course → c.sub < opened_at p c.number) × (q ≡ p)
+IsLoaded p c (Err NoRoom) q = q ≡ p
+
+-- ---- the end of a sub-plan
+
+-- the key comes in, in the sub-plan of the newest course
+abbrev pub comes_in : PartValue → ℕ → ℕ → Bool
+comes_in p sub k = is_incoming (course_of_part p).old (course_of_part p).new sub p.id k
+
+-- it comes in, and is not loaded
+abbrev pub is_missing : PartValue → ℕ → ℕ → Bool
+is_missing p sub k = comes_in p sub k && not (has (loaded_by p (course_of_part p).number) k)
+
+abbrev pub done_report : PartValue → ℕ → ReportKind PlanPair
+done_report p sub = DoneReport (course_of_part p).number sub p.id
+
+-- the span is the longest run of keys for which the test is true that begins at the least of them
+pub record IsRun (test : ℕ → Bool) (s : Interval) : Type 0 where
+  pub some : s.lo < s.hi
+  pub keys : (k : ℕ) → s.lo ≤ k → k < s.hi → test k ≡ true
+  pub least : (k : ℕ) → test k ≡ true → s.lo ≤ k
+  pub longest : test s.hi ≡ false
+
+abbrev pub after_finish : PartValue → ℕ → PartValue
+after_finish p sub = record p { board = board_join p.board (report_board (done_report p sub)) }
+
+-- the sub-plan is opened under the newest course
+abbrev pub IsOpen : PartValue → ℕ → Type 0
+IsOpen p sub = sub < opened_at p (course_of_part p).number
+
+-- the answer where a sub-plan is to be finished
+abbrev pub IsFinished : PartValue → ℕ → Result (ReportKind PlanPair) FinishFault → PartValue → Type 0
+IsFinished p sub (Ok report) q =
+    IsOpen p sub × ((k : ℕ) → is_missing p sub k ≡ false) × ((k : ℕ) × (comes_in p sub k ≡ true)) × (report ≡ done_report p sub) × (q ≡ after_finish p sub)
+IsFinished p sub (Err NotOpen) q = (opened_at p (course_of_part p).number ≤ sub) × (q ≡ p)
+IsFinished p sub (Err (NotAll s)) q = IsOpen p sub × IsRun (is_missing p sub) s × (q ≡ p)
+IsFinished p sub (Err NothingDue) q = IsOpen p sub × ((k : ℕ) → comes_in p sub k ≡ false) × (q ≡ p)
+IsFinished p sub (Err NoMemory) q = q ≡ p

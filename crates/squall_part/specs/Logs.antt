@@ -1,0 +1,43 @@
+-- Logs of courses: where each stands, and the last one that passes a test (this project).
+use Rattle.std.specs.Prelude.{◌≡◌, ℕ, ◌<◌, ◌==◌, ◌&&◌, not, Bool, true, false, nat_lt, List, [], ◌∷◌, length, slice_index_or, Option, None, Some, is_some, if◌then◌else◌}
+use Rattle.squall_span.specs.Spans.{has}
+use Rattle.squall_plan.specs.Ranges.{owner_of}
+use Rattle.squall_course.specs.Change.{Change}
+use Rattle.squall_course.specs.Subplans.{moves}
+use Rattle.squall_part.specs.Parts.{PartValue, Log, known_to}
+
+abbrev pub has_number : ℕ → Log → Bool
+has_number n l = l.course.number == n
+
+-- the log of the course stands at the place
+pub record IsLogAt (logs : List Log) (c : Change) (at : ℕ) : Type 0 where
+  pub within : at < length logs
+  pub course : (d : Log) → (slice_index_or logs at d).course ≡ c
+
+-- the number of a log, 0 where there is none
+abbrev pub number_in : Option Log → ℕ
+number_in None = 0
+number_in (Some l) = l.course.number
+
+-- the log where it passes and has a greater number than the one that was found
+abbrev pub later : (Log → Bool) → Option Log → Log → Option Log
+later test found l = if nat_lt (number_in found) l.course.number && test l then Some l else found
+
+-- the log of the greatest number that passes
+abbrev pub last_from : (Log → Bool) → Option Log → List Log → Option Log
+last_from test found [] = found
+last_from test found (l ∷ ls) = last_from test (later test found l) ls
+
+abbrev pub last_of : (Log → Bool) → List Log → Option Log
+last_of test logs = last_from test None logs
+
+abbrev pub is_known : PartValue → Log → Bool
+is_known p l = is_some (known_to p l.course.number)
+
+-- by its course, which is known, the partition gave the key
+abbrev pub gave : PartValue → ℕ → Log → Bool
+gave p k l = is_known p l && has l.given k
+
+-- by its course, which is known, the key comes in, and it is not loaded
+abbrev pub comes : PartValue → ℕ → Log → Bool
+comes p k l = is_known p l && (moves l.course.old l.course.new k && ((owner_of l.course.new k == p.id) && not (has l.loaded k)))

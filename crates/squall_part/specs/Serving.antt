@@ -1,0 +1,49 @@
+-- What a partition replies where it is asked for a key (that a partition which gave a key on says where: Squall, SIGMOD 2015; the
+-- numbers that keep replies of several reconfigurations apart are this project's).
+use Rattle.std.specs.Prelude.{◌≡◌, ◌≢◌, ℕ, ◌<◌, ◌≤◌, ◌&&◌, ◌==◌, ◌⊎◌, not, Bool, true, false, List, Option, None, Some}
+use Rattle.squall_span.specs.Spans.{has}
+use Rattle.squall_plan.specs.Ranges.{owner_of}
+use Rattle.squall_course.specs.Change.{Change}
+use Rattle.squall_course.specs.Subplans.{moves}
+use Rattle.squall_router.specs.declared.errand.Reply.{Reply}
+use Rattle.squall_router.specs.declared.errand.Reply.TheVariants.{Held, Moved, Pending, Behind, Elsewhere}
+use Rattle.squall_part.specs.Parts.{PartValue, known_to, course_of_part, given_by, loaded_by}
+
+-- the greatest number for which the relation holds, or 0 where there is none
+pub record IsGreatest (R : ℕ → Type 0) (g : ℕ) : Type 0 where
+  pub top : (n : ℕ) → R n → n ≤ g
+  pub reached : (g ≡ 0) ⊎ R g
+
+-- the partition gave the key under the number, whose course it knows
+abbrev pub GaveUnder : PartValue → ℕ → ℕ → Type 0
+GaveUnder p k n = ((c : Change) × (known_to p n ≡ Some c)) × (has (given_by p n) k ≡ true)
+
+-- by the course of the number, which it knows, the key comes in, and it is not loaded
+abbrev pub ComesUnder : PartValue → ℕ → ℕ → Type 0
+ComesUnder p k n = (c : Change) × (known_to p n ≡ Some c) × (moves c.old c.new k ≡ true) × (owner_of c.new k ≡ p.id) × (has (loaded_by p n) k ≡ false)
+
+-- the last number under which it gave the key, and the last by which the key comes in and is not loaded, 0 for none
+abbrev pub IsLastGiven : PartValue → ℕ → ℕ → Type 0
+IsLastGiven p k g = IsGreatest (GaveUnder p k) g
+
+abbrev pub IsLastComing : PartValue → ℕ → ℕ → Type 0
+IsLastComing p k c = IsGreatest (ComesUnder p k) c
+
+-- the old, or the new, partition of the key by the course of the number
+abbrev pub OldOwnerUnder : PartValue → ℕ → ℕ → ℕ → Type 0
+OldOwnerUnder p k n part = (c : Change) × (known_to p n ≡ Some c) × (part ≡ owner_of c.old k)
+
+abbrev pub NewOwnerUnder : PartValue → ℕ → ℕ → ℕ → Type 0
+NewOwnerUnder p k n part = (c : Change) × (known_to p n ≡ Some c) × (part ≡ owner_of c.new k)
+
+-- the reply where a key is asked for with the number of the last move that was followed: it is held; or awaited by a later course
+-- than that by which it was given; or it was given under a later number than that; or the number lies above all that the partition
+-- knows; or else the key was never there by what the partition knows
+abbrev pub IsReply : PartValue → ℕ → ℕ → Reply → Type 0
+IsReply p k after Held = has p.held k ≡ true
+IsReply p k after (Pending source) = (has p.held k ≡ false) × ((g : ℕ) × (c : ℕ) × IsLastGiven p k g × IsLastComing p k c × (g < c) × OldOwnerUnder p k c source)
+IsReply p k after (Moved dest g) = (has p.held k ≡ false) × IsLastGiven p k g × ((c : ℕ) × IsLastComing p k c × (c ≤ g)) × (after < g) × NewOwnerUnder p k g dest
+IsReply p k after Behind = (has p.held k ≡ false) × ((g : ℕ) × (c : ℕ) × IsLastGiven p k g × IsLastComing p k c × (c ≤ g) × (g ≤ after)) × ((course_of_part p).number < after)
+IsReply p k after (Elsewhere part) =
+    (has p.held k ≡ false) × ((g : ℕ) × (c : ℕ) × IsLastGiven p k g × IsLastComing p k c × (c ≤ g) × (g ≤ after)) × (after ≤ (course_of_part p).number)
+    × (part ≡ owner_of (course_of_part p).old k)

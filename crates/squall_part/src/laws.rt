@@ -1,0 +1,44 @@
+//! Laws of partitions, each the contract of a function that does little or nothing.
+
+ghost use Rattle.std.specs.Prelude.{◌≡◌, ◌<◌, ◌≤◌, ℕ, true, false};
+ghost use Rattle.squall_key.specs.Keys.{top};
+ghost use Rattle.squall_span.specs.Spans.{Interval, span_has, has, IsSet};
+ghost use Rattle.squall_router.specs.declared.errand.Reply.{Reply};
+ghost use Rattle.squall_part.specs.Parts.{course_of_part, given_by, loaded_by};
+ghost use Rattle.squall_part.specs.Giving.{after_giving};
+ghost use Rattle.squall_part.specs.Serving.{IsLastGiven, IsLastComing, IsReply};
+
+use crate::part::Part;
+
+/// The last number under which a partition gave a key is one, and so is the last by which the key
+/// comes in and is not loaded.
+pub fn one_last_number(part: &Part)
+    ensures given { (key g h : ℕ) → IsLastGiven part.now key g → IsLastGiven part.now key h → g ≡ h }
+    ensures coming { (key c d : ℕ) → IsLastComing part.now key c → IsLastComing part.now key d → c ≡ d }
+{
+    part.known();
+}
+
+/// A partition has one reply for a key and a number that was followed.
+pub fn one_reply(part: &Part)
+    ensures { (key after : ℕ) (r q : Reply) → IsReply part.now key after r → IsReply part.now key after q → r ≡ q }
+{
+    part.known();
+}
+
+/// Keys that are given on are held no longer, and are given under the newest course.
+pub fn given_keys_are_gone(part: &Part)
+    ensures held { (s : Interval) (k : ℕ) → s.lo < s.hi → s.hi ≤ top → span_has s k ≡ true → has (after_giving part.now s).held k ≡ false }
+    ensures given { (s : Interval) (k : ℕ) → s.lo < s.hi → s.hi ≤ top → span_has s k ≡ true → has (given_by (after_giving part.now s) (course_of_part part.now).number) k ≡ true }
+{
+    part.known();
+}
+
+/// What a partition holds, and what it gave and loaded under each number, are sets of keys.
+pub fn partitions_keep_sets(part: &Part)
+    ensures held { IsSet part.now.held }
+    ensures given { (n : ℕ) → IsSet (given_by part.now n) }
+    ensures loaded { (n : ℕ) → IsSet (loaded_by part.now n) }
+{
+    part.known();
+}

@@ -1,0 +1,102 @@
+//! What a partition replies.
+
+ghost use Rattle.std.specs.Prelude.{◌≡◌, option_copied};
+ghost use Rattle.squall_plan.specs.Ranges.{owner_of};
+ghost use Rattle.squall_part.specs.Parts.{course_of_part};
+ghost use Rattle.squall_part.specs.Logs.{gave, comes, last_of};
+ghost use Rattle.squall_part.specs.Serving.{IsReply};
+
+use crate::log::{Log, above, number_of};
+use crate::part::Part;
+use squall_key::{Key, PartId};
+use squall_router::Reply;
+
+impl Part {
+    /// Whether it gave the key by the log's course, which it knows.
+    fn gave(&self, log: &Log, key: Key) -> bool
+        ensures { result ≡ gave self.now key log.now }
+    {
+        self.knows(log.number()) && log.given.has(key)
+    }
+
+    /// Whether by the log's course, which it knows, the key comes in, and it is not loaded.
+    fn comes(&self, log: &Log, key: Key) -> bool
+        ensures { result ≡ comes self.now key log.now }
+    {
+        let owners = log.course().owners(key);
+        self.knows(log.number())
+            && owners.old != owners.new
+            && owners.new == self.id
+            && !log.loaded.has(key)
+    }
+
+    /// The log of the last course by which it gave the key.
+    fn last_given(&self, key: Key) -> Option<&Log>
+        ensures { option_copied result ≡ last_of (gave self.now key) self.now.logs }
+    {
+        let mut found = None;
+        for log in &self.logs {
+            if number_of(found) < log.number() && self.gave(log, key) {
+                found = Some(log);
+            }
+        }
+        found
+    }
+
+    /// The log of the last course by which the key comes in and is not loaded.
+    fn last_coming(&self, key: Key) -> Option<&Log>
+        ensures { option_copied result ≡ last_of (comes self.now key) self.now.logs }
+    {
+        let mut found = None;
+        for log in &self.logs {
+            if number_of(found) < log.number() && self.comes(log, key) {
+                found = Some(log);
+            }
+        }
+        found
+    }
+
+    /// The partition of the key by the old plan of the course that it goes by.
+    fn newest_old_owner(&self, key: Key) -> PartId
+        ensures { result ≡ owner_of (course_of_part self.now).old key }
+    {
+        match self.board.newest(self.first.as_arc()) {
+            Some((_, issue)) => issue.old().owner(key),
+            None => self.first.as_arc().old_owner(key),
+        }
+    }
+
+    /// The reply to whoever asks for the key and followed a `Moved` of the number `after` to this
+    /// partition, or none where `after` is 0.
+    ///
+    /// `Held` where it holds the key. `Pending` where the key comes in by a course later than that
+    /// under which it last gave the key on, and is not loaded. `Moved` where it last gave the key
+    /// on under a number above `after`. `Behind` where `after` lies above every number that it
+    /// knows. Else `Elsewhere`.
+    pub fn serve(&self, key: Key, after: u32) -> Reply
+        ensures { IsReply self.now key after result }
+    {
+        if self.held.has(key) {
+            return Reply::Held;
+        }
+        self.known();
+        let given = self.last_given(key);
+        if let Some(log) = above(self.last_coming(key), number_of(given)) {
+            return Reply::Pending {
+                source: log.course().old_owner(key),
+            };
+        }
+        if let Some(log) = above(given, after) {
+            return Reply::Moved {
+                dest: log.course().new_owner(key),
+                number: log.number(),
+            };
+        }
+        if self.newest_number() < after {
+            return Reply::Behind;
+        }
+        Reply::Elsewhere {
+            dest: self.newest_old_owner(key),
+        }
+    }
+}
