@@ -1,11 +1,8 @@
 -- A partition that absorbs a delta has logs for all courses that it knows then.
-use Rattle.std.proofs.Common.{◌≡◌, ◌≢◌, ℕ, zero, suc, ◌<◌, ◌≤◌, ◌==◌, ◌&&◌, not, Bool, true, false, cond, List, [], ◌∷◌, ◌++◌, length, get_or, map, Option, None, Some, option_map, refl, sym, ap, subst, ◌∙◌, arith, inl, inr}
-use Rattle.std.specs.Prelude.{◌⊎◌}
-use Rattle.std.specs.List.{AllByRecursion, find, flat_map}
+use Rattle.std.proofs.Common.{◌≡◌, ◌≢◌, ℕ, ◌<◌, ◌==◌, not, Bool, true, false, cond, List, [], ◌∷◌, ◌++◌, Option, None, Some, option_map, refl, sym, ap, subst, ◌∙◌, arith, inl, inr}
+use Rattle.std.specs.List.{AllByRecursion}
 use Rattle.std.specs.Option.{option_or}
 use Rattle.std.proofs.lemmas.Bool.{and_parts, and_from, cases_eq}
-use Rattle.std.proofs.lemmas.Bool.Decides.{nat_tests}
-use Rattle.std.proofs.lemmas.Option.{same_Some}
 use Rattle.std.proofs.lemmas.List.Folds.{find-append}
 use Rattle.squall_join.specs.declared.flat.Flat.{Flat}
 use Rattle.squall_join.specs.declared.flat.Flat.TheVariants.{Unknown, One, Clash}
@@ -14,11 +11,9 @@ use Rattle.squall_report.specs.Issues.{PlanPair, is_same_pair}
 use Rattle.squall_report.specs.Told.{TellsBoth, both_issued}
 use Rattle.squall_board.specs.Boards.{BoardValue, IsBoard, issued, told, one_issue}
 use Rattle.squall_board.specs.Listed.{AreIssues, IssuesRise, entries_issue, issues_of}
-use Rattle.squall_part.specs.Parts.{PartValue, Log, log_with, log_of, IsPart, IsLog, IsHeard, IsNotIn, AreApart, known_to, known_course, course_under, given_in, loaded_in, given_by, loaded_by}
-use Rattle.squall_part.specs.Logs.{has_number}
+use Rattle.squall_part.specs.Parts.{PartValue, Log, log_of, IsPart, IsLog, IsHeard, IsNotIn, AreApart, known_course, course_under, given_in, loaded_in, given_by, loaded_by}
 use Rattle.squall_part.specs.Fresh.{is_unknown, is_new, empty_log, fresh_log, fresh_logs}
-use Rattle.squall_part.proofs.Logs.{eq_refl, eq_same, eq_differ}
-use Rattle.squall_part.proofs.Known.{known_other}
+use Rattle.squall_part.proofs.Logs.{eq_refl, eq_differ}
 
 -- ---- what is issued
 

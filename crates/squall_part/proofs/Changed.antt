@@ -1,9 +1,9 @@
 -- A partition stays one after a report, a gift and a load.
-use Rattle.std.proofs.Common.{◌≡◌, ◌≢◌, ℕ, zero, suc, ◌<◌, ◌≤◌, ◌==◌, Bool, true, false, cond, List, [], ◌∷◌, length, get_or, set, map, Option, None, Some, option_map, refl, sym, ap, subst, ◌∙◌, inl, inr}
+use Rattle.std.proofs.Common.{◌≡◌, ◌≢◌, ℕ, ◌<◌, ◌≤◌, ◌==◌, Bool, true, false, cond, List, [], ◌∷◌, get_or, set, Some, refl, sym, ap, subst, ◌∙◌}
 use Rattle.std.specs.Prelude.{◌⊎◌}
 use Rattle.std.specs.List.{AllByRecursion}
 use Rattle.squall_key.specs.Keys.{top}
-use Rattle.squall_span.specs.Spans.{Interval, IsSet, insert_span, without_span, union, minus}
+use Rattle.squall_span.specs.Spans.{Interval, IsSet, insert_span, union, minus}
 use Rattle.squall_span.specs.SpanLaws.{set-minus, set-insert, set-union}
 use Rattle.squall_join.specs.declared.flat.Flat.{Flat}
 use Rattle.squall_join.specs.declared.flat.Flat.TheVariants.{Unknown, One, Clash}
@@ -12,12 +12,11 @@ use Rattle.squall_report.specs.Issues.{PlanPair}
 use Rattle.squall_report.specs.declared.report.ReportKind.{ReportKind}
 use Rattle.squall_report.specs.Told.{TellsBoth, both_issued, told_by_report, report_issues}
 use Rattle.squall_board.specs.Boards.{BoardValue, IsBoard, issued, told}
-use Rattle.squall_part.specs.Parts.{PartValue, Log, log_with, log_of, IsPart, IsLog, IsHeard, known_to, known_course, course_under, course_of_part, given_in, loaded_in, given_by, loaded_by, with_given, with_loaded}
+use Rattle.squall_part.specs.Parts.{PartValue, Log, log_with, log_of, IsPart, IsLog, IsHeard, known_to, course_under, course_of_part, given_in, loaded_in, given_by, loaded_by, with_given, with_loaded}
 use Rattle.squall_part.specs.Logs.{IsLogAt}
-use Rattle.squall_part.specs.Chunks.{ChunkValue}
 use Rattle.squall_part.specs.Giving.{after_giving}
-use Rattle.squall_part.proofs.Logs.{edit, edit_at, edit_apart, edit_heard, edit_courses, edit_logs}
-use Rattle.squall_part.proofs.Known.{course_known, known_number, log_at}
+use Rattle.squall_part.proofs.Logs.{edit_at, edit_apart, edit_heard, edit_courses, edit_logs}
+use Rattle.squall_part.proofs.Known.{known_number, log_at}
 use Rattle.squall_part.proofs.Given.{given_here}
 
 one_set : (s : Interval) → s.lo < s.hi → s.hi ≤ top → IsSet (s ∷ [])

@@ -1,22 +1,21 @@
 -- What is left to be given, and what is given.
-use Rattle.std.proofs.Common.{◌≡◌, ◌≢◌, ℕ, zero, suc, ◌+◌, ◌<◌, ◌≤◌, ◌==◌, ◌&&◌, not, Bool, true, false, cond, nat_lt, min, List, [], ◌∷◌, length, get_or, Option, None, Some, refl, sym, ap, subst, ◌∙◌, arith, inl, inr}
+use Rattle.std.proofs.Common.{◌≡◌, ℕ, zero, suc, ◌+◌, ◌<◌, ◌==◌, Bool, true, false, cond, min, List, [], ◌∷◌, length, get_or, Option, None, Some, refl, sym, ap, subst, ◌∙◌, arith}
 use Rattle.std.specs.List.{AllByRecursion}
-use Rattle.std.proofs.lemmas.Bool.{and_parts, and_from, cases_Bool}
+use Rattle.std.proofs.lemmas.Bool.{and_parts, and_from}
 use Rattle.std.proofs.lemmas.Bool.Decides.{nat_tests}
 use Rattle.std.proofs.lemmas.Option.{same_Some}
 use Rattle.squall_key.specs.Keys.{top}
-use Rattle.squall_span.specs.Spans.{Interval, interval, has, span_has, IsSet, IsCanonical, first_keys, insert_span, without_span, minus}
-use Rattle.squall_span.specs.SpanLaws.{has_first, set-minus, set-insert}
+use Rattle.squall_span.specs.Spans.{Interval, interval, has, IsSet, first_keys}
+use Rattle.squall_span.specs.SpanLaws.{has_first}
 use Rattle.squall_plan.specs.Ranges.{owner_of}
 use Rattle.squall_course.specs.Change.{Change, ArePlans}
 use Rattle.squall_course.specs.Subplans.{moves, sub_of, subplan_of, dest_of}
-use Rattle.squall_course.specs.Moves.{is_outgoing}
 use Rattle.squall_course.proofs.Counted.{key_goes}
 use Rattle.squall_board.specs.BoardLaws.{key_below}
-use Rattle.squall_part.specs.Parts.{PartValue, Log, log_with, log_of, IsPart, IsLog, course_of_part, given_in, loaded_in, given_by, loaded_by, with_given, with_loaded}
+use Rattle.squall_part.specs.Parts.{PartValue, Log, IsPart, IsLog, course_of_part, given_in, loaded_in, given_by, loaded_by}
 use Rattle.squall_part.specs.Logs.{IsLogAt}
 use Rattle.squall_part.specs.Giving.{is_left, goes_out}
-use Rattle.squall_part.proofs.Logs.{eq_refl, eq_same, eq_differ}
+use Rattle.squall_part.proofs.Logs.{eq_refl, eq_same}
 use Rattle.squall_part.proofs.Known.{course_known, log_at}
 
 pub log_is : (logs : List Log) (at : ℕ) (d : Log) → AllByRecursion IsLog logs → at < length logs → IsLog (get_or logs at d)

@@ -1,12 +1,10 @@
 -- What a gift does to keys.
-use Rattle.std.proofs.Common.{◌≡◌, ℕ, ◌<◌, ◌≤◌, ◌==◌, ◌&&◌, ◌||◌, not, Bool, true, false, cond, List, [], ◌∷◌, map, Option, None, Some, refl, sym, ap, subst, ◌∙◌}
-use Rattle.std.proofs.lemmas.Bool.{or_left, or_right, and_right}
-use Rattle.squall_key.specs.Keys.{top}
+use Rattle.std.proofs.Common.{◌≡◌, ℕ, ◌<◌, ◌==◌, not, Bool, true, false, cond, List, [], ◌∷◌, Some, refl, ap, ◌∙◌}
+use Rattle.std.proofs.lemmas.Bool.{or_left, and_right}
 use Rattle.squall_span.specs.Spans.{Interval, has, span_has, insert_span}
 use Rattle.squall_span.specs.SpanLaws.{has-minus, has-insert}
 use Rattle.squall_part.specs.Parts.{PartValue, Log, log_with, log_of, IsPart, course_of_part, given_in, given_by, with_given}
 use Rattle.squall_part.specs.Giving.{after_giving}
-use Rattle.squall_part.proofs.Logs.{eq_refl}
 use Rattle.squall_part.proofs.Known.{course_known}
 use Rattle.squall_part.proofs.Served.{known_log}
 use Rattle.squall_part.proofs.Changed.{given_set}

@@ -1,16 +1,13 @@
 -- The keys that a plan gives a partition.
-use Rattle.std.proofs.Common.{◌≡◌, ◌≢◌, ℕ, zero, suc, ◌+◌, ◌<◌, ◌≤◌, ◌==◌, ◌||◌, Bool, true, false, cond, List, [], ◌∷◌, length, get_or, drop, map, filter, refl, sym, ap, subst, ◌∙◌, arith}
-use Rattle.std.specs.List.{AllByRecursion}
-use Rattle.std.proofs.lemmas.Bool.Decides.{nat_tests}
-use Rattle.std.proofs.Math.Bool.{or_assoc, or_comm, or-false}
+use Rattle.std.proofs.Common.{◌≡◌, ℕ, ◌<◌, ◌==◌, Bool, true, false, cond, List, [], ◌∷◌, map, filter, refl, sym, ap, subst, ◌∙◌, arith}
 use Rattle.squall_key.specs.Keys.{top}
-use Rattle.squall_span.specs.Spans.{Interval, has, span_has, Beyond, IsCanonical, EndsBy, IsSet}
+use Rattle.squall_span.specs.Spans.{Interval, has, Beyond, IsCanonical, EndsBy, IsSet}
 use Rattle.squall_span.specs.SpanLaws.{same_lists}
 use Rattle.squall_plan.specs.declared.range.PlanRange.{PlanRange}
-use Rattle.squall_plan.specs.Ranges.{IsTiling, DifferFrom, Differ, AreRanges, IsRange}
+use Rattle.squall_plan.specs.Ranges.{IsTiling, DifferFrom, Differ, AreRanges}
 use Rattle.squall_plan.specs.Ranges.{IsCanonical as IsPlan}
 use Rattle.squall_part.specs.Parts.{ranges_of}
-use Rattle.squall_part.proofs.Logs.{eq_refl, eq_same, eq_differ}
+use Rattle.squall_part.proofs.Logs.{eq_same, eq_differ}
 
 -- with a test's answer
 listed : (id : ℕ) (r : PlanRange) (rs : List PlanRange) (b : Bool) → (r.part == id) ≡ b → ranges_of id (r ∷ rs) ≡ cond b (r.span ∷ ranges_of id rs) (ranges_of id rs)

@@ -1,13 +1,12 @@
 -- The courses that a partition knows have logs.
-use Rattle.std.proofs.Common.{◌≡◌, ◌≢◌, ℕ, ◌<◌, ◌==◌, Bool, true, false, cond, List, [], ◌∷◌, length, get_or, position, nat_lt, leb, ◌≤◌, Option, None, Some, is_some, IfSome, IfNone, option_map, refl, sym, ap, subst, ◌∙◌, arith}
-use Rattle.std.specs.List.{find, position_or_len}
+use Rattle.std.proofs.Common.{◌≡◌, ◌≢◌, ℕ, ◌==◌, Bool, true, false, cond, List, [], length, get_or, position, nat_lt, ◌≤◌, Option, None, Some, is_some, IfSome, IfNone, option_map, refl, sym, ap, subst, ◌∙◌, arith}
+use Rattle.std.specs.List.{position_or_len}
 use Rattle.std.proofs.lemmas.Bool.Decides.{nat_tests}
 use Rattle.std.proofs.lemmas.List.Folds.{find_at}
 use Rattle.std.proofs.lemmas.Option.{same_Some, slice_get_past}
 use Rattle.std.proofs.lemmas.List.Quantifiers.{position-Some}
 use Rattle.squall_join.specs.declared.flat.Flat.{Flat}
 use Rattle.squall_join.specs.declared.flat.Flat.TheVariants.{Unknown, One, Clash}
-use Rattle.squall_span.specs.Spans.{Interval}
 use Rattle.squall_course.specs.Change.{Change}
 use Rattle.squall_report.specs.Issues.{PlanPair}
 use Rattle.squall_board.specs.Boards.{BoardValue, issued}

@@ -1,14 +1,10 @@
 -- Logs: where each is found, and how one is changed in its place.
-use Rattle.std.proofs.Common.{◌≡◌, ◌≢◌, ℕ, zero, suc, ◌<◌, ◌≤◌, ◌==◌, Bool, true, false, cond, List, [], ◌∷◌, length, get_or, set, map, position, Option, None, Some, option_map, refl, sym, ap, subst, ◌∙◌, arith, rules}
-use Rattle.std.specs.List.{find, AllByRecursion}
+use Rattle.std.proofs.Common.{◌≡◌, ◌≢◌, ℕ, zero, suc, ◌<◌, ◌==◌, Bool, true, false, cond, List, [], ◌∷◌, length, get_or, set, map, Some, option_map, refl, sym, ap, subst, ◌∙◌, arith}
+use Rattle.std.specs.List.{AllByRecursion}
 use Rattle.std.proofs.lemmas.Bool.Decides.{nat_tests}
-use Rattle.std.proofs.lemmas.Option.{slice_get-get_or, same_Some}
-use Rattle.std.proofs.lemmas.List.Quantifiers.{position-Some}
-use Rattle.squall_span.specs.Spans.{Interval}
 use Rattle.squall_course.specs.Change.{Change}
 use Rattle.squall_board.specs.Boards.{BoardValue}
-use Rattle.squall_part.specs.Parts.{Log, log_with, log_of, given_in, loaded_in, IsNotIn, AreApart, IsLog, IsHeard, with_given, with_loaded}
-use Rattle.squall_part.specs.Logs.{has_number, IsLogAt}
+use Rattle.squall_part.specs.Parts.{Log, log_of, IsNotIn, AreApart, IsLog, IsHeard}
 
 pub eq_refl : (n : ℕ) → (n == n) ≡ true
 eq_refl n = grind (arith, nat_tests)

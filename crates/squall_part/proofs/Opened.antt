@@ -1,10 +1,10 @@
 -- How many sub-plans can be opened.
-use Rattle.std.proofs.Common.{◌≡◌, ℕ, ◌<◌, ◌≤◌, true, nat_lt, sym, ◌∙◌, arith, inl, inr}
-use Rattle.std.proofs.lemmas.Bool.{cases_lt, and_parts}
+use Rattle.std.proofs.Common.{◌≡◌, ℕ, ◌≤◌, true, nat_lt, ◌∙◌, arith, inl, inr}
+use Rattle.std.proofs.lemmas.Bool.{cases_lt}
 use Rattle.std.proofs.lemmas.Bool.Decides.{nat_tests}
 use Rattle.squall_key.specs.Keys.{part_limit}
-use Rattle.squall_report.specs.Facts.{OpenedSub, is_fact}
-use Rattle.squall_board.specs.Boards.{BoardValue, IsBoard, opened_count, says}
+use Rattle.squall_report.specs.Facts.{OpenedSub}
+use Rattle.squall_board.specs.Boards.{BoardValue, IsBoard, opened_count}
 use Rattle.squall_board.specs.BoardLaws.{opened_found}
 
 pub opened_few : (b : BoardValue) (n : ℕ) → IsBoard b → opened_count b n ≤ part_limit

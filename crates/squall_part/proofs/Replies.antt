@@ -1,13 +1,12 @@
 -- A partition has one reply.
-use Rattle.std.proofs.Common.{◌≡◌, ℕ, ◌<◌, ◌≤◌, Bool, true, false, Option, Some, refl, sym, ap, subst, ◌∙◌, arith, inl, inr}
-use Rattle.std.specs.Prelude.{◌⊎◌}
+use Rattle.std.proofs.Common.{◌≡◌, ℕ, ◌<◌, ◌≤◌, Bool, true, false, Some, refl, sym, ap, subst, ◌∙◌, arith, inl, inr}
 use Rattle.std.proofs.lemmas.Bool.{false≢true}
 use Rattle.squall_span.specs.Spans.{has}
 use Rattle.squall_plan.specs.Ranges.{owner_of}
 use Rattle.squall_course.specs.Change.{Change}
 use Rattle.squall_router.specs.declared.errand.Reply.{Reply}
 use Rattle.squall_router.specs.declared.errand.Reply.TheVariants.{Held, Moved, Pending, Behind, Elsewhere}
-use Rattle.squall_part.specs.Parts.{PartValue, known_to, course_of_part}
+use Rattle.squall_part.specs.Parts.{PartValue, known_to}
 use Rattle.squall_part.specs.Serving.{IsGreatest, IsLastGiven, IsLastComing, IsReply}
 
 greatest_upto : (R : ℕ → Type 0) (g h : ℕ) → IsGreatest R g → IsGreatest R h → g ≤ h

@@ -1,15 +1,15 @@
 -- What a partition replies, by the last logs that pass.
 use Rattle.std.proofs.Common.{◌≡◌, ℕ, suc, ◌<◌, ◌≤◌, ◌==◌, ◌&&◌, not, Bool, true, false, cond, nat_lt, List, [], ◌∷◌, length, get_or, Option, None, Some, is_some, option_map, refl, sym, ap, subst, ◌∙◌, arith, inl, inr}
 use Rattle.std.specs.Prelude.{◌⊎◌}
-use Rattle.std.proofs.lemmas.Bool.{and_parts, and_from, cases_lt}
+use Rattle.std.proofs.lemmas.Bool.{and_parts, and_from}
 use Rattle.std.proofs.lemmas.Bool.Decides.{nat_tests}
 use Rattle.std.proofs.lemmas.Option.{same_Some}
 use Rattle.squall_span.specs.Spans.{has}
 use Rattle.squall_plan.specs.Ranges.{owner_of}
 use Rattle.squall_course.specs.Change.{Change}
 use Rattle.squall_course.specs.Subplans.{moves}
-use Rattle.squall_router.specs.declared.errand.Reply.TheVariants.{Held, Moved, Pending, Behind, Elsewhere}
-use Rattle.squall_part.specs.Parts.{PartValue, Log, log_of, IsPart, AreApart, known_to, course_of_part, given_in, loaded_in, given_by, loaded_by}
+use Rattle.squall_router.specs.declared.errand.Reply.TheVariants.{Moved, Pending}
+use Rattle.squall_part.specs.Parts.{PartValue, Log, log_of, IsPart, AreApart, known_to, given_in, loaded_in}
 use Rattle.squall_part.specs.Logs.{number_in, later, last_from, last_of, gave, comes}
 use Rattle.squall_part.specs.Serving.{IsGreatest, GaveUnder, ComesUnder, IsLastGiven, IsLastComing, IsReply}
 use Rattle.squall_part.proofs.Logs.{eq_refl, eq_same, found_at}

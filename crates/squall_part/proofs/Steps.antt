@@ -1,23 +1,22 @@
 -- The steps of a gift and of a load.
-use Rattle.std.proofs.Common.{◌≡◌, ◌≢◌, ℕ, ◌<◌, ◌≤◌, ◌==◌, ◌&&◌, not, Bool, true, false, List, [], ◌∷◌, length, get_or, set, Result, Ok, Err, Option, None, Some, refl, sym, ap, subst, ◌∙◌, arith}
+use Rattle.std.proofs.Common.{◌≡◌, ℕ, ◌<◌, ◌≤◌, ◌&&◌, not, Bool, true, false, List, [], ◌∷◌, get_or, set, Result, Ok, Err, None, Some, refl, sym, ap, subst, ◌∙◌}
 use Rattle.std.specs.Prelude.{OnOk, OnErr, IsTrue, ◌↔◌}
 use Rattle.std.proofs.lemmas.Bool.{false≢true}
 use Rattle.std.proofs.lemmas.List.{set-get_or}
 use Rattle.squall_key.specs.Keys.{top}
 use Rattle.squall_span.specs.Spans.{Interval, has, span_has, IsSet, first_span, insert_span, without_span, union, minus}
-use Rattle.squall_span.specs.SpanLaws.{inside, has_first, first_span_is}
+use Rattle.squall_span.specs.SpanLaws.{has_first, first_span_is}
 use Rattle.squall_course.specs.Change.{Change}
 use Rattle.squall_course.specs.Moves.{is_incoming}
 use Rattle.squall_report.specs.Told.{TellsBoth, told_by_report}
 use Rattle.squall_board.specs.Boards.{BoardValue, IsBoard, told}
 use Rattle.squall_part.specs.Chunks.{ChunkValue}
-use Rattle.squall_course.specs.Subplans.{moves}
 use Rattle.squall_part.specs.Parts.{PartValue, Log, log_with, IsPart, known_to, course_of_part, opened_at, loaded_in, loaded_by}
 use Rattle.squall_part.specs.Logs.{IsLogAt}
 use Rattle.squall_part.specs.Steps.{IsLoadPlace}
 use Rattle.squall_part.specs.Carried.{Carried}
 use Rattle.squall_part.specs.Giving.{after_giving}
-use Rattle.squall_part.specs.Loading.{Fits, MayLoad, AllLoaded, SomeMissing, is_missing, IsRun, done_report, after_finish}
+use Rattle.squall_part.specs.Loading.{MayLoad, AllLoaded, SomeMissing, is_missing, IsRun, done_report, after_finish}
 use Rattle.squall_part.proofs.Known.{log_at}
 use Rattle.squall_part.proofs.Given.{loaded_here}
 use Rattle.squall_report.specs.Issues.{PlanPair}
@@ -25,7 +24,6 @@ use Rattle.squall_report.specs.declared.report.ReportKind.TheVariants.{Done as D
 use Rattle.std.specs.List.{slice_get}
 use Rattle.squall_report.specs.declared.report.ReportKind.{ReportKind}
 use Rattle.squall_board.specs.Boards.{board_join, report_board}
-use Rattle.squall_report.specs.Told.{report_issues}
 use Rattle.squall_part.specs.Loading.{after_load, load_report}
 use Rattle.squall_part.proofs.Changed.{giving_logs, giving_part, loading_logs, loading_part, told_part}
 

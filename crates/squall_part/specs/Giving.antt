@@ -1,7 +1,6 @@
 -- What a partition gives on (on demand and in chunks, sub-plan after sub-plan: Squall, SIGMOD 2015).
-use Rattle.std.specs.Prelude.{◌≡◌, ◌≢◌, ℕ, ◌+◌, ◌<◌, ◌≤◌, ◌&&◌, ◌⊎◌, Bool, true, false, Result, Ok, Err, Option, None, Some}
+use Rattle.std.specs.Prelude.{◌≡◌, ℕ, ◌+◌, ◌<◌, ◌≤◌, ◌&&◌, ◌⊎◌, Bool, true, false, Result, Ok, Err, Some}
 use Rattle.squall_span.specs.Spans.{Interval, interval, has, insert_span, without_span}
-use Rattle.squall_course.specs.Change.{Change}
 use Rattle.squall_course.specs.Subplans.{dest_of}
 use Rattle.squall_course.specs.Moves.{is_outgoing}
 use Rattle.squall_part.specs.declared.giving.GiveFault.{GiveFault}

@@ -1,6 +1,6 @@
 -- What a partition loads and finishes (a partition reports what it loaded, and when it has all: Squall, SIGMOD 2015).
-use Rattle.std.specs.Prelude.{◌≡◌, ◌≢◌, ℕ, ◌<◌, ◌≤◌, ◌&&◌, not, Bool, true, false, List, [], ◌∷◌, Result, Ok, Err, Option, None, Some}
-use Rattle.squall_span.specs.Spans.{Interval, span_has, has, insert_span, union, without_span, minus}
+use Rattle.std.specs.Prelude.{◌≡◌, ℕ, ◌<◌, ◌≤◌, ◌&&◌, not, Bool, true, false, [], ◌∷◌, Result, Ok, Err, Some}
+use Rattle.squall_span.specs.Spans.{Interval, span_has, has, insert_span, union, minus}
 use Rattle.squall_course.specs.Change.{Change}
 use Rattle.squall_course.specs.Subplans.{moves, sub_of}
 use Rattle.squall_course.specs.Moves.{is_incoming}
@@ -17,7 +17,6 @@ use Rattle.squall_part.specs.declared.finishing.FinishFault.{FinishFault}
 use Rattle.squall_part.specs.declared.finishing.FinishFault.TheVariants.{NotOpen, NotAll, NothingDue, NoMemory}
 use Rattle.squall_part.specs.Chunks.{ChunkValue}
 use Rattle.squall_part.specs.Parts.{PartValue, known_to, course_of_part, opened_at, loaded_by, with_loaded}
-use Rattle.squall_part.specs.Giving.{AreFirst}
 
 -- each key of the chunk moves from its source to its destination in its sub-plan, and that is the partition
 pub record Fits (p : PartValue) (course : Change) (c : ChunkValue) : Type 0 where

@@ -1,11 +1,11 @@
 -- What a partition knows and keeps (partitions that hold keys and give them on: Squall, SIGMOD 2015; that one partition knows
 -- several reconfigurations is this project's).
-use Rattle.std.specs.Prelude.{◌≡◌, ◌≢◌, ℕ, ◌<◌, ◌==◌, ◌⊎◌, Bool, true, List, [], ◌∷◌, map, filter, Option, None, Some, if◌then◌else◌}
-use Rattle.std.specs.Option.{option_map, option_and_then}
+use Rattle.std.specs.Prelude.{◌≡◌, ◌≢◌, ℕ, ◌==◌, ◌⊎◌, List, [], ◌∷◌, map, filter, Option, None, Some, if◌then◌else◌}
+use Rattle.std.specs.Option.{option_map}
 use Rattle.std.specs.List.{find, AllByRecursion}
 use Rattle.squall_join.specs.declared.flat.Flat.{Flat}
 use Rattle.squall_join.specs.declared.flat.Flat.TheVariants.{Unknown, One, Clash}
-use Rattle.squall_span.specs.Spans.{Interval, span_at, has, IsSet}
+use Rattle.squall_span.specs.Spans.{Interval, IsSet}
 use Rattle.squall_plan.specs.declared.range.PlanRange.{PlanRange}
 use Rattle.squall_course.specs.Change.{Change, ArePlans}
 use Rattle.squall_report.specs.Issues.{PlanPair}

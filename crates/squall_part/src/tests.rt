@@ -126,9 +126,9 @@ fn outcome(alloc: Global, loaded: Result<Load, LoadFault>) -> Result<String, Fai
 /// The end of a sub-plan as text, or the fault.
 fn ending(alloc: Global, finished: Result<Report, FinishFault>) -> Result<String, Fail> {
     let mut out = String::new(alloc);
-    match finished {
-        Ok(_) => write!(out, "Done")?,
-        Err(fault) => write!(out, "{fault}")?,
+    match finished.err() {
+        None => write!(out, "Done")?,
+        Some(fault) => write!(out, "{fault}")?,
     }
     Ok(out)
 }

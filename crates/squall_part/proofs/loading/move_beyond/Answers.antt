@@ -1,5 +1,4 @@
-use Rattle.std.proofs.Common.{◌≡◌, leb, option_copied, rules, arith}
-use Rattle.std.specs.List.{slice_get}
+use Rattle.std.proofs.Common.{leb, option_copied, rules, arith}
 use Rattle.std.proofs.lemmas.Grind.{common_steps}
 use Rattle.std.proofs.lemmas.Option.{gets}
 use Rattle.std.proofs.lemmas.List.Sorted.{IsPartitionPoint-from_clause, IsPartitionedBy-leb}

@@ -1,4 +1,4 @@
-use Rattle.std.proofs.Common.{◌≡◌, ◌++◌, subst, sym, ap, ◌∙◌, rules, arith}
+use Rattle.std.proofs.Common.{◌≡◌, ◌++◌, subst, sym, ap, ◌∙◌, rules}
 use Rattle.squall_board.specs.Listed.{issues_of}
 use Rattle.squall_board.specs.ListedLaws.{issues_listed}
 use Rattle.squall_part.specs.Parts.{IsPart, IsLog, log_of, given_in, loaded_in}

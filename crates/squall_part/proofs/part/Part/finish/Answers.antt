@@ -1,10 +1,10 @@
-use Rattle.std.proofs.Common.{◌≡◌, ℕ, ◌<◌, [], Some, None, get_or, subst, sym, ap, ◌∙◌, refl, rules, arith}
+use Rattle.std.proofs.Common.{◌≡◌, ℕ, [], Some, None, get_or, subst, sym, ap, ◌∙◌, refl, rules, arith}
 use Rattle.std.proofs.lemmas.Bool.{false≢true}
 use Rattle.std.proofs.lemmas.Grind.{common_steps}
 use Rattle.std.proofs.lemmas.Option.{gets}
 use Rattle.squall_span.specs.Spans.{IsSet, has, first_span}
 use Rattle.squall_course.specs.Moves.{is_incoming}
-use Rattle.squall_part.specs.Loading.{is_missing, comes_in, IsOpen, done_report, after_finish}
+use Rattle.squall_part.specs.Loading.{is_missing, comes_in, IsOpen, done_report}
 use Rattle.squall_part.proofs.Steps.{missing_keys, incoming_keys, missing_run, first_of, none_missing, some_key, finished_part, finish_after}
 use Rattle.squall_part.proofs.part.Part.finish.Goals as goal
 

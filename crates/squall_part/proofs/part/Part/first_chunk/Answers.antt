@@ -1,9 +1,9 @@
-use Rattle.std.proofs.Common.{◌≡◌, ℕ, ◌+◌, [], Some, None, refl, sym, ap, subst, ◌∙◌, rules, arith}
+use Rattle.std.proofs.Common.{◌≡◌, ℕ, [], None, refl, sym, subst, ◌∙◌, rules, arith}
 use Rattle.std.proofs.lemmas.Bool.{false≢true}
 use Rattle.std.proofs.lemmas.Grind.{common_steps}
 use Rattle.squall_span.specs.Spans.{has, IsSet, first_keys}
 use Rattle.squall_course.specs.Subplans.{dest_of}
-use Rattle.squall_part.specs.Parts.{course_of_part, opened_at}
+use Rattle.squall_part.specs.Parts.{course_of_part}
 use Rattle.squall_part.specs.Giving.{IsCurrent, is_left}
 use Rattle.squall_part.proofs.Given.{plans_at, none_left, zero_max}
 use Rattle.squall_part.proofs.part.Part.first_chunk.Goals as goal

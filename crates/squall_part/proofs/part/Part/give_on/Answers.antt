@@ -1,8 +1,7 @@
 use Rattle.std.proofs.Common.{◌≡◌, ◌<◌, ◌≤◌, get_or, subst, sym, rules}
 use Rattle.squall_key.specs.Keys.{top}
-use Rattle.squall_part.specs.Parts.{Log, log_with, course_of_part}
+use Rattle.squall_part.specs.Parts.{log_with, course_of_part}
 use Rattle.squall_part.specs.Logs.{IsLogAt}
-use Rattle.squall_part.specs.Giving.{after_giving}
 use Rattle.squall_part.proofs.Steps.{given_after, given_valid}
 use Rattle.squall_part.proofs.part.Part.give_on.Goals as goal
 

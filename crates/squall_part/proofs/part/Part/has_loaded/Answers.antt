@@ -1,5 +1,4 @@
-use Rattle.std.proofs.Common.{◌≡◌, ℕ, ◌<◌, true, false, get_or, refl, ap, sym, subst, ◌∙◌, rules, arith}
-use Rattle.squall_span.specs.Spans.{has, span_has}
+use Rattle.std.proofs.Common.{◌≡◌, ◌<◌, get_or, rules, arith}
 use Rattle.squall_span.specs.SpanLaws.{inside}
 use Rattle.squall_part.proofs.Steps.{has_all, lacks_some}
 use Rattle.squall_part.proofs.part.Part.has_loaded.Goals as goal

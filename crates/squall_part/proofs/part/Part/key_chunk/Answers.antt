@@ -1,11 +1,11 @@
-use Rattle.std.proofs.Common.{◌≡◌, ℕ, ◌+◌, ◌<◌, true, false, get_or, Some, None, refl, sym, ap, ◌∙◌, rules, arith}
+use Rattle.std.proofs.Common.{◌≡◌, ◌+◌, ◌<◌, true, false, Some, refl, ap, ◌∙◌, rules, arith}
 use Rattle.std.proofs.lemmas.Grind.{common_steps}
 use Rattle.squall_key.specs.Keys.{top}
 use Rattle.squall_span.specs.Spans.{has, interval}
 use Rattle.squall_plan.specs.Ranges.{owner_of}
-use Rattle.squall_course.specs.Subplans.{subplan_of, dest_of}
-use Rattle.squall_part.specs.Parts.{course_of_part, opened_at, given_by}
-use Rattle.squall_part.specs.Giving.{IsCurrent, goes_out, IsChunkOf}
+use Rattle.squall_course.specs.Subplans.{subplan_of}
+use Rattle.squall_part.specs.Parts.{course_of_part, given_by}
+use Rattle.squall_part.specs.Giving.{IsCurrent, IsChunkOf}
 use Rattle.squall_part.proofs.Given.{plans_at, goes, goes_there, given_here}
 use Rattle.squall_part.proofs.part.Part.key_chunk.Goals as goal
 

@@ -1,4 +1,4 @@
-use Rattle.std.proofs.Common.{◌≡◌, Some, None, sym, ap, ◌∙◌, subst}
+use Rattle.std.proofs.Common.{◌≡◌, Some, None, sym, ap, ◌∙◌}
 use Rattle.squall_part.specs.Parts.{known_to, course_of_part}
 use Rattle.squall_part.proofs.Known.{course_known, newest_at}
 use Rattle.squall_part.proofs.part.Part.newest_place.Goals as goal

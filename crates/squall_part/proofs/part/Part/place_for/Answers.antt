@@ -1,7 +1,6 @@
-use Rattle.std.proofs.Common.{◌≡◌, ◌<◌, ◌≤◌, Some, true, false, get_or, refl, ap, sym, subst, ◌∙◌, rules, arith}
+use Rattle.std.proofs.Common.{◌≡◌, ◌<◌, true, false, get_or, refl, rules, arith}
 use Rattle.std.proofs.lemmas.Grind.{common_steps}
-use Rattle.squall_course.specs.Change.{Change}
-use Rattle.squall_part.specs.Parts.{known_to, opened_at}
+use Rattle.squall_part.specs.Parts.{opened_at}
 use Rattle.squall_part.specs.Steps.{IsLoadPlace}
 use Rattle.squall_part.proofs.Steps.{stranger, may_load}
 use Rattle.squall_part.proofs.part.Part.place_for.Goals as goal

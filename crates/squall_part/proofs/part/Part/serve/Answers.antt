@@ -1,8 +1,7 @@
-use Rattle.std.proofs.Common.{◌≡◌, ◌≤◌, ◌<◌, false, Some, option_copied, sym, subst, ◌∙◌, rules, arith}
-use Rattle.std.proofs.lemmas.Grind.{common_steps}
+use Rattle.std.proofs.Common.{◌≡◌, ◌≤◌, ◌<◌, false, Some, option_copied, sym, subst, rules}
 use Rattle.squall_span.specs.Spans.{has}
 use Rattle.squall_plan.specs.Ranges.{owner_of}
-use Rattle.squall_part.specs.Logs.{number_in, last_of, gave, comes}
+use Rattle.squall_part.specs.Logs.{number_in}
 use Rattle.squall_router.specs.declared.errand.Reply.TheVariants.{Moved}
 use Rattle.squall_part.specs.Serving.{IsReply}
 use Rattle.squall_part.proofs.Served.{pending, moved, behind}

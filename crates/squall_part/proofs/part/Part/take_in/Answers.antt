@@ -1,6 +1,6 @@
 use Rattle.std.proofs.Common.{◌≡◌, ◌<◌, ◌≤◌, get_or, subst, sym, rules}
 use Rattle.squall_key.specs.Keys.{top}
-use Rattle.squall_part.specs.Parts.{Log, log_with}
+use Rattle.squall_part.specs.Parts.{log_with}
 use Rattle.squall_part.specs.Steps.{IsLoadPlace}
 use Rattle.squall_part.proofs.Steps.{loaded_after, loaded_valid}
 use Rattle.squall_part.proofs.part.Part.take_in.Goals as goal
