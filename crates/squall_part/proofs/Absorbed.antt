@@ -6,6 +6,7 @@ use Rattle.std.proofs.lemmas.Bool.{and_parts, and_from, cases_eq}
 use Rattle.std.proofs.lemmas.List.Folds.{find-append}
 use Rattle.squall_join.specs.declared.flat.Flat.{Flat}
 use Rattle.squall_join.specs.declared.flat.Flat.TheVariants.{Unknown, One, Clash}
+use Rattle.squall_span.specs.Spans.{Interval}
 use Rattle.squall_course.specs.Change.{Change}
 use Rattle.squall_report.specs.Issues.{PlanPair, is_same_pair}
 use Rattle.squall_report.specs.Told.{TellsBoth, both_issued}
@@ -187,25 +188,24 @@ empty_in (l ∷ ls) n a = by (l.course.number == n) (empty_in ls n a.1)
 
 -- ---- the partition after
 
-pub given_still : (p : PartValue) (es : List (ℕ × Flat PlanPair)) (ls : List Log) (n : ℕ) → ls ≡ fresh_logs p.first p.board es → given_in (log_of (p.logs ++ ls) n) ≡ given_by p n
-given_still p es ls n e = ap given_in (find-append (λ l. l.course.number == n) p.logs ls) ∙ by (log_of p.logs n)
+-- what is looked up in the logs stays where the new ones tell what none tells
+still : (look : Option Log → List Interval) (p : PartValue) (ls : List Log) (n : ℕ) → look (log_of ls n) ≡ look None → look (log_of (p.logs ++ ls) n) ≡ look (log_of p.logs n)
+still look p ls n none = ap look (find-append (λ l. l.course.number == n) p.logs ls) ∙ by (log_of p.logs n)
   where
-    none : given_in (log_of ls n) ≡ []
-    none = ap (λ x. given_in (log_of x n)) e ∙ (empty_in (fresh_logs p.first p.board es) n (fresh_empty p.first p.board es)).0
-
-    by : (o : Option Log) → given_in (option_or o (log_of ls n)) ≡ given_in o
+    by : (o : Option Log) → look (option_or o (log_of ls n)) ≡ look o
     by None = none
     by (Some l) = refl
+
+fresh_is_empty : (p : PartValue) (es : List (ℕ × Flat PlanPair)) (ls : List Log) (n : ℕ) → ls ≡ fresh_logs p.first p.board es → (given_in (log_of ls n) ≡ []) × (loaded_in (log_of ls n) ≡ [])
+fresh_is_empty p es ls n e =
+    let none = empty_in (fresh_logs p.first p.board es) n (fresh_empty p.first p.board es) in
+    (ap (λ x. given_in (log_of x n)) e ∙ none.0, ap (λ x. loaded_in (log_of x n)) e ∙ none.1)
+
+pub given_still : (p : PartValue) (es : List (ℕ × Flat PlanPair)) (ls : List Log) (n : ℕ) → ls ≡ fresh_logs p.first p.board es → given_in (log_of (p.logs ++ ls) n) ≡ given_by p n
+given_still p es ls n e = still given_in p ls n (fresh_is_empty p es ls n e).0
 
 pub loaded_still : (p : PartValue) (es : List (ℕ × Flat PlanPair)) (ls : List Log) (n : ℕ) → ls ≡ fresh_logs p.first p.board es → loaded_in (log_of (p.logs ++ ls) n) ≡ loaded_by p n
-loaded_still p es ls n e = ap loaded_in (find-append (λ l. l.course.number == n) p.logs ls) ∙ by (log_of p.logs n)
-  where
-    none : loaded_in (log_of ls n) ≡ []
-    none = ap (λ x. loaded_in (log_of x n)) e ∙ (empty_in (fresh_logs p.first p.board es) n (fresh_empty p.first p.board es)).1
-
-    by : (o : Option Log) → loaded_in (option_or o (log_of ls n)) ≡ loaded_in o
-    by None = none
-    by (Some l) = refl
+loaded_still p es ls n e = still loaded_in p ls n (fresh_is_empty p es ls n e).1
 
 module _ (p : PartValue) (d q : BoardValue) (is : IsPart p) (tells : TellsBoth (told q) (told p.board) (told d)) (listed : AreIssues d (issues_of d)) where
   abbrev ls : List Log
