@@ -1,6 +1,6 @@
 //! The legs of a route by the moves of a course.
 
-ghost use Rattle.std.specs.Prelude.{◌≡◌, ℕ, ◌≤◌, OnOk, IfOk, length, drop, min, max, option_copied};
+ghost use Rattle.std.specs.Prelude.{◌≡◌, ℕ, ◌≤◌, OnOk, IfOk, length, drop, option_copied};
 ghost use Rattle.squall_key.specs.Keys.{top};
 ghost use Rattle.squall_span.specs.Spans.{has, IsCanonical as IsCanonicalSet};
 ghost use Rattle.squall_plan.specs.Ranges.{owner_of, IsCanonical};
@@ -25,28 +25,6 @@ pub(crate) enum Heard<'a> {
     Board(&'a Board),
     /// That each of them has come.
     All,
-}
-
-/// The later of two bounds.
-fn later(first: Bound, second: Bound) -> Bound
-    ensures { result ≡ max first second }
-{
-    if first.rank() < second.rank() {
-        second
-    } else {
-        first
-    }
-}
-
-/// The earlier of two bounds.
-fn earlier(first: Bound, second: Bound) -> Bound
-    ensures { result ≡ min first second }
-{
-    if first.rank() < second.rank() {
-        first
-    } else {
-        second
-    }
 }
 
 /// Where the first span stands that ends beyond a bound.
@@ -76,9 +54,9 @@ fn push_picked(
     let mut at = first_beyond(spans, lo);
     while at < spans.len() && spans[at].lo().rank() < hi.rank() {
         let span = spans[at];
-        let start = later(span.lo(), reach);
+        let start = span.lo().max(reach);
         push_leg(out, reach, start, source)?;
-        reach = earlier(span.hi(), hi);
+        reach = span.hi().min(hi);
         push_leg(out, start, reach, dest)?;
         at += 1;
     }
@@ -155,9 +133,9 @@ pub(crate) fn push_routes(
     let mut at = first;
     while at < moves.len() && moves[at].span.lo().rank() < hi.rank() {
         let moved = moves[at];
-        let start = later(moved.span.lo(), reach);
+        let start = moved.span.lo().max(reach);
         copy_legs(out, legs, reach, start)?;
-        reach = earlier(moved.span.hi(), hi);
+        reach = moved.span.hi().min(hi);
         push_move(out, &moved, number, heard, start, reach)?;
         at += 1;
     }
