@@ -82,11 +82,11 @@ pub any_none : {X : Type 0} (g : X → Bool) (xs : List X) → AllByRecursion (�
 any_none g [] p = refl
 any_none g (x ∷ xs) p = ap (λ b. b || list_any g xs) p.0 ∙ any_none g xs p.1
 
-any_same : {X : Type 0} (g h : X → Bool) (xs : List X) → AllByRecursion (λ x. g x ≡ h x) xs → list_any g xs ≡ list_any h xs
+pub any_same : {X : Type 0} (g h : X → Bool) (xs : List X) → AllByRecursion (λ x. g x ≡ h x) xs → list_any g xs ≡ list_any h xs
 any_same g h [] p = refl
 any_same g h (x ∷ xs) p = ap (λ b. b || list_any g xs) p.0 ∙ ap (λ b. h x || b) (any_same g h xs p.1)
 
-any_and : {X : Type 0} (a : Bool) (g : X → Bool) (xs : List X) → list_any (λ x. a && g x) xs ≡ (a && list_any g xs)
+pub any_and : {X : Type 0} (a : Bool) (g : X → Bool) (xs : List X) → list_any (λ x. a && g x) xs ≡ (a && list_any g xs)
 any_and true g xs = refl
 any_and false g xs = any_none (λ x. false) xs (all_true (λ x. false ≡ false) (λ x. refl) xs)
 

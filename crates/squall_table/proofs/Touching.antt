@@ -19,6 +19,7 @@ use Rattle.squall_course.specs.Moves.{goes_to, move_has, AreMoves}
 use Rattle.squall_course.proofs.Gathered.{incoming_keys}
 use Rattle.squall_report.specs.Facts.{LoadedKey, DonePart}
 use Rattle.squall_report.specs.Told.{TellsBoth}
+use Rattle.squall_board.specs.ListedLaws.{any_same, any_and}
 use Rattle.squall_board.specs.Boards.{CellValue, Parts, Subs, BoardValue, cells_in, cell_is, cell_bottom, says, told, found_in}
 use Rattle.squall_board.specs.ListedLaws.{KeysRise, keys_rise, says_some, all_weaker}
 use Rattle.squall_board.specs.Route.{has_come, place_of_key}
@@ -102,15 +103,6 @@ one_span_more has0 has1 has2 b xs i k x lt is e f =
     either false false false b = refl
 
 -- ---- the cells of a delta
-
-any_same : {X : Type 0} (g h : X → Bool) (xs : List X) → AllByRecursion (λ x. g x ≡ h x) xs → list_any g xs ≡ list_any h xs
-any_same g h [] p = refl
-any_same g h (x ∷ xs) p = (λ i. p.0 i || any_same g h xs p.1 i)
-
-any_and : {X : Type 0} (a : Bool) (g : X → Bool) (xs : List X) → list_any (λ x. a && g x) xs ≡ (a && list_any g xs)
-any_and true g xs = refl
-any_and false g [] = refl
-any_and false g (x ∷ xs) = any_and false g xs
 
 abbrev comes : CellValue → ℕ → Bool
 comes cell k = cell_has_come (Some cell) k
