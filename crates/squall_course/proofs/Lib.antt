@@ -8,5 +8,6 @@ pub mod Moved
 pub mod Gathered
 pub mod Started
 pub mod Received
+pub mod Filed
 pub mod Counted
 pub mod Unique

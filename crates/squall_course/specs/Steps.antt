@@ -1,6 +1,8 @@
 -- What private functions find on the way to a course's answers (this project). No public contract cites these definitions.
-use Rattle.std.specs.Prelude.{◌≡◌, ℕ, ◌+◌, ◌<◌, ◌≤◌, ◌==◌, ◌&&◌, true, false, Bool, List, [], ◌∷◌, Option, None, Some}
-use Rattle.std.specs.List.{list_any}
+use Rattle.std.specs.Prelude.{◌≡◌, ℕ, ◌+◌, ◌*◌, ◌<◌, ◌≤◌, ◌==◌, ◌&&◌, true, false, Bool, List, [], ◌∷◌, Option, None, Some}
+use Rattle.std.specs.List.{list_any, AllByRecursion}
+use Rattle.std.specs.List.Sorted.{IsNonDecreasingBy, IsPermutation}
+use Rattle.squall_key.specs.Keys.{part_limit}
 use Rattle.squall_span.specs.Spans.{Interval, has}
 use Rattle.squall_plan.specs.declared.range.PlanRange.{PlanRange}
 use Rattle.squall_course.specs.declared.moving.Move.{Move}
@@ -19,6 +21,32 @@ Up from (x ∷ xs) = (from ≤ x) × Up (x + 1) xs
 -- the move leaves the partition in the sub-plan
 abbrev pub leaves : ℕ → ℕ → Move → Bool
 leaves sub part m = (m.sub == sub) && (m.source == part)
+
+-- the place of a sub-plan and a partition, in the order by sub-plan, then by partition
+abbrev pub place : ℕ → ℕ → ℕ
+place sub part = sub * part_limit + part
+
+-- the place of a move among those that leave, by sub-plan, then by source
+abbrev pub leaving_place : Move → ℕ
+leaving_place m = place m.sub m.source
+
+-- the place of a move among those that arrive, by sub-plan, then by destination
+abbrev pub arriving_place : Move → ℕ
+arriving_place m = place m.sub m.dest
+
+-- both partitions of the move are ones that there can be
+abbrev pub IsLow : Move → Type 0
+IsLow m = (m.source < part_limit) × (m.dest < part_limit)
+
+-- moves by rising place, of partitions that there can be
+pub record AreByPlace (place_of : Move → ℕ) (xs : List Move) : Type 0 where
+  pub rises : IsNonDecreasingBy place_of xs
+  pub low : AllByRecursion IsLow xs
+
+-- the second list has the moves of the first, by rising place
+pub record AreFiled (place_of : Move → ℕ) (ms xs : List Move) : Type 0 where
+  pub same : IsPermutation ms xs
+  pub rises : IsNonDecreasingBy place_of xs
 
 -- the partitions to which moves go in the sub-plan, in rising number
 pub record AreReceivers (ms : List Move) (sub : ℕ) (parts : List ℕ) : Type 0 where

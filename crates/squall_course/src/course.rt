@@ -1,16 +1,20 @@
 //! Courses.
 
-ghost use Rattle.std.specs.Prelude.{◌≡◌, ◌≢◌, ◌≤◌, ℕ, IfOk, IfErr};
+ghost use Rattle.std.specs.Prelude.{◌≡◌, ◌≢◌, ◌≤◌, ◌==◌, ◌&&◌, ℕ, Bool, IfOk, IfErr};
+ghost use Rattle.std.specs.List.{list_any};
+ghost use Rattle.std.specs.List.Sorted.{IsNonDecreasingBy};
 ghost use Rattle.squall_course.specs.declared.fault.CourseFault.TheVariants.{ZeroNumber, NoMemory};
 ghost use Rattle.squall_span.specs.Spans.{has};
 ghost use Rattle.squall_key.specs.Keys.{part_limit};
 ghost use Rattle.squall_plan.specs.Ranges.{owner_of};
 ghost use Rattle.squall_course.specs.Change.{ArePlans};
+ghost use Rattle.squall_course.specs.declared.moving.Move.{Move};
 ghost use Rattle.squall_course.specs.Subplans.{subplan_of, subplan_count, dest_of};
 ghost use Rattle.squall_course.specs.Statuses.{IsStatus};
 ghost use Rattle.squall_course.specs.Moves.{moves_of, AreMoves, is_incoming, is_outgoing, receivers_of};
 
 use crate::fault::CourseFault;
+use crate::filing::{by_dest, by_source};
 use crate::gather;
 use crate::link::Table;
 use crate::moving::Move;
@@ -35,6 +39,10 @@ pub struct Course {
     new: Plan,
     table: Table,
     moves: Vec<Move>,
+    // The same moves twice more, so that those of a partition in a sub-plan lie side by side: by
+    // sub-plan, then by source, and by sub-plan, then by destination; each time then by key.
+    leaving: Vec<Move>,
+    arriving: Vec<Move>,
     subplans: u32,
 }
 
@@ -45,12 +53,13 @@ impl Model for Course {
     ghost use Rattle.squall_course.specs.Subplans.{subplan_count};
     ghost use Rattle.squall_course.specs.Moves.{moves_of};
     ghost use Rattle.squall_course.specs.Links.{IsTable};
+    ghost use Rattle.squall_course.specs.Steps.{leaving_place, arriving_place, AreFiled};
 
     ghost Value = { Change };
 
     ghost view = { λ c. record { number = c.number; old = c.old; new = c.new } };
 
-    ghost invariant = { λ c. (1 ≤ c.number) × ArePlans c.old c.new × IsTable c.old c.new c.table × (c.moves.items ≡ moves_of c.old c.new) × (c.subplans ≡ subplan_count c.old c.new) };
+    ghost invariant = { λ c. (1 ≤ c.number) × ArePlans c.old c.new × IsTable c.old c.new c.table × (c.moves.items ≡ moves_of c.old c.new) × (c.subplans ≡ subplan_count c.old c.new) × AreFiled leaving_place (moves_of c.old c.new) c.leaving.items × AreFiled arriving_place (moves_of c.old c.new) c.arriving.items };
 }
 
 impl Course {
@@ -69,6 +78,8 @@ impl Course {
         let transfers = transfers(alloc, old.ranges(), new.ranges())?;
         let table = Table::of(alloc, &transfers)?;
         let moves = table.number(alloc, &transfers)?;
+        let leaving = by_source(alloc, &moves)?;
+        let arriving = by_dest(alloc, &moves)?;
         let subplans = table.most(old.ranges()) as u32;
         Ok(Course {
             number,
@@ -76,6 +87,8 @@ impl Course {
             new,
             table,
             moves,
+            leaving,
+            arriving,
             subplans,
         })
     }
@@ -154,6 +167,15 @@ impl Course {
         &self.moves
     }
 
+    /// The moves of the sub-plan, by rising destination: what a test finds among the moves of that
+    /// sub-plan, it finds among these.
+    pub fn arrivals(&self, sub: u32) -> &[Move]
+        ensures same { (p : Move → Bool) → list_any p result.now ≡ list_any (λ m. (m.sub == sub) && p m) (moves_of self.now.old self.now.new) }
+        ensures rise { IsNonDecreasingBy (λ m. m.dest) result.now }
+    {
+        gather::arrivals(&self.arriving, sub)
+    }
+
     /// How many sub-plans there are: the greatest number of destinations of a source, and so at
     /// most the number of partitions.
     pub fn subplans(&self) -> u32
@@ -177,14 +199,14 @@ impl Course {
     pub fn incoming(&self, alloc: Global, sub: u32, part: PartId) -> Result<SpanSet, AllocError>
         ensures { IfOk result (λ set. (k : ℕ) → has set k ≡ is_incoming self.now.old self.now.new sub part k) }
     {
-        gather::incoming(alloc, &self.moves, sub, part)
+        gather::incoming(alloc, &self.arriving, sub, part)
     }
 
     /// The keys that move away from `part` in the sub-plan. The error comes where an allocation failed.
     pub fn outgoing(&self, alloc: Global, sub: u32, part: PartId) -> Result<SpanSet, AllocError>
         ensures { IfOk result (λ set. (k : ℕ) → has set k ≡ is_outgoing self.now.old self.now.new sub part k) }
     {
-        gather::outgoing(alloc, &self.moves, sub, part)
+        gather::outgoing(alloc, &self.leaving, sub, part)
     }
 
     /// The partitions to which keys move in the sub-plan, in rising number. The error comes where
@@ -192,7 +214,7 @@ impl Course {
     pub fn receivers(&self, alloc: Global, sub: u32) -> Result<Vec<PartId>, AllocError>
         ensures { IfOk result (λ v. v.items ≡ receivers_of (moves_of self.now.old self.now.new) sub) }
     {
-        gather::receivers(alloc, &self.moves, sub)
+        gather::receivers(alloc, &self.arriving, sub)
     }
 
     /// How many keys of the span are in the set, none, some or all: for keys that are to be loaded

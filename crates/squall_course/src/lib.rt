@@ -3,6 +3,7 @@
 
 mod course;
 mod fault;
+mod filing;
 mod gather;
 mod laws;
 mod link;

@@ -1,4 +1,5 @@
-use Rattle.std.proofs.Common.{arith}
+use Rattle.std.proofs.Common.{◌∙◌, subst, arith}
+use Rattle.squall_course.specs.Steps.{leaving_place, arriving_place, AreFiled}
 use Rattle.squall_course.proofs.Sweeps.{follow_tiling}
 use Rattle.squall_course.proofs.Tabled.{is_table, moves_are, count_is, made_of, plans_of}
 use Rattle.squall_course.proofs.course.Course.new.Goals as goal
@@ -31,4 +32,6 @@ invariant_of-result c =
     let made-2 = made_of old new c.ranges-2.result.now c.ranges-3.result.now c.deref-2.result.now c.in_ok-transfers.transfers.items c.ranges-2.ensures.value c.ranges-3.ensures.value c.in_ok-transfers.ensures c.deref-2.ensures.value in
     let listed = moves_are old new fs c.deref-2.result.now c.in_ok-moves.moves.items plans t made-2 c.in_ok-moves.ensures in
     let count = (count_is old new c.ranges-4.result.now fs c.most-subplans.result t c.ranges-4.ensures.value c.most-subplans.ensures).0 in
-    (omega arith, plans, t, listed, count)
+    let leaving = subst (λ ms. AreFiled leaving_place ms c.in_ok-leaving.leaving.items) (c.deref-3.ensures.value ∙ listed) c.in_ok-leaving.ensures in
+    let arriving = subst (λ ms. AreFiled arriving_place ms c.in_ok-arriving.arriving.items) (c.deref-4.ensures.value ∙ listed) c.in_ok-arriving.ensures in
+    (omega arith, plans, t, listed, count, leaving, arriving)

@@ -5,14 +5,16 @@ use Rattle.std.proofs.lemmas.Result.{IfOk-weaker}
 use Rattle.squall_span.specs.Spans.{Interval, has}
 use Rattle.squall_course.specs.Change.{Change}
 use Rattle.squall_course.specs.Moves.{move_has, is_outgoing}
-use Rattle.squall_course.specs.Steps.{leaves}
-use Rattle.squall_course.proofs.Gathered.{course_moves, outgoing_keys}
+use Rattle.squall_course.specs.Steps.{leaves, leaving_place}
+use Rattle.squall_course.proofs.Filed.{by_place, filed_outgoing}
 use Rattle.squall_course.proofs.course.Course.outgoing.Goals as goal
+
+pub outgoing-requires : goal.outgoing-requires
+outgoing-requires c = by_place leaving_place c.self.inside.old c.self.inside.new c.self.inside.leaving.items _ c.self.invariant.1 c.self.invariant.5 c.deref.ensures.value
 
 pub returns : goal.returns
 returns c =
-    let are = course_moves c.args.self.now c.self.inside.old c.self.inside.new c.deref.result.now c.self.inside.moves.items
-    (ap (λ (v : Change). v.old) c.self.view_is) (ap (λ (v : Change). v.new) c.self.view_is) c.self.invariant.1 c.self.invariant.3 c.deref.ensures.value in
     let keys : (set : List Interval) → ((k : ℕ) → has set k ≡ list_any (λ m. leaves c.args.sub c.args.part m && move_has k m) c.deref.result.now) → (k : ℕ) → has set k ≡ is_outgoing c.args.self.now.old c.args.self.now.new c.args.sub c.args.part k
-    = λ set in_them k. in_them k ∙ outgoing_keys c.args.self.now.old c.args.self.now.new c.deref.result.now c.args.sub c.args.part k are in
+    = λ set in_them k. in_them k ∙ filed_outgoing c.args.self.now c.self.inside.old c.self.inside.new c.self.inside.leaving.items c.deref.result.now c.args.sub c.args.part k
+    (ap (λ (v : Change). v.old) c.self.view_is) (ap (λ (v : Change). v.new) c.self.view_is) c.self.invariant.1 c.self.invariant.5 c.deref.ensures.value in
     IfOk-weaker _ _ _ keys c.outgoing.ensures

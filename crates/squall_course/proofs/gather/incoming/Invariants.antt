@@ -1,9 +1,0 @@
-use Rattle.std.proofs.Common.{◌≡◌, ℕ, take}
-use Rattle.std.specs.Prelude.{◌&&◌}
-use Rattle.std.specs.List.{list_any}
-use Rattle.squall_span.specs.Spans.{has}
-use Rattle.squall_course.specs.Moves.{goes_to, move_has}
-use Rattle.squall_course.proofs.gather.incoming.Given as goal
-
-abbrev pub invariant-loop-one : goal.invariant-loop-one
-invariant-loop-one l = (k : ℕ) → has l.keys k ≡ list_any (λ m. goes_to l.sub l.part m && move_has k m) (take l.one-index l.moves)
