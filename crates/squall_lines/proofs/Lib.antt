@@ -4,3 +4,4 @@ pub mod RunningLemmas
 pub mod Turns
 pub mod Outcomes
 pub mod WordLemmas
+pub mod Functions

@@ -1,6 +1,6 @@
 -- How a run ends.
-use Rattle.std.proofs.Common.{◌≡◌, ℕ, ◌<◌, List, [], ◌∷◌, ◌++◌, length, Option, Result, Ok, Err, true, false, sym, ◌∙◌, ap, subst, refl, arith}
-use Rattle.std.proofs.lemmas.List.{append-nil}
+use Rattle.std.proofs.Common.{◌≡◌, ℕ, ◌<◌, List, [], ◌∷◌, ◌++◌, length, take, drop, Option, Result, Ok, Err, sym, ◌∙◌, ap, subst, refl, arith}
+use Rattle.std.proofs.lemmas.List.{append_assoc, append-nil, take-append-drop}
 use Rattle.std.specs.List.{concat}
 use Rattle.std.specs.Io.KnownBytes.{Appends, Consumes, Keeps}
 use Rattle.squall_lines.specs.declared.Flow.{Flow}
@@ -10,26 +10,51 @@ use Rattle.squall_lines.specs.declared.Ended.TheVariants.{Fine, Refused}
 use Rattle.squall_lines.specs.declared.RunFault.{RunFault}
 use Rattle.squall_lines.specs.declared.RunFault.TheVariants.{Read, Write, NoMemory}
 use Rattle.squall_lines.specs.Lines.{lines_of, whole_lines, IsOneLine}
-use Rattle.squall_lines.specs.Script.{Script, TakesLine, silence, after, text_of, IsOutcome}
-use Rattle.squall_lines.specs.Running.{Running, Finishes, StopsBy}
+use Rattle.squall_lines.specs.Script.{Script, TakesLine, silence, after, last_word, IsOutcome}
+use Rattle.squall_lines.specs.Running.{Running, Cuts, Finishes, StopsBy}
 use Rattle.squall_lines.proofs.LineLemmas.{lines_of-last, whole_lines-none}
 use Rattle.std.proofs.KnownBytes.{Appends-nil, Appends-trans, Consumes-nil, Consumes-trans, Consumes-kept}
-use Rattle.squall_lines.proofs.RunningLemmas.{Running-refl, Running-more, Running-trans, Begins-now, Finishes-later, StopsBy-later, text_of-running, all_answered}
+use Rattle.squall_lines.proofs.RunningLemmas.{Running-refl, Running-more, Running-trans, Begins-now, Finishes-later, StopsBy-later, plays-all, text-later}
+use Rattle.squall_lines.proofs.Turns.{Cuts-all}
+
+-- the first bytes of a prefix are a prefix
+Cuts-take : (plays : List (List ℕ) → Script → Type 0) (read text out : List ℕ) (n : ℕ) → out ≡ text → Cuts plays read text → Cuts plays read (take n out)
+Cuts-take plays read text out n e c = (
+  c.0,
+  c.1,
+  c.2,
+  (drop n out ++ c.3.0, c.3.1 ∙ ap (λ w. w ++ c.3.0) (sym e ∙ sym (take-append-drop n out)) ∙ append_assoc (take n out) (drop n out) c.3.0),
+)
 
 -- the one answer to a last line
-module _ (now next : List (List ℕ) → Script) (line text : List ℕ) (one : IsOneLine line) (some : 0 < length line) where
-  pub text_of-last : (flow : Flow) → next [] ≡ silence → TakesLine flow text now next line → text_of (now (lines_of line)) ≡ text
-  text_of-last On quiet taken = ap (λ w. text_of (now w)) (lines_of-last line one some) ∙ ap text_of (taken []) ∙ ap (λ w. text_of (after (text ∷ []) w)) quiet ∙ append-nil text
-  text_of-last End quiet taken = ap (λ w. text_of (now w)) (lines_of-last line one some) ∙ ap text_of (taken []) ∙ append-nil text
+module _ (now next : List (List ℕ) → Script → Type 0) (line text : List ℕ) (one : IsOneLine line) (some : 0 < length line) where
+  plays-last : (s : Script) → now (line ∷ []) s → now (lines_of line) s
+  plays-last s p = subst (λ w. now w s) (sym (lines_of-last line one some)) p
 
-  pub refused-on : next [] ≡ silence → TakesLine On text now next line → (now (lines_of line)).refused ≡ false
-  refused-on quiet taken = ap (λ w. (now w).refused) (lines_of-last line one some) ∙ ap (λ (w : Script). w.refused) (taken []) ∙ ap (λ (w : Script). w.refused) quiet
+  -- a good one
+  pub last-on : (out : List ℕ) → out ≡ text → next [] silence → TakesLine On text now next line → IsOutcome (Ok Fine) now line out
+  last-on out e quiet taken = (after (text ∷ []) silence, plays-last (after (text ∷ []) silence) (taken [] silence quiet), e ∙ sym (append-nil text), refl)
 
-  pub refused-end : TakesLine End text now next line → (now (lines_of line)).refused ≡ true
-  refused-end taken = ap (λ w. (now w).refused) (lines_of-last line one some) ∙ ap (λ (w : Script). w.refused) (taken [])
+  -- a bad one
+  pub last-end : (out : List ℕ) → out ≡ text → TakesLine End text now next line → IsOutcome (Ok Refused) now line out
+  last-end out e taken = (last_word text, plays-last (last_word text) (taken []), e ∙ sym (append-nil text), refl)
+
+  -- the answer was not written whole
+  pub last-cut : (flow : Flow) (out : List ℕ) (n : ℕ) → out ≡ text → next [] silence → TakesLine flow text now next line → IsOutcome (Err Write) now line (take n out)
+  last-cut On out n e quiet taken =
+      let o = last-on out e quiet taken in
+      Cuts-take now line out out n refl (Cuts-all now line out o.0 o.1 o.2)
+  last-cut End out n e quiet taken =
+      let o = last-end out e taken in
+      Cuts-take now line out out n refl (Cuts-all now line out o.0 o.1 o.2)
+
+-- where nothing is left no line is to answer
+pub last-none : (now : List (List ℕ) → Script → Type 0) (line : List ℕ) → length line ≡ 0 → now [] silence → IsOutcome (Ok Fine) now line []
+last-none now [] none quiet = (silence, quiet, refl, refl)
+last-none now (b ∷ line) none quiet = absurd (omega arith)
 
 -- what holds between two reads
-pub record Reading (first now : List (List ℕ) → Script) (reader reader' writer writer' : Option (List ℕ)) (carry : List ℕ) : Type 0 where
+pub record Reading (first now : List (List ℕ) → Script → Type 0) (reader reader' writer writer' : Option (List ℕ)) (carry : List ℕ) : Type 0 where
   pub read : List ℕ
   pub sent : List ℕ
   pub consumes : Consumes reader reader' read
@@ -38,10 +63,10 @@ pub record Reading (first now : List (List ℕ) → Script) (reader reader' writ
   pub one : IsOneLine carry
 
 -- a run ends with this result
-abbrev pub EndsAs : Result Ended RunFault → (List (List ℕ) → Script) → (reader reader' writer writer' : Option (List ℕ)) → Type 0
+abbrev pub EndsAs : Result Ended RunFault → (List (List ℕ) → Script → Type 0) → (reader reader' writer writer' : Option (List ℕ)) → Type 0
 EndsAs result first reader reader' writer writer' = (read : List ℕ) × (written : List ℕ) × Consumes reader reader' read × Appends writer writer' written × IsOutcome result first read written
 
-pub Reading-start : (first : List (List ℕ) → Script) (reader writer : Option (List ℕ)) → Reading first first reader reader writer writer []
+pub Reading-start : (first : List (List ℕ) → Script → Type 0) (reader writer : Option (List ℕ)) → Reading first first reader reader writer writer []
 Reading-start first reader writer = record {
   read = [];
   sent = [];
@@ -51,37 +76,28 @@ Reading-start first reader writer = record {
   one = λ k l. absurd (omega arith);
 }
 
-module _ (first now next : List (List ℕ) → Script) (reader reader' reader'' writer writer' writer'' : Option (List ℕ)) (carry : List ℕ) (r : Reading first now reader reader' writer writer' carry) where
+module _ (first now next : List (List ℕ) → Script → Type 0) (reader reader' reader'' writer writer' writer'' : Option (List ℕ)) (carry : List ℕ) (r : Reading first now reader reader' writer writer' carry) where
   -- the lines with their LF are answered
-  pub EndsAs-read : now [] ≡ silence → Keeps reader' reader'' → EndsAs (Err Read) first reader reader'' writer writer'
-  EndsAs-read quiet keeps =
+  whole_answered : now [] silence → IsOutcome (Err Read) first r.read r.sent
+  whole_answered quiet =
       let u = r.running in
-      let whole : whole_lines r.read ≡ u.whole = ap whole_lines u.split ∙ u.closed carry ∙ ap (λ w. u.whole ++ w) (whole_lines-none carry r.one) ∙ append-nil u.whole in
-      let answered : first (lines_of u.whole) ≡ after u.done silence = ap (λ w. first (lines_of w)) (sym (append-nil u.whole)) ∙ u.answered [] ∙ ap (after u.done) quiet in (
-        r.read,
-        r.sent,
-        Consumes-kept reader reader' reader'' r.read r.consumes keeps,
-        r.appends,
-        u.written ∙ ap concat (sym (append-nil u.done)) ∙ sym (ap text_of answered) ∙ ap (λ w. text_of (first (lines_of w))) (sym whole),
-      )
+      let whole : u.whole ≡ whole_lines r.read = sym (append-nil u.whole) ∙ ap (λ w. u.whole ++ w) (sym (whole_lines-none carry r.one)) ∙ sym (u.closed carry) ∙ ap whole_lines (sym u.split) in
+      let lines_are : lines_of u.whole ++ [] ≡ lines_of (whole_lines r.read) = append-nil (lines_of u.whole) ∙ ap lines_of whole in
+      (after u.done silence, subst (λ w. first w (after u.done silence)) lines_are (u.answered [] silence quiet), u.written ∙ ap concat (sym (append-nil u.done)))
 
-  pub EndsAs-now : now [] ≡ silence → EndsAs (Err Read) first reader reader' writer writer'
-  EndsAs-now quiet =
-      let u = r.running in
-      let whole : whole_lines r.read ≡ u.whole = ap whole_lines u.split ∙ u.closed carry ∙ ap (λ w. u.whole ++ w) (whole_lines-none carry r.one) ∙ append-nil u.whole in
-      let answered : first (lines_of u.whole) ≡ after u.done silence = ap (λ w. first (lines_of w)) (sym (append-nil u.whole)) ∙ u.answered [] ∙ ap (after u.done) quiet in (
-        r.read,
-        r.sent,
-        r.consumes,
-        r.appends,
-        u.written ∙ ap concat (sym (append-nil u.done)) ∙ sym (ap text_of answered) ∙ ap (λ w. text_of (first (lines_of w))) (sym whole),
-      )
+  pub EndsAs-read : now [] silence → Keeps reader' reader'' → EndsAs (Err Read) first reader reader'' writer writer'
+  EndsAs-read quiet keeps = (r.read, r.sent, Consumes-kept reader reader' reader'' r.read r.consumes keeps, r.appends, whole_answered quiet)
+
+  pub EndsAs-now : now [] silence → EndsAs (Err Read) first reader reader' writer writer'
+  EndsAs-now quiet = (r.read, r.sent, r.consumes, r.appends, whole_answered quiet)
 
   -- what was left is answered
   outcome : (result : Result Ended RunFault) (more : List ℕ) → (result ≡ Err Read → ⊥) → IsOutcome result now carry more → IsOutcome result first r.read (r.sent ++ more)
   outcome (Ok Fine) more not_read o = (
-    ap (λ w. r.sent ++ w) o.0 ∙ sym (text_of-running first now next r.read carry r.sent r.running),
-    ap (λ (w : Script). w.refused) (all_answered first now next r.read carry r.sent r.running) ∙ o.1,
+    after r.running.done o.0,
+    plays-all first now next r.read carry r.sent r.running o.0 o.1,
+    text-later first now next r.read carry r.sent more r.running o.0 o.2,
+    o.3,
   )
   outcome (Ok Refused) more not_read o = Finishes-later first now next r.read carry r.sent more r.running o
   outcome (Err Read) more not_read o = absurd (not_read refl)
@@ -98,8 +114,8 @@ module _ (first now next : List (List ℕ) → Script) (reader reader' reader'' 
   )
 
   -- an allocation failed before anything was done
-  pub EndsAs-no_memory : EndsAs (Err NoMemory) first reader reader' writer writer'
-  EndsAs-no_memory = (r.read, r.sent, r.consumes, r.appends, Begins-now first now next r.read carry r.sent r.running)
+  pub EndsAs-no_memory : now [] silence → EndsAs (Err NoMemory) first reader reader' writer writer'
+  EndsAs-no_memory quiet = (r.read, r.sent, r.consumes, r.appends, Begins-now first now next r.read carry r.sent quiet r.running)
 
   module _ (block sent : List ℕ) (consumes : Consumes reader' reader'' block) (appends : Appends writer' writer'' sent) where
     grown : Running first now (r.read ++ block) (carry ++ block) r.sent

@@ -1,18 +1,18 @@
 -- What holds between two lines of a block.
-use Rattle.std.proofs.Common.{◌≡◌, ℕ, ◌<◌, List, [], ◌∷◌, ◌++◌, length, take, drop, Option, sym, ◌∙◌, ap, subst, arith}
-use Rattle.std.proofs.lemmas.List.{append_assoc, append-nil, take-append-drop}
+use Rattle.std.proofs.Common.{◌≡◌, ℕ, ◌<◌, ◌≤◌, List, [], ◌∷◌, ◌++◌, length, take, drop, Option, sym, ◌∙◌, ap, subst, arith}
+use Rattle.std.proofs.lemmas.List.{append_assoc, append-nil, take-append-drop, take_all}
 use Rattle.std.specs.Io.KnownBytes.{Appends}
 use Rattle.squall_lines.specs.declared.Flow.TheVariants.{On, End}
 use Rattle.squall_lines.specs.Lines.{lines_of, IsOneLine}
-use Rattle.squall_lines.specs.Script.{Script, TakesLine, text_of, IsPrefix}
-use Rattle.squall_lines.specs.Running.{Running, Begins, Finishes}
+use Rattle.squall_lines.specs.Script.{Script, TakesLine, silence, text_of}
+use Rattle.squall_lines.specs.Running.{Running, Begins, Cuts, Finishes}
 use Rattle.squall_lines.proofs.LineLemmas.{lines_of-last, IsOneLine-append}
-use Rattle.std.proofs.KnownBytes.{Appends-trans}
-use Rattle.squall_lines.proofs.RunningLemmas.{Running-line, Running-trans, Begins-now, Finishes-line, Finishes-last, Finishes-later, text_of-running}
+use Rattle.std.proofs.KnownBytes.{Appends-nil, Appends-trans}
+use Rattle.squall_lines.proofs.RunningLemmas.{Running-refl, Running-line, Running-trans, Begins-now, Finishes-line, Finishes-last, Finishes-later}
 
 -- What was sent is the answers to some first lines, and with what is to go out it answers all that
 -- was read but what is left, which begins with the bytes carried over.
-pub record Turn (first now : List (List ℕ) → Script) (old new : Option (List ℕ)) (read left out carry : List ℕ) : Type 0 where
+pub record Turn (first now : List (List ℕ) → Script → Type 0) (old new : Option (List ℕ)) (read left out carry : List ℕ) : Type 0 where
   pub sent : List ℕ
   pub appends : Appends old new sent
   pub running : Running first now read left (sent ++ out)
@@ -20,18 +20,38 @@ pub record Turn (first now : List (List ℕ) → Script) (old new : Option (List
   pub one : IsOneLine carry
 
 -- what was sent and what is to go out begin all that is answered
-pub record Told (first : List (List ℕ) → Script) (old new : Option (List ℕ)) (read out : List ℕ) : Type 0 where
+pub record Told (first : List (List ℕ) → Script → Type 0) (old new : Option (List ℕ)) (read out : List ℕ) : Type 0 where
   pub sent : List ℕ
   pub appends : Appends old new sent
-  pub prefix : IsPrefix (sent ++ out) (text_of (first (lines_of read)))
+  pub cut : Cuts first read (sent ++ out)
 
 -- what was sent and what is to go out are all that is answered, and the last line was bad
-pub record Over (first : List (List ℕ) → Script) (old new : Option (List ℕ)) (read out : List ℕ) : Type 0 where
+pub record Over (first : List (List ℕ) → Script → Type 0) (old new : Option (List ℕ)) (read out : List ℕ) : Type 0 where
   pub sent : List ℕ
   pub appends : Appends old new sent
   pub finishes : Finishes first read (sent ++ out)
 
-module _ (first now next : List (List ℕ) → Script) (old new last : Option (List ℕ)) (read : List ℕ) where
+-- whole answers to some first lines are a prefix of them
+pub Cuts-begins : (first : List (List ℕ) → Script → Type 0) (read text : List ℕ) → Begins first read text → Cuts first read text
+Cuts-begins first read text t = (t.0, t.1, t.2, ([], sym t.3 ∙ sym (append-nil text)))
+
+-- and so are the answers to all lines
+pub Cuts-all : (first : List (List ℕ) → Script → Type 0) (read text : List ℕ) (s : Script) → first (lines_of read) s → text ≡ text_of s → Cuts first read text
+Cuts-all first read text s p e =
+    let whole : length (lines_of read) ≤ length (lines_of read) = omega arith in
+    (length (lines_of read), s, subst (λ w. first w s) (sym (take_all (length (lines_of read)) (lines_of read) whole)) p, ([], sym e ∙ sym (append-nil text)))
+
+-- before the first line of a block
+pub Turn-start : (first : List (List ℕ) → Script → Type 0) (old : Option (List ℕ)) (read carry : List ℕ) → first [] silence → IsOneLine carry → Turn first first old old read read [] carry
+Turn-start first old read carry quiet one = record {
+  sent = [];
+  appends = Appends-nil old;
+  running = Running-refl first first first read;
+  begun = Begins-now first first first read read [] quiet (Running-refl first first first read);
+  one = one;
+}
+
+module _ (first now next : List (List ℕ) → Script → Type 0) (old new last : Option (List ℕ)) (read : List ℕ) where
   pub Turn-line : (carry rest line others out text out' carry' : List ℕ) → Turn first now old new read (carry ++ rest) out carry → rest ≡ line ++ 10 ∷ others → IsOneLine line → TakesLine On text now next (carry ++ line) → out' ≡ out ++ text → carry' ≡ [] → Turn first next old new read (carry' ++ others) out' carry'
   Turn-line carry rest line others out text out' carry' t is one taken out_is carry_is = record {
     sent = t.sent;
@@ -46,42 +66,48 @@ module _ (first now next : List (List ℕ) → Script) (old new last : Option (L
     one = subst IsOneLine (sym carry_is) (λ k l. absurd (omega arith));
   }
 
-  pub Turn-flush : (left carry out out' : List ℕ) → Turn first now old new read left out carry → Appends new last out → out' ≡ [] → Turn first now old last read left out' carry
-  Turn-flush left carry out out' t sends out_is = record {
+  pub Turn-flush : (left carry out out' : List ℕ) → now [] silence → Turn first now old new read left out carry → Appends new last out → out' ≡ [] → Turn first now old last read left out' carry
+  Turn-flush left carry out out' quiet t sends out_is = record {
     sent = t.sent ++ out;
     appends = Appends-trans old new last t.sent out t.appends sends;
     running = subst (λ w. Running first now read left w) (sym (append-nil (t.sent ++ out)) ∙ ap (λ w. (t.sent ++ out) ++ w) (sym out_is)) t.running;
-    begun = Begins-now first now next read left (t.sent ++ out) t.running;
+    begun = Begins-now first now next read left (t.sent ++ out) quiet t.running;
     one = t.one;
   }
 
-  pub Told-turn : (left carry out : List ℕ) → Turn first now old new read left out carry → Told first old new read out
-  Told-turn left carry out t = record {
+  pub Told-turn : (left carry out : List ℕ) → now [] silence → Turn first now old new read left out carry → Told first old new read out
+  Told-turn left carry out quiet t = record {
     sent = t.sent;
     appends = t.appends;
-    prefix = (text_of (now (lines_of left)), text_of-running first now next read left (t.sent ++ out) t.running);
+    cut = Cuts-begins first read (t.sent ++ out) (Begins-now first now next read left (t.sent ++ out) quiet t.running);
   }
 
   pub Told-over : (out : List ℕ) → Over first old new read out → Told first old new read out
-  Told-over out t = record {
-    sent = t.sent;
-    appends = t.appends;
-    prefix = ([], sym t.finishes.0 ∙ sym (append-nil (t.sent ++ out)));
-  }
+  Told-over out t = record { sent = t.sent; appends = t.appends; cut = Cuts-all first read (t.sent ++ out) t.finishes.0 t.finishes.1 t.finishes.2 }
 
   -- a flush that failed
-  pub Told-fails : (out : List ℕ) (n : ℕ) → Told first old new read out → Appends new last (take n out) → (sent : List ℕ) × Appends old last sent × IsPrefix sent (text_of (first (lines_of read)))
-  Told-fails out n t sends = (
-    t.sent ++ take n out,
-    Appends-trans old new last t.sent (take n out) t.appends sends,
-    (
-      drop n out ++ t.prefix.0,
-      t.prefix.1
-          ∙ ap (λ w. (t.sent ++ w) ++ t.prefix.0) (sym (take-append-drop n out))
-          ∙ ap (λ w. w ++ t.prefix.0) (sym (append_assoc t.sent (take n out) (drop n out)))
-          ∙ append_assoc (t.sent ++ take n out) (drop n out) t.prefix.0,
-    ),
-  )
+  pub Told-fails : (out : List ℕ) (n : ℕ) → Told first old new read out → Appends new last (take n out) → (sent : List ℕ) × Appends old last sent × Cuts first read sent
+  Told-fails out n t sends =
+      let rest = t.cut.3.0 in (
+        t.sent ++ take n out,
+        Appends-trans old new last t.sent (take n out) t.appends sends,
+        (
+          t.cut.0,
+          t.cut.1,
+          t.cut.2,
+          (
+            drop n out ++ rest,
+            t.cut.3.1
+                ∙ ap (λ w. (t.sent ++ w) ++ rest) (sym (take-append-drop n out))
+                ∙ ap (λ w. w ++ rest) (sym (append_assoc t.sent (take n out) (drop n out)))
+                ∙ append_assoc (t.sent ++ take n out) (drop n out) rest,
+          ),
+        ),
+      )
+
+  -- an allocation failed
+  pub Turn-stops : (left carry out : List ℕ) → Turn first now old new read left out carry → (sent : List ℕ) × Appends old new sent × Begins first read sent
+  Turn-stops left carry out t = (t.sent, t.appends, t.begun)
 
   -- a bad line with its LF
   pub Over-line : (carry rest line others out text out' : List ℕ) → Turn first now old new read (carry ++ rest) out carry → rest ≡ line ++ 10 ∷ others → IsOneLine line → TakesLine End text now next (carry ++ line) → out' ≡ out ++ text → Over first old new read out'

@@ -31,12 +31,12 @@ after texts script = record { answers = texts ++ script.answers; refused = scrip
 abbrev pub last_word : List ℕ → Script
 last_word text = record { answers = text ∷ []; refused = true }
 
--- One line taken. A machine is given by the script that it has for each list of lines. To the line and any lines
--- after it the old machine answers this text, and then what the new machine answers to those, or at a bad line
--- nothing.
-abbrev pub TakesLine : Flow → List ℕ → (List (List ℕ) → Script) → (List (List ℕ) → Script) → List ℕ → Type 0
-TakesLine On text old new line = (lines : List (List ℕ)) → old (line ∷ lines) ≡ after (text ∷ []) (new lines)
-TakesLine End text old new line = (lines : List (List ℕ)) → old (line ∷ lines) ≡ last_word text
+-- One line taken. A machine is given by the scripts that it may play to each list of lines. If the new machine may
+-- play a script to some lines, then to the line and those the old one may play this text and then that script; or at
+-- a bad line this text and nothing, whatever follows.
+abbrev pub TakesLine : Flow → List ℕ → (List (List ℕ) → Script → Type 0) → (List (List ℕ) → Script → Type 0) → List ℕ → Type 0
+TakesLine On text old new line = (lines : List (List ℕ)) (s : Script) → new lines s → old (line ∷ lines) (after (text ∷ []) s)
+TakesLine End text old new line = (lines : List (List ℕ)) → old (line ∷ lines) (last_word text)
 
 -- the text of a script: its answers, one after another
 abbrev pub text_of : Script → List ℕ
@@ -46,15 +46,38 @@ text_of script = concat script.answers
 abbrev pub IsPrefix : List ℕ → List ℕ → Type 0
 IsPrefix text whole = (more : List ℕ) × (whole ≡ text ++ more)
 
--- what a run has written that read these bytes, by what it returned
-abbrev pub IsOutcome : Result Ended RunFault → (List (List ℕ) → Script) → List ℕ → List ℕ → Type 0
+-- what a run has written that read these bytes, by what it returned: answers of a script that the machine may play
+abbrev pub IsOutcome : Result Ended RunFault → (List (List ℕ) → Script → Type 0) → List ℕ → List ℕ → Type 0
 -- the answers to the lines read, of which none was bad
-IsOutcome (Ok Fine) script read written = (written ≡ text_of (script (lines_of read))) × ((script (lines_of read)).refused ≡ false)
+IsOutcome (Ok Fine) plays read written = (s : Script) × plays (lines_of read) s × (written ≡ text_of s) × (s.refused ≡ false)
 -- the answers to the lines read, of which one was bad
-IsOutcome (Ok Refused) script read written = (written ≡ text_of (script (lines_of read))) × ((script (lines_of read)).refused ≡ true)
+IsOutcome (Ok Refused) plays read written = (s : Script) × plays (lines_of read) s × (written ≡ text_of s) × (s.refused ≡ true)
 -- the answers to the lines that were read with their LF
-IsOutcome (Err Read) script read written = written ≡ text_of (script (lines_of (whole_lines read)))
--- a prefix of the answers
-IsOutcome (Err Write) script read written = IsPrefix written (text_of (script (lines_of read)))
+IsOutcome (Err Read) plays read written = (s : Script) × plays (lines_of (whole_lines read)) s × (written ≡ text_of s)
+-- a prefix of the answers to some first lines
+IsOutcome (Err Write) plays read written = (n : ℕ) × (s : Script) × plays (take n (lines_of read)) s × IsPrefix written (text_of s)
 -- the answers to some first lines, each whole
-IsOutcome (Err NoMemory) script read written = (n : ℕ) × (written ≡ concat (take n (script (lines_of read)).answers))
+IsOutcome (Err NoMemory) plays read written = (n : ℕ) × (s : Script) × plays (take n (lines_of read)) s × (written ≡ text_of s)
+
+-- ---- machines with one script for each list of lines
+
+-- to any lines it may play their script, and no other
+abbrev pub PlaysOnly : (List (List ℕ) → Script) → List (List ℕ) → Script → Type 0
+PlaysOnly script lines s = s ≡ script lines
+
+-- line by line: to some first lines it answers what it answers first to all
+abbrev pub IsByLine : (List (List ℕ) → Script) → Type 0
+IsByLine script = (n : ℕ) (lines : List (List ℕ)) → (script (take n lines)).answers ≡ take n (script lines).answers
+
+-- what a run of such a machine has written that read these bytes, by what it returned
+abbrev pub IsOutcomeOf : Result Ended RunFault → (List (List ℕ) → Script) → List ℕ → List ℕ → Type 0
+-- the answers to the lines read, of which none was bad
+IsOutcomeOf (Ok Fine) script read written = (written ≡ text_of (script (lines_of read))) × ((script (lines_of read)).refused ≡ false)
+-- the answers to the lines read, of which one was bad
+IsOutcomeOf (Ok Refused) script read written = (written ≡ text_of (script (lines_of read))) × ((script (lines_of read)).refused ≡ true)
+-- the answers to the lines that were read with their LF
+IsOutcomeOf (Err Read) script read written = written ≡ text_of (script (lines_of (whole_lines read)))
+-- a prefix of the answers
+IsOutcomeOf (Err Write) script read written = IsPrefix written (text_of (script (lines_of read)))
+-- the answers to some first lines, each whole
+IsOutcomeOf (Err NoMemory) script read written = (n : ℕ) × (written ≡ concat (take n (script (lines_of read)).answers))

@@ -21,7 +21,7 @@ fn take_line<M: Machine>(
     piece: &[u8],
 ) -> Result<Flow, AllocError>
     ensures answered { IfOk result (λ flow. (text : List ℕ) × (string_bytes out.new ≡ string_bytes out.old ++ text)
-        × TakesLine flow text (M.script machine.old) (M.script machine.new) (carry.old.items ++ piece.now)) }
+        × TakesLine flow text (M.plays machine.old) (M.plays machine.new) (carry.old.items ++ piece.now)) }
     ensures carry { OnOk result (carry.new.items ≡ []) }
 {
     if carry.is_empty() {
@@ -55,7 +55,7 @@ pub fn take_block<M: Machine, K: Sink>(
     requires carry { IsOneLine carry.old.items }
     requires out { string_bytes out.old ≡ [] }
     ensures took { (sent : List ℕ) × Appends (K.contents writer.old) (K.contents writer.new) sent
-        × TookBlock result (M.script machine.old) (M.script machine.new) (carry.old.items ++ block.now) carry.new.items sent }
+        × TookBlock result (M.plays machine.old) (M.plays machine.new) (carry.old.items ++ block.now) carry.new.items sent }
     ensures out { OnOk result (string_bytes out.new ≡ []) }
     ensures uncounted { OnOk result ((K.faults writer.new ≡ K.faults writer.old)
         × (K.empties writer.new ≡ K.empties writer.old)) }
@@ -97,7 +97,7 @@ pub fn take_last<M: Machine, K: Sink>(
     requires carry { IsOneLine carry.now }
     requires out { string_bytes out.old ≡ [] }
     ensures took { (sent : List ℕ) × Appends (K.contents writer.old) (K.contents writer.new) sent
-        × IsOutcome result (M.script machine.old) carry.now sent }
+        × IsOutcome result (M.plays machine.old) carry.now sent }
     ensures only { result ≢ Err RunFault.Read }
     ensures counted { result ≡ Err RunFault.Write → IsCountedSince (K.faults writer.old) (K.faults writer.new)
         ⊎ IsCountedSince (K.empties writer.old) (K.empties writer.new) }

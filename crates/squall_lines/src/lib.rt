@@ -16,6 +16,7 @@ use thiserror::Error;
 
 mod block;
 mod input;
+mod laws;
 pub mod machine;
 mod output;
 pub mod words;
@@ -23,6 +24,7 @@ pub mod words;
 use block::{take_block, take_last};
 use input::block_room;
 pub use input::read_all;
+pub use laws::outcome_of_function;
 use machine::Machine;
 pub use output::send_text;
 
@@ -101,11 +103,12 @@ pub fn run<S: Source, K: Sink, M: Machine>(
     reader: &mut S,
     writer: &mut K,
 ) -> Result<Ended, RunFault>
-    // What is written is what the machine answers to the lines of what was read.
+    // What is written is the answers of a script that the machine may play to the lines of what was
+    // read.
     ensures text { (read : List ℕ) × (written : List ℕ)
         × Consumes (S.remaining reader.old) (S.remaining reader.new) read
         × Appends (K.contents writer.old) (K.contents writer.new) written
-        × IsOutcome result (M.script machine.old) read written }
+        × IsOutcome result (M.plays machine.old) read written }
 
     // `Fine` comes only where a read found the end, and then nothing is left.
     ensures fine { result ≡ Ok Ended.Fine → IsCountedSince (S.ends reader.old) (S.ends reader.new) }

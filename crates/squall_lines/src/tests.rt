@@ -14,9 +14,10 @@ struct Sample;
 
 impl Machine for Sample {
     ghost use Rattle.squall_lines.specs.Sample.{sample_script};
+    ghost use Rattle.squall_lines.specs.Script.{PlaysOnly};
     ghost use Rattle.std.specs.Prelude.{refl};
 
-    ghost script = { λ s lines. sample_script lines };
+    ghost plays = { λ s. PlaysOnly sample_script };
 
     ghost silent_at_first = { λ s. refl };
 
@@ -36,6 +37,31 @@ impl Machine for Sample {
                 Ok(Flow::On)
             }
         }
+    }
+}
+
+/// Answers each line by its number, of which its definition says nothing: that leaves open what the
+/// answers are.
+#[derive(Drop)]
+struct Numbers {
+    line: u8,
+}
+
+impl Machine for Numbers {
+    ghost use Rattle.squall_lines.specs.Sample.{AnswersEach};
+    ghost use Rattle.std.specs.Prelude.{refl};
+
+    ghost plays = { λ s. AnswersEach };
+
+    ghost silent_at_first = { λ s e. refl };
+
+    fn take(&mut self, line: &[u8], out: &mut String) -> Result<Flow, AllocError> {
+        if line.len() > LONGEST_PIECE {
+            return Ok(Flow::End);
+        }
+        self.line = self.line.saturating_add(1);
+        write!(out, "{}\n", self.line)?;
+        Ok(Flow::On)
     }
 }
 
@@ -155,6 +181,22 @@ fn texts_are_answered(rt: HostRuntime) -> Result<(), Fail> {
         assert_eq!(rt; run_text(rt.alloc(), text, &mut out), ended);
         assert!(rt; out.as_slice() == written);
     }
+    Ok(())
+}
+
+#[test]
+fn lines_are_numbered(rt: HostRuntime) -> Result<(), Fail> {
+    let mut reader = Reader::new(INPUT.as_slice());
+    let mut out = Vec::new(rt.alloc());
+    let mut writer = Writer::new(&mut out);
+    let result = run(
+        rt.alloc(),
+        &mut Numbers { line: 0 },
+        &mut reader,
+        &mut writer,
+    );
+    assert_eq!(rt; result, Ok(Ended::Fine));
+    assert!(rt; out.as_slice() == b"1\n2\n3\n4\n".as_slice());
     Ok(())
 }
 

@@ -1,5 +1,5 @@
 -- The answer to a line.
-use Rattle.std.proofs.Common.{◌≡◌, ℕ, ◌+◌, ◌-◌, ◌^◌, min, List, [], ◌∷◌, ◌++◌, Result, Ok, Err, Some, ap, sym, subst, refl, ◌∙◌}
+use Rattle.std.proofs.Common.{◌≡◌, ℕ, zero, suc, ◌+◌, ◌-◌, ◌^◌, min, List, [], ◌∷◌, ◌++◌, take, Result, Ok, Err, Some, ap, sym, subst, refl, ◌∙◌}
 use Rattle.std.specs.Prelude.{IfOk, codes}
 use Rattle.std.proofs.lemmas.List.{append-nil}
 use Rattle.std.specs.declared.alloc.AllocError.{AllocError}
@@ -7,8 +7,9 @@ use Rattle.squall_lines.specs.declared.Flow.{Flow}
 use Rattle.squall_lines.specs.declared.Flow.TheVariants.{On, End}
 use Rattle.squall_run.specs.declared.reason.Reason.{Reason}
 use Rattle.squall_board.specs.Boards.{BoardValue}
-use Rattle.squall_lines.specs.Script.{TakesLine, after, last_word}
+use Rattle.squall_lines.specs.Script.{Script, TakesLine, PlaysOnly, IsByLine, after, last_word}
 use Rattle.squall_lines.specs.Words.{without_cr}
+use Rattle.squall_lines.proofs.Functions.{takes-on, takes-end}
 use Rattle.squall_wire.specs.Hearing.{FeedValue}
 use Rattle.squall_run.specs.State.{StageState, ScenarioState}
 use Rattle.squall_run.specs.Replies.{Reply, Goes, Ends, bad_line, at_next_line, follow, reply_to_line, script_from}
@@ -57,9 +58,24 @@ moved flow text w line s next t e h a =
 
 pub taken_line : (r : Result Flow AllocError) (o o1 w line : List ℕ) (l n : ℕ) (stage : StageState) (board : BoardValue) (feed : FeedValue) (s t : ScenarioState) → record { line = l; stage = stage; board = board; feed = feed } ≡ s → n ≡ min (l + 1) (2 ^ 64 - 1) → w ≡ without_cr line
     → IfOk r (λ flow. (text : List ℕ) × (o1 ≡ o ++ text) × IsAnswer flow text t n (reply_to_line (record { line = n; stage = stage; board = board; feed = feed }) w))
-    → IfOk r (λ flow. (text : List ℕ) × (o1 ≡ o ++ text) × TakesLine flow text (script_from s) (script_from t) line)
+    → IfOk r (λ flow. (text : List ℕ) × (o1 ≡ o ++ text) × TakesLine flow text (PlaysOnly (script_from s)) (PlaysOnly (script_from t)) line)
 taken_line (Ok On) o o1 w line l n stage board feed s t view e h a =
-    (a.0, a.1, said_on a.0 t (at_next_line s).line (reply_to_line (at_next_line s) (without_cr line)) (moved On a.0 w line s (record { line = n; stage = stage; board = board; feed = feed }) t (next_is l n stage board feed s view e) h a.2))
+    let m = moved On a.0 w line s (record { line = n; stage = stage; board = board; feed = feed }) t (next_is l n stage board feed s view e) h a.2 in
+    (a.0, a.1, takes-on a.0 (script_from s) (script_from t) line (said_on a.0 t (at_next_line s).line (reply_to_line (at_next_line s) (without_cr line)) m))
 taken_line (Ok End) o o1 w line l n stage board feed s t view e h a =
-    (a.0, a.1, said_end a.0 t (at_next_line s).line (reply_to_line (at_next_line s) (without_cr line)) (moved End a.0 w line s (record { line = n; stage = stage; board = board; feed = feed }) t (next_is l n stage board feed s view e) h a.2))
+    let m = moved End a.0 w line s (record { line = n; stage = stage; board = board; feed = feed }) t (next_is l n stage board feed s view e) h a.2 in
+    (a.0, a.1, takes-end a.0 (script_from s) (script_from t) line (said_end a.0 t (at_next_line s).line (reply_to_line (at_next_line s) (without_cr line)) m))
 taken_line (Err x) o o1 w line l n stage board feed s t view e h a = tt
+
+-- ---- some first lines
+
+follow_by_line : (number : ℕ) (reply : Reply) (n : ℕ) (f g : ScenarioState → Script) → ((t : ScenarioState) → (f t).answers ≡ take n (g t).answers) → (follow number reply f).answers ≡ take (suc n) (follow number reply g).answers
+follow_by_line number (Goes text t) n f g h = ap (λ w. text ∷ w) (h t)
+follow_by_line number (Ends reason) zero f g h = refl
+follow_by_line number (Ends reason) (suc n) f g h = refl
+
+-- to some first lines a scenario answers what it answers first to all
+pub script_by_line : (s : ScenarioState) → IsByLine (script_from s)
+script_by_line s zero lines = refl
+script_by_line s (suc n) [] = refl
+script_by_line s (suc n) (line ∷ lines) = follow_by_line (at_next_line s).line (reply_to_line (at_next_line s) (without_cr line)) n (λ t. script_from t (take n lines)) (λ t. script_from t lines) (λ t. script_by_line t n lines)

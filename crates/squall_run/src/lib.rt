@@ -4,7 +4,7 @@
 ghost use Rattle.std.specs.Prelude.{◌≡◌, ◌⊎◌, ◌+◌, ◌≤◌, ℕ, List, Ok, Err};
 ghost use Rattle.std.specs.Io.KnownBytes.{Appends, Consumes, IsAtEnd};
 ghost use Rattle.squall_device.specs.Counts.{IsCountedSince, times_more};
-ghost use Rattle.squall_lines.specs.Script.{IsOutcome, read_limit};
+ghost use Rattle.squall_lines.specs.Script.{IsOutcomeOf, read_limit};
 ghost use Rattle.squall_run.specs.Text.{script_of};
 
 mod board_text;
@@ -53,7 +53,7 @@ pub fn run_text<S: Source, K: Sink>(
     ensures text { (read : List ℕ) × (written : List ℕ)
         × Consumes (S.remaining reader.old) (S.remaining reader.new) read
         × Appends (K.contents writer.old) (K.contents writer.new) written
-        × IsOutcome result script_of read written }
+        × IsOutcomeOf result script_of read written }
 
     // Fine comes only where a read found the end, and nothing is left.
     ensures fine { result ≡ Ok Ended.Fine → IsCountedSince (S.ends reader.old) (S.ends reader.new) }

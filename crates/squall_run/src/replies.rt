@@ -2,6 +2,7 @@
 
 ghost use Rattle.std.specs.Prelude.{◌≡◌, ◌++◌, ℕ, List, IfOk, OnOk, string_bytes, codes, refl};
 ghost use Rattle.squall_lines.specs.declared.Flow.TheVariants.{End};
+ghost use Rattle.squall_lines.specs.Script.{PlaysOnly};
 ghost use Rattle.squall_plan.specs.Form.{plan_of_text};
 ghost use Rattle.squall_span.specs.Spans.{span_at};
 ghost use Rattle.squall_board.specs.Boards.{board_join, report_board};
@@ -239,7 +240,7 @@ fn answer(scenario: &mut Scenario, line: &[u8], out: &mut String) -> Result<Flow
 }
 
 impl Machine for Scenario {
-    ghost script = { script_from };
+    ghost plays = { λ s. PlaysOnly (script_from s) };
 
     ghost silent_at_first = { λ s. refl };
 

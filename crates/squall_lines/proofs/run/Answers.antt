@@ -6,17 +6,17 @@ use Rattle.squall_lines.proofs.run.Goals as goal
 
 pub returns-in_err-room-clause-text : goal.returns-in_err-room-clause-text
 returns-in_err-room-clause-text g c =
-    let first = g.M.Machine.script c.args.machine.now in
+    let first = g.M.Machine.plays c.args.machine.now in
     let reader = g.S.Source.remaining c.args.reader.now in
     let writer = g.K.Sink.contents c.args.writer.now in
     let p = err_from_is_err_and c.from_residual.result c.from_residual.ensures.1 in
-    rw (p.1, p.2) (EndsAs-no_memory first first first reader reader reader writer writer writer [] (Reading-start first reader writer))
+    rw (p.1, p.2) (EndsAs-no_memory first first first reader reader reader writer writer writer [] (Reading-start first reader writer) (g.met.M.Machine.silent_at_first c.args.machine.now))
 
 pub loop-turn-init : goal.loop-turn-init
 loop-turn-init g c =
     let carry_is = sym c.new-carry.ensures.items in
     record {
-      reading = subst (Reading (g.M.Machine.script c.args.machine.now) (g.M.Machine.script c.args.machine.now) (g.S.Source.remaining c.args.reader.now) (g.S.Source.remaining c.args.reader.now) (g.K.Sink.contents c.args.writer.now) (g.K.Sink.contents c.args.writer.now)) carry_is (Reading-start (g.M.Machine.script c.args.machine.now) (g.S.Source.remaining c.args.reader.now) (g.K.Sink.contents c.args.writer.now));
+      reading = subst (Reading (g.M.Machine.plays c.args.machine.now) (g.M.Machine.plays c.args.machine.now) (g.S.Source.remaining c.args.reader.now) (g.S.Source.remaining c.args.reader.now) (g.K.Sink.contents c.args.writer.now) (g.K.Sink.contents c.args.writer.now)) carry_is (Reading-start (g.M.Machine.plays c.args.machine.now) (g.S.Source.remaining c.args.reader.now) (g.K.Sink.contents c.args.writer.now));
       out = c.new-out.ensures.bytes;
       room = omega (arith, c.as_mut_slice-block.ensures);
       used = omega arith;
@@ -29,8 +29,8 @@ loop-turn-init g c =
 
 pub returns-in_default-clause-text : goal.returns-in_default-clause-text
 returns-in_default-clause-text g c =
-    let first = g.M.Machine.script c.args.machine.now in
-    let now = g.M.Machine.script c.loop-turn.machine in
+    let first = g.M.Machine.plays c.args.machine.now in
+    let now = g.M.Machine.plays c.loop-turn.machine in
     let r0 = g.S.Source.remaining c.args.reader.now in
     let r1 = g.S.Source.remaining c.loop-turn.reader in
     let w0 = g.K.Sink.contents c.args.writer.now in
@@ -44,8 +44,8 @@ returns-in_default-clause-unread g c =
 
 pub returns-then-n-eq0-clause-text : goal.returns-then-n-eq0-clause-text
 returns-then-n-eq0-clause-text g c =
-    let first = g.M.Machine.script c.args.machine.now in
-    let now = g.M.Machine.script c.loop-turn.machine in
+    let first = g.M.Machine.plays c.args.machine.now in
+    let now = g.M.Machine.plays c.loop-turn.machine in
     let r0 = g.S.Source.remaining c.args.reader.now in
     let r1 = g.S.Source.remaining c.loop-turn.reader in
     let w0 = g.K.Sink.contents c.args.writer.now in
@@ -64,8 +64,8 @@ returns-then-n-eq0-clause-unwritten g c =
 
 pub returns-in_err-take_block-clause-text : goal.returns-in_err-take_block-clause-text
 returns-in_err-take_block-clause-text g c =
-    let first = g.M.Machine.script c.args.machine.now in
-    let now = g.M.Machine.script c.loop-turn.machine in
+    let first = g.M.Machine.plays c.args.machine.now in
+    let now = g.M.Machine.plays c.loop-turn.machine in
     let r0 = g.S.Source.remaining c.args.reader.now in
     let r1 = g.S.Source.remaining c.loop-turn.reader in
     let w0 = g.K.Sink.contents c.args.writer.now in
@@ -82,8 +82,8 @@ returns-in_err-take_block-clause-unwritten g c =
 
 pub returns-in-End-clause-text : goal.returns-in-End-clause-text
 returns-in-End-clause-text g c =
-    let first = g.M.Machine.script c.args.machine.now in
-    let now = g.M.Machine.script c.loop-turn.machine in
+    let first = g.M.Machine.plays c.args.machine.now in
+    let now = g.M.Machine.plays c.loop-turn.machine in
     let r0 = g.S.Source.remaining c.args.reader.now in
     let r1 = g.S.Source.remaining c.loop-turn.reader in
     let w0 = g.K.Sink.contents c.args.writer.now in
@@ -94,8 +94,8 @@ returns-in-End-clause-text g c =
 
 pub loop-turn-preserved : goal.loop-turn-preserved
 loop-turn-preserved g c =
-    let first = g.M.Machine.script c.args.machine.now in
-    let now = g.M.Machine.script c.loop-turn.machine in
+    let first = g.M.Machine.plays c.args.machine.now in
+    let now = g.M.Machine.plays c.loop-turn.machine in
     let r0 = g.S.Source.remaining c.args.reader.now in
     let r1 = g.S.Source.remaining c.loop-turn.reader in
     let w0 = g.K.Sink.contents c.args.writer.now in
@@ -104,7 +104,7 @@ loop-turn-preserved g c =
     let t = rw c.in-On.is at c.in_ok-take_block.ensures.took in
     let b = c.in_ok-take_block.ensures in
     record {
-      reading = Reading-block first now (g.M.Machine.script c.take_block.new.machine) r0 r1 (g.S.Source.remaining c.read.new.self) w0 w1 (g.K.Sink.contents c.take_block.new.writer) c.loop-turn.carry.items i.reading (take c.in-Ok.n c.read.new.buf) t.0 c.in-Ok.ensures.bytes.0 t.1 c.take_block.new.carry.items t.2.0 t.2.1;
+      reading = Reading-block first now (g.M.Machine.plays c.take_block.new.machine) r0 r1 (g.S.Source.remaining c.read.new.self) w0 w1 (g.K.Sink.contents c.take_block.new.writer) c.loop-turn.carry.items i.reading (take c.in-Ok.n c.read.new.buf) t.0 c.in-Ok.ensures.bytes.0 t.1 c.take_block.new.carry.items t.2.0 t.2.1;
       out = b.out;
       room = omega arith;
       used = used_more _ _ _ _ i.used c.in-Ok.ensures.reads;
@@ -117,8 +117,8 @@ loop-turn-preserved g c =
 
 pub returns-clause-text : goal.returns-clause-text
 returns-clause-text g c =
-    let first = g.M.Machine.script c.args.machine.now in
-    let now = g.M.Machine.script c.loop-turn.machine in
+    let first = g.M.Machine.plays c.args.machine.now in
+    let now = g.M.Machine.plays c.loop-turn.machine in
     let r0 = g.S.Source.remaining c.args.reader.now in
     let r1 = g.S.Source.remaining c.loop-turn.reader in
     let w0 = g.K.Sink.contents c.args.writer.now in

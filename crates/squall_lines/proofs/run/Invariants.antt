@@ -6,7 +6,7 @@ use Rattle.squall_lines.proofs.run.Given as goal
 
 abbrev pub invariant-loop-turn : goal.invariant-loop-turn
 invariant-loop-turn g l = record {
-  reading : Reading (g.M.Machine.script l.fn.machine) (g.M.Machine.script l.machine) (g.S.Source.remaining l.fn.reader) (g.S.Source.remaining l.reader) (g.K.Sink.contents l.fn.writer) (g.K.Sink.contents l.writer) l.carry.items;
+  reading : Reading (g.M.Machine.plays l.fn.machine) (g.M.Machine.plays l.machine) (g.S.Source.remaining l.fn.reader) (g.S.Source.remaining l.reader) (g.K.Sink.contents l.fn.writer) (g.K.Sink.contents l.writer) l.carry.items;
   out : (string_bytes l.out) ≡ [];
   room : length l.block ≡ 65536;
   used : times_more l.turn (g.S.Source.reads l.fn.reader) ≤ g.S.Source.reads l.reader;

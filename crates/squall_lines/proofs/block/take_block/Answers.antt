@@ -1,15 +1,23 @@
 use Rattle.std.specs.Prelude.{string_bytes}
-use Rattle.squall_lines.proofs.Turns.{Turn-line, Turn-flush, Turn-done, Told-turn, Told-over, Told-fails, Over-line, Over-last, Over-flush}
+use Rattle.squall_lines.proofs.Turns.{Turn, Turn-start, Turn-line, Turn-flush, Turn-done, Told-turn, Told-over, Told-fails, Over-line, Over-last, Over-flush}
 use Rattle.std.proofs.lemmas.Result.{err_from_is_err_and}
-use Rattle.std.proofs.Common.{◌++◌, ◌<◌, ◌∙◌, sym, subst, length, arith}
+use Rattle.std.proofs.Common.{◌++◌, ◌<◌, ◌∙◌, sym, subst, length, arith, refl}
 use Rattle.squall_lines.specs.Lines.{IsOneLine}
 use Rattle.squall_lines.proofs.LineLemmas.{IsOneLine-append}
 use Rattle.squall_lines.proofs.block.take_block.Goals as goal
 
+pub loop-line-init : goal.loop-line-init
+loop-line-init g c =
+    let first = g.M.Machine.plays c.args.machine.now in
+    let old = g.K.Sink.contents c.args.writer.now in
+    let read = c.args.carry.now.items ++ c.args.block.now in
+    let start = Turn-start first old read c.args.carry.now.items (g.met.M.Machine.silent_at_first c.args.machine.now) c.requires.carry in
+    record { turn = subst (λ w. Turn first first old old read read w c.args.carry.now.items) (sym c.requires.out) start; faults = refl; empties = refl }
+
 pub returns-in_err-flush-in-End-clause-took : goal.returns-in_err-flush-in-End-clause-took
 returns-in_err-flush-in-End-clause-took g c =
-    let first = g.M.Machine.script c.args.machine.now in
-    let now = g.M.Machine.script c.loop-line.machine in
+    let first = g.M.Machine.plays c.args.machine.now in
+    let now = g.M.Machine.plays c.loop-line.machine in
     let old = g.K.Sink.contents c.args.writer.now in
     let new = g.K.Sink.contents c.loop-line.writer in
     let read = c.args.carry.now.items ++ c.args.block.now in
@@ -22,8 +30,8 @@ returns-in_err-flush-in-End-clause-took g c =
 
 pub returns-in-End-clause-took : goal.returns-in-End-clause-took
 returns-in-End-clause-took g c =
-    let first = g.M.Machine.script c.args.machine.now in
-    let now = g.M.Machine.script c.loop-line.machine in
+    let first = g.M.Machine.plays c.args.machine.now in
+    let now = g.M.Machine.plays c.loop-line.machine in
     let old = g.K.Sink.contents c.args.writer.now in
     let new = g.K.Sink.contents c.loop-line.writer in
     let read = c.args.carry.now.items ++ c.args.block.now in
@@ -34,9 +42,9 @@ returns-in-End-clause-took g c =
 
 pub loop-line-preserved-in-Continue-branch-4 : goal.loop-line-preserved-in-Continue-branch-4
 loop-line-preserved-in-Continue-branch-4 g c =
-    let first = g.M.Machine.script c.args.machine.now in
-    let now = g.M.Machine.script c.loop-line.machine in
-    let next = g.M.Machine.script c.take_line.new.machine in
+    let first = g.M.Machine.plays c.args.machine.now in
+    let now = g.M.Machine.plays c.loop-line.machine in
+    let next = g.M.Machine.plays c.take_line.new.machine in
     let old = g.K.Sink.contents c.args.writer.now in
     let new = g.K.Sink.contents c.loop-line.writer in
     let read = c.args.carry.now.items ++ c.args.block.now in
@@ -47,16 +55,16 @@ loop-line-preserved-in-Continue-branch-4 g c =
     let left = c.take_line.new.carry.items ++ c.in-Some.others.now in
     let f = c.in_ok-flush-in-On.ensures in
     record {
-      turn = Turn-flush first next next old new (g.K.Sink.contents c.flush-then-len-ge-BLOCK_SIZE.new.writer) read left c.take_line.new.carry.items (string_bytes c.take_line.new.out) (string_bytes c.flush-then-len-ge-BLOCK_SIZE.new.out) turn f.ok f.empty;
+      turn = Turn-flush first next next old new (g.K.Sink.contents c.flush-then-len-ge-BLOCK_SIZE.new.writer) read left c.take_line.new.carry.items (string_bytes c.take_line.new.out) (string_bytes c.flush-then-len-ge-BLOCK_SIZE.new.out) (g.met.M.Machine.silent_at_first c.take_line.new.machine) turn f.ok f.empty;
       faults = f.uncounted.0 ∙ i.faults;
       empties = f.uncounted.1 ∙ i.empties;
     }
 
 pub returns-in_err-flush-in-On-clause-took : goal.returns-in_err-flush-in-On-clause-took
 returns-in_err-flush-in-On-clause-took g c =
-    let first = g.M.Machine.script c.args.machine.now in
-    let now = g.M.Machine.script c.loop-line.machine in
-    let next = g.M.Machine.script c.take_line.new.machine in
+    let first = g.M.Machine.plays c.args.machine.now in
+    let now = g.M.Machine.plays c.loop-line.machine in
+    let next = g.M.Machine.plays c.take_line.new.machine in
     let old = g.K.Sink.contents c.args.writer.now in
     let new = g.K.Sink.contents c.loop-line.writer in
     let read = c.args.carry.now.items ++ c.args.block.now in
@@ -67,13 +75,13 @@ returns-in_err-flush-in-On-clause-took g c =
     let left = c.take_line.new.carry.items ++ c.in-Some.others.now in
     let p = err_from_is_err_and c.from_residual-in_err-flush-in-On.result c.from_residual-in_err-flush-in-On.ensures.1 in
     let e = c.in_err-flush-in-On.ensures.err in
-    rw (p.1, p.2, c.in_err-flush-in-On.ensures.only) (Told-fails first next next old new (g.K.Sink.contents c.flush-then-len-ge-BLOCK_SIZE.new.writer) read (string_bytes c.take_line.new.out) e.0 (Told-turn first next next old new new read left c.take_line.new.carry.items (string_bytes c.take_line.new.out) turn) e.1)
+    rw (p.1, p.2, c.in_err-flush-in-On.ensures.only) (Told-fails first next next old new (g.K.Sink.contents c.flush-then-len-ge-BLOCK_SIZE.new.writer) read (string_bytes c.take_line.new.out) e.0 (Told-turn first next next old new new read left c.take_line.new.carry.items (string_bytes c.take_line.new.out) (g.met.M.Machine.silent_at_first c.take_line.new.machine) turn) e.1)
 
 pub loop-line-preserved : goal.loop-line-preserved
 loop-line-preserved g c =
-    let first = g.M.Machine.script c.args.machine.now in
-    let now = g.M.Machine.script c.loop-line.machine in
-    let next = g.M.Machine.script c.take_line.new.machine in
+    let first = g.M.Machine.plays c.args.machine.now in
+    let now = g.M.Machine.plays c.loop-line.machine in
+    let next = g.M.Machine.plays c.take_line.new.machine in
     let old = g.K.Sink.contents c.args.writer.now in
     let new = g.K.Sink.contents c.loop-line.writer in
     let read = c.args.carry.now.items ++ c.args.block.now in
@@ -88,8 +96,8 @@ loop-line-preserved g c =
 
 pub returns-in_err-flush-clause-took : goal.returns-in_err-flush-clause-took
 returns-in_err-flush-clause-took g c =
-    let first = g.M.Machine.script c.args.machine.now in
-    let now = g.M.Machine.script c.loop-line.machine in
+    let first = g.M.Machine.plays c.args.machine.now in
+    let now = g.M.Machine.plays c.loop-line.machine in
     let old = g.K.Sink.contents c.args.writer.now in
     let new = g.K.Sink.contents c.loop-line.writer in
     let read = c.args.carry.now.items ++ c.args.block.now in
@@ -107,8 +115,8 @@ returns-in_err-flush-clause-took g c =
 
 pub returns-then-len-gt-LONGEST_PIECE-clause-took : goal.returns-then-len-gt-LONGEST_PIECE-clause-took
 returns-then-len-gt-LONGEST_PIECE-clause-took g c =
-    let first = g.M.Machine.script c.args.machine.now in
-    let now = g.M.Machine.script c.loop-line.machine in
+    let first = g.M.Machine.plays c.args.machine.now in
+    let now = g.M.Machine.plays c.loop-line.machine in
     let old = g.K.Sink.contents c.args.writer.now in
     let new = g.K.Sink.contents c.loop-line.writer in
     let read = c.args.carry.now.items ++ c.args.block.now in
@@ -124,8 +132,8 @@ returns-then-len-gt-LONGEST_PIECE-clause-took g c =
 
 pub returns-in_err-flush-2-clause-took : goal.returns-in_err-flush-2-clause-took
 returns-in_err-flush-2-clause-took g c =
-    let first = g.M.Machine.script c.args.machine.now in
-    let now = g.M.Machine.script c.loop-line.machine in
+    let first = g.M.Machine.plays c.args.machine.now in
+    let now = g.M.Machine.plays c.loop-line.machine in
     let old = g.K.Sink.contents c.args.writer.now in
     let new = g.K.Sink.contents c.loop-line.writer in
     let read = c.args.carry.now.items ++ c.args.block.now in
@@ -135,12 +143,12 @@ returns-in_err-flush-2-clause-took g c =
     let line_is = c.in_ok-extend_from_slice.ensures.items in
     let p = err_from_is_err_and c.from_residual-in_err-flush-2.result c.from_residual-in_err-flush-2.ensures.1 in
     let e = c.in_err-flush-2.ensures.err in
-    rw (p.1, p.2, c.in_err-flush-2.ensures.only) (Told-fails first now now old new (g.K.Sink.contents c.flush-2.new.writer) read (string_bytes c.loop-line.out) e.0 (Told-turn first now now old new new read left c.loop-line.carry.items (string_bytes c.loop-line.out) t) e.1)
+    rw (p.1, p.2, c.in_err-flush-2.ensures.only) (Told-fails first now now old new (g.K.Sink.contents c.flush-2.new.writer) read (string_bytes c.loop-line.out) e.0 (Told-turn first now now old new new read left c.loop-line.carry.items (string_bytes c.loop-line.out) (g.met.M.Machine.silent_at_first c.loop-line.machine) t) e.1)
 
 pub returns-clause-took : goal.returns-clause-took
 returns-clause-took g c =
-    let first = g.M.Machine.script c.args.machine.now in
-    let now = g.M.Machine.script c.loop-line.machine in
+    let first = g.M.Machine.plays c.args.machine.now in
+    let now = g.M.Machine.plays c.loop-line.machine in
     let old = g.K.Sink.contents c.args.writer.now in
     let new = g.K.Sink.contents c.loop-line.writer in
     let read = c.args.carry.now.items ++ c.args.block.now in
