@@ -1,0 +1,20 @@
+-- Worlds that agree in each part are one.
+use Rattle.std.proofs.Common.{◌≡◌}
+use Rattle.squall_report.specs.TestsLaws.{same_tests}
+use Rattle.squall_protocol.specs.Worlds.{WorldValue, SameWorld}
+
+pub same_world : (w v : WorldValue) → SameWorld w v → w ≡ v
+same_world w v s =
+    λ i. record {
+      plan = λ n. s.plan n i;
+      last = s.last i;
+      opened = s.opened i;
+      parts = s.parts i;
+      routers = s.routers i;
+      held = λ p k. s.held p k i;
+      given = λ n p k. s.given n p k i;
+      loaded = λ n p k. s.loaded n p k i;
+      facts = λ node. same_tests (w.facts node) (v.facts node) (s.facts node) i;
+      messages = s.messages i;
+      chunks = s.chunks i;
+    }

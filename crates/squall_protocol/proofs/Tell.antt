@@ -1,0 +1,67 @@
+-- Telling a node true facts and sending keep what holds.
+use Rattle.std.proofs.Common.{◌≡◌, ℕ, [], ◌∷◌, ◌++◌, length, refl, subst, ⊎_elim, le_refl}
+use Rattle.std.specs.Prelude.{Some}
+use Rattle.std.specs.List.{slice_get}
+use Rattle.squall_report.specs.Tests.{Tests}
+use Rattle.squall_protocol.specs.declared.event.Node.{Node}
+use Rattle.squall_protocol.specs.declared.event.Node.TheVariants.{Part}
+use Rattle.squall_protocol.specs.Worlds.{WorldValue}
+use Rattle.squall_protocol.specs.Steps.{told_to, after_told}
+use Rattle.squall_protocol.proofs.Kept.{Hears, TrueFacts, IsGiven, IsLoaded, IsSent, HasChunk, Kept}
+use Rattle.squall_protocol.proofs.Later.{true_later}
+use Rattle.squall_protocol.proofs.Told.{true_told, hears_told}
+use Rattle.squall_protocol.proofs.Lists.{at_either}
+
+pub keeps_told : (w : WorldValue) (node : Node) (more : Tests) → Kept w → TrueFacts w more → Kept (after_told w node more)
+keeps_told w node more kept true_more =
+    record {
+      first = kept.first;
+      plans = kept.plans;
+      there = kept.there;
+      held_true = kept.held_true;
+      held_from = kept.held_from;
+      given = λ n m k h. let g : IsGiven w n m k = kept.given n m k h in record { first = g.first; last = g.last; moves = g.moves; source = g.source; opened = g.opened; hears = hears_on (Part m) n g.hears };
+      loaded = λ n m k h. let l : IsLoaded w n m k = kept.loaded n m k h in record { dest = l.dest; given = l.given; hears = hears_on (Part m) n l.hears };
+      over = kept.over;
+      most = kept.most;
+      earlier = kept.earlier;
+      facts = λ m. still (told_to w node more m) (true_told w w node more kept.facts true_more m);
+      messages = λ i message h. still message (kept.messages i message h);
+      some = kept.some;
+      sent = λ j a h k x. let y : IsSent w a k = kept.sent j a h k x in record { source = y.source; dest = y.dest; sub = y.sub; given = y.given };
+      once = kept.once;
+      somewhere = λ n m k h. let g : HasChunk w n m k = kept.somewhere n m k h in record { index = g.index; chunk = g.chunk; there = g.there; number = g.number; source = g.source; keys = g.keys };
+    }
+  where
+    still : (f : Tests) → TrueFacts w f → TrueFacts (after_told w node more) f
+    still f t = true_later w (after_told w node more) f (record { plan = λ m h. refl; last = le_refl w.last; opened = λ e. le_refl w.opened; given = λ m r k h. h; loaded = λ m r k h. h }) t kept.most
+
+    hears_on : (m : Node) (n : ℕ) → Hears (w.facts m) n → Hears (told_to w node more m) n
+    hears_on m n h = hears_told w w node more kept.facts true_more m n h
+
+pub keeps_sent : (w : WorldValue) (node : Node) → Kept w → Kept (record w { messages = w.messages ++ w.facts node ∷ [] })
+keeps_sent w node kept =
+    record {
+      first = kept.first;
+      plans = kept.plans;
+      there = kept.there;
+      held_true = kept.held_true;
+      held_from = kept.held_from;
+      given = λ n m k h. let g : IsGiven w n m k = kept.given n m k h in record { first = g.first; last = g.last; moves = g.moves; source = g.source; opened = g.opened; hears = g.hears };
+      loaded = λ n m k h. let l : IsLoaded w n m k = kept.loaded n m k h in record { dest = l.dest; given = l.given; hears = l.hears };
+      over = kept.over;
+      most = kept.most;
+      earlier = kept.earlier;
+      facts = λ m. still (w.facts m) (kept.facts m);
+      messages = λ i message h. ⊎_elim
+          (λ (x : slice_get w.messages i ≡ Some message). still message (kept.messages i message x))
+          (λ (x : (i ≡ length w.messages) × (w.facts node ≡ message)). still message (subst (λ f. TrueFacts w f) x.1 (kept.facts node)))
+          (at_either w.messages (w.facts node) i message h);
+      some = kept.some;
+      sent = λ j a h k x. let y : IsSent w a k = kept.sent j a h k x in record { source = y.source; dest = y.dest; sub = y.sub; given = y.given };
+      once = kept.once;
+      somewhere = λ n m k h. let g : HasChunk w n m k = kept.somewhere n m k h in record { index = g.index; chunk = g.chunk; there = g.there; number = g.number; source = g.source; keys = g.keys };
+    }
+  where
+    still : (f : Tests) → TrueFacts w f → TrueFacts (record w { messages = w.messages ++ w.facts node ∷ [] }) f
+    still f t = true_later w (record w { messages = w.messages ++ w.facts node ∷ [] }) f (record { plan = λ m h. refl; last = le_refl w.last; opened = λ e. le_refl w.opened; given = λ m r k h. h; loaded = λ m r k h. h }) t kept.most

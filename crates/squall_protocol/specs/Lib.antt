@@ -1,0 +1,19 @@
+-- what the clauses here cite of the crates below
+pub use Rattle.squall_key.specs.Keys
+pub use Rattle.squall_span.specs.Spans
+pub use Rattle.squall_plan.specs.Ranges
+pub use Rattle.squall_course.specs.Change
+pub use Rattle.squall_course.specs.Subplans
+pub use Rattle.squall_course.specs.Moves
+pub use Rattle.squall_report.specs.Facts
+pub use Rattle.squall_report.specs.Tests
+pub use Rattle.squall_board.specs.CourseRoute
+pub use Rattle.squall_part.specs.Chunks
+pub use Rattle.squall_part.specs.Carried
+pub use Rattle.squall_part.specs.Giving
+pub use Rattle.squall_part.specs.Loading
+pub use Rattle.squall_part.specs.Serving
+pub mod Worlds
+pub mod Knowledge
+pub mod Steps
+pub mod Promises

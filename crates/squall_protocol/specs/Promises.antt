@@ -1,0 +1,152 @@
+-- What is promised of each world of a run.
+use Rattle.std.specs.Prelude.{◌≡◌, ◌≢◌, ℕ, ◌+◌, ◌<◌, ◌==◌, true, false, List, Some, if◌then◌else◌}
+use Rattle.std.specs.List.{slice_get}
+use Rattle.squall_key.specs.Keys.{top}
+use Rattle.squall_span.specs.Spans.{span_has}
+use Rattle.squall_plan.specs.declared.range.PlanRange.{PlanRange}
+use Rattle.squall_plan.specs.Ranges.{owner_of}
+use Rattle.squall_course.specs.Change.{Change}
+use Rattle.squall_course.specs.Subplans.{subplan_count}
+use Rattle.squall_course.specs.Moves.{is_incoming}
+use Rattle.squall_report.specs.Cells.{CellPlace}
+use Rattle.squall_report.specs.Tests.{Tests}
+use Rattle.squall_board.specs.CourseRoute.{IsCourseBy, IsRoutedBy}
+use Rattle.squall_router.specs.declared.errand.Reply.{Reply}
+use Rattle.squall_router.specs.declared.errand.Reply.TheVariants.{Held, Moved, Pending, Behind, Elsewhere}
+use Rattle.squall_part.specs.Chunks.{ChunkValue}
+use Rattle.squall_protocol.specs.declared.event.Node.{Node}
+use Rattle.squall_protocol.specs.declared.event.Node.TheVariants.{Router}
+use Rattle.squall_protocol.specs.declared.event.Event.{Event}
+use Rattle.squall_protocol.specs.declared.event.Event.TheVariants.{Serve}
+use Rattle.squall_protocol.specs.declared.answer.Answer.{Answer}
+use Rattle.squall_protocol.specs.declared.answer.Answer.TheVariants.{Served}
+use Rattle.squall_protocol.specs.Worlds.{WorldValue, course_at, first_course, is_part, start}
+use Rattle.squall_protocol.specs.Knowledge.{part_in, Serves}
+use Rattle.squall_protocol.specs.Steps.{IsPlan, Step, Run}
+
+-- the world comes about by a run from two plans
+pub record IsReached (w : WorldValue) : Type 0 where
+  pub old : List PlanRange
+  pub new : List PlanRange
+  pub routers : ℕ
+  pub old_plan : IsPlan old
+  pub new_plan : IsPlan new
+  pub events : List Event
+  pub answers : List Answer
+  pub run : Run (start old new routers) events answers w
+
+-- ---- one carrier
+
+-- what may carry a key: a partition that holds it, or a chunk
+pub data Carrier : Type 0 where
+  Holder : (p : ℕ) → Carrier
+  Flight : (i : ℕ) → Carrier
+
+-- the chunk has the key, and its destination has not loaded it
+abbrev pub IsInFlight : WorldValue → ChunkValue → ℕ → Type 0
+IsInFlight w x k = (span_has x.span k ≡ true) × (w.loaded x.number x.dest k ≡ false)
+
+abbrev pub Carries : WorldValue → ℕ → Carrier → Type 0
+Carries w k (Holder p) = w.held p k ≡ true
+Carries w k (Flight i) = (x : ChunkValue) × (slice_get w.chunks i ≡ Some x) × IsInFlight w x k
+
+-- each key has exactly one carrier
+abbrev pub OneCarrier : WorldValue → Type 0
+OneCarrier w = (k : ℕ) → k < top → (x : Carrier) × Carries w k x × ((y : Carrier) → Carries w k y → y ≡ x)
+
+-- ---- true reports
+
+-- how many sub-plans of the course of a number were opened: all, once the next is begun
+abbrev pub opened_of : WorldValue → ℕ → ℕ
+opened_of w n = if n == w.last then w.opened else subplan_count (course_at w n).old (course_at w n).new
+
+-- what is told happened: a key that is told loaded is loaded; where a partition is told to have all keys of a sub-plan, each of them is
+-- loaded there; a sub-plan that is told to be opened is
+pub record Happened (w : WorldValue) (f : Tests) : Type 0 where
+  pub loaded : (c : CellPlace) (k : ℕ) → f.loaded c k ≡ true → w.loaded c.number c.part k ≡ true
+  pub done : (c : CellPlace) → f.done c ≡ true → (k : ℕ) → is_incoming (course_at w c.number).old (course_at w c.number).new c.sub c.part k ≡ true → w.loaded c.number c.part k ≡ true
+  pub opened : (n t : ℕ) → t < f.opened n → t < opened_of w n
+
+-- whatever a node was told happened
+abbrev pub TrueReports : WorldValue → Type 0
+TrueReports w = (node : Node) → Happened w (w.facts node)
+
+-- a key that a router sends to another partition than the old one of the course by which it goes is loaded there
+abbrev pub RoutedIsLoaded : WorldValue → Type 0
+RoutedIsLoaded w =
+    (r k p : ℕ) (c : Change) → IsCourseBy (first_course w) (w.facts (Router r)) c → IsRoutedBy (first_course w) (w.facts (Router r)) k p → p ≢ owner_of c.old k → w.loaded c.number p k ≡ true
+
+-- ---- one destination
+
+-- the chunks of one source with keys that are not loaded have one destination, and are of the course begun last and its sub-plan opened last
+abbrev pub OneDestination : WorldValue → Type 0
+OneDestination w =
+    (i j k m : ℕ) (a b : ChunkValue) → slice_get w.chunks i ≡ Some a → slice_get w.chunks j ≡ Some b → IsInFlight w a k → IsInFlight w b m → a.source ≡ b.source
+    → (a.dest ≡ b.dest) × (a.number ≡ w.last) × (a.sub + 1 ≡ w.opened)
+
+-- the source and the destination of each chunk are there
+abbrev pub ChunksHaveNodes : WorldValue → Type 0
+ChunksHaveNodes w = (i : ℕ) (x : ChunkValue) → slice_get w.chunks i ≡ Some x → (is_part w x.source ≡ true) × (is_part w x.dest ≡ true)
+
+-- ---- served
+
+-- what a partition to which a router sends a key may reply
+abbrev pub IsWelcome : Reply → Type 0
+IsWelcome Held = Unit {0}
+IsWelcome (Moved dest number) = Unit {0}
+IsWelcome (Pending source) = Unit {0}
+IsWelcome Behind = ⊥
+IsWelcome (Elsewhere p) = ⊥
+
+-- what the partition named by a move of a number may reply when it is asked with that number
+abbrev pub IsWelcomeAfter : ℕ → Reply → Type 0
+IsWelcomeAfter n Held = Unit {0}
+IsWelcomeAfter n (Moved dest number) = n < number
+IsWelcomeAfter n (Pending source) = Unit {0}
+IsWelcomeAfter n Behind = Unit {0}
+IsWelcomeAfter n (Elsewhere p) = ⊥
+
+-- a partition is there, and gives such a reply
+abbrev pub Answers : (Reply → Type 0) → Answer → Type 0
+Answers P (Served reply) = P reply
+Answers P _ = ⊥
+
+-- a partition to which a router sends a key, asked with 0, replies so then and at every later moment
+abbrev pub RoutesAreServed : WorldValue → Type 0
+RoutesAreServed w =
+    (r k p : ℕ) → k < top → IsRoutedBy (first_course w) (w.facts (Router r)) k p
+    → (events : List Event) (answers : List Answer) (v u : WorldValue) (answer : Answer) → Run w events answers v → Step v (Serve p k 0) answer u → Answers IsWelcome answer
+
+-- the partition that a move of a number names, asked with that number, replies so then and at every later moment
+abbrev pub MovesAreServed : WorldValue → Type 0
+MovesAreServed w =
+    (p k after d n : ℕ) → Serves (part_in w p) k after (Moved d n)
+    → (events : List Event) (answers : List Answer) (v u : WorldValue) (answer : Answer) → Run w events answers v → Step v (Serve d k n) answer u → Answers (IsWelcomeAfter n) answer
+
+-- ---- served, while there is one course
+
+-- a partition to which a router sends a key holds it, or has given it
+abbrev pub IsHome : Reply → Type 0
+IsHome Held = Unit {0}
+IsHome (Moved dest number) = Unit {0}
+IsHome (Pending source) = ⊥
+IsHome Behind = ⊥
+IsHome (Elsewhere p) = ⊥
+
+-- and the one that a move names holds it, or waits for it
+abbrev pub IsDue : Reply → Type 0
+IsDue Held = Unit {0}
+IsDue (Pending source) = Unit {0}
+IsDue (Moved dest number) = ⊥
+IsDue Behind = ⊥
+IsDue (Elsewhere p) = ⊥
+
+abbrev pub FirstRoutesAreHome : WorldValue → Type 0
+FirstRoutesAreHome w =
+    (r k p : ℕ) → k < top → IsRoutedBy (first_course w) (w.facts (Router r)) k p
+    → (events : List Event) (answers : List Answer) (v u : WorldValue) (answer : Answer) → Run w events answers v → v.last ≡ 1 → Step v (Serve p k 0) answer u → Answers IsHome answer
+
+abbrev pub FirstMovesAreDue : WorldValue → Type 0
+FirstMovesAreDue w =
+    (p k after d n : ℕ) → Serves (part_in w p) k after (Moved d n)
+    → (events : List Event) (answers : List Answer) (v u : WorldValue) (answer : Answer) → Run w events answers v → v.last ≡ 1 → Step v (Serve d k n) answer u → Answers IsDue answer

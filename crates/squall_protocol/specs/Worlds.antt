@@ -1,0 +1,115 @@
+-- Worlds: a leader, partitions and routers, and the messages and chunks on their way between them (a leader that starts
+-- reconfigurations, and partitions that give keys on and report what they loaded: Squall, SIGMOD 2015; routers, messages that may be lost,
+-- repeated and reordered, and several reconfigurations are this project's).
+use Rattle.std.specs.Prelude.{◌≡◌, ℕ, ◌-◌, ◌==◌, ◌&&◌, ◌||◌, nat_lt, Bool, true, false, List, [], if◌then◌else◌}
+use Rattle.std.specs.List.{filter, list_any, range_with_len}
+use Rattle.squall_key.specs.Keys.{top, part_limit}
+use Rattle.squall_plan.specs.declared.range.PlanRange.{PlanRange}
+use Rattle.squall_plan.specs.Ranges.{owner_of, names}
+use Rattle.squall_course.specs.Change.{Change}
+use Rattle.squall_report.specs.Issues.{plan_pair}
+use Rattle.squall_report.specs.Tests.{Tests, SameTests, no_tests, issued_tests}
+use Rattle.squall_part.specs.Chunks.{ChunkValue}
+use Rattle.squall_protocol.specs.declared.event.Node.{Node}
+use Rattle.squall_protocol.specs.declared.event.Node.TheVariants.{Leader, Part, Router}
+
+pub record WorldValue : Type 0 where
+  -- plan n is the new plan of course n, and the old one of course n + 1
+  pub plan : ℕ → List PlanRange
+  -- the number of the course begun last, and how many of its sub-plans are opened
+  pub last : ℕ
+  pub opened : ℕ
+  -- the partitions that there are, in the order in which plans first named them
+  pub parts : List ℕ
+  -- how many routers there are
+  pub routers : ℕ
+  -- whether a partition holds a key; whether it gave it, and whether it loaded it, in the course of a number
+  pub held : ℕ → ℕ → Bool
+  pub given : ℕ → ℕ → ℕ → Bool
+  pub loaded : ℕ → ℕ → ℕ → Bool
+  -- what each node was told, and told itself
+  pub facts : Node → Tests
+  -- what each message tells, and which keys each chunk carries
+  pub messages : List Tests
+  pub chunks : List ChunkValue
+
+-- ---- its courses
+
+-- the course of a number
+abbrev pub course_at : WorldValue → ℕ → Change
+course_at w n = record { number = n; old = w.plan (n - 1); new = w.plan n }
+
+-- the course with which the world began, and the course begun last
+abbrev pub first_course : WorldValue → Change
+first_course w = course_at w 1
+
+abbrev pub last_course : WorldValue → Change
+last_course w = course_at w w.last
+
+-- ---- its nodes
+
+abbrev pub same_node : Node → Node → Bool
+same_node Leader Leader = true
+same_node Leader (Part q) = false
+same_node Leader (Router s) = false
+same_node (Part p) Leader = false
+same_node (Part p) (Part q) = p == q
+same_node (Part p) (Router s) = false
+same_node (Router r) Leader = false
+same_node (Router r) (Part q) = false
+same_node (Router r) (Router s) = r == s
+
+-- the partition is there
+abbrev pub is_part : WorldValue → ℕ → Bool
+is_part w p = list_any (λ q. q == p) w.parts
+
+-- the node is there
+abbrev pub is_node : WorldValue → Node → Bool
+is_node w Leader = true
+is_node w (Part p) = is_part w p
+is_node w (Router r) = nat_lt r w.routers
+
+-- ---- at first
+
+-- the partitions that either plan names, in rising number
+abbrev pub first_parts : List PlanRange → List PlanRange → List ℕ
+first_parts old new = filter (λ p. names old p || names new p) (range_with_len 0 part_limit)
+
+-- the leader has issued the first course, and no other node was told anything
+abbrev pub first_facts : List PlanRange → List PlanRange → Node → Tests
+first_facts old new Leader = issued_tests 1 (plan_pair old new)
+first_facts old new (Part p) = no_tests
+first_facts old new (Router r) = no_tests
+
+-- the world as it begins: each key lies where the old plan has it, and the course to the new plan is begun
+abbrev pub start : List PlanRange → List PlanRange → ℕ → WorldValue
+start old new routers =
+    record {
+      plan = λ n. if n == 0 then old else new;
+      last = 1;
+      opened = 0;
+      parts = first_parts old new;
+      routers = routers;
+      held = λ p k. nat_lt k top && (owner_of old k == p);
+      given = λ n p k. false;
+      loaded = λ n p k. false;
+      facts = first_facts old new;
+      messages = [];
+      chunks = [];
+    }
+
+-- ---- the same
+
+-- both worlds agree in each of their parts
+pub record SameWorld (w v : WorldValue) : Type 0 where
+  pub plan : (n : ℕ) → w.plan n ≡ v.plan n
+  pub last : w.last ≡ v.last
+  pub opened : w.opened ≡ v.opened
+  pub parts : w.parts ≡ v.parts
+  pub routers : w.routers ≡ v.routers
+  pub held : (p k : ℕ) → w.held p k ≡ v.held p k
+  pub given : (n p k : ℕ) → w.given n p k ≡ v.given n p k
+  pub loaded : (n p k : ℕ) → w.loaded n p k ≡ v.loaded n p k
+  pub facts : (node : Node) → SameTests (w.facts node) (v.facts node)
+  pub messages : w.messages ≡ v.messages
+  pub chunks : w.chunks ≡ v.chunks

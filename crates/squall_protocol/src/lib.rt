@@ -1,0 +1,13 @@
+//! What may happen among a leader, partitions and routers while data moves, with messages lost,
+//! repeated and in any order; and what holds in every such run.
+#![tactic(auto)]
+
+mod answer;
+mod event;
+mod laws;
+mod promise;
+
+pub use answer::{Answer, Refusal};
+pub use event::{Event, Node};
+pub use laws::{one_answer, one_run};
+pub use promise::promises;

@@ -1,0 +1,24 @@
+//! What holds in every run.
+
+ghost use Rattle.squall_protocol.specs.Worlds.{WorldValue};
+ghost use Rattle.squall_protocol.specs.Promises.{IsReached, OneCarrier, TrueReports, RoutedIsLoaded, OneDestination, ChunksHaveNodes, RoutesAreServed, MovesAreServed, FirstRoutesAreHome, FirstMovesAreDue};
+
+/// What holds at every moment of every run, whatever is lost, repeated or reordered.
+///
+/// Each key has one carrier: a partition that holds it, or one chunk on its way. Whatever a node was
+/// told happened, so that a key that a router sends to another than its old partition is loaded
+/// there. What a source sends and is not loaded goes to one destination, in the sub-plan opened
+/// last. A partition to which a router sends a key holds it, waits for it, or has given it and says
+/// to whom; and so does whom it names, or it has not heard of that course yet. While there is one
+/// course the first holds it or has given it, and whom it names holds it or waits for it.
+pub fn promises()
+    ensures one_carrier { (w : WorldValue) → IsReached w → OneCarrier w }
+    ensures true_reports { (w : WorldValue) → IsReached w → TrueReports w }
+    ensures routed_is_loaded { (w : WorldValue) → IsReached w → RoutedIsLoaded w }
+    ensures one_destination { (w : WorldValue) → IsReached w → OneDestination w }
+    ensures chunks_have_nodes { (w : WorldValue) → IsReached w → ChunksHaveNodes w }
+    ensures routes_are_served { (w : WorldValue) → IsReached w → RoutesAreServed w }
+    ensures moves_are_served { (w : WorldValue) → IsReached w → MovesAreServed w }
+    ensures first_routes_are_home { (w : WorldValue) → IsReached w → FirstRoutesAreHome w }
+    ensures first_moves_are_due { (w : WorldValue) → IsReached w → FirstMovesAreDue w }
+{}
