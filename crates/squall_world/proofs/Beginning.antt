@@ -1,0 +1,295 @@
+-- The leader begins a course, and partitions come.
+use Rattle.std.proofs.Common.{◌≡◌, ℕ, ◌+◌, ◌<◌, ◌≤◌, ◌==◌, ◌&&◌, Bool, true, false, cond, List, [], ◌∷◌, ◌++◌, length, Option, None, Some, Ok, position, refl, sym, ap, subst, ◌∙◌, arith, inl, inr}
+use Rattle.std.specs.Prelude.{is_some, not}
+use Rattle.std.specs.List.{slice_get, flat_map, list_any, filter, range_with_len, AllByRecursion}
+use Rattle.std.proofs.lemmas.Bool.{cases_lt, cases_eq, and_parts, not-true}
+use Rattle.std.proofs.lemmas.List.{length-append}
+use Rattle.std.proofs.lemmas.Option.{same_Some, none-some}
+use Rattle.squall_join.specs.declared.flat.Flat.TheVariants.{One}
+use Rattle.squall_key.specs.Keys.{part_limit}
+use Rattle.squall_plan.specs.declared.range.PlanRange.{PlanRange}
+use Rattle.squall_plan.specs.Ranges.{names, IsCanonical, AreRanges}
+use Rattle.squall_course.specs.Change.{Change, ArePlans}
+use Rattle.squall_course.specs.Subplans.{subplan_count}
+use Rattle.squall_course.proofs.Rising.{filter_up, in_filter_yes}
+use Rattle.squall_report.specs.Issues.{plan_pair}
+use Rattle.squall_report.specs.Tests.{SameTests, joined_tests, issued_tests}
+use Rattle.squall_board.specs.Boards.{IsBoard, board_join, report_board}
+use Rattle.squall_board.specs.BoardTests.{tests_of}
+use Rattle.squall_board.specs.BoardLaws.{issue_board_is}
+use Rattle.squall_part.specs.Parts.{PartValue, new_part}
+use Rattle.squall_leader.specs.Leaders.{LeaderValue, IsLeader, IsRunning, IsBegun, IsOver, waited_after, issue_report, last_number}
+use Rattle.squall_protocol.specs.declared.event.Node.{Node}
+use Rattle.squall_protocol.specs.declared.event.Node.TheVariants.{Leader, Part}
+use Rattle.squall_protocol.specs.declared.answer.Answer.{Answer}
+use Rattle.squall_protocol.specs.declared.answer.Answer.TheVariants.{Begun, Refused}
+use Rattle.squall_protocol.specs.declared.answer.Refusal.TheVariants.{Running, NoNumber}
+use Rattle.squall_protocol.specs.Worlds.{SameWorld}
+use Rattle.squall_protocol.specs.Steps.{BeginStep, after_begin, new_parts, told_to}
+use Rattle.squall_world.specs.Nets.{with_peer, PeerValue, NetValue, IsNet, IsRole, IsRouterAt, IsPartAt, IsChain, ArePlaced, role_board, place_of, peer_of, put_at, first_of, newest_of, no_course, is_part_peer, is_part_role, part_in}
+use Rattle.squall_world.specs.Views.{view, id_of, ids_in, opened_in, part_of, held_by, given_under, loaded_under, facts_of}
+use Rattle.squall_world.specs.Events.{HasLeader, IsBeginIn, IsBegunNet, named_first, part_peers}
+use Rattle.squall_world.proofs.Lists.{length_put, put_here, put_there, place_put, place_left, flat_append, get_left}
+use Rattle.squall_world.proofs.Nodes.{IsChanged, part_seen_there}
+use Rattle.squall_world.proofs.Boards.{tests_report}
+use Rattle.squall_world.proofs.History.{IsHistory, history_of, history_more, history_new}
+use Rattle.squall_world.proofs.Seen.{ids_kept, facts_told, parts_kept, messages_kept, still}
+use Rattle.squall_world.proofs.Courses.{last_seen, before_end, chain_more, first_stays, newest_begun, plan_begun}
+use Rattle.squall_world.proofs.Courses.{last_number as number_of_last}
+use Rattle.squall_world.proofs.Led.{IsSeen, leads_last, leader_seen, over_seen, seen_over, leader_reports, leader_more, leader_is}
+use Rattle.squall_world.proofs.Owned.{none_owned}
+use Rattle.squall_world.proofs.Coming.{comer_stands, comers_new, ids_come}
+use Rattle.squall_world.proofs.Started.{low_ids, none_given, none_loaded}
+use Rattle.squall_world.proofs.Added.{IsAdded, added_node, added_messages, nodes_counted}
+
+-- ---- what beginning says
+
+record IsBeginning (n : NetValue) (a b : LeaderValue) (c : Change) (plan : List PlanRange) : Type 0 where
+  number : c.number ≡ length n.courses + 1
+  old : c.old ≡ (newest_of n).new
+  new : c.new ≡ plan
+  course : b.course ≡ Some c
+  opened : b.opened ≡ 0
+  board : b.board ≡ board_join a.board (report_board (issue_report c))
+  plans : ArePlans c.old c.new
+
+beginning : (n : NetValue) (peer : PeerValue) (a b : LeaderValue) (c : Change) (plan : List PlanRange) → IsNet n → HasLeader n peer a → IsBegun a plan (Ok c) b → IsLeader b → IsBeginning n a b c plan
+beginning n peer a b c plan net has (idle, room, next, after) is =
+    let last = (leader_is n peer a net has).course (newest_of n) (leads_last n peer a net has) in
+    let course : b.course ≡ Some c = ap (λ (l : LeaderValue). l.course) after in
+    record {
+      number = ap (λ (d : Change). d.number) next ∙ ap (λ v. v + 1) (sym last.1 ∙ number_of_last n net);
+      old = ap (λ (d : Change). d.old) next ∙ sym last.0;
+      new = ap (λ (d : Change). d.new) next;
+      course = course;
+      opened = ap (λ (l : LeaderValue). l.opened) after;
+      board = ap (λ (l : LeaderValue). l.board) after;
+      plans = is.plans c course;
+    }
+
+-- ---- the net after it
+
+abbrev begun_net : NetValue → PeerValue → LeaderValue → Change → List PlanRange → List (Option ℕ) → NetValue
+begun_net n peer b c plan places =
+    record {
+      courses = n.courses ++ c ∷ [];
+      peers = put_at 0 (leader_reports peer b (issue_report c)) n.peers ++ part_peers (first_of n) (named_first n plan);
+      routers = n.routers;
+      places = places;
+      messages = n.messages;
+      chunks = n.chunks;
+    }
+
+net_is : (n : NetValue) (peer : PeerValue) (b : LeaderValue) (c : Change) (plan : List PlanRange) (m : NetValue) → IsBegunNet n peer b c plan m → m ≡ begun_net n peer b c plan m.places
+net_is n peer b c plan m is = λ i. record { courses = is.courses i; peers = is.peers i; routers = is.routers i; places = m.places; messages = is.messages i; chunks = is.chunks i }
+
+module _ (n : NetValue) (peer : PeerValue) (a b : LeaderValue) (c : Change) (plan : List PlanRange) (places : List (Option ℕ)) (net : IsNet n) (has : HasLeader n peer a) (o : IsBeginning n a b c plan) (is : IsLeader b) (valid : AllByRecursion (λ p. IsRole p.role) (part_peers (first_of n) (named_first n plan))) where
+  is_changed : IsChanged n Leader 0 peer (leader_reports peer b (issue_report c))
+  is_changed = record {
+    place = refl;
+    there = has.there;
+    kind = λ p. ap (is_part_role p) (sym has.role);
+    ids = ap id_of (sym has.role);
+  }
+
+  issue_is : IsBoard (report_board (issue_report c))
+  issue_is = issue_board_is c.number (One (plan_pair c.old c.new)) (let number : c.number ≡ length n.courses + 1 = o.number in omega (arith, number))
+
+  first_same : first_of (begun_net n peer b c plan places) ≡ first_of n
+  first_same = first_stays n.courses c no_course net.some
+
+  count_same : length (put_at 0 (leader_reports peer b (issue_report c)) n.peers) ≡ length n.peers
+  count_same = length_put 0 (leader_reports peer b (issue_report c)) n.peers
+
+  -- what stands at another place than the leader's
+  there_still : (i : ℕ) → 0 < i → i < length n.peers → slice_get (begun_net n peer b c plan places).peers i ≡ slice_get n.peers i
+  there_still i some lt =
+      get_left (put_at 0 (leader_reports peer b (issue_report c)) n.peers) (part_peers (first_of n) (named_first n plan)) i (subst (λ v. i < v) (sym count_same) lt)
+      ∙ put_there 0 i (leader_reports peer b (issue_report c)) n.peers (λ e. omega (arith, some, e))
+
+  lead_there : slice_get (begun_net n peer b c plan places).peers 0 ≡ Some (leader_reports peer b (issue_report c))
+  lead_there =
+      get_left (put_at 0 (leader_reports peer b (issue_report c)) n.peers) (part_peers (first_of n) (named_first n plan)) 0 (let k = count_same in let room : n.routers < length n.peers = net.room in omega (arith, k, room))
+      ∙ put_here 0 (leader_reports peer b (issue_report c)) peer n.peers has.there
+
+  -- who had a place has it
+  place_same : (p : ℕ) → position (is_part_peer p) (put_at 0 (leader_reports peer b (issue_report c)) n.peers) ≡ place_of n (Part p)
+  place_same p = place_put (is_part_peer p) 0 (leader_reports peer b (issue_report c)) peer n.peers has.there (is_changed.kind p)
+
+  place_still : (p i : ℕ) → place_of n (Part p) ≡ Some i → place_of (begun_net n peer b c plan places) (Part p) ≡ Some i
+  place_still p i e = place_left (is_part_peer p) (put_at 0 (leader_reports peer b (issue_report c)) n.peers) (part_peers (first_of n) (named_first n plan)) i (place_same p ∙ e)
+
+  history : IsHistory (begun_net n peer b c plan places).peers n.messages
+  history = history_new (put_at 0 (leader_reports peer b (issue_report c)) n.peers) (part_peers (first_of n) (named_first n plan)) n.messages
+      (history_more n.peers n.messages 0 peer (leader_reports peer b (issue_report c)) (history_of n net) (leader_more n peer a b (issue_report c) net has is o.board issue_is))
+      (comers_new (first_of n) (named_first n plan) valid)
+
+  chain : IsChain 1 (first_of (begun_net n peer b c plan places)).old (n.courses ++ c ∷ [])
+  chain = subst (λ (d : Change). IsChain 1 d.old (n.courses ++ c ∷ [])) (sym first_same)
+      (chain_more 1 (first_of n).old n.courses c no_course net.chain (let number : c.number ≡ length n.courses + 1 = o.number in omega (arith, number)) (o.old ∙ sym (before_end (first_of n).old n.courses no_course net.some)) o.plans)
+
+  router_still : (i : ℕ) → 0 < i → i ≤ n.routers → IsRouterAt (begun_net n peer b c plan places) i
+  router_still i some le =
+      let at = net.routers i some le in
+      let room : n.routers < length n.peers = net.room in
+      record { peer = at.peer; router = at.router; there = there_still i some (omega (arith, le, room)) ∙ at.there; role = at.role; first = at.first ∙ sym first_same }
+
+  new_apart : (p : ℕ) → list_any (λ q. q == p) (named_first n plan) ≡ true → position (is_part_peer p) (put_at 0 (leader_reports peer b (issue_report c)) n.peers) ≡ None
+  new_apart p e =
+      let test = in_filter_yes (λ p. names plan p && not (is_some (place_of n (Part p)))) part_limit p e in
+      place_same p ∙ by (place_of n (Part p)) (not-true (is_some (place_of n (Part p))) (and_parts (names plan p) (not (is_some (place_of n (Part p)))) test).1)
+    where
+      by : (x : Option ℕ) → is_some x ≡ false → x ≡ None
+      by None e = refl
+      by (Some i) e = absurd (let bad : ⊥ = cc in bad)
+
+  part_still : (i : ℕ) → n.routers < i → i < length (begun_net n peer b c plan places).peers → IsPartAt (begun_net n peer b c plan places) i
+  part_still i gt lt = elim (cases_lt i (length n.peers)) [
+    | inl old ↦
+        let at = net.parts i gt old in
+        record {
+          peer = at.peer;
+          part = at.part;
+          there = there_still i (omega (arith, gt)) old ∙ at.there;
+          role = at.role;
+          first = at.first ∙ sym first_same;
+          limit = at.limit;
+          place = place_still at.part.id i at.place;
+        }
+    | inr new ↦ comer_stands (begun_net n peer b c plan places) (put_at 0 (leader_reports peer b (issue_report c)) n.peers) (first_of n) (named_first n plan) i refl (sym first_same)
+        (filter_up (λ p. names plan p && not (is_some (place_of n (Part p)))) 0 part_limit)
+        (low_ids (λ p. names plan p && not (is_some (place_of n (Part p)))))
+        new_apart
+        (subst (λ v. v ≤ i) (sym count_same) new)
+        lt
+  ]
+
+  named_still : (p : ℕ) → names (first_of (begun_net n peer b c plan places)).old p ≡ true → is_some (place_of (begun_net n peer b c plan places) (Part p)) ≡ true
+  named_still p e = by (place_of n (Part p)) refl (net.named p (subst (λ (d : Change). names d.old p ≡ true) first_same e))
+    where
+      by : (x : Option ℕ) → place_of n (Part p) ≡ x → is_some x ≡ true → is_some (place_of (begun_net n peer b c plan places) (Part p)) ≡ true
+      by (Some i) at e = ap is_some (place_still p i at)
+      by None at e = absurd (let bad : ⊥ = cc in bad)
+
+  begun_is : ArePlaced (begun_net n peer b c plan places) → IsNet (begun_net n peer b c plan places)
+  begun_is placed = record {
+    some = (let l = length-append n.courses (c ∷ []) in let some : 0 < length n.courses = net.some in omega (arith, l, some));
+    chain = chain;
+    led = record { peer = leader_reports peer b (issue_report c); leader = b; there = lead_there; role = refl; course = o.course ∙ ap Some (sym (newest_begun n.courses c no_course)) };
+    room = (let k = count_same in let l = length-append (put_at 0 (leader_reports peer b (issue_report c)) n.peers) (part_peers (first_of n) (named_first n plan)) in let room : n.routers < length n.peers = net.room in omega (arith, k, l, room));
+    routers = router_still;
+    parts = part_still;
+    named = named_still;
+    placed = placed;
+    peers = history.peers;
+    knowing = history.knowing;
+    messages = history.messages;
+  }
+
+  -- ---- what is seen
+
+  is_added : IsAdded (with_peer n 0 (leader_reports peer b (issue_report c))) (begun_net n peer b c plan places) (first_of n) (named_first n plan)
+  is_added = record { peers = refl; routers = refl; room = (let k = count_same in let room : n.routers < length n.peers = net.room in omega (arith, k, room)) }
+
+  no_part : part_in peer.role ≡ None
+  no_part = ap part_in has.role
+
+  -- what partitions answer is kept where those that come answer as none
+  part_kept : {A : Type 0} (f : Option PartValue → A) → ((p : ℕ) → place_of n (Part p) ≡ None → f (Some (new_part p (first_of n))) ≡ f None) → (p : ℕ) → f (part_of (peer_of (begun_net n peer b c plan places) (Part p))) ≡ f (part_of (peer_of n (Part p)))
+  part_kept f none p =
+      added_node (λ x. f (part_of x)) (with_peer n 0 (leader_reports peer b (issue_report c))) (begun_net n peer b c plan places) (first_of n) (named_first n plan) is_added (λ q e. none q (sym (place_same q) ∙ e)) (Part p)
+      ∙ parts_kept n Leader 0 peer (leader_reports peer b (issue_report c)) net is_changed f (ap f (sym no_part)) p
+
+  unnamed : (p : ℕ) → place_of n (Part p) ≡ None → names (first_of n).old p ≡ false
+  unnamed p e = by (names (first_of n).old p) refl
+    where
+      by : (x : Bool) → names (first_of n).old p ≡ x → x ≡ false
+      by false h = refl
+      by true h = let there : is_some (place_of n (Part p)) ≡ true = net.named p h in let bad : false ≡ true = sym (ap is_some e) ∙ there in sym bad
+
+  parts_are : ids_in (begun_net n peer b c plan places) ≡ ids_in n ++ new_parts (view n) plan
+  parts_are =
+      flat_append (λ (x : PeerValue). id_of x.role) (put_at 0 (leader_reports peer b (issue_report c)) n.peers) (part_peers (first_of n) (named_first n plan))
+      ∙ ap (λ l. l ++ flat_map (λ (x : PeerValue). id_of x.role) (part_peers (first_of n) (named_first n plan))) (ids_kept n Leader 0 peer (leader_reports peer b (issue_report c)) net is_changed)
+      ∙ ap (λ l. ids_in n ++ l) (ids_come (first_of n) (named_first n plan))
+      ∙ (λ i. ids_in n ++ filter (λ p. names plan p && not (sym (part_seen_there n p) i)) (range_with_len 0 part_limit))
+
+  facts_are : (y : Node) → SameTests (facts_of (peer_of (begun_net n peer b c plan places) y)) (told_to (view n) Leader (issued_tests (length n.courses + 1) (plan_pair ((view n).plan (view n).last) plan)) y)
+  facts_are y = subst (λ t. SameTests t (told_to (view n) Leader (issued_tests (length n.courses + 1) (plan_pair ((view n).plan (view n).last) plan)) y))
+      (sym (added_node facts_of (with_peer n 0 (leader_reports peer b (issue_report c))) (begun_net n peer b c plan places) (first_of n) (named_first n plan) is_added (λ p e. refl) y))
+      (facts_told n Leader 0 peer (leader_reports peer b (issue_report c)) net is_changed (issued_tests (length n.courses + 1) (plan_pair ((view n).plan (view n).last) plan)) issued y)
+    where
+      last_new : (newest_of n).new ≡ (view n).plan (view n).last
+      last_new = sym (ap (λ (d : Change). d.new) (last_seen n net))
+
+      issued : tests_of b.board ≡ joined_tests (tests_of (role_board peer.role)) (issued_tests (length n.courses + 1) (plan_pair ((view n).plan (view n).last) plan))
+      issued =
+          ap tests_of o.board ∙ tests_report a.board (issue_report c) (leader_is n peer a net has).board issue_is
+          ∙ (λ i. joined_tests (tests_of (role_board (sym has.role i))) (issued_tests (o.number i) (plan_pair ((o.old ∙ last_new) i) (o.new i))))
+
+  begun_world : SameWorld (view (begun_net n peer b c plan places)) (after_begin (view n) plan)
+  begun_world = record {
+    plan = λ i. plan_begun n (begun_net n peer b c plan places) c i net.some refl ∙ ap (λ p. cond (i == length n.courses + 1) p ((view n).plan i)) o.new;
+    last = length-append n.courses (c ∷ []);
+    opened = ap opened_in lead_there ∙ o.opened;
+    parts = parts_are;
+    routers = refl;
+    held = λ p k. part_kept (λ x. held_by x k) (λ q e. none_owned q k (first_of n).old (unnamed q e)) p;
+    given = λ m p k. part_kept (λ x. given_under x m k) (λ q e. none_given (first_of n) q m k) p;
+    loaded = λ m p k. part_kept (λ x. loaded_under x m k) (λ q e. none_loaded (first_of n) q m k) p;
+    facts = facts_are;
+    messages = added_messages (with_peer n 0 (leader_reports peer b (issue_report c))) (begun_net n peer b c plan places) (first_of n) (named_first n plan) is_added n.messages
+        (history_more n.peers n.messages 0 peer (leader_reports peer b (issue_report c)) (history_of n net) (leader_more n peer a b (issue_report c) net has is o.board issue_is)).messages
+        ∙ messages_kept n Leader 0 peer (leader_reports peer b (issue_report c)) net is_changed (issue_report c ∷ []) refl n.messages net.messages;
+    chunks = refl;
+  }
+
+pub begin_keeps : (n : NetValue) (plan : List PlanRange) (answer : Answer) (m : NetValue) → IsNet n → IsBeginIn n plan (Ok answer) m → IsNet m
+begin_keeps n plan (Begun number parts) m net (peer, a, b, c, has, begun, is, number_is, counted, after) =
+    let e : m ≡ begun_net n peer b c plan m.places = net_is n peer b c plan m after in
+    subst IsNet (sym e) (begun_is n peer a b c plan m.places net has (beginning n peer a b c plan net has begun is) is after.valid (subst ArePlaced e after.placed))
+begin_keeps n plan (Refused Running) m net (peer, a, has, running, after) = subst IsNet (sym after) net
+begin_keeps n plan (Refused NoNumber) m net (peer, a, has, finished, last, after) = subst IsNet (sym after) net
+begin_keeps n plan _ m net h = absurd h
+
+-- a leader whose course is not running has one that is over
+idle_over : (a : LeaderValue) (c : Change) → a.course ≡ Some c → (IsRunning a → ⊥) → IsOver a c
+idle_over a c course idle = (opened, waited (waited_after c a.board a.opened) refl)
+  where
+    opened : a.opened ≡ subplan_count c.old c.new
+    opened = elim (cases_eq a.opened (subplan_count c.old c.new)) [
+      | inl e ↦ e
+      | inr ne ↦ absurd (idle (c, course, λ (over : IsOver a c). ne over.0))
+    ]
+
+    waited : (x : Option ℕ) → waited_after c a.board a.opened ≡ x → waited_after c a.board a.opened ≡ None
+    waited None e = e
+    waited (Some q) e = absurd (idle (c, course, λ (over : IsOver a c). none-some q (sym over.1 ∙ e)))
+
+last_used : (n : NetValue) (peer : PeerValue) (a : LeaderValue) → IsNet n → HasLeader n peer a → a.last ≡ length n.courses
+last_used n peer a net has = sym ((leader_is n peer a net has).course (newest_of n) (leads_last n peer a net has)).1 ∙ number_of_last n net
+
+pub begin_steps : (n : NetValue) (plan : List PlanRange) (answer : Answer) (m : NetValue) → IsNet n → IsBeginIn n plan (Ok answer) m → BeginStep (view n) plan answer (view m)
+begin_steps n plan (Begun number parts) m net (peer, a, b, c, has, begun, is, number_is, counted, after) =
+    let o : IsBeginning n a b c plan = beginning n peer a b c plan net has begun is in
+    let seen : IsSeen n a (newest_of n) = leader_seen n peer a (newest_of n) net has (leads_last n peer a net has) in
+    let e : m ≡ begun_net n peer b c plan m.places = net_is n peer b c plan m after in
+    let same : SameWorld (view m) (after_begin (view n) plan) = subst (λ v. SameWorld (view v) (after_begin (view n) plan)) (sym e) (begun_world n peer a b c plan m.places net has o is after.valid) in
+    let all = nodes_counted m (begin_keeps n plan (Begun number parts) m net (peer, a, b, c, has, begun, is, number_is, counted, after)) in
+    let routers : m.routers ≡ n.routers = after.routers in
+    let parts_same : length (ids_in m) ≡ length (after_begin (view n) plan).parts = ap length same.parts in (
+      over_seen n a (newest_of n) seen (idle_over a (newest_of n) (leads_last n peer a net has) begun.0),
+      subst (λ v. v < last_number) (last_used n peer a net has) begun.1,
+      record { canonical = subst IsCanonical o.new o.plans.new_canonical; ranges = subst AreRanges o.new o.plans.new_ranges },
+      number_is ∙ o.number,
+      omega (arith, counted, all, routers, parts_same),
+      same,
+    )
+begin_steps n plan (Refused Running) m net (peer, a, has, running, after) =
+    let seen : IsSeen n a (newest_of n) = leader_seen n peer a (newest_of n) net has (leads_last n peer a net has) in
+    ((λ over. running (newest_of n, leads_last n peer a net has, seen_over n a (newest_of n) seen over)), still n m after)
+begin_steps n plan (Refused NoNumber) m net (peer, a, has, finished, last, after) =
+    let seen : IsSeen n a (newest_of n) = leader_seen n peer a (newest_of n) net has (leads_last n peer a net has) in
+    let same : finished.0 ≡ newest_of n = same_Some finished.0 (newest_of n) (sym finished.1 ∙ leads_last n peer a net has) in
+    (over_seen n a (newest_of n) seen (subst (IsOver a) same finished.2), sym (last_used n peer a net has) ∙ last, still n m after)
+begin_steps n plan _ m net h = absurd h

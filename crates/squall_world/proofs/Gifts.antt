@@ -1,0 +1,208 @@
+-- A partition gives keys on: the step of the world.
+use Rattle.std.proofs.Common.{◌≡◌, ℕ, ◌+◌, ◌<◌, ◌==◌, Bool, true, false, not, [], ◌∷◌, ◌++◌, Some, Ok, Err, refl, sym, ap, subst, ◌∙◌, arith, inl, inr}
+use Rattle.std.specs.Prelude.{◌||◌, ◌&&◌}
+use Rattle.std.proofs.lemmas.List.{append-nil}
+use Rattle.std.proofs.lemmas.Bool.{and_parts}
+use Rattle.std.proofs.lemmas.Option.{same_Some, none-some}
+use Rattle.squall_span.specs.Spans.{Interval, has, span_has, interval}
+use Rattle.squall_course.specs.Change.{Change}
+use Rattle.squall_course.proofs.Moved.{within as within_span}
+use Rattle.squall_board.specs.Boards.{IsBoard}
+use Rattle.squall_board.specs.BoardTests.{tests_of}
+use Rattle.squall_board.specs.CourseRouteLaws.{board_course}
+use Rattle.squall_part.specs.declared.giving.GiveFault.{GiveFault}
+use Rattle.squall_part.specs.declared.giving.GiveFault.TheVariants.{NotOpen as GiveNotOpen, NothingLeft as GiveNothingLeft, ZeroMax as GiveZeroMax, NotOutgoing as GiveNotOutgoing, Given as GiveGiven, NotHeld as GiveNotHeld, NoMemory as GiveNoMemory}
+use Rattle.squall_part.specs.Chunks.{ChunkValue}
+use Rattle.squall_part.specs.Parts.{PartValue, IsPart, course_of_part}
+use Rattle.squall_part.specs.Giving.{IsChunkOf, IsGiven, IsGivenAt, AreFirst, after_giving, goes_out}
+use Rattle.squall_protocol.specs.declared.event.Node.TheVariants.{Part}
+use Rattle.squall_protocol.specs.declared.answer.Answer.{Answer}
+use Rattle.squall_protocol.specs.declared.answer.Answer.TheVariants.{Gave, Refused}
+use Rattle.squall_protocol.specs.declared.answer.Refusal.{Refusal}
+use Rattle.squall_protocol.specs.declared.answer.Refusal.TheVariants.{NotOpen, NothingLeft, ZeroMax, NotOutgoing, Given, NotHeld}
+use Rattle.squall_protocol.specs.Worlds.{SameWorld, is_part}
+use Rattle.squall_protocol.specs.Knowledge.{PartTests, part_in as part_tests, IsCurrent, NoneOpen, goes_out as tests_out, is_left as tests_left}
+use Rattle.squall_protocol.specs.Steps.{IsGift, after_give, GiveStep, GiveAtStep}
+use Rattle.squall_world.specs.declared.peer.Role.TheVariants.{Part as PartRole}
+use Rattle.squall_world.specs.Nets.{PeerValue, NetValue, IsNet, IsPeer, IsRole, turned, with_peer, peer_of, role_board, part_in, leader_in}
+use Rattle.squall_world.specs.Views.{view, part_of, held_by, given_under, loaded_under, opened_by}
+use Rattle.squall_world.specs.Events.{HasPart, IsGiveIn, IsGiveAtIn, with_gift, give_refusal}
+use Rattle.squall_world.proofs.Lists.{eq_refl, all_at}
+use Rattle.squall_world.proofs.Nodes.{IsChanged, each_part, node_there, no_node}
+use Rattle.squall_world.proofs.History.{IsMore, history_of, history_more, more_turned}
+use Rattle.squall_world.proofs.Kept.{SameKind, changed, changed_net, rest_net}
+use Rattle.squall_world.proofs.Seen.{tests_of_part, part_seen, part_found, ids_kept, opened_kept, facts_kept, parts_kept, messages_kept, still}
+use Rattle.squall_world.proofs.Partitions.{held_after_giving, given_after_giving, loaded_after_giving, gift_carried}
+
+and_true : (b : Bool) → b ≡ (b && true)
+and_true true = refl
+and_true false = refl
+
+or_none : (b c : Bool) → b ≡ (b || (c && false))
+or_none true c = refl
+or_none false true = refl
+or_none false false = refl
+
+pub part_valid : (n : NetValue) (p at : ℕ) (peer : PeerValue) (a : PartValue) → IsNet n → HasPart n p at peer a → IsPeer peer × IsPart a
+part_valid n p at peer a net h = let is = all_at IsPeer n.peers at peer net.peers h.there in (is, subst IsRole h.role is.role)
+
+module _ (n : NetValue) (p at : ℕ) (peer : PeerValue) (a : PartValue) (x : ChunkValue) (s : ℕ) (net : IsNet n) (h : HasPart n p at peer a) (new : IsPart (after_giving a x.span)) (chunk : IsChunkOf a s x) (lt : x.span.lo < x.span.hi) where
+  abbrev giver : PeerValue
+  giver = turned peer (PartRole (after_giving a x.span))
+
+  is_a : IsPart a
+  is_a = (part_valid n p at peer a net h).1
+
+  kind : SameKind peer.role (PartRole (after_giving a x.span))
+  kind = subst (λ r. SameKind r (PartRole (after_giving a x.span))) (sym h.role) (refl, refl)
+
+  ch : IsChanged n (Part p) at peer giver
+  ch = changed n (Part p) at peer giver h.place h.there kind
+
+  more : IsMore n.peers at peer giver
+  more = more_turned n.peers n.messages at peer (PartRole (after_giving a x.span)) (history_of n net) h.there new (ap role_board (sym h.role))
+
+  pub gift_keeps : IsNet (with_gift n at peer (after_giving a x.span) x)
+  gift_keeps = rest_net (with_peer n at giver) n.messages (n.chunks ++ x ∷ []) (changed_net n (Part p) at peer giver net ch kind more) (history_more n.peers n.messages at peer giver (history_of n net) more)
+
+  from : (p == x.source) ≡ true
+  from = ap (λ v. p == v) (chunk.source ∙ h.id) ∙ eq_refl p
+
+  not_from : (q : ℕ) → (q == p) ≡ false → (q == x.source) ≡ false
+  not_from q f = ap (λ v. q == v) (chunk.source ∙ h.id) ∙ f
+
+  held : (q k : ℕ) → held_by (part_of (peer_of (with_peer n at giver) (Part q))) k ≡ (held_by (part_of (peer_of n (Part q))) k && not ((q == x.source) && span_has x.span k))
+  held q k = each_part n p at peer giver net ch (λ q o. held_by o k ≡ (held_by (part_of (peer_of n (Part q))) k && not ((q == x.source) && span_has x.span k)))
+      (held_after_giving a x.span k ∙ (λ i. held_by (sym (part_found n p at peer a h) i) k && not (sym from i && span_has x.span k)))
+      (λ q f. and_true (held_by (part_of (peer_of n (Part q))) k) ∙ ap (λ b. held_by (part_of (peer_of n (Part q))) k && not (b && span_has x.span k)) (sym (not_from q f)))
+      q
+
+  given : (m q k : ℕ) → given_under (part_of (peer_of (with_peer n at giver) (Part q))) m k ≡ (given_under (part_of (peer_of n (Part q))) m k || ((m == x.number) && ((q == x.source) && span_has x.span k)))
+  given m q k = each_part n p at peer giver net ch (λ q o. given_under o m k ≡ (given_under (part_of (peer_of n (Part q))) m k || ((m == x.number) && ((q == x.source) && span_has x.span k))))
+      (given_after_giving a x.span m k is_a lt ∙ (λ i. given_under (sym (part_found n p at peer a h) i) m k || ((m == sym chunk.number i) && (sym from i && span_has x.span k))))
+      (λ q f. or_none (given_under (part_of (peer_of n (Part q))) m k) (m == x.number) ∙ ap (λ b. given_under (part_of (peer_of n (Part q))) m k || ((m == x.number) && (b && span_has x.span k))) (sym (not_from q f)))
+      q
+
+  pub gift_seen : SameWorld (view (with_gift n at peer (after_giving a x.span) x)) (after_give (view n) x)
+  gift_seen = record {
+    plan = λ m. refl;
+    last = refl;
+    opened = opened_kept n (Part p) at peer giver net ch (ap (λ r. opened_by (leader_in r)) (sym h.role));
+    parts = ids_kept n (Part p) at peer giver net ch;
+    routers = refl;
+    held = held;
+    given = given;
+    loaded = λ m q k. parts_kept n (Part p) at peer giver net ch (λ o. loaded_under o m k) (ap (λ v. has v k) (loaded_after_giving a x.span m) ∙ ap (λ r. loaded_under (part_in r) m k) (sym h.role)) q;
+    facts = λ y. facts_kept n (Part p) at peer giver net ch (ap (λ r. tests_of (role_board r)) (sym h.role)) y;
+    messages = messages_kept n (Part p) at peer giver net ch [] (sym (append-nil peer.reports)) n.messages net.messages;
+    chunks = refl;
+  }
+
+  pub gift_is : ((k : ℕ) → span_has x.span k ≡ true → goes_out a s k ≡ true) → IsGift (tests_of_part a) (course_of_part a) s x
+  gift_is out = record { number = chunk.number; sub_plan = chunk.sub_plan; source = chunk.source; carried = gift_carried a s x is_a chunk out }
+
+-- ---- refusals
+
+pub there_seen : (n : NetValue) (p at : ℕ) (peer : PeerValue) (a : PartValue) → HasPart n p at peer a → is_part (view n) p ≡ true
+there_seen n p at peer a h = node_there n (Part p) at h.place
+
+give_refused : (n m : NetValue) (p most at : ℕ) (peer : PeerValue) (a : PartValue) (f : GiveFault) (e : Refusal) → IsNet n → HasPart n p at peer a → IsGiven a most (Err f) a → give_refusal f ≡ Some e → m ≡ n → GiveStep (view n) p most (Refused e) (view m)
+give_refused n m p most at peer a f e net h is refusal same = by f is refusal
+  where
+    t : part_tests (view n) p ≡ tests_of_part a
+    t = part_seen n p at peer a net h
+
+    board : IsBoard a.board
+    board = (part_valid n p at peer a net h).1.board
+
+    by : (f : GiveFault) → IsGiven a most (Err f) a → give_refusal f ≡ Some e → GiveStep (view n) p most (Refused e) (view m)
+    by GiveNotOpen is r = subst (λ v. GiveStep (view n) p most (Refused v) (view m)) (same_Some NotOpen e r)
+        (there_seen n p at peer a h, subst NoneOpen (sym t) (course_of_part a, board_course a.first a.board board, is.0), still n m same)
+    by GiveNothingLeft (sub, current, none, u) r = subst (λ v. GiveStep (view n) p most (Refused v) (view m)) (same_Some NothingLeft e r)
+        (there_seen n p at peer a h, subst (λ v. (c : Change) × (s : ℕ) × IsCurrent v c s × ((k : ℕ) → tests_left v c s k ≡ false)) (sym t) (course_of_part a, sub, (board_course a.first a.board board, current), none), still n m same)
+    by GiveZeroMax (sub, current, some, none, u) r = subst (λ v. GiveStep (view n) p most (Refused v) (view m)) (same_Some ZeroMax e r)
+        (there_seen n p at peer a h, subst (λ v. (c : Change) × (s : ℕ) × IsCurrent v c s × ((k : ℕ) × (tests_left v c s k ≡ true))) (sym t) (course_of_part a, sub, (board_course a.first a.board board, current), some), none, still n m same)
+    by GiveNotOutgoing is r = absurd is
+    by GiveGiven is r = absurd is
+    by GiveNotHeld is r = absurd is
+    by GiveNoMemory is r = absurd (none-some e r)
+
+give_at_refused : (n m : NetValue) (p k at : ℕ) (peer : PeerValue) (a : PartValue) (f : GiveFault) (e : Refusal) → IsNet n → HasPart n p at peer a → IsGivenAt a k (Err f) a → give_refusal f ≡ Some e → m ≡ n → GiveAtStep (view n) p k (Refused e) (view m)
+give_at_refused n m p k at peer a f e net h is refusal same = by f is refusal
+  where
+    t : part_tests (view n) p ≡ tests_of_part a
+    t = part_seen n p at peer a net h
+
+    board : IsBoard a.board
+    board = (part_valid n p at peer a net h).1.board
+
+    by : (f : GiveFault) → IsGivenAt a k (Err f) a → give_refusal f ≡ Some e → GiveAtStep (view n) p k (Refused e) (view m)
+    by GiveNotOpen is r = subst (λ v. GiveAtStep (view n) p k (Refused v) (view m)) (same_Some NotOpen e r)
+        (there_seen n p at peer a h, subst NoneOpen (sym t) (course_of_part a, board_course a.first a.board board, is.0), still n m same)
+    by GiveNothingLeft is r = absurd is
+    by GiveZeroMax is r = absurd is
+    by GiveNotOutgoing (sub, current, none, u) r = subst (λ v. GiveAtStep (view n) p k (Refused v) (view m)) (same_Some NotOutgoing e r)
+        (there_seen n p at peer a h, subst (λ v. (c : Change) × (s : ℕ) × IsCurrent v c s × (tests_out v c s k ≡ false)) (sym t) (course_of_part a, sub, (board_course a.first a.board board, current), none), still n m same)
+    by GiveGiven (sub, current, out, gone, u) r = subst (λ v. GiveAtStep (view n) p k (Refused v) (view m)) (same_Some Given e r)
+        (there_seen n p at peer a h, subst (λ (v : PartTests). (c : Change) × (s : ℕ) × IsCurrent v c s × (tests_out v c s k ≡ true) × (v.given c.number k ≡ true)) (sym t) (course_of_part a, sub, (board_course a.first a.board board, current), out, gone), still n m same)
+    by GiveNotHeld (sub, current, out, kept, none, u) r = subst (λ v. GiveAtStep (view n) p k (Refused v) (view m)) (same_Some NotHeld e r)
+        (there_seen n p at peer a h, subst (λ (v : PartTests). (c : Change) × (s : ℕ) × IsCurrent v c s × (tests_out v c s k ≡ true) × (v.given c.number k ≡ false) × (v.held k ≡ false)) (sym t) (course_of_part a, sub, (board_course a.first a.board board, current), out, kept, none), still n m same)
+    by GiveNoMemory is r = absurd (none-some e r)
+
+-- ---- the steps
+
+pub give_keeps : (n m : NetValue) (p most : ℕ) (answer : Answer) → IsNet n → IsGiveIn n p most (Ok answer) m → IsNet m
+give_keeps n m p most (Gave i x) net (at, peer, a, b, h, (sub, current, first, chunk, e), part, index, is) =
+    subst IsNet (sym (is ∙ ap (λ v. with_gift n at peer v x) e)) (gift_keeps n p at peer a x sub net h (subst IsPart e part) chunk first.some)
+give_keeps n m p most (Refused e) net (inl none) = subst IsNet (sym none.2) net
+give_keeps n m p most (Refused e) net (inr (at, peer, a, f, h, is, r, same)) = subst IsNet (sym same) net
+give_keeps n m p most answer net is = absurd is
+
+pub give_steps : (n m : NetValue) (p most : ℕ) (answer : Answer) → IsNet n → IsGiveIn n p most (Ok answer) m → GiveStep (view n) p most answer (view m)
+give_steps n m p most (Gave i x) net (at, peer, a, b, h, (sub, current, first, chunk, e), part, index, is) =
+    let t = part_seen n p at peer a net h in
+    let new = subst IsPart e part in
+    let board = (part_valid n p at peer a net h).1.board in (
+      there_seen n p at peer a h,
+      index,
+      subst (λ v. (c : Change) × (s : ℕ) × IsCurrent v c s × AreFirst (tests_left v c s) most x.span × IsGift v c s x) (sym t) (
+        course_of_part a,
+        sub,
+        (board_course a.first a.board board, current),
+        first,
+        gift_is n p at peer a x sub net h new chunk first.some (λ k has. (and_parts (goes_out a sub k) _ (first.keys k (within_span x.span k has).0 (within_span x.span k has).1)).0),
+      ),
+      subst (λ v. SameWorld (view v) (after_give (view n) x)) (sym (is ∙ ap (λ v. with_gift n at peer v x) e)) (gift_seen n p at peer a x sub net h new chunk first.some),
+    )
+give_steps n m p most (Refused e) net (inl (none, r, same)) = subst (λ v. GiveStep (view n) p most (Refused v) (view m)) (sym r) (no_node n (Part p) none, still n m same)
+give_steps n m p most (Refused e) net (inr (at, peer, a, f, h, is, r, same)) = give_refused n m p most at peer a f e net h is r same
+give_steps n m p most answer net is = absurd is
+
+one_span : (s : Interval) (k : ℕ) → s ≡ interval k (k + 1) → s.lo < s.hi
+one_span s k e = subst (λ v. v.lo < v.hi) (sym e) (omega arith)
+
+only_key : (s : Interval) (k j : ℕ) → s ≡ interval k (k + 1) → span_has s j ≡ true → j ≡ k
+only_key s k j e has = let w = within_span (interval k (k + 1)) j (ap (λ v. span_has v j) (sym e) ∙ has) in omega (arith, w)
+
+pub give_at_keeps : (n m : NetValue) (p k : ℕ) (answer : Answer) → IsNet n → IsGiveAtIn n p k (Ok answer) m → IsNet m
+give_at_keeps n m p k (Gave i x) net (at, peer, a, b, h, (sub, current, out, kept, held, span, chunk, e), part, index, is) =
+    subst IsNet (sym (is ∙ ap (λ v. with_gift n at peer v x) e)) (gift_keeps n p at peer a x sub net h (subst IsPart e part) chunk (one_span x.span k span))
+give_at_keeps n m p k (Refused e) net (inl none) = subst IsNet (sym none.2) net
+give_at_keeps n m p k (Refused e) net (inr (at, peer, a, f, h, is, r, same)) = subst IsNet (sym same) net
+give_at_keeps n m p k answer net is = absurd is
+
+pub give_at_steps : (n m : NetValue) (p k : ℕ) (answer : Answer) → IsNet n → IsGiveAtIn n p k (Ok answer) m → GiveAtStep (view n) p k answer (view m)
+give_at_steps n m p k (Gave i x) net (at, peer, a, b, h, (sub, current, out, kept, held, span, chunk, e), part, index, is) =
+    let t = part_seen n p at peer a net h in
+    let new = subst IsPart e part in
+    let lt = one_span x.span k span in
+    let board = (part_valid n p at peer a net h).1.board in (
+      there_seen n p at peer a h,
+      index,
+      subst (λ (v : PartTests). (c : Change) × (s : ℕ) × IsCurrent v c s × (tests_out v c s k ≡ true) × (v.given c.number k ≡ false) × (v.held k ≡ true) × (x.span ≡ interval k (k + 1)) × IsGift v c s x) (sym t)
+          (course_of_part a, sub, (board_course a.first a.board board, current), out, kept, held, span, gift_is n p at peer a x sub net h new chunk lt (λ j has. ap (goes_out a sub) (only_key x.span k j span has) ∙ out)),
+      subst (λ v. SameWorld (view v) (after_give (view n) x)) (sym (is ∙ ap (λ v. with_gift n at peer v x) e)) (gift_seen n p at peer a x sub net h new chunk lt),
+    )
+give_at_steps n m p k (Refused e) net (inl (none, r, same)) = subst (λ v. GiveAtStep (view n) p k (Refused v) (view m)) (sym r) (no_node n (Part p) none, still n m same)
+give_at_steps n m p k (Refused e) net (inr (at, peer, a, f, h, is, r, same)) = give_at_refused n m p k at peer a f e net h is r same
+give_at_steps n m p k answer net is = absurd is

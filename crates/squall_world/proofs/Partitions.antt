@@ -1,0 +1,243 @@
+-- Gifts and loads of one partition, as tests.
+use Rattle.std.proofs.Common.{◌≡◌, ℕ, ◌-◌, ◌<◌, ◌≤◌, ◌==◌, Bool, true, false, cond, not, List, [], ◌∷◌, map, Option, None, Some, option_map, refl, sym, ap, subst, ◌∙◌, arith, inl, inr}
+use Rattle.std.specs.Prelude.{◌⊎◌, ◌||◌, ◌&&◌}
+use Rattle.std.specs.List.{AllByRecursion}
+use Rattle.std.proofs.lemmas.Bool.{cases_lt, and_parts}
+use Rattle.std.proofs.Math.Bool.{or_comm}
+use Rattle.std.proofs.lemmas.Bool.Decides.{nat_tests}
+use Rattle.std.proofs.lemmas.Option.{same_Some, none-some}
+use Rattle.squall_key.specs.Keys.{top, part_limit}
+use Rattle.squall_span.specs.Spans.{Interval, has, span_has, IsSet, insert_span, minus}
+use Rattle.squall_span.specs.SpanLaws.{has-minus, has-insert, has-union, canonical-minus, inside}
+use Rattle.squall_plan.specs.declared.range.PlanRange.{PlanRange}
+use Rattle.squall_plan.specs.Ranges.{owner_of, AreRanges}
+use Rattle.squall_plan.specs.PlanLaws.{owner_later}
+use Rattle.squall_join.specs.Pairs.{pair_of}
+use Rattle.squall_join.specs.declared.flat.Flat.TheVariants.{Unknown}
+use Rattle.squall_course.specs.Change.{Change, ArePlans}
+use Rattle.squall_course.specs.Subplans.{moves, sub_of, dest_of}
+use Rattle.squall_course.proofs.Counted.{key_goes}
+use Rattle.squall_course.proofs.Moved.{within as within_span}
+use Rattle.squall_report.specs.Cells.{place_at}
+use Rattle.squall_board.specs.BoardLaws.{cell_board_is}
+use Rattle.squall_part.proofs.Opened.{opened_few}
+use Rattle.squall_board.specs.Boards.{IsBoard, issued, report_board}
+use Rattle.squall_part.specs.Chunks.{ChunkValue}
+use Rattle.squall_part.specs.Carried.{Carried}
+use Rattle.squall_part.specs.Parts.{PartValue, Log, log_with, log_of, IsPart, IsLog, known_to, course_under, course_of_part, opened_at, given_in, loaded_in, given_by, loaded_by, with_given, with_loaded}
+use Rattle.squall_part.specs.Giving.{IsChunkOf, after_giving, goes_out}
+use Rattle.squall_part.specs.Loading.{Fits, after_load, load_report, done_report}
+use Rattle.squall_part.proofs.Logs.{edit, edit_course}
+use Rattle.squall_part.proofs.Known.{course_known}
+use Rattle.squall_part.proofs.Served.{known_log}
+use Rattle.squall_part.proofs.Changed.{given_set, loaded_set}
+use Rattle.squall_world.proofs.Lists.{eq_same}
+
+-- ---- logs
+
+-- a look-up after the log of a number was changed
+edited : (n : ℕ) (f : Log → Log) → ((l : Log) → (f l).course ≡ l.course) → (logs : List Log) (m : ℕ) → log_of (map (edit n f) logs) m ≡ cond (m == n) (option_map f (log_of logs m)) (log_of logs m)
+edited n f same [] m = by (m == n)
+  where
+    nothing : Option Log
+    nothing = None
+
+    by : (b : Bool) → nothing ≡ cond b (option_map f nothing) nothing
+    by true = refl
+    by false = refl
+edited n f same (l ∷ ls) m = ap (λ c. cond (c.number == m) (Some (edit n f l)) (log_of (map (edit n f) ls) m)) (edit_course n f same l) ∙ by (l.course.number == m) refl (edited n f same ls m)
+  where
+    at : (b : Bool) → Some (cond b (f l) l) ≡ cond b (Some (f l)) (Some l)
+    at true = refl
+    at false = refl
+
+    by : (b : Bool) → (l.course.number == m) ≡ b → log_of (map (edit n f) ls) m ≡ cond (m == n) (option_map f (log_of ls m)) (log_of ls m)
+        → cond b (Some (cond (l.course.number == n) (f l) l)) (log_of (map (edit n f) ls) m) ≡ cond (m == n) (option_map f (cond b (Some l) (log_of ls m))) (cond b (Some l) (log_of ls m))
+    by true e rest = ap (λ v. Some (cond (v == n) (f l) l)) (eq_same l.course.number m e) ∙ at (m == n)
+    by false e rest = rest
+
+abbrev give_log : List Interval → Log → Log
+give_log keys l = log_with l.course keys l.loaded
+
+abbrev load_log : List Interval → Log → Log
+load_log keys l = log_with l.course l.given keys
+
+pub given_with : (n m : ℕ) (keys : List Interval) (logs : List Log) (l : Log) → log_of logs n ≡ Some l → given_in (log_of (with_given n keys logs) m) ≡ cond (m == n) keys (given_in (log_of logs m))
+given_with n m keys logs l known = ap given_in (edited n (give_log keys) (λ l. refl) logs m) ∙ by (m == n) refl
+  where
+    by : (b : Bool) → (m == n) ≡ b → given_in (cond b (option_map (give_log keys) (log_of logs m)) (log_of logs m)) ≡ cond b keys (given_in (log_of logs m))
+    by true e = ap (λ v. given_in (option_map (give_log keys) v)) (ap (log_of logs) (eq_same m n e) ∙ known)
+    by false e = refl
+
+pub loaded_with : (n m : ℕ) (keys : List Interval) (logs : List Log) (l : Log) → log_of logs n ≡ Some l → loaded_in (log_of (with_loaded n keys logs) m) ≡ cond (m == n) keys (loaded_in (log_of logs m))
+loaded_with n m keys logs l known = ap loaded_in (edited n (load_log keys) (λ l. refl) logs m) ∙ by (m == n) refl
+  where
+    by : (b : Bool) → (m == n) ≡ b → loaded_in (cond b (option_map (load_log keys) (log_of logs m)) (log_of logs m)) ≡ cond b keys (loaded_in (log_of logs m))
+    by true e = ap (λ v. loaded_in (option_map (load_log keys) v)) (ap (log_of logs) (eq_same m n e) ∙ known)
+    by false e = refl
+
+other_given : (n : ℕ) (keys : List Interval) (o : Option Log) → given_in (option_map (load_log keys) o) ≡ given_in o
+other_given n keys None = refl
+other_given n keys (Some l) = refl
+
+other_loaded : (n : ℕ) (keys : List Interval) (o : Option Log) → loaded_in (option_map (give_log keys) o) ≡ loaded_in o
+other_loaded n keys None = refl
+other_loaded n keys (Some l) = refl
+
+pub loaded_beside : (n m : ℕ) (keys : List Interval) (logs : List Log) → loaded_in (log_of (with_given n keys logs) m) ≡ loaded_in (log_of logs m)
+loaded_beside n m keys logs = ap loaded_in (edited n (give_log keys) (λ l. refl) logs m) ∙ by (m == n)
+  where
+    by : (b : Bool) → loaded_in (cond b (option_map (give_log keys) (log_of logs m)) (log_of logs m)) ≡ loaded_in (log_of logs m)
+    by true = other_loaded n keys (log_of logs m)
+    by false = refl
+
+pub given_beside : (n m : ℕ) (keys : List Interval) (logs : List Log) → given_in (log_of (with_loaded n keys logs) m) ≡ given_in (log_of logs m)
+given_beside n m keys logs = ap given_in (edited n (load_log keys) (λ l. refl) logs m) ∙ by (m == n)
+  where
+    by : (b : Bool) → given_in (cond b (option_map (load_log keys) (log_of logs m)) (log_of logs m)) ≡ given_in (log_of logs m)
+    by true = other_given n keys (log_of logs m)
+    by false = refl
+
+-- ---- a gift
+
+or_false : (a : Bool) → (a || false) ≡ a
+or_false true = refl
+or_false false = refl
+
+pub held_after_giving : (a : PartValue) (s : Interval) (k : ℕ) → has (after_giving a s).held k ≡ (has a.held k && not (span_has s k))
+held_after_giving a s k = has-minus a.held (s ∷ []) k ∙ ap (λ b. has a.held k && not b) (or_false (span_has s k))
+
+-- keys put into the log of a number
+insert_at : (a : List Interval) (set : ℕ → List Interval) (n m : ℕ) (s : Interval) (k : ℕ) → s.lo < s.hi → IsSet (set n) → a ≡ cond (m == n) (insert_span s (set n)) (set m) → has a k ≡ (has (set m) k || ((m == n) && span_has s k))
+insert_at a set n m s k lt is e = ap (λ v. has v k) e ∙ by (m == n) refl
+  where
+    by : (b : Bool) → (m == n) ≡ b → has (cond b (insert_span s (set n)) (set m)) k ≡ (has (set m) k || (b && span_has s k))
+    by true t = has-insert s (set n) k lt is.0 ∙ or_comm (span_has s k) (has (set n) k) ∙ ap (λ v. has (set v) k || span_has s k) (sym (eq_same m n t))
+    by false t = sym (or_false (has (set m) k))
+
+pub given_after_giving : (a : PartValue) (s : Interval) (m k : ℕ) → IsPart a → s.lo < s.hi → has (given_by (after_giving a s) m) k ≡ (has (given_by a m) k || ((m == (course_of_part a).number) && span_has s k))
+given_after_giving a s m k is lt =
+    let n = (course_of_part a).number in
+    let l = known_log a n (course_of_part a) is (course_known a is) in
+    insert_at (given_by (after_giving a s) m) (given_by a) n m s k lt (given_set a.logs n is.logs) (given_with n m (insert_span s (given_by a n)) a.logs l.0 l.1)
+
+pub loaded_after_giving : (a : PartValue) (s : Interval) (m : ℕ) → loaded_by (after_giving a s) m ≡ loaded_by a m
+loaded_after_giving a s m = loaded_beside (course_of_part a).number m (insert_span s (given_by a (course_of_part a).number)) a.logs
+
+-- ---- a load
+
+pub held_after_load : (a : PartValue) (x : ChunkValue) (k : ℕ) → IsPart a → x.span.lo < x.span.hi → has (after_load a x).held k ≡ (has a.held k || (span_has x.span k && not (has (loaded_by a x.number) k)))
+held_after_load a x k is lt =
+    let loaded = loaded_by a x.number in
+    let set = loaded_set a.logs x.number is.logs in
+    has-union a.held (minus (x.span ∷ []) loaded) k is.held.0 (canonical-minus (x.span ∷ []) loaded (lt, tt, tt) set.0)
+    ∙ ap (λ b. has a.held k || b) (has-minus (x.span ∷ []) loaded k ∙ ap (λ b. b && not (has loaded k)) (or_false (span_has x.span k)))
+
+pub loaded_after_load : (a : PartValue) (x : ChunkValue) (c : Change) (m k : ℕ) → IsPart a → known_to a x.number ≡ Some c → x.span.lo < x.span.hi → has (loaded_by (after_load a x) m) k ≡ (has (loaded_by a m) k || ((m == x.number) && span_has x.span k))
+loaded_after_load a x c m k is known lt =
+    let n = x.number in
+    let l = known_log a n c is known in
+    insert_at (loaded_by (after_load a x) m) (loaded_by a) n m x.span k lt (loaded_set a.logs n is.logs) (loaded_with n m (insert_span x.span (loaded_by a n)) a.logs l.0 l.1)
+
+pub given_after_load : (a : PartValue) (x : ChunkValue) (m : ℕ) → given_by (after_load a x) m ≡ given_by a m
+given_after_load a x m = given_beside x.number m (insert_span x.span (loaded_by a x.number)) a.logs
+
+-- ---- courses
+
+found_log : (n : ℕ) (l : Log) (logs : List Log) → AllByRecursion IsLog logs → log_of logs n ≡ Some l → IsLog l
+found_log n l [] all e = absurd (none-some l e)
+found_log n l (d ∷ ds) all e = by (d.course.number == n) e (λ f. found_log n l ds all.1 f)
+  where
+    by : (b : Bool) → cond b (Some d) (log_of ds n) ≡ Some l → (log_of ds n ≡ Some l → IsLog l) → IsLog l
+    by true e rest = subst IsLog (same_Some d l e) all.0
+    by false e rest = rest e
+
+-- a course that a partition knows is of plans
+pub known_plans : (a : PartValue) (n : ℕ) (c : Change) → IsPart a → known_to a n ≡ Some c → ArePlans c.old c.new
+known_plans a n c is known =
+    let l = known_log a n c is known in
+    subst (λ v. ArePlans v.old v.new) l.2 (found_log n l.0 a.logs is.logs l.1).plans
+
+pub newest_plans : (a : PartValue) → IsPart a → ArePlans (course_of_part a).old (course_of_part a).new
+newest_plans a is = known_plans a (course_of_part a).number (course_of_part a) is (course_known a is)
+
+-- its number is from 1 on where the first course's is
+pub known_low : (a : PartValue) (n : ℕ) (c : Change) → IsPart a → a.first.number ≡ 1 → known_to a n ≡ Some c → 1 ≤ n
+known_low a n c is one known = by (n == a.first.number) refl known
+  where
+    not_unknown : (1 ≤ n) ⊎ (issued a.board n ≡ Unknown) → course_under n (issued a.board n) ≡ Some c → 1 ≤ n
+    not_unknown (inl le) e = le
+    not_unknown (inr u) e = absurd (none-some c (ap (course_under n) (sym u) ∙ e))
+
+    by : (b : Bool) → (n == a.first.number) ≡ b → cond b (Some a.first) (course_under n (issued a.board n)) ≡ Some c → 1 ≤ n
+    by true t e = let s : n ≡ a.first.number = eq_same n a.first.number t in omega (arith, s, one)
+    by false t e = not_unknown (is.board.issues n) e
+
+-- ---- keys that move
+
+true_false : true ≡ false → ⊥
+true_false e = cc
+
+-- the keys of no range have no owner
+owner_high : (rs : List PlanRange) (k : ℕ) → AreRanges rs → top ≤ k → owner_of rs k ≡ 0
+owner_high [] k are le = refl
+owner_high (r ∷ rs) k are le = owner_later k r rs (let h = are.0.1 in omega (arith, h, le)) ∙ owner_high rs k are.1 le
+
+pub moving_low : (old new : List PlanRange) (k : ℕ) → ArePlans old new → moves old new k ≡ true → k < top
+moving_low old new k plans is = elim (cases_lt k top) [
+  | inl lt ↦ lt
+  | inr le ↦ absurd (true_false (sym is ∙ ap not (λ i. owner_high old k plans.old_ranges le i == owner_high new k plans.new_ranges le i)))
+]
+
+-- what goes out in a sub-plan goes to its destination
+pub gift_carried : (a : PartValue) (s : ℕ) (x : ChunkValue) → IsPart a → IsChunkOf a s x → ((k : ℕ) → span_has x.span k ≡ true → goes_out a s k ≡ true) → Carried (course_of_part a) x
+gift_carried a s x is chunk out = record {
+  moving = λ k h. moving k h;
+  source = λ k h. source k h ∙ sym chunk.source;
+  dest = λ k h. same_Some (owner_of (course_of_part a).new k) x.dest (sym (key_goes (course_of_part a).old (course_of_part a).new k plans (moving_low (course_of_part a).old (course_of_part a).new k plans (moving k h)) (moving k h)) ∙ (λ i. dest_of (course_of_part a).old (course_of_part a).new (sub k h i) (source k h i)) ∙ chunk.dest);
+  sub_plan = λ k h. sub k h ∙ sym chunk.sub_plan;
+}
+  where
+    plans : ArePlans (course_of_part a).old (course_of_part a).new
+    plans = newest_plans a is
+
+    moving : (k : ℕ) → span_has x.span k ≡ true → moves (course_of_part a).old (course_of_part a).new k ≡ true
+    moving k h = (and_parts (moves (course_of_part a).old (course_of_part a).new k) ((sub_of (course_of_part a).old (course_of_part a).new k == s) && (owner_of (course_of_part a).old k == a.id)) (out k h)).0
+
+    rest : (k : ℕ) → span_has x.span k ≡ true → ((sub_of (course_of_part a).old (course_of_part a).new k == s) && (owner_of (course_of_part a).old k == a.id)) ≡ true
+    rest k h = (and_parts (moves (course_of_part a).old (course_of_part a).new k) ((sub_of (course_of_part a).old (course_of_part a).new k == s) && (owner_of (course_of_part a).old k == a.id)) (out k h)).1
+
+    sub : (k : ℕ) → span_has x.span k ≡ true → sub_of (course_of_part a).old (course_of_part a).new k ≡ s
+    sub k h = eq_same (sub_of (course_of_part a).old (course_of_part a).new k) s (and_parts (sub_of (course_of_part a).old (course_of_part a).new k == s) (owner_of (course_of_part a).old k == a.id) (rest k h)).0
+
+    source : (k : ℕ) → span_has x.span k ≡ true → owner_of (course_of_part a).old k ≡ a.id
+    source k h = eq_same (owner_of (course_of_part a).old k) a.id (and_parts (sub_of (course_of_part a).old (course_of_part a).new k == s) (owner_of (course_of_part a).old k == a.id) (rest k h)).1
+
+pub fits_carried : (a : PartValue) (c : Change) (x : ChunkValue) → Fits a c x → Carried c x
+fits_carried a c x f = record { moving = f.moving; source = f.source; dest = f.dest; sub_plan = f.sub_plan }
+
+pub carried_fits : (a : PartValue) (c : Change) (x : ChunkValue) → x.dest ≡ a.id → Carried c x → Fits a c x
+carried_fits a c x here f = record { here = here; moving = f.moving; source = f.source; dest = f.dest; sub_plan = f.sub_plan }
+
+-- a span with a key
+pub span_some : (s : Interval) (k : ℕ) → span_has s k ≡ true → s.lo < s.hi
+span_some s k h = let w = within_span s k h in omega (arith, w)
+
+-- ---- boards of reports
+
+pub load_board : (a : PartValue) (c : Change) (x : ChunkValue) → IsPart a → a.first.number ≡ 1 → a.id < part_limit → known_to a x.number ≡ Some c → x.sub < opened_at a x.number → Fits a c x → x.span.lo < x.span.hi → IsBoard (report_board (load_report x))
+load_board a c x is one low known started fits lt =
+    let few : opened_at a x.number ≤ part_limit = opened_few a.board x.number is.board in
+    let number : 1 ≤ x.number = known_low a x.number c is one known in
+    let last : x.span.hi - 1 < top = moving_low c.old c.new (x.span.hi - 1) (known_plans a x.number c is known) (fits.moving (x.span.hi - 1) (inside x.span (x.span.hi - 1) (omega (arith, lt)) (omega (arith, lt)))) in
+    let dest : x.dest < part_limit = subst (λ v. v < part_limit) (sym fits.here) low in
+    let sub : x.sub < part_limit = omega (arith, few, started) in
+    cell_board_is (place_at x.number x.sub x.dest) (pair_of (x.span ∷ []) false) (grind (arith, nat_tests, number, sub, dest)) (((lt, tt, tt), (omega (arith, last, lt), tt)), tt) (λ e. let bad : x.span ∷ [] ≡ [] = ap (λ v. v.first) e in cc)
+
+pub done_board : (a : PartValue) (s : ℕ) → IsPart a → a.first.number ≡ 1 → a.id < part_limit → s < opened_at a (course_of_part a).number → IsBoard (report_board (done_report a s))
+done_board a s is one low started =
+    let n = (course_of_part a).number in
+    let few : opened_at a n ≤ part_limit = opened_few a.board n is.board in
+    let number : 1 ≤ n = known_low a n (course_of_part a) is one (course_known a is) in
+    let sub : s < part_limit = omega (arith, few, started) in
+    cell_board_is (place_at n s a.id) (pair_of [] true) (grind (arith, nat_tests, number, sub, low)) ((tt, tt), tt) (λ e. true_false (ap (λ v. v.second) e))

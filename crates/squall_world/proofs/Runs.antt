@@ -1,0 +1,47 @@
+-- Runs that go on by one more event.
+use Rattle.std.proofs.Common.{◌≡◌, ℕ, ◌+◌, ◌<◌, List, [], ◌∷◌, ◌++◌, length, take, get_or, sym, ap, subst, ◌∙◌}
+use Rattle.std.proofs.lemmas.List.{append-nil, append_assoc, take_more}
+use Rattle.squall_report.specs.TestsLaws.{same_tests}
+use Rattle.squall_protocol.specs.declared.event.Event.{Event}
+use Rattle.squall_protocol.specs.declared.answer.Answer.{Answer}
+use Rattle.squall_protocol.specs.Worlds.{WorldValue, SameWorld}
+use Rattle.squall_protocol.specs.Steps.{Step, Run}
+use Rattle.squall_world.specs.Runs.{IsRun}
+use Rattle.squall_world.proofs.Seen.{same_world}
+
+-- worlds that agree in each part are one
+pub one_world : (w v : WorldValue) → SameWorld w v → w ≡ v
+one_world w v s =
+    λ i. record {
+      plan = λ n. s.plan n i;
+      last = s.last i;
+      opened = s.opened i;
+      parts = s.parts i;
+      routers = s.routers i;
+      held = λ p k. s.held p k i;
+      given = λ n p k. s.given n p k i;
+      loaded = λ n p k. s.loaded n p k i;
+      facts = λ node. same_tests (w.facts node) (v.facts node) (s.facts node) i;
+      messages = s.messages i;
+      chunks = s.chunks i;
+    }
+
+-- ---- a step more
+
+run_more : (w : WorldValue) (es : List Event) (rs : List Answer) (v : WorldValue) (e : Event) (r : Answer) (u : WorldValue) → Run w es rs v → Step v e r u → Run w (es ++ e ∷ []) (rs ++ r ∷ []) u
+run_more w [] [] v e r u run step = (u, subst (λ x. Step x e r u) (one_world v w run) step, same_world u)
+run_more w (d ∷ es) (q ∷ rs) v e r u run step = (run.0, run.1, run_more run.0 es rs v e r u run.2 step)
+run_more w [] (q ∷ rs) v e r u run step = absurd run
+run_more w (d ∷ es) [] v e r u run step = absurd run
+
+-- no event
+pub no_run : (w : WorldValue) (answers : List Answer) → IsRun w [] answers w answers
+no_run w answers = ([], same_world w, sym (append-nil answers))
+
+-- one more event of the list
+pub run_on : (w : WorldValue) (es : List Event) (i : ℕ) (before after : List Answer) (v : WorldValue) (e : Event) (r : Answer) (u : WorldValue) → i < length es → e ≡ get_or es i e → IsRun w (take i es) before v after → Step v e r u → IsRun w (take (i + 1) es) before u (after ++ r ∷ [])
+run_on w es i before after v e r u lt at run step = (
+  run.0 ++ r ∷ [],
+  subst (λ l. Run w l (run.0 ++ r ∷ []) u) (sym (take_more es i e lt ∙ ap (λ x. take i es ++ x ∷ []) (sym at))) (run_more w (take i es) run.0 v e r u run.1 step),
+  ap (λ l. l ++ r ∷ []) run.2 ∙ append_assoc before run.0 (r ∷ []),
+)

@@ -1,0 +1,18 @@
+use Rattle.std.proofs.Common.{IfOk, subst}
+use Rattle.squall_protocol.specs.Steps.{GiveStep}
+use Rattle.squall_world.specs.Views.{view}
+use Rattle.squall_world.specs.Events.{IsGiveIn}
+use Rattle.squall_world.proofs.Outcomes.{keeps_either, steps_if}
+use Rattle.squall_world.proofs.Gifts.{give_keeps, give_steps}
+use Rattle.squall_world.proofs.world.World.give.Goals as goal
+
+pub invariant_of-self : goal.invariant_of-self
+invariant_of-self c =
+    keeps_either (λ r. IsGiveIn c.self.inside.net c.args.part c.args.max r c.give.new.self) c.self.inside.net c.give.new.self c.give.result c.self.invariant
+    (λ answer h. give_keeps c.self.inside.net c.give.new.self c.args.part c.args.max answer c.self.invariant h) (λ e h. h) c.give.ensures
+
+pub returns-clause-ok : goal.returns-clause-ok
+returns-clause-ok c =
+    subst (λ n. IfOk c.give.result (λ answer. GiveStep (view n) c.args.part c.args.max answer (view c.give.new.self))) c.self.view_is
+    (steps_if (λ r. IsGiveIn c.self.inside.net c.args.part c.args.max r c.give.new.self) (λ answer. GiveStep (view c.self.inside.net) c.args.part c.args.max answer (view c.give.new.self)) c.give.result
+    (λ answer h. give_steps c.self.inside.net c.give.new.self c.args.part c.args.max answer c.self.invariant h) c.give.ensures)

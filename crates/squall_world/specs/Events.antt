@@ -1,0 +1,252 @@
+-- What an event does to what a world keeps. Only private functions are told by these definitions; callers are told by the definition of a
+-- step of the world.
+use Rattle.std.specs.Prelude.{◌≡◌, ℕ, ◌+◌, ◌&&◌, ◌⊎◌, not, false, List, [], ◌∷◌, ◌++◌, length, map, Option, Some, None, is_some, Result, Ok, Err}
+use Rattle.std.specs.List.{filter, range_with_len, slice_get, AllByRecursion}
+use Rattle.std.specs.declared.alloc.AllocError.{AllocError}
+use Rattle.squall_key.specs.Keys.{part_limit}
+use Rattle.squall_plan.specs.declared.range.PlanRange.{PlanRange}
+use Rattle.squall_plan.specs.Ranges.{names}
+use Rattle.squall_course.specs.Change.{Change}
+use Rattle.squall_report.specs.declared.report.ReportKind.{ReportKind}
+use Rattle.squall_report.specs.Issues.{PlanPair}
+use Rattle.squall_board.specs.Boards.{BoardValue, board_join, empty_board}
+use Rattle.squall_router.specs.Routers.{RouterValue, router_with, route_of_router}
+use Rattle.squall_part.specs.declared.giving.GiveFault.{GiveFault}
+use Rattle.squall_part.specs.declared.giving.GiveFault.TheVariants.{NotOpen as GiveNotOpen, NothingLeft as GiveNothingLeft, ZeroMax as GiveZeroMax, NotOutgoing as GiveNotOutgoing, Given as GiveGiven, NotHeld as GiveNotHeld, NoMemory as GiveNoMemory}
+use Rattle.squall_part.specs.declared.loading.LoadFault.{LoadFault}
+use Rattle.squall_part.specs.declared.loading.LoadFault.TheVariants.{NotOpen as LoadNotOpen, Stranger as LoadStranger, NoMemory as LoadNoMemory}
+use Rattle.squall_part.specs.declared.loading.Load.TheVariants.{Again as LoadAgain, Loaded as LoadLoaded}
+use Rattle.squall_part.specs.declared.finishing.FinishFault.{FinishFault}
+use Rattle.squall_part.specs.declared.finishing.FinishFault.TheVariants.{NotOpen as FinishNotOpen, NotAll as FinishNotAll, NothingDue as FinishNothingDue, NoMemory as FinishNoMemory}
+use Rattle.squall_part.specs.Chunks.{ChunkValue}
+use Rattle.squall_part.specs.Parts.{PartValue, IsPart, new_part, given_by, loaded_by}
+use Rattle.squall_part.specs.Giving.{IsGiven, IsGivenAt}
+use Rattle.squall_part.specs.Loading.{IsLoaded, IsFinished}
+use Rattle.squall_part.specs.Serving.{IsReply}
+use Rattle.squall_leader.specs.declared.fault.LeaderFault.{LeaderFault}
+use Rattle.squall_leader.specs.declared.fault.LeaderFault.TheVariants.{Running as LeaderRunning, NoNumber as LeaderNoNumber, Idle as LeaderIdle, NotDone as LeaderNotDone, NoMore as LeaderNoMore, NoMemory as LeaderNoMemory}
+use Rattle.squall_leader.specs.Leaders.{LeaderValue, IsLeader, IsOpened, IsBegun, IsFinished as IsLeaderFinished, open_report, issue_report, new_leader, after_begin, last_number}
+use Rattle.squall_protocol.specs.declared.event.Node.{Node}
+use Rattle.squall_protocol.specs.declared.event.Node.TheVariants.{Part, Router}
+use Rattle.squall_protocol.specs.declared.answer.Answer.{Answer}
+use Rattle.squall_protocol.specs.declared.answer.Answer.TheVariants.{Opened, Begun, Gave, Loaded, Again, Finished, Sent, Delivered, Routed, Served, Refused}
+use Rattle.squall_protocol.specs.declared.answer.Refusal.{Refusal}
+use Rattle.squall_protocol.specs.declared.answer.Refusal.TheVariants.{NoSuch, NotDone, NoMore, Running, NoNumber, NotOpen, NothingLeft, ZeroMax, NotOutgoing, Given, NotHeld, Stranger, NotAll, NothingDue}
+use Rattle.squall_world.specs.declared.peer.Role.{Role}
+use Rattle.squall_world.specs.declared.peer.Role.TheVariants.{Leader as LeaderRole, Part as PartRole, Router as RouterRole}
+use Rattle.squall_world.specs.Nets.{PeerValue, NetValue, peer_with, new_peer, is_behind, news_to, raised, turned, reported, first_of, place_of, with_peer, ArePlaced, IsRole}
+
+-- ---- faults as refusals: none where an allocation failed
+
+abbrev pub give_refusal : GiveFault → Option Refusal
+give_refusal GiveNotOpen = Some NotOpen
+give_refusal GiveNothingLeft = Some NothingLeft
+give_refusal GiveZeroMax = Some ZeroMax
+give_refusal GiveNotOutgoing = Some NotOutgoing
+give_refusal GiveGiven = Some Given
+give_refusal GiveNotHeld = Some NotHeld
+give_refusal GiveNoMemory = None
+
+abbrev pub load_refusal : LoadFault → Option Refusal
+load_refusal LoadNotOpen = Some NotOpen
+load_refusal LoadStranger = Some Stranger
+load_refusal LoadNoMemory = None
+
+abbrev pub finish_refusal : FinishFault → Option Refusal
+finish_refusal FinishNotOpen = Some NotOpen
+finish_refusal (FinishNotAll span) = Some (NotAll span)
+finish_refusal FinishNothingDue = Some NothingDue
+finish_refusal FinishNoMemory = None
+
+-- of a leader that has begun a course
+abbrev pub open_refusal : LeaderFault → Option Refusal
+open_refusal LeaderRunning = None
+open_refusal LeaderNoNumber = None
+open_refusal LeaderIdle = None
+open_refusal (LeaderNotDone sub part) = Some (NotDone sub part)
+open_refusal LeaderNoMore = Some NoMore
+open_refusal LeaderNoMemory = None
+
+-- an answer to an event, as the refusal of a fault
+abbrev pub answer_of : Option Refusal → Result Answer AllocError → Type 0
+answer_of None (Ok answer) = ⊥
+answer_of None (Err error) = Unit {0}
+answer_of (Some e) r = r ≡ Ok (Refused e)
+
+-- ---- nodes
+
+-- the partition of the number stands at the place
+pub record HasPart (n : NetValue) (p at : ℕ) (peer : PeerValue) (part : PartValue) : Type 0 where
+  pub place : place_of n (Part p) ≡ Some at
+  pub there : slice_get n.peers at ≡ Some peer
+  pub role : peer.role ≡ PartRole part
+  pub id : part.id ≡ p
+
+-- the leader stands at 0
+pub record HasLeader (n : NetValue) (peer : PeerValue) (leader : LeaderValue) : Type 0 where
+  pub there : slice_get n.peers 0 ≡ Some peer
+  pub role : peer.role ≡ LeaderRole leader
+
+-- the node is not there, and nothing changed
+abbrev pub IsNoSuch : NetValue → Node → Refusal → NetValue → Type 0
+IsNoSuch n node e m = (place_of n node ≡ None) × (e ≡ NoSuch) × (m ≡ n)
+
+-- ---- gifts
+
+-- the partition is another now, and the chunk is on its way
+abbrev pub with_gift : NetValue → ℕ → PeerValue → PartValue → ChunkValue → NetValue
+with_gift n at peer part chunk = record (with_peer n at (turned peer (PartRole part))) { chunks = n.chunks ++ chunk ∷ [] }
+
+abbrev pub IsGiveIn : NetValue → ℕ → ℕ → Result Answer AllocError → NetValue → Type 0
+IsGiveIn n p most (Ok (Gave i x)) m =
+    (at : ℕ) × (peer : PeerValue) × (a : PartValue) × (b : PartValue) × HasPart n p at peer a × IsGiven a most (Ok x) b × IsPart b × (i ≡ length n.chunks) × (m ≡ with_gift n at peer b x)
+IsGiveIn n p most (Ok (Refused e)) m =
+    IsNoSuch n (Part p) e m
+    ⊎ ((at : ℕ) × (peer : PeerValue) × (a : PartValue) × (f : GiveFault) × HasPart n p at peer a × IsGiven a most (Err f) a × (give_refusal f ≡ Some e) × (m ≡ n))
+IsGiveIn n p most (Ok _) m = ⊥
+IsGiveIn n p most (Err e) m = m ≡ n
+
+abbrev pub IsGiveAtIn : NetValue → ℕ → ℕ → Result Answer AllocError → NetValue → Type 0
+IsGiveAtIn n p k (Ok (Gave i x)) m =
+    (at : ℕ) × (peer : PeerValue) × (a : PartValue) × (b : PartValue) × HasPart n p at peer a × IsGivenAt a k (Ok x) b × IsPart b × (i ≡ length n.chunks) × (m ≡ with_gift n at peer b x)
+IsGiveAtIn n p k (Ok (Refused e)) m =
+    IsNoSuch n (Part p) e m
+    ⊎ ((at : ℕ) × (peer : PeerValue) × (a : PartValue) × (f : GiveFault) × HasPart n p at peer a × IsGivenAt a k (Err f) a × (give_refusal f ≡ Some e) × (m ≡ n))
+IsGiveAtIn n p k (Ok _) m = ⊥
+IsGiveAtIn n p k (Err e) m = m ≡ n
+
+-- ---- loads and completions
+
+-- the partition is another now, and made a report
+abbrev pub with_report : NetValue → ℕ → PeerValue → Role → ReportKind PlanPair → NetValue
+with_report n at peer role report = with_peer n at (reported at peer role report)
+
+abbrev pub IsLoadIn : NetValue → ℕ → Result Answer AllocError → NetValue → Type 0
+IsLoadIn n i (Ok (Loaded report)) m =
+    (x : ChunkValue) × (at : ℕ) × (peer : PeerValue) × (a : PartValue) × (b : PartValue) × (slice_get n.chunks i ≡ Some x) × HasPart n x.dest at peer a
+    × IsLoaded a x (Ok (LoadLoaded report)) b × IsPart b × (m ≡ with_report n at peer (PartRole b) report)
+IsLoadIn n i (Ok Again) m =
+    (x : ChunkValue) × (at : ℕ) × (peer : PeerValue) × (a : PartValue) × (slice_get n.chunks i ≡ Some x) × HasPart n x.dest at peer a × IsLoaded a x (Ok LoadAgain) a × (m ≡ n)
+IsLoadIn n i (Ok (Refused e)) m =
+    ((slice_get n.chunks i ≡ None) × (e ≡ NoSuch) × (m ≡ n))
+    ⊎ (((x : ChunkValue) × (slice_get n.chunks i ≡ Some x) × IsNoSuch n (Part x.dest) e m)
+    ⊎ ((x : ChunkValue) × (at : ℕ) × (peer : PeerValue) × (a : PartValue) × (f : LoadFault) × (slice_get n.chunks i ≡ Some x) × HasPart n x.dest at peer a
+    × IsLoaded a x (Err f) a × (load_refusal f ≡ Some e) × (m ≡ n)))
+IsLoadIn n i (Ok _) m = ⊥
+IsLoadIn n i (Err e) m = m ≡ n
+
+abbrev pub IsFinishIn : NetValue → ℕ → ℕ → Result Answer AllocError → NetValue → Type 0
+IsFinishIn n p s (Ok (Finished report)) m =
+    (at : ℕ) × (peer : PeerValue) × (a : PartValue) × (b : PartValue) × HasPart n p at peer a × IsFinished a s (Ok report) b × IsPart b × (m ≡ with_report n at peer (PartRole b) report)
+IsFinishIn n p s (Ok (Refused e)) m =
+    IsNoSuch n (Part p) e m
+    ⊎ ((at : ℕ) × (peer : PeerValue) × (a : PartValue) × (f : FinishFault) × HasPart n p at peer a × IsFinished a s (Err f) a × (finish_refusal f ≡ Some e) × (m ≡ n))
+IsFinishIn n p s (Ok _) m = ⊥
+IsFinishIn n p s (Err e) m = m ≡ n
+
+-- ---- the leader
+
+abbrev pub IsOpenIn : NetValue → Result Answer AllocError → NetValue → Type 0
+IsOpenIn n (Ok (Opened s)) m =
+    (peer : PeerValue) × (a : LeaderValue) × (b : LeaderValue) × (c : Change) × HasLeader n peer a × (a.course ≡ Some c) × IsOpened a (Ok (open_report c s)) b × IsLeader b
+    × (m ≡ with_report n 0 peer (LeaderRole b) (open_report c s))
+IsOpenIn n (Ok (Refused e)) m = (peer : PeerValue) × (a : LeaderValue) × (f : LeaderFault) × HasLeader n peer a × IsOpened a (Err f) a × (open_refusal f ≡ Some e) × (m ≡ n)
+IsOpenIn n (Ok _) m = ⊥
+IsOpenIn n (Err e) m = m ≡ n
+
+-- the partitions that a plan names and that stand nowhere yet, in rising number
+abbrev pub named_first : NetValue → List PlanRange → List ℕ
+named_first n plan = filter (λ p. names plan p && not (is_some (place_of n (Part p)))) (range_with_len 0 part_limit)
+
+-- their nodes
+abbrev pub part_peers : Change → List ℕ → List PeerValue
+part_peers first ids = map (λ p. new_peer (PartRole (new_part p first))) ids
+
+-- a course is begun, and nodes come; the places of all partitions are noted
+pub record IsBegunNet (n : NetValue) (peer : PeerValue) (leader : LeaderValue) (c : Change) (plan : List PlanRange) (m : NetValue) : Type 0 where
+  pub courses : m.courses ≡ n.courses ++ c ∷ []
+  pub peers : m.peers ≡ (with_report n 0 peer (LeaderRole leader) (issue_report c)).peers ++ part_peers (first_of n) (named_first n plan)
+  pub valid : AllByRecursion (λ p. IsRole p.role) (part_peers (first_of n) (named_first n plan))
+  pub placed : ArePlaced m
+  pub routers : m.routers ≡ n.routers
+  pub messages : m.messages ≡ n.messages
+  pub chunks : m.chunks ≡ n.chunks
+
+abbrev pub IsBeginIn : NetValue → List PlanRange → Result Answer AllocError → NetValue → Type 0
+IsBeginIn n plan (Ok (Begun number parts)) m =
+    (peer : PeerValue) × (a : LeaderValue) × (b : LeaderValue) × (c : Change) × HasLeader n peer a × IsBegun a plan (Ok c) b × IsLeader b × (number ≡ c.number)
+    × (parts + n.routers + 1 ≡ length m.peers) × IsBegunNet n peer b c plan m
+IsBeginIn n plan (Ok (Refused Running)) m = (peer : PeerValue) × (a : LeaderValue) × HasLeader n peer a × (IsLeaderFinished a → ⊥) × (m ≡ n)
+IsBeginIn n plan (Ok (Refused NoNumber)) m = (peer : PeerValue) × (a : LeaderValue) × HasLeader n peer a × IsLeaderFinished a × (a.last ≡ last_number) × (m ≡ n)
+IsBeginIn n plan (Ok _) m = ⊥
+IsBeginIn n plan (Err e) m = m ≡ n
+
+-- ---- messages
+
+abbrev pub IsSendIn : NetValue → Node → Result Answer AllocError → NetValue → Type 0
+IsSendIn n node (Ok (Sent i)) m =
+    (from : ℕ) × (peer : PeerValue) × (place_of n node ≡ Some from) × (slice_get n.peers from ≡ Some peer) × (i ≡ length n.messages)
+    × (m ≡ record n { messages = n.messages ++ peer.known ∷ [] })
+IsSendIn n node (Ok (Refused e)) m = IsNoSuch n node e m
+IsSendIn n node (Ok _) m = ⊥
+IsSendIn n node (Err e) m = m ≡ n
+
+-- the node takes in a board, and stays what it was but for that
+abbrev pub IsTold : Role → BoardValue → Role → Type 0
+IsTold (LeaderRole a) d (LeaderRole b) = (b ≡ record a { board = board_join a.board d }) × IsLeader b
+IsTold (PartRole a) d (PartRole b) =
+    (b.board ≡ board_join a.board d) × (b ≡ record a { board = b.board; logs = b.logs }) × ((n : ℕ) → given_by b n ≡ given_by a n) × ((n : ℕ) → loaded_by b n ≡ loaded_by a n) × IsPart b
+IsTold (RouterRole a) d (RouterRole b) = (b ≡ router_with a.first (board_join a.board d)) × IsRole (RouterRole b)
+IsTold _ d _ = ⊥
+
+-- the node has taken the news in, and knows as many reports as these counts say
+pub record IsHearing (a : PeerValue) (news : BoardValue) (counts : List ℕ) (b : PeerValue) : Type 0 where
+  pub told : IsTold a.role news b.role
+  pub reports : b.reports ≡ a.reports
+  pub known : b.known ≡ raised a.known counts
+
+abbrev pub IsDeliverIn : NetValue → ℕ → Node → Result Answer AllocError → NetValue → Type 0
+IsDeliverIn n i node (Ok Delivered) m =
+    (at : ℕ) × (x : List ℕ) × (a : PeerValue) × (place_of n node ≡ Some at) × (slice_get n.messages i ≡ Some x) × (slice_get n.peers at ≡ Some a)
+    × (((is_behind a.known x ≡ false) × (m ≡ n))
+    ⊎ ((c : PeerValue) × IsHearing a (news_to empty_board n.peers a.known x) x c × (m ≡ with_peer n at c)))
+IsDeliverIn n i node (Ok (Refused e)) m = IsNoSuch n node e m ⊎ ((slice_get n.messages i ≡ None) × (e ≡ NoSuch) × (m ≡ n))
+IsDeliverIn n i node (Ok _) m = ⊥
+IsDeliverIn n i node (Err e) m = m ≡ n
+
+-- ---- questions
+
+abbrev pub IsRouteIn : NetValue → ℕ → ℕ → Answer → Type 0
+IsRouteIn n r k (Routed p) = (at : ℕ) × (peer : PeerValue) × (a : RouterValue) × (place_of n (Router r) ≡ Some at) × (slice_get n.peers at ≡ Some peer) × (peer.role ≡ RouterRole a) × (p ≡ route_of_router a k)
+IsRouteIn n r k (Refused e) = (place_of n (Router r) ≡ None) × (e ≡ NoSuch)
+IsRouteIn n r k _ = ⊥
+
+abbrev pub IsServeIn : NetValue → ℕ → ℕ → ℕ → Answer → Type 0
+IsServeIn n p k after (Served reply) = (at : ℕ) × (peer : PeerValue) × (a : PartValue) × HasPart n p at peer a × IsReply a k after reply
+IsServeIn n p k after (Refused e) = (place_of n (Part p) ≡ None) × (e ≡ NoSuch)
+IsServeIn n p k after _ = ⊥
+
+-- ---- at first
+
+abbrev pub first_course_of : List PlanRange → List PlanRange → Change
+first_course_of old new = record { number = 1; old = old; new = new }
+
+-- the leader that has begun the first course
+abbrev pub first_leader : List PlanRange → List PlanRange → LeaderValue
+first_leader old new = after_begin (new_leader old 0) (first_course_of old new)
+
+abbrev pub leader_peer : List PlanRange → List PlanRange → PeerValue
+leader_peer old new = peer_with (LeaderRole (first_leader old new)) (issue_report (first_course_of old new) ∷ []) (1 ∷ [])
+
+abbrev pub router_peers : Change → ℕ → List PeerValue
+router_peers first count = map (λ r. new_peer (RouterRole (router_with first empty_board))) (range_with_len 0 count)
+
+-- a net in which the first course is begun
+pub record IsFirstNet (old new : List PlanRange) (count : ℕ) (ids : List ℕ) (m : NetValue) : Type 0 where
+  pub courses : m.courses ≡ first_course_of old new ∷ []
+  pub peers : m.peers ≡ leader_peer old new ∷ router_peers (first_course_of old new) count ++ part_peers (first_course_of old new) ids
+  pub valid : AllByRecursion (λ p. IsRole p.role) m.peers
+  pub placed : ArePlaced m
+  pub routers : m.routers ≡ count
+  pub messages : m.messages ≡ []
+  pub chunks : m.chunks ≡ []

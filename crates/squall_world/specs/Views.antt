@@ -1,0 +1,79 @@
+-- What is seen of a world: the world of the definition that what it keeps makes.
+use Rattle.std.specs.Prelude.{ℕ, zero, suc, Bool, false, List, [], ◌∷◌, length, map, Option, Some, None, slice_index_or}
+use Rattle.std.specs.List.{flat_map, slice_get}
+use Rattle.squall_span.specs.Spans.{has}
+use Rattle.squall_plan.specs.declared.range.PlanRange.{PlanRange}
+use Rattle.squall_report.specs.Tests.{Tests, no_tests}
+use Rattle.squall_board.specs.BoardTests.{tests_of}
+use Rattle.squall_part.specs.Parts.{PartValue, given_by, loaded_by}
+use Rattle.squall_leader.specs.Leaders.{LeaderValue}
+use Rattle.squall_protocol.specs.declared.event.Node.TheVariants.{Part}
+use Rattle.squall_protocol.specs.Worlds.{WorldValue}
+use Rattle.squall_world.specs.declared.peer.Role.{Role}
+use Rattle.squall_world.specs.declared.peer.Role.TheVariants.{Leader as LeaderRole, Part as PartRole, Router as RouterRole}
+use Rattle.squall_world.specs.Nets.{PeerValue, NetValue, told_from, role_board, leader_in, part_in, first_of, peer_of}
+
+-- the plan of a number: the old plan of the first course, and after it the new plan of each; beyond the last, that of the first
+abbrev pub plan_at : NetValue → ℕ → List PlanRange
+plan_at n zero = (first_of n).old
+plan_at n (suc i) = (slice_index_or n.courses i (first_of n)).new
+
+-- the numbers of the partitions, in the order in which they stand
+abbrev pub id_of : Role → List ℕ
+id_of (LeaderRole l) = []
+id_of (PartRole p) = p.id ∷ []
+id_of (RouterRole r) = []
+
+abbrev pub ids_in : NetValue → List ℕ
+ids_in n = flat_map (λ p. id_of p.role) n.peers
+
+-- how many sub-plans the leader has opened
+abbrev pub opened_by : Option LeaderValue → ℕ
+opened_by None = 0
+opened_by (Some l) = l.opened
+
+abbrev pub opened_in : Option PeerValue → ℕ
+opened_in None = 0
+opened_in (Some p) = opened_by (leader_in p.role)
+
+-- a partition, where it is there
+abbrev pub part_of : Option PeerValue → Option PartValue
+part_of None = None
+part_of (Some p) = part_in p.role
+
+abbrev pub held_by : Option PartValue → ℕ → Bool
+held_by None k = false
+held_by (Some p) k = has p.held k
+
+abbrev pub given_under : Option PartValue → ℕ → ℕ → Bool
+given_under None n k = false
+given_under (Some p) n k = has (given_by p n) k
+
+abbrev pub loaded_under : Option PartValue → ℕ → ℕ → Bool
+loaded_under None n k = false
+loaded_under (Some p) n k = has (loaded_by p n) k
+
+-- what a node was told and told itself, nothing where it is not there
+abbrev pub facts_of : Option PeerValue → Tests
+facts_of None = no_tests
+facts_of (Some p) = tests_of (role_board p.role)
+
+-- what a message tells
+abbrev pub told_by_message : NetValue → List ℕ → Tests
+told_by_message n counts = tests_of (told_from n.peers counts)
+
+abbrev pub view : NetValue → WorldValue
+view n =
+    record {
+      plan = plan_at n;
+      last = length n.courses;
+      opened = opened_in (slice_get n.peers 0);
+      parts = ids_in n;
+      routers = n.routers;
+      held = λ p k. held_by (part_of (peer_of n (Part p))) k;
+      given = λ m p k. given_under (part_of (peer_of n (Part p))) m k;
+      loaded = λ m p k. loaded_under (part_of (peer_of n (Part p))) m k;
+      facts = λ node. facts_of (peer_of n node);
+      messages = map (told_by_message n) n.messages;
+      chunks = n.chunks;
+    }

@@ -1,0 +1,121 @@
+//! What the leader does.
+
+ghost use Rattle.std.specs.Prelude.{◌≡◌, ◌≤◌, ◌<◌, ◌+◌, ◌++◌, ◌∷◌, [], vec_len, vec_capacity, IfOk};
+ghost use Rattle.std.specs.Arc.{arc_value};
+ghost use Rattle.squall_report.specs.declared.report.ReportKind.TheVariants.{Issued};
+ghost use Rattle.squall_report.specs.Issues.{plan_pair};
+ghost use Rattle.squall_world.specs.Nets.{IsNet, first_of};
+ghost use Rattle.squall_world.specs.Events.{IsOpenIn, IsBeginIn, part_peers, named_first};
+ghost use Rattle.squall_world.specs.Naming.{AreNoted, AreRoles};
+
+use crate::naming::{PARTS, mark, new_parts, note_places, repeated};
+use crate::net::Net;
+use crate::peer::Peer;
+use crate::refusal::{not_opened, refused};
+use squall_course::Course;
+use squall_join::Shared;
+use squall_plan::Plan;
+use squall_protocol::{Answer, Refusal};
+use squall_report::{Issue, Report};
+use std::alloc::{AllocError, Global};
+use std::sync::Arc;
+
+/// The report that issues a course under the number.
+pub(crate) fn issue(
+    alloc: Global,
+    number: u32,
+    old: &Plan,
+    new: &Plan,
+) -> Result<Report, AllocError>
+    requires { 1 ≤ number }
+    ensures { IfOk result (λ report. report ≡ Issued number (plan_pair old.now new.now)) }
+{
+    let issue = Issue::new(alloc, old, new)?;
+    Ok(Report::issued(number, issue).unwrap())
+}
+
+/// Adds nodes at the end, in room that was reserved.
+fn append_ready(peers: &mut Vec<Peer>, mut more: Vec<Peer>)
+    requires room { vec_len peers.old + vec_len more ≤ vec_capacity peers.old }
+    ensures { peers.new.items ≡ peers.old.items ++ more.items }
+{
+    let _done = peers.append(&mut more);
+}
+
+/// A course is begun, and nodes come, in room that was made: where they stand is noted.
+fn add(
+    courses: &mut Vec<Shared<Course>>,
+    peers: &mut Vec<Peer>,
+    places: &mut [Option<usize>],
+    course: Arc<Course>,
+    more: Vec<Peer>,
+)
+    requires course { vec_len courses.old < vec_capacity courses.old }
+    requires room { vec_len peers.old + vec_len more ≤ vec_capacity peers.old }
+    requires noted { AreNoted peers.old.items places.old }
+    ensures courses { courses.new.items ≡ courses.old.items ++ arc_value course ∷ [] }
+    ensures peers { peers.new.items ≡ peers.old.items ++ more.items }
+    ensures noted { AreNoted peers.new.items places.new }
+{
+    courses.push_reserved(Shared::new(course));
+    let from = peers.len();
+    append_ready(peers, more);
+    note_places(peers, from, places);
+}
+
+impl Net {
+    /// The leader opens the next sub-plan of the course begun last.
+    pub(crate) fn open_next(&mut self) -> Result<Answer, AllocError>
+        requires { IsNet self.old }
+        ensures { IsOpenIn self.old result self.new }
+    {
+        match self.peers[0].open_next() {
+            Ok(sub) => Ok(Answer::Opened { sub }),
+            Err(fault) => not_opened(fault),
+        }
+    }
+
+    /// The nodes of the partitions that the plan names and that are not there yet.
+    fn parts_for(&self, plan: &Plan) -> Result<Vec<Peer>, AllocError>
+        requires { IsNet self.now }
+        ensures nodes { IfOk result (λ peers. peers.items ≡ part_peers (first_of self.now) (named_first self.now plan.now)) }
+        ensures valid { IfOk result (λ peers. AreRoles peers.items) }
+    {
+        let mut named = repeated(self.alloc, PARTS, false)?;
+        mark(&mut named, plan);
+        new_parts(self.alloc, self.courses[0].as_arc(), &named, &self.places)
+    }
+
+    /// The leader begins a course from the newest plan to this one; the partitions come that the
+    /// plan is the first to name.
+    pub(crate) fn begin(&mut self, plan: &Plan) -> Result<Answer, AllocError>
+        requires { IsNet self.old }
+        ensures { IsBeginIn self.old plan.now result self.new }
+    {
+        if !self.peers[0].finished() {
+            return refused(Refusal::Running);
+        }
+        let newest = self.newest();
+        let Some(number) = newest.number().checked_add(1) else {
+            return refused(Refusal::NoNumber);
+        };
+        let report = issue(self.alloc, number, newest.new_plan(), plan)?;
+        let parts = self.parts_for(plan)?;
+        self.courses.reserve(1)?;
+        self.peers.reserve(parts.len())?;
+        let course = match self.peers[0].begin(plan, report) {
+            Ok(course) => course,
+            // The leader is done, and there is a number: no fault is left but the want of memory.
+            Err(_) => return Err(AllocError),
+        };
+        add(
+            &mut self.courses,
+            &mut self.peers,
+            &mut self.places,
+            course,
+            parts,
+        );
+        let parts = self.peers.len() - 1 - self.routers as usize;
+        Ok(Answer::Begun { number, parts })
+    }
+}

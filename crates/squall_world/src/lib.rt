@@ -1,0 +1,24 @@
+//! A world: a leader, partitions and routers that take events one by one, with messages lost,
+//! repeated and in any order.
+#![tactic(auto)]
+
+mod acting;
+mod counts;
+mod leading;
+mod moving;
+mod naming;
+mod net;
+mod peer;
+mod refusal;
+mod reports;
+mod sending;
+mod starting;
+mod steps;
+mod world;
+
+pub use squall_protocol::{Answer, Event, Node, Refusal, promises};
+pub use steps::WorldFault;
+pub use world::World;
+
+#[cfg(test)]
+mod tests;

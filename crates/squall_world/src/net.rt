@@ -1,0 +1,73 @@
+//! The nodes of a world, and what is on its way between them.
+
+ghost use Rattle.std.specs.Prelude.{◌≡◌};
+ghost use Rattle.squall_world.specs.Nets.{IsNet, place_of, newest_of};
+
+use crate::peer::Peer;
+use squall_course::Course;
+use squall_join::Shared;
+use squall_part::Chunk;
+use squall_protocol::Node;
+use std::alloc::Global;
+use std::marker::Model;
+
+/// A message: how many reports of each node its sender knew.
+#[derive(Drop)]
+pub(crate) struct Message {
+    pub(crate) known: Vec<usize>,
+}
+
+impl Model for Message {
+    ghost use Rattle.std.specs.Prelude.{ℕ, List};
+
+    ghost Value = { List ℕ };
+
+    ghost view = { λ m. m.known.items };
+}
+
+/// The nodes of a world, and what is on its way between them.
+#[derive(Drop)]
+pub(crate) struct Net {
+    pub(crate) alloc: Global,
+    /// The courses begun, the first at 0.
+    pub(crate) courses: Vec<Shared<Course>>,
+    /// The leader, then the routers, then the partitions in the order in which plans named them.
+    pub(crate) peers: Vec<Peer>,
+    /// How many routers there are.
+    pub(crate) routers: u32,
+    /// For each partition that there can be, where it stands among the nodes.
+    pub(crate) places: Vec<Option<usize>>,
+    pub(crate) messages: Vec<Message>,
+    pub(crate) chunks: Vec<Chunk>,
+}
+
+impl Model for Net {
+    ghost use Rattle.squall_world.specs.Nets.{NetValue};
+
+    ghost Value = { NetValue };
+
+    ghost view = { λ n. record { courses = n.courses.items; peers = n.peers.items; routers = n.routers; places = n.places.items; messages = n.messages.items; chunks = n.chunks.items } };
+}
+
+impl Net {
+    /// Where the node stands.
+    pub(crate) fn place(&self, node: Node) -> Option<usize>
+        requires { IsNet self.now }
+        ensures { result ≡ place_of self.now node }
+    {
+        match node {
+            Node::Leader => Some(0),
+            Node::Router(router) if router < self.routers => Some(router as usize + 1),
+            Node::Router(_) => None,
+            Node::Part(part) => self.places[part.get() as usize],
+        }
+    }
+
+    /// The course begun last.
+    pub(crate) fn newest(&self) -> &Course
+        requires { IsNet self.now }
+        ensures { result.now ≡ newest_of self.now }
+    {
+        self.courses[self.courses.len() - 1].as_arc()
+    }
+}

@@ -1,0 +1,181 @@
+//! What a world is asked, and what may happen in it.
+
+ghost use Rattle.std.specs.Prelude.{◌≡◌, ◌<◌, ◌≤◌, ℕ, length, take, IfOk, IfErr, OnOk, OnErr};
+ghost use Rattle.squall_world.specs.declared.steps.WorldFault.TheVariants.{NoMemory, TooManyRouters};
+ghost use Rattle.squall_protocol.specs.Worlds.{start, SameWorld};
+ghost use Rattle.squall_protocol.specs.Steps.{OpenStep, BeginStep, GiveStep, GiveAtStep, LoadStep, FinishStep, SendStep, DeliverStep, RouteStep, ServeStep, Step};
+ghost use Rattle.squall_world.specs.Runs.{IsRun};
+ghost use Rattle.squall_world.specs.Views.{view};
+
+use crate::net::Net;
+use crate::world::World;
+use squall_key::{Key, PartId};
+use squall_plan::Plan;
+use squall_protocol::{Answer, Event, Node};
+use std::alloc::{AllocError, Global};
+use thiserror::Error;
+
+/// Why there is no such world.
+#[derive(Debug, Drop, Error)]
+pub enum WorldFault {
+    /// More than 1000 routers.
+    #[error("TooManyRouters")]
+    TooManyRouters,
+    /// An allocation failed.
+    #[error("NoMemory")]
+    NoMemory,
+}
+
+impl From<AllocError> for WorldFault {
+    ghost from_gives = { λ _ e. e ≡ NoMemory };
+
+    fn from(_error: AllocError) -> WorldFault {
+        WorldFault::NoMemory
+    }
+}
+
+impl World {
+    /// The world in which the course 1, from the old plan to the new one, is begun, and each key
+    /// lies where the old plan has it: with one partition node for each partition that a plan names,
+    /// and so many routers.
+    ///
+    /// `TooManyRouters` above 1000; or `NoMemory`.
+    pub fn new(alloc: Global, old: &Plan, new: &Plan, routers: u32) -> Result<World, WorldFault>
+        ensures ok { IfOk result (λ w. SameWorld (view w) (start old.now new.now routers)) }
+        ensures routers { IfOk result (λ w. routers ≤ 1000) }
+        ensures err { IfErr result (λ e. e ≡ TooManyRouters → 1000 < routers) }
+    {
+        if routers > 1000 {
+            return Err(WorldFault::TooManyRouters);
+        }
+        let net = Net::new(alloc, old, new, routers)?;
+        Ok(World { net })
+    }
+
+    /// How many partitions there are.
+    pub fn parts(&self) -> usize
+        ensures { result ≡ length (view self.now).parts }
+    {
+        self.net.peers.len() - 1 - self.net.routers as usize
+    }
+
+    /// The leader opens the next sub-plan of the course begun last: `Opened`. Refused as `NotDone`
+    /// while a partition is waited for, and as `NoMore` after the last. Like each call here it fails only
+    /// where an allocation fails, or where a count of owners is full, and then nothing changed.
+    pub fn open_next(&mut self) -> Result<Answer, AllocError>
+        ensures ok { IfOk result (λ answer. OpenStep (view self.old) answer (view self.new)) }
+        ensures err { OnErr result (self.new ≡ self.old) }
+    {
+        self.net.open_next()
+    }
+
+    /// The leader begins a course from the newest plan to this one: `Begun`; the partitions come that
+    /// this plan is the first to name. Refused as `Running` while the course begun last is not over,
+    /// and as `NoNumber` where the greatest number is used.
+    pub fn begin(&mut self, plan: &Plan) -> Result<Answer, AllocError>
+        ensures ok { IfOk result (λ answer. BeginStep (view self.old) plan.now answer (view self.new)) }
+        ensures err { OnErr result (self.new ≡ self.old) }
+    {
+        self.net.begin(plan)
+    }
+
+    /// The partition gives on the first keys, at most `max`, that are to go in the sub-plan opened
+    /// last: `Gave`. Refused as `NoSuch`, `NotOpen`, `NothingLeft` or `ZeroMax`.
+    pub fn give(&mut self, part: PartId, max: u64) -> Result<Answer, AllocError>
+        ensures ok { IfOk result (λ answer. GiveStep (view self.old) part max answer (view self.new)) }
+        ensures err { OnErr result (self.new ≡ self.old) }
+    {
+        self.net.give(part, max)
+    }
+
+    /// The partition gives on one key: `Gave`. Refused as `NoSuch`, `NotOpen`, `NotOutgoing`, `Given` or
+    /// `NotHeld`.
+    pub fn give_at(&mut self, part: PartId, key: Key) -> Result<Answer, AllocError>
+        ensures ok { IfOk result (λ answer. GiveAtStep (view self.old) part key answer (view self.new)) }
+        ensures err { OnErr result (self.new ≡ self.old) }
+    {
+        self.net.give_at(part, key)
+    }
+
+    /// The chunk of that index comes to its destination: `Loaded`, or `Again` where each of its keys was
+    /// loaded before. Refused as `NoSuch`, `NotOpen` or `Stranger`.
+    pub fn load(&mut self, chunk: usize) -> Result<Answer, AllocError>
+        ensures ok { IfOk result (λ answer. LoadStep (view self.old) chunk answer (view self.new)) }
+        ensures err { OnErr result (self.new ≡ self.old) }
+    {
+        self.net.load(chunk)
+    }
+
+    /// The partition reports that it has all keys of the sub-plan: `Finished`. Refused as `NoSuch`,
+    /// `NotOpen`, `NotAll` or `NothingDue`.
+    pub fn finish(&mut self, part: PartId, sub: u32) -> Result<Answer, AllocError>
+        ensures ok { IfOk result (λ answer. FinishStep (view self.old) part sub answer (view self.new)) }
+        ensures err { OnErr result (self.new ≡ self.old) }
+    {
+        self.net.finish(part, sub)
+    }
+
+    /// What the node was told and told itself becomes the next message: `Sent`. Refused as `NoSuch`.
+    pub fn send(&mut self, node: Node) -> Result<Answer, AllocError>
+        ensures ok { IfOk result (λ answer. SendStep (view self.old) node answer (view self.new)) }
+        ensures err { OnErr result (self.new ≡ self.old) }
+    {
+        self.net.send(node)
+    }
+
+    /// The message of that index comes to the node: `Delivered`. Refused as `NoSuch`.
+    pub fn deliver(&mut self, message: usize, node: Node) -> Result<Answer, AllocError>
+        ensures ok { IfOk result (λ answer. DeliverStep (view self.old) message node answer (view self.new)) }
+        ensures err { OnErr result (self.new ≡ self.old) }
+    {
+        self.net.deliver(message, node)
+    }
+
+    /// Where the router sends the key: `Routed`. Refused as `NoSuch`. It takes no memory.
+    pub fn route(&self, router: u32, key: Key) -> Answer
+        ensures { RouteStep (view self.now) router key result (view self.now) }
+    {
+        self.net.route(router, key)
+    }
+
+    /// What the partition replies for the key, asked with the number of the last move that was
+    /// followed: `Served`. Refused as `NoSuch`. It takes no memory.
+    pub fn serve(&self, part: PartId, key: Key, after: u32) -> Answer
+        ensures { ServeStep (view self.now) part key after result (view self.now) }
+    {
+        self.net.serve(part, key, after)
+    }
+
+    /// Takes an event, and answers as the method of its name does.
+    pub fn step(&mut self, event: &Event) -> Result<Answer, AllocError>
+        ensures ok { IfOk result (λ answer. Step (view self.old) event.now answer (view self.new)) }
+        ensures err { OnErr result (self.new ≡ self.old) }
+    {
+        match event {
+            Event::OpenNext => self.open_next(),
+            Event::Begin(plan) => self.begin(plan),
+            Event::Give(part, max) => self.give(*part, *max),
+            Event::GiveAt(part, key) => self.give_at(*part, *key),
+            Event::Load(chunk) => self.load(*chunk),
+            Event::Finish(part, sub) => self.finish(*part, *sub),
+            Event::Send(node) => self.send(*node),
+            Event::Deliver(message, node) => self.deliver(*message, *node),
+            Event::Route(router, key) => Ok(self.route(*router, *key)),
+            Event::Serve(part, key, after) => Ok(self.serve(*part, *key, *after)),
+        }
+    }
+
+    /// Takes the events one after another, and adds their answers to the list. Where an allocation
+    /// fails, the events whose answers were added took effect, and no others.
+    pub fn run(&mut self, events: &[Event], answers: &mut Vec<Answer>) -> Result<(), AllocError>
+        ensures ok { OnOk result (IsRun (view self.old) events.now answers.old.items (view self.new) answers.new.items) }
+        ensures err { OnErr result ((n : ℕ) × (n < length events.now) × IsRun (view self.old) (take n events.now) answers.old.items (view self.new) answers.new.items) }
+    {
+        for event in events {
+            answers.reserve(1)?;
+            let answer = self.step(event)?;
+            answers.push_reserved(answer);
+        }
+        Ok(())
+    }
+}

@@ -1,0 +1,27 @@
+//! Worlds.
+
+use crate::net::Net;
+use std::marker::Model;
+
+/// A leader, partitions and routers, which take events one by one: the leader begins
+/// reconfigurations and opens their sub-plans, partitions give keys on, load them and report, and
+/// messages bring what was reported to any node, in any order, any number of times, or never.
+///
+/// Chunks and messages are counted from 0, and stay: each may come again.
+///
+/// Contracts see a world through `view`: the plans, what each partition holds, gave and loaded, what
+/// each node was told, and the messages and chunks.
+#[derive(Drop)]
+pub struct World {
+    pub(crate) net: Net,
+}
+
+impl Model for World {
+    ghost use Rattle.squall_world.specs.Nets.{NetValue, IsNet};
+
+    ghost Value = { NetValue };
+
+    ghost view = { λ w. w.net };
+
+    ghost invariant = { λ w. IsNet w.net };
+}
