@@ -7,6 +7,7 @@ mod plain;
 mod random;
 mod streams;
 mod tables;
+mod worlds;
 
 use squall_key::Bound;
 use squall_plan::Plan;
