@@ -1,30 +1,13 @@
 -- Runs that go on by one more event.
 use Rattle.std.proofs.Common.{◌≡◌, ℕ, ◌+◌, ◌<◌, List, [], ◌∷◌, ◌++◌, length, take, get_or, sym, ap, subst, ◌∙◌}
 use Rattle.std.proofs.lemmas.List.{append-nil, append_assoc, take_more}
-use Rattle.squall_report.specs.TestsLaws.{same_tests}
 use Rattle.squall_protocol.specs.declared.event.Event.{Event}
 use Rattle.squall_protocol.specs.declared.answer.Answer.{Answer}
 use Rattle.squall_protocol.specs.Worlds.{WorldValue, SameWorld}
 use Rattle.squall_protocol.specs.Steps.{Step, Run}
+use Rattle.squall_protocol.proofs.Same.{same_world as one_world}
 use Rattle.squall_world.specs.Runs.{IsRun}
 use Rattle.squall_world.proofs.Seen.{same_world}
-
--- worlds that agree in each part are one
-pub one_world : (w v : WorldValue) → SameWorld w v → w ≡ v
-one_world w v s =
-    λ i. record {
-      plan = λ n. s.plan n i;
-      last = s.last i;
-      opened = s.opened i;
-      parts = s.parts i;
-      routers = s.routers i;
-      held = λ p k. s.held p k i;
-      given = λ n p k. s.given n p k i;
-      loaded = λ n p k. s.loaded n p k i;
-      facts = λ node. same_tests (w.facts node) (v.facts node) (s.facts node) i;
-      messages = s.messages i;
-      chunks = s.chunks i;
-    }
 
 -- ---- a step more
 
