@@ -1,0 +1,5 @@
+pub mod Ends
+pub mod Joined
+mod Races
+mod Reported
+mod Unions

@@ -1,0 +1,57 @@
+use Rattle.std.proofs.Common.{◌≡◌, ap, sym, ◌∙◌, subst, List, ℕ, map, Vec, Global, IfOk}
+use Rattle.squall_report.specs.declared.report.Report.{Report}
+use Rattle.squall_board.specs.Boards.{BoardValue}
+use Rattle.squall_inbox.specs.Ends.{Posting, vouching}
+use Rattle.squall_inbox.specs.Inbox.{posted}
+use Rattle.squall_inbox.specs.Letters.{letters_of, list_at, board_after}
+use Rattle.squall_cluster.specs.Owners.{Owning}
+use Rattle.squall_cluster.specs.Race.{Reports, Bring, SentAll}
+use Rattle.squall_cluster.proofs.Races.{fresh_new, settled, within_all}
+use Rattle.squall_cluster.proofs.racing.race_in.Goals as goal
+
+pub returns-in-Err-clause-fault : goal.returns-in-Err-clause-fault
+returns-in-Err-clause-fault g c = c.from.ensures _ _ _ c.in-Err.ensures.fault
+
+pub run_all-owner-requires-after_bounds : goal.run_all-owner-requires-after_bounds
+run_all-owner-requires-after_bounds g c κs within =
+    let made = c.in-Ok.ensures in
+    (fresh_new c.in-Ok.setup.owner c.in-Ok.setup.senders.items made.fresh, sym made.senders, within_all (λ (l : Vec Report Global). l.items) g.K.Case.allowed c.args.lists.now c.requires.case.5)
+
+pub close-requires-clause-inbox : goal.close-requires-clause-inbox
+close-requires-clause-inbox g c =
+    let lists : List Reports = map (λ (l : Vec Report Global). l.items) c.args.lists.now in
+    let senders : List Posting = c.in-Ok.setup.senders.items in
+    let spent : List Posting = c.in-Ok-ran.given.spent.items in
+    let before : Owning = c.in-Ok.setup.owner in
+    let after : Owning = c.run_all-owner.result.0 in
+    let o = c.run_all-owner.ensures.owner in
+    let sent : SentAll senders lists spent = subst (λ r. IfOk r (λ x. SentAll senders lists x.spent.items)) c.in-Ok-ran.is c.run_all-owner.ensures.sent in
+    (settled before after senders spent lists c.in-Ok.ensures.fresh o.0 o.1 o.2 sent).0
+
+pub close-requires-clause-all_senders : goal.close-requires-clause-all_senders
+close-requires-clause-all_senders g c =
+    let lists : List Reports = map (λ (l : Vec Report Global). l.items) c.args.lists.now in
+    let senders : List Posting = c.in-Ok.setup.senders.items in
+    let spent : List Posting = c.in-Ok-ran.given.spent.items in
+    let before : Owning = c.in-Ok.setup.owner in
+    let after : Owning = c.run_all-owner.result.0 in
+    let o = c.run_all-owner.ensures.owner in
+    let sent : SentAll senders lists spent = subst (λ r. IfOk r (λ x. SentAll senders lists x.spent.items)) c.in-Ok-ran.is c.run_all-owner.ensures.sent in
+    (settled before after senders spent lists c.in-Ok.ensures.fresh o.0 o.1 o.2 sent).1
+
+pub returns-in-Ok-close-clause-board : goal.returns-in-Ok-close-clause-board
+returns-in-Ok-close-clause-board g c =
+    let lists : List Reports = map (λ (l : Vec Report Global). l.items) c.args.lists.now in
+    let senders : List Posting = c.in-Ok.setup.senders.items in
+    let spent : List Posting = c.in-Ok-ran.given.spent.items in
+    let before : Owning = c.in-Ok.setup.owner in
+    let after : Owning = c.run_all-owner.result.0 in
+    let o = c.run_all-owner.ensures.owner in
+    let sent : SentAll senders lists spent = subst (λ r. IfOk r (λ x. SentAll senders lists x.spent.items)) c.in-Ok-ran.is c.run_all-owner.ensures.sent in
+    let end : (p : ℕ) → Bring (posted p (vouching spent after.vouched)) (list_at p lists) = (settled before after senders spent lists c.in-Ok.ensures.fresh o.0 o.1 o.2 sent).2 in
+    let closed = c.in-Ok-close.ensures.board_of_posted in
+    let opening : c.args.opening.now ≡ g.K.Case.opening = c.requires.case.4 in (
+      closed.taken,
+      closed.board_of_taken ∙ ap (λ (b : BoardValue). board_after b (letters_of closed.taken)) (sym opening),
+      λ p. subst (λ l. Bring l (list_at p lists)) (sym (closed.each_once_in_order p)) (end p),
+    )

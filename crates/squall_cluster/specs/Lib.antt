@@ -1,0 +1,15 @@
+-- what the clauses here cite of the crates below
+pub use Rattle.squall_course.specs.Change
+pub use Rattle.squall_report.specs.Told
+pub use Rattle.squall_board.specs.Boards
+pub use Rattle.squall_board.specs.CourseRoute
+pub use Rattle.squall_router.specs.Routers
+pub use Rattle.squall_inbox.specs.Letters
+pub use Rattle.squall_inbox.specs.Inbox
+pub use Rattle.squall_inbox.specs.Ends
+pub use Rattle.squall_desk.specs.Seats
+pub mod Faults
+pub mod Owners
+pub mod Joined
+pub mod Race
+pub mod RaceFaults

@@ -1,0 +1,72 @@
+-- What a race gives: the board of all reports of its lists, and routes by letters that only grow (this project).
+use Rattle.std.specs.Prelude.{◌≡◌, ℕ, List, [], ◌∷◌, ◌++◌, map}
+use Rattle.std.specs.List.{AllByRecursion, Contains}
+use mathlib.Core.List.{IsPrefix}
+use Rattle.atomic_table.specs.Seated.{TableId}
+use Rattle.squall_course.specs.Change.{Change}
+use Rattle.squall_report.specs.declared.report.ReportKind.{ReportKind}
+use Rattle.squall_report.specs.Issues.{PlanPair}
+use Rattle.squall_board.specs.Boards.{BoardValue, IsBoard, HasTaken, report_board}
+use Rattle.squall_board.specs.CourseRoute.{route_by_newest}
+use Rattle.squall_inbox.specs.declared.letter.Parcel.{Parcel}
+use Rattle.squall_inbox.specs.Letters.{Allowance, IsAllowed, AreLetters, letters_of, list_at, board_after}
+use Rattle.squall_inbox.specs.Inbox.{of}
+use Rattle.squall_inbox.specs.Ends.{Posting}
+
+abbrev pub Reports : Type 0
+Reports = List (ReportKind PlanPair)
+
+-- the reports of these lists, one list after the other
+abbrev pub all_of : List Reports → Reports
+all_of [] = []
+all_of (l ∷ ls) = l ++ all_of ls
+
+-- the boards of these reports, one a report
+abbrev pub boards_of : Reports → List BoardValue
+boards_of rs = map report_board rs
+
+-- the letters bring these reports: one letter a report, in their order
+abbrev pub Bring : List BoardValue → Reports → Type 0
+Bring letters rs = (letters ≡ boards_of rs) × AllByRecursion IsBoard letters
+
+-- ---- senders
+
+-- each letter that brings a report of this list is allowed
+pub record Within (allowed : Allowance) (rs : Reports) : Type 0 where
+  pub each : (letter : BoardValue) (r : ReportKind PlanPair) → Contains rs r → HasTaken letter (r ∷ []) → IsAllowed allowed letter
+
+-- the inbox of a sender, and its number
+abbrev pub end_of : Posting → TableId × ℕ
+end_of s = (s.inbox, s.from)
+
+-- each of these senders has posted the list beside it
+abbrev pub AllBring : List Posting → List Reports → Type 0
+AllBring [] lists = lists ≡ []
+AllBring (s ∷ ss) [] = ⊥
+AllBring (s ∷ ss) (l ∷ ls) = Bring s.posted l × AllBring ss ls
+
+-- these spent senders are those senders, and each has posted its list
+abbrev pub SentAll : List Posting → List Reports → List Posting → Type 0
+SentAll senders lists spent = (map end_of spent ≡ map end_of senders) × AllBring spent lists
+
+-- the board after letters of which those of each sender bring its list
+abbrev pub Ran : BoardValue → List Reports → BoardValue → Type 0
+Ran opening lists board = (taken : List Parcel) × (board ≡ board_after opening (letters_of taken)) × ((p : ℕ) → Bring (of p taken) (list_at p lists))
+
+-- ---- readers
+
+-- each route is by letters that are allowed, and these begin with those of the route before it
+abbrev pub Grown : Allowance → Change → BoardValue → List BoardValue → List ℕ → List ℕ → Type 0
+Grown allowed first opening known [] routes = routes ≡ []
+Grown allowed first opening known (k ∷ ks) routes =
+    (now : List BoardValue) × (rest : List ℕ) × (routes ≡ route_by_newest first (board_after opening now) k ∷ rest) × IsPrefix known now × AreLetters allowed now × Grown allowed first opening now ks rest
+
+-- the same, and the letters of the last route
+abbrev pub GrownTo : Allowance → Change → BoardValue → List BoardValue → List ℕ → List ℕ → List BoardValue → Type 0
+GrownTo allowed first opening known [] routes last = (routes ≡ []) × (known ≡ last)
+GrownTo allowed first opening known (k ∷ ks) routes last =
+    (now : List BoardValue) × (rest : List ℕ) × (routes ≡ route_by_newest first (board_after opening now) k ∷ rest) × IsPrefix known now × AreLetters allowed now × GrownTo allowed first opening now ks rest last
+
+-- the routes of a reader: of each key once, by letters that only grow
+abbrev pub Read : Allowance → Change → BoardValue → List ℕ → List ℕ → Type 0
+Read allowed first opening keys routes = Grown allowed first opening [] keys routes

@@ -1,0 +1,81 @@
+//! How a cluster ends.
+
+ghost use Rattle.std.specs.Prelude.{◌≡◌, ◌∷◌, [], ℕ, length, All, IfOk, OnOk, IfErr};
+ghost use Rattle.squall_inbox.specs.Inbox.{of, posted};
+ghost use Rattle.squall_inbox.specs.Ends.{vouching};
+ghost use Rattle.squall_inbox.specs.Letters.{letters_of};
+ghost use Rattle.squall_cluster.specs.Owners.{IsBoardOfPosted};
+
+use crate::owner::Owner;
+use squall_board::Board;
+use squall_inbox::{Case, Spent};
+use std::alloc::AllocError;
+use std::sync::Wait;
+
+/// Why a cluster is not closed: an allocation failed. What comes back closes it at another try.
+#[derive(Drop)]
+pub struct CloseFault<K: Case, R: Wait + Drop> {
+    /// The senders that are not joined to the owner yet.
+    pub spent: Vec<Spent>,
+    /// The owner. What it took so far is published, save one letter that may be in its hand.
+    pub owner: Owner<K, R>,
+}
+
+/// Joins each of them to the owner.
+fn join_all<K: Case, R: Wait + Drop>(owner: &mut Owner<K, R>, spent: &mut Vec<Spent>)
+    requires { All (λ s. s.inbox ≡ owner.old.inbox) spent.old.items }
+    ensures owner { owner.new ≡ record owner.old { vouched = vouching spent.old.items owner.old.vouched } }
+    ensures spent { spent.new.items ≡ [] }
+{
+    if let Some(one) = spent.pop() {
+        join_all(owner, spent);
+        owner.join(one);
+    }
+}
+
+/// Takes and publishes what the inbox holds. It fails where an allocation fails.
+fn drain<K: Case, R: Wait + Drop>(owner: &mut Owner<K, R>) -> Result<(), AllocError>
+    requires { length owner.old.vouched ≡ owner.old.made }
+    ensures same { (owner.new.inbox ≡ owner.old.inbox) × (owner.new.made ≡ owner.old.made) × (owner.new.vouched ≡ owner.old.vouched) }
+    ensures published { OnOk result (owner.new.published ≡ letters_of owner.new.taken) }
+    ensures whole { OnOk result ((p : ℕ) → of p owner.new.taken ≡ posted p owner.new.vouched) }
+{
+    for _ in 0..u64::MAX {
+        let turn = owner.turn()?;
+        if !turn.took {
+            return Ok(());
+        }
+    }
+    // No inbox ever holds so many.
+    Err(AllocError)
+}
+
+/// Closes a cluster, whose senders have all ended: the board that it was opened with, joined with all
+/// letters that were posted. Each was taken once, and those of each sender in the order in which it
+/// posted them. Seats see nothing from then on.
+///
+/// The senders are all that were made with the owner, but for those that an earlier call joined to it.
+/// It fails where an allocation fails. What then comes back, given to another call, closes the cluster
+/// with the same letters.
+///
+/// It waits for seats that are looking.
+pub fn close<K: Case, R: Wait + Drop>(
+    mut spent: Vec<Spent>,
+    mut owner: Owner<K, R>,
+) -> Result<Board, CloseFault<K, R>>
+    requires inbox { All (λ s. s.inbox ≡ owner.inbox) spent.items }
+    requires all_senders { length (vouching spent.items owner.vouched) ≡ owner.made }
+    ensures board_of_posted { IfOk result (λ board. IsBoardOfPosted K.allowed K.opening (vouching spent.items owner.vouched) board) }
+    ensures same_owner { IfErr result (λ fault. (fault.owner.inbox ≡ owner.inbox) × (fault.owner.made ≡ owner.made)) }
+    ensures same_inbox { IfErr result (λ fault. All (λ s. s.inbox ≡ fault.owner.inbox) fault.spent.items) }
+    ensures none_lost { IfErr result (λ fault. vouching fault.spent.items fault.owner.vouched ≡ vouching spent.items owner.vouched) }
+{
+    join_all(&mut owner, &mut spent);
+    match drain(&mut owner) {
+        Ok(()) => {
+            owner.known();
+            Ok(owner.into_board())
+        }
+        Err(_) => Err(CloseFault { spent, owner }),
+    }
+}

@@ -1,0 +1,26 @@
+//! The running cluster: senders post boards from their threads, one owner publishes them, and seats
+//! route keys in theirs by what is published.
+#![tactic(auto)]
+
+mod closing;
+mod cluster;
+mod gate;
+mod halt;
+mod laws;
+mod owner;
+mod racing;
+mod reading;
+mod sending;
+
+pub use closing::{CloseFault, close};
+pub use cluster::{Cluster, ClusterFault, Setup};
+pub use gate::{Actor, Gate};
+pub use halt::RaceFault;
+pub use laws::{letters_are_joined, publishing_is_absorbing};
+pub use owner::{Owner, Turn};
+pub use racing::{Raced, race};
+pub use squall_desk::{Line, Notice, Seat, SeatFault, Track};
+pub use squall_inbox::{Case, Full, Letter, Parcel, Sender, Spent};
+
+#[cfg(test)]
+mod tests;

@@ -1,0 +1,157 @@
+//! The owner of a cluster, which takes letters and publishes them.
+
+ghost use Rattle.std.specs.Prelude.{◌≡◌, ◌⊎◌, ◌+◌, ◌≤◌, ◌<◌, ◌^◌, ◌++◌, ◌∷◌, [], length, IfOk, OnOk, OnErr, MatchBool, IsFalse, ℕ};
+ghost use Rattle.std.specs.Arc.{arc_value};
+ghost use Rattle.squall_board.specs.Boards.{BoardValue};
+ghost use Rattle.squall_inbox.specs.declared.letter.Parcel.{Parcel};
+ghost use Rattle.squall_inbox.specs.Ends.{posting_of};
+ghost use Rattle.squall_inbox.specs.Letters.{AreLetters, letters_of, board_after};
+ghost use Rattle.squall_cluster.specs.Owners.{Owning, Whole, owning_with, Finished, Idle};
+
+use squall_board::Board;
+use squall_course::Course;
+use squall_desk::{Line, Notice, Places, Publisher, Track};
+use squall_inbox::{Case, Sender, Spent, Taker};
+use std::alloc::{AllocError, Global};
+use std::marker::Model;
+use std::sync::{Arc, Wait};
+
+/// What a turn did.
+#[derive(Drop)]
+pub struct Turn<K: Case> {
+    /// Whether it published a letter: one that it took, or one that an earlier turn left in hand.
+    pub took: bool,
+    /// The list of letters that is published when the turn ends.
+    pub notice: Notice<K>,
+}
+
+/// The owner of a cluster: the one that takes letters from the inbox, and publishes them. Contracts see
+/// the inbox, the parcels taken in order, the list of letters published, the letter in hand (taken and
+/// not yet published) where there is one, how many senders were made, and what each of those posted
+/// that were joined to it.
+///
+/// Where it is dropped, seats see nothing from then on. It waits for those that are looking.
+#[derive(Drop)]
+pub struct Owner<K: Case, R: Wait + Drop> {
+    taker: Taker<K>,
+    publisher: Publisher<K, R>,
+}
+
+impl<K: Case, R: Wait + Drop> Model for Owner<K, R> {
+    ghost Value = { Owning };
+
+    ghost view = { λ o. record { inbox = o.taker.inbox; taken = o.taker.taken; published = o.publisher.published; hand = o.publisher.hand; made = o.taker.made; vouched = o.taker.vouched } };
+
+    ghost invariant = { λ o. letters_of o.taker.taken ≡ o.publisher.published ++ o.publisher.hand };
+}
+
+impl<K: Case, R: Wait + Drop> Owner<K, R> {
+    /// The owner of a new cluster, with so many places for seats and room in its inbox for so many
+    /// letters. It fails where an allocation fails, or where the count of the course's owners is full.
+    pub(crate) fn open(
+        rt: R,
+        alloc: Global,
+        track: Track,
+        line: Line,
+        first: &Arc<Course>,
+        opening: &Board,
+        places: usize,
+        capacity: usize,
+    ) -> Result<Owner<K, R>, AllocError>
+        requires book { (track ≡ K.book) × (line.book ≡ K.book) × (line.log ≡ []) }
+        requires opening { (arc_value first.now ≡ K.first) × (opening.now ≡ K.opening) }
+        requires limits { (0 < places) × (places < 2 ^ 32) × (0 < capacity) }
+        ensures { IfOk result (λ o. o ≡ owning_with o.inbox 0) }
+    {
+        let taker = Taker::<K>::open(alloc, capacity)?;
+        let publisher = Publisher::<K, R>::open(rt, alloc, track, line, first, opening, places)?;
+        Ok(Owner { taker, publisher })
+    }
+
+    /// Changes nothing: after it a proof knows what holds of every owner. The letters taken are those
+    /// published and then the one in hand, if there is one, and each is one that the cluster allows.
+    pub fn known(&self)
+        ensures published_is_taken { letters_of self.now.taken ≡ self.now.published ++ self.now.hand }
+        ensures hand { length self.now.hand ≤ 1 }
+        ensures letters { AreLetters K.allowed (letters_of self.now.taken) }
+    {
+        self.taker.known();
+        self.publisher.known();
+    }
+
+    /// Takes the letter at the front of the inbox in hand, if none is in hand. It says whether one is.
+    fn take(&mut self) -> bool
+        ensures same { (self.new.inbox ≡ self.old.inbox) × (self.new.published ≡ self.old.published) × (self.new.made ≡ self.old.made) × (self.new.vouched ≡ self.old.vouched) }
+        ensures hand { MatchBool result (length self.new.hand ≡ 1) (self.new.hand ≡ []) }
+        ensures empty { IsFalse result → Whole self.new }
+        ensures taken { (self.new ≡ self.old) ⊎ ((self.old.hand ≡ []) × ((x : Parcel) × (self.new.taken ≡ self.old.taken ++ x ∷ []) × (self.new.hand ≡ x.letter ∷ []))) }
+    {
+        if self.publisher.has_letter() {
+            return true;
+        }
+        let Some(parcel) = self.taker.take(self.publisher.handle()) else {
+            return false;
+        };
+        self.publisher.lay(parcel.letter);
+        true
+    }
+
+    /// Takes at most one letter and publishes it. A letter in hand is published first, and then no other
+    /// is taken.
+    ///
+    /// It fails where an allocation fails, and then nothing more is published: a letter that was taken
+    /// stays in hand, and the next turn publishes it. It waits for seats that are looking.
+    pub fn turn(&mut self) -> Result<Turn<K>, AllocError>
+        ensures inbox { self.new.inbox ≡ self.old.inbox }
+        ensures senders { (self.new.made ≡ self.old.made) × (self.new.vouched ≡ self.old.vouched) }
+        ensures at_most_one { (self.new.taken ≡ self.old.taken) ⊎ ((self.old.hand ≡ []) × ((x : Parcel) × (self.new.taken ≡ self.old.taken ++ x ∷ []))) }
+        ensures published_is_taken { OnOk result (self.new.published ≡ letters_of self.new.taken) }
+        ensures nothing_in_hand { OnOk result (self.new.hand ≡ []) }
+        ensures took { IfOk result (λ turn. MatchBool turn.took (Finished self.old self.new) (Idle self.old self.new)) }
+        ensures whole { IfOk result (λ turn. IsFalse turn.took → Whole self.new) }
+        ensures notice { IfOk result (λ turn. turn.notice ≡ self.new.published) }
+        ensures err { OnErr result (self.new.published ≡ self.old.published) }
+        ensures left_in_hand { OnErr result ((letters_of self.new.taken ≡ self.new.published ++ self.new.hand) × (length self.new.hand ≤ 1)) }
+    {
+        let took = self.take();
+        let shown = self.publisher.publish();
+        self.known();
+        shown?;
+        let notice = self.publisher.notice();
+        Ok(Turn { took, notice })
+    }
+
+    /// Joins a sender that has ended: the owner vouches from then on for what it posted.
+    pub(crate) fn join(&mut self, spent: Spent)
+        requires { spent.inbox ≡ self.old.inbox }
+        ensures { self.new ≡ record self.old { vouched = (spent.from, spent.posted) ∷ self.old.vouched } }
+    {
+        self.taker.join(spent);
+    }
+
+    /// A new sender. It fails where the count of the inbox's owners is full, and then nothing changed.
+    pub(crate) fn hire(&mut self) -> Result<Sender<K>, AllocError>
+        ensures sender { IfOk result (λ s. s ≡ posting_of self.old.inbox self.old.made []) }
+        ensures made { OnOk result (self.new ≡ record self.old { made = self.old.made + 1 }) }
+        ensures err { OnErr result (self.new ≡ self.old) }
+    {
+        self.taker.hire()
+    }
+
+    /// The places for seats, so many of them, from an empty list. It fails where the count of the desk's
+    /// owners is full.
+    pub(crate) fn places(&self, start: Line, readers: usize) -> Result<Places<K>, AllocError>
+        requires { (start.book ≡ K.book) × (start.log ≡ []) }
+    {
+        self.publisher.places(start, readers)
+    }
+
+    /// Ends the cluster: seats see nothing from then on. It waits for those that are looking.
+    pub(crate) fn into_board(self) -> Board
+        ensures { result ≡ board_after K.opening self.published }
+    {
+        let Self { taker, publisher } = self;
+        drop(taker);
+        publisher.into_board()
+    }
+}

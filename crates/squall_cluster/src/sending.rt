@@ -1,0 +1,198 @@
+//! The senders of a race: each posts its list, in a thread of its own.
+
+ghost use Rattle.std.specs.Prelude.{◌≡◌, ◌<◌, [], ◌∷◌, ◌++◌, length, OnOk, IfOk, All, map};
+ghost use Rattle.std.specs.Thread.{IsSync};
+ghost use Rattle.squall_board.specs.Boards.{HasTaken, IsBoard, report_board};
+ghost use Rattle.squall_inbox.specs.Letters.{IsAllowed};
+ghost use Rattle.squall_cluster.specs.Race.{Bring, SentAll, Within};
+
+use crate::gate::{Actor, Gate, Steps};
+use crate::halt::{Halt, Off, Stop};
+use squall_delta::delta_of;
+use squall_inbox::{Case, Full, Letter, Sender, Spent};
+use squall_report::Report;
+use std::alloc::{AllocError, Global};
+use std::snapshot::Snapshot;
+use std::sync::Wait;
+use std::thread;
+use std::thread::{Promise, Threads};
+
+/// The letter that brings one report.
+fn letter_of(alloc: Global, report: &Report) -> Result<Letter, AllocError>
+    ensures value { IfOk result (λ l. l ≡ report_board report.now) }
+    ensures taken { IfOk result (λ l. HasTaken l (report.now ∷ [])) }
+    ensures board { IfOk result IsBoard }
+{
+    // The proof learns that the report lies within the limits of reports.
+    let _kind = report.kind();
+    let delta = delta_of(alloc, report)?;
+    delta.known();
+    Ok(Letter::new(delta))
+}
+
+/// Posts the letter, again where the inbox is full, unless the race is off.
+fn post_one<K: Case, G: Gate, R: Wait>(
+    rt: &R,
+    halt: &Halt,
+    steps: &mut Steps<'_, G>,
+    sender: &mut Sender<K>,
+    letter: Letter,
+) -> Result<(), Off>
+    requires { IsAllowed K.allowed letter }
+    ensures end { (sender.new.inbox ≡ sender.old.inbox) × (sender.new.from ≡ sender.old.from) }
+    ensures ok { OnOk result (sender.new.posted ≡ sender.old.posted ++ letter ∷ []) }
+{
+    let mut letter = letter;
+    for _ in rt.forever() {
+        halt.check()?;
+        steps.begin();
+        let posted = sender.post(rt, letter);
+        steps.end();
+        match posted {
+            Ok(()) => return Ok(()),
+            Err(Full(back)) => letter = back,
+        }
+        thread::yield_now();
+    }
+    unreachable!()
+}
+
+/// Posts the whole list, one letter a report, unless the race is off.
+fn post_all<K: Case, G: Gate, R: Wait>(
+    rt: &R,
+    alloc: Global,
+    halt: &Halt,
+    mut steps: Steps<'_, G>,
+    sender: &mut Sender<K>,
+    list: &[Report],
+) -> Result<(), Off>
+    requires { (sender.old.posted ≡ []) × Within K.allowed list.now }
+    ensures end { (sender.new.inbox ≡ sender.old.inbox) × (sender.new.from ≡ sender.old.from) }
+    ensures ok { OnOk result (Bring sender.new.posted list.now) }
+{
+    for report in list {
+        let Ok(letter) = letter_of(alloc, report) else {
+            return Err(halt.stop(Stop::NoMemory));
+        };
+        post_one(rt, halt, &mut steps, sender, letter)?;
+    }
+    Ok(())
+}
+
+/// Posts the list, and ends the sender.
+fn send_one<K: Case, G: Gate, R: Wait>(
+    rt: &R,
+    alloc: Global,
+    gate: &G,
+    halt: &Halt,
+    number: usize,
+    mut sender: Sender<K>,
+    list: &[Report],
+) -> Result<Vec<Spent>, Off>
+    requires { (sender.posted ≡ []) × Within K.allowed list.now }
+    ensures { IfOk result (λ v. SentAll (sender ∷ []) (list.now ∷ []) v.items) }
+{
+    let steps = Steps::new(gate, Actor::Sender(number));
+    post_all(rt, alloc, halt, steps, &mut sender, list)?;
+    let mut spent = Vec::new(alloc);
+    match spent.push(sender.end()) {
+        Ok(()) => Ok(spent),
+        Err(_) => Err(halt.stop(Stop::NoMemory)),
+    }
+}
+
+/// What a thread of senders promises: at Ok each of them has posted its list.
+#[derive(Drop)]
+pub(crate) struct Sends<'a, K: Case> {
+    pub(crate) senders: Snapshot<Vec<Sender<K>>>,
+    pub(crate) lists: &'a [Vec<Report>],
+}
+
+impl<'a, K: Case> Promise<Result<Vec<Spent>, Off>> for Sends<'a, K> {
+    ghost kept_by = { λ p r. IfOk r (λ v. SentAll p.senders.value.items (map (λ l. l.items) p.lists.now) v.items) };
+}
+
+/// Each sender posts its list, in a thread of its own. The first of them has this thread.
+#[cycle(sending)]
+pub(crate) fn send_all<K: Case + Send + Sync, G: Gate + Sync, R: Threads + Wait + Sync>(
+    rt: &R,
+    alloc: Global,
+    gate: &G,
+    halt: &Halt,
+    first: usize,
+    mut senders: Vec<Sender<K>>,
+    lists: &[Vec<Report>],
+) -> Result<Vec<Spent>, Off>
+    requires { All (λ s. s.posted ≡ []) senders.items × (length lists.now ≡ length senders.items) × All (λ l. Within K.allowed l.items) lists.now }
+    ensures { IfOk result (λ v. SentAll senders.items (map (λ l. l.items) lists.now) v.items) }
+{
+    if senders.len() < 2 {
+        return match senders.pop() {
+            Some(one) => send_one(rt, alloc, gate, halt, first, one, lists[0].as_slice()),
+            None => Ok(Vec::new(alloc)),
+        };
+    }
+    let half = senders.len() / 2;
+    let Ok(back) = senders.split_off(half) else {
+        return Err(halt.stop(Stop::NoMemory));
+    };
+    let (some, others) = lists.split_at(half);
+    send_halves(
+        rt, alloc, gate, halt, first, half, senders, back, some, others,
+    )
+}
+
+/// The second half of the senders has a thread of its own.
+#[cycle(sending)]
+fn send_halves<K: Case + Send + Sync, G: Gate + Sync, R: Threads + Wait + Sync>(
+    rt: &R,
+    alloc: Global,
+    gate: &G,
+    halt: &Halt,
+    first: usize,
+    half: usize,
+    front: Vec<Sender<K>>,
+    back: Vec<Sender<K>>,
+    some: &[Vec<Report>],
+    others: &[Vec<Report>],
+) -> Result<Vec<Spent>, Off>
+    requires both { (0 < length front.items) × (0 < length back.items) }
+    requires front { All (λ s. s.posted ≡ []) front.items × (length some.now ≡ length front.items) × All (λ l. Within K.allowed l.items) some.now }
+    requires back { All (λ s. s.posted ≡ []) back.items × (length others.now ≡ length back.items) × All (λ l. Within K.allowed l.items) others.now }
+    ensures { IfOk result (λ v. SentAll (front.items ++ back.items) (map (λ l. l.items) some.now ++ map (λ l. l.items) others.now) v.items) }
+{
+    thread::scope(
+        thread::scope_env(),
+        rt,
+        move |scope| -> Result<Vec<Spent>, Off>
+            requires { IsSync R.row × IsSync G.row × ((0 < length front.items) × (0 < length back.items)) × (All (λ s. s.posted ≡ []) front.items × (length some.now ≡ length front.items) × All (λ l. Within K.allowed l.items) some.now) × (All (λ s. s.posted ≡ []) back.items × (length others.now ≡ length back.items) × All (λ l. Within K.allowed l.items) others.now) }
+            ensures { IfOk result (λ v. SentAll (front.items ++ back.items) (map (λ l. l.items) some.entry.now ++ map (λ l. l.items) others.entry.now) v.items) }
+        {
+            let promise = Sends {
+                senders: Snapshot::of(&back),
+                lists: others,
+            };
+            let child = scope.spawn_with(
+                promise,
+                move || -> Result<Vec<Spent>, Off>
+                    requires { IsSync R.row × IsSync G.row × All (λ s. s.posted ≡ []) back.items × (length others.now ≡ length back.items) × All (λ l. Within K.allowed l.items) others.now }
+                    ensures { IfOk result (λ v. SentAll back.items (map (λ l. l.items) others.entry.now) v.items) }
+                {
+                    let first = first.saturating_add(half);
+                    send_all(rt, alloc, gate, halt, first, back, others)
+                },
+            );
+            let Ok(child) = child else {
+                return Err(halt.stop(Stop::NoThread));
+            };
+            let mine = send_all(rt, alloc, gate, halt, first, front, some);
+            let theirs = child.join(rt);
+            let mut all = mine?;
+            let mut rest = theirs?;
+            match all.append(&mut rest) {
+                Ok(()) => Ok(all),
+                Err(_) => Err(halt.stop(Stop::NoMemory)),
+            }
+        },
+    )
+}

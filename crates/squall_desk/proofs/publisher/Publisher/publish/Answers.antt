@@ -1,0 +1,14 @@
+use Rattle.std.proofs.Common.{ap, ◌∙◌, ◌++◌, drop}
+use Rattle.squall_desk.specs.Seats.{Showing}
+use Rattle.squall_desk.proofs.Hands.{nothing_pending}
+use Rattle.squall_desk.proofs.publisher.Publisher.publish.Goals as goal
+
+pub returns-then-not-has_pending_operations-clause-published :
+    goal.returns-then-not-has_pending_operations-clause-published
+returns-then-not-has_pending_operations-clause-published g c =
+    let e = c.in_ok-settle.ensures in
+    let old = c.self.inside.writer in
+    let now = c.settle.new.writer in
+    ap (λ d. d.shown.value.line.log) e.desk
+    ∙ nothing_pending c.has_pending_operations.result old.desk.shown.value.line.log (drop old.behind old.log.items) (drop now.behind now.log.items) c.self.inside.held e.ok.1 c.has_pending_operations.ensures.1 c.if-not-has_pending_operations.true
+    ∙ ap (λ (o : Showing). o.published ++ o.hand) c.self.view_is

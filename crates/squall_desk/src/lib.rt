@@ -1,0 +1,15 @@
+//! The desk of a cluster: a router in two copies, which seats read with no lock while a publisher
+//! brings it up to date.
+#![tactic(auto)]
+
+mod places;
+mod publisher;
+mod rule;
+mod seat;
+mod shown;
+mod track;
+
+pub use places::{Places, SeatFault};
+pub use publisher::Publisher;
+pub use seat::{Notice, Seat};
+pub use track::{Line, Track};

@@ -1,0 +1,146 @@
+//! The seats: readers of the desk.
+
+ghost use Rattle.std.specs.Prelude.{◌≡◌, ◌⊎◌, IfSome, OnSome, IfNone};
+ghost use mathlib.Core.List.{IsPrefix};
+ghost use Rattle.squall_board.specs.CourseRoute.{route_by_newest};
+ghost use Rattle.squall_inbox.specs.Letters.{AreLetters, board_after};
+ghost use Rattle.squall_desk.specs.Seats.{Seen};
+
+use crate::rule::{DeskReader, Looking};
+use crate::track::Line;
+use core::mem::replace_with;
+use squall_inbox::Case;
+use squall_key::{Key, PartId};
+use std::marker::{Model, PhantomData};
+
+/// What a turn tells: the list of letters that was published when it ended. Contracts see it as that
+/// list.
+#[derive(Drop)]
+pub struct Notice<K: Case> {
+    line: Line,
+    of: PhantomData<K>,
+}
+
+impl<K: Case> Model for Notice<K> {
+    ghost use Rattle.std.specs.Prelude.{◌≡◌, List};
+    ghost use Rattle.squall_board.specs.Boards.{BoardValue};
+
+    ghost Value = { List BoardValue };
+
+    ghost view = { λ n. n.line.log };
+
+    ghost invariant = { λ n. n.line.book ≡ K.book };
+}
+
+impl<K: Case> Notice<K> {
+    /// The same notice once more.
+    pub fn again(&self) -> Notice<K>
+        ensures { result ≡ self.now }
+    {
+        Notice {
+            line: self.line.again(),
+            of: PhantomData,
+        }
+    }
+
+    /// The notice of that list.
+    pub(crate) fn of_line(line: &Line) -> Notice<K>
+        requires { line.now.book ≡ K.book }
+        ensures { result ≡ line.now.log }
+    {
+        Notice {
+            line: line.again(),
+            of: PhantomData,
+        }
+    }
+}
+
+/// One look at the desk by a reader that is not reading: the partition to ask for the key, and the
+/// list that the router had taken.
+fn look<K: Case>(reader: DeskReader<K>, key: Key) -> (DeskReader<K>, Option<(PartId, Line)>)
+    ensures { IfSome result.1 (λ r. (r.1.book ≡ K.book) × (r.0 ≡ route_by_newest K.first (board_after K.opening r.1.log) key) × AreLetters K.allowed r.1.log) }
+{
+    match reader.enter_as::<Looking<K>>() {
+        Ok(reading) => {
+            let shown = reading.get();
+            let part = shown.router.route(key);
+            let line = shown.line.again();
+            (reading.leave(), Some((part, line)))
+        }
+        Err(reader) => (reader, None),
+    }
+}
+
+/// A seat: a reader of the desk, with a place of its own. Contracts see the list of letters that was
+/// published at its last look, and the list that it knows, from that look and from notices. Both are
+/// beginnings of the published list.
+///
+/// A seat that is dropped gives its place back.
+#[derive(Drop)]
+pub struct Seat<K: Case> {
+    reader: DeskReader<K>,
+    seen: Line,
+    known: Line,
+}
+
+impl<K: Case> Model for Seat<K> {
+    ghost Value = { Seen };
+
+    ghost view = { λ s. record { seen = s.seen.log; known = s.known.log } };
+
+    ghost invariant = { λ s. (s.seen.book ≡ K.book) × (s.known.book ≡ K.book) };
+}
+
+impl<K: Case> Seat<K> {
+    /// A seat that has seen the list of the start.
+    pub(crate) fn of_parts(reader: DeskReader<K>, start: &Line) -> Seat<K>
+        requires { start.now.book ≡ K.book }
+        ensures { result ≡ record { seen = start.now.log; known = start.now.log } }
+    {
+        Seat {
+            reader,
+            seen: start.again(),
+            known: start.again(),
+        }
+    }
+
+    /// The partition to ask for the key, by a look at the desk: that of a router which has taken the
+    /// letters of the list that is then seen. None where the desk is gone, with its owner, and then
+    /// nothing changed.
+    ///
+    /// It waits for nobody and allocates nothing.
+    pub fn route(&mut self, key: Key) -> Option<PartId>
+        ensures route_of_seen { IfSome result (λ part. part ≡ route_by_newest K.first (board_after K.opening self.new.seen) key) }
+        ensures seen_begins_with_known { OnSome result (IsPrefix self.old.known self.new.seen) }
+        ensures known { OnSome result (self.new.known ≡ self.new.seen) }
+        ensures letters { OnSome result (AreLetters K.allowed self.new.seen) }
+        ensures none { IfNone result (self.new ≡ self.old) }
+    {
+        let looked = replace_with(
+            &mut self.reader,
+            key,
+            |reader: DeskReader<K>, key: Key| -> (DeskReader<K>, Option<(PartId, Line)>)
+                ensures { IfSome result.1 (λ r. (r.1.book ≡ K.book) × (r.0 ≡ route_by_newest K.first (board_after K.opening r.1.log) key) × AreLetters K.allowed r.1.log) }
+            { look(reader, key) },
+        );
+        let (part, line) = looked?;
+        if !self.known.begins(&line) {
+            return None;
+        }
+        self.seen = line.again();
+        self.known = line;
+        Some(part)
+    }
+
+    /// From now on the seat knows what the notice tells: its later looks see at least that.
+    pub fn learn(&mut self, notice: &Notice<K>)
+        ensures seen { self.new.seen ≡ self.old.seen }
+        ensures learnt { IsPrefix notice.now self.new.known }
+        ensures kept { IsPrefix self.old.known self.new.known }
+        ensures nothing_else { (self.new.known ≡ self.old.known) ⊎ (self.new.known ≡ notice.now) }
+    {
+        if self.known.begins(&notice.line) {
+            self.known = notice.line.again();
+        }
+    }
+}
