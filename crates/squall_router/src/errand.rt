@@ -78,6 +78,13 @@ impl Errand {
         Errand::asking(router.route(key))
     }
 
+    /// An errand for a key that some route sends to the partition.
+    pub fn at(part: PartId) -> Errand
+        ensures { result ≡ errand_from part }
+    {
+        Errand::asking(part)
+    }
+
     /// An errand that begins at the partition.
     pub(crate) fn asking(part: PartId) -> Errand
         ensures { result ≡ errand_from part }

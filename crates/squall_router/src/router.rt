@@ -209,6 +209,21 @@ impl Router {
         &self.board
     }
 
+    /// What it has heard, of which nothing is copied.
+    pub fn into_board(self) -> Board
+        ensures { result ≡ self.board }
+    {
+        let Self {
+            alloc: _,
+            first,
+            course,
+            board,
+            table,
+        } = self;
+        drop((first, course, table));
+        board
+    }
+
     /// Its table: that of its course and its board.
     pub fn table(&self) -> &RouteTable
         ensures { IsTableOf self.now result.now }

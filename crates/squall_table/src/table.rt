@@ -2,6 +2,7 @@
 
 ghost use Rattle.std.specs.Prelude.{◌≡◌, IfOk};
 ghost use Rattle.squall_plan.specs.Ranges.{owner_of, AreRanges, IsCanonical};
+ghost use Rattle.squall_table.specs.Legs.{IsAt};
 ghost use Rattle.squall_table.specs.Tables.{AreLegs, IsTable};
 
 use crate::index::{grow, refill};
@@ -92,6 +93,23 @@ impl RouteTable {
         ensures ranges { AreRanges result.now }
     {
         &self.legs
+    }
+
+    /// A table with the same legs. It fails only where an allocation fails.
+    pub fn copied(&self, alloc: Global) -> Result<RouteTable, AllocError>
+        ensures { IfOk result (λ t. t ≡ self.now) }
+    {
+        let legs = Vec::from_slice(alloc, &self.legs)?;
+        let tops = Vec::from_slice(alloc, &self.tops)?;
+        Ok(RouteTable { legs, tops })
+    }
+
+    /// Where the leg of the key stands among the legs, by a binary search.
+    pub fn place(&self, key: Key) -> usize
+        ensures { IsAt self.now key result }
+    {
+        let count = (self.legs.len() + 15) / 16;
+        place_by(&self.tops[..count], &self.legs, Bound::of_key(key))
     }
 
     /// The legs cut to a span. It fails only where an allocation fails.

@@ -186,6 +186,22 @@ impl Feed {
         Ok(heard)
     }
 
+    /// Whether a fault has ended the stream.
+    pub fn failed(&self) -> bool
+        ensures { result ≡ self.now.failed }
+    {
+        self.failed
+    }
+
+    /// A feed that waits for the same as this one. It fails only where an allocation fails.
+    pub fn copied(&self, alloc: Global) -> Result<Feed, AllocError>
+        ensures { IfOk result (λ f. f ≡ self.now) }
+    {
+        let waiting = Vec::from_slice(alloc, &self.waiting)?;
+        let failed = self.failed;
+        Ok(Feed { waiting, failed })
+    }
+
     /// Changes nothing: after it a proof knows what holds of every feed. What waits is too short
     /// for a frame and shows no fault, and is at most 1,048,583 bytes.
     pub fn known(&self)

@@ -1,0 +1,326 @@
+/* squall for C and C++: which partition to ask for a key while partitions move.
+ *
+ * A router knows an old and a new partition plan and takes reports of what was loaded where. It
+ * says for each key which partition to ask. A view is what a router said at one moment, for threads
+ * that only read. An errand follows the replies of partitions until a key is found.
+ *
+ * Link with libsquall.a or libsquall.so (tools/library makes both). docs/EMBEDDING.md is a
+ * walk through all of this; docs/FORMATS.md has the text of a plan and the bytes of a frame.
+ *
+ *
+ * RULES
+ *
+ * What the library's contracts promise holds for a host that keeps these rules. Nothing can check
+ * them: where one is broken, the behaviour is undefined.
+ *
+ * 1. Rooms. Routers, views and errands live in memory that the host gives: a room. A room has at
+ *    least as many bytes as squall_router_size(), squall_view_size() or squall_errand_size()
+ *    answers, is writable and is aligned to 16, as memory of malloc is.
+ * 2. Open once, close once. Each squall_.._open, _again, _start and _start_at is followed by one
+ *    close of the same kind, also where the status says that there is no router, view or errand.
+ *    Between the two the host neither reads nor writes nor copies nor moves the room: its address is
+ *    a handle, which it passes to functions of this header that take one of that kind, and to
+ *    nothing else. After the close the room is plain memory again, and may be opened again.
+ * 3. One call at a time. Each handle serves one call at a time, also where the call only reads and
+ *    its pointer is to const. Calls with different handles may run at the same time, also with views
+ *    that were made from one another.
+ * 4. Threads. A handle may pass from one thread to another where a lock, the start or the join of a
+ *    thread, or a sequentially consistent atomic orders the calls. No function starts a thread,
+ *    takes a lock or waits.
+ * 5. Bytes. A pointer and a length name that many bytes, which are readable and do not change while
+ *    the call runs. The pointer is not null, even for length 0.
+ * 6. Places for answers. A pointer `out` and a `room` name that many places, which are writable and
+ *    in no handle's room. The pointer is not null, even for room 0, and is aligned as what it points
+ *    to is.
+ * 7. Memory. malloc, realloc and free of the program are one allocator, which aligns a block to each
+ *    power of two up to 16 that divides its size. heap.c, which is part of the library, calls them.
+ *    A host with an allocator of its own links its own three functions in the place of that file,
+ *    which do what is said there, and return.
+ * 8. Signals and forks. No function is called in a signal handler, nor, where the program has
+ *    threads, in the child of a fork before it executes another program.
+ *
+ * What is no matter of these rules: any numbers, any bytes of a plan or a frame, any order of
+ * reports and any failed allocation. Each has its answer below.
+ *
+ *
+ * WORDS
+ *
+ * Key      a pair root:second of 32 bits each, given as its rank root * 4294967296 + second. The
+ *          ranks below SQUALL_TOP are keys; SQUALL_TOP is the end of all keys and no key itself.
+ * Span     the keys from lo on, below hi.
+ * Course   a numbered change from one plan to another, worked off in sub-plans, numbered from 0.
+ * Board    what a router was told. Reports may come in any order and more than once.
+ */
+#ifndef SQUALL_H
+#define SQUALL_H
+
+#include <stddef.h>
+#include <stdint.h>
+
+#ifdef __cplusplus
+extern "C" {
+#endif
+
+/* How a call ended. The faults of plans and frames are explained in docs/FORMATS.md. */
+enum squall_status {
+    SQUALL_OK = 0,
+    SQUALL_NO_MEMORY = 1, /* an allocation failed that was needed, or a count of owners is full */
+    SQUALL_LIMIT = 2,     /* a number or a rank lies outside its limits, or a span has no keys */
+    SQUALL_CLOSED = 3,    /* nothing was opened here: the status of the handle says why */
+    SQUALL_FAILED = 4,    /* a frame fault came earlier, and the stream is at its end */
+    SQUALL_TOO_LONG = 5,  /* a digest has more rows than a frame holds */
+    SQUALL_NO_DIGEST = 6, /* no digest was heard that could be answered */
+
+    /* Why a text is no plan; of squall_router_open the old one. */
+    SQUALL_PLAN_JSON = 11,
+    SQUALL_PLAN_SHAPE = 12,
+    SQUALL_PLAN_BAD_PART = 13,
+    SQUALL_PLAN_BAD_BOUND = 14,
+    SQUALL_PLAN_EMPTY_RANGE = 15,
+    SQUALL_PLAN_TOO_MANY = 16,
+    SQUALL_PLAN_OVERLAP = 17,
+    SQUALL_PLAN_GAP = 18,
+
+    /* Why the text of the new plan is none. */
+    SQUALL_NEW_PLAN_JSON = 31,
+    SQUALL_NEW_PLAN_SHAPE = 32,
+    SQUALL_NEW_PLAN_BAD_PART = 33,
+    SQUALL_NEW_PLAN_BAD_BOUND = 34,
+    SQUALL_NEW_PLAN_EMPTY_RANGE = 35,
+    SQUALL_NEW_PLAN_TOO_MANY = 36,
+    SQUALL_NEW_PLAN_OVERLAP = 37,
+    SQUALL_NEW_PLAN_GAP = 38,
+
+    /* Why bytes are no frame. */
+    SQUALL_FRAME_MAGIC = 51,
+    SQUALL_FRAME_VERSION = 52,
+    SQUALL_FRAME_KIND = 53,
+    SQUALL_FRAME_TOO_LONG = 54,
+    SQUALL_FRAME_COUNT = 56,
+    SQUALL_FRAME_RANGE = 57,
+    SQUALL_FRAME_ORDER = 58,
+    SQUALL_FRAME_SPARE = 59
+};
+
+/* What a partition replies to an errand. */
+enum squall_reply {
+    SQUALL_HELD = 0,     /* it holds the key */
+    SQUALL_MOVED = 1,    /* it gave the key to `part` in the course `number` */
+    SQUALL_PENDING = 2,  /* the key is on its way to it from `part` */
+    SQUALL_BEHIND = 3,   /* it has not heard of the course by which the key was sent to it */
+    SQUALL_ELSEWHERE = 4 /* the key was never there: the old plan has it at `part` */
+};
+
+/* What to do after a reply. */
+enum squall_next {
+    SQUALL_SERVED = 0,     /* the key was found: nothing is left to do */
+    SQUALL_ASK = 1,        /* ask the partition squall_errand_asked, to which the key went */
+    SQUALL_AGAIN = 2,      /* ask the same partition again, later */
+    SQUALL_LOST = 3,       /* replies contradict each other: start anew once the router heard more */
+    SQUALL_BAD_REPLY = 255 /* that is no reply, or no errand stands here: nothing changed */
+};
+
+/* No partition. */
+#define SQUALL_NOWHERE UINT32_C(4294967295)
+/* No place: no plan fault has come that has one. */
+#define SQUALL_NO_PLACE UINT64_C(18446744073709551615)
+/* The rank of the end of all keys. */
+#define SQUALL_TOP UINT64_C(18446744069414584320)
+/* No frame has more bytes. */
+#define SQUALL_FRAME_BYTES 1048584u
+/* The alignment of each room. */
+#define SQUALL_ALIGN 16u
+
+typedef struct squall_router squall_router;
+typedef struct squall_view squall_view;
+typedef struct squall_errand squall_errand;
+
+/* The keys from lo on, below hi, are to be asked for at the partition. */
+typedef struct squall_leg {
+    uint64_t lo;
+    uint64_t hi;
+    uint32_t part;
+} squall_leg;
+
+/* The rank of root:second. */
+static inline uint64_t squall_rank(uint32_t root, uint32_t second) {
+    return ((uint64_t)root << 32) | second;
+}
+
+
+/* ROUTERS */
+
+/* How many bytes the room of a router has. */
+size_t squall_router_size(void);
+
+/* Opens a router in the room: of the course `number` from the old plan to the new one, with nothing
+ * reported. squall_router_status then says whether there is one:
+ *   SQUALL_OK         there is
+ *   SQUALL_LIMIT      the number is 0; no text was looked at
+ *   SQUALL_PLAN_..    the old text is no plan
+ *   SQUALL_NEW_PLAN_..  the old text is one and the new one is none
+ *   SQUALL_NO_MEMORY  an allocation failed
+ * Where there is none, the other functions answer as they say below, and the room is closed in the
+ * same way. Allocates. */
+void squall_router_open(uint32_t number, const uint8_t *old_plan, size_t old_len,
+                        const uint8_t *new_plan, size_t new_len, squall_router *room);
+
+/* How the opening ended. Never changes. */
+uint32_t squall_router_status(const squall_router *router);
+
+/* Where the plan fault lies that was answered last, of an opening or of squall_router_issued: the
+ * index of an entry, from 0, for .._SHAPE to .._EMPTY_RANGE; the rank of a bound for .._OVERLAP and
+ * .._GAP. SQUALL_NO_PLACE where none was answered, or it has no place. */
+uint64_t squall_router_fault_at(const squall_router *router);
+
+/* Takes the report that partition `part` has loaded the keys from lo on, below hi, in sub-plan `sub`
+ * of course `number`. Answers
+ *   SQUALL_OK         the router has taken it
+ *   SQUALL_LIMIT      there is no such report: a number 0, a sub-plan or partition above 9999, a
+ *                     rank above SQUALL_TOP, or lo not below hi
+ *   SQUALL_NO_MEMORY  an allocation failed
+ *   SQUALL_CLOSED     there is no router
+ * At all but SQUALL_OK nothing changed. Allocates. */
+uint32_t squall_router_loaded(squall_router *router, uint32_t number, uint32_t sub, uint32_t part,
+                              uint64_t lo, uint64_t hi);
+
+/* Takes the report that the partition has all the keys that the sub-plan brings it. Answers as
+ * squall_router_loaded does. Allocates. */
+uint32_t squall_router_done(squall_router *router, uint32_t number, uint32_t sub, uint32_t part);
+
+/* Takes the report that the sub-plan has been opened, and all those before it. Changes no route.
+ * Answers as squall_router_loaded does. Allocates. */
+uint32_t squall_router_opened(squall_router *router, uint32_t number, uint32_t sub);
+
+/* Takes the report that course `number` leads from the new plan of squall_router_open to this one.
+ * Routes go by the course of the greatest number for which one pair of plans is known. Answers as
+ * squall_router_loaded does, or
+ *   SQUALL_NEW_PLAN_..  the text is no plan; squall_router_fault_at says where
+ * At all but SQUALL_OK nothing changed but squall_router_fault_at. A number 0 is SQUALL_LIMIT
+ * whatever the text is. Allocates. */
+uint32_t squall_router_issued(squall_router *router, uint32_t number, const uint8_t *plan,
+                              size_t len);
+
+/* Takes the next bytes of a stream of frames, which may be cut anywhere. The deltas that end in
+ * these bytes are taken as reports; the last digest is kept for squall_router_gather_repair; what
+ * is left waits for the next bytes. Answers
+ *   SQUALL_OK         all bytes were taken
+ *   SQUALL_FRAME_..   bytes are no frame. The messages before them were taken. The stream is at its
+ *                     end: from now on the answer is SQUALL_FAILED
+ *   SQUALL_FAILED     a fault came before; nothing changed
+ *   SQUALL_NO_MEMORY  an allocation failed; nothing changed, and the same bytes may be fed again
+ *   SQUALL_CLOSED     there is no router
+ * Allocates. */
+uint32_t squall_router_feed(squall_router *router, const uint8_t *bytes, size_t len);
+
+/* The partition to ask for the key of that rank; SQUALL_NOWHERE where the rank is no key's or there
+ * is no router. Allocates nothing. */
+uint32_t squall_router_route(const squall_router *router, uint64_t rank);
+
+/* Writes the legs of the keys from lo on, below hi, to the front of `out`, by rising key, the first
+ * and the last cut to the span, as many as there is room for, and answers how many. Neighbours have
+ * different partitions. Where there is no more room, the rest begins at the hi of the last one.
+ * Answers 0 where lo is not below hi, a rank is above SQUALL_TOP, or there is no router. Allocates
+ * nothing. */
+size_t squall_router_legs(const squall_router *router, uint64_t lo, uint64_t hi, squall_leg *out,
+                          size_t room);
+
+/* The number of the course by which routes go; 0 where there is no router. Allocates nothing. */
+uint32_t squall_router_number(const squall_router *router);
+
+/* Makes the frames of all that the router was told, in the place of those that wait to be fetched by
+ * squall_router_frame. None where it was told nothing. Answers SQUALL_OK, SQUALL_NO_MEMORY or
+ * SQUALL_CLOSED, after which those that waited still do. Allocates. */
+uint32_t squall_router_gather_board(squall_router *router);
+
+/* Makes the frame of a digest of all that the router was told, in the place of those that wait.
+ * Answers as squall_router_gather_board does, or SQUALL_TOO_LONG, after which those that waited
+ * still do. Allocates. */
+uint32_t squall_router_gather_digest(squall_router *router);
+
+/* Makes the frames of what the digest that was fed last does not show, in the place of those that
+ * wait. None where it shows all. Answers as squall_router_gather_board does, or SQUALL_NO_DIGEST
+ * where none was fed, after which those that waited still do. Allocates. */
+uint32_t squall_router_gather_repair(squall_router *router);
+
+/* Writes the next frame that waits to the front of `out`, and answers how many bytes it has. It waits
+ * no longer. Where there is not room enough, nothing is written, the frame still waits, and the
+ * answer is how many bytes it has. 0 where no frame waits. SQUALL_FRAME_BYTES are room for any.
+ * Allocates nothing. */
+size_t squall_router_frame(squall_router *router, uint8_t *out, size_t room);
+
+/* Closes the router, and frees what it has allocated. The room is plain memory again. */
+void squall_router_close(squall_router *router);
+
+
+/* VIEWS */
+
+/* How many bytes the room of a view has. */
+size_t squall_view_size(void);
+
+/* Opens a view of what the router says now. It stays as it is, whatever the router is told later,
+ * also after the router was closed. squall_view_status then says SQUALL_OK, SQUALL_NO_MEMORY, or
+ * SQUALL_CLOSED where there is no router. Copies the router's table: allocates. */
+void squall_view_open(const squall_router *router, squall_view *room);
+
+/* Opens one more view of the same, for one more reader. Nothing is copied: both share one table,
+ * which is freed with the last view of it. squall_view_status of the new one then says what that of
+ * the old one says, or SQUALL_NO_MEMORY where a table has more views than can be counted. Counts as
+ * a call with both handles. Allocates nothing. */
+void squall_view_again(const squall_view *view, squall_view *room);
+
+/* How the opening ended. Never changes. */
+uint32_t squall_view_status(const squall_view *view);
+
+/* As squall_router_route, of the router at the moment of squall_view_open. Allocates nothing. */
+uint32_t squall_view_route(const squall_view *view, uint64_t rank);
+
+/* As squall_router_legs, of that moment. Allocates nothing. */
+size_t squall_view_legs(const squall_view *view, uint64_t lo, uint64_t hi, squall_leg *out,
+                        size_t room);
+
+/* As squall_router_number, of that moment. Allocates nothing. */
+uint32_t squall_view_number(const squall_view *view);
+
+/* Closes the view. The last one that shares a table frees it. */
+void squall_view_close(squall_view *view);
+
+
+/* ERRANDS */
+
+/* How many bytes the room of an errand has. */
+size_t squall_errand_size(void);
+
+/* Opens an errand for the key of that rank, which begins at the partition to which the router routes
+ * the key now. squall_errand_status then says SQUALL_OK, SQUALL_LIMIT where the rank is no key's, or
+ * SQUALL_CLOSED where there is no router. Allocates nothing. */
+void squall_errand_start(const squall_router *router, uint64_t rank, squall_errand *room);
+
+/* The same, by a view. */
+void squall_errand_start_at(const squall_view *view, uint64_t rank, squall_errand *room);
+
+/* How the opening ended. Never changes. */
+uint32_t squall_errand_status(const squall_errand *errand);
+
+/* The partition to ask; SQUALL_NOWHERE where there is no errand. */
+uint32_t squall_errand_asked(const squall_errand *errand);
+
+/* The number of the last SQUALL_MOVED that was followed, to be told to the partition that is asked;
+ * 0 before the first, or where there is no errand. */
+uint32_t squall_errand_number(const squall_errand *errand);
+
+/* Takes a reply of the partition that was asked, one of squall_reply, and says what to do, one of
+ * squall_next. `part` is looked at for SQUALL_MOVED, SQUALL_PENDING and SQUALL_ELSEWHERE, and is at
+ * most 9999 then; `number` is looked at for SQUALL_MOVED; give 0 otherwise. After SQUALL_SERVED or
+ * SQUALL_LOST the answer to any reply stays the same. SQUALL_BAD_REPLY, where there is no such reply
+ * or no errand, changes nothing. Allocates nothing. */
+uint32_t squall_errand_heed(squall_errand *errand, uint32_t reply, uint32_t part, uint32_t number);
+
+/* Closes the errand. */
+void squall_errand_close(squall_errand *errand);
+
+#ifdef __cplusplus
+}
+#endif
+
+#endif

@@ -1,0 +1,157 @@
+//! Why a call did not do what it was asked for.
+
+use crate::key::Rank;
+use std::error;
+use std::fmt;
+
+/// Why a call did not do what it was asked for. Where its documentation does not say otherwise, the
+/// call has changed nothing.
+#[derive(Clone, Copy, Debug, PartialEq, Eq)]
+#[non_exhaustive]
+pub enum Error {
+    /// An allocation failed.
+    NoMemory,
+    /// A number or a rank lies outside its limits, or a span has no keys.
+    Limit,
+    /// A frame fault came earlier, and the stream is at its end.
+    Failed,
+    /// A digest has more rows than a frame holds.
+    TooLong,
+    /// No digest was fed that could be answered.
+    NoDigest,
+    /// The text of the old plan is no plan.
+    OldPlan(PlanFault),
+    /// The text of the new plan is no plan.
+    NewPlan(PlanFault),
+    /// Bytes are no frame.
+    Frame(FrameFault),
+    /// The library answered with a status that this version of the crate does not know.
+    Unknown(u32),
+}
+
+/// Why a text is no plan. An index is that of an entry of the text, from 0.
+#[derive(Clone, Copy, Debug, PartialEq, Eq)]
+pub enum PlanFault {
+    /// The bytes are no JSON, or no UTF-8.
+    Json,
+    /// The text is no object with a member `plan` that is an array, or the entry of that index does
+    /// not have its form.
+    Shape(Option<u64>),
+    /// The partition of an entry is above 9999.
+    BadPart(u64),
+    /// A pair of an entry is no bound.
+    BadBound(u64),
+    /// The `from` of an entry is not below its `to`.
+    EmptyRange(u64),
+    /// There are more than 4096 entries.
+    TooMany,
+    /// Some key is in two ranges; the least such key.
+    Overlap(Rank),
+    /// Some key is in no range; the least such key.
+    Gap(Rank),
+}
+
+/// Why bytes are no frame.
+#[derive(Clone, Copy, Debug, PartialEq, Eq)]
+pub enum FrameFault {
+    /// The first two bytes are not those of a frame.
+    Magic,
+    /// The version is not known.
+    Version,
+    /// The kind is neither that of a delta nor that of a digest.
+    Kind,
+    /// The body is to have more than 1,048,576 bytes.
+    TooLong,
+    /// The body has too few bytes left for its next item.
+    Count,
+    /// A field lies outside its limits, or a cell says nothing.
+    Range,
+    /// An item does not come after the one before it.
+    Order,
+    /// Bytes are left in the body after its last item.
+    Spare,
+}
+
+/// How far the statuses of a new plan's faults are above those of an old one's.
+const NEW: u32 = 20;
+
+impl Error {
+    /// The error of a status, if it is one. `at` is where the last plan fault lies.
+    pub(crate) fn check(status: u32, at: u64) -> Result<(), Error> {
+        Err(match status {
+            0 => return Ok(()),
+            1 => Error::NoMemory,
+            2 => Error::Limit,
+            4 => Error::Failed,
+            5 => Error::TooLong,
+            6 => Error::NoDigest,
+            11..=18 => Error::OldPlan(PlanFault::of(status, at)),
+            31..=38 => Error::NewPlan(PlanFault::of(status - NEW, at)),
+            51 => Error::Frame(FrameFault::Magic),
+            52 => Error::Frame(FrameFault::Version),
+            53 => Error::Frame(FrameFault::Kind),
+            54 => Error::Frame(FrameFault::TooLong),
+            56 => Error::Frame(FrameFault::Count),
+            57 => Error::Frame(FrameFault::Range),
+            58 => Error::Frame(FrameFault::Order),
+            59 => Error::Frame(FrameFault::Spare),
+            _ => Error::Unknown(status),
+        })
+    }
+}
+
+impl PlanFault {
+    /// The fault of a status from 11 to 18, and where it lies.
+    fn of(status: u32, at: u64) -> PlanFault {
+        match status {
+            11 => PlanFault::Json,
+            12 => PlanFault::Shape((at != u64::MAX).then_some(at)),
+            13 => PlanFault::BadPart(at),
+            14 => PlanFault::BadBound(at),
+            15 => PlanFault::EmptyRange(at),
+            16 => PlanFault::TooMany,
+            17 => PlanFault::Overlap(Rank(at)),
+            _ => PlanFault::Gap(Rank(at)),
+        }
+    }
+}
+
+impl fmt::Display for Error {
+    fn fmt(&self, f: &mut fmt::Formatter<'_>) -> fmt::Result {
+        match self {
+            Error::NoMemory => f.write_str("no memory"),
+            Error::Limit => f.write_str("a number or a span is outside its limits"),
+            Error::Failed => f.write_str("the stream ended with a fault before"),
+            Error::TooLong => f.write_str("the digest has too many rows for a frame"),
+            Error::NoDigest => f.write_str("no digest was heard"),
+            Error::OldPlan(fault) => write!(f, "the old text is no plan: {fault}"),
+            Error::NewPlan(fault) => write!(f, "the new text is no plan: {fault}"),
+            Error::Frame(fault) => write!(f, "no frame: {fault}"),
+            Error::Unknown(status) => write!(f, "unknown status {status}"),
+        }
+    }
+}
+
+impl fmt::Display for PlanFault {
+    fn fmt(&self, f: &mut fmt::Formatter<'_>) -> fmt::Result {
+        match self {
+            PlanFault::Json => f.write_str("Json"),
+            PlanFault::Shape(None) => f.write_str("Shape"),
+            PlanFault::Shape(Some(index)) => write!(f, "Shape {index}"),
+            PlanFault::BadPart(index) => write!(f, "BadPart {index}"),
+            PlanFault::BadBound(index) => write!(f, "BadBound {index}"),
+            PlanFault::EmptyRange(index) => write!(f, "EmptyRange {index}"),
+            PlanFault::TooMany => f.write_str("TooMany"),
+            PlanFault::Overlap(bound) => write!(f, "Overlap {bound}"),
+            PlanFault::Gap(bound) => write!(f, "Gap {bound}"),
+        }
+    }
+}
+
+impl fmt::Display for FrameFault {
+    fn fmt(&self, f: &mut fmt::Formatter<'_>) -> fmt::Result {
+        fmt::Debug::fmt(self, f)
+    }
+}
+
+impl error::Error for Error {}

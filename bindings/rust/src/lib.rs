@@ -1,0 +1,57 @@
+//! Which partition to ask for a key while partitions move.
+//!
+//! A [`Router`] knows an old and a new partition plan and takes reports of what was loaded where. It
+//! says for each key which partition to ask. A [`View`] is what a router said at one moment, for
+//! threads that only read. An [`Errand`] follows the replies of partitions until a key is found.
+//!
+//! ```
+//! use squall::{Rank, Router};
+//!
+//! let old = br#"{"plan":[{"part":1,"from":[0,0],"to":"end"}]}"#;
+//! let new = br#"{"plan":[{"part":1,"from":[0,0],"to":[2,0]},{"part":3,"from":[2,0],"to":"end"}]}"#;
+//! let mut router = Router::open(1, old, new)?;
+//! let key = Rank::new(2, 7);
+//! assert_eq!(router.route(key), Some(1));
+//! router.loaded(1, 0, 3, Rank::new(2, 0)..Rank::new(3, 0))?;
+//! assert_eq!(router.route(key), Some(3));
+//! # Ok::<(), squall::Error>(())
+//! ```
+//!
+//! This crate is a thin layer over the C library of squall, which is proved: that a router's answers
+//! are right, and that its calls end and fault nowhere, rests on that. The layer itself is not
+//! proved, and all of its `unsafe` code keeps the rules of the library's header.
+//!
+//! # Linking
+//!
+//! The crate has no dependencies. `SQUALL_DIR` names the folder with `libsquall.a` when it is built,
+//! as `tools/library DIR` makes it.
+//!
+//! # Threads
+//!
+//! Each handle serves one call at a time, so all of them are `Send` and none is `Sync`. Threads that
+//! route at the same time have a clone of a [`View`] each, which costs no copy of its table:
+//!
+//! ```compile_fail
+//! fn shared_by_threads<T: Sync>() {}
+//! shared_by_threads::<squall::View>();
+//! ```
+//!
+//! # Memory
+//!
+//! The library allocates by `malloc`. Where that fails, a call answers [`Error::NoMemory`] and has
+//! changed nothing. Rooms and what this layer gives out, as the legs of [`Router::legs`], are
+//! allocated as all else in Rust is.
+
+mod errand;
+mod error;
+mod ffi;
+mod key;
+mod room;
+mod router;
+mod view;
+
+pub use errand::{Errand, Next, Reply};
+pub use error::{Error, FrameFault, PlanFault};
+pub use key::{Leg, Rank};
+pub use router::{Frames, Router};
+pub use view::View;

@@ -1,0 +1,163 @@
+//! The library as a Rust program sees it. Expected values are those of the worked examples.
+
+use squall::{Error, FrameFault, Leg, Next, PlanFault, Rank, Reply, Router, View};
+use std::sync::Mutex;
+use std::thread;
+
+const OLD: &[u8] = include_bytes!("../../../examples/old.json");
+const NEW: &[u8] = include_bytes!("../../../examples/new.json");
+
+fn key(root: u32) -> Rank {
+    Rank::new(root, 0)
+}
+
+fn leg(lo: Rank, hi: Rank, part: u32) -> Leg {
+    Leg { lo, hi, part }
+}
+
+fn fresh() -> Router {
+    Router::open(1, OLD, NEW).unwrap()
+}
+
+#[test]
+fn the_worked_scenario() -> Result<(), Error> {
+    let mut router = fresh();
+    assert_eq!(router.route(key(2)), Some(1));
+    router.loaded(1, 0, 3, key(2)..key(3))?;
+    assert_eq!(router.route(key(2)), Some(3));
+    router.done(1, 0, 4)?;
+    router.opened(1, 0)?;
+    assert_eq!(router.route(key(6)), Some(4));
+    assert_eq!(router.route(key(3)), Some(2));
+    assert_eq!(router.route(Rank::END), None);
+    assert_eq!(router.number(), 1);
+    Ok(())
+}
+
+#[test]
+fn faults_are_named() {
+    let plan = |text: &str| Router::open(1, text.as_bytes(), NEW).err();
+    assert_eq!(plan(""), Some(Error::OldPlan(PlanFault::Json)));
+    assert_eq!(plan("{}"), Some(Error::OldPlan(PlanFault::Shape(None))));
+    let open_ended = r#"{"plan":[{"part":1,"from":[0,0]}]}"#;
+    assert_eq!(
+        plan(open_ended),
+        Some(Error::OldPlan(PlanFault::Shape(Some(0))))
+    );
+    let gap = br#"{"plan":[{"part":1,"from":[0,0],"to":[3,5]}]}"#;
+    let fault = Router::open(1, OLD, gap).err().unwrap();
+    assert_eq!(fault, Error::NewPlan(PlanFault::Gap(Rank::new(3, 5))));
+    assert_eq!(fault.to_string(), "the new text is no plan: Gap 3:5");
+    assert_eq!(Router::open(0, OLD, NEW).err(), Some(Error::Limit));
+    let mut router = fresh();
+    assert_eq!(router.loaded(1, 0, 3, key(2)..key(2)), Err(Error::Limit));
+    assert_eq!(router.issued(2, gap), Err(fault));
+    assert_eq!(router.feed(b"ST"), Err(Error::Frame(FrameFault::Magic)));
+    assert_eq!(router.feed(b""), Err(Error::Failed));
+    assert_eq!(router.repair().err(), Some(Error::NoDigest));
+    assert_eq!(router.errand(Rank::END).err(), Some(Error::Limit));
+}
+
+#[test]
+fn legs_of_any_number() -> Result<(), Error> {
+    let mut router = fresh();
+    router.loaded(1, 0, 3, key(2)..key(3))?;
+    let all = router.legs(key(0)..key(4));
+    let wanted = [
+        leg(key(0), key(2), 1),
+        leg(key(2), key(3), 3),
+        leg(key(3), key(4), 2),
+    ];
+    assert_eq!(all, wanted);
+    for second in 0..200 {
+        router.loaded(
+            1,
+            0,
+            4,
+            Rank::new(6, 2 * second)..Rank::new(6, 2 * second + 1),
+        )?;
+    }
+    let many = router.view()?.legs(key(6)..key(7));
+    assert_eq!(many.len(), 400);
+    assert_eq!(many[398], leg(Rank::new(6, 398), Rank::new(6, 399), 4));
+    assert_eq!(many[399], leg(Rank::new(6, 399), key(7), 3));
+    assert!(router.legs(key(5)..key(5)).is_empty());
+    Ok(())
+}
+
+#[test]
+fn boards_digests_and_repairs() -> Result<(), Error> {
+    let (mut a, mut b) = (fresh(), fresh());
+    a.loaded(1, 0, 3, key(2)..key(3))?;
+    b.done(1, 0, 4)?;
+    b.issued(2, OLD)?;
+    for digest in a.digest()? {
+        b.feed(&digest)?;
+    }
+    for frame in b.repair()? {
+        a.feed(&frame)?;
+    }
+    let frames: Vec<Vec<u8>> = a.board()?.collect();
+    b.feed(&frames.concat())?;
+    assert_eq!(a.number(), 2);
+    assert!(a.board()?.eq(b.board()?));
+    assert_eq!(fresh().board()?.count(), 0);
+    Ok(())
+}
+
+#[test]
+fn each_reader_has_a_view() -> Result<(), Error> {
+    let mut router = fresh();
+    let published: Mutex<View> = Mutex::new(router.view()?);
+    thread::scope(|scope| {
+        let readers = [(); 4].map(|()| {
+            scope.spawn(|| {
+                loop {
+                    let mine = published.lock().unwrap().clone();
+                    if mine.route(key(2)) == Some(3) {
+                        break mine.route(key(6));
+                    }
+                }
+            })
+        });
+        router.done(1, 0, 4)?;
+        *published.lock().unwrap() = router.view()?;
+        router.loaded(1, 0, 3, key(2)..key(3))?;
+        *published.lock().unwrap() = router.view()?;
+        drop(router);
+        for reader in readers {
+            assert_eq!(reader.join().unwrap(), Some(4));
+        }
+        Ok(())
+    })
+}
+
+#[test]
+fn errands_follow_replies() -> Result<(), Error> {
+    let view = fresh().view()?;
+    let mut errand = view.errand(key(2))?;
+    assert_eq!((errand.asked(), errand.number()), (1, 0));
+    assert_eq!(
+        errand.heed(Reply::Moved {
+            dest: 10000,
+            number: 1
+        }),
+        Err(Error::Limit)
+    );
+    assert_eq!(
+        errand.heed(Reply::Moved { dest: 3, number: 1 }),
+        Ok(Next::Ask(3))
+    );
+    assert_eq!((errand.asked(), errand.number()), (3, 1));
+    assert_eq!(
+        errand.heed(Reply::Pending { source: 1 }),
+        Ok(Next::Again(3))
+    );
+    assert_eq!(errand.heed(Reply::Behind), Ok(Next::Again(3)));
+    assert_eq!(
+        errand.heed(Reply::Moved { dest: 3, number: 1 }),
+        Ok(Next::Lost)
+    );
+    assert_eq!(errand.heed(Reply::Held), Ok(Next::Lost));
+    Ok(())
+}

@@ -1,0 +1,5 @@
+pub mod Steps
+pub mod Reported
+pub mod CutLegs
+pub mod Joined
+pub mod PieceFrames

@@ -1,0 +1,11 @@
+use Rattle.std.proofs.Common.{◌≡◌, ℕ, None}
+use Rattle.std.specs.Prelude.{vec_len}
+use Rattle.squall_c.specs.Feeding.{last_digest}
+use Rattle.squall_c.proofs.feeding.last_digest.Given as goal
+
+-- no digest was taken off
+abbrev pub invariant-loop-message : goal.invariant-loop-message
+invariant-loop-message l = last_digest None l.messages.items ≡ last_digest None l.fn.messages.items
+
+abbrev pub decreases-loop-message : goal.decreases-loop-message
+decreases-loop-message l = vec_len l.messages

@@ -1,0 +1,24 @@
+-- what the clauses here cite of the crates below
+pub use Rattle.squall_key.specs.Keys
+pub use Rattle.squall_plan.specs.Form
+pub use Rattle.squall_course.specs.Change
+pub use Rattle.squall_report.specs.Facts
+pub use Rattle.squall_board.specs.Boards
+pub use Rattle.squall_board.specs.CourseRoute
+pub use Rattle.squall_wire.specs.Messages
+pub use Rattle.squall_wire.specs.Hearing
+pub use Rattle.squall_delta.specs.Pieces
+pub use Rattle.squall_delta.specs.Hashes
+pub use Rattle.squall_delta.specs.Repairs
+pub use Rattle.squall_table.specs.Tables
+pub use Rattle.squall_router.specs.Routers
+pub use Rattle.squall_router.specs.Errands
+pub mod Status
+pub mod Opening
+pub mod Reporting
+pub mod Feeding
+pub mod Frames
+pub mod Showing
+pub mod Views
+pub mod ErrandSlots
+pub mod Handles

@@ -1,0 +1,96 @@
+//! Frames that are fed to routers behind handles.
+
+ghost use Rattle.std.specs.Prelude.{◌≡◌, IfOk, OnOk, None};
+ghost use Rattle.std.specs.List.{AllByRecursion};
+ghost use Rattle.squall_wire.specs.Messages.{IsMessage};
+ghost use Rattle.squall_delta.specs.Pieces.{joined_boards};
+ghost use Rattle.squall_c.specs.Feeding.{JoinsMessage, deltas_of, last_digest, HearsInStation, Feeds};
+
+use crate::router::{RouterSlot, Station};
+use crate::status::{CLOSED, FAILED, NO_MEMORY, heard_status};
+use squall_board::{Board, Delta};
+use squall_wire::{Digest, FeedFault, Message, WireFault};
+use std::alloc::{AllocError, Global};
+
+/// Joins to a board what a message tells: a digest tells nothing. After an error the board is as it
+/// was.
+fn join_message(board: &mut Board, message: &Message) -> Result<(), AllocError>
+    ensures { OnOk result (JoinsMessage board.old message.now board.new) }
+{
+    match message {
+        Message::Delta(delta) => board.merge(delta),
+        Message::Digest(_) => Ok(()),
+    }
+}
+
+/// All that the messages tell, as one board. It fails where an allocation fails, or where the count
+/// of an issue's owners is full.
+fn joined(alloc: Global, messages: &[Message]) -> Result<Delta, AllocError>
+    requires { AllByRecursion IsMessage messages.now }
+    ensures { IfOk result (λ delta. delta ≡ joined_boards (deltas_of messages.now)) }
+{
+    let mut board = Board::new(alloc);
+    for message in messages {
+        join_message(&mut board, message)?;
+    }
+    Ok(board)
+}
+
+/// The last digest among the messages.
+#[tactic(auto, using(crate::proofs::Joined::last_delta, crate::proofs::Joined::last_is))]
+fn last_digest(messages: Vec<Message>) -> Option<Digest>
+    ensures { result ≡ last_digest None messages.items }
+{
+    let mut messages = messages;
+    while let Some(message) = messages.pop() {
+        match message {
+            Message::Digest(digest) => return Some(digest),
+            Message::Delta(delta) => drop(delta),
+        }
+    }
+    None
+}
+
+/// Keeps the last digest among the messages, where there is one, in place of the one before.
+#[tactic(auto, using(crate::proofs::Joined::last_none, crate::proofs::Joined::last_some))]
+fn keep_digest(heard: &mut Option<Digest>, messages: Vec<Message>)
+    ensures { heard.new ≡ last_digest heard.old messages.items }
+{
+    let Some(digest) = last_digest(messages) else {
+        return;
+    };
+    *heard = Some(digest);
+}
+
+/// Has the station hear the messages whose frames end in the piece, all of them or none, and gives
+/// the fault of what follows them where there is one. Where it fails the station is as it was.
+fn hear(station: &mut Station, piece: &[u8]) -> Result<Option<WireFault>, FeedFault>
+    ensures { HearsInStation station.old piece.now result station.new }
+{
+    if station.feed.failed() {
+        return Err(FeedFault::Failed);
+    }
+    let mut feed = station.feed.copied(station.alloc)?;
+    let heard = feed.push(piece)?;
+    let delta = joined(station.alloc, &heard.messages)?;
+    station.router.absorb(&delta)?;
+    // From here on nothing can fail.
+    station.feed = feed;
+    keep_digest(&mut station.heard, heard.messages);
+    Ok(heard.fault)
+}
+
+/// Takes a piece of a stream of frames, cut anywhere: the messages whose frames end in it are heard,
+/// up to the first fault, which the status tells. `FAILED` where a fault ended the stream before.
+pub(crate) fn feed(slot: &mut RouterSlot, piece: &[u8]) -> u32
+    ensures { Feeds piece.now slot.old slot.new result }
+{
+    let Some(station) = &mut slot.station else {
+        return CLOSED;
+    };
+    match hear(station, piece) {
+        Ok(fault) => heard_status(fault),
+        Err(FeedFault::Failed) => FAILED,
+        Err(FeedFault::NoMemory) => NO_MEMORY,
+    }
+}

@@ -1,0 +1,70 @@
+//! Legs as C sees them.
+
+ghost use Rattle.std.specs.Prelude.{◌≡◌, length, take};
+ghost use Rattle.squall_plan.specs.Ranges.{owner_of};
+ghost use Rattle.squall_c.specs.Frames.{over};
+ghost use Rattle.squall_c.specs.Showing.{cut_leg, cut_legs, legs_by, that_fit};
+
+use squall_key::{Bound, Key};
+use squall_table::{Leg, RouteTable};
+
+/// The keys from rank `lo` on, below rank `hi`, and the partition to ask for them.
+#[repr(C)]
+#[derive(Clone, Copy, Debug, PartialEq, Eq)]
+pub struct CLeg {
+    /// The rank of the least key.
+    pub lo: u64,
+    /// The rank above the greatest key.
+    pub hi: u64,
+    /// The partition.
+    pub part: u32,
+}
+
+/// What lies of the leg between two ranks.
+fn cut_leg(leg: &Leg, lo: u64, hi: u64) -> CLeg
+    ensures { result ≡ cut_leg lo hi leg.now }
+{
+    CLeg {
+        lo: leg.span.lo().rank().max(lo),
+        hi: leg.span.hi().rank().min(hi),
+        part: leg.part.get(),
+    }
+}
+
+/// Puts what lies of the legs between two ranks to the front of the room, up to the last that lies
+/// below the second or that the room holds. Answers how many those are.
+fn cut_into(legs: &[Leg], lo: u64, hi: u64, room: &mut [CLeg]) -> usize
+    ensures legs { room.new ≡ over (take (length room.old) (cut_legs lo hi legs.now)) room.old }
+    ensures count { result ≡ length (take (length room.old) (cut_legs lo hi legs.now)) }
+{
+    let most = room.len().min(legs.len());
+    let mut count = 0;
+    while count < most {
+        let leg = &legs[count];
+        if leg.span.lo().rank() >= hi {
+            return count;
+        }
+        room[count] = cut_leg(leg, lo, hi);
+        count += 1;
+    }
+    count
+}
+
+/// Puts the legs of the table from rank `lo` to rank `hi` to the front of the room, as many as it
+/// holds, and answers how many those are. None where no key lies between them, or one is no bound.
+pub(crate) fn put_legs(table: &RouteTable, lo: u64, hi: u64, room: &mut [CLeg]) -> usize
+    ensures legs { room.new ≡ over (that_fit (legs_by (owner_of table.now) lo hi) room.old) room.old }
+    ensures count { result ≡ length (that_fit (legs_by (owner_of table.now) lo hi) room.old) }
+{
+    let Some(_) = Bound::of_rank(hi) else {
+        return 0;
+    };
+    let Some(from) = Key::of_rank(lo) else {
+        return 0;
+    };
+    if lo >= hi {
+        return 0;
+    }
+    let first = table.place(from);
+    cut_into(&table.entries()[first..], lo, hi, room)
+}

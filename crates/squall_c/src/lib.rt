@@ -1,0 +1,29 @@
+//! Routers, views and errands for C.
+//!
+//! Each handle that C holds leads to a slot: a router, a view or an errand, or why there is none.
+//! What a call does is a function over slots, which has its whole contract; an export only turns
+//! pointers into borrows and says that contract again.
+#![tactic(auto)]
+
+mod errand_exports;
+mod errands;
+mod exports;
+mod feeding;
+mod frames;
+mod handles;
+mod legs;
+mod reports;
+mod router;
+mod status;
+mod view_exports;
+mod views;
+
+pub use errands::{ErrandSlot, errand_may_cross};
+pub use handles::{CErrand, CRouter, CView};
+pub use legs::CLeg;
+pub use router::{RouterSlot, Station, slot_may_cross};
+pub use status::Cause;
+pub use views::{View, ViewSlot, view_may_cross, views_answer_as_their_router};
+
+#[cfg(test)]
+mod tests;

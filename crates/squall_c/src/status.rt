@@ -1,0 +1,162 @@
+//! The numbers that say how a call ended.
+
+ghost use Rattle.std.specs.Prelude.{◌≡◌, ◌≢◌, ◌≤◌, is_ok, if◌then◌else◌};
+ghost use Rattle.squall_plan.specs.declared.fault.PlanFault.TheVariants.{NoMemory};
+ghost use Rattle.squall_wire.specs.declared.fault.WireFault.TheVariants.{NoMemory as NoMemoryForFrame};
+ghost use Rattle.squall_c.specs.Status.{ok, no_memory, no_place, plan_status, plan_place, wire_status, heard_status, cause_with, cause_of_fault};
+
+use squall_plan::PlanFault;
+use squall_wire::WireFault;
+use std::alloc::AllocError;
+
+/// It was done.
+pub(crate) const OK: u32 = 0;
+
+/// An allocation failed.
+pub(crate) const NO_MEMORY: u32 = 1;
+
+/// A number lies outside its limits, or a span has no key.
+pub(crate) const LIMIT: u32 = 2;
+
+/// There is no router behind the handle.
+pub(crate) const CLOSED: u32 = 3;
+
+/// A fault ended the stream of frames before.
+pub(crate) const FAILED: u32 = 4;
+
+/// It does not fit a frame.
+pub(crate) const TOO_LONG: u32 = 5;
+
+/// No digest was heard.
+pub(crate) const NO_DIGEST: u32 = 6;
+
+/// No partition.
+pub(crate) const NOWHERE: u32 = 4294967295;
+
+/// No entry of a plan, and no key.
+pub(crate) const NO_PLACE: u64 = 18446744073709551615;
+
+/// Added to the number of a fault of the old plan.
+pub(crate) const IN_OLD_PLAN: u32 = 0;
+
+/// Added to the number of a fault of the new plan.
+pub(crate) const IN_NEW_PLAN: u32 = 20;
+
+/// Why a call did nothing.
+#[derive(Clone, Copy, Debug, PartialEq, Eq)]
+pub struct Cause {
+    /// The number that says so.
+    pub status: u32,
+    /// Where a fault of a plan lies: the index of its entry, or the rank of its bound.
+    pub at: u64,
+}
+
+impl Cause {
+    /// The cause that lies in no plan.
+    pub(crate) fn with(status: u32) -> Cause
+        ensures { result ≡ cause_with status }
+    {
+        Cause {
+            status,
+            at: NO_PLACE,
+        }
+    }
+
+    /// The fault of a plan, to whose number so much is added.
+    pub(crate) fn of_fault(added: u32, fault: &PlanFault) -> Cause
+        requires { added ≤ 20 }
+        ensures cause { result ≡ cause_of_fault added fault.now }
+        ensures told { fault.now ≢ NoMemory → result.status ≢ no_memory }
+        ensures memory { fault.now ≡ NoMemory → result ≡ cause_with no_memory }
+    {
+        Cause {
+            status: plan_status(added, fault),
+            at: plan_place(fault),
+        }
+    }
+}
+
+impl From<AllocError> for Cause {
+    ghost use Rattle.std.specs.Prelude.{◌≡◌};
+    ghost use Rattle.squall_c.specs.Status.{no_memory, cause_with};
+
+    ghost from_gives = { λ _ e. e ≡ cause_with no_memory };
+
+    fn from(_error: AllocError) -> Cause {
+        Cause::with(NO_MEMORY)
+    }
+}
+
+/// The number of a fault of a plan, where so much is added to it.
+fn plan_status(added: u32, fault: &PlanFault) -> u32
+    requires { added ≤ 20 }
+    ensures { result ≡ plan_status added fault.now }
+{
+    match fault {
+        PlanFault::Json => 11 + added,
+        PlanFault::Shape(_) => 12 + added,
+        PlanFault::BadPart(_) => 13 + added,
+        PlanFault::BadBound(_) => 14 + added,
+        PlanFault::EmptyRange(_) => 15 + added,
+        PlanFault::TooMany => 16 + added,
+        PlanFault::Overlap(_) => 17 + added,
+        PlanFault::Gap(_) => 18 + added,
+        PlanFault::NoMemory => NO_MEMORY,
+    }
+}
+
+/// Where a fault of a plan lies.
+fn plan_place(fault: &PlanFault) -> u64
+    ensures { result ≡ plan_place fault.now }
+{
+    match fault {
+        PlanFault::Shape(Some(entry)) => *entry as u64,
+        PlanFault::BadPart(entry) => *entry as u64,
+        PlanFault::BadBound(entry) => *entry as u64,
+        PlanFault::EmptyRange(entry) => *entry as u64,
+        PlanFault::Overlap(bound) => bound.rank(),
+        PlanFault::Gap(bound) => bound.rank(),
+        PlanFault::Json => NO_PLACE,
+        PlanFault::Shape(None) => NO_PLACE,
+        PlanFault::TooMany => NO_PLACE,
+        PlanFault::NoMemory => NO_PLACE,
+    }
+}
+
+/// The number of a fault of a frame. A feed tells neither `Short` nor want of memory.
+fn wire_status(fault: WireFault) -> u32
+    ensures { result ≡ wire_status fault }
+{
+    match fault {
+        WireFault::Magic => 51,
+        WireFault::Version => 52,
+        WireFault::Kind => 53,
+        WireFault::TooLong => 54,
+        WireFault::Short => 55,
+        WireFault::Count => 56,
+        WireFault::Range => 57,
+        WireFault::Order => 58,
+        WireFault::Spare => 59,
+        WireFault::NoMemory => NO_MEMORY,
+    }
+}
+
+/// The number of what ended a stream, or that nothing did.
+pub(crate) fn heard_status(fault: Option<WireFault>) -> u32
+    ensures { result ≡ heard_status fault }
+{
+    match fault {
+        Some(fault) => wire_status(fault),
+        None => OK,
+    }
+}
+
+/// How a call ended that fails only where an allocation fails, or where a count of owners is full.
+pub(crate) fn memory_status(outcome: Result<(), AllocError>) -> u32
+    ensures { result ≡ (if is_ok outcome then ok else no_memory) }
+{
+    match outcome {
+        Ok(()) => OK,
+        Err(_) => NO_MEMORY,
+    }
+}

@@ -1,0 +1,67 @@
+//! Frames that come in and go out.
+
+use super::{DIGEST, LOAD, NO_ROWS, OPENING, rank, router};
+use crate::feeding::feed;
+use crate::frames::{gather_board, gather_digest, gather_repair, next_frame};
+use crate::reports::opened;
+use crate::router::route;
+use std::test::Fail;
+
+#[test]
+fn frames_in_pieces(rt: HostRuntime) {
+    let mut slot = router(rt.alloc());
+    assert!(rt; feed(&mut slot, &LOAD[..10]) == 0);
+    assert!(rt; route(&slot, rank(2, 0)) == 1);
+    assert!(rt; feed(&mut slot, &LOAD[10..]) == 0);
+    assert!(rt; route(&slot, rank(2, 0)) == 3);
+    assert!(rt; feed(&mut slot, &[84]) == 51);
+    assert!(rt; feed(&mut slot, &[83]) == 4);
+}
+
+#[test]
+fn messages_before_a_fault_are_heard(rt: HostRuntime) -> Result<(), Fail> {
+    let mut slot = router(rt.alloc());
+    let mut bytes = Vec::from_slice(rt.alloc(), &LOAD)?;
+    bytes.extend_from_slice(&[83, 81, 3])?;
+    assert!(rt; feed(&mut slot, &bytes) == 52);
+    assert!(rt; route(&slot, rank(2, 0)) == 3);
+    Ok(())
+}
+
+#[test]
+fn frame_of_the_board(rt: HostRuntime) {
+    let mut slot = router(rt.alloc());
+    let mut room = [0u8; 24];
+    assert!(rt; opened(&mut slot, 1, 0) == 0);
+    assert!(rt; next_frame(&mut slot, &mut room) == 0);
+    assert!(rt; gather_board(&mut slot) == 0);
+    assert!(rt; next_frame(&mut slot, &mut room[..23]) == 24 && room[0] == 0);
+    assert!(rt; next_frame(&mut slot, &mut room) == 24);
+    assert!(rt; room == OPENING);
+    assert!(rt; next_frame(&mut slot, &mut room) == 0);
+}
+
+#[test]
+fn frame_of_the_digest(rt: HostRuntime) {
+    let mut slot = router(rt.alloc());
+    let mut room = [0u8; 64];
+    assert!(rt; feed(&mut slot, &LOAD) == 0);
+    assert!(rt; gather_digest(&mut slot) == 0);
+    assert!(rt; next_frame(&mut slot, &mut room) == 56);
+    assert!(rt; room[..56] == DIGEST[..]);
+}
+
+#[test]
+fn repair_by_the_last_digest(rt: HostRuntime) {
+    let mut slot = router(rt.alloc());
+    let mut room = [0u8; 64];
+    assert!(rt; feed(&mut slot, &LOAD) == 0);
+    assert!(rt; gather_repair(&mut slot) == 6);
+    assert!(rt; feed(&mut slot, &NO_ROWS) == 0);
+    assert!(rt; gather_repair(&mut slot) == 0);
+    assert!(rt; next_frame(&mut slot, &mut room) == 49);
+    assert!(rt; room[..49] == LOAD[..]);
+    assert!(rt; feed(&mut slot, &DIGEST) == 0);
+    assert!(rt; gather_repair(&mut slot) == 0);
+    assert!(rt; next_frame(&mut slot, &mut room) == 0);
+}
