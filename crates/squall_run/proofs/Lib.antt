@@ -1,12 +1,3 @@
-pub mod Answered
-pub mod Boards
-pub mod Heard
-pub mod ShownLegs
-pub mod Reported
-pub mod LineTexts
-pub mod LineWords
 pub mod Outputs
-pub mod BoardLists
-pub mod Refusals
 pub mod Sent
 pub mod TaskLemmas

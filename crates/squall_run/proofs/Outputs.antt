@@ -12,8 +12,8 @@ use Rattle.squall_course.specs.declared.moving.Move.{Move}
 use Rattle.squall_course.specs.Moves.{moves_of}
 use Rattle.squall_course.specs.Subplans.{subplan_count}
 use Rattle.squall_run.specs.Output.{range_line, range_lines, refusal, check_of_plan, check_of, move_line, move_lines, count_lines, course_of_plans, course_of}
-use Rattle.squall_run.specs.Text.{EndsInRefusal, EndsInNoRefusal}
-use Rattle.squall_run.proofs.LineTexts.{no_lf, decimal_no_lf, span_no_lf, fault_no_lf, spells_lf, spells_glued, differs_at, Lacks, lacks_line, lacks_append, lacks_each, last_is, last_lacks}
+use Rattle.squall_language.specs.Endings.{EndsInRefusal, EndsInNoRefusal}
+use Rattle.squall_language.proofs.LineTexts.{no_lf, decimal_no_lf, span_no_lf, fault_no_lf, spells_lf, spells_glued, differs_at, Lacks, lacks_line, lacks_append, lacks_each, last_is, last_lacks}
 
 abbrev word : List ℕ
 word = codes "refused "

@@ -1,19 +1,19 @@
 -- What is done with the bytes of one file, for the functions that do the tasks.
 use Rattle.std.specs.Prelude.{◌≡◌, ◌≢◌, ℕ, ◌<◌, List, Result, Err}
-use Rattle.squall_lines.specs.Script.{IsOutcomeOf}
+use Rattle.squall_lines.specs.Script.{IsOutcome}
 use Rattle.squall_lines.specs.declared.Ended.{Ended}
 use Rattle.squall_lines.specs.declared.RunFault.{RunFault}
 use Rattle.squall_lines.specs.declared.RunFault.TheVariants.{Write}
 use Rattle.squall_run.specs.declared.tasks.Purpose.{Purpose}
 use Rattle.squall_run.specs.declared.tasks.Purpose.TheVariants as purpose
-use Rattle.squall_run.specs.Text.{script_of}
+use Rattle.squall_scenario.specs.Text.{IsScript}
 use Rattle.squall_run.specs.Output.{check_of, IsWritten}
 use Rattle.squall_run.specs.Tasks.{status_of, Bytes, RunsWith, ChecksWith}
 
 -- what is written for the bytes that were read, by how it ended
 abbrev pub IsAnswered : Purpose → Result Ended RunFault → List ℕ → List ℕ → Type 0
 IsAnswered purpose.Check outcome read written = IsWritten outcome (check_of read) written
-IsAnswered purpose.Run outcome read written = IsOutcomeOf outcome script_of read written
+IsAnswered purpose.Run outcome read written = IsOutcome outcome IsScript read written
 
 -- the status comes only once all bytes are read
 abbrev pub NeedsAll : Purpose → ℕ → Type 0

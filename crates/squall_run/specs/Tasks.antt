@@ -3,13 +3,13 @@ use Rattle.std.specs.Prelude.{◌≡◌, ◌⊎◌, ℕ, ◌<◌, ◌≤◌, Lis
 use Rattle.std.specs.Io.{StartsWith}
 use Rattle.std.specs.Io.KnownBytes.{Appends, Consumes, IsAtEnd}
 use Rattle.squall_device.specs.Counts.{IsCountedSince, times_more}
-use Rattle.squall_lines.specs.Script.{IsOutcomeOf, read_limit}
+use Rattle.squall_lines.specs.Script.{IsOutcome, read_limit}
 use Rattle.squall_lines.specs.declared.Ended.{Ended}
 use Rattle.squall_lines.specs.declared.Ended.TheVariants.{Fine, Refused}
 use Rattle.squall_lines.specs.declared.RunFault.{RunFault}
 use Rattle.squall_lines.specs.declared.RunFault.TheVariants.{Read, Write, NoMemory}
 use Rattle.squall_command.specs.Line.{Job, check, course, run, title}
-use Rattle.squall_run.specs.Text.{script_of}
+use Rattle.squall_scenario.specs.Text.{IsScript}
 use Rattle.squall_run.specs.Output.{check_of, course_of, IsWritten}
 use Rattle.squall_run.specs.Files.{KnownFile, is_input, BeginsFile, IsWholeFile}
 
@@ -45,7 +45,7 @@ ReadsAll before after name read = MatchBool (is_input name) (IsAtEnd after.input
 abbrev pub RunsWith : Bytes → Bytes → List ℕ → ℕ → Type 0
 RunsWith before after name status =
     (outcome : Result Ended RunFault) × (read : List ℕ) × (written : List ℕ)
-    × (status ≡ status_of outcome) × Appends before.output after.output written × IsOutcomeOf outcome script_of read written
+    × (status ≡ status_of outcome) × Appends before.output after.output written × IsOutcome outcome IsScript read written
     × ReadsFrom before after name read × (status ≡ 0 → ReadsAll before after name read)
 
 -- a plan is checked: the check of what was read is written as far as the outcome with that status says, and it is judged only

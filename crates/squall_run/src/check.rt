@@ -7,8 +7,8 @@ ghost use Rattle.squall_run.specs.Tasks.{InputFails, OutputFails};
 ghost use Rattle.squall_run.specs.Output.{range_lines, refusal, check_of, IsReady, IsWritten};
 
 use crate::output::write_output;
-use crate::replies::read_plan;
 use squall_device::{Sink, Source};
+use squall_language::read_plan;
 use squall_lines::{Ended, RunFault, read_all};
 use squall_plan::{PlanFault, PlanRange};
 use std::alloc::{AllocError, Global};

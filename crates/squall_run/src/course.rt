@@ -7,10 +7,11 @@ ghost use Rattle.squall_run.specs.Output.{move_lines, count_lines, course_lines,
 
 use crate::check::add_refusal;
 use crate::output::write_output;
-use crate::replies::{first_course, read_plan};
 use squall_course::{Course, Move};
 use squall_device::Sink;
+use squall_language::read_plan;
 use squall_lines::{Ended, RunFault};
+use squall_scenario::first_course;
 use std::alloc::{AllocError, Global};
 
 /// Adds the lines of the moves.

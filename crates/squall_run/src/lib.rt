@@ -1,38 +1,30 @@
-//! Scenarios: lines that set up plans, bring reports and ask for routes, and their answers.
+//! What the program does: it runs scenarios, checks plans and shows courses.
 #![tactic(auto)]
 
 ghost use Rattle.std.specs.Prelude.{◌≡◌, ◌⊎◌, ◌+◌, ◌≤◌, ℕ, List, Ok, Err};
 ghost use Rattle.std.specs.Io.KnownBytes.{Appends, Consumes, IsAtEnd};
 ghost use Rattle.squall_device.specs.Counts.{IsCountedSince, times_more};
-ghost use Rattle.squall_lines.specs.Script.{IsOutcomeOf, read_limit};
-ghost use Rattle.squall_run.specs.Text.{script_of};
+ghost use Rattle.squall_lines.specs.Script.{IsOutcome, read_limit};
+ghost use Rattle.squall_scenario.specs.Text.{IsScript};
 
-mod board_text;
 mod check;
-mod command;
 mod course;
 mod files;
-mod frames;
 mod laws;
-mod legs;
 mod messages;
 mod output;
 mod program;
-mod reason;
-mod replies;
-mod scenario;
 mod tasks;
 
 pub use check::check_text;
 pub use course::course_text;
 pub use files::Files;
-pub use laws::{
-    fine_has_no_bad_line, refused_check_ends_in_a_refusal, refused_course_ends_in_a_refusal,
-    refused_ends_in_a_bad_line,
-};
+pub use laws::{refused_check_ends_in_a_refusal, refused_course_ends_in_a_refusal};
 pub use program::perform;
 pub use squall_device::{DeviceFault, Reader, Sink, Source, Writer};
 pub use squall_lines::{Ended, MOST_READS, RunFault};
+use squall_scenario::Scenario;
+pub use squall_scenario::{fine_has_no_bad_line, one_script, refused_ends_in_a_bad_line};
 use std::alloc::Global;
 
 /// Answers the lines of a scenario: reads them from `reader` to the end of the input, or to a bad
@@ -49,11 +41,11 @@ pub fn run_text<S: Source, K: Sink>(
     reader: &mut S,
     writer: &mut K,
 ) -> Result<Ended, RunFault>
-    // What is written is the text of what was read, and nothing else.
+    // What is written is the answers of the one script of the lines that were read, and nothing else.
     ensures text { (read : List ℕ) × (written : List ℕ)
         × Consumes (S.remaining reader.old) (S.remaining reader.new) read
         × Appends (K.contents writer.old) (K.contents writer.new) written
-        × IsOutcomeOf result script_of read written }
+        × IsOutcome result IsScript read written }
 
     // Fine comes only where a read found the end, and nothing is left.
     ensures fine { result ≡ Ok Ended.Fine → IsCountedSince (S.ends reader.old) (S.ends reader.new) }
@@ -67,7 +59,7 @@ pub fn run_text<S: Source, K: Sink>(
 
     ensures reads { S.reads reader.new ≤ S.reads reader.old + read_limit }
 {
-    let mut scenario = scenario::start(alloc);
+    let mut scenario = Scenario::new(alloc);
     squall_lines::run(alloc, &mut scenario, reader, writer)
 }
 

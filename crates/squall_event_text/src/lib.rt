@@ -1,0 +1,15 @@
+//! Events of a world as lines, and their answers as texts.
+#![tactic(auto)]
+
+mod answers;
+mod events;
+mod most;
+mod nodes;
+mod words;
+
+pub use answers::add_answer;
+pub use events::{Unfit, event_of};
+pub use words::{EventWords, NodeWords, event_line};
+
+#[cfg(test)]
+mod tests;

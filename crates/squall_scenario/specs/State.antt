@@ -1,0 +1,38 @@
+-- The state of a scenario: what its lines have set up so far (this project's scenario language).
+use Rattle.std.specs.Prelude.{ℕ, Bool, List, [], true, false}
+use Rattle.squall_plan.specs.declared.range.PlanRange.{PlanRange}
+use Rattle.squall_board.specs.Boards.{BoardValue, empty_board}
+use Rattle.squall_wire.specs.Hearing.{FeedValue, feed_with}
+use Rattle.squall_protocol.specs.Worlds.{WorldValue}
+
+-- how far a scenario is, whose worlds are seen as a W: no plan is read; the old one is; both are; or a world takes events
+pub data StageOf (W : Type 0) : Type 0 where
+  NoPlan : StageOf W
+  OldPlan : List PlanRange → StageOf W
+  BothPlans : List PlanRange → List PlanRange → StageOf W
+  InWorld : W → StageOf W
+
+-- a scenario after some lines: how many lines there were, bad and skipped ones too, how far it is, the board of what
+-- was reported, and the feed that hears frames. In a world both rest: its nodes have boards of their own.
+pub record ScenarioOf (W : Type 0) : Type 0 where
+  pub line : ℕ
+  pub stage : StageOf W
+  pub board : BoardValue
+  pub feed : FeedValue
+
+abbrev pub StageState : Type 0
+StageState = StageOf WorldValue
+
+abbrev pub ScenarioState : Type 0
+ScenarioState = ScenarioOf WorldValue
+
+-- a scenario before its first line
+abbrev pub at_start : ScenarioState
+at_start = record { line = 0; stage = NoPlan; board = empty_board; feed = feed_with [] false }
+
+-- whether a world takes events
+abbrev pub has_world : StageState → Bool
+has_world NoPlan = false
+has_world (OldPlan old) = false
+has_world (BothPlans old new) = false
+has_world (InWorld w) = true
