@@ -72,7 +72,7 @@ fn piece_frame(alloc: Global, piece: &Delta) -> Result<Vec<u8>, AllocError>
 {
     match encode_board(alloc, piece) {
         Ok(frame) => Ok(frame),
-        // Each piece fits a frame, so that only the want of memory is left.
+        // Each piece fits a frame, so that only a failed allocation is left.
         Err(_) => Err(AllocError),
     }
 }

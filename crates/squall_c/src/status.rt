@@ -123,7 +123,7 @@ fn plan_place(fault: &PlanFault) -> u64
     }
 }
 
-/// The number of a fault of a frame. A feed tells neither `Short` nor want of memory.
+/// The number of a fault of a frame. A feed tells neither `Short` nor a failed allocation.
 fn wire_status(fault: WireFault) -> u32
     ensures { result ≡ wire_status fault }
 {

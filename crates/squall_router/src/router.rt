@@ -71,7 +71,7 @@ fn course_of(
     let Some((number, issue)) = newest else {
         return first.again();
     };
-    // Nothing is issued under the number 0, so no fault of a course is left but the want of memory.
+    // Nothing is issued under the number 0, so no fault of a course is left but a failed allocation.
     match Course::new(alloc, *number, issue.old(), issue.new_plan()) {
         Ok(course) => Ok(Shared::new(Arc::new(alloc, course)?)),
         Err(_) => Err(AllocError),

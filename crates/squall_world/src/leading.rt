@@ -105,7 +105,7 @@ impl Net {
         self.peers.reserve(parts.len())?;
         let course = match self.peers[0].begin(plan, report) {
             Ok(course) => course,
-            // The leader is done, and there is a number: no fault is left but the want of memory.
+            // The leader is done, and there is a number: no fault is left but a failed allocation.
             Err(_) => return Err(AllocError),
         };
         add(

@@ -238,7 +238,7 @@ fn many_senders(rt: HostRuntime) -> Result<(), Fail> {
     Ok(())
 }
 
-/// Whether a race ends as it has to, or is refused for want of memory, or of a place or a thread that
+/// Whether a race ends as it has to, or is refused for a failed allocation, or for a place or a thread that
 /// takes memory.
 fn well_or_refused<R: Threads + Wait + Sync>(
     rt: &R,
