@@ -9,6 +9,8 @@ use squall_run::{Files, Reader, Writer, perform};
 use std::fs::File;
 use std::io::ErrorKind;
 use std::process::ExitCode;
+use std::sync::Wait;
+use std::thread::Threads;
 use std::{env, io};
 
 /// The files of the system, of which no proof knows the bytes.
@@ -37,8 +39,9 @@ fn words_given(rt: &HostRuntime) -> io::Result<Vec<String>> {
     Ok(words)
 }
 
-/// Does what the words ask for, and gives the status.
-fn run(rt: &HostRuntime) -> io::Result<u8> {
+/// Does what the words ask for, and gives the status. A race starts its threads by `threads`, and
+/// waits for them.
+fn run<R: Threads + Wait + Sync>(rt: &HostRuntime, threads: &R) -> io::Result<u8> {
     let given = words_given(rt)?;
     let mut words = Vec::new(rt.alloc());
     for word in &given {
@@ -49,6 +52,7 @@ fn run(rt: &HostRuntime) -> io::Result<u8> {
     let mut out = Writer::new(rt.stdout());
     let mut err = Writer::new(rt.stderr());
     Ok(perform(
+        threads,
         rt.alloc(),
         &words,
         &mut files,
@@ -59,7 +63,8 @@ fn run(rt: &HostRuntime) -> io::Result<u8> {
 }
 
 fn main(rt: HostRuntime) -> ExitCode {
-    let status = match run(&rt) {
+    // The runtime is a handle for threads in `main` alone.
+    let status = match run(&rt, &rt) {
         Ok(status) => status,
         Err(error) if error.kind() == ErrorKind::OutOfMemory => {
             // Where standard error fails too, the status alone tells.

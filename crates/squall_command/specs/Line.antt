@@ -9,7 +9,7 @@ use Rattle.clap.specs.declared.builder.ArgAction.TheVariants.{Set}
 use Rattle.clap.specs.declared.error.kind.ErrorKind.{ErrorKind}
 use Rattle.clap.specs.declared.error.kind.ErrorKind.TheVariants.{DisplayHelp, DisplayVersion}
 use Rattle.squall_command.specs.declared.task.Task.{Task}
-use Rattle.squall_command.specs.declared.task.Task.TheVariants.{Check, Course, Run}
+use Rattle.squall_command.specs.declared.task.Task.TheVariants.{Check, Course, Run, Race}
 
 -- a file's name, which has to be there
 abbrev pub file_rule : Text → Rule
@@ -24,13 +24,20 @@ course_shape = (with_rule (with_rule (new_app (codes "course")) (file_rule (code
 abbrev pub run_shape : Shape
 run_shape = (with_rule (new_app (codes "run")) (file_rule (codes "FILE"))).top
 
+abbrev pub race_shape : Shape
+race_shape = (with_rule (new_app (codes "race")) (file_rule (codes "FILE"))).top
+
 -- the program without its commands: it has a version, and no command `help` of `clap`'s
 abbrev pub program_app : App
 program_app = on_top (λ s. record s { has_version = true; disable_help_subcommand = true }) (new_app (codes "squall"))
 
--- the commands `check PLAN`, `course OLD NEW` and `run FILE`
+-- the commands about plans: `check PLAN` and `course OLD NEW`
+abbrev pub plans_app : App
+plans_app = with_subcommand (with_subcommand program_app check_shape) course_shape
+
+-- all commands: those about plans, `run FILE` and `race FILE`
 abbrev pub squall_app : App
-squall_app = with_subcommand (with_subcommand (with_subcommand program_app check_shape) course_shape) run_shape
+squall_app = with_subcommand (with_subcommand plans_app run_shape) race_shape
 
 -- `help` and what follows it are read as what follows it and `--help`: `help run` as `run --help`
 abbrev pub plain_words : List Text → List Text
@@ -44,11 +51,13 @@ pub data Job : Type 0 where
   check : List ℕ → Job
   course : List ℕ → List ℕ → Job
   run : List ℕ → Job
+  race : List ℕ → Job
 
 abbrev pub job_seen : Task → Job
 job_seen (Check plan) = check (string_bytes plan)
 job_seen (Course old new) = course (string_bytes old) (string_bytes new)
 job_seen (Run file) = run (string_bytes file)
+job_seen (Race file) = race (string_bytes file)
 
 -- the file that stands for an argument: words without one that has to be there have a fault
 abbrev pub file_in : Text → List Row → List ℕ
@@ -59,7 +68,8 @@ abbrev pub job_in : Text → List Row → Job
 job_in name rows =
     if bytes_eq name (codes "check") then check (file_in (codes "PLAN") rows)
     else (if bytes_eq name (codes "course") then course (file_in (codes "OLD") rows) (file_in (codes "NEW") rows)
-    else run (file_in (codes "FILE") rows))
+    else (if bytes_eq name (codes "race") then race (file_in (codes "FILE") rows)
+    else run (file_in (codes "FILE") rows)))
 
 -- without a command it is to run standard input
 abbrev pub job_of : Option (Text × List Row) → Job

@@ -10,6 +10,3 @@ mod task;
 pub use laws::{a_fault_is_help_or_bad, standard_input};
 pub use line::{command, message};
 pub use task::{LineFault, Task};
-
-#[cfg(test)]
-mod tests;

@@ -35,6 +35,9 @@ fn task_in(alloc: Global, name: &str, matches: &ArgMatches) -> Result<Task, Allo
         let new = file(alloc, matches, "NEW")?;
         return Ok(Task::Course(old, new));
     }
+    if name == "race" {
+        return Ok(Task::Race(file(alloc, matches, "FILE")?));
+    }
     Ok(Task::Run(file(alloc, matches, "FILE")?))
 }
 
@@ -76,7 +79,7 @@ fn plain<'a>(alloc: Global, words: &'a [&'a str]) -> Result<Vec<&'a str>, AllocE
 }
 
 /// What the words of a command line ask for, the program's name first: `check PLAN`,
-/// `course OLD NEW`, `run FILE`, or without a command to run standard input.
+/// `course OLD NEW`, `run FILE`, `race FILE`, or without a command to run standard input.
 ///
 /// `Help` where they ask for help, by `-h`, `--help` or `help`, or for the version, by `-V` or
 /// `--version`; `Bad` where they are no such command line; `NoMemory` where an allocation failed.

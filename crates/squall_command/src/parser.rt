@@ -3,7 +3,7 @@
 ghost use Rattle.std.specs.Prelude.{◌≡◌, IfOk, false};
 ghost use Rattle.clap.specs.Words.{app_of, shape_of, rule_of};
 ghost use Rattle.clap.specs.declared.builder.command.Command.TheViews.{out-Command as fields_of};
-ghost use Rattle.squall_command.specs.Line.{squall_app, program_app, check_shape, course_shape, run_shape, file_rule};
+ghost use Rattle.squall_command.specs.Line.{squall_app, plans_app, program_app, check_shape, course_shape, run_shape, race_shape, file_rule};
 
 use clap::{Arg, ArgAction, Command};
 use std::alloc::{AllocError, Global};
@@ -23,8 +23,10 @@ Example:
   squall check new.json
   squall course old.json new.json
   squall run scenario.txt
+  squall race race.txt
 
-squall help COMMAND shows the help of a command, and squall help run the lines of a scenario.";
+squall help COMMAND shows the help of a command: squall help run the lines of a scenario, and
+squall help race those of a race.";
 
 const SCENARIO: &str = "Lines of a scenario, one question or report each:
   old JSON            the old plan, first: {\"plan\":[{\"part\":1,\"from\":[0,0],\"to\":\"end\"}]}
@@ -39,6 +41,17 @@ const SCENARIO: &str = "Lines of a scenario, one question or report each:
   hear HEX            hears the next bytes of a stream of frames, and takes their reports
   frame               asks for the frame of the board
   # REMARK            is skipped, as is a line without words";
+
+const RACE: &str = "Lines of a race, which is run once all of them are read:
+  old JSON    the old plan, first: {\"plan\":[{\"part\":1,\"from\":[0,0],\"to\":\"end\"}]}
+  new JSON    the new plan, before all lines below
+  capacity C  how many letters the inbox holds, 1 to 65536; 16 without this line
+  readers N   how many threads route each key once, at most 64; 1 without this line
+  senders N   how many threads post reports, 1 to 64, before the first report; 2 without this line
+  N REPORT    sender N, counted from 0, posts this report: a line loaded, done or opened
+              of a scenario
+  key K       the board at the end shows the route of key K
+  # REMARK    is skipped, as is a line without words";
 
 /// A file's name, which has to be there.
 fn file<'a>(alloc: Global, name: &'a str, help: &'a str) -> Arg<'a>
@@ -87,6 +100,19 @@ fn run_command<'a>(alloc: Global) -> Result<Command<'a>, AllocError>
         .arg(file(alloc, "FILE", "The file of the scenario, or -"))
 }
 
+/// `race FILE`
+fn race_command<'a>(alloc: Global) -> Result<Command<'a>, AllocError>
+    ensures shape { IfOk result (λ c. shape_of c ≡ race_shape) }
+    ensures globals { IfOk result (λ c. (fields_of c).has_globals ≡ false) }
+{
+    Command::new(alloc, "race")
+        .about(
+            "Runs senders, readers and an owner as threads at once, and shows the board they come to",
+        )
+        .after_help(RACE)
+        .arg(file(alloc, "FILE", "The file of the race, or -"))
+}
+
 /// The program without its commands. `help` is no command of its own: it is read as `--help`.
 fn program<'a>(alloc: Global) -> Command<'a>
     ensures { app_of result ≡ program_app }
@@ -98,12 +124,20 @@ fn program<'a>(alloc: Global) -> Command<'a>
         .after_help(AFTER_HELP)
 }
 
+/// The program with its commands about plans.
+fn with_plans<'a>(alloc: Global) -> Result<Command<'a>, AllocError>
+    ensures { IfOk result (λ c. app_of c ≡ plans_app) }
+{
+    program(alloc)
+        .subcommand(check_command(alloc)?)?
+        .subcommand(course_command(alloc)?)
+}
+
 /// The program's command line.
 pub(crate) fn parser<'a>(alloc: Global) -> Result<Command<'a>, AllocError>
     ensures { IfOk result (λ c. app_of c ≡ squall_app) }
 {
-    program(alloc)
-        .subcommand(check_command(alloc)?)?
-        .subcommand(course_command(alloc)?)?
-        .subcommand(run_command(alloc)?)
+    with_plans(alloc)?
+        .subcommand(run_command(alloc)?)?
+        .subcommand(race_command(alloc)?)
 }

@@ -11,6 +11,8 @@ pub enum Task {
     Course(String, String),
     /// To run the scenario of a file.
     Run(String),
+    /// To run the race of a file.
+    Race(String),
 }
 
 /// Why the words ask for no task.

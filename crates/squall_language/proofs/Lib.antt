@@ -1,3 +1,4 @@
 pub mod LineTexts
 pub mod Boards
 pub mod BoardLists
+pub mod BadLines

@@ -12,6 +12,3 @@ pub use board_text::add_board;
 pub use plans::read_plan;
 pub use reason::{Reason, add_bad_line};
 pub use reports::{ReportWords, report_line};
-
-#[cfg(test)]
-mod tests;

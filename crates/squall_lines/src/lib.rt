@@ -17,6 +17,7 @@ use thiserror::Error;
 mod block;
 mod input;
 mod laws;
+mod line;
 pub mod machine;
 mod output;
 pub mod words;
@@ -25,6 +26,7 @@ use block::{take_block, take_last};
 use input::block_room;
 pub use input::read_all;
 pub use laws::outcome_of_function;
+pub use line::next_line;
 use machine::Machine;
 pub use output::send_text;
 
@@ -141,6 +143,3 @@ pub fn run<S: Source, K: Sink, M: Machine>(
     }
     Err(RunFault::Read)
 }
-
-#[cfg(test)]
-mod tests;

@@ -1,5 +1,5 @@
 -- What is written of a text that is ready.
-use Rattle.std.proofs.Common.{◌≡◌, ℕ, List, take, drop, sym, ◌∙◌}
+use Rattle.std.proofs.Common.{◌≡◌, ℕ, List, [], ◌++◌, take, drop, sym, ap, ◌∙◌}
 use Rattle.std.proofs.lemmas.List.{take-append-drop}
 use Rattle.squall_lines.specs.Script.{IsPrefix}
 use Rattle.squall_lines.specs.declared.Ended.{Ended}
@@ -12,3 +12,7 @@ text_ready Refused text said h = h.0
 
 pub front_ready : (ended : Ended) (text : List ℕ) (n : ℕ) (said : Output) → IsReady ended text said → IsPrefix (take n text) said.text
 front_ready ended text n said h = (drop n text, sym (text_ready ended text said h) ∙ sym (take-append-drop n text))
+
+-- a text of what is shown, which was added to an empty one
+pub front_shown : (text old new shown : List ℕ) (n : ℕ) → text ≡ new → new ≡ old ++ shown → old ≡ [] → IsPrefix (take n text) shown
+front_shown text old new shown n here added fresh = (drop n text, sym (ap (λ w. w ++ shown) fresh) ∙ sym added ∙ sym here ∙ sym (take-append-drop n text))

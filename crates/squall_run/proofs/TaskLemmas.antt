@@ -8,7 +8,7 @@ use Rattle.std.specs.Io.KnownBytes.{Consumes}
 use Rattle.squall_lines.specs.declared.RunFault.{RunFault}
 use Rattle.squall_lines.specs.declared.RunFault.TheVariants.{Read, Write, NoMemory}
 use Rattle.squall_lines.specs.Script.{silence}
-use Rattle.squall_command.specs.Line.{Job, check, course, run, title, Asks, AsksForHelp, IsFaulty, shows_help}
+use Rattle.squall_command.specs.Line.{Job, check, course, run, race, title, Asks, AsksForHelp, IsFaulty, shows_help}
 use Rattle.squall_run.specs.declared.tasks.Purpose.{Purpose}
 use Rattle.squall_run.specs.declared.tasks.Purpose.TheVariants as purpose
 use Rattle.squall_run.specs.Files.{KnownFile, Unknown, Missing, Holds, BeginsFile, is_input}
@@ -35,6 +35,7 @@ reads_nothing f f' i o o' name = matched_both (is_input name) (Consumes i i []) 
 pub unopened : (p : Purpose) (f f' : List ℕ → KnownFile) (i o : Option (List ℕ)) (name : List ℕ) (status : ℕ) → status ≡ 3 → IsDoneBy p (bytes_of f i o) (bytes_of f' i o) name status
 unopened purpose.Check f f' i o name status e = (Err Read, [], [], e, Appends-nil o, refl, reads_nothing f f' i o o name, λ l. absurd (omega arith))
 unopened purpose.Run f f' i o name status e = (Err Read, [], [], e, Appends-nil o, (silence, refl, refl), reads_nothing f f' i o o name, λ l. absurd (omega arith))
+unopened purpose.Race f f' i o name status e = (Err Read, [], [], e, Appends-nil o, refl, reads_nothing f f' i o o name, λ l. absurd (omega arith))
 
 -- an allocation failed before the task began
 pub nothing_done : (f : List ℕ → KnownFile) (i o : Option (List ℕ)) (job : Job) (status : ℕ) → status ≡ 4 → IsDone (bytes_of f i o) (bytes_of f i o) job status
@@ -52,11 +53,13 @@ nothing_done f i o (course old new) status e = (
   matched_both (is_input old && is_input new) _ _ refl (reads_nothing f f i o o new, λ l. absurd (omega arith)),
 )
 nothing_done f i o (run name) status e = (Err NoMemory, [], [], e, Appends-nil o, (0, silence, refl, refl), reads_nothing f f i o o name, λ l. absurd (omega arith))
+nothing_done f i o (race name) status e = (Err NoMemory, [], [], e, Appends-nil o, refl, reads_nothing f f i o o name, λ l. absurd (omega arith))
 
 pub not_ended : (job : Job) (status : ℕ) → 2 < status → EndsInput job status → ⊥
 not_ended (check name) status l h = omega (arith, h.1)
 not_ended (course old new) status l h = omega (arith, h.1)
 not_ended (run name) status l h = omega (arith, h.1)
+not_ended (race name) status l h = omega (arith, h.1)
 
 -- ---- courses of which a file was not read
 

@@ -5,7 +5,9 @@ pub use Rattle.squall_lines.specs.Script
 pub use Rattle.squall_language.specs.Endings
 pub use Rattle.squall_scenario.specs.Text
 pub use Rattle.squall_command.specs.Line
+pub use Rattle.squall_race.specs.RaceText
 pub mod Output
+pub mod Races
 pub mod Files
 pub mod Tasks
 pub mod Sources

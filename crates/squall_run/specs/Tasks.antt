@@ -8,9 +8,10 @@ use Rattle.squall_lines.specs.declared.Ended.{Ended}
 use Rattle.squall_lines.specs.declared.Ended.TheVariants.{Fine, Refused}
 use Rattle.squall_lines.specs.declared.RunFault.{RunFault}
 use Rattle.squall_lines.specs.declared.RunFault.TheVariants.{Read, Write, NoMemory}
-use Rattle.squall_command.specs.Line.{Job, check, course, run, title}
+use Rattle.squall_command.specs.Line.{Job, check, course, run, race, title}
 use Rattle.squall_scenario.specs.Text.{IsScript}
 use Rattle.squall_run.specs.Output.{check_of, course_of, IsWritten}
+use Rattle.squall_run.specs.Races.{IsRaced}
 use Rattle.squall_run.specs.Files.{KnownFile, is_input, BeginsFile, IsWholeFile}
 
 -- the status of a task by how it ended
@@ -56,6 +57,14 @@ ChecksWith before after name status =
     × (status ≡ status_of outcome) × Appends before.output after.output written × IsWritten outcome (check_of read) written
     × ReadsFrom before after name read × (status < 2 → ReadsAll before after name read)
 
+-- a race is run: what it shows of what was read is written as far as the outcome with that status says, and it is run or
+-- refused only once all is read
+abbrev pub RacesWith : Bytes → Bytes → List ℕ → ℕ → Type 0
+RacesWith before after name status =
+    (outcome : Result Ended RunFault) × (read : List ℕ) × (written : List ℕ)
+    × (status ≡ status_of outcome) × Appends before.output after.output written × IsRaced outcome read written
+    × ReadsFrom before after name read × (status < 2 → ReadsAll before after name read)
+
 -- the second text of a course: where both names are that of standard input it is empty
 abbrev pub ReadsSecond : Bytes → Bytes → List ℕ → List ℕ → List ℕ → ℕ → Type 0
 ReadsSecond before after old new read status =
@@ -74,6 +83,7 @@ abbrev pub IsDone : Bytes → Bytes → Job → ℕ → Type 0
 IsDone before after (check name) status = ChecksWith before after name status
 IsDone before after (course old new) status = ShowsCourseWith before after old new status
 IsDone before after (run name) status = RunsWith before after name status
+IsDone before after (race name) status = RacesWith before after name status
 
 -- a text that begins with the program's name and version is written, as far as the outcome with that status says
 abbrev pub ShowsHelp : Option (List ℕ) → Option (List ℕ) → ℕ → Type 0
@@ -89,12 +99,14 @@ abbrev pub EndsInput : Job → ℕ → Type 0
 EndsInput (check name) status = (is_input name ≡ true) × (status < 2)
 EndsInput (course old new) status = ((is_input old || is_input new) ≡ true) × (status < 2)
 EndsInput (run name) status = (is_input name ≡ true) × (status ≡ 0)
+EndsInput (race name) status = (is_input name ≡ true) × (status < 2)
 
 -- the task reads a file that is not standard input
 abbrev pub NamesFile : Job → Type 0
 NamesFile (check name) = is_input name ≡ false
 NamesFile (course old new) = (is_input old && is_input new) ≡ false
 NamesFile (run name) = is_input name ≡ false
+NamesFile (race name) = is_input name ≡ false
 
 -- a read failed, or there were as many of them as a run makes at most; by the counts of faults and of reads, before and after
 abbrev pub InputFails : ℕ → ℕ → ℕ → ℕ → Type 0

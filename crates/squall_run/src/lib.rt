@@ -1,4 +1,4 @@
-//! What the program does: it runs scenarios, checks plans and shows courses.
+//! What the program does: it runs scenarios and races, checks plans and shows courses.
 #![tactic(auto)]
 
 ghost use Rattle.std.specs.Prelude.{◌≡◌, ◌⊎◌, ◌+◌, ◌≤◌, ℕ, List, Ok, Err};
@@ -14,6 +14,7 @@ mod laws;
 mod messages;
 mod output;
 mod program;
+mod race;
 mod tasks;
 
 pub use check::check_text;
@@ -21,6 +22,7 @@ pub use course::course_text;
 pub use files::Files;
 pub use laws::{refused_check_ends_in_a_refusal, refused_course_ends_in_a_refusal};
 pub use program::perform;
+pub use race::race_text;
 pub use squall_device::{DeviceFault, Reader, Sink, Source, Writer};
 pub use squall_lines::{Ended, MOST_READS, RunFault};
 use squall_scenario::Scenario;
@@ -62,6 +64,3 @@ pub fn run_text<S: Source, K: Sink>(
     let mut scenario = Scenario::new(alloc);
     squall_lines::run(alloc, &mut scenario, reader, writer)
 }
-
-#[cfg(test)]
-mod tests;

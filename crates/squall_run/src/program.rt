@@ -13,6 +13,8 @@ use squall_command::{LineFault, command, message};
 use squall_device::{Sink, Source};
 use squall_lines::{Ended, RunFault};
 use std::alloc::Global;
+use std::sync::Wait;
+use std::thread::Threads;
 
 /// Shows the help that the words ask for.
 fn show_help<'a, O: Sink, E: Sink>(
@@ -56,12 +58,16 @@ fn show_fault<'a, E: Sink>(alloc: Global, words: &'a [&'a str], err: &mut E) -> 
 ///   `err` says which.
 /// - 4: an allocation failed, as `err` says.
 ///
-/// After a fault `out` has what [`run_text`], [`check_text`] and [`course_text`] say.
+/// After a fault `out` has what [`run_text`], [`race_text`], [`check_text`] and [`course_text`] say.
+///
+/// A race is run in threads, for which the call waits: what is said here holds if it returns.
 ///
 /// [`run_text`]: crate::run_text
+/// [`race_text`]: crate::race_text
 /// [`check_text`]: crate::check_text
 /// [`course_text`]: crate::course_text
-pub fn perform<'a, F: Files, S: Source, O: Sink, E: Sink>(
+pub fn perform<'a, R: Threads + Wait + Sync, F: Files, S: Source, O: Sink, E: Sink>(
+    rt: &R,
     alloc: Global,
     words: &'a [&'a str],
     files: &mut F,
@@ -89,7 +95,7 @@ pub fn perform<'a, F: Files, S: Source, O: Sink, E: Sink>(
     ensures help { AsksForHelp (words_of words.entry.now) → ShowsHelp (O.contents out.old) (O.contents out.new) result }
 {
     match command(alloc, words) {
-        Ok(task) => do_task(alloc, &task, files, input, out, err),
+        Ok(task) => do_task(rt, alloc, &task, files, input, out, err),
         Err(LineFault::Help) => show_help(alloc, words, out, err),
         Err(LineFault::Bad) => show_fault(alloc, words, err),
         Err(LineFault::NoMemory) => tell_fault(RunFault::NoMemory, err),

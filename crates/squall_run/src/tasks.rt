@@ -12,11 +12,14 @@ use crate::check::check_source;
 use crate::course::course_text;
 use crate::files::Files;
 use crate::messages::{tell_fault, tell_outcome, tell_unopened};
+use crate::race::race_text;
 use crate::run_text;
 use squall_command::Task;
 use squall_device::{Sink, Source};
 use squall_lines::{Ended, RunFault, read_all};
 use std::alloc::Global;
+use std::sync::Wait;
+use std::thread::Threads;
 
 /// What is done with the bytes of one file.
 #[derive(Clone, Copy)]
@@ -25,10 +28,13 @@ pub(crate) enum Purpose {
     Check,
     /// Its scenario is run.
     Run,
+    /// Its race is run.
+    Race,
 }
 
 /// Does it with what the source gives.
-fn answer_source<S: Source, O: Sink>(
+fn answer_source<R: Threads + Wait + Sync, S: Source, O: Sink>(
+    rt: &R,
     alloc: Global,
     purpose: Purpose,
     source: &mut S,
@@ -44,11 +50,13 @@ fn answer_source<S: Source, O: Sink>(
     match purpose {
         Purpose::Check => check_source(alloc, source, out),
         Purpose::Run => run_text(alloc, source, out),
+        Purpose::Race => race_text(rt, alloc, source, out),
     }
 }
 
 /// Does it with the bytes of a file.
-fn answer_file<F: Files, S: Source, O: Sink, E: Sink>(
+fn answer_file<R: Threads + Wait + Sync, F: Files, S: Source, O: Sink, E: Sink>(
+    rt: &R,
     alloc: Global,
     purpose: Purpose,
     name: &str,
@@ -65,10 +73,10 @@ fn answer_file<F: Files, S: Source, O: Sink, E: Sink>(
     ensures taken { result ≢ 2 }
 {
     if name == "-" {
-        return tell_outcome(answer_source(alloc, purpose, input, out), err);
+        return tell_outcome(answer_source(rt, alloc, purpose, input, out), err);
     }
     match files.open(name) {
-        Some(mut file) => tell_outcome(answer_source(alloc, purpose, &mut file, out), err),
+        Some(mut file) => tell_outcome(answer_source(rt, alloc, purpose, &mut file, out), err),
         None => tell_unopened(name, err),
     }
 }
@@ -142,7 +150,8 @@ fn course_files<F: Files, S: Source, O: Sink, E: Sink>(
 }
 
 /// Does the task.
-pub(crate) fn do_task<F: Files, S: Source, O: Sink, E: Sink>(
+pub(crate) fn do_task<R: Threads + Wait + Sync, F: Files, S: Source, O: Sink, E: Sink>(
+    rt: &R,
     alloc: Global,
     task: &Task,
     files: &mut F,
@@ -157,25 +166,14 @@ pub(crate) fn do_task<F: Files, S: Source, O: Sink, E: Sink>(
         ⊎ (OutputFails (O.faults out.old) (O.faults out.new) (O.empties out.old) (O.empties out.new) ⊎ NamesFile (job_seen task.now)) }
     ensures taken { result ≢ 2 }
 {
-    match task {
-        Task::Check(plan) => answer_file(
-            alloc,
-            Purpose::Check,
-            plan.as_str(),
-            files,
-            input,
-            out,
-            err,
-        ),
-        Task::Course(old, new) => course_files(
-            alloc,
-            old.as_str(),
-            new.as_str(),
-            files,
-            input,
-            out,
-            err,
-        ),
-        Task::Run(file) => answer_file(alloc, Purpose::Run, file.as_str(), files, input, out, err),
-    }
+    let (purpose, name) = match task {
+        Task::Check(plan) => (Purpose::Check, plan.as_str()),
+        Task::Course(old, new) => {
+            let (old, new) = (old.as_str(), new.as_str());
+            return course_files(alloc, old, new, files, input, out, err);
+        }
+        Task::Run(file) => (Purpose::Run, file.as_str()),
+        Task::Race(file) => (Purpose::Race, file.as_str()),
+    };
+    answer_file(rt, alloc, purpose, name, files, input, out, err)
 }

@@ -1,0 +1,141 @@
+//! What a race shows.
+
+ghost use Rattle.std.specs.Prelude.{◌≡◌, ◌++◌, ℕ, List, IfOk, OnOk, string_bytes};
+ghost use Rattle.std.specs.Arc.{arc_value};
+ghost use Rattle.squall_language.specs.Reasons.{bad_line};
+ghost use Rattle.squall_race.specs.RaceText.{route_line, route_lines, text_of_race, MayShow, RefusesLine, ShowsRace, EndsIn, IsRefusal};
+
+use crate::file::{BadLine, RaceFile, Stage};
+use crate::lines::read_file;
+use squall_board::Board;
+use squall_cluster::{Actor, Gate, RaceFault, Raced, race};
+use squall_course::Course;
+use squall_key::Key;
+use squall_language::{Reason, add_bad_line, add_board};
+use squall_lines::Ended;
+use std::alloc::{AllocError, Global};
+use std::sync::{Arc, Wait};
+use std::thread::Threads;
+
+/// How many letters an inbox holds where no line says so.
+const CAPACITY: u32 = 16;
+
+/// How many readers there are where no line says so.
+const READERS: u32 = 1;
+
+/// A gate at which nobody waits.
+struct Open;
+
+impl Gate for Open {
+    fn before(&self, _actor: Actor, _call: u64) {}
+
+    fn after(&self, _actor: Actor, _call: u64) {}
+}
+
+/// Adds the route of each key by the board.
+fn add_routes(
+    course: &Course,
+    board: &Board,
+    keys: &[Key],
+    out: &mut String,
+) -> Result<(), AllocError>
+    ensures { OnOk result (string_bytes out.new ≡ string_bytes out.old ++ route_lines course.now board.now keys.now) }
+{
+    for key in keys {
+        let part = board.route(course, *key);
+        write!(out, "route {key} {part}\n")?;
+    }
+    Ok(())
+}
+
+/// Adds why the line of a number is bad.
+fn refuse_line(number: u64, reason: Reason, out: &mut String) -> Result<Ended, AllocError>
+    ensures { IfOk result (λ ended. (shown : List ℕ) × (string_bytes out.new ≡ string_bytes out.old ++ shown) × RefusesLine number reason ended shown) }
+{
+    add_bad_line(number, reason, out)?;
+    Ok(Ended::Refused)
+}
+
+/// Runs the race, and adds what it comes to.
+fn run_race<R: Threads + Wait + Sync>(
+    rt: &R,
+    alloc: Global,
+    file: &RaceFile,
+    course: &Arc<Course>,
+    out: &mut String,
+) -> Result<Ended, AllocError>
+    ensures { IfOk result (λ ended. (shown : List ℕ) × (string_bytes out.new ≡ string_bytes out.old ++ shown) × ShowsRace file.now (arc_value course.now) ended shown) }
+{
+    let opening = Board::new(alloc);
+    let readers = file.readers.unwrap_or(READERS) as usize;
+    let capacity = file.capacity.unwrap_or(CAPACITY) as usize;
+    let raced = race(
+        rt,
+        alloc,
+        course,
+        &opening,
+        &file.lists,
+        &file.keys,
+        readers,
+        capacity,
+        &Open,
+    );
+    match raced {
+        Ok(raced) => {
+            add_board(&raced.board, out)?;
+            add_routes(course, &raced.board, &file.keys, out)?;
+            Ok(Ended::Fine)
+        }
+        Err(RaceFault::NoPlace) => {
+            write!(out, "refused NoPlace\n")?;
+            Ok(Ended::Refused)
+        }
+        Err(RaceFault::NoThread) => {
+            write!(out, "refused NoThread\n")?;
+            Ok(Ended::Refused)
+        }
+        Err(_) => Err(AllocError),
+    }
+}
+
+/// Runs the race that a file has set up, where both plans are read.
+fn run_file<R: Threads + Wait + Sync>(
+    rt: &R,
+    alloc: Global,
+    file: &RaceFile,
+    out: &mut String,
+) -> Result<Ended, AllocError>
+    ensures { IfOk result (λ ended. (shown : List ℕ) × (string_bytes out.new ≡ string_bytes out.old ++ shown) × EndsIn file.now file.now.plans ended shown) }
+{
+    match &file.stage {
+        Stage::Set(course) => run_race(rt, alloc, file, course, out),
+        Stage::Unplanned | Stage::Planned(_) => {
+            refuse_line(file.line.saturating_add(1), Reason::Order, out)
+        }
+    }
+}
+
+/// Runs the race of a file's text, and adds to `out` what it shows: the lines of the board that all
+/// reports come to, as `board` shows it in a scenario, and then `route K P` for each key by that
+/// board. Each sender posts its reports in a thread of its own, each reader routes each key in one,
+/// and the owner of the cluster takes and publishes the reports in the caller's.
+///
+/// `Refused` where a line is bad, which `out` says as in a scenario: a file that ends before both
+/// plans are read lacks a line. And where a seat or a look was refused to a reader, or a thread could
+/// not be started: `out` says `refused NoPlace` or `refused NoThread`. No thread is left running.
+///
+/// The error comes where an allocation failed; nothing is known of `out` then. What is promised holds
+/// if the call returns, for it waits for threads.
+pub fn answer_race<R: Threads + Wait + Sync>(
+    rt: &R,
+    alloc: Global,
+    text: &[u8],
+    out: &mut String,
+) -> Result<Ended, AllocError>
+    ensures { IfOk result (λ ended. (shown : List ℕ) × (string_bytes out.new ≡ string_bytes out.old ++ shown) × MayShow text.now ended shown) }
+{
+    match read_file(alloc, text)? {
+        Ok(file) => run_file(rt, alloc, &file, out),
+        Err(BadLine { number, reason }) => refuse_line(number, reason, out),
+    }
+}

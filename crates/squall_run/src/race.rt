@@ -1,0 +1,84 @@
+//! What the command `race` writes of a race file.
+
+ghost use Rattle.std.specs.Prelude.{◌≡◌, ◌≢◌, ◌⊎◌, ◌+◌, ◌≤◌, ℕ, List, IsOk, Err};
+ghost use Rattle.std.specs.Io.KnownBytes.{Appends, Consumes, IsAtEnd};
+ghost use Rattle.squall_device.specs.Counts.{IsCountedSince, times_more};
+ghost use Rattle.squall_lines.specs.Script.{read_limit};
+ghost use Rattle.squall_run.specs.Races.{IsRaced};
+
+use squall_device::{Sink, Source};
+use squall_lines::{Ended, RunFault, read_all, send_text};
+use squall_race::answer_race;
+use std::alloc::Global;
+use std::sync::Wait;
+use std::thread::Threads;
+
+/// Runs the race of a text, and writes what it shows.
+fn show_race<R: Threads + Wait + Sync, K: Sink>(
+    rt: &R,
+    alloc: Global,
+    text: &[u8],
+    writer: &mut K,
+) -> Result<Ended, RunFault>
+    ensures text { (written : List ℕ) × Appends (K.contents writer.old) (K.contents writer.new) written
+        × IsRaced result text.now written }
+    ensures unread { result ≢ Err RunFault.Read }
+    ensures unwritten { result ≡ Err RunFault.Write → IsCountedSince (K.faults writer.old) (K.faults writer.new)
+        ⊎ IsCountedSince (K.empties writer.old) (K.empties writer.new) }
+{
+    let mut out = String::new(alloc);
+    let ended = answer_race(rt, alloc, text, &mut out)?;
+    match send_text(writer, out.as_str()) {
+        Ok(()) => Ok(ended),
+        Err(_) => Err(RunFault::Write),
+    }
+}
+
+/// Runs the race of a race file: reads the file from `reader` to the end of the input, runs its
+/// senders, its readers and its owner as threads at once, and writes to `writer` the board that
+/// they come to and the routes of its keys by that board. Nothing is written before the end of the
+/// input.
+///
+/// `Fine` says that the race was run. `Refused` says that it was not, and why stands in the text:
+/// `bad line N: REASON`, or `refused NoThread` where a thread was refused and `refused NoPlace`
+/// where a reader got no place. A fault stops it: `Read` where a read failed, or more than
+/// [`MOST_READS`] would be needed, before anything was written; `Write` where a write failed or took
+/// no byte, after a prefix of the text was written; `NoMemory` where an allocation failed, before
+/// anything was written. Where memory is short, `refused NoThread` and `refused NoPlace` may stand
+/// in place of `NoMemory`. What was read stays read.
+///
+/// The call waits for its threads. What is said here holds if it returns; all its threads have
+/// ended then.
+///
+/// [`MOST_READS`]: squall_lines::MOST_READS
+pub fn race_text<R: Threads + Wait + Sync, S: Source, K: Sink>(
+    rt: &R,
+    alloc: Global,
+    reader: &mut S,
+    writer: &mut K,
+) -> Result<Ended, RunFault>
+    // What is written is what a race may show of the text that was read, and nothing else.
+    ensures text { (read : List ℕ) × (written : List ℕ)
+        × Consumes (S.remaining reader.old) (S.remaining reader.new) read
+        × Appends (K.contents writer.old) (K.contents writer.new) written
+        × IsRaced result read written }
+
+    // A race is run or refused only where a read found the end, and nothing is left.
+    ensures ended { IsOk result → IsCountedSince (S.ends reader.old) (S.ends reader.new) }
+    ensures all { IsOk result → IsAtEnd (S.remaining reader.new) }
+
+    // When each fault comes.
+    ensures unread { result ≡ Err RunFault.Read → IsCountedSince (S.faults reader.old) (S.faults reader.new)
+        ⊎ (times_more read_limit (S.reads reader.old) ≤ S.reads reader.new) }
+    ensures unwritten { result ≡ Err RunFault.Write → IsCountedSince (K.faults writer.old) (K.faults writer.new)
+        ⊎ IsCountedSince (K.empties writer.old) (K.empties writer.new) }
+
+    // Whatever the reader does, so many reads are made at most.
+    ensures reads { S.reads reader.new ≤ S.reads reader.old + read_limit }
+{
+    match read_all(alloc, reader) {
+        Ok(text) => show_race(rt, alloc, &text, writer),
+        Err(RunFault::NoMemory) => Err(RunFault::NoMemory),
+        Err(_) => Err(RunFault::Read),
+    }
+}
