@@ -76,7 +76,7 @@ static uint32_t gather_repair(squall_router *router) {
     return squall_router_gather_repair(router);
 }
 
-/* A router that was told something and has heard a digest and the first bytes of a frame's head. */
+/* A router that was told something, has heard a digest and has a frame that waits. */
 static squall_router *busy_router(void) {
     squall_router *router = router_of(1, OLD, NEW);
     CHECK(squall_router_status(router) == SQUALL_OK);
@@ -146,6 +146,32 @@ static void refuse_each(uint32_t (*call)(squall_router *)) {
     CHECK(answered > 0 && number < 10000);
 }
 
+enum { PIECE = 7 };
+
+/* The frame in pieces with the allocation of that number refused, where the piece that is not taken
+ * comes again; whether the calls made so many. */
+static bool refuse_in_pieces(long number) {
+    squall_router *router = busy_router();
+    struct seen before = seen_of(router);
+    asked = 0;
+    refused = number;
+    for (size_t at = 0; at < sizeof LOAD_FRAME; at += PIECE) {
+        uint32_t status = squall_router_feed(router, LOAD_FRAME + at, PIECE);
+        CHECK(fits(status, asked >= number));
+        if (status == SQUALL_NO_MEMORY) {
+            struct seen after = seen_of(router);
+            CHECK(memcmp(&before, &after, sizeof before) == 0);
+            CHECK(squall_router_feed(router, LOAD_FRAME + at, PIECE) == SQUALL_OK);
+        }
+    }
+    bool was_refused = asked >= number;
+    refused = 0;
+    CHECK(squall_router_route(router, squall_rank(2, 0)) == 3);
+    drop_router(router);
+    CHECK(blocks == 0);
+    return was_refused;
+}
+
 /* ---- the tests */
 
 static void loads(void) {
@@ -166,6 +192,15 @@ static void issues(void) {
 
 static void feeds(void) {
     refuse_each(feed);
+}
+
+static void pieces(void) {
+    long number = 1;
+    answered = 0;
+    while (number < 10000 && refuse_in_pieces(number)) {
+        number++;
+    }
+    CHECK(answered > 0 && number < 10000);
 }
 
 static void boards(void) {
@@ -267,6 +302,7 @@ static const struct test TESTS[] = {
     TEST(openings),
     TEST(issues),
     TEST(feeds),
+    TEST(pieces),
     TEST(boards),
     TEST(digests),
     TEST(repairs),

@@ -1,6 +1,5 @@
 -- Errands of the C library: replies and answers as numbers (this project).
-use Rattle.std.specs.Prelude.{◌≡◌, ℕ, ◌==◌, nat_lt, List, Option, None, Some, if◌then◌else◌}
-use Rattle.std.specs.Option.{option_map_or}
+use Rattle.std.specs.Prelude.{ℕ, ◌==◌, nat_lt, Option, None, Some, if◌then◌else◌}
 use Rattle.squall_key.specs.Keys.{top, part_limit}
 use Rattle.squall_plan.specs.Ranges.{owner_of}
 use Rattle.squall_router.specs.declared.errand.Reply.{Reply}

@@ -1,15 +1,18 @@
 //! Frames that are fed to routers behind handles.
 
-ghost use Rattle.std.specs.Prelude.{◌≡◌, IfOk, OnOk, None};
+ghost use Rattle.std.specs.Prelude.{◌≡◌, ◌≢◌, [], IfOk, OnOk, OnErr, None, Err};
 ghost use Rattle.std.specs.List.{AllByRecursion};
+ghost use Rattle.squall_wire.specs.declared.feed.FeedFault.TheVariants.{Failed};
+ghost use Rattle.squall_wire.specs.Hearing.{HearsOn};
 ghost use Rattle.squall_wire.specs.Messages.{IsMessage};
 ghost use Rattle.squall_delta.specs.Pieces.{joined_boards};
-ghost use Rattle.squall_c.specs.Feeding.{JoinsMessage, deltas_of, last_digest, HearsInStation, Feeds};
+ghost use Rattle.squall_c.specs.Feeding.{JoinsMessage, deltas_of, last_digest, heard_station, HearsInStation, Feeds};
 
 use crate::router::{RouterSlot, Station};
 use crate::status::{CLOSED, FAILED, NO_MEMORY, heard_status};
+use crate::twin_feed::TwinFeed;
 use squall_board::{Board, Delta};
-use squall_wire::{Digest, FeedFault, Message, WireFault};
+use squall_wire::{Digest, Feed, FeedFault, Heard, Message, WireFault};
 use std::alloc::{AllocError, Global};
 
 /// Joins to a board what a message tells: a digest tells nothing. After an error the board is as it
@@ -62,22 +65,52 @@ fn keep_digest(heard: &mut Option<Digest>, messages: Vec<Message>)
     *heard = Some(digest);
 }
 
+/// Has the station wait for what the piece leaves, in which no message ends. `heard` and `ahead` are
+/// what its feed answered of the piece. Where it fails the station is as it was.
+fn wait_on(station: &mut Station, piece: &[u8], heard: &Heard, ahead: Feed) -> Result<(), FeedFault>
+    requires none { heard.now.messages.items ≡ [] }
+    requires heard { HearsOn station.old.feed piece.now heard.now.messages.items heard.now.fault ahead }
+    ensures heard { OnOk result (station.new ≡ heard_station station.old [] ahead) }
+    ensures failed { result ≢ Err Failed }
+    ensures err { OnErr result (station.new ≡ station.old) }
+{
+    station.router.known();
+    station.feed.follow(piece, heard, ahead)?;
+    Ok(())
+}
+
+/// Has the station hear the messages, and wait for what the feed waits for. Where it fails the
+/// station is as it was.
+fn take_messages(
+    station: &mut Station,
+    messages: Vec<Message>,
+    feed: Feed,
+) -> Result<(), AllocError>
+    requires { AllByRecursion IsMessage messages.items }
+    ensures heard { OnOk result (station.new ≡ heard_station station.old messages.items feed) }
+    ensures err { OnErr result (station.new ≡ station.old) }
+{
+    let delta = joined(station.alloc, &messages)?;
+    station.router.absorb(&delta)?;
+    // From here on nothing can fail.
+    station.feed = TwinFeed::of(feed);
+    keep_digest(&mut station.heard, messages);
+    Ok(())
+}
+
 /// Has the station hear the messages whose frames end in the piece, all of them or none, and gives
 /// the fault of what follows them where there is one. Where it fails the station is as it was.
 fn hear(station: &mut Station, piece: &[u8]) -> Result<Option<WireFault>, FeedFault>
     ensures { HearsInStation station.old piece.now result station.new }
 {
-    if station.feed.failed() {
-        return Err(FeedFault::Failed);
+    let (heard, ahead) = station.feed.try_piece(station.alloc, piece)?;
+    if heard.messages.is_empty() {
+        wait_on(station, piece, &heard, ahead)?;
+        return Ok(heard.fault);
     }
-    let mut feed = station.feed.copied(station.alloc)?;
-    let heard = feed.push(piece)?;
-    let delta = joined(station.alloc, &heard.messages)?;
-    station.router.absorb(&delta)?;
-    // From here on nothing can fail.
-    station.feed = feed;
-    keep_digest(&mut station.heard, heard.messages);
-    Ok(heard.fault)
+    let Heard { messages, fault } = heard;
+    take_messages(station, messages, ahead)?;
+    Ok(fault)
 }
 
 /// Takes a piece of a stream of frames, cut anywhere: the messages whose frames end in it are heard,

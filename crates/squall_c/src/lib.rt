@@ -15,6 +15,7 @@ mod legs;
 mod reports;
 mod router;
 mod status;
+mod twin_feed;
 mod view_exports;
 mod views;
 

@@ -12,11 +12,12 @@ use crate::legs::{CLeg, put_legs};
 use crate::status::{
     CLOSED, Cause, IN_NEW_PLAN, IN_OLD_PLAN, LIMIT, NO_MEMORY, NO_PLACE, NOWHERE, OK,
 };
+use crate::twin_feed::TwinFeed;
 use squall_course::Course;
 use squall_key::Key;
 use squall_plan::Plan;
 use squall_router::Router;
-use squall_wire::{Digest, Feed};
+use squall_wire::Digest;
 use std::alloc::{AllocError, Global};
 use std::sync::Arc;
 
@@ -26,7 +27,7 @@ pub struct Station {
     pub(crate) alloc: Global,
     pub(crate) router: Router,
     /// What hears frames.
-    pub(crate) feed: Feed,
+    pub(crate) feed: TwinFeed,
     /// The digest that was heard last.
     pub(crate) heard: Option<Digest>,
     /// The frames that wait to be fetched.
@@ -81,7 +82,7 @@ fn station_of(alloc: Global, course: Course) -> Result<Station, AllocError>
     Ok(Station {
         alloc,
         router,
-        feed: Feed::new(alloc),
+        feed: TwinFeed::new(alloc),
         heard: None,
         frames: Frames::new(alloc),
     })

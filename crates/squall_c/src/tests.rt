@@ -36,6 +36,11 @@ pub(crate) const OPENING: [u8; 24] = [
     83, 81, 1, 1, 0, 0, 0, 16, 0, 0, 0, 1, 0, 0, 0, 1, 0, 0, 0, 1, 0, 0, 0, 0,
 ];
 
+/// Both in one stream, from byte 41 of the first to byte 10 of the second.
+pub(crate) const LOAD_TO_OPENING: [u8; 19] = [
+    0, 0, 0, 3, 0, 0, 0, 0, 83, 81, 1, 1, 0, 0, 0, 16, 0, 0, 0,
+];
+
 /// The frame of the digest of the board of that load.
 pub(crate) const DIGEST: [u8; 56] = [
     83, 81, 1, 2, 0, 0, 0, 48, 0, 0, 0, 0, 0, 0, 0, 1, 0, 0, 0, 1, 0, 0, 0, 0, 37, 134, 141, 184,

@@ -1,6 +1,6 @@
 //! Frames that come in and go out.
 
-use super::{DIGEST, LOAD, NO_ROWS, OPENING, rank, router};
+use super::{DIGEST, LOAD, LOAD_TO_OPENING, NO_ROWS, OPENING, rank, router};
 use crate::feeding::feed;
 use crate::frames::{gather_board, gather_digest, gather_repair, next_frame};
 use crate::reports::opened;
@@ -16,6 +16,29 @@ fn frames_in_pieces(rt: HostRuntime) {
     assert!(rt; route(&slot, rank(2, 0)) == 3);
     assert!(rt; feed(&mut slot, &[84]) == 51);
     assert!(rt; feed(&mut slot, &[83]) == 4);
+}
+
+#[test]
+fn frame_byte_by_byte(rt: HostRuntime) {
+    let mut slot = router(rt.alloc());
+    for byte in LOAD {
+        assert!(rt; route(&slot, rank(2, 0)) == 1);
+        assert!(rt; feed(&mut slot, &[byte]) == 0);
+    }
+    assert!(rt; route(&slot, rank(2, 0)) == 3);
+}
+
+#[test]
+fn frame_begun_behind_another(rt: HostRuntime) {
+    let mut slot = router(rt.alloc());
+    let mut room = [0u8; 57];
+    assert!(rt; feed(&mut slot, &LOAD[..41]) == 0);
+    assert!(rt; feed(&mut slot, &LOAD_TO_OPENING) == 0);
+    assert!(rt; route(&slot, rank(2, 0)) == 3);
+    assert!(rt; feed(&mut slot, &OPENING[11..]) == 0);
+    assert!(rt; gather_board(&mut slot) == 0);
+    // The board that is told both has 8 bytes more than the load alone.
+    assert!(rt; next_frame(&mut slot, &mut room) == 57);
 }
 
 #[test]

@@ -42,6 +42,20 @@ fn tolerant_feed(rt: HostRuntime) {
     }
 }
 
+/// Whether the piece is taken, at once or when it comes again.
+fn taken(slot: &mut RouterSlot, piece: &[u8]) -> bool {
+    feed(slot, piece) == 0 || feed(slot, piece) == 0
+}
+
+#[test]
+fn tolerant_pieces(rt: HostRuntime) {
+    let mut slot = router(rt.alloc());
+    let all = taken(&mut slot, &LOAD[..10])
+        && taken(&mut slot, &LOAD[10..30])
+        && taken(&mut slot, &LOAD[30..]);
+    assert!(rt; all == (route(&slot, rank(2, 0)) == 3));
+}
+
 #[test]
 fn tolerant_frames(rt: HostRuntime) {
     let mut slot = router(rt.alloc());

@@ -1,6 +1,5 @@
 use Rattle.std.proofs.Common.{sym, ◌∙◌}
-use Rattle.squall_c.proofs.Joined.{joined_is, join_before, joined_next, joined_all}
-use Rattle.squall_board.specs.BoardLaws.{empty_is}
+use Rattle.squall_c.proofs.Joined.{joined_next, joined_all}
 use Rattle.squall_c.proofs.feeding.joined.Goals as goal
 
 pub loop-message-preserved : goal.loop-message-preserved

@@ -1,4 +1,4 @@
-use Rattle.std.proofs.Common.{◌≡◌, ℕ, None}
+use Rattle.std.proofs.Common.{◌≡◌, None}
 use Rattle.std.specs.Prelude.{vec_len}
 use Rattle.squall_c.specs.Feeding.{last_digest}
 use Rattle.squall_c.proofs.feeding.last_digest.Given as goal

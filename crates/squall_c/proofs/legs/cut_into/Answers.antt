@@ -2,7 +2,7 @@ use Rattle.std.specs.Prelude.{◌≤◌, length}
 use Rattle.std.proofs.Common.{arith, inl, inr}
 use Rattle.std.proofs.lemmas.Bool.{cases_lt}
 use Rattle.squall_c.specs.Showing.{cut_legs}
-use Rattle.squall_c.proofs.CutLegs.{written_none, written_next, written_all, cut_ends, cut_no_longer, AreWritten}
+use Rattle.squall_c.proofs.CutLegs.{written_none, written_next, written_all, cut_ends, cut_no_longer}
 use Rattle.squall_c.proofs.legs.cut_into.Goals as goal
 
 pub loop-count-init : goal.loop-count-init

@@ -1,5 +1,5 @@
 use Rattle.std.specs.Prelude.{◌≡◌, ◌≤◌, List, length}
-use Rattle.std.proofs.Common.{ap, sym, subst, ◌∙◌, ℕ, arith}
+use Rattle.std.proofs.Common.{ap, subst, ◌∙◌, ℕ, arith}
 use Rattle.squall_key.specs.Keys.{top}
 use Rattle.squall_table.specs.Legs.{IsAt}
 use Rattle.squall_c.specs.declared.legs.CLeg.{CLeg}
