@@ -1,4 +1,3 @@
 mod Merged
-mod Lists
-mod PutAgain
+pub mod Lists
 pub mod Remains

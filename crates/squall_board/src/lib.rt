@@ -36,6 +36,3 @@ pub use route_laws::{
     moves_give_the_route, one_course, one_route, route_by_board_tests, route_by_report_tests,
     taken_reports_route,
 };
-
-#[cfg(test)]
-mod tests;

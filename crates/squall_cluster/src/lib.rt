@@ -21,6 +21,3 @@ pub use owner::{Owner, Turn};
 pub use racing::{Raced, race};
 pub use squall_desk::{Line, Notice, Seat, SeatFault, Track};
 pub use squall_inbox::{Case, Full, Letter, Parcel, Sender, Spent};
-
-#[cfg(test)]
-mod tests;

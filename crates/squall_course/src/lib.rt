@@ -22,6 +22,3 @@ pub use laws::{
 pub use moving::Move;
 pub use owners::Owners;
 pub use status::Status;
-
-#[cfg(test)]
-mod tests;

@@ -25,6 +25,3 @@ pub use repair_laws::{
     digests_list_the_board, one_repair, repair_of_own_digest_is_empty, repairs_complete,
 };
 pub use repairing::repair;
-
-#[cfg(test)]
-mod tests;

@@ -74,14 +74,14 @@ fn reads_pass_through(rt: HostRuntime) {
     let text = b"abc";
     let mut reader = Reader::new(text.as_slice());
     let mut room = [0u8; 2];
-    assert_eq!(rt; first_read(&mut reader, &mut room), Ok(2));
+    assert!(rt; first_read(&mut reader, &mut room) == Ok(2));
     assert!(rt; room == [b'a', b'b']);
-    assert_eq!(rt; reader.read(&mut room), Ok(1));
+    assert!(rt; reader.read(&mut room) == Ok(1));
     assert!(rt; room == [b'c', b'b']);
-    assert_eq!(rt; reader.read(&mut room), Ok(0));
-    assert_eq!(rt; reader.reads, 3);
-    assert_eq!(rt; reader.ends, 1);
-    assert_eq!(rt; reader.faults, 0);
+    assert!(rt; reader.read(&mut room) == Ok(0));
+    assert!(rt; reader.reads == 3);
+    assert!(rt; reader.ends == 1);
+    assert!(rt; reader.faults == 0);
 }
 
 /// Each call is one call of what lies below, and answers as that does: none is tried again, and none
@@ -97,26 +97,26 @@ fn one_call_is_one_call_below(rt: HostRuntime) {
         } else {
             Err(DeviceFault)
         };
-        assert_eq!(rt; first_read(&mut reader, &mut room), wanted);
-        assert_eq!(rt; reader.inner.calls, call);
-        assert_eq!(rt; first_write(&mut writer, b"ab"), wanted);
-        assert_eq!(rt; writer.inner.calls, call);
+        assert!(rt; first_read(&mut reader, &mut room) == wanted);
+        assert!(rt; reader.inner.calls == call);
+        assert!(rt; first_write(&mut writer, b"ab") == wanted);
+        assert!(rt; writer.inner.calls == call);
     }
-    assert_eq!(rt; reader.faults, 500);
-    assert_eq!(rt; writer.faults, 500);
+    assert!(rt; reader.faults == 500);
+    assert!(rt; writer.faults == 500);
 }
 
 #[test]
 fn writes_pass_through(rt: HostRuntime) -> Result<(), Fail> {
     let mut taken = Vec::new(rt.alloc());
     let mut writer = Writer::new(&mut taken);
-    assert_eq!(rt; first_write(&mut writer, b"ab"), Ok(2));
-    assert_eq!(rt; writer.write(b"c"), Ok(1));
+    assert!(rt; first_write(&mut writer, b"ab") == Ok(2));
+    assert!(rt; writer.write(b"c") == Ok(1));
     assert!(rt; taken.as_slice() == b"abc".as_slice());
     let mut full = Writer::new(Full);
-    assert_eq!(rt; full.write(b""), Ok(0));
-    assert_eq!(rt; full.empties, 0);
-    assert_eq!(rt; full.write(b"a"), Ok(0));
-    assert_eq!(rt; full.empties, 1);
+    assert!(rt; full.write(b"") == Ok(0));
+    assert!(rt; full.empties == 0);
+    assert!(rt; full.write(b"a") == Ok(0));
+    assert!(rt; full.empties == 1);
     Ok(())
 }

@@ -10,6 +10,3 @@ mod words;
 pub use answers::add_answer;
 pub use events::{Unfit, event_of};
 pub use words::{EventWords, NodeWords, event_line};
-
-#[cfg(test)]
-mod tests;

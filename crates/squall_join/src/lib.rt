@@ -30,6 +30,3 @@ pub use map::{JoinMap, MapKey};
 pub use pair::Pair;
 pub use shared::Shared;
 pub use update::{Update, UpdateAt};
-
-#[cfg(test)]
-mod tests;

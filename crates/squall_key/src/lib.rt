@@ -16,6 +16,3 @@ pub use key::Key;
 pub use laws::{printed_bound_is_read, printed_key_is_read, rank_is_in_order};
 pub use number::read_number;
 pub use part::PartId;
-
-#[cfg(test)]
-mod tests;

@@ -9,6 +9,3 @@ mod waiting;
 pub use fault::LeaderFault;
 pub use laws::numbers_rise;
 pub use leader::Leader;
-
-#[cfg(test)]
-mod tests;

@@ -6,10 +6,10 @@ ghost use Rattle.squall_lines.specs.Lines.{IsOneLine};
 ghost use Rattle.squall_lines.specs.Script.{TakesLine, IsOutcome};
 ghost use Rattle.squall_lines.specs.Running.{TookBlock};
 
+use super::line::first_line;
 use super::machine::Machine;
 use super::output::flush;
 use super::{BLOCK_SIZE, Ended, Flow, LONGEST_PIECE, RunFault};
-use memchr::memchr;
 use squall_device::Sink;
 use std::alloc::AllocError;
 
@@ -31,16 +31,6 @@ fn take_line<M: Machine>(
     let flow = machine.take(carry.as_slice(), out)?;
     carry.clear();
     Ok(flow)
-}
-
-/// The bytes before the first LF, and those after it.
-fn first_line(bytes: &[u8]) -> Option<(&[u8], &[u8])>
-    ensures line { IfSome result (λ r. (bytes.now ≡ r.0.now ++ 10 ∷ r.1.now) × IsOneLine r.0.now) }
-    ensures shorter { IfSome result (λ r. length r.1.now < length bytes.now) }
-    ensures none { IfNone result (IsOneLine bytes.now) }
-{
-    let at = memchr(b'\n', bytes)?;
-    Some((&bytes[..at], &bytes[at + 1..]))
 }
 
 /// Answers the lines that end in the block, and sends the answers. What follows the last LF is

@@ -19,6 +19,3 @@ pub use giving::GiveFault;
 pub use laws::{given_keys_are_gone, one_last_number, one_reply, partitions_keep_sets};
 pub use loading::{Load, LoadFault};
 pub use part::Part;
-
-#[cfg(test)]
-mod tests;

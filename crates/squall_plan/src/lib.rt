@@ -22,6 +22,3 @@ pub use laws::{
 };
 pub use plan::Plan;
 pub use range::PlanRange;
-
-#[cfg(test)]
-mod tests;

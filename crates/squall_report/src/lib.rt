@@ -15,6 +15,3 @@ pub use laws::{
     tests_of_one_report, told_joins_change_nothing, what_is_issued,
 };
 pub use report::{Report, ReportKind};
-
-#[cfg(test)]
-mod tests;

@@ -4,5 +4,3 @@ pub mod Absorbed
 pub mod Cut
 pub mod Ended
 pub mod Alike
-mod Pieces
-mod Swapped

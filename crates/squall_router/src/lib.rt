@@ -14,6 +14,3 @@ pub use laws::{
 };
 pub use promise::headline;
 pub use router::Router;
-
-#[cfg(test)]
-mod tests;

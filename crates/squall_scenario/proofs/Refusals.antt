@@ -16,7 +16,6 @@ use Rattle.squall_board.specs.CourseRoute.{route_by_newest}
 use Rattle.squall_lines.specs.Script.{Script, text_of, after}
 use Rattle.squall_lines.specs.Words.{without_cr}
 use Rattle.squall_language.specs.declared.reason.Reason.{Reason}
-use Rattle.squall_language.specs.declared.reason.Reason.TheVariants.{Long, Word, Order, Limit, Plan}
 use Rattle.squall_scenario.specs.State.{StageState, NoPlan, OldPlan, BothPlans, InWorld, ScenarioState, at_start, has_world}
 use Rattle.squall_scenario.specs.Requests.{Request, Skip, Old, New, Report, Issued, Route, Legs, Board, Hear, Frame, World, Happen, Bad, request_of}
 use Rattle.squall_scenario.specs.Replies.{Reply, Goes, Happens, Ends, old_plan, old_reply, new_plan, new_reply, take_reply, report_reply, issue_reply, limit_where, issued_reply, first_course, route_reply, span_reply, legs_reply, board_reply, feed_reply, bytes_reply, hear_reply, frame_reply, world_of, world_reply, event_reply, happen_reply, reply_to, reply_to_line, at_next_line, Happened, Follows, MayAnswer}
@@ -28,7 +27,8 @@ use Rattle.squall_protocol.specs.Worlds.{WorldValue, first_parts}
 use Rattle.squall_event_text.specs.declared.events.Unfit.{Unfit}
 use Rattle.squall_event_text.specs.declared.events.Unfit.TheVariants.{OverLimit, NoPlan as no_plan}
 use Rattle.squall_event_text.specs.EventLines.{event_of}
-use Rattle.squall_language.proofs.LineTexts.{no_lf, no_lf-append, decimal_no_lf, key_no_lf, fault_no_lf, Spells, spells_lf, spells_glued, spells_append, NotBegun, differs_at, Lacks, lacks_nothing, lacks_line, lacks_append, last_is, last_lacks, all_lines}
+use Rattle.squall_language.proofs.LineTexts.{no_lf, decimal_no_lf, key_no_lf, Spells, spells_lf, spells_glued, spells_append, NotBegun, differs_at, Lacks, lacks_nothing, lacks_line, lacks_append, last_is, last_lacks, all_lines}
+use Rattle.squall_language.proofs.BadLines.{bad_line_no_lf}
 use Rattle.squall_language.proofs.Boards.{board_lacks}
 use Rattle.squall_scenario.proofs.ShownLegs.{legs_lack}
 use Rattle.squall_scenario.specs.LegText.{legs_of_span}
@@ -197,16 +197,6 @@ line_good : (s : ScenarioState) (line : List ℕ) → NotBad (reply_to_line s li
 line_good s line = reply_good s (request_of (has_world s.stage) line)
 
 -- ---- refused
-
-reason_no_lf : (reason : Reason) → no_lf (text_of_reason reason) ≡ true
-reason_no_lf Long = refl
-reason_no_lf Word = refl
-reason_no_lf Order = refl
-reason_no_lf Limit = refl
-reason_no_lf (Plan fault) = fault_no_lf fault
-
-bad_line_no_lf : (n : ℕ) (reason : Reason) → no_lf (bad_line n reason) ≡ true
-bad_line_no_lf n reason = no_lf-append (decimal n) (codes ": " ++ text_of_reason reason) (decimal_no_lf n) (reason_no_lf reason)
 
 -- the text is whole lines, and a bad one last
 abbrev Refuses : List ℕ → Type 0

@@ -13,6 +13,3 @@ mod worlds;
 pub use laws::{fine_has_no_bad_line, one_script, refused_ends_in_a_bad_line};
 pub use replies::first_course;
 pub use scenario::Scenario;
-
-#[cfg(test)]
-mod tests;

@@ -20,6 +20,3 @@ pub use laws::{
 pub use ready::ReadySet;
 pub use set::SpanSet;
 pub use span::Span;
-
-#[cfg(test)]
-mod tests;

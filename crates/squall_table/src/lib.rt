@@ -25,6 +25,3 @@ pub use laws::{
 pub use meter::Meter;
 pub use table::{Leg, RouteTable};
 pub use touch::touched;
-
-#[cfg(test)]
-mod tests;

@@ -32,6 +32,3 @@ pub use laws::{
     pushes_are_one, same_facts_same_frame, spelled_messages_are_heard,
 };
 pub use message::Message;
-
-#[cfg(test)]
-mod tests;

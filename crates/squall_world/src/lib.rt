@@ -19,6 +19,3 @@ mod world;
 pub use squall_protocol::{Answer, Event, Node, Refusal, promises};
 pub use steps::WorldFault;
 pub use world::World;
-
-#[cfg(test)]
-mod tests;

@@ -49,8 +49,8 @@ fn reports_route_keys(rt: HostRuntime) -> Result<(), Fail> {
     ];
     for (key, before, after) in [("2:0", 1, 3), ("6:0", 3, 4), ("3:0", 2, 2)] {
         let key = Key::read(key).ok_or("key")?;
-        assert_eq!(rt; routed(alloc, &course, &[], key)?.get(), before);
-        assert_eq!(rt; routed(alloc, &course, &reports, key)?.get(), after);
+        assert!(rt; routed(alloc, &course, &[], key)?.get() == before);
+        assert!(rt; routed(alloc, &course, &reports, key)?.get() == after);
     }
     Ok(())
 }

@@ -51,7 +51,7 @@ fn heard_in(alloc: Global, random: &mut Random, stream: &[u8]) -> Result<Vec<Mes
 
 /// The messages are the boards, one after the other.
 fn are_boards(rt: &impl Abort, messages: &[Message], boards: &[Board]) {
-    assert_eq!(rt; messages.len(), boards.len());
+    assert!(rt; messages.len() == boards.len());
     for (message, board) in messages.iter().zip(boards) {
         assert!(rt; matches!(message, Message::Delta(heard) if heard == board));
     }

@@ -123,7 +123,7 @@ fn routed(first: &Course, list: &[Report], key: Key) -> u32 {
 fn routes_as_the_list(rt: &impl Abort, router: &Router, list: &[Report]) {
     for rank in 0..KEYS {
         if let Some(key) = Key::of_rank(rank) {
-            assert_eq!(rt; router.route(key).get(), routed(router.first(), list, key));
+            assert!(rt; router.route(key).get() == routed(router.first(), list, key));
         }
     }
 }

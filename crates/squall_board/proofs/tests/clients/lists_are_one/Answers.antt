@@ -1,5 +1,0 @@
-use Rattle.std.proofs.Common.{◌∙◌, sym}
-use Rattle.squall_board.proofs.tests.clients.lists_are_one.Goals as goal
-
-pub returns : goal.returns
-returns c cs ds x y = c.one_list_of_cells.ensures cs x ∙ sym (c.one_list_of_cells.ensures ds y)

@@ -1,0 +1,274 @@
+//! Tests of boards.
+
+mod clients;
+mod listed;
+mod rests;
+mod route_clients;
+mod tolerant;
+
+use squall_board::*;
+use squall_course::Course;
+use squall_join::Flat;
+use squall_key::{Bound, Key, PartId};
+use squall_plan::Plan;
+use squall_report::{Issue, Report};
+use squall_span::Span;
+use std::alloc::{AllocError, Global};
+use std::process::Abort;
+use std::test::Fail;
+
+pub(crate) const OLD: &str =
+    "{\"plan\":[{\"part\":1,\"from\":[0,0],\"to\":[3,0]},{\"part\":2,\"from\":[3,0],\"to\":[5,0]},{\"part\":3,\"from\":[5,0],\"to\":[9,0]},{\"part\":4,\"from\":[9,0],\"to\":\"end\"}]}";
+
+pub(crate) const NEW: &str =
+    "{\"plan\":[{\"part\":1,\"from\":[0,0],\"to\":[2,0]},{\"part\":2,\"from\":[3,0],\"to\":[5,0]},{\"part\":3,\"from\":[2,0],\"to\":[3,0]},{\"part\":3,\"from\":[5,0],\"to\":[6,0]},{\"part\":4,\"from\":[6,0],\"to\":\"end\"}]}";
+
+/// The plan of a text.
+pub(crate) fn plan(alloc: Global, text: &str) -> Result<Plan, Fail> {
+    let plan = Plan::read(alloc, text.as_bytes()).ok().ok_or("plan")?;
+    Ok(plan)
+}
+
+/// Course 1 of the example plans.
+fn course(alloc: Global) -> Result<Course, Fail> {
+    let old = plan(alloc, OLD)?;
+    let new = plan(alloc, NEW)?;
+    let course = Course::new(alloc, 1, &old, &new).ok().ok_or("course")?;
+    Ok(course)
+}
+
+/// The report of a load at partition 3, in sub-plan 0 of number 1.
+pub(crate) fn load(lo: &str, hi: &str) -> Option<Report> {
+    let span = Span::new(Bound::read(lo)?, Bound::read(hi)?)?;
+    Report::loaded(1, 0, 3, span)
+}
+
+/// The board of these reports.
+pub(crate) fn board_of(alloc: Global, reports: &[Report]) -> Result<Board, AllocError> {
+    let mut board = Board::new(alloc);
+    board.take_all(reports)?;
+    Ok(board)
+}
+
+/// The reports of a load at partition 3 and of the completion of partition 4.
+pub(crate) fn two_reports() -> Option<[Report; 2]> {
+    Some([load("2:0", "3:0")?, Report::done(1, 0, 4)?])
+}
+
+/// The board of the two reports. None where an allocation fails.
+pub(crate) fn board_of_two(alloc: Global) -> Option<Board> {
+    let reports = two_reports()?;
+    board_of(alloc, &reports).ok()
+}
+
+/// Takes the report, where there is one.
+///
+/// A helper of its own, as most here are: it owns no board. What a proof of a test costs grows with the values that
+/// the test owns, times the ways out of it: so a test makes its boards, and lends them to a function that looks at them.
+pub(crate) fn take(board: &mut Board, report: Option<Report>) -> Result<(), Fail> {
+    board.take(&report.ok_or("report")?)?;
+    Ok(())
+}
+
+/// Whether the board sends the key to the partition, by course 1 of the example plans.
+fn sends(alloc: Global, board: &Board, key: Key, part: u32) -> Result<bool, Fail> {
+    let course = course(alloc)?;
+    Ok(Some(board.route(&course, key)) == PartId::new(part))
+}
+
+/// Takes the load, and looks at a key of it before and after.
+fn load_moves(rt: &impl Abort, alloc: Global, board: &mut Board) -> Result<(), Fail> {
+    let key = Key::read("2:0").ok_or("key")?;
+    assert!(rt; sends(alloc, board, key, 1)?);
+    take(board, load("2:0", "3:0"))?;
+    assert!(rt; board.says_loaded(1, 0, 3, key) && !board.says_loaded(2, 0, 3, key));
+    assert!(rt; sends(alloc, board, key, 3)?);
+    Ok(())
+}
+
+#[test]
+fn load_moves_the_route(rt: HostRuntime) -> Result<(), Fail> {
+    let mut board = Board::new(rt.alloc());
+    load_moves(&rt, rt.alloc(), &mut board)
+}
+
+/// Looks at the completion of partition 4, and at a key that it moves.
+fn completion_moves(rt: &impl Abort, alloc: Global, board: &Board) -> Result<(), Fail> {
+    let far = Key::read("8:4294967295").ok_or("far key")?;
+    assert!(rt; board.says_done(1, 0, 4) && !board.says_done(1, 0, 3));
+    assert!(rt; sends(alloc, board, far, 4)?);
+    Ok(())
+}
+
+#[test]
+fn completion_moves_the_route(rt: HostRuntime) -> Result<(), Fail> {
+    let board = board_of_two(rt.alloc()).ok_or("a board")?;
+    completion_moves(&rt, rt.alloc(), &board)
+}
+
+/// Takes completions in another number, in another sub-plan and of another partition.
+fn take_others(board: &mut Board) -> Result<(), Fail> {
+    take(board, Report::done(2, 0, 3))?;
+    take(board, Report::done(1, 1, 3))?;
+    take(board, Report::done(1, 0, 4))
+}
+
+/// Takes reports of others, and looks at a key that they do not move.
+fn others_move_nothing(rt: &impl Abort, alloc: Global, board: &mut Board) -> Result<(), Fail> {
+    let key = Key::read("2:0").ok_or("key")?;
+    take_others(board)?;
+    assert!(rt; sends(alloc, board, key, 1)?);
+    Ok(())
+}
+
+#[test]
+fn reports_of_others_move_nothing(rt: HostRuntime) -> Result<(), Fail> {
+    let mut board = Board::new(rt.alloc());
+    others_move_nothing(&rt, rt.alloc(), &mut board)
+}
+
+/// Takes two openings, and looks at the counts.
+fn count_openings(rt: &impl Abort, board: &mut Board) -> Result<(), Fail> {
+    take(board, Report::opened(1, 1))?;
+    take(board, Report::opened(1, 0))?;
+    assert!(rt; board.opened(1) == 2 && board.opened(2) == 0);
+    Ok(())
+}
+
+#[test]
+fn openings(rt: HostRuntime) -> Result<(), Fail> {
+    let mut board = Board::new(rt.alloc());
+    count_openings(&rt, &mut board)
+}
+
+/// Merges the board of these reports into the other.
+fn merge_reports(alloc: Global, merged: &mut Board, reports: &[Report]) -> Result<(), AllocError> {
+    let other = board_of(alloc, reports)?;
+    merged.merge(&other)
+}
+
+/// The board of the second report, into which that of the first was merged.
+fn merged_from_last(alloc: Global, reports: &[Report; 2]) -> Result<Board, AllocError> {
+    let list = &reports[..];
+    let mut merged = board_of(alloc, &list[1..])?;
+    merge_reports(alloc, &mut merged, &list[..1])?;
+    Ok(merged)
+}
+
+#[test]
+fn lists_and_merges(rt: HostRuntime) -> Result<(), Fail> {
+    let all = board_of_two(rt.alloc()).ok_or("a board")?;
+    assert!(rt; is_merged_from_last(rt.alloc(), &all)?);
+    Ok(())
+}
+
+/// Whether the board is that of the two reports, merged from the last to the first.
+fn is_merged_from_last(alloc: Global, all: &Board) -> Result<bool, Fail> {
+    let reports = two_reports().ok_or("reports")?;
+    let merged = merged_from_last(alloc, &reports)?;
+    Ok(*all == merged && all.covers(&merged) && merged.covers(all))
+}
+
+/// The load from 2:0 to 3:0, in two pieces.
+fn cut_load() -> Option<[Report; 2]> {
+    Some([load("2:7", "3:0")?, load("2:0", "2:7")?])
+}
+
+/// Whether the board is that of the cut load.
+fn is_cut_load(alloc: Global, whole: &Board) -> Result<bool, Fail> {
+    let reports = cut_load().ok_or("a cut load")?;
+    let cut = board_of(alloc, &reports)?;
+    Ok(*whole == cut)
+}
+
+/// Whether a copy of the board is equal to it.
+fn is_its_copy(alloc: Global, board: &Board) -> Result<bool, AllocError> {
+    let copy = board.copied(alloc)?;
+    Ok(copy == *board)
+}
+
+/// Whether the board is an empty one.
+fn is_empty(alloc: Global, board: &Board) -> bool {
+    let empty = Board::new(alloc);
+    *board == empty
+}
+
+/// Takes the load whole, and looks at what is equal to the board.
+fn compare_copies_and_cuts(rt: &impl Abort, alloc: Global, board: &mut Board) -> Result<(), Fail> {
+    take(board, load("2:0", "3:0"))?;
+    assert!(rt; is_cut_load(alloc, board)?);
+    assert!(rt; is_its_copy(alloc, board)? && !is_empty(alloc, board));
+    Ok(())
+}
+
+#[test]
+fn copies_and_cuts(rt: HostRuntime) -> Result<(), Fail> {
+    let mut whole = Board::new(rt.alloc());
+    compare_copies_and_cuts(&rt, rt.alloc(), &mut whole)
+}
+
+/// The report that the plan of a text follows that of another under the number.
+pub(crate) fn issue(alloc: Global, number: u32, old: &str, new: &str) -> Result<Report, Fail> {
+    let issue = Issue::new(alloc, &plan(alloc, old)?, &plan(alloc, new)?)?;
+    let report = Report::issued(number, issue).ok_or("issue")?;
+    Ok(report)
+}
+
+/// Takes that one plan follows the other under the number.
+fn take_issue(
+    alloc: Global,
+    board: &mut Board,
+    number: u32,
+    old: &str,
+    new: &str,
+) -> Result<(), Fail> {
+    let report = issue(alloc, number, old, new)?;
+    take(board, Some(report))
+}
+
+/// Whether one issue of the number is known.
+fn has_one_issue(board: &Board, number: u32) -> bool {
+    matches!(board.issuing(number), Flat::One(_))
+}
+
+/// Takes one issue twice, and another under its number.
+fn take_issues_that_clash(rt: &impl Abort, alloc: Global, board: &mut Board) -> Result<(), Fail> {
+    take_issue(alloc, board, 2, OLD, NEW)?;
+    assert!(rt; has_one_issue(board, 2) && matches!(board.issuing(1), Flat::Unknown));
+    take_issue(alloc, board, 2, OLD, NEW)?;
+    assert!(rt; has_one_issue(board, 2));
+    take_issue(alloc, board, 2, NEW, OLD)
+}
+
+#[test]
+fn issues_and_clashes(rt: HostRuntime) -> Result<(), Fail> {
+    let mut board = Board::new(rt.alloc());
+    take_issues_that_clash(&rt, rt.alloc(), &mut board)?;
+    assert!(rt; matches!(board.issuing(2), Flat::Clash));
+    Ok(())
+}
+
+/// The number of the newest course after course 1.
+fn newest_number(alloc: Global, board: &Board) -> Result<Option<u32>, Fail> {
+    let course = course(alloc)?;
+    Ok(board.newest(&course).map(|newest| newest.0))
+}
+
+/// Takes three issues, and looks at the newest course before and after.
+fn take_three_issues(rt: &impl Abort, alloc: Global, board: &mut Board) -> Result<(), Fail> {
+    assert!(rt; newest_number(alloc, board)?.is_none());
+    take_issue(alloc, board, 1, NEW, OLD)?;
+    take_issue(alloc, board, 3, NEW, OLD)?;
+    take_issue(alloc, board, 2, OLD, NEW)?;
+    assert!(rt; newest_number(alloc, board)? == Some(3));
+    Ok(())
+}
+
+#[test]
+fn newest_course(rt: HostRuntime) -> Result<(), Fail> {
+    let mut board = Board::new(rt.alloc());
+    take_three_issues(&rt, rt.alloc(), &mut board)?;
+    take_issue(rt.alloc(), &mut board, 3, OLD, NEW)?;
+    assert!(rt; newest_number(rt.alloc(), &board)? == Some(2));
+    Ok(())
+}

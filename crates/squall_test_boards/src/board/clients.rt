@@ -1,0 +1,51 @@
+//! What callers learn of a borrowed board or cell, from public names alone.
+
+ghost use Rattle.std.specs.Prelude.{◌≡◌, true, List};
+ghost use Rattle.squall_report.specs.Cells.{is_cell_place};
+ghost use Rattle.squall_report.specs.Facts.{Fact, is_fact};
+ghost use Rattle.squall_board.specs.Boards.{says};
+ghost use Rattle.squall_board.specs.Listed.{CellEntry, AreCells};
+
+use squall_board::{Board, Cell, facts_lie_within_the_limits, one_list_of_cells};
+use squall_span::SpanSet;
+use std::alloc::Global;
+use std::test::Fail;
+
+/// Each fact that the board says lies within the limits of facts.
+fn facts_are_within(board: &Board)
+    ensures { (fact : Fact) → says board.now fact ≡ true → is_fact fact ≡ true }
+{
+    facts_lie_within_the_limits(board);
+}
+
+/// Two lists of a board's cells are one.
+fn lists_are_one(board: &Board)
+    ensures { (cs ds : List CellEntry) → AreCells board.now cs → AreCells board.now ds → cs ≡ ds }
+{
+    one_list_of_cells(board);
+}
+
+/// The place of a cell lies within its limits.
+fn place_is_within(cell: &Cell)
+    ensures { is_cell_place cell.now.cell ≡ true }
+{
+    cell.known();
+}
+
+/// Puts the completion of partition 3 into the board.
+fn put_completion(alloc: Global, board: &mut Board) -> Result<(), Fail> {
+    let cell = Cell::new(1, 0, 3, true, SpanSet::empty(alloc)).ok_or("a cell")?;
+    place_is_within(&cell);
+    board.put_cell(&cell)?;
+    Ok(())
+}
+
+#[test]
+fn callers_learn(rt: HostRuntime) -> Result<(), Fail> {
+    let mut board = Board::new(rt.alloc());
+    put_completion(rt.alloc(), &mut board)?;
+    facts_are_within(&board);
+    lists_are_one(&board);
+    assert!(rt; board.says_done(1, 0, 3));
+    Ok(())
+}

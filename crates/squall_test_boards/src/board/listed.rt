@@ -1,0 +1,350 @@
+//! Tests of the lists of a board.
+
+ghost use Rattle.std.specs.Prelude.{◌≡◌, ◌≢◌, ◌≤◌, [], map, IfOk, OnOk};
+ghost use Rattle.std.specs.List.{AllByRecursion};
+ghost use Rattle.std.specs.Arc.{arc_value};
+ghost use Rattle.squall_join.specs.Flats.{flat_map};
+ghost use Rattle.squall_report.specs.Told.{TellsBoth};
+ghost use Rattle.squall_board.specs.Boards.{told};
+ghost use Rattle.squall_board.specs.Listed.{IsOpening, AreCellsOfSubs, AreCellsOfNumbers, AreSomeRows, told_by_lists};
+
+use super::*;
+use squall_join::{Flat, JoinMap};
+use squall_key::{Bound, PartId};
+use squall_plan::{Plan, PlanRange};
+use squall_report::{CellId, Issue, Report};
+use squall_span::{Span, SpanSet};
+use std::alloc::{AllocError, Global};
+use std::process::Abort;
+use std::sync::Arc;
+use std::test::Fail;
+
+/// Puts each opening into the board.
+fn put_openings(board: &mut Board, openings: &[Opening]) -> Result<(), AllocError>
+    requires { AllByRecursion IsOpening openings.now }
+    ensures { OnOk result (TellsBoth (told board.new) (told board.old) (told_by_lists openings.now [] [])) }
+{
+    for opening in openings {
+        board.put_opening(opening)?;
+    }
+    Ok(())
+}
+
+/// Puts into the board each issue under its number.
+fn put_issues(board: &mut Board, issues: &[(u32, Flat<Arc<Issue>>)]) -> Result<(), AllocError>
+    requires { AllByRecursion (λ e. 1 ≤ e.0) issues.now }
+    ensures { OnOk result (TellsBoth (told board.new) (told board.old) (told_by_lists [] (map (λ e. (e.0, flat_map arc_value e.1)) issues.now) [])) }
+{
+    for entry in issues {
+        board.put_issue(entry.0, &entry.1)?;
+    }
+    Ok(())
+}
+
+/// Puts each cell into the board.
+fn put_cells(board: &mut Board, cells: &[Cell]) -> Result<(), AllocError>
+    ensures { OnOk result (TellsBoth (told board.new) (told board.old) (told_by_lists [] [] cells.now)) }
+{
+    for cell in cells {
+        board.put_cell(cell)?;
+    }
+    Ok(())
+}
+
+/// Puts each row of the number into the board.
+fn put_rows(
+    board: &mut Board,
+    number: u32,
+    subs: &[(u32, JoinMap<u32, CellParts>)],
+) -> Result<(), AllocError>
+    requires cells { AreCellsOfSubs number subs.now }
+    requires some { AllByRecursion (λ e. e.1 ≢ []) subs.now }
+{
+    for entry in subs {
+        board.put_row(number, entry.0, &entry.1)?;
+    }
+    Ok(())
+}
+
+/// Puts each row into the board.
+fn put_all_rows(
+    board: &mut Board,
+    numbers: &[(u32, JoinMap<u32, JoinMap<u32, CellParts>>)],
+) -> Result<(), AllocError>
+    requires cells { AreCellsOfNumbers numbers.now }
+    requires some { AreSomeRows numbers.now }
+{
+    for entry in numbers {
+        put_rows(board, entry.0, entry.1.entries())?;
+    }
+    Ok(())
+}
+
+/// A board made of the lists of another: that other again.
+fn put_again(alloc: Global, board: &Board) -> Result<Board, AllocError>
+    ensures { IfOk result (λ b. b ≡ board.now) }
+{
+    board.known();
+    let mut again = Board::new(alloc);
+    let openings = board.openings()?;
+    let issues = board.issues()?;
+    let cells = board.cells()?;
+    put_openings(&mut again, &openings)?;
+    put_issues(&mut again, &issues)?;
+    put_cells(&mut again, &cells)?;
+    lists_determine_the_board(board, &again);
+    Ok(again)
+}
+
+fn span(lo: &str, hi: &str) -> Option<Span> {
+    Span::new(Bound::read(lo)?, Bound::read(hi)?)
+}
+
+/// An issue that leads from a plan to the same plan.
+fn issue(alloc: Global) -> Option<Arc<Issue>> {
+    let range = PlanRange {
+        span: span("0:0", "end")?,
+        part: PartId::new(1)?,
+    };
+    let plan = Plan::from_ranges(alloc, &[range]).ok()?;
+    Issue::new(alloc, &plan, &plan).ok()
+}
+
+/// Takes an opening and an issue.
+fn take_more(alloc: Global, board: &mut Board) -> Option<()> {
+    board.take(&Report::opened(1, 1)?).ok()?;
+    board.take(&Report::issued(2, issue(alloc)?)?).ok()
+}
+
+/// The board of the two reports, of an opening and of an issue. None where an allocation fails.
+fn full(alloc: Global) -> Option<Board> {
+    let mut board = board_of_two(alloc)?;
+    take_more(alloc, &mut board)?;
+    Some(board)
+}
+
+fn complete(alloc: Global, number: u32, sub: u32, part: u32) -> Option<Cell> {
+    Cell::new(number, sub, part, true, SpanSet::empty(alloc))
+}
+
+/// Whether these are the cells of the two reports.
+fn are_of_two(cells: &[Cell]) -> bool {
+    cells.len() == 2
+        && cells[0].part() == 3
+        && cells[1].part() == 4
+        && !cells[0].complete()
+        && cells[0].spans().count() == 4294967296
+}
+
+/// Looks at the lists of the board of the two reports.
+fn look_at_lists(rt: &impl Abort, board: &Board) -> Result<(), Fail> {
+    assert!(rt; board.openings()?.is_empty());
+    let cells = board.cells()?;
+    assert!(rt; are_of_two(&cells));
+    Ok(())
+}
+
+#[test]
+fn cells_of_a_board(rt: HostRuntime) -> Result<(), Fail> {
+    let board = board_of_two(rt.alloc()).ok_or("a board")?;
+    look_at_lists(&rt, &board)
+}
+
+/// Puts the rows of the board into the other.
+fn put_rows_of(board: &Board, again: &mut Board) -> Result<(), AllocError> {
+    put_all_rows(again, board.cell_map().entries())
+}
+
+/// Puts the rows of the board into the other, which is empty, twice.
+fn put_rows_twice(rt: &impl Abort, board: &Board, again: &mut Board) -> Result<(), AllocError> {
+    put_rows_of(board, again)?;
+    assert!(rt; *again == *board && again.cell_map().len() == 1);
+    put_rows_of(board, again)?;
+    assert!(rt; *again == *board);
+    Ok(())
+}
+
+/// Puts the rows of the board into an empty one.
+fn put_rows_into_empty(rt: &impl Abort, alloc: Global, board: &Board) -> Result<(), AllocError> {
+    let mut again = Board::new(alloc);
+    put_rows_twice(rt, board, &mut again)
+}
+
+#[test]
+fn rows_put_whole(rt: HostRuntime) -> Result<(), Fail> {
+    let board = board_of_two(rt.alloc()).ok_or("a board")?;
+    put_rows_into_empty(&rt, rt.alloc(), &board)?;
+    Ok(())
+}
+
+/// Whether these are the cells of the two reports.
+fn lent_are_of_two(cells: &[(CellId, &CellParts)]) -> bool {
+    if cells.len() != 2 {
+        return false;
+    }
+    let first = cells[0].1;
+    let second = cells[1].1;
+    cells[0].0.part() == 3
+        && cells[1].0.part() == 4
+        && !first.second.get()
+        && second.second.get()
+        && first.first.count() == 4294967296
+}
+
+#[test]
+fn cells_lent(rt: HostRuntime) -> Result<(), Fail> {
+    let board = board_of_two(rt.alloc()).ok_or("a board")?;
+    let cells = board.lent_cells()?;
+    assert!(rt; lent_are_of_two(&cells));
+    Ok(())
+}
+
+/// Puts the cells of the board into the other.
+fn put_cells_of(board: &Board, again: &mut Board) -> Result<(), AllocError> {
+    let cells = board.cells()?;
+    put_cells(again, &cells)
+}
+
+/// Whether an empty board is the board once it has its cells.
+fn is_of_its_cells(alloc: Global, board: &Board) -> Result<bool, AllocError> {
+    let mut again = Board::new(alloc);
+    put_cells_of(board, &mut again)?;
+    Ok(again == *board)
+}
+
+#[test]
+fn cells_put_again(rt: HostRuntime) -> Result<(), Fail> {
+    let board = board_of_two(rt.alloc()).ok_or("a board")?;
+    assert!(rt; is_of_its_cells(rt.alloc(), &board)?);
+    Ok(())
+}
+
+/// Puts an opening into an empty board.
+fn put_opening(rt: &impl Abort, board: &mut Board) -> Result<(), Fail> {
+    let opening = Opening {
+        number: 1,
+        count: 2,
+    };
+    board.put_opening(&opening)?;
+    assert!(rt; board.opened(1) == 2 && board.opened(2) == 0);
+    let openings = board.openings()?;
+    assert!(rt; openings.as_slice() == [opening].as_slice());
+    Ok(())
+}
+
+#[test]
+fn an_opening_put(rt: HostRuntime) -> Result<(), Fail> {
+    let mut board = Board::new(rt.alloc());
+    put_opening(&rt, &mut board)
+}
+
+/// Puts the lists of the board into another, and looks at it.
+fn look_at_put_again(rt: &impl Abort, alloc: Global, board: &Board) -> Result<(), Fail> {
+    let again = put_again(alloc, board)?;
+    assert!(rt; again == *board);
+    assert!(rt; matches!(again.issuing(2), Flat::One(_)));
+    Ok(())
+}
+
+#[test]
+fn all_put_again(rt: HostRuntime) -> Result<(), Fail> {
+    let board = full(rt.alloc()).ok_or("a board")?;
+    look_at_put_again(&rt, rt.alloc(), &board)
+}
+
+#[test]
+fn cells_within_their_limits(rt: HostRuntime) -> Result<(), Fail> {
+    let alloc = rt.alloc();
+    assert!(rt; Cell::new(1, 0, 3, false, SpanSet::empty(alloc)).is_none());
+    assert!(rt; complete(alloc, 0, 0, 3).is_none() && complete(alloc, 1, 0, 3).is_some());
+    assert!(rt; complete(alloc, 1, 10000, 3).is_none() && complete(alloc, 1, 9999, 3).is_some());
+    assert!(rt; complete(alloc, 1, 0, 10000).is_none() && complete(alloc, 1, 0, 9999).is_some());
+    Ok(())
+}
+
+/// Lists the cells, where no allocation fails.
+fn count_cells(rt: &impl Abort, board: &Board) {
+    if let Ok(cells) = board.cells() {
+        assert!(rt; cells.len() == 2);
+    }
+}
+
+/// Lists the openings, where no allocation fails.
+fn count_openings(rt: &impl Abort, board: &Board) {
+    if let Ok(openings) = board.openings() {
+        assert!(rt; openings.len() == 1);
+    }
+}
+
+/// Lists the issues, where no allocation fails.
+fn count_issues(rt: &impl Abort, board: &Board) {
+    if let Ok(issues) = board.issues() {
+        assert!(rt; issues.len() == 1);
+    }
+}
+
+#[test]
+fn tolerant_cells(rt: HostRuntime) -> Result<(), Fail> {
+    if let Some(board) = full(rt.alloc()) {
+        count_cells(&rt, &board);
+        is_full(&rt, rt.alloc(), &board);
+    }
+    Ok(())
+}
+
+#[test]
+fn tolerant_openings(rt: HostRuntime) -> Result<(), Fail> {
+    if let Some(board) = full(rt.alloc()) {
+        count_openings(&rt, &board);
+        is_full(&rt, rt.alloc(), &board);
+    }
+    Ok(())
+}
+
+#[test]
+fn tolerant_issues(rt: HostRuntime) -> Result<(), Fail> {
+    if let Some(board) = full(rt.alloc()) {
+        count_issues(&rt, &board);
+        is_full(&rt, rt.alloc(), &board);
+    }
+    Ok(())
+}
+
+/// The board is still the full one, where no allocation fails.
+fn is_full(rt: &impl Abort, alloc: Global, board: &Board) {
+    if let Some(full) = full(alloc) {
+        assert!(rt; *board == full);
+    }
+}
+
+/// Puts the completion of partition 3 in sub-plan 1 of number 2 into the board, of which the other is a copy.
+fn put_completion(
+    rt: &impl Abort,
+    cell: &Cell,
+    board: &mut Board,
+    before: &Board,
+) -> Result<(), Fail> {
+    if board.put_cell(cell).is_ok() {
+        assert!(rt; board.says_done(2, 1, 3) && board.covers(before));
+    } else {
+        assert!(rt; *board == *before);
+    }
+    Ok(())
+}
+
+/// Puts a completion into the board, where a copy of it can be made.
+fn put_beside_copy(rt: &impl Abort, alloc: Global, board: &mut Board) -> Result<(), Fail> {
+    let cell = complete(alloc, 2, 1, 3).ok_or("a cell")?;
+    match board.copied(alloc) {
+        Ok(before) => put_completion(rt, &cell, board, &before),
+        Err(_) => Ok(()),
+    }
+}
+
+#[test]
+fn tolerant_put_cell(rt: HostRuntime) -> Result<(), Fail> {
+    match full(rt.alloc()) {
+        Some(mut board) => put_beside_copy(&rt, rt.alloc(), &mut board),
+        None => Ok(()),
+    }
+}

@@ -1,0 +1,97 @@
+//! What boards tell beyond others.
+
+use crate::board::{NEW, OLD, board_of, issue, load};
+use squall_board::Board;
+use squall_report::Report;
+use std::alloc::{AllocError, Global};
+use std::test::Fail;
+
+/// What the board tells beyond that of these reports.
+fn beyond(alloc: Global, first: &Board, reports: &[Report]) -> Result<Board, AllocError> {
+    let second = board_of(alloc, reports)?;
+    first.beyond(alloc, &second)
+}
+
+/// Whether the board is that of these reports.
+fn is_of(alloc: Global, rest: &Board, reports: &[Report]) -> Result<bool, AllocError> {
+    let wanted = board_of(alloc, reports)?;
+    Ok(*rest == wanted)
+}
+
+/// Whether the board tells what the wanted reports tell beyond the others.
+fn leaves(
+    alloc: Global,
+    first: &Board,
+    b: &[Report],
+    wanted: &[Report],
+) -> Result<bool, AllocError> {
+    let rest = beyond(alloc, first, b)?;
+    is_of(alloc, &rest, wanted)
+}
+
+/// Whether of these reports the wanted ones are left.
+fn leave(alloc: Global, a: &[Report], b: &[Report], wanted: &[Report]) -> Result<bool, AllocError> {
+    let first = board_of(alloc, a)?;
+    leaves(alloc, &first, b, wanted)
+}
+
+/// A load and an opening.
+fn whole() -> Option<[Report; 2]> {
+    Some([load("2:0", "3:0")?, Report::opened(1, 1)?])
+}
+
+/// A load of keys amid the whole load, and a lower opening.
+fn middle() -> Option<[Report; 2]> {
+    Some([load("2:7", "2:9")?, Report::opened(1, 0)?])
+}
+
+/// The loads of the keys that are left of the whole load.
+fn ends() -> Option<[Report; 2]> {
+    Some([load("2:9", "3:0")?, load("2:0", "2:7")?])
+}
+
+/// Whether of the whole load the ends are left.
+fn leave_ends(alloc: Global, whole: &[Report], middle: &[Report]) -> Result<bool, Fail> {
+    let ends = ends().ok_or("ends")?;
+    Ok(leave(alloc, whole, middle, &ends)?)
+}
+
+#[test]
+fn loads_and_openings_beyond(rt: HostRuntime) -> Result<(), Fail> {
+    let whole = whole().ok_or("whole")?;
+    let middle = middle().ok_or("middle")?;
+    let list = &whole[..];
+    assert!(rt; leave_ends(rt.alloc(), &list[..1], &middle)?);
+    assert!(rt; leave(rt.alloc(), &list[1..], &middle, &list[1..])?);
+    Ok(())
+}
+
+fn completions() -> Option<[Report; 3]> {
+    Some([
+        Report::done(1, 0, 3)?,
+        load("2:0", "3:0")?,
+        Report::done(1, 0, 4)?,
+    ])
+}
+
+#[test]
+fn completions_beyond(rt: HostRuntime) -> Result<(), Fail> {
+    let alloc = rt.alloc();
+    let reports = completions().ok_or("reports")?;
+    let list = &reports[..];
+    assert!(rt; leave(alloc, list, &list[..1], &list[1..])?);
+    assert!(rt; leave(alloc, list, list, &[])?);
+    assert!(rt; leave(alloc, list, &[], list)?);
+    Ok(())
+}
+
+#[test]
+fn issues_beyond(rt: HostRuntime) -> Result<(), Fail> {
+    let alloc = rt.alloc();
+    let reports = [issue(alloc, 2, OLD, NEW)?, issue(alloc, 2, NEW, OLD)?];
+    let list = &reports[..];
+    assert!(rt; leave(alloc, &list[..1], &list[1..], &list[..1])?);
+    assert!(rt; leave(alloc, &list[..1], list, &[])?);
+    assert!(rt; leave(alloc, list, &list[..1], list)?);
+    Ok(())
+}

@@ -1,0 +1,50 @@
+//! What callers of a feed can learn from its contract.
+
+ghost use Rattle.std.specs.Prelude.{◌++◌, IfOk};
+ghost use Rattle.squall_wire.specs.Hearing.{HearsOn};
+
+use super::*;
+use std::test::Fail;
+
+/// Pushes one piece, and then the other where the first has no fault. What is heard is what the
+/// feed would hear in both as one piece.
+fn push_both(feed: &mut Feed, first: &[u8], second: &[u8]) -> Result<Heard, FeedFault>
+    ensures { IfOk result (λ heard. HearsOn feed.old (first.now ++ second.now) heard.messages.items heard.fault feed.new) }
+{
+    pushes_are_one();
+    faults_end_the_stream();
+    let Heard {
+        mut messages,
+        fault,
+    } = feed.push(first)?;
+    if fault.is_some() {
+        return Ok(Heard { messages, fault });
+    }
+    let mut second = feed.push(second)?;
+    messages.append(&mut second.messages)?;
+    Ok(Heard {
+        messages,
+        fault: second.fault,
+    })
+}
+
+/// How many messages the feed hears in two pieces, and the fault that it finds.
+fn hear_both(
+    feed: &mut Feed,
+    first: &[u8],
+    second: &[u8],
+) -> Result<(usize, Option<WireFault>), FeedFault> {
+    let heard = push_both(feed, first, second)?;
+    Ok((heard.messages.len(), heard.fault))
+}
+
+#[test]
+fn two_pieces_as_one(rt: HostRuntime) -> Result<(), Fail> {
+    let frame = hex(rt.alloc(), LOAD)?;
+    assert!(rt; frame.len() == 49);
+    let (first, second) = frame.split_at(30);
+    let mut feed = Feed::new(rt.alloc());
+    assert!(rt; hear_both(&mut feed, first, second)? == (1, None));
+    assert!(rt; hear_both(&mut feed, &[0x54], &frame)? == (0, Some(WireFault::Magic)));
+    Ok(())
+}

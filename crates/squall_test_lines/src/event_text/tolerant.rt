@@ -1,0 +1,36 @@
+//! Where an allocation fails, that is what is told.
+
+use squall_event_text::{add_answer, event_line, event_of};
+use squall_protocol::{Answer, Event};
+use std::alloc::Global;
+use std::test::Fail;
+
+/// Whether the line begins a course, or an allocation fails.
+fn begins(alloc: Global, text: &[u8]) -> bool {
+    let Some(words) = event_line(b"begin", text) else {
+        return false;
+    };
+    match event_of(alloc, words) {
+        Ok(Ok(Event::Begin(_))) | Err(_) => true,
+        Ok(_) => false,
+    }
+}
+
+#[test]
+fn tolerant_plan(rt: HostRuntime) -> Result<(), Fail> {
+    assert!(rt;
+        begins(
+            rt.alloc(),
+            b"{\"plan\":[{\"part\":5,\"from\":[0,0],\"to\":\"end\"}]}"
+        )
+    );
+    Ok(())
+}
+
+#[test]
+fn tolerant_answer(rt: HostRuntime) -> Result<(), Fail> {
+    let mut out = String::new(rt.alloc());
+    let added = add_answer(&Event::OpenNext, &Answer::Sent { index: 4 }, &mut out);
+    assert!(rt; added.is_err() || out.as_str() == "sent 4\n");
+    Ok(())
+}

@@ -1,0 +1,11 @@
+//! Tests of lines, words and texts, over public names alone. There is nothing here to call.
+#![tactic(auto)]
+
+#[cfg(test)]
+mod command;
+#[cfg(test)]
+mod event_text;
+#[cfg(test)]
+mod language;
+#[cfg(test)]
+mod lines;

@@ -1,0 +1,9 @@
+//! Tests of plans, courses and reports, over public names alone. There is nothing here to call.
+#![tactic(auto)]
+
+#[cfg(test)]
+mod course;
+#[cfg(test)]
+mod plan;
+#[cfg(test)]
+mod report;

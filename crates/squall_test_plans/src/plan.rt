@@ -1,0 +1,311 @@
+//! Tests of plans.
+
+mod clients;
+mod tolerant;
+
+use squall_key::{Bound, Key, PartId};
+use squall_plan::{Plan, PlanRange};
+use squall_span::Span;
+use std::alloc::{AllocError, Global};
+use std::process::Abort;
+use std::test::Fail;
+
+const OLD: &str =
+    "{\"plan\":[{\"part\":1,\"from\":[0,0],\"to\":[3,0]},{\"part\":2,\"from\":[3,0],\"to\":[5,0]},{\"part\":3,\"from\":[5,0],\"to\":[9,0]},{\"part\":4,\"from\":[9,0],\"to\":\"end\"}]}";
+
+const NEW: &str =
+    "{\"plan\":[{\"part\":1,\"from\":[0,0],\"to\":[2,0]},{\"part\":2,\"from\":[3,0],\"to\":[5,0]},{\"part\":3,\"from\":[2,0],\"to\":[3,0]},{\"part\":3,\"from\":[5,0],\"to\":[6,0]},{\"part\":4,\"from\":[6,0],\"to\":\"end\"}]}";
+
+/// The ranges of the plan of a text, or its fault, as they are printed.
+fn shown(alloc: Global, text: &[u8]) -> Result<String, Fail> {
+    let plan = match Plan::read(alloc, text) {
+        Ok(plan) => plan,
+        Err(fault) => return Ok(format!(in alloc; "{fault}")?),
+    };
+    let mut out = String::new(alloc);
+    for range in plan.ranges() {
+        let part = range.part;
+        let span = range.span;
+        write!(out, "{part} {span};")?;
+    }
+    Ok(out)
+}
+
+/// The text is shown so.
+///
+/// What a proof of a test costs grows with the values that the test owns, times the ways out of it: so this function
+/// owns the one string, and the tests own none.
+fn shows(rt: &impl Abort, alloc: Global, text: &[u8], wanted: &str) -> Result<(), Fail> {
+    let shown = shown(alloc, text)?;
+    assert!(rt; shown.as_str() == wanted);
+    Ok(())
+}
+
+/// A text with this entry alone is shown so.
+fn one_shows(rt: &impl Abort, alloc: Global, entry: &str, wanted: &str) -> Result<(), Fail> {
+    let text = format!(in alloc; "{{\"plan\":[{entry}]}}")?;
+    shows(rt, alloc, text.as_bytes(), wanted)
+}
+
+fn range(part: u32, lo: &str, hi: &str) -> Result<PlanRange, Fail> {
+    let lo = Bound::read(lo).ok_or("a low bound")?;
+    let hi = Bound::read(hi).ok_or("a high bound")?;
+    let span = Span::new(lo, hi).ok_or("a span")?;
+    let part = PartId::new(part).ok_or("a partition")?;
+    Ok(PlanRange { span, part })
+}
+
+#[test]
+fn texts_that_are_plans(rt: HostRuntime) -> Result<(), Fail> {
+    let old = "1 [0:0,3:0);2 [3:0,5:0);3 [5:0,9:0);4 [9:0,end);";
+    let new = "1 [0:0,2:0);3 [2:0,3:0);2 [3:0,5:0);3 [5:0,6:0);4 [6:0,end);";
+    let one =
+        "{\"plan\":[{\"part\":9999,\"from\":[0,0],\"to\":[4294967295,0],\"note\":\"x\"}],\"v\":1}";
+    for (text, wanted) in [(OLD, old), (NEW, new), (one, "9999 [0:0,end);")] {
+        shows(&rt, rt.alloc(), text.as_bytes(), wanted)?;
+    }
+    Ok(())
+}
+
+#[test]
+fn texts_without_a_list(rt: HostRuntime) -> Result<(), Fail> {
+    shows(&rt, rt.alloc(), &[255], "Json")?;
+    for (text, wanted) in [
+        ("", "Json"),
+        ("{\"plan\":[", "Json"),
+        ("[]", "Shape"),
+        ("{\"plan\":{}}", "Shape"),
+        ("{}", "Shape"),
+        ("{\"plan\":[]}", "Gap 0:0"),
+        ("{\"plan\":[],\"plan\":{}}", "Shape"),
+        ("{\"plan\":{},\"plan\":[]}", "Gap 0:0"),
+    ] {
+        shows(&rt, rt.alloc(), text.as_bytes(), wanted)?;
+    }
+    Ok(())
+}
+
+#[test]
+fn entries_without_the_form(rt: HostRuntime) -> Result<(), Fail> {
+    for (entry, wanted) in [
+        ("{\"part\":1,\"from\":[0,0]}", "Shape 0"),
+        ("{\"part\":-1,\"from\":[0,0],\"to\":\"end\"}", "Shape 0"),
+        ("{\"part\":1,\"from\":[0,0],\"to\":\"END\"}", "Shape 0"),
+        ("{\"part\":1.0,\"from\":[0,0],\"to\":\"end\"}", "Shape 0"),
+        ("{\"part\":1e0,\"from\":[0,0],\"to\":\"end\"}", "Shape 0"),
+        ("{\"part\":-0,\"from\":[0,0],\"to\":\"end\"}", "Shape 0"),
+        (
+            "{\"part\":18446744073709551616,\"from\":[0,0],\"to\":\"end\"}",
+            "Shape 0",
+        ),
+        ("{\"part\":1e999,\"from\":[0,0],\"to\":\"end\"}", "Json"),
+        (
+            "{\"part\":18446744073709551615,\"from\":[0,0],\"to\":\"end\"}",
+            "BadPart 0",
+        ),
+    ] {
+        one_shows(&rt, rt.alloc(), entry, wanted)?;
+    }
+    Ok(())
+}
+
+#[test]
+fn entries_that_are_no_ranges(rt: HostRuntime) -> Result<(), Fail> {
+    for (entry, wanted) in [
+        (
+            "{\"part\":10000,\"from\":[0,0],\"to\":\"end\"}",
+            "BadPart 0",
+        ),
+        (
+            "{\"part\":1,\"from\":[4294967295,1],\"to\":\"end\"}",
+            "BadBound 0",
+        ),
+        (
+            "{\"part\":1,\"from\":[0,4294967296],\"to\":\"end\"}",
+            "BadBound 0",
+        ),
+        (
+            "{\"part\":1,\"from\":[4294967295,0],\"to\":\"end\"}",
+            "EmptyRange 0",
+        ),
+        (
+            "{\"part\":1,\"from\":[0,4294967296],\"to\":\"end\"},{\"part\":10000,\"from\":[0,0],\"to\":\"end\"}",
+            "BadPart 1",
+        ),
+        (
+            "{\"part\":1,\"from\":[0,0],\"to\":[3,5]},{\"part\":2,\"from\":[3,0],\"to\":\"end\"}",
+            "Overlap 3:0",
+        ),
+        (
+            "{\"part\":1,\"from\":[0,0],\"to\":[3,5]},{\"part\":2,\"from\":[3,6],\"to\":\"end\"}",
+            "Gap 3:5",
+        ),
+    ] {
+        one_shows(&rt, rt.alloc(), entry, wanted)?;
+    }
+    Ok(())
+}
+
+/// A plan beside a member of that many arrays, one in another.
+fn nested(alloc: Global, depth: u32) -> Result<String, AllocError> {
+    let mut text = String::new(alloc);
+    text.push_str("{\"plan\":[{\"part\":1,\"from\":[0,0],\"to\":\"end\"}],\"x\":")?;
+    for _ in 0..depth {
+        text.push_str("[")?;
+    }
+    for _ in 0..depth {
+        text.push_str("]")?;
+    }
+    text.push_str("}")?;
+    Ok(text)
+}
+
+/// A plan beside that many arrays is shown so.
+fn nested_shows(rt: &impl Abort, alloc: Global, depth: u32, wanted: &str) -> Result<(), Fail> {
+    let text = nested(alloc, depth)?;
+    shows(rt, alloc, text.as_bytes(), wanted)
+}
+
+#[test]
+fn deep_texts(rt: HostRuntime) -> Result<(), Fail> {
+    nested_shows(&rt, rt.alloc(), 126, "1 [0:0,end);")?;
+    nested_shows(&rt, rt.alloc(), 127, "Json")
+}
+
+/// A text of 4097 entries.
+fn of_4097(alloc: Global) -> Result<String, AllocError> {
+    let mut text = String::new(alloc);
+    text.push_str("{\"plan\":[{\"part\":1,\"from\":[0,0],\"to\":\"end\"}")?;
+    for _ in 0..4096 {
+        text.push_str(",{\"part\":1,\"from\":[0,0],\"to\":\"end\"}")?;
+    }
+    text.push_str("]}")?;
+    Ok(text)
+}
+
+#[test]
+fn too_many(rt: HostRuntime) -> Result<(), Fail> {
+    let text = of_4097(rt.alloc())?;
+    shows(&rt, rt.alloc(), text.as_bytes(), "TooMany")
+}
+
+/// A text of 4096 entries, which make one range.
+fn of_4096(alloc: Global) -> Result<String, AllocError> {
+    let mut text = String::new(alloc);
+    text.push_str("{\"plan\":[")?;
+    for root in 0..4095u32 {
+        let next = root + 1;
+        write!(
+            text,
+            "{{\"part\":1,\"from\":[{root},0],\"to\":[{next},0]}},"
+        )?;
+    }
+    text.push_str("{\"part\":1,\"from\":[4095,0],\"to\":\"end\"}]}")?;
+    Ok(text)
+}
+
+#[test]
+fn as_many_as_there_can_be(rt: HostRuntime) -> Result<(), Fail> {
+    let text = of_4096(rt.alloc())?;
+    shows(&rt, rt.alloc(), text.as_bytes(), "1 [0:0,end);")
+}
+
+/// A plan of two ranges that make one, given in falling order.
+fn plan_of_one_range(alloc: Global) -> Result<Plan, Fail> {
+    let ranges = [range(1, "2:0", "end")?, range(1, "0:0", "2:0")?];
+    let plan = Plan::from_ranges(alloc, &ranges).ok().ok_or("one range")?;
+    Ok(plan)
+}
+
+/// Whether a copy of the plan is equal to it.
+fn is_its_copy(alloc: Global, plan: &Plan) -> Result<bool, AllocError> {
+    let copy = plan.copied(alloc)?;
+    Ok(copy == *plan)
+}
+
+/// The plan of the new text.
+fn new_plan(alloc: Global) -> Result<Plan, Fail> {
+    let plan = Plan::read(alloc, NEW.as_bytes())
+        .ok()
+        .ok_or("the new plan")?;
+    Ok(plan)
+}
+
+/// The plan is of one range, and it is not the new one.
+fn look_at_one_range(rt: &impl Abort, alloc: Global, plan: &Plan) -> Result<(), Fail> {
+    assert!(rt; plan.ranges() == [range(1, "0:0", "end")?].as_slice());
+    assert!(rt; is_its_copy(alloc, plan)?);
+    let new = new_plan(alloc)?;
+    assert!(rt; new != *plan);
+    Ok(())
+}
+
+#[test]
+fn ranges_that_are_joined(rt: HostRuntime) -> Result<(), Fail> {
+    let plan = plan_of_one_range(rt.alloc())?;
+    look_at_one_range(&rt, rt.alloc(), &plan)
+}
+
+/// Looks at the owners of keys by the new plan.
+fn look_at_owners(rt: &impl Abort, new: &Plan) -> Result<(), Fail> {
+    let owners = [
+        ("0:0", 1),
+        ("1:4294967295", 1),
+        ("2:0", 3),
+        ("4:7", 2),
+        ("5:0", 3),
+        ("6:0", 4),
+    ];
+    for (key, part) in owners {
+        let key = Key::read(key).ok_or("a key")?;
+        assert!(rt; new.owner(key).get() == part);
+        assert!(rt; new.names(clients::named_owner(new, key)));
+    }
+    let other = PartId::new(5).ok_or("a partition")?;
+    assert!(rt; !new.names(other));
+    Ok(())
+}
+
+#[test]
+fn owners(rt: HostRuntime) -> Result<(), Fail> {
+    let new = new_plan(rt.alloc())?;
+    look_at_owners(&rt, &new)
+}
+
+/// The range of roots from `place` on that is the partition 1000 + `place`: one root, or all that
+/// is left.
+fn step(place: u32) -> Result<PlanRange, Fail> {
+    let end = if place >= 4095 { 4294967295 } else { place + 1 };
+    let lo = Bound::new(place, 0).ok_or("a low bound")?;
+    let hi = Bound::new(end, 0).ok_or("a high bound")?;
+    let span = Span::new(lo, hi).ok_or("a span")?;
+    let part = PartId::new(place.saturating_add(1000)).ok_or("a partition")?;
+    Ok(PlanRange { span, part })
+}
+
+/// The 4096 ranges of one root each, and of all that is left, in falling order.
+fn falling_ranges(alloc: Global) -> Result<Vec<PlanRange>, Fail> {
+    let mut ranges = Vec::new(alloc);
+    for place in 0..4096u32 {
+        ranges.push(step(4095 - place)?)?;
+    }
+    Ok(ranges)
+}
+
+/// The plan of these ranges.
+fn plan_of_4096(alloc: Global) -> Result<Plan, Fail> {
+    let ranges = falling_ranges(alloc)?;
+    let plan = Plan::from_ranges(alloc, &ranges).ok().ok_or("a plan")?;
+    Ok(plan)
+}
+
+#[test]
+fn a_plan_of_4096_ranges(rt: HostRuntime) -> Result<(), Fail> {
+    let plan = plan_of_4096(rt.alloc())?;
+    assert!(rt; clients::count(&plan) == 4096);
+    for range in plan.ranges() {
+        assert!(rt; plan.names(range.part));
+    }
+    assert!(rt; is_its_copy(rt.alloc(), &plan)?);
+    Ok(())
+}

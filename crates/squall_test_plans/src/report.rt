@@ -1,0 +1,260 @@
+mod worked;
+
+use squall_join::Exact;
+use squall_key::Bound;
+use squall_plan::Plan;
+use squall_report::*;
+use squall_span::Span;
+use std::alloc::{AllocError, Global};
+use std::process::Abort;
+use std::sync::Arc;
+use std::test::Fail;
+
+const OLD: &str =
+    "{\"plan\":[{\"part\":1,\"from\":[0,0],\"to\":[3,0]},{\"part\":2,\"from\":[3,0],\"to\":[5,0]},{\"part\":3,\"from\":[5,0],\"to\":[9,0]},{\"part\":4,\"from\":[9,0],\"to\":\"end\"}]}";
+
+const NEW: &str =
+    "{\"plan\":[{\"part\":1,\"from\":[0,0],\"to\":[2,0]},{\"part\":2,\"from\":[3,0],\"to\":[5,0]},{\"part\":3,\"from\":[2,0],\"to\":[3,0]},{\"part\":3,\"from\":[5,0],\"to\":[6,0]},{\"part\":4,\"from\":[6,0],\"to\":\"end\"}]}";
+
+fn span(lo: &str, hi: &str) -> Result<Span, Fail> {
+    let lo = Bound::read(lo).ok_or("a low bound")?;
+    let hi = Bound::read(hi).ok_or("a high bound")?;
+    let span = Span::new(lo, hi).ok_or("a span")?;
+    Ok(span)
+}
+
+fn plan(alloc: Global, text: &str) -> Option<Plan> {
+    Plan::read(alloc, text.as_bytes()).ok()
+}
+
+/// The issue of the plans of two texts.
+fn issue(alloc: Global, old: &str, new: &str) -> Result<Arc<Issue>, Fail> {
+    let old = plan(alloc, old).ok_or("an old plan")?;
+    let new = plan(alloc, new).ok_or("a new plan")?;
+    let issue = Issue::new(alloc, &old, &new)?;
+    Ok(issue)
+}
+
+#[test]
+fn cells_within_the_limits(rt: HostRuntime) -> Result<(), Fail> {
+    for (number, sub, part) in [(1, 0, 0), (7, 2, 3), (4294967295, 9999, 9999)] {
+        let cell = CellId::new(number, sub, part).ok_or("a cell")?;
+        assert!(rt; (cell.number(), cell.sub(), cell.part()) == (number, sub, part));
+    }
+    for (number, sub, part) in [(0, 0, 0), (1, 10000, 0), (1, 0, 10000)] {
+        assert!(rt; CellId::new(number, sub, part).is_none());
+    }
+    Ok(())
+}
+
+/// Four cells in order.
+fn four_cells() -> Option<[CellId; 4]> {
+    Some([
+        CellId::new(1, 0, 9)?,
+        CellId::new(1, 2, 0)?,
+        CellId::new(1, 2, 1)?,
+        CellId::new(2, 0, 0)?,
+    ])
+}
+
+#[test]
+fn order_of_cells(rt: HostRuntime) -> Result<(), Fail> {
+    let four = four_cells().ok_or("cells")?;
+    let rising = four.as_slice();
+    for pair in rising.windows(2) {
+        assert!(rt; pair[0] < pair[1]);
+        assert!(rt; pair[0] != pair[1]);
+    }
+    let again = CellId::new(2, 0, 0).ok_or("a cell")?;
+    assert!(rt; rising[3] == again);
+    Ok(())
+}
+
+/// Whether there is such a load.
+fn is_load(number: u32, sub: u32, part: u32, span: Span) -> bool {
+    Report::loaded(number, sub, part, span).is_some()
+}
+
+#[test]
+fn loads_outside_the_limits(rt: HostRuntime) -> Result<(), Fail> {
+    let span = span("2:0", "3:0")?;
+    for (number, sub, part) in [(0, 0, 3), (1, 10000, 3), (1, 0, 10000)] {
+        assert!(rt; !is_load(number, sub, part, span));
+    }
+    Ok(())
+}
+
+/// Whether there is such a completion.
+fn is_completion(number: u32, sub: u32, part: u32) -> bool {
+    Report::done(number, sub, part).is_some()
+}
+
+#[test]
+fn completions_outside_the_limits(rt: HostRuntime) {
+    for (number, sub, part) in [(0, 0, 3), (1, 10000, 3), (1, 0, 10000)] {
+        assert!(rt; !is_completion(number, sub, part));
+    }
+}
+
+/// Whether there is such an opening.
+fn is_opening(number: u32, sub: u32) -> bool {
+    Report::opened(number, sub).is_some()
+}
+
+/// Whether a plan can be issued under the number.
+fn is_issue(alloc: Global, number: u32) -> Result<bool, Fail> {
+    let issue = issue(alloc, OLD, NEW)?;
+    Ok(Report::issued(number, issue).is_some())
+}
+
+#[test]
+fn openings_and_issues_outside_the_limits(rt: HostRuntime) -> Result<(), Fail> {
+    assert!(rt; !is_opening(0, 0) && !is_opening(1, 10000));
+    assert!(rt; !is_issue(rt.alloc(), 0)?);
+    Ok(())
+}
+
+/// Looks at the kind of the load of the span with the greatest numbers.
+fn look_at_load(rt: &impl Abort, load: &Report, wanted: Span) -> Result<(), Fail> {
+    let ReportKind::Loaded {
+        number,
+        sub,
+        part,
+        span,
+    } = load.kind()
+    else {
+        return Err("no load".into());
+    };
+    assert!(rt; (number, sub, part) == (4294967295, 9999, 9999));
+    assert!(rt; span == wanted);
+    Ok(())
+}
+
+#[test]
+fn kind_of_a_load(rt: HostRuntime) -> Result<(), Fail> {
+    let span = span("2:0", "3:0")?;
+    let load = Report::loaded(4294967295, 9999, 9999, span).ok_or("load")?;
+    look_at_load(&rt, &load, span)
+}
+
+/// Whether the report is of the completion of partition 4 in sub-plan 2 of number 1.
+fn is_done(report: &Report) -> bool {
+    matches!(
+        report.kind(),
+        ReportKind::Done {
+            number: 1,
+            sub: 2,
+            part: 4
+        }
+    )
+}
+
+#[test]
+fn kind_of_a_completion(rt: HostRuntime) -> Result<(), Fail> {
+    let done = Report::done(1, 2, 4).ok_or("completion")?;
+    assert!(rt; is_done(&done));
+    Ok(())
+}
+
+/// Whether the report is of the opening of the last sub-plan of number 1.
+fn is_opened(report: &Report) -> bool {
+    matches!(
+        report.kind(),
+        ReportKind::Opened {
+            number: 1,
+            sub: 9999
+        }
+    )
+}
+
+#[test]
+fn kind_of_an_opening(rt: HostRuntime) -> Result<(), Fail> {
+    let opened = Report::opened(1, 9999).ok_or("opening")?;
+    assert!(rt; is_opened(&opened));
+    Ok(())
+}
+
+/// Whether the plan is that of the text.
+fn is_of_text(alloc: Global, plan: &Plan, text: &str) -> bool {
+    match self::plan(alloc, text) {
+        Some(wanted) => *plan == wanted,
+        None => false,
+    }
+}
+
+/// Looks at the kind of the issue of the new plan after the old one.
+fn look_at_issue(rt: &impl Abort, alloc: Global, issued: &Report) -> Result<(), Fail> {
+    let ReportKind::Issued { number, issue } = issued.kind() else {
+        return Err("no issue".into());
+    };
+    assert!(rt; number == 2);
+    assert!(rt; is_of_text(alloc, issue.old(), OLD));
+    assert!(rt; is_of_text(alloc, issue.new_plan(), NEW));
+    Ok(())
+}
+
+#[test]
+fn kind_of_an_issue(rt: HostRuntime) -> Result<(), Fail> {
+    let issue = issue(rt.alloc(), OLD, NEW)?;
+    let issued = Report::issued(2, issue).ok_or("issue")?;
+    look_at_issue(&rt, rt.alloc(), &issued)
+}
+
+/// Whether the issue is that of the plans of two texts.
+fn is_issue_of(alloc: Global, issue: &Issue, old: &str, new: &str) -> Result<bool, Fail> {
+    let other = self::issue(alloc, old, new)?;
+    Ok(*issue == *other)
+}
+
+#[test]
+fn equal_issues(rt: HostRuntime) -> Result<(), Fail> {
+    let forth = issue(rt.alloc(), OLD, NEW)?;
+    for (old, new, is_same) in [(OLD, NEW, true), (OLD, OLD, false), (NEW, NEW, false)] {
+        assert!(rt; is_issue_of(rt.alloc(), &forth, old, new)? == is_same);
+    }
+    Ok(())
+}
+
+/// A copy is the value, and not the other one.
+fn copies<T: Exact>(
+    rt: &impl Abort,
+    alloc: Global,
+    value: &T,
+    other: &T,
+) -> Result<(), AllocError> {
+    let copy = value.copied(alloc)?;
+    assert!(rt; copy.is_same(value));
+    assert!(rt; !copy.is_same(other));
+    Ok(())
+}
+
+/// A copy of the issue is the issue, and not that of the same plans the other way round.
+fn copies_one_way(rt: &impl Abort, alloc: Global, forth: &Issue) -> Result<(), Fail> {
+    let back = issue(alloc, NEW, OLD)?;
+    copies::<Issue>(rt, alloc, forth, &back)?;
+    Ok(())
+}
+
+#[test]
+fn issues_through_the_bound(rt: HostRuntime) -> Result<(), Fail> {
+    let forth = issue(rt.alloc(), OLD, NEW)?;
+    copies_one_way(&rt, rt.alloc(), &forth)
+}
+
+/// An issue has both plans, or there is none.
+fn new_issue_has_plans(rt: &impl Abort, alloc: Global, old: &Plan, new: &Plan) {
+    if let Ok(issue) = Issue::new(alloc, old, new) {
+        assert!(rt; *issue.old() == *old && *issue.new_plan() == *new);
+    }
+}
+
+#[test]
+fn tolerant_new_issue(rt: HostRuntime) -> Result<(), Fail> {
+    let Some(old) = plan(rt.alloc(), OLD) else {
+        return Ok(());
+    };
+    if let Some(new) = plan(rt.alloc(), NEW) {
+        new_issue_has_plans(&rt, rt.alloc(), &old, &new);
+    }
+    Ok(())
+}

@@ -1,0 +1,88 @@
+//! What callers of borrowed routers learn, from public names alone.
+
+ghost use Rattle.std.specs.Prelude.{◌≡◌, ℕ, ◌<◌, true, List};
+ghost use Rattle.std.specs.Arc.{arc_value};
+ghost use Rattle.squall_key.specs.Keys.{top};
+ghost use Rattle.squall_course.specs.Subplans.{moves};
+ghost use Rattle.squall_report.specs.declared.report.ReportKind.{ReportKind};
+ghost use Rattle.squall_report.specs.Issues.{PlanPair};
+ghost use Rattle.squall_report.specs.Told.{SameTold};
+ghost use Rattle.squall_board.specs.Boards.{HasTaken, says, told};
+ghost use Rattle.squall_board.specs.Route.{has_come};
+ghost use Rattle.squall_board.specs.CourseRoute.{course_of_reports, route_by_reports};
+ghost use Rattle.squall_router.specs.Routers.{course_of_router};
+
+use super::{Missing, router};
+use squall_course::Course;
+use squall_key::{Key, PartId};
+use squall_router::{
+    Router, all_in_is_the_new_plan, routers_follow_reports, same_told_same_routers,
+};
+use squall_table::Leg;
+use std::alloc::Global;
+use std::sync::Arc;
+use std::test::Fail;
+
+/// The course of the reports that the router has taken.
+fn course_by_reports(router: &Router) -> &Arc<Course>
+    ensures { (rs : List (ReportKind PlanPair)) → HasTaken router.now.board rs → arc_value result.now ≡ course_of_reports router.now.first rs }
+{
+    routers_follow_reports(router);
+    router.course()
+}
+
+/// The partition to ask for the key by the reports that the router has taken.
+fn part_by_reports(router: &Router, key: Key) -> PartId
+    ensures { (rs : List (ReportKind PlanPair)) → HasTaken router.now.board rs → result ≡ route_by_reports router.now.first rs key }
+{
+    routers_follow_reports(router);
+    router.route(key)
+}
+
+/// The entries of both tables: one list, where the routers began alike and heard the same.
+fn both_entries<'a>(one: &'a Router, other: &'a Router) -> (&'a [Leg], &'a [Leg])
+    ensures { one.now.first ≡ other.now.first → SameTold (told one.now.board) (told other.now.board) → result.0.now ≡ result.1.now }
+{
+    same_told_same_routers(one, other);
+    (one.table().entries(), other.table().entries())
+}
+
+/// The partitions to ask for the key: one, where the routers began alike and heard the same.
+fn both_parts(one: &Router, other: &Router, key: Key) -> (PartId, PartId)
+    ensures { one.now.first ≡ other.now.first → SameTold (told one.now.board) (told other.now.board) → result.0 ≡ result.1 }
+{
+    same_told_same_routers(one, other);
+    (one.route(key), other.route(key))
+}
+
+/// The entries of the table: the ranges of the new plan, once all has come.
+fn entries_once_all_is_in(router: &Router) -> &[Leg]
+    ensures { ((k : ℕ) → k < top → moves (course_of_router router.now).old (course_of_router router.now).new k ≡ true → has_come (course_of_router router.now) (says router.now.board) k ≡ true) → result.now ≡ (course_of_router router.now).new }
+{
+    all_in_is_the_new_plan(router);
+    router.table().entries()
+}
+
+/// Whether two routers answer alike, to each client above.
+fn clients_agree(alloc: Global, key: Key) -> Result<bool, Missing> {
+    let one = router(alloc)?;
+    let other = router(alloc)?;
+    let parts = both_parts(&one, &other, key);
+    let entries = both_entries(&one, &other);
+    Ok(parts.0 == parts.1 && entries.0 == entries.1 && part_by_reports(&one, key) == parts.0)
+}
+
+/// Whether what one router says by its reports is what it says.
+fn says_by_reports(alloc: Global) -> Result<bool, Missing> {
+    let router = router(alloc)?;
+    let entries = entries_once_all_is_in(&router).len();
+    Ok(course_by_reports(&router).number() == 1 && entries == router.table().entries().len())
+}
+
+#[test]
+fn callers_learn(rt: HostRuntime) -> Result<(), Fail> {
+    let key = Key::read("2:0").ok_or("key")?;
+    assert!(rt; clients_agree(rt.alloc(), key)?);
+    assert!(rt; says_by_reports(rt.alloc())?);
+    Ok(())
+}

@@ -1,0 +1,167 @@
+//! Tests of running clusters. The plans, reports and partitions were worked out by hand.
+
+ghost use Rattle.std.specs.Prelude.{◌≡◌, [], ◌∷◌, length, IfSome, None};
+ghost use Rattle.std.specs.Arc.{arc_value};
+ghost use Rattle.squall_inbox.specs.Ends.{posting_of};
+ghost use Rattle.squall_cluster.specs.Owners.{owning_with, IsBoardOfPosted};
+
+mod clusters;
+mod gates;
+mod races;
+mod random;
+mod steps;
+mod tolerant;
+
+use squall_board::Board;
+use squall_cluster::{Case, Cluster, Letter, Line, Owner, Sender, Setup, Track, close};
+use squall_course::Course;
+use squall_key::{Bound, Key};
+use squall_plan::Plan;
+use squall_report::Report;
+use squall_span::Span;
+use std::alloc::Global;
+use std::sync::{Arc, Wait};
+
+/// Partition 1 below 3:0, then 2 below 5:0, then 3 below 9:0, then 4.
+const OLD: &str =
+    "{\"plan\":[{\"part\":1,\"from\":[0,0],\"to\":[3,0]},{\"part\":2,\"from\":[3,0],\"to\":[5,0]},{\"part\":3,\"from\":[5,0],\"to\":[9,0]},{\"part\":4,\"from\":[9,0],\"to\":\"end\"}]}";
+
+/// From 2:0 to 3:0 the keys of partition 1 go to 3, and from 6:0 to 9:0 those of 3 go to 4, all in
+/// sub-plan 0.
+const NEW: &str =
+    "{\"plan\":[{\"part\":1,\"from\":[0,0],\"to\":[2,0]},{\"part\":2,\"from\":[3,0],\"to\":[5,0]},{\"part\":3,\"from\":[2,0],\"to\":[3,0]},{\"part\":3,\"from\":[5,0],\"to\":[6,0]},{\"part\":4,\"from\":[6,0],\"to\":\"end\"}]}";
+
+/// Course 1 from the old plan to the new one. None also where an allocation fails.
+fn course(alloc: Global) -> Option<Arc<Course>> {
+    let old = Plan::read(alloc, OLD.as_bytes()).ok()?;
+    let new = Plan::read(alloc, NEW.as_bytes()).ok()?;
+    let course = Course::new(alloc, 1, &old, &new).ok()?;
+    Arc::new(alloc, course).ok()
+}
+
+/// From 2:0 to 3:0 the keys are loaded at partition 3.
+fn load() -> Option<Report> {
+    let span = Span::new(Bound::new(2, 0)?, Bound::new(3, 0)?)?;
+    Report::loaded(1, 0, 3, span)
+}
+
+/// Partition 4 is done.
+fn done() -> Option<Report> {
+    Report::done(1, 0, 4)
+}
+
+/// The board of these reports. None where an allocation fails.
+fn board(alloc: Global, reports: &[Report]) -> Option<Board> {
+    let mut board = Board::new(alloc);
+    board.take_all(reports).ok()?;
+    Some(board)
+}
+
+/// The letter of the report. None where an allocation fails.
+fn letter(alloc: Global, report: &Report) -> Option<Letter> {
+    let mut board = Board::new(alloc);
+    board.take(report).ok()?;
+    Some(Letter::new(board))
+}
+
+/// The letter of the load, and that of the completion. None where an allocation fails.
+fn two_letters(alloc: Global) -> Option<(Letter, Letter)> {
+    let first = letter(alloc, &load()?)?;
+    let second = letter(alloc, &done()?)?;
+    Some((first, second))
+}
+
+/// The board of the load and the completion. None where an allocation fails.
+fn board_of_both(alloc: Global) -> Option<Board> {
+    let mut board = board(alloc, &[load()?])?;
+    board.take(&done()?).ok()?;
+    Some(board)
+}
+
+/// What a cluster is made with: its course and its opening board.
+#[derive(Drop)]
+struct Start {
+    first: Arc<Course>,
+    opening: Board,
+}
+
+/// The start with course 1 and the board of no report. None where an allocation fails.
+fn empty_start(alloc: Global) -> Option<Start> {
+    let first = course(alloc)?;
+    let opening = Board::new(alloc);
+    Some(Start { first, opening })
+}
+
+/// A cluster of two senders, as a test has it.
+#[derive(Drop)]
+struct Pair<K: Case, R: Wait + Drop> {
+    cluster: Cluster<K>,
+    first: Sender<K>,
+    second: Sender<K>,
+    owner: Owner<K, R>,
+}
+
+/// A cluster of two senders and so many readers, whose inbox has room for one letter. None where an
+/// allocation fails.
+fn opened<K: Case, R: Wait + Drop>(
+    rt: R,
+    alloc: Global,
+    book: (Track, Line),
+    start: &Start,
+    readers: usize,
+) -> Option<Pair<K, R>>
+    requires book { (book.0 ≡ K.book) × (book.1.book ≡ K.book) × (book.1.log ≡ []) }
+    requires start { (arc_value start.now.first ≡ K.first) × (start.now.opening ≡ K.opening) }
+    ensures { IfSome result (λ pair. (pair.first ≡ posting_of pair.owner.inbox 0 []) × (pair.second ≡ posting_of pair.owner.inbox 1 []) × (pair.owner ≡ owning_with pair.owner.inbox 2)) }
+{
+    let made = Cluster::<K>::new(
+        rt,
+        alloc,
+        book.0,
+        book.1,
+        &start.first,
+        &start.opening,
+        2,
+        readers,
+        1,
+    );
+    let Setup {
+        cluster,
+        mut senders,
+        owner,
+    } = made.ok()?;
+    let second = senders.pop()?;
+    let first = senders.pop()?;
+    Some(Pair {
+        cluster,
+        first,
+        second,
+        owner,
+    })
+}
+
+/// Ends both senders and closes the cluster, at a second try where the first had no memory. None where
+/// that has none either.
+fn closed<K: Case, R: Wait + Drop>(
+    alloc: Global,
+    first: Sender<K>,
+    second: Sender<K>,
+    owner: Owner<K, R>,
+) -> Option<Board>
+    requires inbox { (first.inbox ≡ owner.inbox) × (second.inbox ≡ owner.inbox) }
+    requires all { (owner.vouched ≡ []) × (owner.made ≡ 2) }
+    ensures { IfSome result (IsBoardOfPosted K.allowed K.opening ((second.from, second.posted) ∷ (first.from, first.posted) ∷ [])) }
+{
+    let mut spent = Vec::new(alloc);
+    spent.push(first.end()).ok()?;
+    spent.push(second.end()).ok()?;
+    match close(spent, owner) {
+        Ok(board) => Some(board),
+        Err(fault) => close(fault.spent, fault.owner).ok(),
+    }
+}
+
+/// The key 2:0.
+fn moving_key() -> Option<Key> {
+    Key::new(2, 0)
+}

@@ -1,0 +1,195 @@
+//! Clusters of all sizes, and two at once.
+
+ghost use Rattle.std.specs.Prelude.{◌≡◌, []};
+ghost use Rattle.std.specs.Arc.{arc_value};
+
+use super::{Start, board, closed, course, empty_start, load, moving_key, opened};
+use squall_board::Board;
+use squall_cluster::{Case, Cluster, Line, Seat, SeatFault, Track};
+use squall_key::PartId;
+use std::alloc::Global;
+use std::marker::Brand;
+use std::sync::Wait;
+use std::test::Fail;
+
+/// The text of the fault with these numbers. None where a cluster was made, which it lets go.
+fn fault_of<K: Case, R: Wait>(
+    rt: &R,
+    alloc: Global,
+    book: (Track, Line),
+    start: &Start,
+    numbers: (usize, usize, usize),
+) -> Result<Option<String>, Fail>
+    requires book { (book.0 ≡ K.book) × (book.1.book ≡ K.book) × (book.1.log ≡ []) }
+    requires start { (arc_value start.now.first ≡ K.first) × (start.now.opening ≡ K.opening) }
+{
+    let (senders, readers, capacity) = numbers;
+    let made = Cluster::<K>::new(
+        rt,
+        alloc,
+        book.0,
+        book.1,
+        &start.first,
+        &start.opening,
+        senders,
+        readers,
+        capacity,
+    );
+    match made {
+        Ok(_setup) => Ok(None),
+        Err(fault) => Ok(Some(format!(in alloc; "{fault}")?)),
+    }
+}
+
+/// Whether the fault with these numbers has that text; where it is empty, whether a cluster was made.
+fn answers(
+    rt: &impl Wait,
+    alloc: Global,
+    start: &Start,
+    numbers: (usize, usize, usize),
+    wanted: &str,
+) -> Result<bool, Fail> {
+    let fault = fault_of::<Brand, _>(rt, alloc, Line::open(), start, numbers)?;
+    Ok(match fault {
+        Some(text) => text.as_str() == wanted,
+        None => wanted.is_empty(),
+    })
+}
+
+#[test]
+fn limits(rt: HostRuntime) -> Result<(), Fail> {
+    let start = empty_start(rt.alloc()).ok_or("a start")?;
+    assert!(rt; answers(&rt, rt.alloc(), &start, (0, 1, 1), "BadSenders")?);
+    assert!(rt; answers(&rt, rt.alloc(), &start, (65, 65, 1), "BadSenders")?);
+    assert!(rt; answers(&rt, rt.alloc(), &start, (2, 65, 0), "BadReaders")?);
+    assert!(rt; answers(&rt, rt.alloc(), &start, (2, 1, 0), "BadCapacity")?);
+    assert!(rt; answers(&rt, rt.alloc(), &start, (2, 1, 65537), "BadCapacity")?);
+    assert!(rt; answers(&rt, rt.alloc(), &start, (64, 64, 65536), "")?);
+    Ok(())
+}
+
+/// The start with course 1 and the board of one load. None where an allocation fails.
+fn loaded_start(alloc: Global) -> Option<Start> {
+    let first = course(alloc)?;
+    let opening = board(alloc, &[load()?])?;
+    Some(Start { first, opening })
+}
+
+/// The board of a cluster whose senders end at once. None where an allocation fails.
+fn ended<K: Case, R: Wait>(
+    rt: &R,
+    alloc: Global,
+    book: (Track, Line),
+    start: &Start,
+) -> Option<Board>
+    requires book { (book.0 ≡ K.book) × (book.1.book ≡ K.book) × (book.1.log ≡ []) }
+    requires start { (arc_value start.now.first ≡ K.first) × (start.now.opening ≡ K.opening) }
+{
+    let pair = opened::<K, &R>(rt, alloc, book, start, 0)?;
+    closed(alloc, pair.first, pair.second, pair.owner)
+}
+
+#[test]
+fn ends_at_once(rt: HostRuntime) -> Result<(), Fail> {
+    let start = loaded_start(rt.alloc()).ok_or("a start")?;
+    let board = ended::<Brand, _>(&rt, rt.alloc(), Line::open(), &start).ok_or("memory")?;
+    assert!(rt; board == start.opening);
+    Ok(())
+}
+
+/// Whether two clusters at once send 2:0 each by its own board, the second also once the first was let
+/// go. None where an allocation fails.
+fn asked<J: Case, K: Case, R: Wait>(
+    rt: &R,
+    alloc: Global,
+    one: (Track, Line),
+    here: &Start,
+    other: (Track, Line),
+    there: &Start,
+) -> Option<bool>
+    requires one { (one.0 ≡ J.book) × (one.1.book ≡ J.book) × (one.1.log ≡ []) }
+    requires here { (arc_value here.now.first ≡ J.first) × (here.now.opening ≡ J.opening) }
+    requires other { (other.0 ≡ K.book) × (other.1.book ≡ K.book) × (other.1.log ≡ []) }
+    requires there { (arc_value there.now.first ≡ K.first) × (there.now.opening ≡ K.opening) }
+{
+    let key = moving_key()?;
+    let one = opened::<J, &R>(rt, alloc, one, here, 1)?;
+    let other = opened::<K, &R>(rt, alloc, other, there, 1)?;
+    let mut near = one.cluster.seat().ok()?;
+    let mut far = other.cluster.seat().ok()?;
+    let before = near.route(key) == PartId::new(1) && far.route(key) == PartId::new(3);
+    drop(one.owner);
+    let after = near.route(key).is_none() && far.route(key) == PartId::new(3);
+    Some(before && after)
+}
+
+#[test]
+fn two_at_once(rt: HostRuntime) -> Result<(), Fail> {
+    let alloc = rt.alloc();
+    let here = empty_start(alloc).ok_or("a start")?;
+    let there = loaded_start(alloc).ok_or("a start")?;
+    let asked = asked::<Brand, Brand, _>(&rt, alloc, Line::open(), &here, Line::open(), &there);
+    assert!(rt; asked == Some(true));
+    Ok(())
+}
+
+/// Whether a cluster of no readers hands out no seat. None where an allocation fails.
+fn hands_out_none<K: Case, R: Wait>(
+    rt: &R,
+    alloc: Global,
+    book: (Track, Line),
+    start: &Start,
+) -> Option<bool>
+    requires book { (book.0 ≡ K.book) × (book.1.book ≡ K.book) × (book.1.log ≡ []) }
+    requires start { (arc_value start.now.first ≡ K.first) × (start.now.opening ≡ K.opening) }
+{
+    let pair = opened::<K, &R>(rt, alloc, book, start, 0)?;
+    Some(matches!(pair.cluster.seat(), Err(SeatFault::NoPlace)))
+}
+
+#[test]
+fn no_readers(rt: HostRuntime) -> Result<(), Fail> {
+    let start = empty_start(rt.alloc()).ok_or("a start")?;
+    let none = hands_out_none::<Brand, _>(&rt, rt.alloc(), Line::open(), &start);
+    assert!(rt; none == Some(true));
+    Ok(())
+}
+
+/// 64 seats of the cluster. None where there are not so many, or where an allocation fails.
+fn all_seats<K: Case>(alloc: Global, cluster: &Cluster<K>) -> Option<Vec<Seat<K>>> {
+    let mut seats = Vec::new(alloc);
+    for _ in 0..64 {
+        seats.push(cluster.seat().ok()?).ok()?;
+    }
+    Some(seats)
+}
+
+/// Whether all 64 seats of a cluster answer as they should, and one that is given back is handed out
+/// again. None where an allocation fails.
+fn seated<K: Case, R: Wait>(
+    rt: &R,
+    alloc: Global,
+    book: (Track, Line),
+    start: &Start,
+) -> Option<bool>
+    requires book { (book.0 ≡ K.book) × (book.1.book ≡ K.book) × (book.1.log ≡ []) }
+    requires start { (arc_value start.now.first ≡ K.first) × (start.now.opening ≡ K.opening) }
+{
+    let key = moving_key()?;
+    let pair = opened::<K, &R>(rt, alloc, book, start, 64)?;
+    let mut seats = all_seats(alloc, &pair.cluster)?;
+    let full = pair.cluster.seat().is_err();
+    let right = seats
+        .iter_mut()
+        .all(|seat| seat.route(key) == PartId::new(1));
+    drop(seats.pop());
+    Some(full && right && pair.cluster.seat().is_ok())
+}
+
+#[test]
+fn all_readers(rt: HostRuntime) -> Result<(), Fail> {
+    let start = empty_start(rt.alloc()).ok_or("a start")?;
+    let seated = seated::<Brand, _>(&rt, rt.alloc(), Line::open(), &start);
+    assert!(rt; seated == Some(true));
+    Ok(())
+}

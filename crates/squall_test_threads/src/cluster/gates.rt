@@ -1,0 +1,216 @@
+//! Races held up at their gates: the work is done at once, and between the calls of the gate.
+
+use super::races::{Setting, setting_of, three_keys, two_list_board, two_list_setting};
+use super::{load, moving_key};
+use squall_board::Board;
+use squall_cluster::{Actor, Gate, Raced};
+use squall_key::PartId;
+use squall_report::Report;
+use std::alloc::Global;
+use std::sync::Wait;
+use std::sync::atomic::{AtomicBool, Ordering};
+use std::test::Fail;
+use std::thread;
+use std::thread::Threads;
+
+/// Something that an actor has done, for others to wait for.
+#[derive(Drop)]
+struct Flag {
+    set: AtomicBool,
+}
+
+impl Flag {
+    fn new() -> Flag {
+        Flag {
+            set: AtomicBool::new(false),
+        }
+    }
+
+    fn set(&self) {
+        self.set.store(true, Ordering::SeqCst);
+    }
+
+    fn is_set(&self) -> bool {
+        self.set.load(Ordering::SeqCst)
+    }
+
+    /// Waits, but not for ever. It says whether the flag was set.
+    fn wait(&self) -> bool {
+        for _ in 0..100000000u64 {
+            if self.is_set() {
+                return true;
+            }
+            thread::yield_now();
+        }
+        false
+    }
+}
+
+/// Each sender waits for the other, the owner's second turn for the reader, and the reader's first
+/// route for that turn. So all have to run at once.
+#[derive(Drop)]
+struct Meeting {
+    senders: [Flag; 2],
+    owner: Flag,
+    reader: Flag,
+    late: Flag,
+}
+
+impl Gate for Meeting {
+    fn before(&self, actor: Actor, call: u64) {
+        let met = match (actor, call) {
+            (Actor::Reader(_), 1) => {
+                self.reader.set();
+                self.owner.wait()
+            }
+            (Actor::Owner, 2) => self.reader.wait(),
+            (Actor::Sender(0), 1) => {
+                self.senders[0].set();
+                self.senders[1].wait()
+            }
+            (Actor::Sender(1), 1) => {
+                self.senders[1].set();
+                self.senders[0].wait()
+            }
+            _ => true,
+        };
+        if !met {
+            self.late.set();
+        }
+    }
+
+    fn after(&self, actor: Actor, call: u64) {
+        if let (Actor::Owner, 2) = (actor, call) {
+            self.owner.set();
+        }
+    }
+}
+
+/// Whether a race ends well whose actors have to run at once.
+fn meets<R: Threads + Wait + Sync>(
+    rt: &R,
+    alloc: Global,
+    setting: &Setting,
+    wanted: &Board,
+    gate: &Meeting,
+) -> Option<bool> {
+    let keys = three_keys()?;
+    let raced = setting.race(rt, alloc, &keys, 1, 1, gate).ok()?;
+    Some(setting.ended_well(&raced, wanted, &keys, 1))
+}
+
+#[test]
+fn all_run_at_once(rt: HostRuntime) -> Result<(), Fail> {
+    let setting = two_list_setting(rt.alloc()).ok_or("a setting")?;
+    let wanted = two_list_board(rt.alloc()).ok_or("a board")?;
+    let gate = Meeting {
+        senders: [Flag::new(), Flag::new()],
+        owner: Flag::new(),
+        reader: Flag::new(),
+        late: Flag::new(),
+    };
+    let met = meets(&rt, rt.alloc(), &setting, &wanted, &gate);
+    assert!(rt; met == Some(true));
+    assert!(rt; !gate.late.is_set());
+    Ok(())
+}
+
+/// The owner's first turn waits for the post, and where `routed_first` is set also for the reader's
+/// first route. The reader's route of number `waiting` waits for that turn.
+#[derive(Drop)]
+struct InOrder {
+    posted: Flag,
+    published: Flag,
+    routed: Flag,
+    late: Flag,
+    routed_first: bool,
+    waiting: u64,
+}
+
+impl Gate for InOrder {
+    fn before(&self, actor: Actor, call: u64) {
+        let met = match (actor, call) {
+            (Actor::Owner, 1) => self.posted.wait() && (!self.routed_first || self.routed.wait()),
+            (Actor::Reader(_), call) if call == self.waiting => self.published.wait(),
+            _ => true,
+        };
+        if !met {
+            self.late.set();
+        }
+    }
+
+    fn after(&self, actor: Actor, call: u64) {
+        match (actor, call) {
+            (Actor::Sender(0), 1) => self.posted.set(),
+            (Actor::Owner, 1) => self.published.set(),
+            (Actor::Reader(_), 1) => self.routed.set(),
+            _ => {}
+        }
+    }
+}
+
+/// The load in one list, and a second list that is empty.
+fn one_load(alloc: Global) -> Option<Vec<Vec<Report>>> {
+    let mut list = Vec::new(alloc);
+    list.push(load()?).ok()?;
+    let mut lists = Vec::new(alloc);
+    lists.push(list).ok()?;
+    lists.push(Vec::new(alloc)).ok()?;
+    Some(lists)
+}
+
+/// The first two routes of the first reader.
+fn first_routes(raced: &Raced) -> Option<(PartId, PartId)> {
+    let routes = raced.routes.first()?;
+    Some((*routes.first()?, *routes.get(1)?))
+}
+
+/// The reader's two routes of the key that moves.
+fn two_routes<R: Threads + Wait + Sync>(
+    rt: &R,
+    alloc: Global,
+    setting: &Setting,
+    gate: &InOrder,
+) -> Option<(PartId, PartId)> {
+    let key = moving_key()?;
+    let raced = setting.race(rt, alloc, &[key, key], 1, 1, gate).ok()?;
+    first_routes(&raced)
+}
+
+/// A gate at which the reader's route of that number waits for the owner's first turn.
+fn in_order(waiting: u64) -> InOrder {
+    InOrder {
+        posted: Flag::new(),
+        published: Flag::new(),
+        routed: Flag::new(),
+        late: Flag::new(),
+        routed_first: waiting == 2,
+        waiting,
+    }
+}
+
+/// The setting of one load. None where an allocation fails.
+fn one_load_setting(alloc: Global) -> Option<Setting> {
+    setting_of(alloc, one_load(alloc)?)
+}
+
+#[test]
+fn a_reader_sees_a_turn_that_has_ended(rt: HostRuntime) -> Result<(), Fail> {
+    let new = PartId::new(3).ok_or("a partition")?;
+    let setting = one_load_setting(rt.alloc()).ok_or("a setting")?;
+    let gate = in_order(1);
+    assert!(rt; two_routes(&rt, rt.alloc(), &setting, &gate) == Some((new, new)));
+    assert!(rt; !gate.late.is_set());
+    Ok(())
+}
+
+#[test]
+fn a_reader_sees_what_was_published_before(rt: HostRuntime) -> Result<(), Fail> {
+    let (old, new) = (PartId::new(1), PartId::new(3));
+    let wanted = (old.ok_or("a partition")?, new.ok_or("a partition")?);
+    let setting = one_load_setting(rt.alloc()).ok_or("a setting")?;
+    let gate = in_order(2);
+    assert!(rt; two_routes(&rt, rt.alloc(), &setting, &gate) == Some(wanted));
+    assert!(rt; !gate.late.is_set());
+    Ok(())
+}

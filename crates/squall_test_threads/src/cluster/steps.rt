@@ -1,0 +1,152 @@
+//! A cluster step by step.
+
+ghost use Rattle.std.specs.Prelude.{◌≡◌, ◌++◌, ◌∷◌, [], None};
+ghost use Rattle.std.specs.Arc.{arc_value};
+
+use super::{Start, board_of_both, closed, empty_start, moving_key, opened, two_letters};
+use squall_board::Board;
+use squall_cluster::{Case, Cluster, Full, Letter, Line, Owner, Seat, SeatFault, Sender, Track};
+use squall_key::PartId;
+use std::alloc::Global;
+use std::marker::Brand;
+use std::sync::Wait;
+use std::test::Fail;
+
+/// Two seats, after which there is no place.
+fn two_seats<K: Case>(cluster: &Cluster<K>) -> Option<(Seat<K>, Seat<K>)> {
+    let one = cluster.seat().ok()?;
+    let other = cluster.seat().ok()?;
+    match cluster.seat() {
+        Err(SeatFault::NoPlace) => Some((one, other)),
+        Ok(_third) => None,
+    }
+}
+
+/// Posts a letter that fills the inbox, and another that comes back.
+fn post_and_get_back<K: Case, R: Wait>(
+    rt: &R,
+    first: &mut Sender<K>,
+    second: &mut Sender<K>,
+    letters: (Letter, Letter),
+) -> Option<Letter>
+    requires { K.allowed ≡ None }
+    ensures first { first.new.inbox ≡ first.old.inbox }
+    ensures second { second.new.inbox ≡ second.old.inbox }
+{
+    first.post(rt, letters.0).ok()?;
+    match second.post(rt, letters.1) {
+        Ok(()) => None,
+        Err(Full(back)) => Some(back),
+    }
+}
+
+/// A turn that takes the letter, which the seat that learns of it sees.
+fn turn_and_learn<K: Case, R: Wait + Drop>(
+    owner: &mut Owner<K, R>,
+    seat: &mut Seat<K>,
+) -> Option<()>
+    ensures inbox { owner.new.inbox ≡ owner.old.inbox }
+    ensures senders { (owner.new.made ≡ owner.old.made) × (owner.new.vouched ≡ owner.old.vouched) }
+{
+    let turn = owner.turn().ok()?;
+    seat.learn(&turn.notice);
+    let sees = seat.route(moving_key()?) == PartId::new(3);
+    (turn.took && sees).then_some(())
+}
+
+/// A turn that finds no letter.
+fn turn_for_nothing<K: Case, R: Wait + Drop>(owner: &mut Owner<K, R>) -> Option<()>
+    ensures inbox { owner.new.inbox ≡ owner.old.inbox }
+    ensures senders { (owner.new.made ≡ owner.old.made) × (owner.new.vouched ≡ owner.old.vouched) }
+{
+    let turn = owner.turn().ok()?;
+    (!turn.took).then_some(())
+}
+
+/// Whether the seat sends 2:0 where it moves from or to.
+fn sees_either<K: Case>(seat: &mut Seat<K>) -> Option<()> {
+    let part = seat.route(moving_key()?)?;
+    (part.get() == 1 || part.get() == 3).then_some(())
+}
+
+/// Two turns, of which the first takes a letter, as two seats see, and the second takes none.
+fn turn_twice<K: Case, R: Wait + Drop>(cluster: &Cluster<K>, owner: &mut Owner<K, R>) -> Option<()>
+    ensures inbox { owner.new.inbox ≡ owner.old.inbox }
+    ensures senders { (owner.new.made ≡ owner.old.made) × (owner.new.vouched ≡ owner.old.vouched) }
+{
+    let (mut one, mut other) = two_seats(cluster)?;
+    turn_and_learn(owner, &mut one)?;
+    sees_either(&mut other)?;
+    turn_for_nothing(owner)
+}
+
+/// A cluster in which two letters are posted, where each step answers as it should. None where one does
+/// not, or where an allocation fails.
+fn take_steps<K: Case, R: Wait>(
+    rt: &R,
+    cluster: &Cluster<K>,
+    first: &mut Sender<K>,
+    second: &mut Sender<K>,
+    owner: &mut Owner<K, &R>,
+    letters: (Letter, Letter),
+) -> Option<()>
+    requires { K.allowed ≡ None }
+    ensures first { first.new.inbox ≡ first.old.inbox }
+    ensures second { second.new.inbox ≡ second.old.inbox }
+    ensures inbox { owner.new.inbox ≡ owner.old.inbox }
+    ensures senders { (owner.new.made ≡ owner.old.made) × (owner.new.vouched ≡ owner.old.vouched) }
+{
+    let back = post_and_get_back(rt, first, second, letters)?;
+    turn_twice(cluster, owner)?;
+    second.post(rt, back).ok()
+}
+
+/// The board of a cluster after these steps.
+fn steps<K: Case, R: Wait>(
+    rt: &R,
+    alloc: Global,
+    book: (Track, Line),
+    start: &Start,
+    letters: (Letter, Letter),
+) -> Option<Board>
+    requires book { (book.0 ≡ K.book) × (book.1.book ≡ K.book) × (book.1.log ≡ []) }
+    requires start { (arc_value start.now.first ≡ K.first) × (start.now.opening ≡ K.opening) }
+    requires allowed { K.allowed ≡ None }
+{
+    let pair = opened::<K, &R>(rt, alloc, book, start, 2)?;
+    let (mut first, mut second, mut owner) = (pair.first, pair.second, pair.owner);
+    take_steps(
+        rt,
+        &pair.cluster,
+        &mut first,
+        &mut second,
+        &mut owner,
+        letters,
+    )?;
+    closed(alloc, first, second, owner)
+}
+
+/// Whether the board after the steps is that of both reports. None where a step does not answer as it
+/// should, or where an allocation fails.
+fn are_right<K: Case, R: Wait>(
+    rt: &R,
+    alloc: Global,
+    book: (Track, Line),
+    start: &Start,
+) -> Option<bool>
+    requires book { (book.0 ≡ K.book) × (book.1.book ≡ K.book) × (book.1.log ≡ []) }
+    requires start { (arc_value start.now.first ≡ K.first) × (start.now.opening ≡ K.opening) }
+    requires allowed { K.allowed ≡ None }
+{
+    let letters = two_letters(alloc)?;
+    let closed = steps::<K, R>(rt, alloc, book, start, letters)?;
+    Some(closed == board_of_both(alloc)?)
+}
+
+#[test]
+fn step_by_step(rt: HostRuntime) -> Result<(), Fail> {
+    let start = empty_start(rt.alloc()).ok_or("a start")?;
+    let right = are_right::<Brand, _>(&rt, rt.alloc(), Line::open(), &start);
+    assert!(rt; right == Some(true));
+    Ok(())
+}

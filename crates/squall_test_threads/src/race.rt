@@ -1,0 +1,124 @@
+// Races by the lines of their files: what they show, and which lines are bad.
+use squall_lines::Ended;
+use squall_race::answer_race;
+use std::alloc::{AllocError, Global};
+use std::sync::Wait;
+use std::test::Fail;
+use std::thread::Threads;
+
+/// Both plans, a line each.
+const PLANS: &str =
+    "old {\"plan\":[{\"part\":1,\"from\":[0,0],\"to\":[3,0]},{\"part\":2,\"from\":[3,0],\"to\":[5,0]},{\"part\":3,\"from\":[5,0],\"to\":[9,0]},{\"part\":4,\"from\":[9,0],\"to\":\"end\"}]}\nnew {\"plan\":[{\"part\":1,\"from\":[0,0],\"to\":[2,0]},{\"part\":2,\"from\":[3,0],\"to\":[5,0]},{\"part\":3,\"from\":[2,0],\"to\":[3,0]},{\"part\":3,\"from\":[5,0],\"to\":[6,0]},{\"part\":4,\"from\":[6,0],\"to\":\"end\"}]}\n";
+
+/// What follows the plans, and what is shown.
+const RACES: [(&str, &str); 5] = [
+    ("", "empty\n"),
+    ("# no report\n\nkey 2:0\n", "empty\nroute 2:0 1\n"),
+    (
+        "capacity 1\n0 loaded 1 0 3 2:0 2:7\n0 loaded 1 0 3 2:7 3:0\n1 loaded 1 0 3 2:0 2:7\n1 done 1 0 4\nkey 2:0\nkey 6:0\nkey 9:0\n",
+        "cell 1 0 3 open [2:0,3:0)\ncell 1 0 4 done\nroute 2:0 3\nroute 6:0 4\nroute 9:0 4\n",
+    ),
+    (
+        "senders 3\ncapacity 1\n0 loaded 1 0 3 2:0 2:7\n1 loaded 1 0 3 2:7 3:0\n2 done 1 0 4\n2 done 1 0 4\nkey 2:0\nkey 6:0\n",
+        "cell 1 0 3 open [2:0,3:0)\ncell 1 0 4 done\nroute 2:0 3\nroute 6:0 4\n",
+    ),
+    (
+        "readers 64\nsenders 64\ncapacity 65536\r\n63 opened 1 0\nkey 6:0",
+        "opened 1 1\nroute 6:0 3\n",
+    ),
+];
+
+/// What follows the plans, and why a line of it is bad.
+const BAD: [(&str, &str); 18] = [
+    ("old {}", "bad line 3: order\n"),
+    ("new {}", "bad line 3: order\n"),
+    ("board", "bad line 3: word\n"),
+    ("capacity", "bad line 3: word\n"),
+    ("capacity 1 2", "bad line 3: word\n"),
+    ("capacity 0", "bad line 3: limit\n"),
+    ("capacity 65537", "bad line 3: limit\n"),
+    ("capacity 1\ncapacity 1", "bad line 4: order\n"),
+    ("readers 65", "bad line 3: limit\n"),
+    ("readers 0\nreaders 0", "bad line 4: order\n"),
+    ("senders 0", "bad line 3: limit\n"),
+    ("senders 65", "bad line 3: limit\n"),
+    ("senders 1\nsenders 1", "bad line 4: order\n"),
+    ("0 done 1 0 4\nsenders 2", "bad line 4: order\n"),
+    ("2 done 1 0 4", "bad line 3: limit\n"),
+    ("1 done 0 0 4", "bad line 3: limit\n"),
+    ("1 loaded 1 0 4 2:0 2:0", "bad line 3: limit\n"),
+    ("1 route 2:0", "bad line 3: word\n"),
+];
+
+/// What a text shows, and whether it was refused. None where an allocation failed.
+fn shown<R: Threads + Wait + Sync>(
+    rt: &R,
+    alloc: Global,
+    head: &str,
+    text: &str,
+) -> Result<(String, bool), AllocError> {
+    let mut whole = String::from_str(alloc, head)?;
+    whole.push_str(text)?;
+    let mut out = String::new(alloc);
+    let ended = answer_race(rt, alloc, whole.as_bytes(), &mut out)?;
+    Ok((out, ended == Ended::Refused))
+}
+
+#[test]
+fn races(rt: HostRuntime) -> Result<(), Fail> {
+    for (text, wanted) in &RACES {
+        let (out, refused) = shown(&rt, rt.alloc(), PLANS, text)?;
+        assert!(rt; out.as_str() == *wanted);
+        assert!(rt; !refused);
+    }
+    Ok(())
+}
+
+#[test]
+fn bad_lines(rt: HostRuntime) -> Result<(), Fail> {
+    for (text, wanted) in &BAD {
+        let (out, refused) = shown(&rt, rt.alloc(), PLANS, text)?;
+        assert!(rt; out.as_str() == *wanted);
+        assert!(rt; refused);
+    }
+    Ok(())
+}
+
+/// Files that end too soon, or whose plans are none.
+#[test]
+fn plans_are_missing(rt: HostRuntime) -> Result<(), Fail> {
+    for (text, wanted) in &[
+        ("", "bad line 1: order\n"),
+        ("# remark", "bad line 2: order\n"),
+        ("key 2:0", "bad line 1: order\n"),
+        ("old {}", "bad line 1: plan Shape\n"),
+        ("new {}", "bad line 1: order\n"),
+        (
+            "old {\"plan\":[{\"part\":1,\"from\":[0,0],\"to\":\"end\"}]}\n",
+            "bad line 2: order\n",
+        ),
+        (
+            "old {\"plan\":[{\"part\":1,\"from\":[0,0],\"to\":\"end\"}]}\nnew 1\n",
+            "bad line 2: plan Shape\n",
+        ),
+    ] {
+        let (out, refused) = shown(&rt, rt.alloc(), text, "")?;
+        assert!(rt; out.as_str() == *wanted);
+        assert!(rt; refused);
+    }
+    Ok(())
+}
+
+/// Many lists: list I has the load of [2:I,2:I+1).
+#[test]
+fn many_senders(rt: HostRuntime) -> Result<(), Fail> {
+    let alloc = rt.alloc();
+    let mut text = String::from_str(alloc, "senders 64\n")?;
+    for i in 0u32..64 {
+        let next = i + 1;
+        write!(text, "{i} loaded 1 0 3 2:{i} 2:{next}\n")?;
+    }
+    let (out, _) = shown(&rt, alloc, PLANS, text.as_str())?;
+    assert!(rt; out.as_str() == "cell 1 0 3 open [2:0,2:64)\n");
+    Ok(())
+}

@@ -1,0 +1,87 @@
+//! Values with several owners, alone and in maps.
+
+use super::joins;
+use squall_join::{Exact, Flat, Join, JoinMap, Shared};
+use std::alloc::{AllocError, Global};
+use std::process::Abort;
+use std::sync::Arc;
+use std::test::Fail;
+
+type Held = JoinMap<u32, Flat<Shared<u32>>>;
+
+fn shared(alloc: Global, value: u32) -> Result<Shared<u32>, AllocError> {
+    Ok(Shared::new(Arc::new(alloc, value)?))
+}
+
+fn one(alloc: Global, key: u32, value: u32) -> Result<Held, AllocError> {
+    JoinMap::single(alloc, key, Flat::One(shared(alloc, value)?))
+}
+
+/// Makes a second owner, and looks at both.
+fn look_at_second(rt: &impl Abort, first: &Shared<u32>) -> Result<(), AllocError> {
+    let second = first.again()?;
+    assert!(rt; Arc::strong_count(first.as_arc()) == 2);
+    assert!(rt; **second.as_arc() == 7 && first.is_same(&second));
+    Ok(())
+}
+
+/// Whether the value is this one.
+fn is_of(alloc: Global, first: &Shared<u32>, value: u32) -> Result<bool, AllocError> {
+    let other = shared(alloc, value)?;
+    Ok(first.is_same(&other))
+}
+
+#[test]
+fn owners_of_one_value(rt: HostRuntime) -> Result<(), Fail> {
+    let first = shared(rt.alloc(), 7)?;
+    look_at_second(&rt, &first)?;
+    assert!(rt; is_of(rt.alloc(), &first, 7)?);
+    assert!(rt; !is_of(rt.alloc(), &first, 8)?);
+    Ok(())
+}
+
+/// Joins one entry into the map.
+fn join_one(held: &mut Held, key: u32, value: u32) -> Result<(), AllocError> {
+    let alloc = held.allocator();
+    let other = one(alloc, key, value)?;
+    held.join_in(alloc, &other)
+}
+
+/// The map has the keys 2 and 5, and the value 7 at 5.
+fn look_at_two(rt: &impl Abort, held: &Held) {
+    let keys = held.entries();
+    assert!(rt; keys.len() == 2 && keys[0].0 == 2 && keys[1].0 == 5);
+    let found = held.get(&5).map(|value| value.as_ref());
+    assert!(rt; matches!(found, Some(Flat::One(value)) if **value.as_arc() == 7));
+}
+
+/// Whether the map has a clash at 5.
+fn clashes_at_5(held: &Held) -> bool {
+    let found = held.get(&5).map(|value| value.as_ref());
+    matches!(found, Some(Flat::Clash))
+}
+
+#[test]
+fn maps_of_shared_values(rt: HostRuntime) -> Result<(), Fail> {
+    let mut held = one(rt.alloc(), 5, 7)?;
+    join_one(&mut held, 2, 9)?;
+    look_at_two(&rt, &held);
+    join_one(&mut held, 5, 8)?;
+    assert!(rt; clashes_at_5(&held));
+    Ok(())
+}
+
+/// A map of two entries.
+fn two(alloc: Global) -> Result<Held, AllocError> {
+    let mut many = one(alloc, 1, 2)?;
+    join_one(&mut many, 4, 6)?;
+    Ok(many)
+}
+
+#[test]
+fn shared_values_through_the_bound(rt: HostRuntime) -> Result<(), Fail> {
+    let less = one(rt.alloc(), 4, 5)?;
+    let many = two(rt.alloc())?;
+    joins(&rt, rt.alloc(), &less, &many)?;
+    Ok(())
+}

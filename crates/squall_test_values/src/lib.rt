@@ -1,0 +1,9 @@
+//! Tests of keys, spans and values with a join, over public names alone. There is nothing here to call.
+#![tactic(auto)]
+
+#[cfg(test)]
+mod join;
+#[cfg(test)]
+mod key;
+#[cfg(test)]
+mod span;

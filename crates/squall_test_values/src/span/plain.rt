@@ -1,0 +1,268 @@
+//! Each operation against a plain program, on sets of the 24 least keys as bits of a number.
+
+use super::is_its_copy;
+use squall_key::{Bound, Key};
+use squall_span::{Span, SpanSet};
+use std::alloc::{AllocError, Global};
+use std::process::Abort;
+use std::test::Fail;
+
+const ROUNDS: u32 = 150;
+
+const ALL: u32 = 16777215;
+
+/// The next pseudo-random number.
+fn next(state: u32) -> u32 {
+    state.wrapping_mul(1664525).wrapping_add(1013904223)
+}
+
+/// A pseudo-random set.
+fn mask(state: u32) -> u32 {
+    (state >> 7) & ALL
+}
+
+fn bound(rt: &impl Abort, rank: u32) -> Bound {
+    Bound::of_rank(u64::from(rank)).expect(rt, "a bound")
+}
+
+fn span(rt: &impl Abort, lo: u32, hi: u32) -> Span {
+    Span::new(bound(rt, lo), bound(rt, hi)).expect(rt, "a span")
+}
+
+/// The set of the keys that the mask has, by one insert for each.
+fn made(rt: &impl Abort, alloc: Global, mask: u32) -> Result<SpanSet, AllocError> {
+    let mut set = SpanSet::empty(alloc);
+    for key in 0..24u32 {
+        if (mask >> key) & 1 == 1 {
+            set.insert(span(rt, key, key + 1))?;
+        }
+    }
+    Ok(set)
+}
+
+/// The keys from lo on, below hi.
+fn between(lo: u64, hi: u64) -> u32 {
+    let mut mask = 0u32;
+    for key in 0..24u32 {
+        if lo <= u64::from(key) && u64::from(key) < hi {
+            mask |= 1 << key;
+        }
+    }
+    mask
+}
+
+/// The keys of the spans of a set.
+fn mask_of(set: &SpanSet) -> u32 {
+    let mut mask = 0u32;
+    for span in set.spans() {
+        mask |= between(span.lo().rank(), span.hi().rank());
+    }
+    mask
+}
+
+fn union_of(alloc: Global, first: &SpanSet, second: &SpanSet) -> Result<u32, AllocError> {
+    let set = first.union(alloc, second)?;
+    Ok(mask_of(&set))
+}
+
+fn meet_of(alloc: Global, first: &SpanSet, second: &SpanSet) -> Result<u32, AllocError> {
+    let set = first.meet(alloc, second)?;
+    Ok(mask_of(&set))
+}
+
+fn minus_of(alloc: Global, first: &SpanSet, second: &SpanSet) -> Result<u32, AllocError> {
+    let set = first.minus(alloc, second)?;
+    Ok(mask_of(&set))
+}
+
+/// Each operation of the set, whose keys the first mask has, with that of the second mask.
+fn operate(
+    rt: &impl Abort,
+    alloc: Global,
+    first: &SpanSet,
+    second: &SpanSet,
+    a: u32,
+    b: u32,
+) -> Result<(), AllocError> {
+    let either = union_of(alloc, first, second)?;
+    let both = meet_of(alloc, first, second)?;
+    let alone = minus_of(alloc, first, second)?;
+    assert!(rt; either == a | b && both == a & b && alone == a & !b);
+    Ok(())
+}
+
+/// The set, whose keys the first mask has, beside that of the second mask.
+fn compare(
+    rt: &impl Abort,
+    alloc: Global,
+    first: &SpanSet,
+    a: u32,
+    b: u32,
+) -> Result<(), AllocError> {
+    let second = made(rt, alloc, b)?;
+    operate(rt, alloc, first, &second, a, b)?;
+    assert!(rt; first.covers(&second) == (b & !a == 0));
+    assert!(rt; (*first == second) == (a == b));
+    Ok(())
+}
+
+#[test]
+fn sets_of_two(rt: HostRuntime) -> Result<(), Fail> {
+    let mut state = 1u32;
+    for _ in 0..ROUNDS {
+        let a = mask(state);
+        let b = mask(next(state));
+        state = next(next(state));
+        let first = made(&rt, rt.alloc(), a)?;
+        assert!(rt; mask_of(&first) == a);
+        compare(&rt, rt.alloc(), &first, a, b)?;
+    }
+    Ok(())
+}
+
+/// The union of the set, made of one mask, with that of another.
+fn union_of_masks(rt: &impl Abort, alloc: Global, a: u32, b: u32) -> Result<SpanSet, AllocError> {
+    let first = made(rt, alloc, a)?;
+    let second = made(rt, alloc, b)?;
+    first.union(alloc, &second)
+}
+
+/// Whether the set is the one that is made of the mask.
+fn is_made(rt: &impl Abort, alloc: Global, set: &SpanSet, mask: u32) -> Result<bool, AllocError> {
+    let wanted = made(rt, alloc, mask)?;
+    Ok(*set == wanted)
+}
+
+#[test]
+fn one_list_for_the_same_keys(rt: HostRuntime) -> Result<(), Fail> {
+    let mut state = 6u32;
+    for _ in 0..ROUNDS {
+        let a = mask(state);
+        let b = mask(next(state));
+        state = next(next(state));
+        let either = union_of_masks(&rt, rt.alloc(), a, b)?;
+        assert!(rt; is_made(&rt, rt.alloc(), &either, a | b)?);
+    }
+    Ok(())
+}
+
+/// Splits the set, whose keys the mask has, at a key.
+fn split(
+    rt: &impl Abort,
+    alloc: Global,
+    set: &SpanSet,
+    mask: u32,
+    at: u32,
+) -> Result<(), AllocError> {
+    let (below, others) = set.split_at(alloc, bound(rt, at))?;
+    assert!(rt; mask_of(&below) == mask & between(0, u64::from(at)));
+    assert!(rt; mask_of(&others) == mask & between(u64::from(at), 24));
+    Ok(())
+}
+
+#[test]
+fn sets_of_one(rt: HostRuntime) -> Result<(), Fail> {
+    let mut state = 2u32;
+    for _ in 0..ROUNDS {
+        let a = mask(state);
+        let at = state % 25;
+        state = next(state);
+        let set = made(&rt, rt.alloc(), a)?;
+        split(&rt, rt.alloc(), &set, a, at)?;
+        assert!(rt; set.count() == u64::from(a.count_ones()));
+        assert!(rt; set.is_empty() == (a == 0));
+        assert!(rt; is_its_copy(rt.alloc(), &set)?);
+    }
+    Ok(())
+}
+
+#[test]
+fn keys_of_one(rt: HostRuntime) -> Result<(), Fail> {
+    let mut state = 3u32;
+    for _ in 0..ROUNDS {
+        let a = mask(state);
+        state = next(state);
+        let set = made(&rt, rt.alloc(), a)?;
+        for rank in 0..24u32 {
+            let key = Key::of_rank(u64::from(rank)).expect(&rt, "a key");
+            assert!(rt; set.has(key) == ((a >> rank) & 1 == 1));
+        }
+    }
+    Ok(())
+}
+
+#[test]
+fn inserts(rt: HostRuntime) -> Result<(), Fail> {
+    let mut state = 4u32;
+    for _ in 0..ROUNDS {
+        let a = mask(state);
+        let lo = state % 20;
+        let length = (state >> 20) % 6 + 1;
+        state = next(state);
+        let mut set = made(&rt, rt.alloc(), a)?;
+        set.insert(span(&rt, lo, lo + length))?;
+        let wanted = (a | between(u64::from(lo), u64::from(lo + length))) & ALL;
+        assert!(rt; mask_of(&set) == wanted);
+    }
+    Ok(())
+}
+
+#[test]
+fn removals(rt: HostRuntime) -> Result<(), Fail> {
+    let mut state = 7u32;
+    for _ in 0..ROUNDS {
+        let a = mask(state);
+        let lo = state % 20;
+        let length = (state >> 20) % 9 + 1;
+        state = next(state);
+        let mut set = made(&rt, rt.alloc(), a)?;
+        set.remove(span(&rt, lo, lo + length))?;
+        let wanted = a & !between(u64::from(lo), u64::from(lo + length));
+        assert!(rt; mask_of(&set) == wanted);
+        assert!(rt; is_made(&rt, rt.alloc(), &set, wanted)?);
+    }
+    Ok(())
+}
+
+#[test]
+fn first_keys(rt: HostRuntime) -> Result<(), Fail> {
+    let mut state = 5u32;
+    for _ in 0..ROUNDS {
+        let a = mask(state);
+        let most = (state >> 28) % 5;
+        state = next(state);
+        let set = made(&rt, rt.alloc(), a)?;
+        match set.first_keys(u64::from(most)) {
+            None => assert!(rt; a == 0 || most == 0),
+            Some(span) => {
+                assert!(rt; span.lo().rank() == u64::from(a.trailing_zeros()));
+                let keys = between(span.lo().rank(), span.hi().rank());
+                assert!(rt; keys & !a == 0);
+                let room = span.count() == u64::from(most);
+                assert!(rt;
+                    room || a & between(span.hi().rank(), span.hi().rank().saturating_add(1)) == 0
+                );
+            }
+        }
+    }
+    Ok(())
+}
+
+/// Whether the set has, of the keys below a thousand, the first five of each ten below the end.
+fn has_fives(rt: &impl Abort, set: &SpanSet, end: u32) -> bool {
+    (0..1000u32).all(|rank| {
+        let key = Key::of_rank(u64::from(rank)).expect(rt, "a key");
+        set.has(key) == (rank < end && rank % 10 < 5)
+    })
+}
+
+#[test]
+fn look_ups_in_sets_of_each_size(rt: HostRuntime) -> Result<(), Fail> {
+    let mut set = SpanSet::empty(rt.alloc());
+    assert!(rt; has_fives(&rt, &set, 0));
+    for at in 0..100u32 {
+        set.insert(span(&rt, 10 * at, 10 * at + 5))?;
+        assert!(rt; has_fives(&rt, &set, 10 * at + 10));
+    }
+    Ok(())
+}
