@@ -1,9 +1,8 @@
 -- The legs near a set.
-use Rattle.std.proofs.Common.{◌≡◌, ℕ, zero, suc, ◌+◌, ◌-◌, ◌<◌, ◌≤◌, max, Bool, true, false, leb, ltb, List, [], ◌∷◌, length, get_or, take, ap, subst, arith, inl, inr}
-use Rattle.std.proofs.lemmas.Bool.{cases_lt, leb-true, leb-false, ltb-true, ltb-false}
+use Rattle.std.proofs.Common.{◌≡◌, ℕ, zero, suc, ◌+◌, ◌-◌, ◌<◌, ◌≤◌, max, Bool, true, List, [], ◌∷◌, length, get_or, take, ap, subst, arith, inl, inr}
+use Rattle.std.proofs.lemmas.Bool.{cases_lt}
 use Rattle.std.proofs.lemmas.Bool.Decides.{nat_tests}
 use Rattle.std.specs.List.{count_by}
-use Rattle.std.specs.List.Sorted.{IsPartitionPoint}
 use Rattle.std.proofs.lemmas.List.{take_all}
 use Rattle.squall_key.specs.Keys.{top}
 use Rattle.squall_span.specs.Spans.{Interval, IsCanonical}
@@ -15,33 +14,6 @@ use Rattle.squall_table.specs.Patching.{NearStart, NearEnd}
 use Rattle.squall_table.specs.Reach.{is_near, legs_near}
 use Rattle.squall_table.proofs.Picks.{canonical_at}
 use Rattle.squall_table.proofs.Counting.{count_all, take_grows}
-
-pub start_is : (f : ℕ → ℕ) (a b k : ℕ) (xs : List PlanRange) (i : ℕ) → Legs f a b xs → a ≤ k → k ≤ b → a < b
-    → IsPartitionPoint (λ r. ltb r.span.hi k ≡ true) (λ r. ltb r.span.hi k ≡ false) xs i → NearStart xs k i
-start_is f a b k [] i t le below full p = absurd (omega (arith, t))
-start_is f a b k (r ∷ rs) zero t le below full p =
-    record { within = omega arith; from = λ d. omega (arith, t.0); first = λ d lt. absurd (omega arith); near = λ j d le lt. ltb-false _ _ (p.1 j d (omega arith) lt) }
-start_is f a b k (r ∷ rs) (suc i) t le below full p =
-    let past : r.span.hi < k = ltb-true _ _ (p.0 0 r (omega arith) (omega arith)) in
-    let rest = start_is f r.span.hi b k rs i t.4 (omega arith) below (omega arith) (λ j d lt lt'. p.0 (suc j) d (omega arith) (omega arith), λ j d ge lt. p.1 (suc j) d (omega arith) (omega arith)) in
-    record { within = omega (arith, rest.within); from = λ d. rest.from d; first = λ d lt. low i d rs t.4 past rest; near = λ j d le lt. ltb-false _ _ (p.1 j d le lt) }
-  where
-    low : (i : ℕ) (d : PlanRange) (rs : List PlanRange) → Legs f r.span.hi b rs → r.span.hi < k → NearStart rs k i → (get_or rs i d).span.lo < k
-    low zero d [] t past rest = absurd (omega (arith, rest.within))
-    low zero d (y ∷ ys) t past rest = omega (arith, t.0)
-    low (suc i) d rs t past rest = rest.first d (omega arith)
-
-pub end_is : (f : ℕ → ℕ) (b k : ℕ) (xs : List PlanRange) (i : ℕ) → Legs f 0 b xs → 0 < b → i ≤ length xs
-    → IsPartitionPoint (λ r. leb r.span.lo k ≡ true) (λ r. leb r.span.lo k ≡ false) xs i → NearEnd xs k i
-end_is f b k [] i t full w p = absurd (omega (arith, t))
-end_is f b k (r ∷ rs) zero t full w p =
-    let bad : k < r.span.lo = leb-false _ _ (p.1 0 r (omega arith) (omega arith)) in absurd (omega (arith, t.0))
-end_is f b k (r ∷ rs) (suc i) t full w p = record {
-  some = omega arith;
-  within = w;
-  near = λ j d lt. leb-true _ _ (p.0 j d (omega arith) lt);
-  after = λ j d le lt. leb-false _ _ (p.1 j d le lt);
-}
 
 near_at : (ss : List Interval) (n : ℕ) (d t : Interval) → n < length ss → (get_or ss n d).lo < (get_or ss n d).hi → t.lo < t.hi → (get_or ss n d).lo ≤ t.hi → t.lo ≤ (get_or ss n d).hi → is_near ss t ≡ true
 near_at [] n d t lt x y p q = absurd (omega arith)

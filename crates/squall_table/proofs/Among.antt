@@ -17,7 +17,7 @@ among_all f k (l ∷ ls) t = record {
   beyond = λ j d le lt. absurd (omega arith);
 }
 
-last_ends : (f : ℕ → ℕ) (a b : ℕ) (xs : List PlanRange) (i : ℕ) (d : PlanRange) → Legs f a b xs → suc i ≡ length xs → (get_or xs i d).span.hi ≡ b
+pub last_ends : (f : ℕ → ℕ) (a b : ℕ) (xs : List PlanRange) (i : ℕ) (d : PlanRange) → Legs f a b xs → suc i ≡ length xs → (get_or xs i d).span.hi ≡ b
 last_ends f a b [] i d t e = absurd (omega arith)
 last_ends f a b (x ∷ []) zero d t e = t.4
 last_ends f a b (x ∷ y ∷ ys) zero d t e = absurd (omega arith)

@@ -1,7 +1,6 @@
 -- Parts of a table.
-use Rattle.std.proofs.Common.{◌≡◌, ◌≢◌, ℕ, zero, suc, ◌+◌, ◌-◌, ◌<◌, ◌≤◌, true, false, leb, ltb, List, [], ◌∷◌, ◌++◌, length, get_or, take, drop, length-drop, refl, sym, ap, subst, ◌∙◌, arith}
-use Rattle.std.proofs.lemmas.Bool.{leb-true, leb-false, ltb-true, ltb-false}
-use Rattle.std.specs.List.Sorted.{IsNonDecreasingBy, IsPartitionPoint}
+use Rattle.std.proofs.Common.{◌≡◌, ◌≢◌, ℕ, zero, suc, ◌+◌, ◌-◌, ◌<◌, ◌≤◌, List, [], ◌∷◌, ◌++◌, length, get_or, take, drop, length-drop, refl, sym, ap, subst, ◌∙◌, arith}
+use Rattle.std.specs.List.Sorted.{IsNonDecreasingBy}
 use Rattle.std.proofs.lemmas.List.{get_or-drop, get_or_default}
 use Rattle.squall_plan.specs.declared.range.PlanRange.{PlanRange}
 use Rattle.squall_key.specs.Keys.{top}
@@ -22,26 +21,6 @@ ends_rise f a b (r ∷ rs) t zero zero d le lt = omega arith
 ends_rise f a b (r ∷ rs) t zero (suc j) d le lt = let above = ends_above f r.span.hi b rs j d t.4 (omega arith) in omega arith
 ends_rise f a b (r ∷ rs) t (suc i) zero d le lt = absurd (omega arith)
 ends_rise f a b (r ∷ rs) t (suc i) (suc j) d le lt = ends_rise f r.span.hi b rs t.4 i j d (omega arith) (omega arith)
-
-pub place_is : (f : ℕ → ℕ) (a b k : ℕ) (xs : List PlanRange) (i : ℕ) → Legs f a b xs → a ≤ k → k < b
-    → IsPartitionPoint (λ r. leb r.span.hi k ≡ true) (λ r. leb r.span.hi k ≡ false) xs i → IsAt xs k i
-place_is f a b k [] i t le below p = absurd (omega (arith, t))
-place_is f a b k (r ∷ rs) zero t le below p =
-    record { within = omega arith; from = λ d. omega (arith, t.0); below = λ d. leb-false _ _ (p.1 0 r (omega arith) (omega arith)) }
-place_is f a b k (r ∷ rs) (suc i) t le below p =
-    let past : r.span.hi ≤ k = leb-true _ _ (p.0 0 r (omega arith) (omega arith)) in
-    let rest = place_is f r.span.hi b k rs i t.4 past below (λ j d lt lt'. p.0 (suc j) d (omega arith) (omega arith), λ j d ge lt. p.1 (suc j) d (omega arith) (omega arith)) in
-    record { within = omega (arith, rest.within); from = λ d. rest.from d; below = λ d. rest.below d }
-
-pub end_is : (f : ℕ → ℕ) (a b k : ℕ) (xs : List PlanRange) (i : ℕ) → Legs f a b xs → a < k → k ≤ b
-    → IsPartitionPoint (λ r. ltb r.span.hi k ≡ true) (λ r. ltb r.span.hi k ≡ false) xs i → EndsAt xs k i
-end_is f a b k [] i t le below p = absurd (omega (arith, t))
-end_is f a b k (r ∷ rs) zero t le below p =
-    record { within = omega arith; from = λ d. omega (arith, t.0); below = λ d. ltb-false _ _ (p.1 0 r (omega arith) (omega arith)) }
-end_is f a b k (r ∷ rs) (suc i) t le below p =
-    let past : r.span.hi < k = ltb-true _ _ (p.0 0 r (omega arith) (omega arith)) in
-    let rest = end_is f r.span.hi b k rs i t.4 past below (λ j d lt lt'. p.0 (suc j) d (omega arith) (omega arith), λ j d ge lt. p.1 (suc j) d (omega arith) (omega arith)) in
-    record { within = omega (arith, rest.within); from = λ d. rest.from d; below = λ d. rest.below d }
 
 pub legs_take : (f : ℕ → ℕ) (a b : ℕ) (xs : List PlanRange) (i : ℕ) (d : PlanRange) → Legs f a b xs → i < length xs → Legs f a (get_or xs i d).span.lo (take i xs)
 legs_take f a b [] i d t lt = absurd (omega arith)

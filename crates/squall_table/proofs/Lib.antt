@@ -2,6 +2,8 @@ mod Kept
 mod Pushed
 mod Among
 mod Bounds
+mod Ends
+mod Behind
 mod Picks
 mod Moving
 pub mod Touching

@@ -20,16 +20,18 @@ pub(crate) fn grow(tops: &mut Vec<Bound>, count: usize) -> Result<(), AllocError
     Ok(())
 }
 
-/// Writes where every 16th leg begins, from the block of a place on.
-pub(crate) fn refill(tops: &mut Vec<Bound>, legs: &[Leg], first: usize)
-    requires within { first ≤ length legs.now }
+/// Writes where every 16th leg begins, from the block of the first place up to the end.
+pub(crate) fn refill(tops: &mut Vec<Bound>, legs: &[Leg], first: usize, end: usize)
+    requires order { first ≤ length legs.now }
+    requires within { end ≤ length legs.now }
     requires room { length legs.now ≤ 16 * length tops.old.items }
     requires before { (i : ℕ) (d : PlanRange) → 16 * i < first → slice_index tops.old.items i ≡ (slice_index_or legs.now (16 * i) d).span.lo }
+    requires after { (i : ℕ) (d : PlanRange) → end ≤ 16 * i → 16 * i < length legs.now → slice_index tops.old.items i ≡ (slice_index_or legs.now (16 * i) d).span.lo }
     ensures { HasIndex tops.new.items legs.now }
 {
     let mut i = first / 16;
     let mut at = 16 * i;
-    while at < legs.len() {
+    while at < end {
         tops[i] = legs[at].span.lo();
         i += 1;
         at += 16;

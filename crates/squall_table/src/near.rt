@@ -6,26 +6,31 @@ ghost use Rattle.squall_plan.specs.Ranges.{IsCanonical};
 ghost use Rattle.squall_table.specs.Patching.{NearStart, NearEnd};
 ghost use Rattle.squall_table.specs.Reach.{legs_near};
 
+use crate::search::{end_of, place_of};
 use crate::table::Leg;
 use squall_key::Bound;
 use squall_span::Span;
 
-/// Where the first leg stands that ends at the bound or later, by a binary search.
+/// Where the first leg stands that ends at the bound or later.
 pub(crate) fn near_start(legs: &[Leg], bound: Bound) -> usize
     requires { IsCanonical legs.now }
     ensures { NearStart legs.now bound result }
 {
-    // The proof learns that the bound lies at the top or below it.
-    let _rank = bound.rank();
-    legs.partition_point(|leg| leg.span.hi() < bound)
+    if bound.rank() == 0 {
+        return 0;
+    }
+    end_of(legs, bound)
 }
 
-/// Where the legs end that begin at the bound or before, by a binary search.
+/// Where the legs end that begin at the bound or before.
 pub(crate) fn near_end(legs: &[Leg], bound: Bound) -> usize
     requires { IsCanonical legs.now }
     ensures { NearEnd legs.now bound result }
 {
-    legs.partition_point(|leg| leg.span.lo() <= bound)
+    if bound.rank() >= Bound::TOP.rank() {
+        return legs.len();
+    }
+    place_of(legs, bound) + 1
 }
 
 /// How many legs are taken up for the set: each of them shares a key with it, or borders on a span

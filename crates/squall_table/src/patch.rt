@@ -39,7 +39,8 @@ fn make_room(legs: &mut Vec<Leg>, tops: &mut Vec<Bound>, fresh: &[Leg]) -> Resul
     grow(tops, (legs.len() + fresh.len() + 15) / 16)
 }
 
-/// Puts fresh legs in their place, in room that was made, and renews the index from there on.
+/// Puts fresh legs in their place, in room that was made, and renews the index where it changes:
+/// among them where no leg behind them moves, and else from them on.
 fn put(legs: &mut Vec<Leg>, tops: &mut Vec<Bound>, made: &Renewal)
     requires order { made.now.first ≤ made.now.end }
     requires within { made.now.end ≤ length legs.old.items }
@@ -50,7 +51,9 @@ fn put(legs: &mut Vec<Leg>, tops: &mut Vec<Bound>, made: &Renewal)
     ensures index { HasIndex tops.new.items legs.new.items }
 {
     replace_ready(legs, made.first, made.end, &made.fresh);
-    refill(tops, legs, made.first);
+    let moves_none = made.fresh.len() == made.end - made.first;
+    let end = if moves_none { made.end } else { legs.len() };
+    refill(tops, legs, made.first, end);
 }
 
 impl RouteTable {

@@ -170,7 +170,12 @@ pub(crate) fn end_of(legs: &[Leg], bound: Bound) -> usize
     requires above { 0 < bound }
     ensures { EndsAt legs.now bound result }
 {
-    // The proof learns that the bound lies at the top or below it.
-    let _rank = bound.rank();
-    legs.partition_point(|leg| leg.span.hi() < bound)
+    if bound.rank() >= Bound::TOP.rank() {
+        return legs.len() - 1;
+    }
+    let at = place_of(legs, bound);
+    if legs[at].span.lo().rank() < bound.rank() {
+        return at;
+    }
+    at - 1
 }

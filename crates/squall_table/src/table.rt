@@ -73,7 +73,7 @@ impl RouteTable {
         )?;
         let mut tops = Vec::new(alloc);
         grow(&mut tops, (legs.len() + 15) / 16)?;
-        refill(&mut tops, &legs, 0);
+        refill(&mut tops, &legs, 0, legs.len());
         Ok(RouteTable { legs, tops })
     }
 
