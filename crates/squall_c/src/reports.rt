@@ -16,16 +16,11 @@ use std::alloc::AllocError;
 
 /// Has the station hear what the report tells. It fails where an allocation fails, or where a count
 /// of owners is full, and then the station is as it was.
-#[tactic(auto, using(crate::proofs::Reported::one_board))]
 fn absorb_report(station: &mut Station, report: &Report) -> Result<(), AllocError>
     ensures told { OnOk result (station.new ≡ told_station station.old report.now) }
     ensures err { OnErr result (station.new ≡ station.old) }
 {
     let delta = delta_of(station.alloc, report)?;
-    // The proof learns that the delta is a board and the report one within its limits, so that what
-    // the delta tells is all that it is.
-    delta.known();
-    let _ = report.kind();
     station.router.absorb(&delta)
 }
 

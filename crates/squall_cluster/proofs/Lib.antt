@@ -1,5 +1,4 @@
 pub mod Ends
 pub mod Joined
 mod Races
-mod Reported
 mod Unions

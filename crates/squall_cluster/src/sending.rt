@@ -23,8 +23,6 @@ fn letter_of(alloc: Global, report: &Report) -> Result<Letter, AllocError>
     ensures taken { IfOk result (λ l. HasTaken l (report.now ∷ [])) }
     ensures board { IfOk result IsBoard }
 {
-    // The proof learns that the report lies within the limits of reports.
-    let _kind = report.kind();
     let delta = delta_of(alloc, report)?;
     delta.known();
     Ok(Letter::new(delta))

@@ -11,12 +11,18 @@ use std::alloc::{AllocError, Global};
 
 /// The board that has taken the report alone. It fails where an allocation fails, or where the
 /// count of an issue's owners is full.
+#[tactic(auto, using(crate::proofs::Reported::one_board))]
 pub fn delta_of(alloc: Global, report: &Report) -> Result<Delta, AllocError>
+    ensures value { IfOk result (λ d. d ≡ report_board report.now) }
     ensures told { IfOk result (λ d. SameTold (told d) (told_by_report report.now)) }
     ensures taken { IfOk result (λ d. HasTaken d (report.now ∷ [])) }
 {
     let mut delta = Board::new(alloc);
     delta.take(report)?;
+    // The proof learns that the delta is a board and the report one within its limits, so that what
+    // the delta tells is all that it is.
+    delta.known();
+    let _kind = report.kind();
     Ok(delta)
 }
 

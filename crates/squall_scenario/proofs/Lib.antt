@@ -1,7 +1,6 @@
 pub mod Answered
 pub mod Heard
 pub mod ShownLegs
-pub mod Reported
 pub mod LineWords
 pub mod AnswerTexts
 pub mod Refusals

@@ -84,16 +84,11 @@ fn new_plan(
 }
 
 /// Has the router hear what the report tells.
-#[tactic(auto, using(crate::proofs::Reported::one_board))]
 fn absorb_report(alloc: Global, router: &mut Router, report: &Report) -> Result<(), AllocError>
     ensures first { router.new.first ≡ router.old.first }
     ensures board { OnOk result (router.new.board ≡ board_join router.old.board (report_board report.now)) }
 {
     let delta = delta_of(alloc, report)?;
-    // The proof learns that the delta is a board and the report one within its limits, so that what
-    // the delta tells is all that it is.
-    delta.known();
-    let _ = report.kind();
     router.absorb(&delta)
 }
 
