@@ -89,6 +89,17 @@ impl<K: MapKey, V: Join, U: Update<V>> Update<JoinMap<K, V>> for UpdateAt<K, U> 
     }
 }
 
+/// Makes room for one more entry: the first gets room for itself alone, since many maps have no
+/// other.
+fn make_room<K: MapKey, V: Join>(entries: &mut Vec<(K, V)>) -> Result<(), AllocError>
+    ensures { entries.new.items ≡ entries.old.items }
+{
+    if entries.is_empty() {
+        return entries.reserve_exact(1);
+    }
+    entries.reserve(1)
+}
+
 /// Puts an entry at a place, before those from there on.
 ///
 /// In place of `Vec::insert`, since a rotation by one compiles to one block move of what follows.
@@ -101,6 +112,7 @@ fn put<K: MapKey, V: Join>(
     ensures value { OnOk result (entries.new.items ≡ inserted entries.old.items at entry) }
     ensures err { OnErr result (entries.new.items ≡ entries.old.items) }
 {
+    make_room(entries)?;
     entries.push(entry)?;
     entries[at..].rotate_right(1);
     Ok(())
