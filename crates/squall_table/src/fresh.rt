@@ -23,10 +23,11 @@ use std::alloc::{AllocError, Global};
 
 /// Legs for the keys from `lo` to `hi`, those of the set by their routes and the others as among
 /// the legs, and how many moves share a key with the set. A move is taken up once, though it may
-/// share keys with more than one span.
+/// share keys with more than one span. The first and the last leg are looked for at `near` first.
 fn fresh_legs(
     alloc: Global,
     legs: &[Leg],
+    near: (usize, usize),
     moves: &[Move],
     number: u32,
     heard: Heard,
@@ -48,7 +49,7 @@ fn fresh_legs(
     let mut seen = 0;
     let mut taken = 0;
     for span in set {
-        copy_legs(&mut out, legs, reach, span.lo())?;
+        copy_legs(&mut out, legs, near.0, reach, span.lo())?;
         let first = first_move(moves, span.lo());
         let (from, to) = (span.lo(), span.hi());
         let end = push_routes(&mut out, legs, moves, number, heard, first, from, to)?;
@@ -56,7 +57,7 @@ fn fresh_legs(
         seen = seen.max(end);
         reach = span.hi();
     }
-    copy_legs(&mut out, legs, reach, hi)?;
+    copy_legs(&mut out, legs, near.1, reach, hi)?;
     Ok((out, taken))
 }
 
@@ -105,7 +106,18 @@ pub(crate) fn renew(
     let lo = legs[first].span.lo();
     let hi = legs[end - 1].span.hi();
     let number = course.number();
-    let (fresh, moves) = fresh_legs(alloc, legs, course.moves(), number, heard, set, lo, hi)?;
+    let near = (first, end - 1);
+    let (fresh, moves) = fresh_legs(
+        alloc,
+        legs,
+        near,
+        course.moves(),
+        number,
+        heard,
+        set,
+        lo,
+        hi,
+    )?;
     Ok(Renewal {
         first,
         end,

@@ -134,11 +134,11 @@ pub(crate) fn push_routes(
     while at < moves.len() && moves[at].span.lo().rank() < hi.rank() {
         let moved = moves[at];
         let start = moved.span.lo().max(reach);
-        copy_legs(out, legs, reach, start)?;
+        copy_legs(out, legs, 0, reach, start)?;
         reach = moved.span.hi().min(hi);
         push_move(out, &moved, number, heard, start, reach)?;
         at += 1;
     }
-    copy_legs(out, legs, reach, hi)?;
+    copy_legs(out, legs, 0, reach, hi)?;
     Ok(at)
 }

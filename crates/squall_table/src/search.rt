@@ -164,6 +164,37 @@ pub(crate) fn place_by(tops: &[Bound], legs: &[Leg], key: Bound) -> usize
     quarter(legs, base, 4, 1, key)
 }
 
+/// Where the leg of a key stands: the one at the place where it is looked for first, or another.
+pub(crate) fn place_near(legs: &[Leg], at: usize, key: Bound) -> usize
+    requires canonical { IsCanonical legs.now }
+    requires below { key < top }
+    ensures { IsAt legs.now key result }
+{
+    if at < legs.len() {
+        let span = legs[at].span;
+        if span.lo().rank() <= key.rank() && key.rank() < span.hi().rank() {
+            return at;
+        }
+    }
+    place_of(legs, key)
+}
+
+/// Where the leg of the key before a bound stands: the one at the place where it is looked for
+/// first, or another.
+pub(crate) fn end_near(legs: &[Leg], at: usize, bound: Bound) -> usize
+    requires canonical { IsCanonical legs.now }
+    requires above { 0 < bound }
+    ensures { EndsAt legs.now bound result }
+{
+    if at < legs.len() {
+        let span = legs[at].span;
+        if span.lo().rank() < bound.rank() && bound.rank() <= span.hi().rank() {
+            return at;
+        }
+    }
+    end_of(legs, bound)
+}
+
 /// Where the leg of the key before a bound stands.
 pub(crate) fn end_of(legs: &[Leg], bound: Bound) -> usize
     requires canonical { IsCanonical legs.now }

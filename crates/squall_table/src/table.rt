@@ -117,7 +117,7 @@ impl RouteTable {
         ensures { IfOk result (λ legs. AreLegs (owner_of self.now) span.now.lo span.now.hi legs.items) }
     {
         let mut legs = Vec::new(alloc);
-        copy_legs(&mut legs, &self.legs, span.lo(), span.hi())?;
+        copy_legs(&mut legs, &self.legs, 0, span.lo(), span.hi())?;
         Ok(legs)
     }
 }

@@ -4,7 +4,7 @@ use Rattle.squall_plan.specs.Ranges.{owner_of}
 use Rattle.squall_board.specs.MovesRoute.{route_by_moves}
 use Rattle.squall_table.specs.Legs.{Grows, FirstMove, EndMove, said}
 use Rattle.squall_table.specs.Patching.{renewed}
-use Rattle.squall_table.proofs.Patching.{Counted, count_on, patching_more, counted_done}
+use Rattle.squall_table.proofs.Patching.{Counted, count_on, patching_more, patching_done, counted_done}
 use Rattle.squall_table.proofs.fresh.fresh_legs.Goals as goal
 
 pub loop-span-preserved : goal.loop-span-preserved
@@ -28,3 +28,7 @@ loop-span-preserved c =
 
 pub returns-clause-moves : goal.returns-clause-moves
 returns-clause-moves c = counted_done (renewed c.args.set.now (route_by_moves c.args.number c.args.legs.now c.args.moves.now (said c.args.heard)) (owner_of c.args.legs.now)) c.args.set.now c.args.moves.now c.args.lo c.loop-span.reach c.args.hi c.loop-span.span-index c.loop-span.seen c.loop-span.taken c.loop-span.out.items c.loop-span-test.false c.loop-span.invariant
+
+pub returns-clause-legs : goal.returns-clause-legs
+returns-clause-legs c = patching_done (route_by_moves c.args.number c.args.legs.now c.args.moves.now (said c.args.heard)) (owner_of c.args.legs.now) c.args.set.now c.args.moves.now c.args.lo c.loop-span.reach c.args.hi c.loop-span.span-index c.loop-span.seen c.loop-span.taken c.loop-span.out.items c.copy_legs-2.new.out.items
+    c.requires.set c.loop-span-test.false c.loop-span.invariant c.in_ok-copy_legs-2.ensures
