@@ -75,18 +75,11 @@ impl Errand {
     pub fn start(router: &Router, key: Key) -> Errand
         ensures { result ≡ errand_from (route_of_router router.now key) }
     {
-        Errand::asking(router.route(key))
+        Errand::at(router.route(key))
     }
 
     /// An errand for a key that some route sends to the partition.
     pub fn at(part: PartId) -> Errand
-        ensures { result ≡ errand_from part }
-    {
-        Errand::asking(part)
-    }
-
-    /// An errand that begins at the partition.
-    pub(crate) fn asking(part: PartId) -> Errand
         ensures { result ≡ errand_from part }
     {
         Errand {
