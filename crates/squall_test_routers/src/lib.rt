@@ -1,7 +1,5 @@
-//! Tests of route tables and routers, over public names alone. There is nothing here to call.
+//! Tests of routers, over public names alone. There is nothing here to call.
 #![tactic(auto)]
 
 #[cfg(test)]
 mod router;
-#[cfg(test)]
-mod table;
