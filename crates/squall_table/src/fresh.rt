@@ -85,10 +85,12 @@ pub(crate) struct Renewal {
 }
 
 /// What renews the keys of the set, which has one. The legs that go begin at the first that shares
-/// a key with the set or borders on it, and end at the last, so that no others need be joined.
+/// a key with the set or borders on it, and end at the last, so that no others need be joined. The
+/// first is looked for first at the place `at`.
 pub(crate) fn renew(
     alloc: Global,
     legs: &[Leg],
+    at: usize,
     course: &Course,
     heard: Heard,
     set: &[Span],
@@ -101,8 +103,8 @@ pub(crate) fn renew(
     ensures legs { IfOk result (λ r. Legs (renewed set.now (route_by_moves course.now.number legs.now (moves_of course.now.old course.now.new) (said heard.entry)) (owner_of legs.now)) 0 top (splice legs.now r.first r.end r.fresh.items)) }
     ensures moves { IfOk result (λ r. r.moves ≡ moves_in set.now (moves_of course.now.old course.now.new)) }
 {
-    let first = near_start(legs, set[0].lo());
-    let end = near_end(legs, set[set.len() - 1].hi());
+    let first = near_start(legs, at, set[0].lo());
+    let end = near_end(legs, first, set[set.len() - 1].hi());
     let lo = legs[first].span.lo();
     let hi = legs[end - 1].span.hi();
     let number = course.number();

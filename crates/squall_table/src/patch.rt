@@ -86,9 +86,10 @@ impl RouteTable {
         if spans.is_empty() {
             return Ok(());
         }
-        let entries = near_count(&self.legs, spans);
         let alloc = *self.legs.allocator();
-        let made = renew(alloc, &self.legs, course, Heard::Board(board), spans)?;
+        let at = self.place_before(spans[0].lo());
+        let made = renew(alloc, &self.legs, at, course, Heard::Board(board), spans)?;
+        let entries = near_count(&self.legs, made.first, spans);
         make_room(&mut self.legs, &mut self.tops, &made.fresh)?;
         put(&mut self.legs, &mut self.tops, &made);
         meter.count += made.moves as u64 + entries as u64;
@@ -118,7 +119,8 @@ impl RouteTable {
             return board.merge(delta);
         }
         // Every key of the set has come, once the delta is merged.
-        let made = renew(alloc, &self.legs, course, Heard::All, spans)?;
+        let at = self.place_before(spans[0].lo());
+        let made = renew(alloc, &self.legs, at, course, Heard::All, spans)?;
         make_room(&mut self.legs, &mut self.tops, &made.fresh)?;
         board.merge(delta)?;
         put(&mut self.legs, &mut self.tops, &made);

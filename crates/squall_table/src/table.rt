@@ -112,6 +112,19 @@ impl RouteTable {
         place_by(&self.tops[..count], &self.legs, Bound::of_key(key))
     }
 
+    /// Where the leg of the key before a bound is looked for first.
+    pub(crate) fn place_before(&self, bound: Bound) -> usize {
+        if bound.rank() >= Bound::TOP.rank() {
+            return self.legs.len();
+        }
+        let count = (self.legs.len() + 15) / 16;
+        let at = place_by(&self.tops[..count], &self.legs, bound);
+        if self.legs[at].span.lo().rank() < bound.rank() {
+            return at;
+        }
+        at.saturating_sub(1)
+    }
+
     /// The legs cut to a span. It fails only where an allocation fails.
     pub fn legs(&self, alloc: Global, span: &Span) -> Result<Vec<Leg>, AllocError>
         ensures { IfOk result (λ legs. AreLegs (owner_of self.now) span.now.lo span.now.hi legs.items) }

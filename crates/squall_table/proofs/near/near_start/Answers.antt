@@ -3,4 +3,4 @@ use Rattle.squall_table.proofs.Ends.{start_is}
 use Rattle.squall_table.proofs.near.near_start.Goals as goal
 
 pub returns : goal.returns
-returns c = start_is _ c.args.bound c.end_of.result c.args.legs.now (canonical_legs _ c.requires) c.end_of.ensures
+returns c = start_is _ c.args.bound c.end_near.result c.args.legs.now (canonical_legs _ c.requires) c.end_near.ensures
