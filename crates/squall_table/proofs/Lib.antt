@@ -1,7 +1,7 @@
 mod Kept
 mod Pushed
 mod Among
-mod Bounds
+mod Strips
 mod Ends
 mod Behind
 mod Picks

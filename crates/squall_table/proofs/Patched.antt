@@ -176,3 +176,11 @@ renews r ls set a b first end lo hi x y fresh p l m grows =
     let made : Legs h x.span.lo y.span.hi fresh = subst (λ t. Legs h x.span.lo t fresh) m (subst (λ t. Legs h t hi fresh) l (grows h lo (λ k u v. refl) refl)) in
     patched (owner_of ls) h ls fresh set a b first end x.span.lo y.span.hi x p.table p.canonical p.starts p.ends p.less
     (λ k lt out. ap (λ t. cond t (r k) (owner_of ls k)) out) p.begins p.within p.block made
+
+-- keys have legs
+pub some_fresh : (g : ℕ → ℕ) (lo hi : ℕ) (fresh : List PlanRange) → Grows g lo hi [] fresh → lo < hi → 0 < length fresh
+some_fresh g lo hi fresh grows lt = some fresh (grows g lo (λ k from below. refl) refl)
+  where
+    some : (xs : List PlanRange) → Legs g lo hi xs → 0 < length xs
+    some [] l = absurd (omega (arith, l, lt))
+    some (x ∷ xs) l = omega arith

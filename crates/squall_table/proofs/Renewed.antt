@@ -10,6 +10,7 @@ use Rattle.squall_key.specs.Keys.{top}
 use Rattle.squall_span.specs.Spans.{Interval, has}
 use Rattle.squall_plan.specs.declared.range.PlanRange.{PlanRange}
 use Rattle.squall_plan.specs.Ranges.{owner_of}
+use Rattle.squall_plan.specs.Ranges.{IsCanonical as IsCanonicalTable}
 use Rattle.squall_course.specs.declared.moving.Move.{Move}
 use Rattle.squall_course.specs.Change.{Change}
 use Rattle.squall_course.specs.Subplans.{moves, shares}
@@ -22,7 +23,7 @@ use Rattle.squall_board.specs.MovesRoute.{route_in_move, route_by_moves}
 use Rattle.squall_board.specs.MovesRouteLaws.{route_by_moves_is}
 use Rattle.squall_table.specs.Tables.{IsTable}
 use Rattle.squall_table.specs.Legs.{Legs}
-use Rattle.squall_table.specs.LegLaws.{legs_as, owner_is}
+use Rattle.squall_table.specs.LegLaws.{legs_as, owner_is, canonical_of_legs}
 use Rattle.squall_table.specs.Touched.{is_touched, ChangesWithin, WasTable}
 use Rattle.squall_table.specs.Patching.{renewed}
 use Rattle.squall_table.specs.Reach.{is_shared, moves_in}
@@ -140,3 +141,7 @@ absorbed_none c before after set ls e changes is = record {
   differ = is.differ;
   routes = λ k from lt. is.routes k from lt ∙ changes k lt (ap (λ s. has s k) e);
 }
+
+-- the legs with the fresh ones in their place are a table, before they are put there
+pub ready_canonical : (g : ℕ → ℕ) (inside given ready fresh : List PlanRange) (first end : ℕ) → given ≡ inside → ready ≡ inside → Legs g 0 top (splice given first end fresh) → IsCanonicalTable (splice ready first end fresh)
+ready_canonical g inside given ready fresh first end e e' l = subst (λ (ls : List PlanRange). IsCanonicalTable (splice ls first end fresh)) (e ∙ sym e') (canonical_of_legs g _ l)

@@ -1,5 +1,5 @@
 -- Lists of legs as they grow, and places among legs, moves and spans (this project).
-use Rattle.std.specs.Prelude.{◌≡◌, ◌≢◌, ℕ, ◌+◌, ◌*◌, ◌<◌, ◌≤◌, Bool, true, List, [], ◌∷◌, if◌then◌else◌, length, slice_index, slice_index_or}
+use Rattle.std.specs.Prelude.{◌≡◌, ◌≢◌, ℕ, ◌+◌, ◌<◌, ◌≤◌, Bool, true, List, [], ◌∷◌, if◌then◌else◌, length, slice_index_or}
 use Rattle.squall_key.specs.Keys.{top}
 use Rattle.squall_span.specs.Spans.{Interval, has}
 use Rattle.squall_plan.specs.declared.range.PlanRange.{PlanRange}
@@ -46,30 +46,6 @@ pub record EndsAt (ls : List PlanRange) (bound i : ℕ) : Type 0 where
   pub within : i < length ls
   pub from : (d : PlanRange) → (slice_index_or ls i d).span.lo < bound
   pub below : (d : PlanRange) → bound ≤ (slice_index_or ls i d).span.hi
-
--- ---- the index
-
--- one of so many bounds from a place on is the last that is not beyond the key
-pub record IsAmongBounds (xs : List ℕ) (k base size : ℕ) : Type 0 where
-  pub some : 0 < size
-  pub within : base + size ≤ length xs
-  pub from : slice_index xs base ≤ k
-  pub beyond : (j : ℕ) → base + size ≤ j → j < length xs → k < slice_index xs j
-
--- bounds that never fall
-abbrev pub BoundsRise : List ℕ → Type 0
-BoundsRise xs = (i j : ℕ) → i ≤ j → j < length xs → slice_index xs i ≤ slice_index xs j
-
--- where every 16th leg begins
-pub record IsIndex (tops : List ℕ) (ls : List PlanRange) : Type 0 where
-  pub no_more : 16 * length tops < length ls + 16
-  pub no_fewer : length ls ≤ 16 * length tops
-  pub begins : (i : ℕ) (d : PlanRange) → i < length tops → slice_index tops i ≡ (slice_index_or ls (16 * i) d).span.lo
-
--- bounds that begin with the index of the legs: what stands behind it is of no account
-pub record HasIndex (tops : List ℕ) (ls : List PlanRange) : Type 0 where
-  pub room : length ls ≤ 16 * length tops
-  pub begins : (i : ℕ) (d : PlanRange) → 16 * i < length ls → slice_index tops i ≡ (slice_index_or ls (16 * i) d).span.lo
 
 -- ---- spans
 

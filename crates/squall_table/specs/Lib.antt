@@ -11,6 +11,7 @@ pub use Rattle.squall_board.specs.Route
 pub use Rattle.squall_board.specs.MovesRoute
 pub mod Tables
 pub mod Legs
+pub mod Strips
 pub mod LegLaws
 pub mod Touched
 pub mod Reach

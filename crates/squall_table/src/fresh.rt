@@ -98,7 +98,8 @@ pub(crate) fn renew(
     requires legs { IsCanonical legs.now }
     requires set { IsSet set.now }
     requires some { 0 < length set.now }
-    ensures order { IfOk result (λ r. r.first ≤ r.end) }
+    ensures order { IfOk result (λ r. r.first < r.end) }
+    ensures some { IfOk result (λ r. 0 < length r.fresh.items) }
     ensures within { IfOk result (λ r. r.end ≤ length legs.now) }
     ensures legs { IfOk result (λ r. Legs (renewed set.now (route_by_moves course.now.number legs.now (moves_of course.now.old course.now.new) (said heard.entry)) (owner_of legs.now)) 0 top (splice legs.now r.first r.end r.fresh.items)) }
     ensures moves { IfOk result (λ r. r.moves ≡ moves_in set.now (moves_of course.now.old course.now.new)) }

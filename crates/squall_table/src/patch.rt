@@ -1,19 +1,19 @@
 //! Patches of route tables.
 
-ghost use Rattle.std.specs.Prelude.{◌≡◌, ℕ, ◌<◌, ◌≤◌, ◌+◌, ◌*◌, ◌^◌, false, length, vec_len, vec_capacity, OnOk, OnErr};
+ghost use Rattle.std.specs.Prelude.{◌≡◌, ℕ, ◌<◌, ◌≤◌, ◌+◌, ◌^◌, false, length, vec_len, vec_capacity, OnOk, OnErr};
 ghost use Rattle.std.specs.List.{splice};
 ghost use Rattle.squall_key.specs.Keys.{top};
 ghost use Rattle.squall_span.specs.Spans.{has};
-ghost use Rattle.squall_plan.specs.Ranges.{owner_of};
+ghost use Rattle.squall_plan.specs.Ranges.{owner_of, IsCanonical};
 ghost use Rattle.squall_course.specs.Moves.{moves_of};
 ghost use Rattle.squall_board.specs.Boards.{board_join};
 ghost use Rattle.squall_table.specs.Tables.{IsTable};
-ghost use Rattle.squall_table.specs.Legs.{HasIndex};
+ghost use Rattle.squall_table.specs.Strips.{HasIndex};
 ghost use Rattle.squall_table.specs.Touched.{WasTable};
 ghost use Rattle.squall_table.specs.Reach.{moves_in, reach};
 
 use crate::fresh::{Renewal, know_moves, renew};
-use crate::index::{grow, refill};
+use crate::index::Index;
 use crate::meter::Meter;
 use crate::near::near_count;
 use crate::ready::replace_ready;
@@ -26,34 +26,36 @@ use squall_key::Bound;
 use squall_span::SpanSet;
 use std::alloc::AllocError;
 
-/// Makes room for fresh legs, and for their index. Where that fails, legs and index are as they
-/// were, but for room.
-fn make_room(legs: &mut Vec<Leg>, tops: &mut Vec<Bound>, fresh: &[Leg]) -> Result<(), AllocError>
-    requires index { HasIndex tops.old.items legs.old.items }
+/// Makes room for fresh legs, and for their index. Where that fails, the legs are as they were, and
+/// the index is still theirs.
+fn make_room(legs: &mut Vec<Leg>, index: &mut Index, fresh: &[Leg]) -> Result<(), AllocError>
+    requires index { HasIndex index.old legs.old.items }
     ensures legs { legs.new.items ≡ legs.old.items }
-    ensures index { HasIndex tops.new.items legs.new.items }
+    ensures index { HasIndex index.new legs.new.items }
     ensures room { OnOk result (vec_len legs.new + length fresh.now ≤ vec_capacity legs.new) }
-    ensures tops { OnOk result (length legs.new.items + length fresh.now ≤ 16 * length tops.new.items) }
 {
     legs.reserve(fresh.len())?;
-    grow(tops, (legs.len() + fresh.len() + 15) / 16)
+    index.reserve(legs.len() + fresh.len())
 }
 
-/// Puts fresh legs in their place, in room that was made, and renews the index where it changes:
-/// among them where no leg behind them moves, and else from them on.
-fn put(legs: &mut Vec<Leg>, tops: &mut Vec<Bound>, made: &Renewal)
-    requires order { made.now.first ≤ made.now.end }
+/// Puts fresh legs in their place, in room that was made, and lets the index follow them.
+fn put(legs: &mut Vec<Leg>, index: &mut Index, made: &Renewal)
+    requires order { made.now.first < made.now.end }
     requires within { made.now.end ≤ length legs.old.items }
-    requires index { HasIndex tops.old.items legs.old.items }
+    requires some { 0 < length made.now.fresh.items }
+    requires old { IsCanonical legs.old.items }
+    requires canonical { IsCanonical (splice legs.old.items made.now.first made.now.end made.now.fresh.items) }
+    requires index { HasIndex index.old legs.old.items }
     requires room { vec_len legs.old + length made.now.fresh.items ≤ vec_capacity legs.old }
-    requires tops { length legs.old.items + length made.now.fresh.items ≤ 16 * length tops.old.items }
     ensures legs { legs.new.items ≡ splice legs.old.items made.now.first made.now.end made.now.fresh.items }
-    ensures index { HasIndex tops.new.items legs.new.items }
+    ensures index { HasIndex index.new legs.new.items }
 {
     replace_ready(legs, made.first, made.end, &made.fresh);
-    let moves_none = made.fresh.len() == made.end - made.first;
-    let end = if moves_none { made.end } else { legs.len() };
-    refill(tops, legs, made.first, end);
+    if index.is_coarse() {
+        index.renew(legs);
+    } else {
+        index.follow(legs, made.first, made.fresh.len(), made.end - made.first);
+    }
 }
 
 impl RouteTable {
@@ -90,8 +92,8 @@ impl RouteTable {
         let at = self.place_before(spans[0].lo());
         let made = renew(alloc, &self.legs, at, course, Heard::Board(board), spans)?;
         let entries = near_count(&self.legs, made.first, spans);
-        make_room(&mut self.legs, &mut self.tops, &made.fresh)?;
-        put(&mut self.legs, &mut self.tops, &made);
+        make_room(&mut self.legs, &mut self.index, &made.fresh)?;
+        put(&mut self.legs, &mut self.index, &made);
         meter.count += made.moves as u64 + entries as u64;
         Ok(())
     }
@@ -121,9 +123,9 @@ impl RouteTable {
         // Every key of the set has come, once the delta is merged.
         let at = self.place_before(spans[0].lo());
         let made = renew(alloc, &self.legs, at, course, Heard::All, spans)?;
-        make_room(&mut self.legs, &mut self.tops, &made.fresh)?;
+        make_room(&mut self.legs, &mut self.index, &made.fresh)?;
         board.merge(delta)?;
-        put(&mut self.legs, &mut self.tops, &made);
+        put(&mut self.legs, &mut self.index, &made);
         Ok(())
     }
 }

@@ -5,10 +5,9 @@ ghost use Rattle.squall_plan.specs.Ranges.{owner_of, AreRanges, IsCanonical};
 ghost use Rattle.squall_table.specs.Legs.{IsAt};
 ghost use Rattle.squall_table.specs.Tables.{AreLegs, IsTable};
 
-use crate::index::{grow, refill};
+use crate::index::Index;
 use crate::legs::copy_legs;
 use crate::routes::{Heard, first_move, push_routes};
-use crate::search::place_by;
 use squall_board::Board;
 use squall_course::Course;
 use squall_key::{Bound, Key, PartId};
@@ -27,21 +26,20 @@ pub type Leg = PlanRange;
 #[derive(Drop)]
 pub struct RouteTable {
     pub(crate) legs: Vec<Leg>,
-    /// Where every 16th leg begins: what stands behind that is of no account.
-    pub(crate) tops: Vec<Bound>,
+    pub(crate) index: Index,
 }
 
 impl Model for RouteTable {
     ghost use Rattle.std.specs.Prelude.{List};
     ghost use Rattle.squall_plan.specs.declared.range.PlanRange.{PlanRange};
     ghost use Rattle.squall_plan.specs.Ranges.{IsCanonical, AreRanges};
-    ghost use Rattle.squall_table.specs.Legs.{HasIndex};
+    ghost use Rattle.squall_table.specs.Strips.{HasIndex};
 
     ghost Value = { List PlanRange };
 
     ghost view = { λ t. t.legs.items };
 
-    ghost invariant = { λ t. IsCanonical t.legs.items × AreRanges t.legs.items × HasIndex t.tops.items t.legs.items };
+    ghost invariant = { λ t. IsCanonical t.legs.items × AreRanges t.legs.items × HasIndex t.index t.legs.items };
 }
 
 /// The bound at the least key.
@@ -71,18 +69,15 @@ impl RouteTable {
             bottom(),
             Bound::TOP,
         )?;
-        let mut tops = Vec::new(alloc);
-        grow(&mut tops, (legs.len() + 15) / 16)?;
-        refill(&mut tops, &legs, 0, legs.len());
-        Ok(RouteTable { legs, tops })
+        let index = Index::over(alloc, &legs)?;
+        Ok(RouteTable { legs, index })
     }
 
     /// The partition to ask for the key, by a binary search.
     pub fn owner(&self, key: Key) -> PartId
         ensures { result ≡ owner_of self.now key }
     {
-        let count = (self.legs.len() + 15) / 16;
-        let at = place_by(&self.tops[..count], &self.legs, Bound::of_key(key));
+        let at = self.index.place(&self.legs, Bound::of_key(key));
         self.legs[at].part
     }
 
@@ -100,16 +95,15 @@ impl RouteTable {
         ensures { IfOk result (λ t. t ≡ self.now) }
     {
         let legs = Vec::from_slice(alloc, &self.legs)?;
-        let tops = Vec::from_slice(alloc, &self.tops)?;
-        Ok(RouteTable { legs, tops })
+        let index = self.index.copied(alloc)?;
+        Ok(RouteTable { legs, index })
     }
 
     /// Where the leg of the key stands among the legs, by a binary search.
     pub fn place(&self, key: Key) -> usize
         ensures { IsAt self.now key result }
     {
-        let count = (self.legs.len() + 15) / 16;
-        place_by(&self.tops[..count], &self.legs, Bound::of_key(key))
+        self.index.place(&self.legs, Bound::of_key(key))
     }
 
     /// Where the leg of the key before a bound is looked for first.
@@ -117,8 +111,7 @@ impl RouteTable {
         if bound.rank() >= Bound::TOP.rank() {
             return self.legs.len();
         }
-        let count = (self.legs.len() + 15) / 16;
-        let at = place_by(&self.tops[..count], &self.legs, bound);
+        let at = self.index.place(&self.legs, bound);
         if self.legs[at].span.lo().rank() < bound.rank() {
             return at;
         }

@@ -7,7 +7,7 @@ use Rattle.squall_table.specs.Legs.{said}
 use Rattle.squall_table.specs.declared.routes.Heard.TheVariants.{All}
 use Rattle.squall_table.specs.LegLaws.{are_legs, canonical_of_legs}
 use Rattle.squall_table.proofs.Built.{made_ranges}
-use Rattle.squall_table.proofs.Renewed.{empty_is, absorbed_none, absorbed_legs, renewed_legs}
+use Rattle.squall_table.proofs.Renewed.{empty_is, absorbed_none, absorbed_legs, renewed_legs, ready_canonical}
 use Rattle.squall_table.proofs.table.RouteTable.absorb.Goals as goal
 
 pub returns-then-is_empty-clause-table : goal.returns-then-is_empty-clause-table
@@ -24,3 +24,6 @@ pub returns-clause-table : goal.returns-clause-table
 returns-clause-table c = are_legs _ 0 top _ (absorbed_legs c.args.course.now c.args.board.now c.merge-2.new.self c.args.delta.now c.in_ok-set.set c.args.self.now c.put.new.legs.items (moves_of c.args.course.now.old c.args.course.now.new) (said All) c.know_moves.ensures.meaning (λ f. refl) c.requires.was c.in_ok-set.ensures.keys c.in_ok-merge.ensures.told (c.in_ok-set.ensures.changed c.args.board.now c.merge-2.new.self c.in_ok-merge.ensures.told)
     (renewed_legs c.args.course.now c.in_ok-set.set c.spans-spans.result.now c.args.self.now c.self.inside.legs.items c.deref.result.now c.make_room.new.legs.items c.put.new.legs.items c.in_ok-made.made.fresh.items (moves_of c.args.course.now.old c.args.course.now.new) (said All) c.in_ok-made.made.first c.in_ok-made.made.end
     c.spans-spans.ensures.value c.self.view_is c.deref.ensures.value c.in_ok-make_room.ensures.legs c.put.ensures.legs c.in_ok-made.ensures.legs))
+
+pub put-requires-clause-canonical : goal.put-requires-clause-canonical
+put-requires-clause-canonical c = ready_canonical _ c.self.inside.legs.items c.deref.result.now c.make_room.new.legs.items c.in_ok-made.made.fresh.items c.in_ok-made.made.first c.in_ok-made.made.end c.deref.ensures.value c.in_ok-make_room.ensures.legs c.in_ok-made.ensures.legs

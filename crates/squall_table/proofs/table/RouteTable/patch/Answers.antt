@@ -8,7 +8,7 @@ use Rattle.squall_board.specs.MovesRoute.{route_by_moves}
 use Rattle.squall_table.specs.LegLaws.{are_legs, canonical_of_legs}
 use Rattle.squall_table.specs.Reach.{is_near}
 use Rattle.squall_table.proofs.Built.{made_ranges}
-use Rattle.squall_table.proofs.Renewed.{few_in, none_in, empty_is, patched_legs, others_keep, renewed_legs}
+use Rattle.squall_table.proofs.Renewed.{few_in, none_in, empty_is, patched_legs, others_keep, renewed_legs, ready_canonical}
 use Rattle.squall_table.proofs.table.RouteTable.patch.Goals as goal
 
 pub returns-then-is_empty-clause-at_least : goal.returns-then-is_empty-clause-at_least
@@ -43,3 +43,6 @@ returns-clause-table c = are_legs _ 0 top _ (patched_legs c.args.course.now c.ar
 pub returns-clause-others : goal.returns-clause-others
 returns-clause-others c k lt out = others_keep (route_by_moves c.args.course.now.number c.args.self.now (moves_of c.args.course.now.old c.args.course.now.new) (says c.args.board.now)) (owner_of c.args.self.now) c.args.set.now c.put.new.legs.items k (renewed_legs c.args.course.now c.args.set.now c.spans-spans.result.now c.args.self.now c.self.inside.legs.items c.deref.result.now c.make_room.new.legs.items c.put.new.legs.items c.in_ok-made.made.fresh.items (moves_of c.args.course.now.old c.args.course.now.new) (says c.args.board.now) c.in_ok-made.made.first c.in_ok-made.made.end
     c.spans-spans.ensures.value c.self.view_is c.deref.ensures.value c.in_ok-make_room.ensures.legs c.put.ensures.legs c.in_ok-made.ensures.legs) lt out
+
+pub put-requires-clause-canonical : goal.put-requires-clause-canonical
+put-requires-clause-canonical c = ready_canonical _ c.self.inside.legs.items c.deref.result.now c.make_room.new.legs.items c.in_ok-made.made.fresh.items c.in_ok-made.made.first c.in_ok-made.made.end c.deref.ensures.value c.in_ok-make_room.ensures.legs c.in_ok-made.ensures.legs

@@ -2,7 +2,7 @@ use Rattle.std.proofs.Common.{◌≡◌, arith}
 use Rattle.squall_plan.specs.Ranges.{owner_of}
 use Rattle.squall_table.proofs.Among.{among_one, fewer}
 use Rattle.squall_table.specs.LegLaws.{canonical_legs}
-use Rattle.squall_table.proofs.search.place_of.Goals as goal
+use Rattle.squall_table.proofs.search.place_among.Goals as goal
 
 pub returns-in-3 : goal.returns-in-3
 returns-in-3 c = among_one (owner_of c.args.legs.now) c.args.key _ _ (canonical_legs _ c.requires.canonical) c.requires.below c.third.ensures

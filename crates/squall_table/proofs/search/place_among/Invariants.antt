@@ -1,5 +1,5 @@
 use Rattle.squall_table.specs.Legs.{IsAmong}
-use Rattle.squall_table.proofs.search.place_of.Given as goal
+use Rattle.squall_table.proofs.search.place_among.Given as goal
 
 abbrev pub invariant-loop-size : goal.invariant-loop-size
 invariant-loop-size l = IsAmong l.legs l.key l.base l.size
