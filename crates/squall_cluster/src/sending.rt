@@ -28,6 +28,16 @@ fn letter_of(alloc: Global, report: &Report) -> Result<Letter, AllocError>
     Ok(Letter::new(delta))
 }
 
+/// Leaves the processor to other threads, so many times, and says how many times to do so where the
+/// inbox is full again: twice as many, up to 64. A sender that tried at once would take the inbox's
+/// words in memory from the owner, which is the only one that can make room.
+fn pause(times: u32) -> u32 {
+    for _ in 0..times {
+        thread::yield_now();
+    }
+    times.saturating_mul(2).min(64)
+}
+
 /// Posts the letter, again where the inbox is full, unless the race is off.
 fn post_one<K: Case, G: Gate, R: Wait>(
     rt: &R,
@@ -41,6 +51,7 @@ fn post_one<K: Case, G: Gate, R: Wait>(
     ensures ok { OnOk result (sender.new.posted ≡ sender.old.posted ++ letter ∷ []) }
 {
     let mut letter = letter;
+    let mut times = 1;
     for _ in rt.forever() {
         halt.check()?;
         steps.begin();
@@ -50,7 +61,7 @@ fn post_one<K: Case, G: Gate, R: Wait>(
             Ok(()) => return Ok(()),
             Err(Full(back)) => letter = back,
         }
-        thread::yield_now();
+        times = pause(times);
     }
     unreachable!()
 }

@@ -44,7 +44,7 @@ over ls k base size s m lt le = record {
 }
 
 -- fewer legs, since the key is before a place
-under : (f : ℕ → ℕ) (ls : List PlanRange) (k base size s n : ℕ) → Legs f 0 top ls → IsAmong ls k base size → 0 < s → s ≤ n → n ≤ size → ((d : PlanRange) → k < (get_or ls (base + s) d).span.lo) → IsAmong ls k base n
+pub under : (f : ℕ → ℕ) (ls : List PlanRange) (k base size s n : ℕ) → Legs f 0 top ls → IsAmong ls k base size → 0 < s → s ≤ n → n ≤ size → ((d : PlanRange) → k < (get_or ls (base + s) d).span.lo) → IsAmong ls k base n
 under f ls k base size s n t m pos le fits lt = record {
   some = omega arith;
   within = omega (arith, m.within);

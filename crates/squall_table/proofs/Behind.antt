@@ -63,7 +63,7 @@ pub had_index : (x : Index) (ls fresh new : List PlanRange) (first end came gone
     → new ≡ splice ls first end fresh → came ≡ length fresh → gone ≡ end - first → HadIndex x new first came gone
 had_index x ls fresh new first end came gone c c' h order within some e e' g =
     subst (λ (xs : List PlanRange). HadIndex x xs first came gone) (sym e) (subst (λ n. HadIndex x (splice ls first end fresh) first n gone) (sym e') (subst (λ n. HadIndex x (splice ls first end fresh) first (length fresh) n) (sym g) (record {
-      shift = h.shift;
+      scale = h.scale;
       room = h.room;
       ends = early;
       behind = λ s d more le low. elim (cases_lt (get_or x.ends.items s 0) end) [

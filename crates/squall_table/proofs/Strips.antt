@@ -1,18 +1,19 @@
 -- Strips of keys, and the legs that begin in them.
 use Rattle.std.proofs.Common.{◌≡◌, ℕ, zero, suc, ◌+◌, ◌-◌, ◌*◌, ◌/◌, ◌^◌, ◌<◌, ◌≤◌, min, List, length, get_or, refl, sym, ap, subst, ◌∙◌, arith, inl, inr, div-mul-le_self, le_trans}
 use Rattle.std.proofs.lemmas.Bool.{cases_lt}
-use Rattle.std.proofs.lemmas.Nat.{le-div}
+use Rattle.std.proofs.lemmas.Nat.{le-div, div_below}
 use Rattle.squall_key.specs.Keys.{top}
 use Rattle.squall_plan.specs.declared.range.PlanRange.{PlanRange}
 use Rattle.squall_plan.specs.Ranges.{owner_of, IsCanonical}
 use Rattle.squall_table.specs.declared.index.Scale.{Scale}
 use Rattle.squall_table.specs.declared.index.Index.{Index}
-use Rattle.squall_table.specs.Legs.{IsAmong}
+use Rattle.squall_table.specs.Legs.{IsAt, IsAmong}
 use Rattle.squall_table.specs.LegLaws.{canonical_legs}
-use Rattle.squall_table.specs.Strips.{strip_of, before, EndsStrip, StripsEnd, StripsNear, HasIndex, HadIndex}
+use Rattle.squall_table.specs.Strips.{strip_of, before, IsScale, BeginsBy, EndsStrip, StripsEnd, HasIndex, HadIndex}
 use Rattle.squall_table.specs.Tables.{leg_of}
 use Rattle.squall_table.proofs.Among.{starts_as, among_all}
-use Rattle.squall_table.proofs.Kept.{starts_rise}
+use Rattle.squall_table.proofs.Ends.{some_legs}
+use Rattle.squall_table.proofs.Kept.{starts_rise, legs_next}
 
 -- ---- strips rise with their bounds
 
@@ -43,6 +44,22 @@ strip_least sc = let p = strip_rises sc 0 sc.low (omega arith) in let q : (0 - s
     small zero c pos le = omega arith
     small (suc n) zero pos le = absurd (omega arith)
     small (suc n) (suc c) pos le = absurd (omega (arith, le))
+
+-- the last key of a strip parts what begins in it or before from what begins later
+pub by_key : (sc : Scale) (s key b : ℕ) → key + 1 ≡ sc.low + (s + 1) * 2 ^ sc.shift → b ≤ key → strip_of sc b ≤ s
+by_key sc s key b is le =
+    let pos = positive sc.shift in
+    let more : 2 ^ sc.shift ≤ (s + 1) * 2 ^ sc.shift = omega arith in
+    let p : (b - sc.low) / 2 ^ sc.shift < s + 1 = div_below (b - sc.low) (2 ^ sc.shift) (s + 1) pos (omega (arith, is, le, pos, more)) in
+    omega (arith, p)
+
+pub by_strip : (sc : Scale) (s key b : ℕ) → key + 1 ≡ sc.low + (s + 1) * 2 ^ sc.shift → s < sc.last → strip_of sc b ≤ s → b ≤ key
+by_strip sc s key b is less le = elim (cases_lt key b) [
+  | inl past ↦
+      let p : s + 1 ≤ (b - sc.low) / 2 ^ sc.shift = le-div (s + 1) (b - sc.low) (2 ^ sc.shift) (positive sc.shift) (omega (arith, is, past)) in
+      absurd (omega (arith, p, less, le))
+  | inr near ↦ near
+]
 
 -- ---- legs that begin in strips
 
@@ -94,50 +111,41 @@ none : PlanRange
 none = leg_of 0 0 0
 
 -- an index by the list of its places
-pub index_by : (x : Index) (ls : List PlanRange) (ends : List ℕ) → x.ends.items ≡ ends → x.scale.shift < 64 → x.scale.last < length ends → x.most < length ls
+pub index_by : (x : Index) (ls : List PlanRange) (ends : List ℕ) → x.ends.items ≡ ends → IsScale x.scale → x.scale.last < length ends → x.most < length ls
     → ((s : ℕ) → s ≤ x.scale.last → EndsStrip x.scale ls s (get_or ends s 0)) → ((s : ℕ) → s ≤ x.scale.last → get_or ends s 0 ≤ before ends s + x.most) → HasIndex x ls
-index_by x ls ends e shift room fewer at most = record {
-  shift = shift;
+index_by x ls ends e scale room fewer at most = record {
+  scale = scale;
   room = subst (λ (xs : List ℕ). x.scale.last < length xs) (sym e) room;
   ends = λ s low. subst (λ (xs : List ℕ). EndsStrip x.scale ls s (get_or xs s 0)) (sym e) (at s low);
   fewer = fewer;
   most = λ s low. subst (λ (xs : List ℕ). get_or xs s 0 ≤ before xs s + x.most) (sym e) (most s low);
 }
 
-some_legs : (ls : List PlanRange) → IsCanonical ls → 0 < length ls
-some_legs ls c = (among_all (owner_of ls) 0 ls (canonical_legs ls c)).some
-
 -- all of it is new
-pub index_of_all : (x : Index) (ls : List PlanRange) (ends : List ℕ) (most : ℕ) → x.ends.items ≡ ends → IsCanonical ls → x.scale.shift < 64 → x.scale.last < length ends → StripsEnd x.scale ls ends 0 (x.scale.last + 1)
+pub index_of_all : (x : Index) (ls : List PlanRange) (ends : List ℕ) (most : ℕ) → x.ends.items ≡ ends → IsCanonical ls → IsScale x.scale → x.scale.last < length ends → StripsEnd x.scale ls ends 0 (x.scale.last + 1)
     → ((s : ℕ) → 0 ≤ s → s < x.scale.last + 1 → get_or ends s 0 ≤ before ends s + most) → x.most ≡ min most (length ls - 1) → HasIndex x ls
-index_of_all x ls ends most e c shift room strips each is =
-    index_by x ls ends e shift room (let l = some_legs ls c in omega (arith, l, is)) at (λ s low. let p = each s (omega arith) (omega (arith, low)) in let q = (at s low).within in omega (arith, p, q, is))
+index_of_all x ls ends most e c scale room strips each is =
+    index_by x ls ends e scale room (let l = some_legs (owner_of ls) ls (canonical_legs ls c) in omega (arith, l, is)) at (λ s low. let p = each s (omega arith) (omega (arith, low)) in let q = (at s low).within in omega (arith, p, q, is))
   where
     at : (s : ℕ) → s ≤ x.scale.last → EndsStrip x.scale ls s (get_or ends s 0)
-    at s low = strips s none (let p = strip_rises x.scale (get_or ls 0 none).span.lo 0 (least_leg ls none c) in let q = strip_least x.scale in omega (arith, p, q)) (omega (arith, low))
+    at s low = strips s (omega arith) (omega (arith, low))
 
 -- where the strips behind some legs begin
 pub record Stop (sc : Scale) (ls : List PlanRange) (behind stop : ℕ) : Type 0 where
-  pub near : StripsNear sc ls (behind - 1) stop
+  pub near : (d : PlanRange) → strip_of sc (get_or ls (behind - 1) d).span.lo ≤ stop
   pub low : stop ≤ sc.last + 1
   pub past : (s : ℕ) → stop ≤ s → s ≤ sc.last → (behind < length ls) × ((d : PlanRange) → strip_of sc (get_or ls behind d).span.lo ≤ s)
 
 pub stop_at : (sc : Scale) (ls : List PlanRange) (behind stop : ℕ) → IsCanonical ls → 0 < behind → behind < length ls → ((d : PlanRange) → stop ≡ strip_of sc (get_or ls behind d).span.lo) → Stop sc ls behind stop
 stop_at sc ls behind stop c pos lt is = record {
-  near = record {
-    here = λ d. let up = strips_rise sc ls (behind - 1) behind d c (omega arith) lt in let at = is d in omega (arith, up, at);
-    next = λ d more. let same : behind - 1 + 1 ≡ behind = omega (arith, pos) in subst (λ n. stop ≤ strip_of sc (get_or ls n d).span.lo) (sym same) (let at = is d in omega (arith, at));
-  };
+  near = λ d. let up = strips_rise sc ls (behind - 1) behind d c (omega arith) lt in let at = is d in omega (arith, up, at);
   low = let at = is none in omega (arith, at);
   past = λ s le low. (lt, λ d. let at = is d in omega (arith, at, le));
 }
 
 pub stop_none : (sc : Scale) (ls : List PlanRange) (behind stop : ℕ) → length ls ≤ behind → stop ≡ sc.last + 1 → Stop sc ls behind stop
 stop_none sc ls behind stop ge is = record {
-  near = record {
-    here = λ d. omega (arith, is);
-    next = λ d more. absurd (omega (arith, more, ge));
-  };
+  near = λ d. omega (arith, is);
   low = omega (arith, is);
   past = λ s le low. absurd (omega (arith, le, low, is));
 }
@@ -150,19 +158,19 @@ pub record Moved (old filled moved : List ℕ) (stop all came gone : ℕ) : Type
 
 -- it follows legs that came in the place of others
 pub index_follows : (x y : Index) (ls : List PlanRange) (filled moved : List ℕ) (first came gone from stop most : ℕ) → IsCanonical ls → first + came ≤ length ls → 0 < came → HadIndex x ls first came gone → Stop x.scale ls (first + came) stop
-    → ((d : PlanRange) → from ≡ strip_of x.scale (get_or ls first d).span.lo) → ((s : ℕ) (d : PlanRange) → s < strip_of x.scale (get_or ls first d).span.lo → get_or filled s 0 ≡ get_or x.ends.items s 0) → StripsEnd x.scale ls filled first stop
+    → ((d : PlanRange) → from ≡ strip_of x.scale (get_or ls first d).span.lo) → ((s : ℕ) → s < from → get_or filled s 0 ≡ get_or x.ends.items s 0) → StripsEnd x.scale ls filled from stop
     → Moved x.ends.items filled moved stop (x.scale.last + 1) came gone → x.most ≤ most → ((s : ℕ) → from ≤ s → s < min (x.scale.last + 1) (stop + 1) → get_or moved s 0 ≤ before moved s + most)
     → y.ends.items ≡ moved → y.scale ≡ x.scale → y.most ≡ min most (length ls - 1) → length moved ≡ length x.ends.items → HasIndex y ls
 index_follows x y ls filled moved first came gone from stop most c within pos had to from_is kept strips m more each e scale is len =
-    index_by y ls moved e (subst (λ (sc : Scale). sc.shift < 64) (sym scale) had.shift) (subst (λ (sc : Scale). sc.last < length moved) (sym scale) (omega (arith, had.room, len))) (let l = some_legs ls c in omega (arith, l, is))
+    index_by y ls moved e (subst IsScale (sym scale) had.scale) (subst (λ (sc : Scale). sc.last < length moved) (sym scale) (omega (arith, had.room, len))) (let l = some_legs (owner_of ls) ls (canonical_legs ls c) in omega (arith, l, is))
     (subst (λ (sc : Scale). (s : ℕ) → s ≤ sc.last → EndsStrip sc ls s (get_or moved s 0)) (sym scale) at)
     (subst (λ (sc : Scale). (s : ℕ) → s ≤ sc.last → get_or moved s 0 ≤ before moved s + y.most) (sym scale) (λ s low. let p = gap s low in let q = (at s low).within in omega (arith, p, q, is)))
   where
     rises : from ≤ stop
-    rises = let up = strips_rise x.scale ls first (first + came - 1) none c (omega (arith, pos)) (omega (arith, pos, within)) in let a = from_is none in let b = to.near.here none in omega (arith, up, a, b)
+    rises = let up = strips_rise x.scale ls first (first + came - 1) none c (omega (arith, pos)) (omega (arith, pos, within)) in let a = from_is none in let b = to.near none in omega (arith, up, a, b)
 
     start : (s : ℕ) → s < from → get_or moved s 0 ≡ get_or x.ends.items s 0
-    start s lt = m.early s (omega (arith, lt, rises)) ∙ kept s none (let a = from_is none in omega (arith, a, lt))
+    start s lt = m.early s (omega (arith, lt, rises)) ∙ kept s lt
 
     shifted : (s : ℕ) → stop ≤ s → s ≤ x.scale.last → get_or moved s 0 + gone ≡ get_or x.ends.items s 0 + came
     shifted s le low = let p = m.inside s le (omega (arith, low)) in let q = m.late s le in omega (arith, p, q)
@@ -171,7 +179,7 @@ index_follows x y ls filled moved first came gone from stop most c within pos ha
     at s low = elim (cases_lt s from) [
       | inl lt ↦ ends_as x.scale ls s _ _ (sym (start s lt)) (had.ends s none (let a = from_is none in omega (arith, a, lt)))
       | inr ge ↦ elim (cases_lt s stop) [
-        | inl lt ↦ ends_as x.scale ls s _ _ (sym (m.early s lt)) (strips s none (let a = from_is none in omega (arith, a, ge)) lt)
+        | inl lt ↦ ends_as x.scale ls s _ _ (sym (m.early s lt)) (strips s ge lt)
         | inr le ↦
             let far = to.past s le low in
             let p = shifted s le low in
@@ -191,3 +199,27 @@ index_follows x y ls filled moved first came gone from stop most c within pos ha
         | inr le ↦ each (suc s) ge (omega (arith, low, le))
       ]
     ]
+
+-- ---- the last leg of a strip
+
+pub among_behind : (sc : Scale) (ls : List PlanRange) (s first key : ℕ) → key + 1 ≡ sc.low + (s + 1) * 2 ^ sc.shift → s < sc.last → BeginsBy sc ls s first → IsAmong ls key first (length ls - first)
+among_behind sc ls s first key is less b = record {
+  some = omega (arith, b.within);
+  within = omega (arith, b.within);
+  from = λ d. by_strip sc s key (get_or ls first d).span.lo is less (b.here d);
+  beyond = λ j d le lt. absurd (omega (arith, le, lt, b.within));
+}
+
+pub ends_at : (sc : Scale) (ls : List PlanRange) (s key e : ℕ) → IsCanonical ls → key + 1 ≡ sc.low + (s + 1) * 2 ^ sc.shift → s < sc.last → IsAt ls key e → EndsStrip sc ls s e
+ends_at sc ls s key e c is less at = record {
+  within = at.within;
+  here = λ d. by_key sc s key (get_or ls e d).span.lo is (at.from d);
+  next = λ d more. elim (cases_lt s (strip_of sc (get_or ls (e + 1) d).span.lo)) [
+    | inl past ↦ past
+    | inr near ↦
+        let touch = legs_next (owner_of ls) 0 top ls e (e + 1) d (canonical_legs ls c) (omega arith) more in
+        let p = by_strip sc s key (get_or ls (e + 1) d).span.lo is less near in
+        let q = at.below d in
+        absurd (omega (arith, touch, p, q))
+  ];
+}

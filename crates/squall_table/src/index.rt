@@ -5,14 +5,14 @@
 //! most. Where legs are spread evenly these are few, however many legs there are; where nearly all
 //! begin in one strip, it is a search among all of them.
 
-ghost use Rattle.std.specs.Prelude.{◌≡◌, ℕ, ◌<◌, ◌≤◌, ◌+◌, ◌-◌, ◌^◌, OnOk, IfOk, length, slice_index, slice_index_or};
+ghost use Rattle.std.specs.Prelude.{◌≡◌, ℕ, ◌<◌, ◌≤◌, ◌+◌, ◌-◌, ◌*◌, ◌^◌, OnOk, IfOk, length, slice_index, slice_index_or};
 ghost use Rattle.squall_key.specs.Keys.{top};
 ghost use Rattle.squall_plan.specs.Ranges.{IsCanonical};
 ghost use Rattle.squall_plan.specs.declared.range.PlanRange.{PlanRange};
 ghost use Rattle.squall_table.specs.Legs.{IsAt};
-ghost use Rattle.squall_table.specs.Strips.{strip_of, before, EndsStrip, StripsEnd, StripsNear, HasIndex, HadIndex};
+ghost use Rattle.squall_table.specs.Strips.{strip_of, before, IsScale, BeginsBy, EndsStrip, StripsEnd, HasIndex, HadIndex};
 
-use crate::search::place_among;
+use crate::search::{place_among, place_from};
 use crate::table::Leg;
 use squall_key::Bound;
 use std::alloc::{AllocError, Global};
@@ -30,11 +30,22 @@ impl Scale {
     /// The strip of a bound.
     #[inline(always)]
     fn strip(self, bound: Bound) -> usize
-        requires { self.shift < 64 }
+        requires { IsScale self }
         ensures { result ≡ strip_of self bound }
     {
         let behind = bound.rank().saturating_sub(self.low) >> self.shift;
         (behind as usize).min(self.last)
+    }
+
+    /// The last key of a strip that has another behind it.
+    #[inline(always)]
+    fn last_key(self, strip: usize) -> Bound
+        requires scale { IsScale self }
+        requires within { strip < self.last }
+        ensures { result + 1 ≡ self.low + (strip + 1) * 2 ^ self.shift }
+    {
+        let behind = self.low + ((strip as u64 + 1) << self.shift);
+        Bound::of_rank(behind - 1).unwrap_or(Bound::TOP)
     }
 
     /// A scale of at most so many strips, and of more than half as many, from the first border of
@@ -43,7 +54,7 @@ impl Scale {
         requires legs { 0 < length legs.now }
         requires some { 0 < strips }
         ensures last { result.last < strips }
-        ensures shift { result.shift < 64 }
+        ensures scale { IsScale result }
     {
         let low = legs[1.min(legs.len() - 1)].span.lo().rank();
         let high = legs[legs.len() - 1].span.lo().rank();
@@ -57,44 +68,40 @@ impl Scale {
     }
 }
 
-/// Writes the place for each strip from one to another.
-fn write(ends: &mut [usize], from: usize, to: usize, place: usize)
-    requires { to ≤ length ends.old }
-    ensures len { length ends.new ≡ length ends.old }
-    ensures inside { (s : ℕ) → from ≤ s → s < to → slice_index ends.new s ≡ place }
-    ensures before { (s : ℕ) → s < from → slice_index ends.new s ≡ slice_index ends.old s }
-    ensures after { (s : ℕ) → to ≤ s → slice_index ends.new s ≡ slice_index ends.old s }
+/// The last leg that begins in the strip or before, from one that does.
+fn last_in(legs: &[Leg], scale: Scale, strip: usize, first: usize) -> usize
+    requires canonical { IsCanonical legs.now }
+    requires scale { IsScale scale }
+    requires within { strip ≤ scale.last }
+    requires begins { BeginsBy scale legs.now strip first }
+    ensures { EndsStrip scale legs.now strip result }
 {
-    let mut s = from;
-    while s < to {
-        ends[s] = place;
-        s += 1;
+    if strip == scale.last {
+        return legs.len() - 1;
     }
+    place_from(legs, first, scale.last_key(strip))
 }
 
-/// Writes the last legs of the strips from that in which the leg at `first` begins up to the strip
-/// `stop`, which are among the legs from `first` to `last`.
-fn fill(ends: &mut [usize], scale: Scale, legs: &[Leg], first: usize, last: usize, stop: usize)
-    requires shift { scale.shift < 64 }
+/// Writes the last legs of the strips from one to another, where the leg at `first` begins in the
+/// first of them or before.
+fn fill(ends: &mut [usize], scale: Scale, legs: &[Leg], from: usize, to: usize, first: usize)
     requires canonical { IsCanonical legs.now }
-    requires order { first ≤ last }
-    requires within { last < length legs.now }
-    requires room { stop ≤ length ends.old }
-    requires near { StripsNear scale legs.now last stop }
+    requires scale { IsScale scale }
+    requires strips { to ≤ scale.last + 1 }
+    requires begins { BeginsBy scale legs.now from first }
+    requires within { to ≤ length ends.old }
     ensures len { length ends.new ≡ length ends.old }
-    ensures before { (s : ℕ) (d : PlanRange) → s < strip_of scale (slice_index_or legs.now first d).span.lo → slice_index ends.new s ≡ slice_index ends.old s }
-    ensures after { (s : ℕ) → stop ≤ s → slice_index ends.new s ≡ slice_index ends.old s }
-    ensures strips { StripsEnd scale legs.now ends.new first stop }
+    ensures before { (s : ℕ) → s < from → slice_index ends.new s ≡ slice_index ends.old s }
+    ensures after { (s : ℕ) → to ≤ s → slice_index ends.new s ≡ slice_index ends.old s }
+    ensures strips { StripsEnd scale legs.now ends.new from to }
 {
-    let mut at = scale.strip(legs[first].span.lo());
-    let mut i = first;
-    while i < last {
-        let next = scale.strip(legs[i + 1].span.lo());
-        write(ends, at, next, i);
-        at = next;
-        i += 1;
+    let mut at = first;
+    let mut s = from;
+    while s < to {
+        at = last_in(legs, scale, s, at);
+        ends[s] = at;
+        s += 1;
     }
-    write(ends, at, stop, last);
 }
 
 /// Raises the places of the strips from one to another.
@@ -139,9 +146,9 @@ fn displace(ends: &mut [usize], from: usize, to: usize, came: usize, gone: usize
     ensures before { (s : ℕ) → s < from → slice_index ends.new s ≡ slice_index ends.old s }
     ensures after { (s : ℕ) → to ≤ s → slice_index ends.new s ≡ slice_index ends.old s }
 {
-    if came >= gone {
+    if came > gone {
         raise(ends, from, to, came - gone);
-    } else {
+    } else if came < gone {
         lower(ends, from, to, gone - came);
     }
 }
@@ -222,8 +229,8 @@ impl Index {
         Ok(())
     }
 
-    /// Makes room for the strips of so many legs, where there are 16 or more of them for each strip
-    /// that there is room for. Where that fails, there may be room for some more.
+    /// Makes room for the strips of so many legs, one for 32 legs and 64 more, where that is twice as
+    /// many as there is room for. Where that fails, there may be room for some more.
     pub(crate) fn reserve(&mut self, legs: usize) -> Result<(), AllocError>
         ensures longer { length self.old.ends.items ≤ length self.new.ends.items }
         ensures kept { (s : ℕ) → s < length self.old.ends.items → slice_index self.new.ends.items s ≡ slice_index self.old.ends.items s }
@@ -231,10 +238,11 @@ impl Index {
         ensures most { self.new.most ≡ self.old.most }
         ensures room { OnOk result (0 < length self.new.ends.items) }
     {
-        if legs / 16 < self.ends.len() {
+        let strips = legs / 32 + 64;
+        if strips / 2 < self.ends.len() {
             return Ok(());
         }
-        self.grow(legs / 8 + 1)
+        self.grow(strips)
     }
 
     /// Makes it the index of the legs, over as many strips as there is room for.
@@ -245,7 +253,7 @@ impl Index {
     {
         self.scale = Scale::over(legs, self.ends.len());
         let strips = self.scale.last + 1;
-        fill(&mut self.ends, self.scale, legs, 0, legs.len() - 1, strips);
+        fill(&mut self.ends, self.scale, legs, 0, strips, 0);
         self.most = most_in(&self.ends, 0, strips, 0).min(legs.len() - 1);
     }
 
@@ -266,7 +274,7 @@ impl Index {
         } else {
             strips
         };
-        fill(&mut self.ends, self.scale, legs, first, behind - 1, stop);
+        fill(&mut self.ends, self.scale, legs, from, stop, first);
         displace(&mut self.ends, stop, strips, came, gone);
         let most = most_in(&self.ends, from, strips.min(stop + 1), self.most);
         self.most = most.min(legs.len() - 1);

@@ -6,17 +6,6 @@ use Rattle.squall_table.proofs.Strips.{Stop, strip_at, index_follows, stop_at, s
 use Rattle.squall_table.proofs.index.Index.follow.Goals.{then-behind-legs, else-behind-legs}
 use Rattle.squall_table.proofs.index.Index.follow.Goals as goal
 
-pub fill-requires-clause-near : goal.fill-requires-clause-near
-fill-requires-clause-near c =
-    let sc = c.args.self.now.scale in
-    let ls = c.args.legs.now in
-    let to : Stop sc ls (c.args.first + c.args.came) c.if-behind-legs.stop = elim c.if-behind-legs.branch [
-      | then-behind-legs w ↦ stop_at sc ls (c.args.first + c.args.came) c.if-behind-legs.stop c.requires.canonical (omega (arith, c.requires.some)) w.if-behind-legs.true
-          (λ d. w.stop-is ∙ strip_at sc ls (c.args.first + c.args.came) w.index-legs-behind.result w.lo-then-behind-legs.result w.strip-stop.result w.if-behind-legs.true w.index-legs-behind.is w.lo-then-behind-legs.ensures.value w.strip-stop.ensures d)
-      | else-behind-legs w ↦ stop_none sc ls (c.args.first + c.args.came) c.if-behind-legs.stop w.if-behind-legs.false w.stop-is
-    ] in
-    to.near
-
 pub returns : goal.returns
 returns c =
     let x = c.args.self.now in
@@ -38,8 +27,8 @@ returns c =
     let was = c.deref_mut.ensures.value in
     index_follows x _ ls filled moved c.args.first c.args.came c.args.gone c.strip-from.result stop c.most_in-most.result c.requires.canonical c.requires.within c.requires.some c.requires.had to
     (strip_at x.scale ls c.args.first c.index-legs-first.result c.lo.result c.strip-from.result (omega (arith, c.requires.within, c.requires.some)) c.index-legs-first.is c.lo.ensures.value c.strip-from.ensures)
-    (λ s d lt. ap (λ (xs : List ℕ). get_or xs s 0) is ∙ c.fill.ensures.before s d lt ∙ ap (λ (xs : List ℕ). get_or xs s 0) was)
-    (subst (λ (xs : List ℕ). StripsEnd x.scale ls xs c.args.first stop) (sym is) c.fill.ensures.strips)
+    (λ s lt. ap (λ (xs : List ℕ). get_or xs s 0) is ∙ c.fill.ensures.before s lt ∙ ap (λ (xs : List ℕ). get_or xs s 0) was)
+    (subst (λ (xs : List ℕ). StripsEnd x.scale ls xs c.strip-from.result stop) (sym is) c.fill.ensures.strips)
     (record {
       inside = λ s le lt. ap (λ (xs : List ℕ). get_or xs s 0 + c.args.gone) is' ∙ c.displace.ensures.inside s le lt;
       early = λ s lt. ap (λ (xs : List ℕ). get_or xs s 0) is' ∙ c.displace.ensures.before s lt;

@@ -10,5 +10,5 @@ returns c =
     let sc = c.over-self.result in
     let long : length c.fill.new.ends ≡ v.len = c.fill.ensures.len ∙ ap length c.deref_mut.ensures.value ∙ sym v.ok.0 in
     let is : c.deref.result.now ≡ c.fill.new.ends = c.deref.ensures.value ∙ with_items_is v c.fill.new.ends long in
-    index_of_all _ c.args.legs.now c.deref.result.now c.most_in.result (sym c.deref.ensures.value) c.requires.canonical c.over-self.ensures.shift (omega (arith, ap length is, long, v.ok.0, c.over-self.ensures.last, c.len.ensures))
+    index_of_all _ c.args.legs.now c.deref.result.now c.most_in.result (sym c.deref.ensures.value) c.requires.canonical c.over-self.ensures.scale (omega (arith, ap length is, long, v.ok.0, c.over-self.ensures.last, c.len.ensures))
     (subst (λ (xs : List ℕ). StripsEnd sc c.args.legs.now xs 0 (sc.last + 1)) (sym is) c.fill.ensures.strips) c.most_in.ensures.each c.min-self.ensures
