@@ -188,18 +188,25 @@ fn look_up(moves: &[Move], legs: u64) {
     println!("owner, {legs} legs, on their own: {flowed} ns ({second})");
 }
 
-fn patches(moves: &[Move], legs: u64, seed: u64) -> Duration {
-    let mut table = build(moves, &board_of(legs));
+/// The time of one patch, of a table that was built for it, as in the other program.
+fn patch_one(moves: &[Move], before: &Board, span: Span) -> Duration {
+    let mut board = before.clone();
+    let mut table = build(moves, &board);
+    take(&mut board, span);
+    let start = Instant::now();
+    patch(&mut table, span, 2);
+    let time = start.elapsed();
+    black_box((&table, &board));
+    time
+}
+
+fn patches(moves: &[Move], board: &Board) -> Duration {
+    let mut state = 7u64;
     let mut time = Duration::ZERO;
-    let mut state = seed;
     for _ in 0..LOADS {
         state = next(state);
-        let span = load_at(state);
-        let start = Instant::now();
-        patch(&mut table, span, 2);
-        time += start.elapsed();
+        time += patch_one(moves, board, load_at(state));
     }
-    black_box(&table);
     time
 }
 
@@ -209,7 +216,8 @@ fn main() {
         look_up(&moves, legs);
     }
     for legs in [1_000, 30_000] {
-        let least = (0..20).map(|seed| patches(&moves, legs, seed)).min();
+        let board = board_of(legs);
+        let least = (0..20).map(|_| patches(&moves, &board)).min();
         println!("patch, one load, {legs} legs: {} ns", each(least.unwrap_or_default(), LOADS));
     }
     let (legs, cells) = (30_000u64, 100_000u32);
