@@ -229,7 +229,7 @@ impl Index {
         Ok(())
     }
 
-    /// Makes room for the strips of so many legs, one for 32 legs and 64 more, where that is twice as
+    /// Makes room for the strips of so many legs, one for 128 legs and 64 more, where that is twice as
     /// many as there is room for. Where that fails, there may be room for some more.
     pub(crate) fn reserve(&mut self, legs: usize) -> Result<(), AllocError>
         ensures longer { length self.old.ends.items ≤ length self.new.ends.items }
@@ -238,7 +238,7 @@ impl Index {
         ensures most { self.new.most ≡ self.old.most }
         ensures room { OnOk result (0 < length self.new.ends.items) }
     {
-        let strips = legs / 32 + 64;
+        let strips = legs / 128 + 64;
         if strips / 2 < self.ends.len() {
             return Ok(());
         }

@@ -37,6 +37,25 @@ fn first_beyond(spans: &[Span], bound: Bound) -> usize
     spans.partition_point(|span| span.hi() <= bound)
 }
 
+/// Makes room for the legs of the keys from `lo` to `hi`, where many spans share one with them: two
+/// for each, so that a list that becomes long is not copied again and again, and an eighth more, so
+/// that it isn't at the next patch. Few spans, or keys without the middle one, are not counted.
+fn make_room(out: &mut Vec<Leg>, spans: &[Span], lo: Bound, hi: Bound) -> Result<(), AllocError>
+    requires { IsCanonicalSet spans.now }
+    ensures { out.new.items ≡ out.old.items }
+{
+    if spans.len() < 64 {
+        return Ok(());
+    }
+    let middle = spans[spans.len() / 2].lo();
+    if middle < lo || hi <= middle {
+        return Ok(());
+    }
+    let first = first_beyond(spans, lo);
+    let count = first_beyond(spans, hi).saturating_sub(first);
+    out.reserve(2 * count + count / 4)
+}
+
 /// Adds the keys from `lo` to `hi`: those of the spans to `dest`, the others to `source`.
 fn push_picked(
     out: &mut Vec<Leg>,
@@ -98,7 +117,9 @@ fn push_move(
     if cell.second.get() {
         return push_leg(out, lo, hi, moved.dest);
     }
-    push_picked(out, cell.first.spans(), moved.dest, moved.source, lo, hi)
+    let spans = cell.first.spans();
+    make_room(out, spans, lo, hi)?;
+    push_picked(out, spans, moved.dest, moved.source, lo, hi)
 }
 
 /// Where the first move stands that ends beyond a bound, by a binary search.
