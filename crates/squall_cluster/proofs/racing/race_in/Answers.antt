@@ -1,11 +1,12 @@
-use Rattle.std.proofs.Common.{◌≡◌, ap, sym, ◌∙◌, subst, List, ℕ, map, Vec, Global, IfOk}
+use Rattle.std.proofs.Common.{◌≡◌, ap, sym, ◌∙◌, subst, List, ℕ, map, length, Vec, Global, IfOk, All, Some}
+use Rattle.std.specs.Arc.{arc_value}
 use Rattle.squall_report.specs.declared.report.Report.{Report}
 use Rattle.squall_board.specs.Boards.{BoardValue}
 use Rattle.squall_inbox.specs.Ends.{Posting, vouching}
 use Rattle.squall_inbox.specs.Inbox.{posted}
 use Rattle.squall_inbox.specs.Letters.{letters_of, list_at, board_after}
 use Rattle.squall_cluster.specs.Owners.{Owning}
-use Rattle.squall_cluster.specs.Race.{Reports, Bring, SentAll}
+use Rattle.squall_cluster.specs.Race.{Reports, Bring, SentAll, Read}
 use Rattle.squall_cluster.proofs.Races.{fresh_new, settled, within_all}
 use Rattle.squall_cluster.proofs.racing.race_in.Goals as goal
 
@@ -54,4 +55,16 @@ returns-in-Ok-close-clause-board g c =
       closed.taken,
       closed.board_of_taken ∙ ap (λ (b : BoardValue). board_after b (letters_of closed.taken)) (sym opening),
       λ p. subst (λ l. Bring l (list_at p lists)) (sym (closed.each_once_in_order p)) (end p),
+    )
+
+pub returns-in-Ok-close-clause-routes : goal.returns-in-Ok-close-clause-routes
+returns-in-Ok-close-clause-routes g c =
+    let lists : List Reports = map (λ (l : Vec Report Global). l.items) c.args.lists.now in
+    let keys = c.args.keys.now in
+    let all : List (Vec ℕ Global) = c.in-Ok-ran.given.routes.items in
+    let read = subst (λ r. IfOk r (λ x. (length x.routes.items ≡ length c.in-Ok-seats_of.seats.items) × All (λ (one : Vec ℕ Global). Read g.K.Case.allowed g.K.Case.first g.K.Case.opening keys one.items) x.routes.items)) c.in-Ok-ran.is c.run_all-owner.ensures.read in
+    let by_lists = subst (λ a. All (λ (one : Vec ℕ Global). Read a g.K.Case.first g.K.Case.opening keys one.items) all) c.requires.case.5 read.1 in
+    let from_first = subst (λ f. All (λ (one : Vec ℕ Global). Read (Some lists) f g.K.Case.opening keys one.items) all) (sym c.requires.case.3) by_lists in (
+      read.0 ∙ c.in-Ok-seats_of.ensures,
+      subst (λ b. All (λ (one : Vec ℕ Global). Read (Some lists) (arc_value c.args.first.now) b keys one.items) all) (sym c.requires.case.4) from_first,
     )
