@@ -2,23 +2,12 @@
 use Rattle.std.proofs.Common.{◌≡◌, ℕ, zero, suc, ◌<◌, ◌≤◌, max, true, false, leb, List, [], ◌∷◌, length, get_or, Option, Some, None, refl, ◌∙◌, arith, inl, inr}
 use Rattle.std.specs.Prelude.{◌⊎◌}
 use Rattle.std.specs.List.{slice_get}
-use Rattle.std.specs.List.Sorted.{IsNonDecreasingBy, IsPartitionPoint}
 use Rattle.std.proofs.lemmas.Bool.{cases_lt, leb-true, leb-false, or_right}
 use Rattle.squall_span.specs.Spans.{Interval, span_has, has, IsCanonical}
 use Rattle.squall_span.specs.SpanLaws.{has_below, has_in, has_after, inside, outside_below}
+use Rattle.squall_span.specs.Places.{Ended}
 use Rattle.squall_course.specs.Steps.{IsFirstSpan, IsFirst}
 use Rattle.squall_course.proofs.Moved.{within}
-
-pub ends_rise : (xs : List Interval) → IsCanonical xs → IsNonDecreasingBy (λ s. s.hi) xs
-ends_rise [] c i j d le lt = absurd (omega arith)
-ends_rise (x ∷ xs) c zero zero d le lt = omega arith
-ends_rise (x ∷ y ∷ ys) c zero (suc j) d le lt = let rest = ends_rise (y ∷ ys) c.2 0 j d (omega arith) (omega arith) in omega (arith, rest, c.1, c.2.0)
-ends_rise (x ∷ []) c zero (suc j) d le lt = absurd (omega arith)
-ends_rise (x ∷ xs) c (suc i) zero d le lt = absurd (omega arith)
-ends_rise (x ∷ xs) c (suc i) (suc j) d le lt = ends_rise xs c.2 i j d (omega arith) (omega arith)
-
-pub rise_now : (xs set : List Interval) → xs ≡ set → IsCanonical set → IsNonDecreasingBy (λ s. s.hi) xs
-rise_now xs set e c = rw e (ends_rise set c)
 
 -- the span at the first place that ends beyond the bound
 pub first_is : (xs : List Interval) (from i : ℕ) → IsCanonical xs → ((j : ℕ) (d : Interval) → j < i → j < length xs → (get_or xs j d).hi ≤ from) → ((j : ℕ) (d : Interval) → i ≤ j → j < length xs → from < (get_or xs j d).hi) → IsFirst xs from (slice_get xs i)
@@ -41,10 +30,8 @@ first_is (x ∷ xs) from (suc i) c below beyond =
       after = has_after x xs s.hi (omega (arith, f.ends)) ∙ f.after;
     }
 
-pub first_by_point : (xs set : List Interval) (from i : ℕ) (o : Option Interval) → xs ≡ set → IsCanonical set → IsPartitionPoint (λ s. leb s.hi from ≡ true) (λ s. leb s.hi from ≡ false) xs i → o ≡ slice_get xs i → IsFirst set from o
-first_by_point xs set from i o e c p is =
-    let p1 = rw e at p in
-    rw (is, e) (first_is set from i c (λ j d lt in'. leb-true _ _ (p1.0 j d (omega arith) lt)) (λ j d le lt. leb-false _ _ (p1.1 j d le lt)))
+pub first_by_place : (xs set : List Interval) (from i : ℕ) (o : Option Interval) → xs ≡ set → IsCanonical set → Ended set from i → o ≡ slice_get xs i → IsFirst set from o
+first_by_place xs set from i o e c ended is = rw (is, e) (first_is set from i c (λ j d lt in'. ended.before j d lt) ended.from)
 
 pub none_started : (span : Interval) (set : List Interval) → ((k : ℕ) → span.lo ≤ k → has set k ≡ false) → (k : ℕ) → span_has span k ≡ true → has set k ≡ false
 none_started span set none k is = let w = within span k is in none k (omega (arith, w.0))

@@ -21,9 +21,7 @@ pub enum Status {
 fn first_beyond(set: &SpanSet, from: Bound) -> Option<Span>
     ensures { IsFirst set.now from result }
 {
-    let spans = set.spans();
-    let first = spans.partition_point(|span| span.hi() <= from);
-    spans.get(first).copied()
+    set.spans().get(set.ended(from)).copied()
 }
 
 impl Status {

@@ -1,7 +1,7 @@
 -- What comparisons of bounds say, and the first of a list.
 use Rattle.std.proofs.Common.{◌≡◌, ℕ, ◌<◌, ◌≤◌, max, min, true, false, List, [], ◌∷◌, Some, sym, ap, arith}
 use Rattle.std.specs.Prelude.{slice_get, nat_lt, ◌==◌}
-use Rattle.std.specs.Ordering.{nat_cmp, is_le, is_lt, ord_max, ord_min}
+use Rattle.std.specs.Ordering.{nat_cmp, is_lt, ord_max, ord_min}
 use Rattle.std.proofs.lemmas.Bool.Decides.{nat_tests}
 use Rattle.std.proofs.lemmas.Option.{same_Some}
 use Rattle.squall_key.specs.Lemmas.{lt_from_cmp, ge_from_cmp}

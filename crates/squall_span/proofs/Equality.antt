@@ -1,6 +1,6 @@
 -- `==` on sets is exact.
-use Rattle.std.proofs.Common.{◌≡◌, ℕ, Bool, true, false, List, [], ◌∷◌, refl, subst, arith}
-use Rattle.std.specs.Prelude.{◌↔◌, ◌&&◌, ◌==◌}
+use Rattle.std.proofs.Common.{◌≡◌, true, List, [], ◌∷◌, refl, subst}
+use Rattle.std.specs.Prelude.{◌↔◌, ◌==◌}
 use Rattle.std.proofs.lemmas.Bool.{false≢true, and_parts}
 use Rattle.squall_key.specs.Lemmas.{same_number, equal_to_itself}
 use Rattle.squall_span.specs.Spans.{Interval, interval, interval_eq, spans_eq}

@@ -6,7 +6,7 @@ use Rattle.std.proofs.lemmas.List.{drop_more, drop_all, get_or_default}
 use Rattle.squall_key.specs.Search.{Rises, IsBack}
 use Rattle.squall_span.specs.Spans.{Interval, interval, span_has, has, Beyond, IsCanonical, EndsBy, EndsBeyond}
 use Rattle.squall_span.specs.SpanLaws.{outside_above, has_below}
-use Rattle.squall_span.specs.Places.{Ended, Apart, IsSoughtEnd, end_at}
+use Rattle.squall_span.specs.Places.{Ended, Apart, Started, IsSoughtEnd, end_at}
 
 pub starts_above : (h : ℕ) (xs : List Interval) (j : ℕ) (d : Interval) → Beyond h xs → IsCanonical xs → j < length xs → h < (get_or xs j d).lo
 starts_above h [] j d b c lt = absurd (omega arith)
@@ -92,6 +92,68 @@ last_apart xs bound x c some is lt = record {
       let same : x.hi ≡ (get_or xs (length xs - 1) d).hi = ap (λ (t : Interval). t.hi) (is ∙ get_or_default xs (length xs - 1) x d (omega arith)) in
       omega (arith, rise, same);
   from = λ j d le below. absurd (omega arith);
+}
+
+-- a span ends before the next one starts
+ends_before : (xs : List Interval) (i j : ℕ) (d : Interval) → IsCanonical xs → i < j → j < length xs → (get_or xs i d).hi < (get_or xs j d).lo
+ends_before [] i j d c lt fits = absurd (omega arith)
+ends_before (x ∷ xs) zero zero d c lt fits = absurd (omega arith)
+ends_before (x ∷ xs) zero (suc j) d c lt fits = starts_above x.hi xs j d c.1 c.2 (omega arith)
+ends_before (x ∷ xs) (suc i) zero d c lt fits = absurd (omega arith)
+ends_before (x ∷ xs) (suc i) (suc j) d c lt fits = ends_before xs i j d c.2 (omega arith) (omega arith)
+
+-- the last of those that ended does so before the bound, where there is one
+pub apart_past : (xs : List Interval) (bound i : ℕ) → IsCanonical xs → Ended xs bound i → ((d : Interval) → 0 < i → (get_or xs (i - 1) d).hi < bound) → Apart xs bound i
+apart_past xs bound i c e past = record {
+  within = e.within;
+  before = λ j d lt.
+      let last = past d (omega arith) in
+      let rise = ends_rise xs c j (i - 1) d (omega arith) (omega (arith, e.within)) in
+      omega (arith, last, rise);
+  from = λ j d le lt. let far = e.from j d le lt in omega (arith, far);
+}
+
+-- the last of those that ended does so at the bound
+pub apart_at : (xs : List Interval) (bound i : ℕ) → IsCanonical xs → Ended xs bound i → 0 < i → ((d : Interval) → bound ≤ (get_or xs (i - 1) d).hi) → Apart xs bound (i - 1)
+apart_at xs bound i c e some far = record {
+  within = omega (arith, e.within);
+  before = λ j d lt.
+      let gap = ends_before xs j (i - 1) d c (omega arith) (omega (arith, e.within)) in
+      let one = canonical_at xs (i - 1) d c (omega (arith, e.within)) in
+      let last = e.before (i - 1) d (omega arith) in
+      omega (arith, gap, one, last);
+  from = λ j d le lt.
+      let last = far d in
+      let rise = ends_rise xs c (i - 1) j d le lt in
+      omega (arith, last, rise);
+}
+
+-- the first that ends beyond the bound starts beyond it too, where there is one
+pub started_past : (xs : List Interval) (bound i : ℕ) → IsCanonical xs → Ended xs bound i → ((d : Interval) → i < length xs → bound < (get_or xs i d).lo) → Started xs bound i
+started_past xs bound i c e past = record {
+  within = e.within;
+  before = λ j d lt.
+      let one = canonical_at xs j d c (omega (arith, e.within)) in
+      let last = e.before j d lt in
+      omega (arith, one, last);
+  from = λ j d le lt.
+      let first = past d (omega arith) in
+      let rise = starts_rise xs c i j d le lt in
+      omega (arith, first, rise);
+}
+
+-- the first that ends beyond the bound starts at it or before it
+pub started_at : (xs : List Interval) (bound i : ℕ) → IsCanonical xs → Ended xs bound i → i < length xs → ((d : Interval) → (get_or xs i d).lo ≤ bound) → Started xs bound (i + 1)
+started_at xs bound i c e fits near = record {
+  within = omega arith;
+  before = λ j d lt.
+      let first = near d in
+      let rise = starts_rise xs c j i d (omega arith) fits in
+      omega (arith, first, rise);
+  from = λ j d le lt.
+      let far = e.from i d (omega arith) fits in
+      let gap = ends_before xs i j d c (omega arith) lt in
+      omega (arith, far, gap);
 }
 
 -- ---- steps of a search among the ends

@@ -65,7 +65,12 @@ pub(crate) fn apart(spans: &[Span], bound: Bound) -> usize
     requires { IsCanonical spans.now }
     ensures { Apart spans.now bound result }
 {
-    spans.partition_point(|span| span.hi() < bound)
+    let at = ended(spans, bound);
+    // None touches the next, so at most one ends at the bound itself.
+    if at > 0 && bound.rank() <= spans[at - 1].hi().rank() {
+        return at - 1;
+    }
+    at
 }
 
 /// Whether all spans end before the bound, and do not touch it. The last one ends furthest, so that
@@ -85,5 +90,10 @@ pub(crate) fn started(spans: &[Span], bound: Bound) -> usize
     requires { IsCanonical spans.now }
     ensures { Started spans.now bound result }
 {
-    spans.partition_point(|span| span.lo() <= bound)
+    let at = ended(spans, bound);
+    // The first that ends beyond the bound may start before it, and no other.
+    if at < spans.len() && spans[at].lo().rank() <= bound.rank() {
+        return at + 1;
+    }
+    at
 }

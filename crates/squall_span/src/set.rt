@@ -3,6 +3,7 @@
 ghost use Rattle.std.specs.Prelude.{◌≡◌, ◌↔◌, ℕ, ◌+◌, ◌-◌, ◌<◌, ◌≤◌, ◌&&◌, ◌||◌, not, min, true, false, nat_lt, nat_le, List, [], ◌∷◌, IsTrue, IfOk, IfErr, IfSome, OnOk, OnErr};
 ghost use Rattle.squall_key.specs.Keys.{top};
 ghost use Rattle.squall_span.specs.Spans.{Interval, has, span_has, IsSet, union, minus, meet, keys_below, keys_from, insert_span, without_span, first_keys, total_length, how_many, spans_eq};
+ghost use Rattle.squall_span.specs.Places.{Ended};
 ghost use Rattle.squall_span.specs.SpanLaws.{spans_eq-laws, spans_eq-equivalence};
 
 use crate::edit::{cut, insert, remove};
@@ -90,6 +91,14 @@ impl SpanSet {
     {
         let at = ended(&self.spans, Bound::of_key(key));
         at < self.spans.len() && self.spans[at].has(key)
+    }
+
+    /// How many spans of the set end at the bound or before it, by a binary search: the place of the
+    /// first that ends beyond it, where there is one.
+    pub fn ended(&self, bound: Bound) -> usize
+        ensures { Ended self.now bound result }
+    {
+        ended(&self.spans, bound)
     }
 
     /// Whether each key of the other set is in this one.

@@ -1,47 +1,20 @@
 -- The walk over spans.
-use Rattle.std.proofs.Common.{◌≡◌, ℕ, zero, suc, ◌+◌, ◌<◌, ◌≤◌, max, min, true, false, ◌||◌, cond, leb, List, [], ◌∷◌, length, get_or, drop, refl, sym, ap, subst, ◌∙◌, arith, inl, inr}
-use Rattle.std.proofs.lemmas.Bool.{cases_lt, leb-true, leb-false}
-use Rattle.std.specs.List.Sorted.{IsNonDecreasingBy, IsPartitionPoint}
+use Rattle.std.proofs.Common.{◌≡◌, ℕ, zero, suc, ◌+◌, ◌<◌, ◌≤◌, max, min, true, false, ◌||◌, cond, List, [], ◌∷◌, length, get_or, drop, refl, sym, ap, subst, ◌∙◌, arith, inl, inr}
+use Rattle.std.proofs.lemmas.Bool.{cases_lt}
 use Rattle.std.proofs.lemmas.List.{drop_more, drop_all}
 use Rattle.squall_plan.specs.declared.range.PlanRange.{PlanRange}
 use Rattle.squall_span.specs.Spans.{Interval}
-use Rattle.squall_span.specs.Spans.{span_has, has, Beyond, IsCanonical}
+use Rattle.squall_span.specs.Spans.{span_has, has, Beyond, IsCanonical, EndsBeyond}
+use Rattle.squall_span.specs.Places.{Ended}
+use Rattle.squall_span.proofs.Places.{ended_same, ended_ends}
 use Rattle.squall_span.specs.SpanLaws.{outside_below, outside_above, inside, has_below}
-use Rattle.squall_table.specs.Legs.{EndsBeyond}
 use Rattle.squall_table.specs.Legs.{Grows, pick}
-use Rattle.squall_table.specs.LegLaws.{grows_more, grows_as}
+use Rattle.squall_table.specs.LegLaws.{grows_none, grows_more, grows_as}
 
 pub canonical_drop : (xs : List Interval) (i : ℕ) → IsCanonical xs → IsCanonical (drop i xs)
 canonical_drop xs zero c = c
 canonical_drop [] (suc i) c = tt
 canonical_drop (x ∷ xs) (suc i) c = canonical_drop xs i c.2
-
-spans_above : (h : ℕ) (xs : List Interval) (j : ℕ) (d : Interval) → Beyond h xs → IsCanonical xs → j < length xs → h < (get_or xs j d).hi
-spans_above h [] j d b c lt = absurd (omega arith)
-spans_above h (x ∷ xs) zero d b c lt = omega (arith, b, c.0)
-spans_above h (x ∷ xs) (suc j) d b c lt = let above = spans_above x.hi xs j d c.1 c.2 (omega arith) in omega (arith, b, c.0)
-
-pub spans_rise : (xs : List Interval) → IsCanonical xs → IsNonDecreasingBy (λ r. r.hi) xs
-spans_rise [] c i j d le lt = absurd (omega arith)
-spans_rise (x ∷ xs) c zero zero d le lt = omega arith
-spans_rise (x ∷ xs) c zero (suc j) d le lt = let above = spans_above x.hi xs j d c.1 c.2 (omega arith) in omega arith
-spans_rise (x ∷ xs) c (suc i) zero d le lt = absurd (omega arith)
-spans_rise (x ∷ xs) c (suc i) (suc j) d le lt = spans_rise xs c.2 i j d (omega arith) (omega arith)
-
--- from a place on, at keys from a bound on
-pub record From (xs : List Interval) (bound i : ℕ) : Type 0 where
-  pub within : i ≤ length xs
-  pub before : (k : ℕ) → bound ≤ k → has xs k ≡ has (drop i xs) k
-  pub ahead : EndsBeyond bound (drop i xs)
-
-pub from_is : (xs : List Interval) (bound i : ℕ) → i ≤ length xs → IsPartitionPoint (λ r. leb r.hi bound ≡ true) (λ r. leb r.hi bound ≡ false) xs i → From xs bound i
-from_is [] bound zero w p = record { within = omega arith; before = λ k _. refl; ahead = tt }
-from_is [] bound (suc i) w p = absurd (omega arith)
-from_is (x ∷ xs) bound zero w p = record { within = omega arith; before = λ k _. refl; ahead = leb-false _ _ (p.1 0 x (omega arith) (omega arith)) }
-from_is (x ∷ xs) bound (suc i) w p =
-    let past : x.hi ≤ bound = leb-true _ _ (p.0 0 x (omega arith) (omega arith)) in
-    let rest = from_is xs bound i (omega arith) (λ j d lt lt'. p.0 (suc j) d (omega arith) (omega arith), λ j d ge lt. p.1 (suc j) d (omega arith) (omega arith)) in
-    record { within = w; before = λ k le. ap (λ b. b || has xs k) (outside_above x k (omega arith)) ∙ rest.before k le; ahead = rest.ahead }
 
 -- what is done from lo to reach, with the spans from a place on still to come
 pub record Walk (g : ℕ → ℕ) (xs : List Interval) (lo reach hi i : ℕ) (old new : List PlanRange) : Type 0 where
@@ -51,6 +24,16 @@ pub record Walk (g : ℕ → ℕ) (xs : List Interval) (lo reach hi i : ℕ) (ol
   pub rest : (k : ℕ) → reach ≤ k → k < hi → has xs k ≡ has (drop i xs) k
   pub ahead : EndsBeyond reach (drop i xs)
   pub grows : Grows g lo reach old new
+
+pub walk_first : (g : ℕ → ℕ) (xs : List Interval) (lo hi i : ℕ) (old : List PlanRange) → lo ≤ hi → Ended xs lo i → Walk g xs lo lo hi i old old
+walk_first g xs lo hi i old le e = record {
+  low = omega arith;
+  high = le;
+  within = e.within;
+  rest = λ k ge lt. ended_same xs lo i k e ge;
+  ahead = ended_ends xs lo i e;
+  grows = grows_none g lo lo old refl;
+}
 
 pub walk_more : (xs : List Interval) (dest source lo reach hi i : ℕ) (x : Interval) (start next : ℕ) (old new mid end : List PlanRange)
     → IsCanonical xs → i < length xs → x ≡ get_or xs i x → x.lo < hi → start ≡ max x.lo reach → next ≡ min x.hi hi

@@ -49,11 +49,6 @@ pub record EndsAt (ls : List PlanRange) (bound i : ℕ) : Type 0 where
 
 -- ---- spans
 
--- the first span, if any, ends beyond the bound
-abbrev pub EndsBeyond : ℕ → List Interval → Type 0
-EndsBeyond bound [] = Unit {0}
-EndsBeyond bound (s ∷ ss) = bound < s.hi
-
 -- one partition in the spans, another outside them
 abbrev pub pick : List Interval → ℕ → ℕ → ℕ → ℕ
 pick spans dest source k = if has spans k then dest else source

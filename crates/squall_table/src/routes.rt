@@ -1,13 +1,14 @@
 //! The legs of a route by the moves of a course.
 
-ghost use Rattle.std.specs.Prelude.{◌≡◌, ℕ, ◌≤◌, OnOk, IfOk, length, drop, option_copied};
+ghost use Rattle.std.specs.Prelude.{◌≡◌, ℕ, ◌≤◌, OnOk, IfOk, option_copied};
 ghost use Rattle.squall_key.specs.Keys.{top};
-ghost use Rattle.squall_span.specs.Spans.{has, IsCanonical as IsCanonicalSet};
+ghost use Rattle.squall_span.specs.Spans.{IsCanonical as IsCanonicalSet};
+ghost use Rattle.squall_span.specs.Places.{Ended};
 ghost use Rattle.squall_plan.specs.Ranges.{owner_of, IsCanonical};
 ghost use Rattle.squall_report.specs.Cells.{place_at};
 ghost use Rattle.squall_board.specs.Boards.{says};
 ghost use Rattle.squall_board.specs.MovesRoute.{has_come_to, cell_has_come, route_in_move, route_by_moves};
-ghost use Rattle.squall_table.specs.Legs.{Grows, EndsBeyond, pick, MovesRise, FirstMove, EndMove, said};
+ghost use Rattle.squall_table.specs.Legs.{Grows, pick, MovesRise, FirstMove, EndMove, said};
 
 use crate::legs::{copy_legs, push_leg};
 use crate::table::Leg;
@@ -15,7 +16,7 @@ use squall_board::{Board, CellParts, coming_by_the_cell};
 use squall_course::Move;
 use squall_key::{Bound, PartId};
 use squall_report::CellId;
-use squall_span::Span;
+use squall_span::{Span, SpanSet};
 use std::alloc::AllocError;
 
 /// What is heard of the keys of moves.
@@ -27,23 +28,13 @@ pub(crate) enum Heard<'a> {
     All,
 }
 
-/// Where the first span stands that ends beyond a bound.
-fn first_beyond(spans: &[Span], bound: Bound) -> usize
-    requires { IsCanonicalSet spans.now }
-    ensures within { result ≤ length spans.now }
-    ensures before { (k : ℕ) → bound ≤ k → has spans.now k ≡ has (drop result spans.now) k }
-    ensures ahead { EndsBeyond bound (drop result spans.now) }
-{
-    spans.partition_point(|span| span.hi() <= bound)
-}
-
 /// Makes room for the legs of the keys from `lo` to `hi`, where many spans share one with them: two
 /// for each, so that a list that becomes long is not copied again and again, and an eighth more, so
 /// that it isn't at the next patch. Few spans, or keys without the middle one, are not counted.
-fn make_room(out: &mut Vec<Leg>, spans: &[Span], lo: Bound, hi: Bound) -> Result<(), AllocError>
-    requires { IsCanonicalSet spans.now }
+fn make_room(out: &mut Vec<Leg>, set: &SpanSet, lo: Bound, hi: Bound) -> Result<(), AllocError>
     ensures { out.new.items ≡ out.old.items }
 {
+    let spans = set.spans();
     if spans.len() < 64 {
         return Ok(());
     }
@@ -51,26 +42,28 @@ fn make_room(out: &mut Vec<Leg>, spans: &[Span], lo: Bound, hi: Bound) -> Result
     if middle < lo || hi <= middle {
         return Ok(());
     }
-    let first = first_beyond(spans, lo);
-    let count = first_beyond(spans, hi).saturating_sub(first);
+    let count = set.ended(hi).saturating_sub(set.ended(lo));
     out.reserve(2 * count + count / 4)
 }
 
-/// Adds the keys from `lo` to `hi`: those of the spans to `dest`, the others to `source`.
+/// Adds the keys from `lo` to `hi`: those of the spans to `dest`, the others to `source`. The first
+/// span is the first that ends beyond `lo`.
 fn push_picked(
     out: &mut Vec<Leg>,
     spans: &[Span],
+    first: usize,
     dest: PartId,
     source: PartId,
     lo: Bound,
     hi: Bound,
 ) -> Result<(), AllocError>
     requires canonical { IsCanonicalSet spans.now }
+    requires first { Ended spans.now lo first }
     requires order { lo ≤ hi }
     ensures { OnOk result (Grows (pick spans.now dest source) lo hi out.old.items out.new.items) }
 {
     let mut reach = lo;
-    let mut at = first_beyond(spans, lo);
+    let mut at = first;
     while at < spans.len() && spans[at].lo().rank() < hi.rank() {
         let span = spans[at];
         let start = span.lo().max(reach);
@@ -117,9 +110,10 @@ fn push_move(
     if cell.second.get() {
         return push_leg(out, lo, hi, moved.dest);
     }
-    let spans = cell.first.spans();
-    make_room(out, spans, lo, hi)?;
-    push_picked(out, spans, moved.dest, moved.source, lo, hi)
+    let set = &cell.first;
+    make_room(out, set, lo, hi)?;
+    let first = set.ended(lo);
+    push_picked(out, set.spans(), first, moved.dest, moved.source, lo, hi)
 }
 
 /// Where the first move stands that ends beyond a bound, by a binary search.

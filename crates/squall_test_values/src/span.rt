@@ -168,6 +168,20 @@ fn counts_and_members(rt: HostRuntime) -> Result<(), Fail> {
     Ok(())
 }
 
+/// How many spans of the set end at the bound or before it.
+fn ended(rt: &impl Abort, set: &SpanSet, text: &str) -> usize {
+    set.ended(bound(rt, text))
+}
+
+#[test]
+fn spans_that_ended(rt: HostRuntime) -> Result<(), Fail> {
+    let two = set(&rt, rt.alloc(), &TWO)?;
+    assert!(rt; ended(&rt, &two, "0:0") == 0 && ended(&rt, &two, "0:9") == 0);
+    assert!(rt; ended(&rt, &two, "1:0") == 1 && ended(&rt, &two, "2:5") == 1);
+    assert!(rt; ended(&rt, &two, "3:0") == 2 && ended(&rt, &two, "end") == 2);
+    Ok(())
+}
+
 #[test]
 fn count_of_all_keys(rt: HostRuntime) -> Result<(), Fail> {
     let all = one(&rt, rt.alloc(), "0:0", "end")?;

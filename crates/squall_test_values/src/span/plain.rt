@@ -106,6 +106,20 @@ fn compare(
     Ok(())
 }
 
+/// Whether the set says of each bound how many of its spans end at it or before.
+fn counts_ends(rt: &impl Abort, set: &SpanSet) -> bool {
+    let mut right = true;
+    for rank in 0..26u32 {
+        let at = bound(rt, rank);
+        let mut count = 0usize;
+        for span in set.spans() {
+            count = count.wrapping_add(usize::from(span.hi() <= at));
+        }
+        right &= set.ended(at) == count;
+    }
+    right
+}
+
 #[test]
 fn sets_of_two(rt: HostRuntime) -> Result<(), Fail> {
     let mut state = 1u32;
@@ -114,7 +128,7 @@ fn sets_of_two(rt: HostRuntime) -> Result<(), Fail> {
         let b = mask(next(state));
         state = next(next(state));
         let first = made(&rt, rt.alloc(), a)?;
-        assert!(rt; mask_of(&first) == a);
+        assert!(rt; mask_of(&first) == a && counts_ends(&rt, &first));
         compare(&rt, rt.alloc(), &first, a, b)?;
     }
     Ok(())

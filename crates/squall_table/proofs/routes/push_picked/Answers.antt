@@ -2,9 +2,13 @@ use Rattle.std.proofs.Common.{◌≡◌, ◌<◌, max, min, get_or, sym, ap, ◌
 use Rattle.std.proofs.lemmas.List.{get_or_default}
 use Rattle.squall_span.specs.Spans.{Interval}
 use Rattle.squall_span.proofs.Compared.{max_is, min_is}
-use Rattle.squall_table.proofs.Picks.{walk_more, walk_done, walk_next}
+use Rattle.squall_table.specs.Legs.{pick}
+use Rattle.squall_table.proofs.Picks.{walk_first, walk_more, walk_done, walk_next}
 use Rattle.squall_table.proofs.routes.push_picked.Goals as goal
 use Rattle.squall_table.proofs.routes.push_picked.Goals.{then-loop-at-test+else-rank, else-loop-at-test}
+
+pub loop-at-init : goal.loop-at-init
+loop-at-init c = walk_first (pick c.args.spans.now c.args.dest c.args.source) _ _ _ _ _ c.requires.order c.requires.first
 
 pub push_leg-requires-in-loop-at : goal.push_leg-requires-in-loop-at
 push_leg-requires-in-loop-at c =
