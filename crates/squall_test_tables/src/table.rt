@@ -4,7 +4,7 @@ mod patches;
 mod searches;
 mod tolerant;
 
-use squall_board::Board;
+use squall_board::{Board, Delta};
 use squall_course::Course;
 use squall_key::Bound;
 use squall_plan::Plan;
@@ -42,10 +42,30 @@ pub(crate) fn load(lo: &str, hi: &str) -> Option<Report> {
     Report::loaded(1, 0, 3, span(lo, hi)?)
 }
 
-/// Takes the report, where there is one.
-pub(crate) fn take(board: &mut Board, report: Option<Report>) -> Result<(), Fail> {
-    board.take(&report.ok_or("report")?)?;
-    Ok(())
+/// What a report says, in sub-plan 0 of number 1 where it says no other.
+#[derive(Clone, Copy)]
+pub(crate) enum Said {
+    /// Partition 3 has loaded the keys from a bound to another.
+    Load(&'static str, &'static str),
+    /// The partition is done in the sub-plan of the number.
+    Done { number: u32, sub: u32, part: u32 },
+}
+
+/// The report of what is said.
+fn report(said: Said) -> Option<Report> {
+    match said {
+        Said::Load(lo, hi) => load(lo, hi),
+        Said::Done { number, sub, part } => Report::done(number, sub, part),
+    }
+}
+
+/// The delta of what is said.
+pub(crate) fn delta(alloc: Global, said: &[Said]) -> Result<Delta, Fail> {
+    let mut delta = Board::new(alloc);
+    for one in said {
+        delta.take(&report(*one).ok_or("report")?)?;
+    }
+    Ok(delta)
 }
 
 /// Legs as text: each its partition and its span.
@@ -59,57 +79,105 @@ pub(crate) fn shown(alloc: Global, legs: &[Leg]) -> Result<String, Fail> {
     Ok(out)
 }
 
-/// The table of the example course and the board, as text.
-pub(crate) fn built(alloc: Global, board: &Board) -> Result<String, Fail> {
-    let table = RouteTable::build(alloc, &course(alloc)?, board)?;
-    shown(alloc, table.entries())
+/// Whether the table has the rows.
+pub(crate) fn has_rows(alloc: Global, table: &RouteTable, rows: &str) -> Result<bool, Fail> {
+    Ok(shown(alloc, table.entries())?.as_str() == rows)
+}
+
+/// Whether the table of the course and the board has the rows.
+pub(crate) fn is_built(
+    alloc: Global,
+    course: &Course,
+    board: &Board,
+    rows: &str,
+) -> Result<bool, Fail> {
+    let table = RouteTable::build(alloc, course, board)?;
+    has_rows(alloc, &table, rows)
+}
+
+/// Whether the table of the course has the rows after what is said.
+fn is_built_of(alloc: Global, course: &Course, said: &[Said], rows: &str) -> Result<bool, Fail> {
+    let board = delta(alloc, said)?;
+    is_built(alloc, course, &board, rows)
 }
 
 #[test]
 fn rows(rt: HostRuntime) -> Result<(), Fail> {
-    let mut board = Board::new(rt.alloc());
-    let none = built(rt.alloc(), &board)?;
-    assert!(rt; none.as_str() == "1 [0:0,3:0);2 [3:0,5:0);3 [5:0,9:0);4 [9:0,end);");
-    take(&mut board, load("2:0", "2:7"))?;
-    let some = built(rt.alloc(), &board)?;
-    assert!(rt;
-        some.as_str() == "1 [0:0,2:0);3 [2:0,2:7);1 [2:7,3:0);2 [3:0,5:0);3 [5:0,9:0);4 [9:0,end);"
-    );
-    take(&mut board, load("2:7", "3:0"))?;
-    take(&mut board, Report::done(1, 0, 4))?;
-    let all = built(rt.alloc(), &board)?;
-    assert!(rt; all.as_str() == "1 [0:0,2:0);3 [2:0,3:0);2 [3:0,5:0);3 [5:0,6:0);4 [6:0,end);");
+    let course = course(rt.alloc())?;
+    let cases: [(&[Said], &str); 3] = [
+        (&[], "1 [0:0,3:0);2 [3:0,5:0);3 [5:0,9:0);4 [9:0,end);"),
+        (
+            &[Said::Load("2:0", "2:7")],
+            "1 [0:0,2:0);3 [2:0,2:7);1 [2:7,3:0);2 [3:0,5:0);3 [5:0,9:0);4 [9:0,end);",
+        ),
+        (
+            &[
+                Said::Load("2:0", "2:7"),
+                Said::Load("2:7", "3:0"),
+                Said::Done {
+                    number: 1,
+                    sub: 0,
+                    part: 4,
+                },
+            ],
+            "1 [0:0,2:0);3 [2:0,3:0);2 [3:0,5:0);3 [5:0,6:0);4 [6:0,end);",
+        ),
+    ];
+    for (said, rows) in cases {
+        assert!(rt; is_built_of(rt.alloc(), &course, said, rows)?, "{rows}");
+    }
     Ok(())
 }
 
 #[test]
 fn reports_of_others_change_no_row(rt: HostRuntime) -> Result<(), Fail> {
-    let mut board = Board::new(rt.alloc());
-    take(&mut board, Report::done(2, 0, 4))?;
-    take(&mut board, Report::done(1, 1, 4))?;
-    take(&mut board, load("6:0", "9:0"))?;
-    let rows = built(rt.alloc(), &board)?;
-    assert!(rt; rows.as_str() == "1 [0:0,3:0);2 [3:0,5:0);3 [5:0,9:0);4 [9:0,end);");
+    let course = course(rt.alloc())?;
+    let said = [
+        Said::Done {
+            number: 2,
+            sub: 0,
+            part: 4,
+        },
+        Said::Done {
+            number: 1,
+            sub: 1,
+            part: 4,
+        },
+        Said::Load("6:0", "9:0"),
+    ];
+    let rows = "1 [0:0,3:0);2 [3:0,5:0);3 [5:0,9:0);4 [9:0,end);";
+    assert!(rt; is_built_of(rt.alloc(), &course, &said, rows)?);
     Ok(())
 }
 
-/// The legs of the table after one load, cut to a span, as text.
-fn cut(alloc: Global, lo: &str, hi: &str) -> Result<String, Fail> {
-    let mut board = Board::new(alloc);
-    take(&mut board, load("2:0", "2:7"))?;
-    let table = RouteTable::build(alloc, &course(alloc)?, &board)?;
+/// The table of the example course after one load.
+fn table_of_a_load(alloc: Global) -> Result<RouteTable, Fail> {
+    let course = course(alloc)?;
+    let board = delta(alloc, &[Said::Load("2:0", "2:7")])?;
+    Ok(RouteTable::build(alloc, &course, &board)?)
+}
+
+/// Whether the table's legs, cut to a span, are these.
+fn is_cut(alloc: Global, table: &RouteTable, lo: &str, hi: &str, rows: &str) -> Result<bool, Fail> {
     let legs = table.legs(alloc, &span(lo, hi).ok_or("span")?)?;
-    shown(alloc, &legs)
+    Ok(shown(alloc, &legs)?.as_str() == rows)
 }
 
 #[test]
 fn cuts(rt: HostRuntime) -> Result<(), Fail> {
-    assert!(rt; cut(rt.alloc(), "3:1", "4:0")?.as_str() == "2 [3:1,4:0);");
-    assert!(rt; cut(rt.alloc(), "2:0", "2:7")?.as_str() == "3 [2:0,2:7);");
-    assert!(rt;
-        cut(rt.alloc(), "1:9", "5:1")?.as_str()
-            == "1 [1:9,2:0);3 [2:0,2:7);1 [2:7,3:0);2 [3:0,5:0);3 [5:0,5:1);"
-    );
-    assert!(rt; cut(rt.alloc(), "9:0", "end")?.as_str() == "4 [9:0,end);");
+    let table = table_of_a_load(rt.alloc())?;
+    let cases: [(&str, &str, &str); 4] = [
+        ("3:1", "4:0", "2 [3:1,4:0);"),
+        ("2:0", "2:7", "3 [2:0,2:7);"),
+        (
+            "1:9",
+            "5:1",
+            "1 [1:9,2:0);3 [2:0,2:7);1 [2:7,3:0);2 [3:0,5:0);3 [5:0,5:1);",
+        ),
+        ("9:0", "end", "4 [9:0,end);"),
+    ];
+    for (lo, hi, rows) in cases {
+        assert!(rt; is_cut(rt.alloc(), &table, lo, hi, rows)?, "{rows}");
+    }
     Ok(())
 }

@@ -1,22 +1,15 @@
 //! Patches of tables, each beside the table that is built of the same board.
 
-use crate::table::{built, course, load, shown, take};
+ghost use Rattle.squall_table.specs.Tables.{IsTable};
+
+use crate::table::{Said, course, delta, has_rows, is_built};
 use squall_board::{Board, Delta};
 use squall_course::Course;
 use squall_plan::Plan;
-use squall_report::Report;
+use squall_span::SpanSet;
 use squall_table::{Meter, RouteTable, touched};
 use std::alloc::Global;
 use std::test::Fail;
-
-/// What a report says, in sub-plan 0 of number 1 where it says no other.
-#[derive(Clone, Copy)]
-enum Said {
-    /// Partition 3 has loaded the keys from a bound to another.
-    Load(&'static str, &'static str),
-    /// The partition is done in the sub-plan of the number.
-    Done { number: u32, sub: u32, part: u32 },
-}
 
 /// Partition 4 is done.
 const DONE: Said = Said::Done {
@@ -25,26 +18,8 @@ const DONE: Said = Said::Done {
     part: 4,
 };
 
-/// The report of what is said.
-fn report(said: Said) -> Option<Report> {
-    match said {
-        Said::Load(lo, hi) => load(lo, hi),
-        Said::Done { number, sub, part } => Report::done(number, sub, part),
-    }
-}
-
-/// The delta of reports.
-fn delta(alloc: Global, said: &[Said]) -> Result<Delta, Fail> {
-    let mut delta = Board::new(alloc);
-    for one in said {
-        take(&mut delta, report(*one))?;
-    }
-    Ok(delta)
-}
-
-/// What the delta of the reports touches, as text.
-fn touch(alloc: Global, said: &[Said]) -> Result<String, Fail> {
-    let set = touched(alloc, &course(alloc)?, &delta(alloc, said)?)?;
+/// The spans of the set as text.
+fn spans(alloc: Global, set: &SpanSet) -> Result<String, Fail> {
     let mut out = String::new(alloc);
     for span in set.spans() {
         write!(out, "{span};")?;
@@ -52,8 +27,16 @@ fn touch(alloc: Global, said: &[Said]) -> Result<String, Fail> {
     Ok(out)
 }
 
+/// Whether the delta of the reports touches these spans.
+fn touches(alloc: Global, course: &Course, said: &[Said], wanted: &str) -> Result<bool, Fail> {
+    let delta = delta(alloc, said)?;
+    let set = touched(alloc, course, &delta)?;
+    Ok(spans(alloc, &set)?.as_str() == wanted)
+}
+
 #[test]
 fn touched_keys(rt: HostRuntime) -> Result<(), Fail> {
+    let course = course(rt.alloc())?;
     let rows: [(&[Said], &str); 4] = [
         (&[Said::Load("1:0", "2:5")], "[2:0,2:5);"),
         (
@@ -78,33 +61,54 @@ fn touched_keys(rt: HostRuntime) -> Result<(), Fail> {
         ),
     ];
     for (said, wanted) in rows {
-        assert!(rt; touch(rt.alloc(), said)?.as_str() == wanted, "{wanted}");
+        assert!(rt; touches(rt.alloc(), &course, said, wanted)?, "{wanted}");
     }
     Ok(())
 }
 
-/// The table of the example course before any report, patched for the delta, and what its meter
-/// has counted.
-fn patched(alloc: Global, delta: &Delta) -> Result<(String, u64), Fail> {
-    let course = course(alloc)?;
-    let mut board = Board::new(alloc);
-    let mut table = RouteTable::build(alloc, &course, &board)?;
-    let set = touched(alloc, &course, delta)?;
+/// Patches the table of the board for the delta, which the board takes. It says what the meter has
+/// counted.
+fn patch(
+    alloc: Global,
+    course: &Course,
+    board: &mut Board,
+    table: &mut RouteTable,
+    delta: &Delta,
+) -> Result<u64, Fail>
+    requires { IsTable course.now board.old table.old }
+{
+    let set = touched(alloc, course, delta)?;
     board.merge(delta)?;
     let mut meter = Meter::new();
-    table.patch(&course, &board, &set, &mut meter)?;
-    Ok((shown(alloc, table.entries())?, meter.count()))
+    table.patch(course, board, &set, &mut meter)?;
+    Ok(meter.count())
+}
+
+/// What the meter counts where the table of the course before any report is patched for the delta,
+/// and whether the table has the rows then.
+fn patched(alloc: Global, course: &Course, delta: &Delta, rows: &str) -> Result<(bool, u64), Fail> {
+    let mut board = Board::new(alloc);
+    let mut table = RouteTable::build(alloc, course, &board)?;
+    let count = patch(alloc, course, &mut board, &mut table, delta)?;
+    Ok((has_rows(alloc, &table, rows)?, count))
 }
 
 /// Whether the patched table, and that which is built, has the rows, and the meter the count.
-fn is_patched(alloc: Global, said: &[Said], rows: &str, count: u64) -> Result<bool, Fail> {
+fn is_patched(
+    alloc: Global,
+    course: &Course,
+    said: &[Said],
+    rows: &str,
+    count: u64,
+) -> Result<bool, Fail> {
     let delta = delta(alloc, said)?;
-    let (shown, counted) = patched(alloc, &delta)?;
-    Ok(shown.as_str() == rows && counted == count && built(alloc, &delta)?.as_str() == rows)
+    let patched = patched(alloc, course, &delta, rows)?;
+    Ok(patched == (true, count) && is_built(alloc, course, &delta, rows)?)
 }
 
 #[test]
 fn patches(rt: HostRuntime) -> Result<(), Fail> {
+    let course = course(rt.alloc())?;
     let cases: [(&[Said], &str, u64); 5] = [
         // The move, and the leg that has its keys.
         (
@@ -140,7 +144,10 @@ fn patches(rt: HostRuntime) -> Result<(), Fail> {
         ),
     ];
     for (said, rows, count) in cases {
-        assert!(rt; is_patched(rt.alloc(), said, rows, count)?, "{rows}");
+        assert!(rt;
+            is_patched(rt.alloc(), &course, said, rows, count)?,
+            "{rows}"
+        );
     }
     Ok(())
 }
@@ -157,26 +164,36 @@ fn course_of_ends(alloc: Global) -> Result<Course, Fail> {
     Ok(Course::new(alloc, 1, &old, &new).ok().ok_or("course")?)
 }
 
-/// The table that has absorbed two deltas, one after the other, and the table built of the board
-/// that has them.
+/// The board, and its table, after both deltas, one after the other.
+fn absorb(
+    course: &Course,
+    board: &mut Board,
+    table: &mut RouteTable,
+    first: &Delta,
+    second: &Delta,
+) -> Result<(), Fail>
+    requires { IsTable course.now board.old table.old }
+{
+    table.absorb(course, board, first)?;
+    table.absorb(course, board, second)?;
+    Ok(())
+}
+
+/// Whether the table that has absorbed both deltas, and that which is built, has the rows.
 fn absorbed(
     alloc: Global,
     course: &Course,
     first: &Delta,
     second: &Delta,
-) -> Result<(String, String), Fail> {
+    rows: &str,
+) -> Result<bool, Fail> {
     let mut board = Board::new(alloc);
     let mut table = RouteTable::build(alloc, course, &board)?;
-    table.absorb(course, &mut board, first)?;
-    table.absorb(course, &mut board, second)?;
-    let other = RouteTable::build(alloc, course, &board)?;
-    Ok((
-        shown(alloc, table.entries())?,
-        shown(alloc, other.entries())?,
-    ))
+    absorb(course, &mut board, &mut table, first, second)?;
+    Ok(has_rows(alloc, &table, rows)? && is_built(alloc, course, &board, rows)?)
 }
 
-/// Whether both tables have the rows.
+/// Whether the table has the rows after the one list of reports and then the other.
 fn is_absorbed(
     alloc: Global,
     course: &Course,
@@ -184,9 +201,9 @@ fn is_absorbed(
     second: &[Said],
     rows: &str,
 ) -> Result<bool, Fail> {
-    let (first, second) = (delta(alloc, first)?, delta(alloc, second)?);
-    let (shown, other) = absorbed(alloc, course, &first, &second)?;
-    Ok(shown.as_str() == rows && other.as_str() == rows)
+    let first = delta(alloc, first)?;
+    let second = delta(alloc, second)?;
+    absorbed(alloc, course, &first, &second, rows)
 }
 
 #[test]
