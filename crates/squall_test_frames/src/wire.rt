@@ -12,6 +12,7 @@ mod tolerant;
 use squall_board::Board;
 use squall_wire::*;
 use std::alloc::{AllocError, Global};
+use std::process::Abort;
 use std::test::Fail;
 
 /// The frame of the load of the keys from 2:0 to 3:0 at partition 3, in sub-plan 0 of number 1.
@@ -57,17 +58,33 @@ pub(crate) fn fault_of(alloc: Global, text: &str) -> Result<Option<WireFault>, F
     Ok(decode(alloc, &bytes).err())
 }
 
+/// Each text does not begin with a frame, for the reason beside it.
+pub(crate) fn have_faults(
+    rt: &impl Abort,
+    alloc: Global,
+    rows: &[(&str, WireFault)],
+) -> Result<(), Fail> {
+    for (text, fault) in rows {
+        assert!(rt; fault_of(alloc, text)? == Some(*fault), "{text}");
+    }
+    Ok(())
+}
+
+/// The message of the frame that the text begins with, and how many bytes that frame takes.
+fn decoded(alloc: Global, text: &str) -> Result<(Message, usize), Fail> {
+    let bytes = hex(alloc, text)?;
+    Ok(decode(alloc, &bytes)?)
+}
+
 /// How many bytes the first frame of the text takes.
 pub(crate) fn used_of(alloc: Global, text: &str) -> Result<usize, Fail> {
-    let bytes = hex(alloc, text)?;
-    let (_message, used) = decode(alloc, &bytes)?;
+    let (_message, used) = decoded(alloc, text)?;
     Ok(used)
 }
 
 /// The board of the delta whose frame the text begins with.
 pub(crate) fn board_of(alloc: Global, text: &str) -> Result<Board, Fail> {
-    let bytes = hex(alloc, text)?;
-    let (message, _used) = decode(alloc, &bytes)?;
+    let (message, _used) = decoded(alloc, text)?;
     match message {
         Message::Delta(board) => Ok(board),
         Message::Digest(_digest) => Err("a digest".into()),
@@ -76,8 +93,7 @@ pub(crate) fn board_of(alloc: Global, text: &str) -> Result<Board, Fail> {
 
 /// The digest whose frame the text begins with.
 pub(crate) fn digest_of(alloc: Global, text: &str) -> Result<Digest, Fail> {
-    let bytes = hex(alloc, text)?;
-    let (message, _used) = decode(alloc, &bytes)?;
+    let (message, _used) = decoded(alloc, text)?;
     match message {
         Message::Delta(_board) => Err("a delta".into()),
         Message::Digest(digest) => Ok(digest),
@@ -90,11 +106,16 @@ pub(crate) fn is_encoded_as(alloc: Global, message: &Message, text: &str) -> Res
     Ok(are_of(alloc, &bytes, text)?)
 }
 
+/// Whether the bytes are one frame, and its message is encoded as the text writes.
+fn are_encoded_as(alloc: Global, bytes: &[u8], text: &str) -> Result<bool, Fail> {
+    let (message, used) = decode(alloc, bytes)?;
+    Ok(used == bytes.len() && is_encoded_as(alloc, &message, text)?)
+}
+
 /// Whether the message of the frame is encoded as that frame.
 pub(crate) fn comes_back(alloc: Global, text: &str) -> Result<bool, Fail> {
     let bytes = hex(alloc, text)?;
-    let (message, used) = decode(alloc, &bytes)?;
-    Ok(used == bytes.len() && is_encoded_as(alloc, &message, text)?)
+    are_encoded_as(alloc, &bytes, text)
 }
 
 /// Whether each proper prefix of the frame, the empty one too, is too short.

@@ -1,5 +1,6 @@
 //! Digests and repairs.
 
+use crate::wire::are_of;
 use squall_board::Board;
 use squall_delta::{digest, repair};
 use squall_join::Flat;
@@ -19,27 +20,6 @@ const LOAD_DIGEST: &str =
 
 /// The frame of the completion alone.
 const DONE: &str = "53510101 00000019 00000000 00000001 00000001 00000001 00000004 01 00000000";
-
-/// The bytes that the text writes in hexadecimal digits. Blanks are passed over.
-fn hex(alloc: Global, text: &str) -> Result<Vec<u8>, AllocError> {
-    let mut bytes = Vec::new(alloc);
-    let mut high = None;
-    for character in text.as_bytes() {
-        let digit = match *character {
-            b'0'..=b'9' => *character - b'0',
-            b'a'..=b'f' => *character - b'a' + 10,
-            _ => continue,
-        };
-        high = match high {
-            None => Some(digit),
-            Some(first) => {
-                bytes.push((first << 4) | digit)?;
-                None
-            }
-        };
-    }
-    Ok(bytes)
-}
 
 /// The load of the keys from 2:0 to 3:0 at partition 3, in sub-plan 0 of number 1.
 fn load() -> Option<Report> {
@@ -110,12 +90,6 @@ fn opened(alloc: Global, subs: &[(u32, u32)]) -> Option<Board> {
     Some(board)
 }
 
-/// Whether the bytes are those that the text writes.
-fn are_of(alloc: Global, bytes: &[u8], text: &str) -> Result<bool, AllocError> {
-    let wanted = hex(alloc, text)?;
-    Ok(*bytes == *wanted.as_slice())
-}
-
 /// The digest of the board of the load.
 fn digest_of_load(alloc: Global) -> Result<Digest, Fail> {
     let board = loaded(alloc).ok_or("a board")?;
@@ -137,12 +111,27 @@ fn has_one_row(digest: &Digest) -> bool {
         && digest.rows()[0].number == 1
 }
 
+/// Whether the frame of the digest is the one that the text writes.
+fn is_framed_as(alloc: Global, digest: Digest, text: &str) -> Result<bool, Fail> {
+    let bytes = frame_of(alloc, digest)?;
+    Ok(are_of(alloc, &bytes, text)?)
+}
+
+/// Whether the digest of the load has the frame that the text writes.
+fn load_is_framed_as(alloc: Global, text: &str) -> Result<bool, Fail> {
+    is_framed_as(alloc, digest_of_load(alloc)?, text)
+}
+
+/// Whether the digest of the load has one row.
+fn load_has_one_row(alloc: Global) -> Result<bool, Fail> {
+    let digest = digest_of_load(alloc)?;
+    Ok(has_one_row(&digest))
+}
+
 #[test]
 fn the_digest_of_a_load(rt: HostRuntime) -> Result<(), Fail> {
-    let digest = digest_of_load(rt.alloc())?;
-    assert!(rt; has_one_row(&digest));
-    let bytes = frame_of(rt.alloc(), digest)?;
-    assert!(rt; are_of(rt.alloc(), &bytes, LOAD_DIGEST)?);
+    assert!(rt; load_has_one_row(rt.alloc())?);
+    assert!(rt; load_is_framed_as(rt.alloc(), LOAD_DIGEST)?);
     Ok(())
 }
 
@@ -157,10 +146,15 @@ fn has_no_digest(alloc: Global, board: &Board) -> Result<bool, AllocError> {
     Ok(tells_nothing(&digest))
 }
 
+/// Whether the digest of an empty board tells nothing.
+fn empty_has_no_digest(alloc: Global) -> Result<bool, AllocError> {
+    let board = Board::new(alloc);
+    has_no_digest(alloc, &board)
+}
+
 #[test]
 fn the_digest_of_nothing(rt: HostRuntime) -> Result<(), Fail> {
-    let board = Board::new(rt.alloc());
-    assert!(rt; has_no_digest(rt.alloc(), &board)?);
+    assert!(rt; empty_has_no_digest(rt.alloc())?);
     Ok(())
 }
 
@@ -173,8 +167,7 @@ fn repair_by(alloc: Global, first: &Board, second: &Board) -> Result<Board, Allo
 /// The repair of the board by the digest of that of the load.
 fn repair_by_load(alloc: Global, second: &Board) -> Result<Board, Fail> {
     let first = loaded(alloc).ok_or("a board")?;
-    let delta = repair_by(alloc, &first, second)?;
-    Ok(delta)
+    Ok(repair_by(alloc, &first, second)?)
 }
 
 /// The repair of the board of the load and the completion by the digest of that of the load.
@@ -189,10 +182,15 @@ fn has_frame(alloc: Global, board: &Board, text: &str) -> Result<bool, Fail> {
     Ok(are_of(alloc, &bytes, text)?)
 }
 
+/// Whether the frame of the repair is the one that the text writes.
+fn repair_has_frame(alloc: Global, text: &str) -> Result<bool, Fail> {
+    let delta = repair_of_completed(alloc)?;
+    has_frame(alloc, &delta, text)
+}
+
 #[test]
 fn the_frame_of_a_repair(rt: HostRuntime) -> Result<(), Fail> {
-    let delta = repair_of_completed(rt.alloc())?;
-    assert!(rt; has_frame(rt.alloc(), &delta, DONE)?);
+    assert!(rt; repair_has_frame(rt.alloc(), DONE)?);
     Ok(())
 }
 
@@ -209,11 +207,21 @@ fn is_completed(alloc: Global, board: &Board) -> Result<bool, Fail> {
     Ok(*board == both)
 }
 
+/// Whether the repair makes the board that of the load and the completion.
+fn is_completed_by_repair(alloc: Global, board: &mut Board) -> Result<bool, Fail> {
+    merge_repair(alloc, board)?;
+    is_completed(alloc, board)
+}
+
+/// Whether the repair makes the board of the load that of the load and the completion.
+fn load_is_completed(alloc: Global) -> Result<bool, Fail> {
+    let mut board = loaded(alloc).ok_or("a board")?;
+    is_completed_by_repair(alloc, &mut board)
+}
+
 #[test]
 fn a_repair_completes_a_board(rt: HostRuntime) -> Result<(), Fail> {
-    let mut board = loaded(rt.alloc()).ok_or("a board")?;
-    merge_repair(rt.alloc(), &mut board)?;
-    assert!(rt; is_completed(rt.alloc(), &board)?);
+    assert!(rt; load_is_completed(rt.alloc())?);
     Ok(())
 }
 
@@ -229,18 +237,22 @@ fn lacks_nothing(alloc: Global, board: &Board) -> Result<bool, AllocError> {
     Ok(is_empty(alloc, &delta))
 }
 
+/// Whether the repair of the board of the load by its own digest tells nothing.
+fn load_lacks_nothing(alloc: Global) -> Result<bool, Fail> {
+    let board = loaded(alloc).ok_or("a board")?;
+    Ok(lacks_nothing(alloc, &board)?)
+}
+
 #[test]
 fn a_repair_of_what_is_shown_is_empty(rt: HostRuntime) -> Result<(), Fail> {
-    let board = loaded(rt.alloc()).ok_or("a board")?;
-    assert!(rt; lacks_nothing(rt.alloc(), &board)?);
+    assert!(rt; load_lacks_nothing(rt.alloc())?);
     Ok(())
 }
 
 /// The repair of the board by the digest of three counts of openings.
 fn repair_by_openings(alloc: Global, second: &Board) -> Result<Board, Fail> {
     let first = opened(alloc, &[(1, 0), (2, 1), (3, 2)]).ok_or("a board")?;
-    let delta = repair_by(alloc, &first, second)?;
-    Ok(delta)
+    Ok(repair_by(alloc, &first, second)?)
 }
 
 /// A repair of openings: of a greater count, an equal one, a lower one, and one that is lacking.
@@ -249,12 +261,17 @@ fn repair_of_openings(alloc: Global) -> Result<Board, Fail> {
     repair_by_openings(alloc, &second)
 }
 
-#[test]
-fn a_repair_has_greater_openings(rt: HostRuntime) -> Result<(), Fail> {
-    let delta = repair_of_openings(rt.alloc())?;
+/// The delta has the greater count of openings under each number, and no count where the other has as many.
+fn has_greater_openings(rt: &impl Abort, delta: &Board) {
     for (number, count) in [(1, 2), (2, 0), (3, 0), (4, 7)] {
         assert!(rt; delta.opened(number) == count);
     }
+}
+
+#[test]
+fn a_repair_has_greater_openings(rt: HostRuntime) -> Result<(), Fail> {
+    let delta = repair_of_openings(rt.alloc())?;
+    has_greater_openings(&rt, &delta);
     Ok(())
 }
 
@@ -266,8 +283,7 @@ fn two_issues(alloc: Global) -> Option<Board> {
 /// The repair of the board by the digest of two issues.
 fn repair_by_issues(alloc: Global, second: &Board) -> Result<Board, Fail> {
     let first = two_issues(alloc).ok_or("a board")?;
-    let delta = repair_by(alloc, &first, second)?;
-    Ok(delta)
+    Ok(repair_by(alloc, &first, second)?)
 }
 
 /// A repair of issues: one that is lacking, an equal one, and another.
@@ -283,10 +299,15 @@ fn has_other_issues(board: &Board) -> bool {
         && matches!(board.issuing(3), Flat::One(_))
 }
 
+/// Whether the repair of issues has the two that are other ones.
+fn repair_has_other_issues(alloc: Global) -> Result<bool, Fail> {
+    let delta = repair_of_issues(alloc)?;
+    Ok(has_other_issues(&delta))
+}
+
 #[test]
 fn a_repair_has_other_issues(rt: HostRuntime) -> Result<(), Fail> {
-    let delta = repair_of_issues(rt.alloc())?;
-    assert!(rt; has_other_issues(&delta));
+    assert!(rt; repair_has_other_issues(rt.alloc())?);
     Ok(())
 }
 
@@ -297,11 +318,21 @@ fn merge_issues(alloc: Global, board: &mut Board) -> Result<(), Fail> {
     Ok(())
 }
 
+/// Whether number 3 is a clash in the board once it has the repair of issues.
+fn clashes_with_repair(alloc: Global, board: &mut Board) -> Result<bool, Fail> {
+    merge_issues(alloc, board)?;
+    Ok(matches!(board.issuing(3), Flat::Clash))
+}
+
+/// Whether number 3 is a clash in the board of two issues once it has the repair of issues.
+fn issues_clash(alloc: Global) -> Result<bool, Fail> {
+    let mut board = two_issues(alloc).ok_or("a board")?;
+    clashes_with_repair(alloc, &mut board)
+}
+
 #[test]
 fn other_issues_clash(rt: HostRuntime) -> Result<(), Fail> {
-    let mut board = two_issues(rt.alloc()).ok_or("a board")?;
-    merge_issues(rt.alloc(), &mut board)?;
-    assert!(rt; matches!(board.issuing(3), Flat::Clash));
+    assert!(rt; issues_clash(rt.alloc())?);
     Ok(())
 }
 

@@ -61,7 +61,7 @@ fn plan(alloc: Global, text: &str) -> Result<Plan, Fail> {
     Ok(plan)
 }
 
-/// Takes under the number that the new plan follows the old one, and four openings.
+/// Takes under the number that the new plan follows the old one.
 fn take_issue(
     alloc: Global,
     board: &mut Board,
@@ -69,17 +69,24 @@ fn take_issue(
     old: &Plan,
     new: &Plan,
 ) -> Result<(), Fail> {
-    let issue = Issue::new(alloc, old, new)?;
-    board.take(&Report::issued(number, issue).ok_or("issue")?)?;
-    board.take(&Report::opened(number, 3).ok_or("opening")?)?;
+    let report = Report::issued(number, Issue::new(alloc, old, new)?).ok_or("issue")?;
+    board.take(&report)?;
     Ok(())
 }
 
-/// Takes the issues of 10 numbers, after the old plan.
+/// Takes four openings under the number.
+fn take_openings(board: &mut Board, number: u32) -> Result<(), Fail> {
+    let report = Report::opened(number, 3).ok_or("opening")?;
+    board.take(&report)?;
+    Ok(())
+}
+
+/// Takes the issues of 10 numbers, after the old plan, and four openings under each.
 fn take_issues(alloc: Global, board: &mut Board, old: &Plan) -> Result<(), Fail> {
     let new = plan(alloc, NEW)?;
     for number in 1..11 {
         take_issue(alloc, board, number, old, &new)?;
+        take_openings(board, number)?;
     }
     Ok(())
 }
@@ -125,12 +132,18 @@ fn merge_piece(alloc: Global, merged: &mut Board, piece: &Board) -> Result<(), F
     Ok(())
 }
 
+/// Merges the pieces, each of which has a frame, from the last to the first into the board.
+fn merge_pieces(alloc: Global, merged: &mut Board, cut: &[Board]) -> Result<(), Fail> {
+    for piece in cut.iter().rev() {
+        merge_piece(alloc, merged, piece)?;
+    }
+    Ok(())
+}
+
 /// Whether each piece has a frame, and the pieces, merged from the last to the first, are the board.
 fn come_back(alloc: Global, cut: &[Board], board: &Board) -> Result<bool, Fail> {
     let mut merged = Board::new(alloc);
-    for piece in cut.iter().rev() {
-        merge_piece(alloc, &mut merged, piece)?;
-    }
+    merge_pieces(alloc, &mut merged, cut)?;
     Ok(merged == *board)
 }
 
@@ -140,10 +153,15 @@ fn is_one_piece(alloc: Global, board: &Board) -> Result<bool, AllocError> {
     Ok(cut.len() == 1 && cut[0] == *board)
 }
 
+/// Whether the small board is its one piece.
+fn small_is_one_piece(alloc: Global) -> Result<bool, Fail> {
+    let board = small_board(alloc).ok_or("board")?;
+    Ok(is_one_piece(alloc, &board)?)
+}
+
 #[test]
 fn a_small_board_is_one_piece(rt: HostRuntime) -> Result<(), Fail> {
-    let board = small_board(rt.alloc()).ok_or("board")?;
-    assert!(rt; is_one_piece(rt.alloc(), &board)?);
+    assert!(rt; small_is_one_piece(rt.alloc())?);
     Ok(())
 }
 
@@ -168,12 +186,17 @@ fn look_at_frame(rt: &impl Abort, alloc: Global, board: &Board) -> Result<(), Fa
     Ok(())
 }
 
+/// The board is its one piece, and its frame is as long as can be.
+fn look_at_long_piece(rt: &impl Abort, alloc: Global, board: &Board) -> Result<(), Fail> {
+    look_at_frame(rt, alloc, board)?;
+    assert!(rt; is_one_piece(alloc, board)?);
+    Ok(())
+}
+
 #[test]
 fn a_piece_as_long_as_a_frame(rt: HostRuntime) -> Result<(), Fail> {
     let board = board_of_spans(rt.alloc(), 65_534)?;
-    look_at_frame(&rt, rt.alloc(), &board)?;
-    assert!(rt; is_one_piece(rt.alloc(), &board)?);
-    Ok(())
+    look_at_long_piece(&rt, rt.alloc(), &board)
 }
 
 /// Whether the board is one of so many spans.
@@ -202,18 +225,28 @@ fn look_at_cut_cell(rt: &impl Abort, alloc: Global, cut: &[Board]) -> Result<(),
     Ok(())
 }
 
+/// The pieces are all spans of the board but the last, and the last, and make the board again.
+fn look_at_pieces(
+    rt: &impl Abort,
+    alloc: Global,
+    cut: &[Board],
+    board: &Board,
+) -> Result<(), Fail> {
+    look_at_cut_cell(rt, alloc, cut)?;
+    assert!(rt; come_back(alloc, cut, board)?);
+    Ok(())
+}
+
 /// Cuts the board, whose cell is too long for a frame.
 fn cut_cell(rt: &impl Abort, alloc: Global, board: &Board) -> Result<(), Fail> {
+    assert!(rt; is_too_long(alloc, board));
     let cut = pieces(alloc, board)?;
-    look_at_cut_cell(rt, alloc, &cut)?;
-    assert!(rt; come_back(alloc, &cut, board)?);
-    Ok(())
+    look_at_pieces(rt, alloc, &cut, board)
 }
 
 #[test]
 fn a_cell_that_is_cut(rt: HostRuntime) -> Result<(), Fail> {
     let board = board_of_spans(rt.alloc(), 65_535)?;
-    assert!(rt; is_too_long(rt.alloc(), &board));
     cut_cell(&rt, rt.alloc(), &board)
 }
 
@@ -224,28 +257,43 @@ fn take_completion(board: &mut Board) -> Result<(), Fail> {
     Ok(())
 }
 
-/// Cuts the board, whose completed cell is too long for a frame.
-fn cut_completed(rt: &impl Abort, alloc: Global, board: &Board) -> Result<(), Fail> {
-    let cut = pieces(alloc, board)?;
+/// The first of the two pieces says that the cell is completed, and they make the board again.
+fn look_at_completed(
+    rt: &impl Abort,
+    alloc: Global,
+    cut: &[Board],
+    board: &Board,
+) -> Result<(), Fail> {
     assert!(rt; cut.len() == 2 && cut[0].says_done(1, 0, 3) && !cut[1].says_done(1, 0, 3));
-    assert!(rt; come_back(alloc, &cut, board)?);
+    assert!(rt; come_back(alloc, cut, board)?);
     Ok(())
+}
+
+/// Cuts the board, whose cell is too long for a frame, once it is completed.
+fn cut_completed(rt: &impl Abort, alloc: Global, board: &mut Board) -> Result<(), Fail> {
+    take_completion(board)?;
+    let cut = pieces(alloc, board)?;
+    look_at_completed(rt, alloc, &cut, board)
 }
 
 #[test]
 fn a_completion_stands_in_the_first_piece(rt: HostRuntime) -> Result<(), Fail> {
     let mut board = board_of_spans(rt.alloc(), 65_535)?;
-    take_completion(&mut board)?;
-    cut_completed(&rt, rt.alloc(), &board)
+    cut_completed(&rt, rt.alloc(), &mut board)
+}
+
+/// The first of the two pieces has the openings, and they make the board again.
+fn look_at_wide(rt: &impl Abort, alloc: Global, cut: &[Board], board: &Board) -> Result<(), Fail> {
+    assert!(rt; cut.len() == 2);
+    assert!(rt; cut[0].opened(10) == 4 && cut[1].opened(10) == 0);
+    assert!(rt; come_back(alloc, cut, board)?);
+    Ok(())
 }
 
 /// Cuts the board of issues and many cells.
 fn cut_wide(rt: &impl Abort, alloc: Global, board: &Board) -> Result<(), Fail> {
     let cut = pieces(alloc, board)?;
-    assert!(rt; cut.len() == 2);
-    assert!(rt; cut[0].opened(10) == 4 && cut[1].opened(10) == 0);
-    assert!(rt; come_back(alloc, &cut, board)?);
-    Ok(())
+    look_at_wide(rt, alloc, &cut, board)
 }
 
 #[test]

@@ -4,6 +4,7 @@ ghost use Rattle.std.specs.Prelude.{◌++◌, IfOk};
 ghost use Rattle.squall_wire.specs.Hearing.{HearsOn};
 
 use super::*;
+use std::process::Abort;
 use std::test::Fail;
 
 /// Pushes one piece, and then the other where the first has no fault. What is heard is what the
@@ -38,13 +39,24 @@ fn hear_both(
     Ok((heard.messages.len(), heard.fault))
 }
 
+/// The feed hears the frame in two pieces, and then nothing after a fault.
+fn look_at_pieces(rt: &impl Abort, feed: &mut Feed, frame: &[u8]) -> Result<(), FeedFault> {
+    assert!(rt; frame.len() == 49);
+    let (first, second) = frame.split_at(30);
+    assert!(rt; hear_both(feed, first, second)? == (1, None));
+    assert!(rt; hear_both(feed, &[0x54], frame)? == (0, Some(WireFault::Magic)));
+    Ok(())
+}
+
+/// A new feed hears the frame in two pieces.
+fn hear_in_two(rt: &impl Abort, alloc: Global, frame: &[u8]) -> Result<(), FeedFault> {
+    let mut feed = Feed::new(alloc);
+    look_at_pieces(rt, &mut feed, frame)
+}
+
 #[test]
 fn two_pieces_as_one(rt: HostRuntime) -> Result<(), Fail> {
     let frame = hex(rt.alloc(), LOAD)?;
-    assert!(rt; frame.len() == 49);
-    let (first, second) = frame.split_at(30);
-    let mut feed = Feed::new(rt.alloc());
-    assert!(rt; hear_both(&mut feed, first, second)? == (1, None));
-    assert!(rt; hear_both(&mut feed, &[0x54], &frame)? == (0, Some(WireFault::Magic)));
+    hear_in_two(&rt, rt.alloc(), &frame)?;
     Ok(())
 }

@@ -40,17 +40,22 @@ pub(crate) fn load_row(alloc: Global) -> Option<DigestRow> {
     })
 }
 
-#[test]
-fn the_bytes_of_a_cell(rt: HostRuntime) -> Result<(), Fail> {
-    let cell = load_cell(rt.alloc()).ok_or("a cell")?;
-    assert!(rt; has_bytes(rt.alloc(), &cell)?);
-    Ok(())
-}
-
 /// Whether the bytes of the cell are those of the load's.
 fn has_bytes(alloc: Global, cell: &Cell) -> Result<bool, Fail> {
     let bytes = cell_bytes(alloc, cell)?;
     Ok(are_of(alloc, &bytes, CELL)?)
+}
+
+/// Whether the cell of the load has the bytes of the load's.
+fn load_has_bytes(alloc: Global) -> Result<bool, Fail> {
+    let cell = load_cell(alloc).ok_or("a cell")?;
+    has_bytes(alloc, &cell)
+}
+
+#[test]
+fn the_bytes_of_a_cell(rt: HostRuntime) -> Result<(), Fail> {
+    assert!(rt; load_has_bytes(rt.alloc())?);
+    Ok(())
 }
 
 /// Whether the bytes of the lent cell are those of the load's.
@@ -66,10 +71,15 @@ fn lends_the_load(alloc: Global, board: &Board) -> Result<bool, Fail> {
     Ok(cells.len() == 1 && has_lent_bytes(alloc, cells[0].0, cells[0].1)?)
 }
 
+/// Whether the board of the load's frame has one cell, whose bytes are those of the load's.
+fn frame_lends_the_load(alloc: Global) -> Result<bool, Fail> {
+    let board = board_of(alloc, LOAD)?;
+    lends_the_load(alloc, &board)
+}
+
 #[test]
 fn the_bytes_of_a_lent_cell(rt: HostRuntime) -> Result<(), Fail> {
-    let board = board_of(rt.alloc(), LOAD)?;
-    assert!(rt; lends_the_load(rt.alloc(), &board)?);
+    assert!(rt; frame_lends_the_load(rt.alloc())?);
     Ok(())
 }
 
@@ -79,20 +89,28 @@ fn has_frame(alloc: Global, digest: Digest, text: &str) -> Result<bool, Fail> {
     is_encoded_as(alloc, &message, text)
 }
 
+/// Whether the digest of the rows alone has the frame that the text writes.
+fn have_frame(alloc: Global, rows: &[DigestRow], text: &str) -> Result<bool, Fail> {
+    has_frame(alloc, Digest::of(alloc, &[], &[], rows)?, text)
+}
+
+/// Whether the digest whose frame the text begins with tells of these rows, and of no opening.
+fn has_rows(alloc: Global, text: &str, rows: &[DigestRow]) -> Result<bool, Fail> {
+    let read = digest_of(alloc, text)?;
+    Ok(read.rows() == rows && read.openings().is_empty())
+}
+
 #[test]
 fn the_digest_of_a_load(rt: HostRuntime) -> Result<(), Fail> {
     let row = load_row(rt.alloc()).ok_or("a row")?;
-    let digest = Digest::of(rt.alloc(), &[], &[], &[row])?;
-    assert!(rt; has_frame(rt.alloc(), digest, LOAD_DIGEST)?);
-    let read = digest_of(rt.alloc(), LOAD_DIGEST)?;
-    assert!(rt; read.rows() == [row].as_slice() && read.openings().is_empty());
+    assert!(rt; have_frame(rt.alloc(), &[row], LOAD_DIGEST)?);
+    assert!(rt; has_rows(rt.alloc(), LOAD_DIGEST, &[row])?);
     Ok(())
 }
 
 #[test]
 fn a_digest_of_nothing(rt: HostRuntime) -> Result<(), Fail> {
-    let digest = Digest::of(rt.alloc(), &[], &[], &[])?;
-    assert!(rt; has_frame(rt.alloc(), digest, EMPTY_DIGEST)?);
+    assert!(rt; have_frame(rt.alloc(), &[], EMPTY_DIGEST)?);
     Ok(())
 }
 

@@ -11,24 +11,43 @@ use std::alloc::Global;
 use std::process::Abort;
 use std::test::Fail;
 
+/// The span of the key of the rank.
+fn span_at(rank: u64) -> Option<Span> {
+    Span::new(Bound::of_rank(rank)?, Bound::of_rank(rank + 1)?)
+}
+
+/// Inserts the span of the key of the rank.
+fn insert_key(spans: &mut SpanSet, rank: u64) -> Result<(), Fail> {
+    spans.insert(span_at(rank).ok_or("span")?)?;
+    Ok(())
+}
+
 /// So many spans of one key each.
 fn spans(alloc: Global, count: u32) -> Result<SpanSet, Fail> {
     let mut spans = SpanSet::empty(alloc);
     for index in 0..count {
-        let rank = 2 * u64::from(index);
-        let low = Bound::of_rank(rank).ok_or("low")?;
-        let high = Bound::of_rank(rank + 1).ok_or("high")?;
-        spans.insert(Span::new(low, high).ok_or("span")?)?;
+        insert_key(&mut spans, 2 * u64::from(index))?;
     }
     Ok(spans)
 }
 
+/// A cell of so many spans.
+fn cell_of_spans(alloc: Global, count: u32) -> Result<Cell, Fail> {
+    let cell = Cell::new(1, 0, 3, false, spans(alloc, count)?).ok_or("a cell")?;
+    Ok(cell)
+}
+
+/// Puts the cell of so many spans into the board.
+fn put_cell(alloc: Global, board: &mut Board, count: u32) -> Result<(), Fail> {
+    let cell = cell_of_spans(alloc, count)?;
+    board.put_cell(&cell)?;
+    Ok(())
+}
+
 /// A board of one cell of so many spans.
 fn board_of_spans(alloc: Global, count: u32) -> Result<Board, Fail> {
-    let spans = spans(alloc, count)?;
-    let cell = Cell::new(1, 0, 3, false, spans).ok_or("a cell")?;
     let mut board = Board::new(alloc);
-    board.put_cell(&cell)?;
+    put_cell(alloc, &mut board, count)?;
     Ok(board)
 }
 
@@ -57,13 +76,22 @@ fn the_longest_body_of_spans(rt: HostRuntime) -> Result<(), Fail> {
     look_at_longest(&rt, rt.alloc(), &board)
 }
 
+/// Whether a frame of the board would be too long.
+fn is_board_too_long(alloc: Global, board: &Board) -> bool {
+    encode_board(alloc, board).err() == Some(EncodeFault::TooLong)
+}
+
+/// Whether a frame of the delta of the board would be too long.
+fn is_delta_too_long(alloc: Global, board: Board) -> bool {
+    let delta = Message::Delta(board);
+    encode(alloc, &delta).err() == Some(EncodeFault::TooLong)
+}
+
 #[test]
 fn a_body_too_long(rt: HostRuntime) -> Result<(), Fail> {
     let board = board_of_spans(rt.alloc(), 65535)?;
-    let fault = encode_board(rt.alloc(), &board).err();
-    assert!(rt; fault == Some(EncodeFault::TooLong));
-    let fault = encode(rt.alloc(), &Message::Delta(board)).err();
-    assert!(rt; fault == Some(EncodeFault::TooLong));
+    assert!(rt; is_board_too_long(rt.alloc(), &board));
+    assert!(rt; is_delta_too_long(rt.alloc(), board));
     Ok(())
 }
 
@@ -75,11 +103,21 @@ fn is_heard(alloc: Global, board: &Board, bytes: &[u8], length: usize) -> Result
     Ok(heard.messages.len() == 1 && heard.fault.is_none() && tells(&heard.messages[0], board))
 }
 
+/// The board alone is heard in the bytes, cut into short pieces and into long ones.
+fn hear_board(rt: &impl Abort, alloc: Global, board: &Board, bytes: &[u8]) -> Result<(), Fail> {
+    assert!(rt; is_heard(alloc, board, bytes, 7)?);
+    assert!(rt; is_heard(alloc, board, bytes, 65536)?);
+    Ok(())
+}
+
+/// The board alone is heard in its frame.
+fn hear_frame(rt: &impl Abort, alloc: Global, board: &Board) -> Result<(), Fail> {
+    let bytes = encode_board(alloc, board)?;
+    hear_board(rt, alloc, board, &bytes)
+}
+
 #[test]
 fn the_longest_body_in_pieces(rt: HostRuntime) -> Result<(), Fail> {
     let board = board_of_spans(rt.alloc(), 65534)?;
-    let bytes = encode_board(rt.alloc(), &board)?;
-    assert!(rt; is_heard(rt.alloc(), &board, &bytes, 7)?);
-    assert!(rt; is_heard(rt.alloc(), &board, &bytes, 65536)?);
-    Ok(())
+    hear_frame(&rt, rt.alloc(), &board)
 }

@@ -43,17 +43,28 @@ fn tells_issued(alloc: Global, board: &Board) -> Result<bool, Fail> {
     Ok(issues.len() == 1 && has_bytes(alloc, issues[0].0, &issues[0].1, ISSUED)?)
 }
 
+/// Whether the board of the issue's frame has one issue, and its bytes are as above.
+fn frame_tells_issued(alloc: Global) -> Result<bool, Fail> {
+    let board = board_of(alloc, ISSUE)?;
+    tells_issued(alloc, &board)
+}
+
+/// Whether the bytes of a clash under the number are those that the text writes.
+fn clash_has_bytes(alloc: Global, number: u32, text: &str) -> Result<bool, Fail> {
+    let clash = Flat::Clash;
+    has_bytes(alloc, number, &clash, text)
+}
+
 #[test]
 fn the_bytes_of_an_issue(rt: HostRuntime) -> Result<(), Fail> {
-    let board = board_of(rt.alloc(), ISSUE)?;
-    assert!(rt; tells_issued(rt.alloc(), &board)?);
-    assert!(rt; has_bytes(rt.alloc(), 2, &Flat::Clash, "00000002 02")?);
+    assert!(rt; frame_tells_issued(rt.alloc())?);
+    assert!(rt; clash_has_bytes(rt.alloc(), 2, "00000002 02")?);
     Ok(())
 }
 
 #[test]
 fn counts_and_marks_with_faults(rt: HostRuntime) -> Result<(), Fail> {
-    for (text, fault) in [
+    let rows = [
         ("53510201 00000008 00000000 00000000", WireFault::Range),
         ("53510202 00000008 00000000 00000000", WireFault::Range),
         (
@@ -84,15 +95,13 @@ fn counts_and_marks_with_faults(rt: HostRuntime) -> Result<(), Fail> {
             "53510202 0000000c 00000000 00000001 00000001",
             WireFault::Count,
         ),
-    ] {
-        assert!(rt; fault_of(rt.alloc(), text)? == Some(fault), "{text}");
-    }
-    Ok(())
+    ];
+    have_faults(&rt, rt.alloc(), &rows)
 }
 
 #[test]
 fn plans_with_faults(rt: HostRuntime) -> Result<(), Fail> {
-    for (text, fault) in [
+    let rows = [
         (
             "53510201 00000011 00000000 00000001 00000001 01 00000000",
             WireFault::Range,
@@ -129,19 +138,22 @@ fn plans_with_faults(rt: HostRuntime) -> Result<(), Fail> {
             "53510201 0000001d 00000000 00000001 00000001 01 00000001 ffffffff00000000 0000270f",
             WireFault::Count,
         ),
-    ] {
-        assert!(rt; fault_of(rt.alloc(), text)? == Some(fault), "{text}");
-    }
-    Ok(())
+    ];
+    have_faults(&rt, rt.alloc(), &rows)
+}
+
+/// The board has a clash under number 2, and the load of the key at partition 5.
+fn look_at_clash(rt: &impl Abort, board: &Board, key: Key) {
+    assert!(rt; matches!(board.issuing(2), Flat::Clash));
+    assert!(rt; matches!(board.issuing(1), Flat::Unknown));
+    assert!(rt; board.says_loaded(2, 0, 5, key) && !board.says_done(2, 0, 5));
 }
 
 #[test]
 fn what_a_clash_says(rt: HostRuntime) -> Result<(), Fail> {
     let key = Key::read("2:0").ok_or("key")?;
     let board = board_of(rt.alloc(), CLASH)?;
-    assert!(rt; matches!(board.issuing(2), Flat::Clash));
-    assert!(rt; matches!(board.issuing(1), Flat::Unknown));
-    assert!(rt; board.says_loaded(2, 0, 5, key) && !board.says_done(2, 0, 5));
+    look_at_clash(&rt, &board, key);
     Ok(())
 }
 
@@ -165,24 +177,43 @@ fn leads(alloc: Global, issue: &Issue) -> Result<bool, Fail> {
     Ok(is_whole(alloc, issue.old(), "1")? && is_whole(alloc, issue.new_plan(), "2")?)
 }
 
+/// Whether the board issues under number 1 that partition 2 follows partition 1.
+fn issues_lead(alloc: Global, board: &Board) -> Result<bool, Fail> {
+    match board.issuing(1) {
+        Flat::One(issue) => leads(alloc, issue),
+        Flat::Unknown | Flat::Clash => Ok(false),
+    }
+}
+
+/// Whether the board of the issue's frame issues under number 1 that partition 2 follows partition 1.
+fn frame_leads(alloc: Global) -> Result<bool, Fail> {
+    let board = board_of(alloc, ISSUE)?;
+    issues_lead(alloc, &board)
+}
+
 #[test]
 fn what_an_issue_says(rt: HostRuntime) -> Result<(), Fail> {
-    let board = board_of(rt.alloc(), ISSUE)?;
-    let is_issued = match board.issuing(1) {
-        Flat::One(issue) => leads(rt.alloc(), issue)?,
-        Flat::Unknown | Flat::Clash => false,
-    };
-    assert!(rt; is_issued);
+    assert!(rt; frame_leads(rt.alloc())?);
+    Ok(())
+}
+
+/// Puts the issues into the board.
+fn put_all(
+    rt: &impl Abort,
+    issues: &[(u32, Flat<Arc<Issue>>)],
+    again: &mut Board,
+) -> Result<(), AllocError> {
+    for (number, issue) in issues {
+        assert!(rt; *number >= 1);
+        again.put_issue(*number, issue)?;
+    }
     Ok(())
 }
 
 /// Puts the issues of the board into the other.
 fn put_issues(rt: &impl Abort, board: &Board, again: &mut Board) -> Result<(), AllocError> {
-    for (number, issue) in board.issues()? {
-        assert!(rt; number >= 1);
-        again.put_issue(number, &issue)?;
-    }
-    Ok(())
+    let issues = board.issues()?;
+    put_all(rt, &issues, again)
 }
 
 /// Whether an empty board is the board once it has its issues.
@@ -192,10 +223,15 @@ fn is_of_its_issues(rt: &impl Abort, alloc: Global, board: &Board) -> Result<boo
     Ok(again == *board)
 }
 
+/// Whether the board of the issue's frame is that of its issues.
+fn frame_is_of_its_issues(rt: &impl Abort, alloc: Global) -> Result<bool, Fail> {
+    let board = board_of(alloc, ISSUE)?;
+    Ok(is_of_its_issues(rt, alloc, &board)?)
+}
+
 #[test]
 fn issues_put_again(rt: HostRuntime) -> Result<(), Fail> {
-    let board = board_of(rt.alloc(), ISSUE)?;
-    assert!(rt; is_of_its_issues(&rt, rt.alloc(), &board)?);
+    assert!(rt; frame_is_of_its_issues(&rt, rt.alloc())?);
     Ok(())
 }
 
@@ -205,11 +241,17 @@ fn are_row_of_1(alloc: Global, rows: &[IssueRow]) -> Result<bool, AllocError> {
     Ok(rows.len() == 1 && rows[0].number == 1 && are_of(alloc, rows[0].hash.as_slice(), hash)?)
 }
 
+/// The digest tells of the issue of number 1, and of nothing else.
+fn look_at_row(rt: &impl Abort, alloc: Global, digest: &Digest) -> Result<(), AllocError> {
+    assert!(rt; digest.openings().is_empty() && digest.rows().is_empty());
+    assert!(rt; are_row_of_1(alloc, digest.issue_rows())?);
+    Ok(())
+}
+
 #[test]
 fn what_a_row_of_an_issue_says(rt: HostRuntime) -> Result<(), Fail> {
     let digest = digest_of(rt.alloc(), ISSUE_ROW)?;
-    assert!(rt; digest.openings().is_empty() && digest.rows().is_empty());
-    assert!(rt; are_row_of_1(rt.alloc(), digest.issue_rows())?);
+    look_at_row(&rt, rt.alloc(), &digest)?;
     Ok(())
 }
 

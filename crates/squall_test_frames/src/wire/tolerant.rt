@@ -1,6 +1,7 @@
 //! Where an allocation fails nothing has changed.
 
 use super::digests::{load_cell, load_row};
+use super::feeds::has_failed;
 use super::*;
 use squall_board::{Board, Cell};
 use std::alloc::Global;
@@ -120,15 +121,19 @@ fn hears(rt: &impl Abort, feed: &mut Feed, piece: &[u8], count: usize) -> bool {
     }
 }
 
+/// Pushes the frame of the load in two pieces.
+fn push_in_two(rt: &impl Abort, alloc: Global, stream: &[u8]) {
+    assert!(rt; stream.len() == 49);
+    let mut feed = Feed::new(alloc);
+    if hears(rt, &mut feed, &stream[..10], 0) {
+        let _is_heard = hears(rt, &mut feed, &stream[10..], 1);
+    }
+}
+
 #[test]
 fn tolerant_push(rt: HostRuntime) -> Result<(), Fail> {
-    let Ok(stream) = hex(rt.alloc(), LOAD) else {
-        return Ok(());
-    };
-    assert!(rt; stream.len() == 49);
-    let mut feed = Feed::new(rt.alloc());
-    if hears(&rt, &mut feed, &stream[..10], 0) {
-        let _is_heard = hears(&rt, &mut feed, &stream[10..], 1);
+    if let Ok(stream) = hex(rt.alloc(), LOAD) {
+        push_in_two(&rt, rt.alloc(), &stream);
     }
     Ok(())
 }
@@ -137,19 +142,23 @@ fn tolerant_push(rt: HostRuntime) -> Result<(), Fail> {
 fn push_fault(rt: &impl Abort, feed: &mut Feed) {
     if let Some(heard) = pushed(feed, &[0x54]) {
         assert!(rt; heard.fault == Some(WireFault::Magic));
-        assert!(rt; feed.push(&[]).err() == Some(FeedFault::Failed));
+        assert!(rt; has_failed(feed, &[]));
+    }
+}
+
+/// Pushes the frame of the load, and then a byte with which no frame begins.
+fn push_and_fault(rt: &impl Abort, alloc: Global, stream: &[u8]) {
+    assert!(rt; stream.len() == 49);
+    let mut feed = Feed::new(alloc);
+    if hears(rt, &mut feed, stream, 1) {
+        push_fault(rt, &mut feed);
     }
 }
 
 #[test]
 fn tolerant_push_of_a_fault(rt: HostRuntime) -> Result<(), Fail> {
-    let Ok(stream) = hex(rt.alloc(), LOAD) else {
-        return Ok(());
-    };
-    assert!(rt; stream.len() == 49);
-    let mut feed = Feed::new(rt.alloc());
-    if hears(&rt, &mut feed, &stream, 1) {
-        push_fault(&rt, &mut feed);
+    if let Ok(stream) = hex(rt.alloc(), LOAD) {
+        push_and_fault(&rt, rt.alloc(), &stream);
     }
     Ok(())
 }
