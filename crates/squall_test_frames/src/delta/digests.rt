@@ -164,16 +164,18 @@ fn repair_by(alloc: Global, first: &Board, second: &Board) -> Result<Board, Allo
     repair(alloc, second, &shown)
 }
 
-/// The repair of the board by the digest of that of the load.
-fn repair_by_load(alloc: Global, second: &Board) -> Result<Board, Fail> {
-    let first = loaded(alloc).ok_or("a board")?;
-    Ok(repair_by(alloc, &first, second)?)
+/// The repair of the second board, where both were made, by the digest of the first.
+fn repair_of(alloc: Global, first: Option<&Board>, second: Option<&Board>) -> Result<Board, Fail> {
+    let first = first.ok_or("a board")?;
+    let second = second.ok_or("a second board")?;
+    Ok(repair_by(alloc, first, second)?)
 }
 
 /// The repair of the board of the load and the completion by the digest of that of the load.
 fn repair_of_completed(alloc: Global) -> Result<Board, Fail> {
-    let second = completed(alloc).ok_or("a second board")?;
-    repair_by_load(alloc, &second)
+    let first = loaded(alloc);
+    let second = completed(alloc);
+    repair_of(alloc, first.as_ref(), second.as_ref())
 }
 
 /// Whether the frame of the board is the one that the text writes.
@@ -249,19 +251,14 @@ fn a_repair_of_what_is_shown_is_empty(rt: HostRuntime) -> Result<(), Fail> {
     Ok(())
 }
 
-/// The repair of the board by the digest of three counts of openings.
-fn repair_by_openings(alloc: Global, second: &Board) -> Result<Board, Fail> {
-    let first = opened(alloc, &[(1, 0), (2, 1), (3, 2)]).ok_or("a board")?;
-    Ok(repair_by(alloc, &first, second)?)
-}
-
 /// A repair of openings: of a greater count, an equal one, a lower one, and one that is lacking.
 fn repair_of_openings(alloc: Global) -> Result<Board, Fail> {
-    let second = opened(alloc, &[(1, 1), (2, 1), (3, 0), (4, 6)]).ok_or("a second board")?;
-    repair_by_openings(alloc, &second)
+    let first = opened(alloc, &[(1, 0), (2, 1), (3, 2)]);
+    let second = opened(alloc, &[(1, 1), (2, 1), (3, 0), (4, 6)]);
+    repair_of(alloc, first.as_ref(), second.as_ref())
 }
 
-/// The delta has the greater count of openings under each number, and no count where the other has as many.
+/// The delta has the count of openings under each number that is greater, and no other count.
 fn has_greater_openings(rt: &impl Abort, delta: &Board) {
     for (number, count) in [(1, 2), (2, 0), (3, 0), (4, 7)] {
         assert!(rt; delta.opened(number) == count);
@@ -280,16 +277,11 @@ fn two_issues(alloc: Global) -> Option<Board> {
     issuing(alloc, &[(2, 1), (3, 1)])
 }
 
-/// The repair of the board by the digest of two issues.
-fn repair_by_issues(alloc: Global, second: &Board) -> Result<Board, Fail> {
-    let first = two_issues(alloc).ok_or("a board")?;
-    Ok(repair_by(alloc, &first, second)?)
-}
-
 /// A repair of issues: one that is lacking, an equal one, and another.
 fn repair_of_issues(alloc: Global) -> Result<Board, Fail> {
-    let second = issuing(alloc, &[(1, 1), (2, 1), (3, 2)]).ok_or("a second board")?;
-    repair_by_issues(alloc, &second)
+    let first = two_issues(alloc);
+    let second = issuing(alloc, &[(1, 1), (2, 1), (3, 2)]);
+    repair_of(alloc, first.as_ref(), second.as_ref())
 }
 
 /// Whether the board has one issue under number 1 and one under number 3, and none under number 2.
