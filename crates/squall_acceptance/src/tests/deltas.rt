@@ -9,7 +9,7 @@ use squall_delta::{beyond, digest, pieces, repair};
 use squall_join::Flat;
 use squall_key::Key;
 use squall_report::{Issue, Report};
-use std::alloc::Global;
+use std::alloc::{AllocError, Global};
 use std::process::Abort;
 use std::sync::Arc;
 use std::test::Fail;
@@ -23,6 +23,21 @@ fn opened_by(list: &[Report], number: u32) -> u32 {
         }
     }
     count
+}
+
+/// The board says of a key at a place what the list says and the other does not.
+fn says_key_without(
+    rt: &impl Abort,
+    board: &Board,
+    place: (u32, u32, u32),
+    key: Key,
+    list: &[Report],
+    other: &[Report],
+) {
+    let (number, sub, part) = place;
+    let loaded = plain::says_loaded(list, number, sub, part, key);
+    let also = plain::says_loaded(other, number, sub, part, key);
+    assert!(rt; board.says_loaded(number, sub, part, key) == (loaded && !also));
 }
 
 /// The board says of a place what the list says and the other does not.
@@ -39,11 +54,16 @@ fn says_without(
     assert!(rt; board.says_done(number, sub, part) == (done && !also));
     for rank in 0..31u64 {
         if let Some(key) = Key::of_rank(rank) {
-            let loaded = plain::says_loaded(list, number, sub, part, key);
-            let also = plain::says_loaded(other, number, sub, part, key);
-            assert!(rt; board.says_loaded(number, sub, part, key) == (loaded && !also));
+            says_key_without(rt, board, place, key, list, other);
         }
     }
+}
+
+/// Whether both lists say the same of a key at a place.
+fn same_key(a: &[Report], b: &[Report], place: (u32, u32, u32), key: Key) -> bool {
+    let (number, sub, part) = place;
+    let first = plain::says_loaded(a, number, sub, part, key);
+    first == plain::says_loaded(b, number, sub, part, key)
 }
 
 /// Whether both lists say the same of a place.
@@ -51,8 +71,7 @@ fn same_at(a: &[Report], b: &[Report], number: u32, sub: u32, part: u32) -> bool
     let mut same = plain::says_done(a, number, sub, part) == plain::says_done(b, number, sub, part);
     for rank in 0..31u64 {
         if let Some(key) = Key::of_rank(rank) {
-            let first = plain::says_loaded(a, number, sub, part, key);
-            same = same && first == plain::says_loaded(b, number, sub, part, key);
+            same = same && same_key(a, b, (number, sub, part), key);
         }
     }
     same
@@ -133,66 +152,156 @@ fn join_of(alloc: Global, a: &Board, b: &Board) -> Result<Board, Fail> {
     Ok(both)
 }
 
+/// Whether the board is the join of two.
+fn is_join(alloc: Global, board: &Board, a: &Board, b: &Board) -> Result<bool, Fail> {
+    let both = join_of(alloc, a, b)?;
+    Ok(*board == both)
+}
+
 /// Whether a board, with another joined in, is the join of two.
 fn completes(alloc: Global, part: &Board, whole: &Board, other: &Board) -> Result<bool, Fail> {
     let joined = join_of(alloc, part, whole)?;
-    let both = join_of(alloc, whole, other)?;
-    Ok(joined == both)
+    is_join(alloc, &joined, whole, other)
 }
 
-/// What the board of the list a tells beyond that of the list b.
-fn try_beyond(rt: &impl Abort, alloc: Global, a: &[Report], b: &[Report]) -> Result<(), Fail> {
-    let first = one_by_one(alloc, a)?;
-    let second = one_by_one(alloc, b)?;
-    let rest = beyond(alloc, &first, &second)?;
-    tells_beyond(rt, &rest, a, b);
-    assert!(rt; completes(alloc, &rest, &second, &first)?);
+/// A list of reports, and the board that took them one by one.
+#[derive(Clone, Copy)]
+struct Taken<'a> {
+    list: &'a [Report],
+    board: &'a Board,
+}
+
+/// The board is what that of a tells beyond that of b.
+fn is_beyond(
+    rt: &impl Abort,
+    alloc: Global,
+    rest: &Board,
+    a: Taken<'_>,
+    b: Taken<'_>,
+) -> Result<(), Fail> {
+    tells_beyond(rt, rest, a.list, b.list);
+    assert!(rt; completes(alloc, rest, b.board, a.board)?);
     Ok(())
 }
 
-/// The repair of the board of the list b by the digest of that of the list a.
-fn try_repair(rt: &impl Abort, alloc: Global, a: &[Report], b: &[Report]) -> Result<(), Fail> {
-    let first = one_by_one(alloc, a)?;
-    let second = one_by_one(alloc, b)?;
-    let shown = digest(alloc, &first)?;
-    let rest = repair(alloc, &second, &shown)?;
-    repairs(rt, &rest, a, b);
-    assert!(rt; completes(alloc, &rest, &first, &second)?);
+/// What the board of a tells beyond that of b.
+fn try_beyond(rt: &impl Abort, alloc: Global, a: Taken<'_>, b: Taken<'_>) -> Result<(), Fail> {
+    let rest = beyond(alloc, a.board, b.board)?;
+    is_beyond(rt, alloc, &rest, a, b)
+}
+
+/// The board is the repair of that of b by the digest of that of a.
+fn is_repair(
+    rt: &impl Abort,
+    alloc: Global,
+    rest: &Board,
+    a: Taken<'_>,
+    b: Taken<'_>,
+) -> Result<(), Fail> {
+    repairs(rt, rest, a.list, b.list);
+    assert!(rt; completes(alloc, rest, a.board, b.board)?);
     Ok(())
 }
 
-/// The pieces of a board make it again.
-fn try_pieces(rt: &impl Abort, alloc: Global, list: &[Report]) -> Result<(), Fail> {
-    let board = one_by_one(alloc, list)?;
-    let cut = pieces(alloc, &board)?;
-    let mut joined = Board::new(alloc);
-    for piece in &cut {
-        joined.merge(piece)?;
+/// The repair of the second board by the digest of the first.
+fn repaired(alloc: Global, first: &Board, second: &Board) -> Result<Board, AllocError> {
+    let shown = digest(alloc, first)?;
+    repair(alloc, second, &shown)
+}
+
+/// The repair of the board of b by the digest of that of a.
+fn try_repair(rt: &impl Abort, alloc: Global, a: Taken<'_>, b: Taken<'_>) -> Result<(), Fail> {
+    let rest = repaired(alloc, a.board, b.board)?;
+    is_repair(rt, alloc, &rest, a, b)
+}
+
+/// The board takes in all pieces.
+fn merge_all(board: &mut Board, pieces: &[Board]) -> Result<(), AllocError> {
+    for piece in pieces {
+        board.merge(piece)?;
     }
-    assert!(rt; joined == board);
     Ok(())
+}
+
+/// Whether the pieces, joined, are the board.
+fn make_again(alloc: Global, pieces: &[Board], board: &Board) -> Result<bool, AllocError> {
+    let mut joined = Board::new(alloc);
+    merge_all(&mut joined, pieces)?;
+    Ok(joined == *board)
+}
+
+/// Whether the pieces of a board make it again.
+fn comes_back(alloc: Global, board: &Board) -> Result<bool, AllocError> {
+    let cut = pieces(alloc, board)?;
+    make_again(alloc, &cut, board)
 }
 
 /// Two boards, and what each sends the other.
-fn try_pair(rt: &impl Abort, alloc: Global, a: &[Report], b: &[Report]) -> Result<(), Fail> {
+fn try_boards(rt: &impl Abort, alloc: Global, a: Taken<'_>, b: Taken<'_>) -> Result<(), Fail> {
     try_beyond(rt, alloc, a, b)?;
     try_repair(rt, alloc, a, b)?;
-    try_pieces(rt, alloc, a)
+    assert!(rt; comes_back(alloc, a.board)?);
+    Ok(())
+}
+
+/// The board of a, beside that of the list b.
+fn try_beside(rt: &impl Abort, alloc: Global, a: Taken<'_>, b: &[Report]) -> Result<(), Fail> {
+    let board = one_by_one(alloc, b)?;
+    let second = Taken {
+        list: b,
+        board: &board,
+    };
+    try_boards(rt, alloc, a, second)
+}
+
+/// The boards of two lists.
+fn try_pair(rt: &impl Abort, alloc: Global, a: &[Report], b: &[Report]) -> Result<(), Fail> {
+    let board = one_by_one(alloc, a)?;
+    let first = Taken {
+        list: a,
+        board: &board,
+    };
+    try_beside(rt, alloc, first, b)
+}
+
+/// Boards of the whole list, of its first reports, and of the rest.
+fn try_list(rt: &impl Abort, alloc: Global, list: &[Report], common: usize) -> Result<(), Fail> {
+    let (a, rest) = list.split_at(common.min(list.len()));
+    try_pair(rt, alloc, a, list)?;
+    try_pair(rt, alloc, list, rest)?;
+    try_pair(rt, alloc, a, rest)
+}
+
+/// The same for a random list.
+fn try_random(
+    rt: &impl Abort,
+    alloc: Global,
+    random: &mut Random,
+    issues: &[Arc<Issue>; 2],
+) -> Result<(), Fail> {
+    let count = (random.below(24)) as usize;
+    let list = reports(alloc, random, issues, count)?;
+    let common = (random.below(24)) as usize;
+    try_list(rt, alloc, &list, common)
+}
+
+/// The same for so many random lists.
+fn try_lists(
+    rt: &impl Abort,
+    alloc: Global,
+    random: &mut Random,
+    issues: &[Arc<Issue>; 2],
+    count: u32,
+) -> Result<(), Fail> {
+    for _ in 0..count {
+        try_random(rt, alloc, random, issues)?;
+    }
+    Ok(())
 }
 
 #[test]
 fn boards_that_send_each_other_what_they_lack(rt: HostRuntime) -> Result<(), Fail> {
     let alloc = rt.alloc();
     let issues = two_issues(alloc)?;
-    let mut random = Random::new(20221123);
-    for _ in 0..200u32 {
-        let count = (random.below(24)) as usize;
-        let list = reports(alloc, &mut random, &issues, count)?;
-        let common = (random.below(24)) as usize;
-        let (a, rest) = list.split_at(common.min(list.len()));
-        try_pair(&rt, alloc, a, &list)?;
-        try_pair(&rt, alloc, &list, rest)?;
-        try_pair(&rt, alloc, a, rest)?;
-    }
-    Ok(())
+    try_lists(&rt, alloc, &mut Random::new(20221123), &issues, 200)
 }

@@ -20,12 +20,23 @@ fn sent(alloc: Global, board: &Board) -> Result<Option<Board>, Fail>
     }
 }
 
+/// The board takes a load.
+fn take_load(board: &mut Board) -> Result<(), Fail> {
+    let report = load("2:0", "3:0").ok_or("load")?;
+    Ok(board.take(&report)?)
+}
+
+/// Whether the board's frame brings it.
+fn comes_back(alloc: Global, board: &Board) -> Result<bool, Fail> {
+    let other = sent(alloc, board)?.ok_or("a board")?;
+    Ok(other == *board)
+}
+
 /// A board that a frame brought is equal to the one that was sent, and routes as it does.
 #[test]
 fn a_board_sent(rt: HostRuntime) -> Result<(), Fail> {
     let mut board = Board::new(rt.alloc());
-    board.take(&load("2:0", "3:0").ok_or("load")?)?;
-    let other = sent(rt.alloc(), &board)?.ok_or("a board")?;
-    assert!(rt; other == board);
+    take_load(&mut board)?;
+    assert!(rt; comes_back(rt.alloc(), &board)?);
     Ok(())
 }

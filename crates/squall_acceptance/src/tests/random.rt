@@ -6,6 +6,7 @@ use crate::tests::{NEW, OLD, plain, plan};
 use squall_board::Board;
 use squall_join::Flat;
 use squall_key::{Bound, Key};
+use squall_plan::Plan;
 use squall_report::{Issue, Report};
 use squall_span::Span;
 use std::alloc::{AllocError, Global};
@@ -52,6 +53,11 @@ fn span(random: &mut Random) -> Option<Span> {
     Span::new(Bound::of_rank(lo)?, Bound::of_rank(hi)?)
 }
 
+/// A report that issues the plans under the number.
+pub(crate) fn issued(number: u32, issue: &Arc<Issue>) -> Option<Report> {
+    Report::issued(number, Arc::try_clone(issue).ok()?)
+}
+
 /// A report of number 1 to 3, of a few sub-plans and partitions.
 fn report(random: &mut Random, issues: &[Arc<Issue>; 2]) -> Option<Report> {
     let number = 1 + random.small(3);
@@ -60,10 +66,22 @@ fn report(random: &mut Random, issues: &[Arc<Issue>; 2]) -> Option<Report> {
     match random.below(8) {
         0 => Report::done(number, sub, part),
         1 => Report::opened(number, sub),
-        2 => Report::issued(number, Arc::try_clone(&issues[0]).ok()?),
-        3 => Report::issued(number, Arc::try_clone(&issues[1]).ok()?),
+        2 => issued(number, &issues[0]),
+        3 => issued(number, &issues[1]),
         _ => Report::loaded(number, sub, part, span(random)?),
     }
+}
+
+/// Adds a report to the list.
+fn push_report(
+    list: &mut Vec<Report>,
+    random: &mut Random,
+    issues: &[Arc<Issue>; 2],
+) -> Result<(), AllocError> {
+    if let Some(drawn) = report(random, issues) {
+        list.push(drawn)?;
+    }
+    Ok(())
 }
 
 /// A list of reports.
@@ -75,9 +93,7 @@ pub(crate) fn reports(
 ) -> Result<Vec<Report>, AllocError> {
     let mut list = Vec::new(alloc);
     for _ in 0..count {
-        if let Some(drawn) = report(random, issues) {
-            list.push(drawn)?;
-        }
+        push_report(&mut list, random, issues)?;
     }
     Ok(list)
 }
@@ -101,17 +117,33 @@ pub(crate) fn one_by_one(alloc: Global, list: &[Report]) -> Result<Board, AllocE
     Ok(board)
 }
 
-/// The board that took the first reports of the list at once, merged the board of the rest, and took
-/// every report again that stands at an even place.
-fn in_groups(alloc: Global, list: &[Report], first: usize) -> Result<Board, AllocError> {
+/// The board merges that of the list.
+fn merge_list(alloc: Global, board: &mut Board, list: &[Report]) -> Result<(), AllocError> {
+    let other = one_by_one(alloc, list)?;
+    board.merge(&other)
+}
+
+/// The board takes the first reports of the list at once, merges the board of the rest, and takes every
+/// report again that stands at an even place.
+fn take_groups(
+    alloc: Global,
+    board: &mut Board,
+    list: &[Report],
+    first: usize,
+) -> Result<(), AllocError> {
     let (begin, rest) = list.split_at(first.min(list.len()));
-    let mut board = Board::new(alloc);
     board.take_all(begin)?;
-    let other = one_by_one(alloc, rest)?;
-    board.merge(&other)?;
+    merge_list(alloc, board, rest)?;
     for report in list.iter().step_by(2) {
         board.take(report)?;
     }
+    Ok(())
+}
+
+/// The board that took the list in groups.
+fn in_groups(alloc: Global, list: &[Report], first: usize) -> Result<Board, AllocError> {
+    let mut board = Board::new(alloc);
+    take_groups(alloc, &mut board, list, first)?;
     Ok(board)
 }
 
@@ -160,7 +192,50 @@ fn tells_the_list(rt: &impl Abort, board: &Board, list: &[Report]) {
     }
 }
 
+/// Whether the boards are equal and the first covers the other.
+fn is_covered(board: &Board, other: &Board) -> bool {
+    board == other && board.covers(other)
+}
+
+/// Whether the board is that of the list in groups.
+fn is_in_groups(
+    alloc: Global,
+    list: &[Report],
+    first: usize,
+    board: &Board,
+) -> Result<bool, AllocError> {
+    let other = in_groups(alloc, list, first)?;
+    Ok(is_covered(board, &other))
+}
+
+/// The board tells what the list tells, and is that of the list in another order and in groups.
+fn try_board(
+    rt: &impl Abort,
+    alloc: Global,
+    random: &mut Random,
+    list: &mut [Report],
+    board: &Board,
+    first: usize,
+) -> Result<(), AllocError> {
+    tells_the_list(rt, board, list);
+    shuffle(random, list);
+    assert!(rt; is_in_groups(alloc, list, first, board)?);
+    Ok(())
+}
+
 /// One list in two orders and groupings.
+fn try_orders(
+    rt: &impl Abort,
+    alloc: Global,
+    random: &mut Random,
+    list: &mut [Report],
+    first: usize,
+) -> Result<(), AllocError> {
+    let board = one_by_one(alloc, list)?;
+    try_board(rt, alloc, random, list, &board, first)
+}
+
+/// A random list in two orders and groupings.
 fn try_list(
     rt: &impl Abort,
     alloc: Global,
@@ -169,31 +244,44 @@ fn try_list(
 ) -> Result<(), AllocError> {
     let count = (random.below(24)) as usize;
     let mut list = reports(alloc, random, issues, count)?;
-    let board = one_by_one(alloc, &list)?;
-    tells_the_list(rt, &board, &list);
-    shuffle(random, &mut list);
-    let other = in_groups(alloc, &list, count / 2)?;
-    assert!(rt; board == other && board.covers(&other));
+    try_orders(rt, alloc, random, &mut list, count / 2)
+}
+
+/// So many random lists.
+fn try_lists(
+    rt: &impl Abort,
+    alloc: Global,
+    random: &mut Random,
+    issues: &[Arc<Issue>; 2],
+    count: u32,
+) -> Result<(), AllocError> {
+    for _ in 0..count {
+        try_list(rt, alloc, random, issues)?;
+    }
     Ok(())
+}
+
+/// From one plan to the other, and back.
+fn there_and_back(alloc: Global, old: &Plan, new: &Plan) -> Result<[Arc<Issue>; 2], AllocError> {
+    Ok([Issue::new(alloc, old, new)?, Issue::new(alloc, new, old)?])
+}
+
+/// From the plan to the new one of the example, and back.
+fn issues_from(alloc: Global, old: &Plan) -> Result<[Arc<Issue>; 2], Fail> {
+    let new = plan(alloc, NEW)?;
+    Ok(there_and_back(alloc, old, &new)?)
 }
 
 /// Both issues: of the example plans, and back.
 pub(crate) fn two_issues(alloc: Global) -> Result<[Arc<Issue>; 2], Fail> {
     let old = plan(alloc, OLD)?;
-    let new = plan(alloc, NEW)?;
-    Ok([
-        Issue::new(alloc, &old, &new)?,
-        Issue::new(alloc, &new, &old)?,
-    ])
+    issues_from(alloc, &old)
 }
 
 #[test]
 fn any_order_grouping_and_repetition(rt: HostRuntime) -> Result<(), Fail> {
     let alloc = rt.alloc();
     let issues = two_issues(alloc)?;
-    let mut random = Random::new(20221122);
-    for _ in 0..200u32 {
-        try_list(&rt, alloc, &mut random, &issues)?;
-    }
+    try_lists(&rt, alloc, &mut Random::new(20221122), &issues, 200)?;
     Ok(())
 }

@@ -3,7 +3,7 @@
 //! sends it.
 
 use crate::tests::plain;
-use crate::tests::random::Random;
+use crate::tests::random::{Random, issued};
 use squall_course::Course;
 use squall_delta::delta_of;
 use squall_join::Flat;
@@ -35,20 +35,30 @@ fn push_range(
     Ok(())
 }
 
-/// A plan of up to five ranges of three partitions.
-fn random_plan(alloc: Global, random: &mut Random) -> Result<Plan, Fail> {
-    let mut ranges = Vec::new(alloc);
+/// Adds up to five ranges of three partitions.
+fn push_ranges(ranges: &mut Vec<PlanRange>, random: &mut Random) -> Result<(), AllocError> {
     let mut lo = 0u64;
     for _ in 0..4u32 {
         let hi = lo.saturating_add(1 + random.below(9));
         if let Some(bound) = Bound::of_rank(hi) {
-            push_range(&mut ranges, random, lo, bound)?;
+            push_range(ranges, random, lo, bound)?;
             lo = hi;
         }
     }
-    push_range(&mut ranges, random, lo, Bound::TOP)?;
-    let plan = Plan::from_ranges(alloc, &ranges).ok().ok_or("plan")?;
+    push_range(ranges, random, lo, Bound::TOP)
+}
+
+/// The plan of the ranges.
+fn plan_of(alloc: Global, ranges: &[PlanRange]) -> Result<Plan, Fail> {
+    let plan = Plan::from_ranges(alloc, ranges).ok().ok_or("plan")?;
     Ok(plan)
+}
+
+/// A plan of up to five ranges of three partitions.
+fn random_plan(alloc: Global, random: &mut Random) -> Result<Plan, Fail> {
+    let mut ranges = Vec::new(alloc);
+    push_ranges(&mut ranges, random)?;
+    plan_of(alloc, &ranges)
 }
 
 /// The owner of a key, by a look at each range.
@@ -142,6 +152,11 @@ fn random_span(random: &mut Random) -> Option<Span> {
     Span::new(Bound::of_rank(lo)?, Bound::of_rank(hi)?)
 }
 
+/// A report that a random span is loaded.
+fn loaded(random: &mut Random, number: u32, sub: u32, part: u32) -> Option<Report> {
+    Report::loaded(number, sub, part, random_span(random)?)
+}
+
 /// A report of number 1 to 9; most are loads, and most issues are of one pair of plans a number.
 fn random_report(random: &mut Random, issues: &[Arc<Issue>; 3]) -> Option<Report> {
     let number = 1 + random.small(9);
@@ -150,49 +165,144 @@ fn random_report(random: &mut Random, issues: &[Arc<Issue>; 3]) -> Option<Report
     match random.below(16) {
         0 | 1 => Report::done(number, sub, part),
         2 => Report::opened(number, sub),
-        3 => Report::issued(number, Arc::try_clone(&issues[0]).ok()?),
-        4 => Report::issued(number, Arc::try_clone(&issues[1]).ok()?),
-        5 => Report::issued(number, Arc::try_clone(&issues[2]).ok()?),
-        6..=9 => Report::loaded(number, sub, part, random_span(random)?),
-        _ => Report::loaded(1, sub, part, random_span(random)?),
+        3 => issued(number, &issues[0]),
+        4 => issued(number, &issues[1]),
+        5 => issued(number, &issues[2]),
+        6..=9 => loaded(random, number, sub, part),
+        _ => loaded(random, 1, sub, part),
     }
+}
+
+/// The pairs that lead from each of three plans to the next.
+fn issues_around(alloc: Global, a: &Plan, b: &Plan, c: &Plan) -> Result<[Arc<Issue>; 3], Fail> {
+    Ok([
+        Issue::new(alloc, a, b)?,
+        Issue::new(alloc, b, c)?,
+        Issue::new(alloc, c, a)?,
+    ])
+}
+
+/// The same with a random third plan.
+fn issues_of_two(
+    alloc: Global,
+    random: &mut Random,
+    a: &Plan,
+    b: &Plan,
+) -> Result<[Arc<Issue>; 3], Fail> {
+    let c = random_plan(alloc, random)?;
+    issues_around(alloc, a, b, &c)
+}
+
+/// The same with a random second plan too.
+fn issues_of_one(alloc: Global, random: &mut Random, a: &Plan) -> Result<[Arc<Issue>; 3], Fail> {
+    let b = random_plan(alloc, random)?;
+    issues_of_two(alloc, random, a, &b)
 }
 
 /// Three pairs of random plans.
 fn random_issues(alloc: Global, random: &mut Random) -> Result<[Arc<Issue>; 3], Fail> {
     let a = random_plan(alloc, random)?;
-    let b = random_plan(alloc, random)?;
-    let c = random_plan(alloc, random)?;
-    Ok([
-        Issue::new(alloc, &a, &b)?,
-        Issue::new(alloc, &b, &c)?,
-        Issue::new(alloc, &c, &a)?,
-    ])
+    issues_of_one(alloc, random, &a)
+}
+
+/// The first course between two plans.
+fn first_course(alloc: Global, old: &Plan, new: &Plan) -> Result<Arc<Course>, Fail> {
+    let course = Course::new(alloc, 1, old, new).ok().ok_or("course")?;
+    Ok(Arc::new(alloc, course)?)
+}
+
+/// The first course from the plan to a random one.
+fn course_from(alloc: Global, random: &mut Random, old: &Plan) -> Result<Arc<Course>, Fail> {
+    let new = random_plan(alloc, random)?;
+    first_course(alloc, old, &new)
+}
+
+/// A random first course.
+fn random_course(alloc: Global, random: &mut Random) -> Result<Arc<Course>, Fail> {
+    let old = random_plan(alloc, random)?;
+    course_from(alloc, random, &old)
 }
 
 /// A router of a random first course.
 fn random_router(alloc: Global, random: &mut Random) -> Result<Router, Fail> {
-    let old = random_plan(alloc, random)?;
-    let new = random_plan(alloc, random)?;
-    let course = Course::new(alloc, 1, &old, &new).ok().ok_or("course")?;
-    let router = Router::new(alloc, &Arc::new(alloc, course)?)?;
-    Ok(router)
+    let first = random_course(alloc, random)?;
+    Ok(Router::new(alloc, &first)?)
 }
 
-/// A router hears so many random reports, each in a delta of its own.
-fn try_router(rt: &impl Abort, alloc: Global, random: &mut Random, count: u32) -> Result<(), Fail> {
-    let issues = random_issues(alloc, random)?;
-    let mut router = random_router(alloc, random)?;
-    let mut list = Vec::new(alloc);
-    for _ in 0..count {
-        if let Some(report) = random_report(random, &issues) {
-            router.absorb(&delta_of(alloc, &report)?)?;
+/// The router absorbs the report's delta.
+fn absorb(alloc: Global, router: &mut Router, report: &Report) -> Result<(), Fail> {
+    let delta = delta_of(alloc, report)?;
+    Ok(router.absorb(&delta)?)
+}
+
+/// The list takes a random report. Whether there was one.
+fn push_random(
+    random: &mut Random,
+    issues: &[Arc<Issue>; 3],
+    list: &mut Vec<Report>,
+) -> Result<bool, AllocError> {
+    match random_report(random, issues) {
+        Some(report) => {
             list.push(report)?;
-            table_as_built(rt, alloc, &router)?;
-            routes_as_the_list(rt, &router, &list);
+            Ok(true)
+        }
+        None => Ok(false),
+    }
+}
+
+/// The list takes a random report, and the router absorbs its delta. Whether there was one.
+fn take_random(
+    alloc: Global,
+    random: &mut Random,
+    issues: &[Arc<Issue>; 3],
+    router: &mut Router,
+    list: &mut Vec<Report>,
+) -> Result<bool, Fail> {
+    if !push_random(random, issues, list)? {
+        return Ok(false);
+    }
+    if let Some(report) = list.last() {
+        absorb(alloc, router, report)?;
+    }
+    Ok(true)
+}
+
+/// The router hears so many random reports, each in a delta of its own, and the list takes them.
+fn try_reports(
+    rt: &impl Abort,
+    alloc: Global,
+    random: &mut Random,
+    issues: &[Arc<Issue>; 3],
+    router: &mut Router,
+    list: &mut Vec<Report>,
+    count: u32,
+) -> Result<(), Fail> {
+    for _ in 0..count {
+        if take_random(alloc, random, issues, router, list)? {
+            table_as_built(rt, alloc, router)?;
+            routes_as_the_list(rt, router, list);
         }
     }
     Ok(())
+}
+
+/// A random router hears so many random reports.
+fn try_issues(
+    rt: &impl Abort,
+    alloc: Global,
+    random: &mut Random,
+    issues: &[Arc<Issue>; 3],
+    count: u32,
+) -> Result<(), Fail> {
+    let mut router = random_router(alloc, random)?;
+    let mut list = Vec::new(alloc);
+    try_reports(rt, alloc, random, issues, &mut router, &mut list, count)
+}
+
+/// The same with random issues.
+fn try_router(rt: &impl Abort, alloc: Global, random: &mut Random, count: u32) -> Result<(), Fail> {
+    let issues = random_issues(alloc, random)?;
+    try_issues(rt, alloc, random, &issues, count)
 }
 
 #[test]

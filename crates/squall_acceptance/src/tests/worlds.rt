@@ -17,8 +17,9 @@ use crate::tests::worlds::drawing::{event, plan};
 use crate::tests::worlds::driving::drive;
 use crate::tests::worlds::plain::Plain;
 use crate::tests::worlds::said::{Said, Told, answer_of};
+use squall_plan::Plan;
 use squall_world::{Event, Node, World};
-use std::alloc::Global;
+use std::alloc::{AllocError, Global};
 use std::process::Abort;
 use std::test::Fail;
 
@@ -92,12 +93,16 @@ pub(crate) struct Both {
     pub(crate) tally: Tally,
 }
 
-fn start(alloc: Global, seed: u64) -> Result<Both, Fail> {
-    let mut random = Random::new(seed);
-    let old = plan(alloc, &mut random, 6)?;
-    let new = plan(alloc, &mut random, 6)?;
-    let world = World::new(alloc, &old, &new, ROUTERS).ok().ok_or("world")?;
-    let plain = Plain::begun(alloc, &old, &new, u64::from(ROUTERS))?;
+/// The world between the plans.
+fn world_between(alloc: Global, old: &Plan, new: &Plan) -> Result<World, Fail> {
+    let world = World::new(alloc, old, new, ROUTERS).ok().ok_or("world")?;
+    Ok(world)
+}
+
+/// A world between the plans, and the plain program of it.
+fn both_between(alloc: Global, random: Random, old: &Plan, new: &Plan) -> Result<Both, Fail> {
+    let plain = Plain::begun(alloc, old, new, u64::from(ROUTERS))?;
+    let world = world_between(alloc, old, new)?;
     Ok(Both {
         world,
         plain,
@@ -105,6 +110,19 @@ fn start(alloc: Global, seed: u64) -> Result<Both, Fail> {
         asked: Vec::new(alloc),
         tally: Tally::none(),
     })
+}
+
+/// The same from the plan to a random one.
+fn start_from(alloc: Global, mut random: Random, old: &Plan) -> Result<Both, Fail> {
+    let new = plan(alloc, &mut random, 6)?;
+    both_between(alloc, random, old, &new)
+}
+
+/// The same between random plans.
+fn start(alloc: Global, seed: u64) -> Result<Both, Fail> {
+    let mut random = Random::new(seed);
+    let old = plan(alloc, &mut random, 6)?;
+    start_from(alloc, random, &old)
 }
 
 /// Whether the answer says that something changed.
@@ -138,10 +156,15 @@ fn promised(rt: &impl Abort, both: &mut Both, told: &Told) -> Result<(), Fail> {
     remember(rt, both)
 }
 
+/// What the world answers to the event.
+fn told_by(world: &mut World, event: &Event) -> Result<Told, AllocError> {
+    let answer = world.step(event)?;
+    Ok(answer_of(&answer))
+}
+
 /// Both take the event, and answer the same.
 pub(crate) fn take(rt: &impl Abort, both: &mut Both, event: &Event) -> Result<(), Fail> {
-    let answer = both.world.step(event)?;
-    let told = answer_of(&answer);
+    let told = told_by(&mut both.world, event)?;
     let wanted = both.plain.step(event)?;
     assert!(rt; told == wanted);
     assert!(rt; both.world.parts() as u64 == both.plain.parts_count());
@@ -156,19 +179,33 @@ pub(crate) fn take(rt: &impl Abort, both: &mut Both, event: &Event) -> Result<()
     promised(rt, both, &told)
 }
 
+/// A random event.
+fn take_random(rt: &impl Abort, alloc: Global, both: &mut Both) -> Result<(), Fail> {
+    match event(alloc, both)? {
+        Some(event) => take(rt, both, &event),
+        None => Ok(()),
+    }
+}
+
 /// So many events and a few more, drawn at random or in an order by which courses get done.
-fn run(rt: &impl Abort, alloc: Global, seed: u64, events: u32) -> Result<Tally, Fail> {
-    let mut both = start(alloc, seed)?;
+fn take_all(rt: &impl Abort, alloc: Global, both: &mut Both, events: u32) -> Result<(), Fail> {
     for _ in 0..events {
         if both.tally.events >= events {
             break;
         }
         if both.random.below(16) == 0 {
-            drive(rt, alloc, &mut both)?;
-        } else if let Some(event) = event(alloc, &mut both)? {
-            take(rt, &mut both, &event)?;
+            drive(rt, alloc, both)?;
+        } else {
+            take_random(rt, alloc, both)?;
         }
     }
+    Ok(())
+}
+
+/// What comes about by so many events and a few more.
+fn run(rt: &impl Abort, alloc: Global, seed: u64, events: u32) -> Result<Tally, Fail> {
+    let mut both = start(alloc, seed)?;
+    take_all(rt, alloc, &mut both, events)?;
     Ok(both.tally)
 }
 

@@ -4,6 +4,7 @@ use crate::tests::worlds::masks::{PLACES, place_of};
 use crate::tests::worlds::said::{Said, Told, answer_of};
 use crate::tests::worlds::{Both, ROUTERS};
 use squall_key::{Key, PartId};
+use squall_world::World;
 use std::process::Abort;
 use std::test::Fail;
 
@@ -39,6 +40,16 @@ fn is_first_welcome(said: Said, after: u64) -> bool {
     }
 }
 
+/// What the world's partition replies.
+fn served(world: &World, part: PartId, key: Key, after: u32) -> Told {
+    answer_of(&world.serve(part, key, after))
+}
+
+/// Where the world's router sends the key.
+fn routed(world: &World, router: u32, key: Key) -> Told {
+    answer_of(&world.route(router, key))
+}
+
 /// The partition is asked: it replies as the plain program says, and as it may.
 fn ask(rt: &impl Abort, both: &Both, asked: Asked) -> Said {
     let Asked { part, key, after } = asked;
@@ -47,7 +58,7 @@ fn ask(rt: &impl Abort, both: &Both, asked: Asked) -> Said {
     let later = u32::try_from(after).unwrap_or(u32::MAX);
     assert!(rt; both.plain.is_part(part));
     if let Some(part) = PartId::new(number) {
-        assert!(rt; answer_of(&both.world.serve(part, key, later)) == Told::Served(said));
+        assert!(rt; served(&both.world, part, key, later) == Told::Served(said));
     }
     assert!(rt; is_welcome(said, after));
     assert!(rt; both.plain.last != 1 || is_first_welcome(said, after));
@@ -57,7 +68,7 @@ fn ask(rt: &impl Abort, both: &Both, asked: Asked) -> Said {
 /// Where a router sends the key.
 fn route(rt: &impl Abort, both: &Both, router: u32, key: Key) -> Asked {
     let part = both.plain.routed(u64::from(router), place_of(key));
-    assert!(rt; answer_of(&both.world.route(router, key)) == Told::Routed { part });
+    assert!(rt; routed(&both.world, router, key) == Told::Routed { part });
     Asked {
         part,
         key,

@@ -1,6 +1,6 @@
 //! Plans and courses, key by key.
 
-use crate::tests::worlds::facts::{LIMIT, zeros};
+use crate::tests::worlds::facts::LIMIT;
 use crate::tests::worlds::masks::{PLACES, at, bit, put};
 use squall_key::Key;
 use squall_plan::Plan;
@@ -34,12 +34,21 @@ fn owner_in(plan: &Plan, key: Key) -> u64 {
 }
 
 impl Courses {
+    /// Makes room for all plans and places.
+    fn make_room(&mut self) -> Result<(), AllocError> {
+        self.owners.resize(328, 0)?;
+        self.subs.resize(328, 0)?;
+        self.counts.resize(8, 0)
+    }
+
     pub(crate) fn none(alloc: Global) -> Result<Courses, AllocError> {
-        Ok(Courses {
-            owners: zeros(alloc, 328)?,
-            subs: zeros(alloc, 328)?,
-            counts: zeros(alloc, 8)?,
-        })
+        let mut courses = Courses {
+            owners: Vec::new(alloc),
+            subs: Vec::new(alloc),
+            counts: Vec::new(alloc),
+        };
+        courses.make_room()?;
+        Ok(courses)
     }
 
     /// Notes a plan, and nothing of the course to it.

@@ -31,25 +31,41 @@ fn push_range(
     Ok(())
 }
 
+/// Adds up to ten ranges, of partitions below the number.
+fn push_ranges(
+    ranges: &mut Vec<PlanRange>,
+    random: &mut Random,
+    parts: u32,
+) -> Result<(), AllocError>
+    requires { 0 < parts }
+{
+    let mut lo = 0u64;
+    for _ in 0..8u32 {
+        let hi = lo.saturating_add(1 + random.below(8)).min(TAIL);
+        if let Some(bound) = Bound::of_rank(hi) {
+            push_range(ranges, lo, bound, random.small(parts))?;
+            lo = hi;
+        }
+    }
+    if let Some(bound) = Bound::of_rank(TAIL) {
+        push_range(ranges, lo, bound, random.small(parts))?;
+    }
+    push_range(ranges, TAIL, Bound::TOP, 2)
+}
+
+/// The plan of the ranges.
+fn plan_of(alloc: Global, ranges: &[PlanRange]) -> Result<Plan, Fail> {
+    let plan = Plan::from_ranges(alloc, ranges).ok().ok_or("plan")?;
+    Ok(plan)
+}
+
 /// A plan of up to ten ranges, of partitions below the number.
 pub(crate) fn plan(alloc: Global, random: &mut Random, parts: u32) -> Result<Plan, Fail>
     requires { 0 < parts }
 {
     let mut ranges = Vec::new(alloc);
-    let mut lo = 0u64;
-    for _ in 0..8u32 {
-        let hi = lo.saturating_add(1 + random.below(8)).min(TAIL);
-        if let Some(bound) = Bound::of_rank(hi) {
-            push_range(&mut ranges, lo, bound, random.small(parts))?;
-            lo = hi;
-        }
-    }
-    if let Some(bound) = Bound::of_rank(TAIL) {
-        push_range(&mut ranges, lo, bound, random.small(parts))?;
-    }
-    push_range(&mut ranges, TAIL, Bound::TOP, 2)?;
-    let plan = Plan::from_ranges(alloc, &ranges).ok().ok_or("plan")?;
-    Ok(plan)
+    push_ranges(&mut ranges, random, parts)?;
+    plan_of(alloc, &ranges)
 }
 
 /// A partition: one of eight, or one that is never there.

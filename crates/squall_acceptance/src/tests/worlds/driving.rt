@@ -20,18 +20,23 @@ fn last(count: usize) -> usize {
     count.saturating_sub(1)
 }
 
+/// Both take the event.
+fn take_next(rt: &impl Abort, both: &mut Both, event: Event) -> Result<(), Fail> {
+    take(rt, both, &event)
+}
+
 /// The last message comes to the node; one in 24 is lost.
 fn deliver_last(rt: &impl Abort, both: &mut Both, node: Node) -> Result<(), Fail> {
     let index = last(both.plain.messages.len());
     if both.random.below(24) == 0 {
         return Ok(());
     }
-    take(rt, both, &Event::Deliver(index, node))
+    take_next(rt, both, Event::Deliver(index, node))
 }
 
 /// The leader tells all partitions what it knows.
 fn tell_all(rt: &impl Abort, both: &mut Both) -> Result<(), Fail> {
-    take(rt, both, &Event::Send(Node::Leader))?;
+    take_next(rt, both, Event::Send(Node::Leader))?;
     for number in 0..PARTS {
         deliver_last(rt, both, Node::Part(part(number)?))?;
     }
@@ -42,7 +47,7 @@ fn tell_all(rt: &impl Abort, both: &mut Both) -> Result<(), Fail> {
 fn give_all(rt: &impl Abort, both: &mut Both) -> Result<(), Fail> {
     for number in 0..PARTS {
         let most = 1 + both.random.below(4);
-        take(rt, both, &Event::Give(part(number)?, most))?;
+        take_next(rt, both, Event::Give(part(number)?, most))?;
     }
     Ok(())
 }
@@ -51,7 +56,7 @@ fn give_all(rt: &impl Abort, both: &mut Both) -> Result<(), Fail> {
 fn load_last(rt: &impl Abort, both: &mut Both) -> Result<(), Fail> {
     let count = both.plain.chunks.len();
     for index in count.saturating_sub(24)..count {
-        take(rt, both, &Event::Load(index))?;
+        take_next(rt, both, Event::Load(index))?;
     }
     Ok(())
 }
@@ -60,7 +65,7 @@ fn load_last(rt: &impl Abort, both: &mut Both) -> Result<(), Fail> {
 fn finish_all(rt: &impl Abort, both: &mut Both) -> Result<(), Fail> {
     let sub = u32::try_from(both.plain.opened.saturating_sub(1)).unwrap_or(0);
     for number in 0..PARTS {
-        take(rt, both, &Event::Finish(part(number)?, sub))?;
+        take_next(rt, both, Event::Finish(part(number)?, sub))?;
     }
     Ok(())
 }
@@ -68,7 +73,7 @@ fn finish_all(rt: &impl Abort, both: &mut Both) -> Result<(), Fail> {
 /// The partitions tell the leader, and a router, what they know.
 fn report_all(rt: &impl Abort, both: &mut Both) -> Result<(), Fail> {
     for number in 0..PARTS {
-        take(rt, both, &Event::Send(Node::Part(part(number)?)))?;
+        take_next(rt, both, Event::Send(Node::Part(part(number)?)))?;
         deliver_last(rt, both, Node::Leader)?;
         let router = both.random.small(ROUTERS);
         deliver_last(rt, both, Node::Router(router))?;
@@ -76,14 +81,20 @@ fn report_all(rt: &impl Abort, both: &mut Both) -> Result<(), Fail> {
     Ok(())
 }
 
+/// Both take the beginning of the next course, unless there were as many as there may be.
+fn begin_next(rt: &impl Abort, alloc: Global, both: &mut Both) -> Result<(), Fail> {
+    match beginning(alloc, both)? {
+        Some(event) => take(rt, both, &event),
+        None => Ok(()),
+    }
+}
+
 /// The next sub-plan, or the next course, from its opening to the last report.
 pub(crate) fn drive(rt: &impl Abort, alloc: Global, both: &mut Both) -> Result<(), Fail> {
     if both.plain.is_over() {
-        if let Some(event) = beginning(alloc, both)? {
-            take(rt, both, &event)?;
-        }
+        begin_next(rt, alloc, both)?;
     }
-    take(rt, both, &Event::OpenNext)?;
+    take_next(rt, both, Event::OpenNext)?;
     tell_all(rt, both)?;
     give_all(rt, both)?;
     give_all(rt, both)?;

@@ -19,13 +19,6 @@ pub(crate) struct Facts {
     issued: u64,
 }
 
-/// So many noughts.
-pub(crate) fn zeros(alloc: Global, count: usize) -> Result<Vec<u64>, AllocError> {
-    let mut list = Vec::new(alloc);
-    list.resize(count, 0)?;
-    Ok(list)
-}
-
 /// The place of a pair of small numbers.
 pub(crate) fn pair(one: u64, other: u64) -> u64 {
     one.wrapping_mul(LIMIT).wrapping_add(other)
@@ -46,23 +39,29 @@ fn raise_all(list: &mut [u64], more: &[u64]) {
 }
 
 impl Facts {
+    /// Makes room for all numbers, sub-plans and partitions.
+    fn make_room(&mut self) -> Result<(), AllocError> {
+        self.loaded.resize(512, 0)?;
+        self.done.resize(64, 0)?;
+        self.opened.resize(8, 0)
+    }
+
     /// Nothing told.
     pub(crate) fn none(alloc: Global) -> Result<Facts, AllocError> {
-        Ok(Facts {
-            loaded: zeros(alloc, 512)?,
-            done: zeros(alloc, 64)?,
-            opened: zeros(alloc, 8)?,
+        let mut facts = Facts {
+            loaded: Vec::new(alloc),
+            done: Vec::new(alloc),
+            opened: Vec::new(alloc),
             issued: 0,
-        })
+        };
+        facts.make_room()?;
+        Ok(facts)
     }
 
     pub(crate) fn copied(&self) -> Result<Facts, AllocError> {
-        Ok(Facts {
-            loaded: self.loaded.clone()?,
-            done: self.done.clone()?,
-            opened: self.opened.clone()?,
-            issued: self.issued,
-        })
+        let mut copy = Facts::none(*self.loaded.allocator())?;
+        copy.join(self);
+        Ok(copy)
     }
 
     /// Takes in what another tells.

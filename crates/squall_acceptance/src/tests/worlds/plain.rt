@@ -1,7 +1,7 @@
 //! A world as its definition has it, key by key: what holds at first, and what is asked.
 
 use crate::tests::worlds::courses::Courses;
-use crate::tests::worlds::facts::{Facts, LIMIT, pair, zeros};
+use crate::tests::worlds::facts::{Facts, LIMIT, pair};
 use crate::tests::worlds::masks::{ALL, PLACES, at, between, bit, has, put};
 use crate::tests::worlds::said::{Lot, Said};
 use squall_plan::Plan;
@@ -34,13 +34,12 @@ pub(crate) fn keys_in(lot: &Lot) -> u64 {
     between(lot.lo, lot.hi)
 }
 
-/// So many nodes that were told nothing.
-fn nodes(alloc: Global, count: u64) -> Result<Vec<Facts>, AllocError> {
-    let mut facts = Vec::new(alloc);
+/// Adds so many nodes that were told nothing.
+fn push_nodes(facts: &mut Vec<Facts>, alloc: Global, count: u64) -> Result<(), AllocError> {
     for _ in 0..count {
         facts.push(Facts::none(alloc)?)?;
     }
-    Ok(facts)
+    Ok(())
 }
 
 /// The first course.
@@ -59,25 +58,40 @@ impl Plain {
         routers: u64,
     ) -> Result<Plain, AllocError> {
         let courses = first(alloc, old, new)?;
-        let parts = courses.named(0) | courses.named(1);
-        let mut plain = Plain {
-            courses,
-            last: 1,
-            opened: 0,
-            parts,
-            routers,
-            held: zeros(alloc, 8)?,
-            given: zeros(alloc, 64)?,
-            loaded: zeros(alloc, 64)?,
-            facts: nodes(alloc, 1 + LIMIT + routers.min(100))?,
-            messages: Vec::new(alloc),
-            chunks: Vec::new(alloc),
-        };
+        let mut plain = Plain::of(alloc, courses, routers);
+        plain.make_room(alloc)?;
         plain.hold_first();
         if let Some(leader) = plain.facts.first_mut() {
             leader.issue(1);
         }
         Ok(plain)
+    }
+
+    /// A world of the first course that has no nodes yet.
+    fn of(alloc: Global, courses: Courses, routers: u64) -> Plain {
+        let parts = courses.named(0) | courses.named(1);
+        Plain {
+            courses,
+            last: 1,
+            opened: 0,
+            parts,
+            routers,
+            held: Vec::new(alloc),
+            given: Vec::new(alloc),
+            loaded: Vec::new(alloc),
+            facts: Vec::new(alloc),
+            messages: Vec::new(alloc),
+            chunks: Vec::new(alloc),
+        }
+    }
+
+    /// Makes room for all numbers and partitions, and the nodes.
+    fn make_room(&mut self, alloc: Global) -> Result<(), AllocError> {
+        self.held.resize(8, 0)?;
+        self.given.resize(64, 0)?;
+        self.loaded.resize(64, 0)?;
+        let count = 1 + LIMIT + self.routers.min(100);
+        push_nodes(&mut self.facts, alloc, count)
     }
 
     /// Each key lies where the first plan has it.
