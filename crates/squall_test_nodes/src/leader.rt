@@ -6,11 +6,12 @@ mod tolerant;
 use squall_board::Board;
 use squall_join::Flat;
 use squall_key::{Bound, PartId};
-use squall_leader::{Leader, LeaderFault};
+use squall_leader::Leader;
 use squall_plan::{Plan, PlanRange};
 use squall_report::{Report, ReportKind};
 use squall_span::Span;
 use std::alloc::Global;
+use std::process::Abort;
 use std::test::Fail;
 
 /// The root of the end.
@@ -37,42 +38,86 @@ fn plan(alloc: Global, ranges: &[(u32, u32, u32)]) -> Option<Plan> {
     Plan::from_ranges(alloc, &listed).ok()
 }
 
-/// Leads to the plan of these ranges: whether the number of the course, or the fault, is as wanted.
-fn begins(
-    leader: &mut Leader,
-    alloc: Global,
-    ranges: &[(u32, u32, u32)],
-    wanted: &str,
-) -> Result<bool, Fail> {
-    let plan = plan(alloc, ranges).ok_or("a plan")?;
-    let answer = match leader.begin(&plan) {
-        Ok(course) => {
-            let number = course.number();
-            format!(in alloc; "course {number}")?
-        }
-        Err(fault) => format!(in alloc; "{fault}")?,
-    };
-    Ok(answer.as_str() == wanted)
+/// What is asked of a leader.
+#[derive(Clone, Copy)]
+enum Step {
+    /// To lead to the plan of these ranges.
+    Begin(&'static [(u32, u32, u32)]),
+    /// To open the next sub-plan.
+    Open,
+    /// To hear that the partition is done in sub-plan 0 of the number.
+    Hear { number: u32, part: u32 },
+    /// To tell how many sub-plans of the number are opened.
+    Opened(u32),
+    /// To tell whether the course begun last is finished.
+    Finished,
 }
 
-/// Opens the next sub-plan: whether the report, or the fault, is as wanted.
-fn opens(leader: &mut Leader, alloc: Global, wanted: &str) -> Result<bool, Fail> {
-    let answer = match leader.open_next() {
+/// The number of the course that is begun, as text, or the fault.
+fn begun(alloc: Global, leader: &mut Leader, ranges: &[(u32, u32, u32)]) -> Result<String, Fail> {
+    let plan = plan(alloc, ranges).ok_or("a plan")?;
+    match leader.begin(&plan) {
+        Ok(course) => {
+            let number = course.number();
+            Ok(format!(in alloc; "course {number}")?)
+        }
+        Err(fault) => Ok(format!(in alloc; "{fault}")?),
+    }
+}
+
+/// The report of what is opened, as text, or the fault.
+fn opened(alloc: Global, leader: &mut Leader) -> Result<String, Fail> {
+    match leader.open_next() {
         Ok(report) => match report.kind() {
-            ReportKind::Opened { number, sub } => format!(in alloc; "opened {number} {sub}")?,
-            _ => format!(in alloc; "another report")?,
+            ReportKind::Opened { number, sub } => Ok(format!(in alloc; "opened {number} {sub}")?),
+            _ => Ok(format!(in alloc; "another report")?),
         },
-        Err(fault) => format!(in alloc; "{fault}")?,
-    };
-    Ok(answer.as_str() == wanted)
+        Err(fault) => Ok(format!(in alloc; "{fault}")?),
+    }
 }
 
 /// Tells the leader that the partition is done in sub-plan 0 of the number.
-fn completes(leader: &mut Leader, alloc: Global, number: u32, part: u32) -> Result<(), Fail> {
+fn completes(alloc: Global, leader: &mut Leader, number: u32, part: u32) -> Result<(), Fail> {
     let mut delta = Board::new(alloc);
     let report = Report::done(number, 0, part).ok_or("a report")?;
     delta.take(&report)?;
     leader.absorb(&delta)?;
+    Ok(())
+}
+
+/// What comes of the step, as text.
+fn answer(alloc: Global, leader: &mut Leader, step: Step) -> Result<String, Fail> {
+    match step {
+        Step::Begin(ranges) => begun(alloc, leader, ranges),
+        Step::Open => opened(alloc, leader),
+        Step::Hear { number, part } => {
+            completes(alloc, leader, number, part)?;
+            Ok(format!(in alloc; "heard")?)
+        }
+        Step::Opened(number) => {
+            let count = leader.board().opened(number);
+            Ok(format!(in alloc; "{count}")?)
+        }
+        Step::Finished => {
+            let is_finished = leader.finished();
+            Ok(format!(in alloc; "{is_finished}")?)
+        }
+    }
+}
+
+/// Each of the steps, one after the other, has its answer.
+fn answers(
+    rt: &impl Abort,
+    alloc: Global,
+    leader: &mut Leader,
+    steps: &[(Step, &str)],
+) -> Result<(), Fail> {
+    for (step, wanted) in steps {
+        assert!(rt;
+            answer(alloc, leader, *step)?.as_str() == *wanted,
+            "{wanted}"
+        );
+    }
     Ok(())
 }
 
@@ -83,51 +128,57 @@ fn leader(alloc: Global) -> Result<Leader, Fail> {
 
 #[test]
 fn begins_once(rt: HostRuntime) -> Result<(), Fail> {
-    let alloc = rt.alloc();
-    let mut leader = leader(alloc)?;
-    assert!(rt; opens(&mut leader, alloc, "Idle")? && !leader.finished());
-    assert!(rt; begins(&mut leader, alloc, &NEW, "course 1")?);
-    assert!(rt; begins(&mut leader, alloc, &OLD, "Running")? && !leader.finished());
-    Ok(())
+    let steps = [
+        (Step::Open, "Idle"),
+        (Step::Finished, "false"),
+        (Step::Begin(&NEW), "course 1"),
+        (Step::Begin(&OLD), "Running"),
+        (Step::Finished, "false"),
+    ];
+    answers(&rt, rt.alloc(), &mut leader(rt.alloc())?, &steps)
 }
 
 #[test]
 fn opens_and_waits(rt: HostRuntime) -> Result<(), Fail> {
-    let alloc = rt.alloc();
-    let mut leader = leader(alloc)?;
-    assert!(rt; begins(&mut leader, alloc, &NEW, "course 1")?);
-    assert!(rt; opens(&mut leader, alloc, "opened 1 0")? && leader.board().opened(1) == 1);
-    assert!(rt; opens(&mut leader, alloc, "NotDone 0 3")?);
-    completes(&mut leader, alloc, 1, 3)?;
-    assert!(rt; opens(&mut leader, alloc, "NotDone 0 4")? && !leader.finished());
-    Ok(())
+    let steps = [
+        (Step::Begin(&NEW), "course 1"),
+        (Step::Open, "opened 1 0"),
+        (Step::Opened(1), "1"),
+        (Step::Open, "NotDone 0 3"),
+        (Step::Hear { number: 1, part: 3 }, "heard"),
+        (Step::Open, "NotDone 0 4"),
+        (Step::Finished, "false"),
+    ];
+    answers(&rt, rt.alloc(), &mut leader(rt.alloc())?, &steps)
 }
 
-/// A leader that has begun course 1 from the old plan to the new one, opened its one sub-plan, and
-/// heard of both completions.
-fn finished_leader(alloc: Global) -> Result<Leader, Fail> {
-    let mut leader = leader(alloc)?;
-    begins(&mut leader, alloc, &NEW, "course 1")?;
-    opens(&mut leader, alloc, "opened 1 0")?;
-    completes(&mut leader, alloc, 1, 4)?;
-    completes(&mut leader, alloc, 1, 3)?;
-    Ok(leader)
-}
+/// What leads from the old plan to the new one, to the end: the one sub-plan is opened, and both
+/// completions are heard.
+const WAY: [(Step, &str); 4] = [
+    (Step::Begin(&NEW), "course 1"),
+    (Step::Open, "opened 1 0"),
+    (Step::Hear { number: 1, part: 4 }, "heard"),
+    (Step::Hear { number: 1, part: 3 }, "heard"),
+];
 
 #[test]
 fn finishes_and_begins_again(rt: HostRuntime) -> Result<(), Fail> {
-    let alloc = rt.alloc();
-    let mut leader = finished_leader(alloc)?;
-    assert!(rt; leader.finished() && opens(&mut leader, alloc, "NoMore")?);
-    assert!(rt; begins(&mut leader, alloc, &OLD, "course 2")?);
-    assert!(rt; !leader.finished() && opens(&mut leader, alloc, "opened 2 0")?);
-    Ok(())
+    let steps = [
+        (Step::Finished, "true"),
+        (Step::Open, "NoMore"),
+        (Step::Begin(&OLD), "course 2"),
+        (Step::Finished, "false"),
+        (Step::Open, "opened 2 0"),
+    ];
+    let mut leader = leader(rt.alloc())?;
+    answers(&rt, rt.alloc(), &mut leader, &WAY)?;
+    answers(&rt, rt.alloc(), &mut leader, &steps)
 }
 
 /// Whether the board has one issue of that number, from the one plan to the other.
 fn issues(
-    board: &Board,
     alloc: Global,
+    board: &Board,
     number: u32,
     old: &[(u32, u32, u32)],
     new: &[(u32, u32, u32)],
@@ -140,15 +191,19 @@ fn issues(
     }
 }
 
+/// After its way the leader has issued the one course, and once it leads back the other too.
+fn issues_both(rt: &impl Abort, alloc: Global, leader: &mut Leader) -> Result<(), Fail> {
+    answers(rt, alloc, leader, &WAY)?;
+    assert!(rt; matches!(leader.board().issuing(2), Flat::Unknown));
+    answers(rt, alloc, leader, &[(Step::Begin(&OLD), "course 2")])?;
+    assert!(rt; issues(alloc, leader.board(), 1, &OLD, &NEW)?);
+    assert!(rt; issues(alloc, leader.board(), 2, &NEW, &OLD)?);
+    Ok(())
+}
+
 #[test]
 fn tells_what_is_issued(rt: HostRuntime) -> Result<(), Fail> {
-    let alloc = rt.alloc();
-    let mut leader = finished_leader(alloc)?;
-    assert!(rt; matches!(leader.board().issuing(2), Flat::Unknown));
-    assert!(rt; begins(&mut leader, alloc, &OLD, "course 2")?);
-    assert!(rt; issues(leader.board(), alloc, 1, &OLD, &NEW)?);
-    assert!(rt; issues(leader.board(), alloc, 2, &NEW, &OLD)?);
-    Ok(())
+    issues_both(&rt, rt.alloc(), &mut leader(rt.alloc())?)
 }
 
 /// A leader of the old plan, where numbers up to `last` were used before.
@@ -159,22 +214,32 @@ fn leader_after(alloc: Global, last: u32) -> Result<Leader, Fail> {
 
 #[test]
 fn numbers_end(rt: HostRuntime) -> Result<(), Fail> {
-    let alloc = rt.alloc();
-    let mut leader = leader_after(alloc, 4294967294)?;
-    assert!(rt; begins(&mut leader, alloc, &OLD, "course 4294967295")?);
-    assert!(rt; begins(&mut leader, alloc, &NEW, "NoNumber")?);
-    let mut leader = leader_after(alloc, 4294967295)?;
-    assert!(rt; begins(&mut leader, alloc, &NEW, "NoNumber")?);
-    assert!(rt; opens(&mut leader, alloc, "Idle")?);
-    Ok(())
+    let last = [
+        (Step::Begin(&OLD), "course 4294967295"),
+        (Step::Begin(&NEW), "NoNumber"),
+    ];
+    answers(
+        &rt,
+        rt.alloc(),
+        &mut leader_after(rt.alloc(), 4294967294)?,
+        &last,
+    )?;
+    let none = [(Step::Begin(&NEW), "NoNumber"), (Step::Open, "Idle")];
+    answers(
+        &rt,
+        rt.alloc(),
+        &mut leader_after(rt.alloc(), 4294967295)?,
+        &none,
+    )
 }
 
 #[test]
 fn nothing_moves(rt: HostRuntime) -> Result<(), Fail> {
-    let alloc = rt.alloc();
-    let mut leader = leader(alloc)?;
-    assert!(rt; begins(&mut leader, alloc, &OLD, "course 1")? && leader.finished());
-    assert!(rt; opens(&mut leader, alloc, "NoMore")?);
-    assert!(rt; begins(&mut leader, alloc, &NEW, "course 2")?);
-    Ok(())
+    let steps = [
+        (Step::Begin(&OLD), "course 1"),
+        (Step::Finished, "true"),
+        (Step::Open, "NoMore"),
+        (Step::Begin(&NEW), "course 2"),
+    ];
+    answers(&rt, rt.alloc(), &mut leader(rt.alloc())?, &steps)
 }

@@ -15,6 +15,7 @@ use squall_report::{Issue, Report};
 use squall_router::Reply;
 use squall_span::{Span, SpanSet};
 use std::alloc::Global;
+use std::process::Abort;
 use std::sync::Arc;
 use std::test::Fail;
 
@@ -146,11 +147,6 @@ fn shown(alloc: Global, reply: Reply) -> Result<String, Fail> {
     Ok(out)
 }
 
-/// The reply of the partition for the first key of root 2.
-fn asked(alloc: Global, part: &Part, after: u32) -> Result<String, Fail> {
-    shown(alloc, part.serve(key(2, 0)?, after))
-}
-
 /// The spans of a set as text.
 fn spans(alloc: Global, set: &SpanSet) -> Result<String, Fail> {
     let mut out = String::new(alloc);
@@ -161,7 +157,65 @@ fn spans(alloc: Global, set: &SpanSet) -> Result<String, Fail> {
     Ok(out)
 }
 
-/// The keys that the partition holds, as text.
-fn held(alloc: Global, part: &Part) -> Result<String, Fail> {
-    spans(alloc, part.held())
+/// What is asked of a partition.
+#[derive(Clone, Copy)]
+enum Step {
+    /// To give on so many keys at most.
+    Give(u64),
+    /// To give on the first key of the root.
+    GiveAt(u32),
+    /// To load the first key of root 2, in a chunk of that number, sub-plan and source.
+    Load { number: u32, sub: u32, source: u32 },
+    /// To finish sub-plan 0.
+    Finish,
+    /// To serve the first key of root 2 to one who comes by a reply of that number.
+    Serve(u32),
+    /// To tell which keys it holds.
+    Hold,
+    /// To hear of the way back, and that its sub-plan 0 is opened.
+    Turn,
+}
+
+/// Whether the partition has heard of the way back, and of its opening. None where an allocation
+/// fails.
+fn turns(alloc: Global, part: &mut Part) -> Option<bool> {
+    let issue = way_back(alloc)?;
+    let opening = Report::opened(2, 0)?;
+    Some(hears(alloc, part, &issue) && hears(alloc, part, &opening))
+}
+
+/// What comes of the step, as text.
+fn answer(alloc: Global, part: &mut Part, step: Step) -> Result<String, Fail> {
+    match step {
+        Step::Give(max) => gift(alloc, part.give(max)),
+        Step::GiveAt(root) => gift(alloc, part.give_at(key(root, 0)?)),
+        Step::Load {
+            number,
+            sub,
+            source,
+        } => {
+            let chunk = chunk(number, sub, source, 0, 1).ok_or("a chunk")?;
+            outcome(alloc, part.load(&chunk))
+        }
+        Step::Finish => ending(alloc, part.finish(0)),
+        Step::Serve(after) => shown(alloc, part.serve(key(2, 0)?, after)),
+        Step::Hold => spans(alloc, part.held()),
+        Step::Turn => {
+            let turned = turns(alloc, part).ok_or("a way back")?;
+            Ok(format!(in alloc; "{turned}")?)
+        }
+    }
+}
+
+/// Each of the steps, one after the other, has its answer.
+fn answers(
+    rt: &impl Abort,
+    alloc: Global,
+    part: &mut Part,
+    steps: &[(Step, &str)],
+) -> Result<(), Fail> {
+    for (step, wanted) in steps {
+        assert!(rt; answer(alloc, part, *step)?.as_str() == *wanted, "{wanted}");
+    }
+    Ok(())
 }

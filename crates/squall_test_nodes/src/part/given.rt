@@ -1,19 +1,8 @@
 //! What is given on.
 
-use crate::part::{asked, ending, fresh_part, gift, held, key, opened_part, part_id, span};
-use squall_part::{Chunk, Part};
-use std::alloc::Global;
+use crate::part::{Step, answers, fresh_part, opened_part, part_id, span};
+use squall_part::Chunk;
 use std::test::Fail;
-
-/// What comes of a demand for so many keys.
-fn demanded(alloc: Global, part: &mut Part, max: u64) -> Result<String, Fail> {
-    gift(alloc, part.give(max))
-}
-
-/// What comes of a demand for one key.
-fn wanted(alloc: Global, part: &mut Part, root: u32) -> Result<String, Fail> {
-    gift(alloc, part.give_at(key(root, 0)?))
-}
 
 #[test]
 fn chunks_have_limits(rt: HostRuntime) -> Result<(), Fail> {
@@ -27,9 +16,9 @@ fn chunks_have_limits(rt: HostRuntime) -> Result<(), Fail> {
 
 #[test]
 fn a_partition_begins_with_its_old_keys(rt: HostRuntime) -> Result<(), Fail> {
-    let part = fresh_part(rt.alloc(), 3).ok_or("a partition")?;
-    assert!(rt; part.id() == part_id(3)?);
-    assert!(rt; held(rt.alloc(), &part)?.as_str() == "[5:0,9:0);");
+    let mut part = fresh_part(rt.alloc(), 3).ok_or("a partition")?;
+    answers(&rt, rt.alloc(), &mut part, &[(Step::Hold, "[5:0,9:0);")])?;
+    assert!(rt; part.id().get() == 3);
     assert!(rt; part.given(1).is_some() && part.loaded(2).is_none());
     Ok(())
 }
@@ -37,36 +26,44 @@ fn a_partition_begins_with_its_old_keys(rt: HostRuntime) -> Result<(), Fail> {
 #[test]
 fn nothing_is_given_before_an_opening(rt: HostRuntime) -> Result<(), Fail> {
     let mut part = fresh_part(rt.alloc(), 1).ok_or("a partition")?;
-    assert!(rt; demanded(rt.alloc(), &mut part, 1)?.as_str() == "NotOpen");
-    assert!(rt; wanted(rt.alloc(), &mut part, 2)?.as_str() == "NotOpen");
-    assert!(rt; ending(rt.alloc(), part.finish(0))?.as_str() == "NotOpen");
-    Ok(())
+    let steps = [
+        (Step::Give(1), "NotOpen"),
+        (Step::GiveAt(2), "NotOpen"),
+        (Step::Finish, "NotOpen"),
+    ];
+    answers(&rt, rt.alloc(), &mut part, &steps)
 }
 
 #[test]
 fn keys_are_given_in_order(rt: HostRuntime) -> Result<(), Fail> {
     let mut part = opened_part(rt.alloc(), 1).ok_or("a partition")?;
-    assert!(rt; demanded(rt.alloc(), &mut part, 1)?.as_str() == "1 0 1 3 [2:0,2:1)");
-    assert!(rt; asked(rt.alloc(), &part, 0)?.as_str() == "Moved 3 1");
-    assert!(rt; demanded(rt.alloc(), &mut part, 0)?.as_str() == "ZeroMax");
-    Ok(())
+    let steps = [
+        (Step::Give(1), "1 0 1 3 [2:0,2:1)"),
+        (Step::Serve(0), "Moved 3 1"),
+        (Step::Give(0), "ZeroMax"),
+    ];
+    answers(&rt, rt.alloc(), &mut part, &steps)
 }
 
 #[test]
 fn the_rest_is_given_at_once(rt: HostRuntime) -> Result<(), Fail> {
     let mut part = opened_part(rt.alloc(), 1).ok_or("a partition")?;
-    assert!(rt; wanted(rt.alloc(), &mut part, 2)?.as_str() == "1 0 1 3 [2:0,2:1)");
-    assert!(rt; demanded(rt.alloc(), &mut part, u64::MAX)?.as_str() == "1 0 1 3 [2:1,3:0)");
-    assert!(rt; demanded(rt.alloc(), &mut part, 1)?.as_str() == "NothingLeft");
-    assert!(rt; held(rt.alloc(), &part)?.as_str() == "[0:0,2:0);");
-    Ok(())
+    let steps = [
+        (Step::GiveAt(2), "1 0 1 3 [2:0,2:1)"),
+        (Step::Give(u64::MAX), "1 0 1 3 [2:1,3:0)"),
+        (Step::Give(1), "NothingLeft"),
+        (Step::Hold, "[0:0,2:0);"),
+    ];
+    answers(&rt, rt.alloc(), &mut part, &steps)
 }
 
 #[test]
 fn one_key_is_given_once(rt: HostRuntime) -> Result<(), Fail> {
     let mut part = opened_part(rt.alloc(), 1).ok_or("a partition")?;
-    assert!(rt; wanted(rt.alloc(), &mut part, 2)?.as_str() == "1 0 1 3 [2:0,2:1)");
-    assert!(rt; wanted(rt.alloc(), &mut part, 2)?.as_str() == "Given");
-    assert!(rt; wanted(rt.alloc(), &mut part, 0)?.as_str() == "NotOutgoing");
-    Ok(())
+    let steps = [
+        (Step::GiveAt(2), "1 0 1 3 [2:0,2:1)"),
+        (Step::GiveAt(2), "Given"),
+        (Step::GiveAt(0), "NotOutgoing"),
+    ];
+    answers(&rt, rt.alloc(), &mut part, &steps)
 }

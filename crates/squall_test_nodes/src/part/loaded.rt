@@ -1,61 +1,66 @@
 //! What is loaded and finished.
 
-use crate::part::{asked, chunk, ending, held, opened_part, outcome};
-use squall_part::Part;
-use std::alloc::Global;
+use crate::part::{Step, answers, opened_part};
 use std::test::Fail;
 
-/// What comes of a chunk of the first key of root 2.
-fn offered(
-    alloc: Global,
-    part: &mut Part,
-    number: u32,
-    sub: u32,
-    source: u32,
-) -> Result<String, Fail> {
-    let chunk = chunk(number, sub, source, 0, 1).ok_or("a chunk")?;
-    outcome(alloc, part.load(&chunk))
+/// The load of the first key of root 2, in a chunk of that number, sub-plan and source.
+fn load(number: u32, sub: u32, source: u32) -> Step {
+    Step::Load {
+        number,
+        sub,
+        source,
+    }
 }
 
 #[test]
 fn strangers_are_refused(rt: HostRuntime) -> Result<(), Fail> {
     let mut part = opened_part(rt.alloc(), 3).ok_or("a partition")?;
-    assert!(rt; offered(rt.alloc(), &mut part, 2, 0, 1)?.as_str() == "Stranger");
-    assert!(rt; offered(rt.alloc(), &mut part, 1, 0, 2)?.as_str() == "Stranger");
-    assert!(rt; offered(rt.alloc(), &mut part, 1, 1, 1)?.as_str() == "NotOpen");
-    Ok(())
+    let steps = [
+        (load(2, 0, 1), "Stranger"),
+        (load(1, 0, 2), "Stranger"),
+        (load(1, 1, 1), "NotOpen"),
+    ];
+    answers(&rt, rt.alloc(), &mut part, &steps)
 }
 
 #[test]
 fn a_chunk_is_loaded_once(rt: HostRuntime) -> Result<(), Fail> {
     let mut part = opened_part(rt.alloc(), 3).ok_or("a partition")?;
-    assert!(rt; offered(rt.alloc(), &mut part, 1, 0, 1)?.as_str() == "Loaded");
-    assert!(rt; offered(rt.alloc(), &mut part, 1, 0, 1)?.as_str() == "Again");
-    assert!(rt; held(rt.alloc(), &part)?.as_str() == "[2:0,2:1);[5:0,9:0);");
-    Ok(())
+    let steps = [
+        (load(1, 0, 1), "Loaded"),
+        (load(1, 0, 1), "Again"),
+        (Step::Hold, "[2:0,2:1);[5:0,9:0);"),
+    ];
+    answers(&rt, rt.alloc(), &mut part, &steps)
 }
 
 #[test]
 fn a_load_ends_the_wait(rt: HostRuntime) -> Result<(), Fail> {
     let mut part = opened_part(rt.alloc(), 3).ok_or("a partition")?;
-    assert!(rt; asked(rt.alloc(), &part, 0)?.as_str() == "Pending 1");
-    assert!(rt; offered(rt.alloc(), &mut part, 1, 0, 1)?.as_str() == "Loaded");
-    assert!(rt; asked(rt.alloc(), &part, 0)?.as_str() == "Held");
-    Ok(())
+    let steps = [
+        (Step::Serve(0), "Pending 1"),
+        (load(1, 0, 1), "Loaded"),
+        (Step::Serve(0), "Held"),
+    ];
+    answers(&rt, rt.alloc(), &mut part, &steps)
 }
 
 #[test]
 fn what_is_missing_is_named(rt: HostRuntime) -> Result<(), Fail> {
     let mut part = opened_part(rt.alloc(), 3).ok_or("a partition")?;
-    assert!(rt; offered(rt.alloc(), &mut part, 1, 0, 1)?.as_str() == "Loaded");
-    assert!(rt; ending(rt.alloc(), part.finish(0))?.as_str() == "NotAll [2:1,3:0)");
-    Ok(())
+    let steps = [
+        (load(1, 0, 1), "Loaded"),
+        (Step::Finish, "NotAll [2:1,3:0)"),
+    ];
+    answers(&rt, rt.alloc(), &mut part, &steps)
 }
 
 #[test]
 fn nothing_is_due_at_others(rt: HostRuntime) -> Result<(), Fail> {
     let mut part = opened_part(rt.alloc(), 2).ok_or("a partition")?;
-    assert!(rt; ending(rt.alloc(), part.finish(0))?.as_str() == "NothingDue");
-    assert!(rt; asked(rt.alloc(), &part, 0)?.as_str() == "Elsewhere 1");
-    Ok(())
+    let steps = [
+        (Step::Finish, "NothingDue"),
+        (Step::Serve(0), "Elsewhere 1"),
+    ];
+    answers(&rt, rt.alloc(), &mut part, &steps)
 }

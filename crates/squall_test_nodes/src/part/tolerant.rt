@@ -1,15 +1,24 @@
 //! Where an allocation fails a partition is as it was.
 
 use crate::part::{chunk, fresh_part, hears, key, opened_part, way_back};
+use squall_part::Part;
+use std::alloc::Global;
 use std::test::Fail;
 
 #[test]
 fn tolerant_new(rt: HostRuntime) -> Result<(), Fail> {
+    let key = key(2, 0)?;
     let Some(part) = fresh_part(rt.alloc(), 1) else {
         return Ok(());
     };
-    assert!(rt; part.held().has(key(2, 0)?) && part.held().count() == 3 * 4294967296);
+    assert!(rt; part.held().has(key) && part.held().count() == 3 * 4294967296);
     Ok(())
+}
+
+/// Whether the partition has heard of the way back. None where an allocation failed before.
+fn hears_of_way_back(alloc: Global, part: &mut Part) -> Option<bool> {
+    let report = way_back(alloc)?;
+    Some(hears(alloc, part, &report))
 }
 
 #[test]
@@ -17,11 +26,9 @@ fn tolerant_absorb(rt: HostRuntime) -> Result<(), Fail> {
     let Some(mut part) = fresh_part(rt.alloc(), 1) else {
         return Ok(());
     };
-    let Some(report) = way_back(rt.alloc()) else {
-        return Ok(());
-    };
-    let heard = hears(rt.alloc(), &mut part, &report);
-    assert!(rt; heard == part.given(2).is_some());
+    if let Some(heard) = hears_of_way_back(rt.alloc(), &mut part) {
+        assert!(rt; heard == part.given(2).is_some());
+    }
     Ok(())
 }
 
@@ -38,10 +45,10 @@ fn tolerant_give(rt: HostRuntime) -> Result<(), Fail> {
 
 #[test]
 fn tolerant_give_at(rt: HostRuntime) -> Result<(), Fail> {
+    let key = key(2, 0)?;
     let Some(mut part) = opened_part(rt.alloc(), 1) else {
         return Ok(());
     };
-    let key = key(2, 0)?;
     let given = part.give_at(key).is_ok();
     assert!(rt; given != part.held().has(key));
     Ok(())
@@ -49,11 +56,12 @@ fn tolerant_give_at(rt: HostRuntime) -> Result<(), Fail> {
 
 #[test]
 fn tolerant_load(rt: HostRuntime) -> Result<(), Fail> {
+    let key = key(2, 0)?;
+    let chunk = chunk(1, 0, 1, 0, 1).ok_or("a chunk")?;
     let Some(mut part) = opened_part(rt.alloc(), 3) else {
         return Ok(());
     };
-    let key = key(2, 0)?;
-    let loaded = part.load(&chunk(1, 0, 1, 0, 1).ok_or("a chunk")?).is_ok();
+    let loaded = part.load(&chunk).is_ok();
     assert!(rt; loaded == part.held().has(key));
     assert!(rt; loaded == part.board().says_loaded(1, 0, 3, key));
     Ok(())
