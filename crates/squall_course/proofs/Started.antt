@@ -1,8 +1,8 @@
 -- The first span of a set beyond a bound, and what it says of a span.
-use Rattle.std.proofs.Common.{◌≡◌, ℕ, zero, suc, ◌<◌, ◌≤◌, max, true, false, leb, List, [], ◌∷◌, length, get_or, Option, Some, None, refl, ◌∙◌, arith, inl, inr}
+use Rattle.std.proofs.Common.{◌≡◌, ℕ, zero, suc, ◌<◌, ◌≤◌, max, true, false, List, [], ◌∷◌, length, get_or, Option, Some, None, refl, ◌∙◌, arith, inl, inr}
 use Rattle.std.specs.Prelude.{◌⊎◌}
 use Rattle.std.specs.List.{slice_get}
-use Rattle.std.proofs.lemmas.Bool.{cases_lt, leb-true, leb-false, or_right}
+use Rattle.std.proofs.lemmas.Bool.{cases_lt, or_right}
 use Rattle.squall_span.specs.Spans.{Interval, span_has, has, IsCanonical}
 use Rattle.squall_span.specs.SpanLaws.{has_below, has_in, has_after, inside, outside_below}
 use Rattle.squall_span.specs.Places.{Ended}
