@@ -23,8 +23,7 @@ use squall_inbox::{Case, Sender, Spent};
 use squall_key::{Key, PartId};
 use squall_report::Report;
 use std::alloc::Global;
-use std::marker::{Brand, PhantomData};
-use std::snapshot::Snapshot;
+use std::marker::Brand;
 use std::sync::{Arc, Wait};
 use std::thread;
 use std::thread::Threads;
@@ -104,10 +103,7 @@ fn run_all<'a, K: Case + Send + Sync, G: Gate + Sync, R: Threads + Wait + Sync>(
             ensures read { IfOk result.1 (λ r. (length r.routes.items ≡ length seats.items) × All (λ routes. Read K.allowed K.first K.opening keys.entry.now routes.items) r.routes.items) }
         {
             let mut owner = owner;
-            let sends = Sends {
-                senders: Snapshot::of(&senders),
-                lists,
-            };
+            let sends = Sends::of(&senders, lists);
             let sending = scope.spawn_with(
                 sends,
                 move || -> Result<Vec<Spent>, Off>
@@ -118,11 +114,7 @@ fn run_all<'a, K: Case + Send + Sync, G: Gate + Sync, R: Threads + Wait + Sync>(
             let Ok(sending) = sending else {
                 return (owner, Err(halt.stop(Stop::NoThread)));
             };
-            let reads = Reads::<K> {
-                count: seats.len(),
-                keys,
-                of: PhantomData,
-            };
+            let reads = Reads::<K>::of(seats.len(), keys);
             let reading = scope.spawn_with(
                 reads,
                 move || -> Result<Vec<Vec<PartId>>, Off>

@@ -69,6 +69,20 @@ pub(crate) struct Reads<'a, K> {
     pub(crate) of: PhantomData<K>,
 }
 
+impl<'a, K: Case> Reads<'a, K> {
+    /// The promise of so many readers, each for all of the keys.
+    pub(crate) fn of(count: usize, keys: &'a [Key]) -> Reads<'a, K>
+        ensures count { result.count ≡ count }
+        ensures keys { result.keys ≡ keys.entry }
+    {
+        Reads {
+            count,
+            keys,
+            of: PhantomData,
+        }
+    }
+}
+
 impl<'a, K: Case> Promise<Result<Vec<Vec<PartId>>, Off>> for Reads<'a, K> {
     ghost kept_by = { λ p r. IfOk r (λ v. (length v.items ≡ p.count) × All (λ r. Read K.allowed K.first K.opening p.keys.now r.items) v.items) };
 }
@@ -122,11 +136,7 @@ fn read_halves<K: Case + Send + Sync, G: Gate + Sync, R: Threads + Wait + Sync>(
             requires { IsSync R.row × IsSync G.row × (0 < length front.items) × (0 < length back.items) }
             ensures { IfOk result (λ v. (length v.items ≡ length front.items + length back.items) × All (λ r. Read K.allowed K.first K.opening keys.entry.now r.items) v.items) }
         {
-            let promise = Reads::<K> {
-                count: back.len(),
-                keys,
-                of: PhantomData,
-            };
+            let promise = Reads::<K>::of(back.len(), keys);
             let child = scope.spawn_with(
                 promise,
                 move || -> Result<Vec<Vec<PartId>>, Off>

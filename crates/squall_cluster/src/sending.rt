@@ -117,6 +117,19 @@ pub(crate) struct Sends<'a, K: Case> {
     pub(crate) lists: &'a [Vec<Report>],
 }
 
+impl<'a, K: Case> Sends<'a, K> {
+    /// The promise of these senders, each for its list.
+    pub(crate) fn of(senders: &Vec<Sender<K>>, lists: &'a [Vec<Report>]) -> Sends<'a, K>
+        ensures senders { result.senders.value ≡ senders.now }
+        ensures lists { result.lists ≡ lists.entry }
+    {
+        Sends {
+            senders: Snapshot::of(senders),
+            lists,
+        }
+    }
+}
+
 impl<'a, K: Case> Promise<Result<Vec<Spent>, Off>> for Sends<'a, K> {
     ghost kept_by = { λ p r. IfOk r (λ v. SentAll p.senders.value.items (map (λ l. l.items) p.lists.now) v.items) };
 }
@@ -177,10 +190,7 @@ fn send_halves<K: Case + Send + Sync, G: Gate + Sync, R: Threads + Wait + Sync>(
             requires { IsSync R.row × IsSync G.row × ((0 < length front.items) × (0 < length back.items)) × (All (λ s. s.posted ≡ []) front.items × (length some.now ≡ length front.items) × All (λ l. Within K.allowed l.items) some.now) × (All (λ s. s.posted ≡ []) back.items × (length others.now ≡ length back.items) × All (λ l. Within K.allowed l.items) others.now) }
             ensures { IfOk result (λ v. SentAll (front.items ++ back.items) (map (λ l. l.items) some.entry.now ++ map (λ l. l.items) others.entry.now) v.items) }
         {
-            let promise = Sends {
-                senders: Snapshot::of(&back),
-                lists: others,
-            };
+            let promise = Sends::of(&back, others);
             let child = scope.spawn_with(
                 promise,
                 move || -> Result<Vec<Spent>, Off>

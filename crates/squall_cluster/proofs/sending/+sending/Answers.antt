@@ -15,5 +15,6 @@ send_halves-scope-returns-in-Ok-append g t c =
     let one : List Posting = c.in_ok-all.all.items in
     let other : List Posting = c.in_ok-rest.rest.items in
     let promised = subst (λ p. SentAll p.senders.value.items (map (λ (l : Vec Report Global). l.items) p.lists.now) other) c.in-Ok.ensures.ok c.in_ok-rest.ensures in
-    let theirs : SentAll back others other = subst (λ (s : Vec (Sender g.row.K.Denot) Global). SentAll s.items others other) c.of.ensures promised in
+    let lent = subst (λ l. SentAll c.of-promise.result.senders.value.items (map (λ (l : Vec Report Global). l.items) l.now) other) c.of-promise.ensures.lists promised in
+    let theirs : SentAll back others other = subst (λ (s : Vec (Sender g.row.K.Denot) Global). SentAll s.items others other) c.of-promise.ensures.senders lent in
     subst (SentAll (front ++ back) (some ++ others)) (sym c.in-Ok-append.ensures.items) (sent_append front back some others one other c.in_ok-all.ensures theirs)
