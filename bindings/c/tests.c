@@ -127,6 +127,10 @@ static void the_first_fault_is_answered(void) {
     router = fresh();
     CHECK(issue(router, 0, "") == SQUALL_LIMIT);
     CHECK(squall_router_fault_at(router) == SQUALL_NO_PLACE);
+    CHECK(issue(router, 2, "{\"plan\":[]}") == SQUALL_NEW_PLAN_GAP);
+    CHECK(squall_router_fault_at(router) == 0);
+    CHECK(issue(router, 2, NEW) == SQUALL_OK);
+    CHECK(squall_router_fault_at(router) == 0);
     drop_router(router);
 }
 
@@ -219,6 +223,8 @@ static void legs_where_room_is_short(void) {
 /* Partition 3 has loaded [2:0,3:0) in sub-plan 0 of course 1. */
 static const char LOAD_FRAME[] = "5351010100000029000000000000000100000001000000000000000300000000"
                                  "0100000002000000000000000300000000";
+/* Sub-plan 0 of course 1 was opened. */
+static const char OPENING_FRAME[] = "535101010000001000000001000000010000000100000000";
 static const char EMPTY_DELTA[] = "53510101000000080000000000000000";
 static const char EMPTY_DIGEST[] = "53510102000000080000000000000000";
 
@@ -232,6 +238,27 @@ static void frames_cut_anywhere(void) {
         CHECK(squall_router_feed(router, bytes + cut, len - cut) == SQUALL_OK);
         CHECK(squall_router_route(router, key(2)) == 3);
         drop_router(router);
+    }
+}
+
+/* Two frames in three pieces, cut anywhere: what is told does not depend on where. */
+static void two_frames_cut_anywhere(void) {
+    uint8_t bytes[128];
+    size_t first = bytes_of_hex(LOAD_FRAME, bytes, sizeof bytes);
+    size_t len = first + bytes_of_hex(OPENING_FRAME, bytes + first, sizeof bytes - first);
+    for (size_t cut = 0; cut <= len; cut++) {
+        for (size_t next = cut; next <= len; next++) {
+            squall_router *router = fresh();
+            uint8_t out[64];
+            CHECK(squall_router_feed(router, bytes, cut) == SQUALL_OK);
+            CHECK(squall_router_feed(router, bytes + cut, next - cut) == SQUALL_OK);
+            CHECK(squall_router_route(router, key(2)) == (next < first ? 1 : 3));
+            CHECK(squall_router_feed(router, bytes + next, len - next) == SQUALL_OK);
+            CHECK(squall_router_gather_board(router) == SQUALL_OK);
+            /* The frame of both has 8 bytes more than that of the load alone. */
+            CHECK(squall_router_frame(router, out, sizeof out) == first + 8);
+            drop_router(router);
+        }
     }
 }
 
@@ -582,6 +609,7 @@ static const struct test TESTS[] = {
     TEST(legs_of_spans),
     TEST(legs_where_room_is_short),
     TEST(frames_cut_anywhere),
+    TEST(two_frames_cut_anywhere),
     TEST(bytes_that_are_no_frame),
     TEST(a_fault_that_waits_for_its_bytes),
     TEST(frames_of_a_board),

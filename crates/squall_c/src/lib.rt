@@ -25,6 +25,3 @@ pub use legs::CLeg;
 pub use router::{RouterSlot, Station, slot_may_cross};
 pub use status::Cause;
 pub use views::{View, ViewSlot, view_may_cross, views_answer_as_their_router};
-
-#[cfg(test)]
-mod tests;
