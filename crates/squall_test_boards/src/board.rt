@@ -66,7 +66,8 @@ pub(crate) fn board_of_two(alloc: Global) -> Option<Board> {
 /// A helper of its own, as most here are: it owns no board. What a proof of a test costs grows with the values that
 /// the test owns, times the ways out of it: so a test makes its boards, and lends them to a function that looks at them.
 pub(crate) fn take(board: &mut Board, report: Option<Report>) -> Result<(), Fail> {
-    board.take(&report.ok_or("report")?)?;
+    let report = report.ok_or("report")?;
+    board.take(&report)?;
     Ok(())
 }
 
@@ -155,18 +156,33 @@ fn merged_from_last(alloc: Global, reports: &[Report; 2]) -> Result<Board, Alloc
     Ok(merged)
 }
 
-#[test]
-fn lists_and_merges(rt: HostRuntime) -> Result<(), Fail> {
-    let all = board_of_two(rt.alloc()).ok_or("a board")?;
-    assert!(rt; is_merged_from_last(rt.alloc(), &all)?);
-    Ok(())
+/// Whether the boards are equal, and each covers the other.
+fn are_alike(a: &Board, b: &Board) -> bool {
+    *a == *b && a.covers(b) && b.covers(a)
+}
+
+/// Whether the board is that of the reports, merged from the last to the first.
+fn is_merged_of(alloc: Global, all: &Board, reports: &[Report; 2]) -> Result<bool, AllocError> {
+    let merged = merged_from_last(alloc, reports)?;
+    Ok(are_alike(all, &merged))
 }
 
 /// Whether the board is that of the two reports, merged from the last to the first.
 fn is_merged_from_last(alloc: Global, all: &Board) -> Result<bool, Fail> {
     let reports = two_reports().ok_or("reports")?;
-    let merged = merged_from_last(alloc, &reports)?;
-    Ok(*all == merged && all.covers(&merged) && merged.covers(all))
+    Ok(is_merged_of(alloc, all, &reports)?)
+}
+
+/// Whether the board of the two reports is that of them merged from the last to the first.
+fn two_are_merged(alloc: Global) -> Result<bool, Fail> {
+    let all = board_of_two(alloc).ok_or("a board")?;
+    is_merged_from_last(alloc, &all)
+}
+
+#[test]
+fn lists_and_merges(rt: HostRuntime) -> Result<(), Fail> {
+    assert!(rt; two_are_merged(rt.alloc())?);
+    Ok(())
 }
 
 /// The load from 2:0 to 3:0, in two pieces.
@@ -174,11 +190,16 @@ fn cut_load() -> Option<[Report; 2]> {
     Some([load("2:7", "3:0")?, load("2:0", "2:7")?])
 }
 
+/// Whether the board is that of these reports.
+pub(crate) fn is_of(alloc: Global, board: &Board, reports: &[Report]) -> Result<bool, AllocError> {
+    let wanted = board_of(alloc, reports)?;
+    Ok(*board == wanted)
+}
+
 /// Whether the board is that of the cut load.
 fn is_cut_load(alloc: Global, whole: &Board) -> Result<bool, Fail> {
     let reports = cut_load().ok_or("a cut load")?;
-    let cut = board_of(alloc, &reports)?;
-    Ok(*whole == cut)
+    Ok(is_of(alloc, whole, &reports)?)
 }
 
 /// Whether a copy of the board is equal to it.
@@ -223,7 +244,8 @@ fn take_issue(
     new: &str,
 ) -> Result<(), Fail> {
     let report = issue(alloc, number, old, new)?;
-    take(board, Some(report))
+    board.take(&report)?;
+    Ok(())
 }
 
 /// Whether one issue of the number is known.
@@ -237,21 +259,29 @@ fn take_issues_that_clash(rt: &impl Abort, alloc: Global, board: &mut Board) -> 
     assert!(rt; has_one_issue(board, 2) && matches!(board.issuing(1), Flat::Unknown));
     take_issue(alloc, board, 2, OLD, NEW)?;
     assert!(rt; has_one_issue(board, 2));
-    take_issue(alloc, board, 2, NEW, OLD)
+    take_issue(alloc, board, 2, NEW, OLD)?;
+    assert!(rt; matches!(board.issuing(2), Flat::Clash));
+    Ok(())
 }
 
 #[test]
 fn issues_and_clashes(rt: HostRuntime) -> Result<(), Fail> {
     let mut board = Board::new(rt.alloc());
-    take_issues_that_clash(&rt, rt.alloc(), &mut board)?;
-    assert!(rt; matches!(board.issuing(2), Flat::Clash));
-    Ok(())
+    take_issues_that_clash(&rt, rt.alloc(), &mut board)
+}
+
+/// The number of the newest course after this one.
+fn newest_after(board: &Board, course: &Course) -> Option<u32> {
+    match board.newest(course) {
+        Some((number, _issue)) => Some(number),
+        None => None,
+    }
 }
 
 /// The number of the newest course after course 1.
 fn newest_number(alloc: Global, board: &Board) -> Result<Option<u32>, Fail> {
     let course = course(alloc)?;
-    Ok(board.newest(&course).map(|newest| newest.0))
+    Ok(newest_after(board, &course))
 }
 
 /// Takes three issues, and looks at the newest course before and after.
@@ -264,11 +294,16 @@ fn take_three_issues(rt: &impl Abort, alloc: Global, board: &mut Board) -> Resul
     Ok(())
 }
 
+/// Takes three issues and one that clashes with the newest, and looks at the newest course then.
+fn take_issues_and_a_clash(rt: &impl Abort, alloc: Global, board: &mut Board) -> Result<(), Fail> {
+    take_three_issues(rt, alloc, board)?;
+    take_issue(alloc, board, 3, OLD, NEW)?;
+    assert!(rt; newest_number(alloc, board)? == Some(2));
+    Ok(())
+}
+
 #[test]
 fn newest_course(rt: HostRuntime) -> Result<(), Fail> {
     let mut board = Board::new(rt.alloc());
-    take_three_issues(&rt, rt.alloc(), &mut board)?;
-    take_issue(rt.alloc(), &mut board, 3, OLD, NEW)?;
-    assert!(rt; newest_number(rt.alloc(), &board)? == Some(2));
-    Ok(())
+    take_issues_and_a_clash(&rt, rt.alloc(), &mut board)
 }

@@ -99,97 +99,156 @@ static CASES: [Case; 22] = [
     },
 ];
 
-/// What the words ask for, as a text.
-fn asked(alloc: Global, words: &'static [&'static str]) -> Result<String, Fail> {
-    let mut text = String::new(alloc);
-    match command(alloc, words) {
-        Ok(Task::Check(plan)) => write!(text, "check {plan}")?,
-        Ok(Task::Course(old, new)) => write!(text, "course {old} {new}")?,
-        Ok(Task::Run(file)) => write!(text, "run {file}")?,
-        Ok(Task::Race(file)) => write!(text, "race {file}")?,
-        Err(LineFault::Help) => text.push_str("help")?,
-        Err(LineFault::Bad) => text.push_str("bad")?,
-        Err(LineFault::NoMemory) => return Err(Fail::from(AllocError)),
+/// Adds the task, as a text.
+fn add_task(task: &Task, text: &mut String) -> Result<(), AllocError> {
+    match task {
+        Task::Check(plan) => write!(text, "check {plan}"),
+        Task::Course(old, new) => write!(text, "course {old} {new}"),
+        Task::Run(file) => write!(text, "run {file}"),
+        Task::Race(file) => write!(text, "race {file}"),
     }
-    Ok(text)
+}
+
+/// Adds why there is no task, as a text.
+fn add_fault(fault: LineFault, text: &mut String) -> Result<(), AllocError> {
+    match fault {
+        LineFault::Help => text.push_str("help"),
+        LineFault::Bad => text.push_str("bad"),
+        LineFault::NoMemory => Err(AllocError),
+    }
+}
+
+/// Adds what the words ask for, as a text.
+fn add_asked(
+    alloc: Global,
+    words: &'static [&'static str],
+    text: &mut String,
+) -> Result<(), AllocError> {
+    match command(alloc, words) {
+        Ok(task) => add_task(&task, text),
+        Err(fault) => add_fault(fault, text),
+    }
+}
+
+/// Whether the words of the case ask for what it says.
+fn is_asked(alloc: Global, case: &Case) -> Result<bool, AllocError> {
+    let mut text = String::new(alloc);
+    add_asked(alloc, case.words, &mut text)?;
+    Ok(text.as_str() == case.asks)
 }
 
 #[test]
 fn words(rt: HostRuntime) -> Result<(), Fail> {
     for case in &CASES {
-        assert!(rt; asked(rt.alloc(), case.words)?.as_str() == case.asks);
+        assert!(rt; is_asked(rt.alloc(), case)?);
     }
     Ok(())
 }
 
+/// Whether the text has each of the pieces.
+fn has_all(text: &str, pieces: &[&str]) -> bool {
+    pieces.iter().all(|piece| text.contains(*piece))
+}
+
+/// Whether what is shown for the words has each of the pieces.
+fn names_all(
+    alloc: Global,
+    words: &'static [&'static str],
+    pieces: &[&str],
+) -> Result<bool, AllocError> {
+    let text = message(alloc, words)?;
+    Ok(has_all(text.as_str(), pieces))
+}
+
+/// Whether what is shown for the words fits a screen.
+fn fits(alloc: Global, words: &'static [&'static str]) -> Result<bool, AllocError> {
+    let text = message(alloc, words)?;
+    Ok(text.as_str().lines().count() <= 24)
+}
+
+static COMMANDS: [&str; 6] = [
+    "check",
+    "course",
+    "run",
+    "race",
+    "squall help run",
+    "squall help race",
+];
+
+static SCENARIO_LINES: [&str; 12] = [
+    "  old JSON ",
+    "  new JSON ",
+    "  loaded N S P LO HI ",
+    "  done N S P ",
+    "  opened N S ",
+    "  issued N JSON ",
+    "  route K ",
+    "  legs LO HI ",
+    "  board ",
+    "  hear HEX ",
+    "  frame ",
+    "  # ",
+];
+
+static RACE_LINES: [&str; 8] = [
+    "  old JSON ",
+    "  new JSON ",
+    "  capacity C ",
+    "  readers N ",
+    "  senders N ",
+    "  N REPORT ",
+    "  key K ",
+    "  # ",
+];
+
 /// Help names each command with its files, and that of `run` each line of a scenario.
 #[test]
 fn help_names_commands_and_lines(rt: HostRuntime) -> Result<(), Fail> {
-    let help = message(rt.alloc(), &["squall", "--help"])?;
-    for command in [
-        "check",
-        "course",
-        "run",
-        "race",
-        "squall help run",
-        "squall help race",
-    ] {
-        assert!(rt; help.as_str().contains(command));
-    }
-    let help = message(rt.alloc(), &["squall", "help", "course"])?;
-    assert!(rt; help.as_str().contains("<OLD> <NEW>"));
-    let help = message(rt.alloc(), &["squall", "run", "--help"])?;
-    for line in [
-        "  old JSON ",
-        "  new JSON ",
-        "  loaded N S P LO HI ",
-        "  done N S P ",
-        "  opened N S ",
-        "  issued N JSON ",
-        "  route K ",
-        "  legs LO HI ",
-        "  board ",
-        "  hear HEX ",
-        "  frame ",
-        "  # ",
-    ] {
-        assert!(rt; help.as_str().contains(line));
-    }
-    assert!(rt; help.as_str().lines().count() <= 24);
+    let alloc = rt.alloc();
+    assert!(rt; names_all(alloc, &["squall", "--help"], &COMMANDS)?);
+    assert!(rt; names_all(alloc, &["squall", "help", "course"], &["<OLD> <NEW>"])?);
+    assert!(rt; names_all(alloc, &["squall", "run", "--help"], &SCENARIO_LINES)?);
+    assert!(rt; fits(alloc, &["squall", "run", "--help"])?);
     Ok(())
 }
 
 /// The help of `race` names each line of a race, and fits a screen.
 #[test]
 fn help_names_lines_of_a_race(rt: HostRuntime) -> Result<(), Fail> {
-    let help = message(rt.alloc(), &["squall", "help", "race"])?;
-    for line in [
-        "  old JSON ",
-        "  new JSON ",
-        "  capacity C ",
-        "  readers N ",
-        "  senders N ",
-        "  N REPORT ",
-        "  key K ",
-        "  # ",
-    ] {
-        assert!(rt; help.as_str().contains(line));
-    }
-    assert!(rt; help.as_str().lines().count() <= 24);
+    let alloc = rt.alloc();
+    assert!(rt; names_all(alloc, &["squall", "help", "race"], &RACE_LINES)?);
+    assert!(rt; fits(alloc, &["squall", "help", "race"])?);
     Ok(())
+}
+
+/// Whether that is what is shown for the words.
+fn shows(alloc: Global, words: &'static [&'static str], wanted: &str) -> Result<bool, AllocError> {
+    let text = message(alloc, words)?;
+    Ok(text.as_str() == wanted)
+}
+
+/// Whether what is shown for the words begins with that.
+fn shows_first(
+    alloc: Global,
+    words: &'static [&'static str],
+    wanted: &str,
+) -> Result<bool, AllocError> {
+    let text = message(alloc, words)?;
+    Ok(text.as_str().starts_with(wanted))
 }
 
 /// The version stands on a line, a fault is told, and words that are taken bring no text.
 #[test]
 fn messages(rt: HostRuntime) -> Result<(), Fail> {
-    let version = message(rt.alloc(), &["squall", "--version"])?;
-    assert!(rt; version.as_str() == "squall 0.1.0\n");
-    let fault = message(rt.alloc(), &["squall", "walk"])?;
+    let alloc = rt.alloc();
+    assert!(rt; shows(alloc, &["squall", "--version"], "squall 0.1.0\n")?);
     assert!(rt;
-        fault
-            .as_str()
-            .starts_with("error: unrecognized subcommand 'walk'\n")
+        shows_first(
+            alloc,
+            &["squall", "walk"],
+            "error: unrecognized subcommand 'walk'\n"
+        )?
     );
-    assert!(rt; message(rt.alloc(), &["squall", "run", "x"])?.is_empty());
+    assert!(rt; shows(alloc, &["squall", "run", "x"], "")?);
     Ok(())
 }

@@ -6,6 +6,7 @@ use squall_lines::{Ended, Flow, LONGEST_PIECE, RunFault, next_line, read_all, ru
 use std::alloc::{AllocError, Global};
 use std::io;
 use std::io::{ErrorKind, Read, Write};
+use std::process::Abort;
 use std::test::Fail;
 
 /// Answers each line that is not empty by its length. A line that begins with `x` is bad.
@@ -151,11 +152,33 @@ const INPUT: &[u8; 13] = b"ab\n\nabcde\nabc";
 
 const OUTPUT: &[u8; 6] = b"2\n5\n3\n";
 
+/// A run of a sample over the text.
 fn run_text(alloc: Global, text: &[u8], out: &mut Vec<u8>) -> Result<Ended, RunFault> {
     let mut sample = Sample;
     let mut reader = Reader::new(text);
     let mut writer = Writer::new(out);
     run(alloc, &mut sample, &mut reader, &mut writer)
+}
+
+/// How a run ended, and what it wrote.
+#[derive(Clone, Copy)]
+struct Outcome<'a> {
+    ended: Result<Ended, RunFault>,
+    written: &'a [u8],
+}
+
+impl Outcome<'_> {
+    /// Whether a run that ended so wrote that.
+    fn is(&self, ended: Result<Ended, RunFault>, written: &[u8]) -> bool {
+        self.ended == ended && self.written == written
+    }
+}
+
+/// Whether a run of a sample over the text comes out so.
+fn answers(alloc: Global, text: &[u8], wanted: Outcome<'_>) -> bool {
+    let mut out = Vec::new(alloc);
+    let ended = run_text(alloc, text, &mut out);
+    wanted.is(ended, out.as_slice())
 }
 
 fn repeated(alloc: Global, piece: &[u8], times: usize) -> Result<Vec<u8>, AllocError> {
@@ -177,133 +200,196 @@ fn texts_are_answered(rt: HostRuntime) -> Result<(), Fail> {
         (b"\n\n\n", Ok(Ended::Fine), b""),
     ];
     for (text, ended, written) in cases {
-        let mut out = Vec::new(rt.alloc());
-        assert!(rt; run_text(rt.alloc(), text, &mut out) == ended);
-        assert!(rt; out.as_slice() == written);
+        assert!(rt; answers(rt.alloc(), text, Outcome { ended, written }));
     }
     Ok(())
 }
 
+/// A run of a machine that numbers the lines of the input.
+fn run_numbers(alloc: Global, out: &mut Vec<u8>) -> Result<Ended, RunFault> {
+    let mut reader = Reader::new(INPUT.as_slice());
+    let mut writer = Writer::new(out);
+    run(alloc, &mut Numbers { line: 0 }, &mut reader, &mut writer)
+}
+
+/// Whether that run comes out so.
+fn numbers_lines(alloc: Global, wanted: Outcome<'_>) -> bool {
+    let mut out = Vec::new(alloc);
+    let ended = run_numbers(alloc, &mut out);
+    wanted.is(ended, out.as_slice())
+}
+
 #[test]
 fn lines_are_numbered(rt: HostRuntime) -> Result<(), Fail> {
-    let mut reader = Reader::new(INPUT.as_slice());
-    let mut out = Vec::new(rt.alloc());
-    let mut writer = Writer::new(&mut out);
-    let result = run(
-        rt.alloc(),
-        &mut Numbers { line: 0 },
-        &mut reader,
-        &mut writer,
-    );
-    assert!(rt; result == Ok(Ended::Fine));
-    assert!(rt; out.as_slice() == b"1\n2\n3\n4\n".as_slice());
+    let wanted = Outcome {
+        ended: Ok(Ended::Fine),
+        written: b"1\n2\n3\n4\n",
+    };
+    assert!(rt; numbers_lines(rt.alloc(), wanted));
     Ok(())
+}
+
+/// A run of a sample over the input, at a byte a read, with so many reads.
+fn run_drip(alloc: Global, reads_left: u64, out: &mut Vec<u8>) -> Result<Ended, RunFault> {
+    let mut sample = Sample;
+    let mut reader = Reader::new(Drip {
+        bytes: INPUT.as_slice(),
+        reads_left,
+    });
+    let mut writer = Writer::new(out);
+    run(alloc, &mut sample, &mut reader, &mut writer)
+}
+
+/// Whether that run comes out so.
+fn drips(alloc: Global, reads_left: u64, wanted: Outcome<'_>) -> bool {
+    let mut out = Vec::new(alloc);
+    let ended = run_drip(alloc, reads_left, &mut out);
+    wanted.is(ended, out.as_slice())
 }
 
 #[test]
 fn one_byte_per_read(rt: HostRuntime) -> Result<(), Fail> {
     for reads_left in 0..20u64 {
-        let mut sample = Sample;
-        let mut reader = Reader::new(Drip {
-            bytes: INPUT.as_slice(),
-            reads_left,
-        });
-        let mut out = Vec::new(rt.alloc());
-        let mut writer = Writer::new(&mut out);
-        let result = run(rt.alloc(), &mut sample, &mut reader, &mut writer);
         // Thirteen reads give a byte, and the next one finds the end.
-        let wanted = if reads_left < 14 {
+        let ended = if reads_left < 14 {
             Err(RunFault::Read)
         } else {
             Ok(Ended::Fine)
         };
         let written = match reads_left {
-            0..=2 => 0,
-            3..=9 => 2,
-            10..=13 => 4,
-            _ => 6,
+            0..=2 => &OUTPUT[..0],
+            3..=9 => &OUTPUT[..2],
+            10..=13 => &OUTPUT[..4],
+            _ => OUTPUT.as_slice(),
         };
-        assert!(rt; result == wanted, "at {reads_left}");
-        assert!(rt; out.as_slice() == &OUTPUT[..written], "at {reads_left}");
+        let wanted = Outcome { ended, written };
+        assert!(rt; drips(rt.alloc(), reads_left, wanted), "at {reads_left}");
     }
     Ok(())
+}
+
+/// A run of a sample over the input, into the dropper.
+fn run_dropper(alloc: Global, dropper: &mut Dropper) -> Result<Ended, RunFault> {
+    let mut sample = Sample;
+    let mut reader = Reader::new(INPUT.as_slice());
+    let mut writer = Writer::new(dropper);
+    run(alloc, &mut sample, &mut reader, &mut writer)
+}
+
+/// Whether that run comes out so, after so many writes.
+fn drops(alloc: Global, writes_left: u64, fails: bool, wanted: Outcome<'_>) -> bool {
+    let mut dropper = Dropper {
+        taken: Vec::new(alloc),
+        writes_left,
+        fails,
+    };
+    let ended = run_dropper(alloc, &mut dropper);
+    wanted.is(ended, dropper.taken.as_slice())
 }
 
 #[test]
 fn one_byte_per_write(rt: HostRuntime) -> Result<(), Fail> {
     for writes_left in 0..10u64 {
-        for fails in [false, true] {
-            let mut sample = Sample;
-            let mut reader = Reader::new(INPUT.as_slice());
-            let mut dropper = Dropper {
-                taken: Vec::new(rt.alloc()),
-                writes_left,
-                fails,
-            };
-            let mut writer = Writer::new(&mut dropper);
-            let result = run(rt.alloc(), &mut sample, &mut reader, &mut writer);
-            let wanted = if writes_left < 6 {
-                Err(RunFault::Write)
-            } else {
-                Ok(Ended::Fine)
-            };
-            let written = if writes_left < 6 {
-                writes_left as usize
-            } else {
-                6
-            };
-            assert!(rt; result == wanted, "at {writes_left}");
-            assert!(rt;
-                dropper.taken.as_slice() == &OUTPUT[..written],
-                "at {writes_left}"
-            );
-        }
+        let wanted = if writes_left < 6 {
+            Outcome {
+                ended: Err(RunFault::Write),
+                written: &OUTPUT[..writes_left as usize],
+            }
+        } else {
+            Outcome {
+                ended: Ok(Ended::Fine),
+                written: OUTPUT.as_slice(),
+            }
+        };
+        assert!(rt;
+            drops(rt.alloc(), writes_left, false, wanted),
+            "at {writes_left}"
+        );
+        assert!(rt;
+            drops(rt.alloc(), writes_left, true, wanted),
+            "at {writes_left}"
+        );
     }
+    Ok(())
+}
+
+/// The longest piece is answered as a line, and one byte more as a line that is too long.
+fn pieces_are_answered(
+    rt: &impl Abort,
+    alloc: Global,
+    text: &mut Vec<u8>,
+) -> Result<(), AllocError> {
+    let whole = Outcome {
+        ended: Ok(Ended::Fine),
+        written: b"1048577\n",
+    };
+    assert!(rt; answers(alloc, text.as_slice(), whole));
+    text.extend_from_slice(b"a")?;
+    let long = Outcome {
+        ended: Ok(Ended::Refused),
+        written: b"long\n",
+    };
+    assert!(rt; answers(alloc, text.as_slice(), long));
     Ok(())
 }
 
 #[test]
 fn long_lines(rt: HostRuntime) -> Result<(), Fail> {
     let mut text = repeated(rt.alloc(), b"a", LONGEST_PIECE)?;
-    let mut out = Vec::new(rt.alloc());
-    assert!(rt; run_text(rt.alloc(), text.as_slice(), &mut out) == Ok(Ended::Fine));
-    assert!(rt; out.as_slice() == b"1048577\n".as_slice());
-    text.extend_from_slice(b"a")?;
-    out.clear();
-    assert!(rt; run_text(rt.alloc(), text.as_slice(), &mut out) == Ok(Ended::Refused));
-    assert!(rt; out.as_slice() == b"long\n".as_slice());
+    pieces_are_answered(&rt, rt.alloc(), &mut text)?;
     Ok(())
+}
+
+/// A run of a sample over more than a million letters.
+fn run_letters(alloc: Global, out: &mut Vec<u8>) -> Result<Ended, RunFault> {
+    let mut sample = Sample;
+    let mut reader = Reader::new(Letters {
+        reads_left: 1_200_000,
+    });
+    let mut writer = Writer::new(out);
+    run(alloc, &mut sample, &mut reader, &mut writer)
+}
+
+/// Whether that run comes out so.
+fn reads_letters(alloc: Global, wanted: Outcome<'_>) -> bool {
+    let mut out = Vec::new(alloc);
+    let ended = run_letters(alloc, &mut out);
+    wanted.is(ended, out.as_slice())
 }
 
 /// Neither many reads nor many lines end a run before the input ends.
 #[test]
 fn a_million_short_reads(rt: HostRuntime) -> Result<(), Fail> {
-    let mut reader = Reader::new(Letters {
-        reads_left: 1_200_000,
-    });
-    let wanted = repeated(rt.alloc(), b"9\n", 120_000)?;
-    let mut out = Vec::new(rt.alloc());
-    let mut writer = Writer::new(&mut out);
-    let result = run(rt.alloc(), &mut Sample, &mut reader, &mut writer);
-    assert!(rt; result == Ok(Ended::Fine));
-    assert!(rt; out == wanted);
+    let text = repeated(rt.alloc(), b"9\n", 120_000)?;
+    let wanted = Outcome {
+        ended: Ok(Ended::Fine),
+        written: text.as_slice(),
+    };
+    assert!(rt; reads_letters(rt.alloc(), wanted));
     Ok(())
+}
+
+/// Whether all that comes of a reader of one byte a read is the input.
+fn drip_is_input(alloc: Global, reads_left: u64) -> Result<bool, RunFault> {
+    let mut reader = Reader::new(Drip {
+        bytes: INPUT.as_slice(),
+        reads_left,
+    });
+    let text = read_all(alloc, &mut reader)?;
+    Ok(text.as_slice() == INPUT.as_slice())
+}
+
+/// Whether all that comes of an empty reader is nothing.
+fn nothing_is_nothing(alloc: Global) -> Result<bool, RunFault> {
+    let text = read_all(alloc, &mut Reader::new(b"".as_slice()))?;
+    Ok(text.is_empty())
 }
 
 #[test]
 fn whole_inputs(rt: HostRuntime) -> Result<(), Fail> {
-    for reads_left in [13u64, 14] {
-        let mut reader = Reader::new(Drip {
-            bytes: INPUT.as_slice(),
-            reads_left,
-        });
-        match read_all(rt.alloc(), &mut reader) {
-            Ok(text) => assert!(rt; reads_left == 14 && text.as_slice() == INPUT.as_slice()),
-            Err(fault) => assert!(rt; reads_left == 13 && fault == RunFault::Read),
-        }
-    }
-    let text = read_all(rt.alloc(), &mut Reader::new(b"".as_slice()));
-    assert!(rt; text.is_ok_and(|text| text.is_empty()));
+    assert!(rt; drip_is_input(rt.alloc(), 13) == Err(RunFault::Read));
+    assert!(rt; drip_is_input(rt.alloc(), 14) == Ok(true));
+    assert!(rt; nothing_is_nothing(rt.alloc()) == Ok(true));
     Ok(())
 }
 

@@ -3,40 +3,17 @@
 mod clients;
 mod tolerant;
 
+use crate::part::{NEW, OLD, plan};
 use squall_board::Board;
+use squall_course::Course;
 use squall_join::Flat;
-use squall_key::{Bound, PartId};
-use squall_leader::Leader;
-use squall_plan::{Plan, PlanRange};
-use squall_report::{Report, ReportKind};
-use squall_span::Span;
-use std::alloc::Global;
+use squall_leader::{Leader, LeaderFault};
+use squall_plan::Plan;
+use squall_report::{Issue, Report, ReportKind};
+use std::alloc::{AllocError, Global};
 use std::process::Abort;
+use std::sync::Arc;
 use std::test::Fail;
-
-/// The root of the end.
-const END: u32 = 4294967295;
-
-const OLD: [(u32, u32, u32); 4] = [(1, 0, 3), (2, 3, 5), (3, 5, 9), (4, 9, END)];
-
-const NEW: [(u32, u32, u32); 5] = [(1, 0, 2), (3, 2, 3), (2, 3, 5), (3, 5, 6), (4, 6, END)];
-
-/// The roots from `lo` on, below `hi`, for the partition.
-fn range(number: u32, lo: u32, hi: u32) -> Option<PlanRange> {
-    let span = Span::new(Bound::new(lo, 0)?, Bound::new(hi, 0)?)?;
-    let part = PartId::new(number)?;
-    Some(PlanRange { span, part })
-}
-
-/// A plan of ranges of roots, each a partition, its first root and the root after it. None also
-/// where an allocation fails.
-fn plan(alloc: Global, ranges: &[(u32, u32, u32)]) -> Option<Plan> {
-    let mut listed = Vec::new(alloc);
-    for (number, lo, hi) in ranges {
-        listed.push(range(*number, *lo, *hi)?).ok()?;
-    }
-    Plan::from_ranges(alloc, &listed).ok()
-}
 
 /// What is asked of a leader.
 #[derive(Clone, Copy)]
@@ -53,56 +30,98 @@ enum Step {
     Finished,
 }
 
-/// The number of the course that is begun, as text, or the fault.
-fn begun(alloc: Global, leader: &mut Leader, ranges: &[(u32, u32, u32)]) -> Result<String, Fail> {
-    let plan = plan(alloc, ranges).ok_or("a plan")?;
-    match leader.begin(&plan) {
+/// Writes the number of the course that is begun, or the fault.
+fn write_begun(
+    out: &mut String,
+    begun: Result<Arc<Course>, LeaderFault>,
+) -> Result<(), AllocError> {
+    match begun {
         Ok(course) => {
             let number = course.number();
-            Ok(format!(in alloc; "course {number}")?)
+            write!(out, "course {number}")
         }
-        Err(fault) => Ok(format!(in alloc; "{fault}")?),
+        Err(fault) => write!(out, "{fault}"),
     }
 }
 
-/// The report of what is opened, as text, or the fault.
-fn opened(alloc: Global, leader: &mut Leader) -> Result<String, Fail> {
-    match leader.open_next() {
-        Ok(report) => match report.kind() {
-            ReportKind::Opened { number, sub } => Ok(format!(in alloc; "opened {number} {sub}")?),
-            _ => Ok(format!(in alloc; "another report")?),
-        },
-        Err(fault) => Ok(format!(in alloc; "{fault}")?),
+/// Begins the course to the plan of these ranges, and writes its number, or the fault.
+///
+/// What a proof of a test costs grows with the values that the test owns, times the ways out of it: so a function here
+/// makes one value, and lends it to another.
+fn begin(
+    alloc: Global,
+    leader: &mut Leader,
+    ranges: &[(u32, u32, u32)],
+    out: &mut String,
+) -> Result<(), Fail> {
+    let plan = plan(alloc, ranges).ok_or("a plan")?;
+    write_begun(out, leader.begin(&plan))?;
+    Ok(())
+}
+
+/// Writes what is opened.
+fn write_report(out: &mut String, report: &Report) -> Result<(), AllocError> {
+    match report.kind() {
+        ReportKind::Opened { number, sub } => write!(out, "opened {number} {sub}"),
+        _ => write!(out, "another report"),
     }
+}
+
+/// Opens the next sub-plan, and writes what is opened, or the fault.
+fn open(leader: &mut Leader, out: &mut String) -> Result<(), AllocError> {
+    match leader.open_next() {
+        Ok(report) => write_report(out, &report),
+        Err(fault) => write!(out, "{fault}"),
+    }
+}
+
+/// Takes the report that the partition is done in sub-plan 0 of the number.
+fn take_done(delta: &mut Board, number: u32, part: u32) -> Result<(), Fail> {
+    let report = Report::done(number, 0, part).ok_or("a report")?;
+    delta.take(&report)?;
+    Ok(())
+}
+
+/// The board that the partition is done in sub-plan 0 of the number.
+fn done(alloc: Global, number: u32, part: u32) -> Result<Board, Fail> {
+    let mut delta = Board::new(alloc);
+    take_done(&mut delta, number, part)?;
+    Ok(delta)
 }
 
 /// Tells the leader that the partition is done in sub-plan 0 of the number.
 fn completes(alloc: Global, leader: &mut Leader, number: u32, part: u32) -> Result<(), Fail> {
-    let mut delta = Board::new(alloc);
-    let report = Report::done(number, 0, part).ok_or("a report")?;
-    delta.take(&report)?;
+    let delta = done(alloc, number, part)?;
     leader.absorb(&delta)?;
     Ok(())
 }
 
-/// What comes of the step, as text.
-fn answer(alloc: Global, leader: &mut Leader, step: Step) -> Result<String, Fail> {
+/// Writes what comes of the step.
+fn answer(alloc: Global, leader: &mut Leader, step: Step, out: &mut String) -> Result<(), Fail> {
     match step {
-        Step::Begin(ranges) => begun(alloc, leader, ranges),
-        Step::Open => opened(alloc, leader),
+        Step::Begin(ranges) => begin(alloc, leader, ranges, out)?,
+        Step::Open => open(leader, out)?,
         Step::Hear { number, part } => {
             completes(alloc, leader, number, part)?;
-            Ok(format!(in alloc; "heard")?)
+            write!(out, "heard")?;
         }
         Step::Opened(number) => {
             let count = leader.board().opened(number);
-            Ok(format!(in alloc; "{count}")?)
+            write!(out, "{count}")?;
         }
         Step::Finished => {
             let is_finished = leader.finished();
-            Ok(format!(in alloc; "{is_finished}")?)
+            write!(out, "{is_finished}")?;
         }
     }
+    Ok(())
+}
+
+/// Whether the step has the answer.
+fn is_answered(alloc: Global, leader: &mut Leader, step: Step, wanted: &str) -> Result<bool, Fail> {
+    let mut out = String::new(alloc);
+    answer(alloc, leader, step, &mut out)?;
+    Ok(out.as_str() == wanted)
 }
 
 /// Each of the steps, one after the other, has its answer.
@@ -113,10 +132,7 @@ fn answers(
     steps: &[(Step, &str)],
 ) -> Result<(), Fail> {
     for (step, wanted) in steps {
-        assert!(rt;
-            answer(alloc, leader, *step)?.as_str() == *wanted,
-            "{wanted}"
-        );
+        assert!(rt; is_answered(alloc, leader, *step, wanted)?, "{wanted}");
     }
     Ok(())
 }
@@ -124,6 +140,12 @@ fn answers(
 fn leader(alloc: Global) -> Result<Leader, Fail> {
     let plan = plan(alloc, &OLD).ok_or("a plan")?;
     Ok(Leader::new(alloc, &plan)?)
+}
+
+/// The steps of a leader of the old plan have their answers.
+fn leader_answers(rt: &impl Abort, alloc: Global, steps: &[(Step, &str)]) -> Result<(), Fail> {
+    let mut leader = leader(alloc)?;
+    answers(rt, alloc, &mut leader, steps)
 }
 
 #[test]
@@ -135,7 +157,7 @@ fn begins_once(rt: HostRuntime) -> Result<(), Fail> {
         (Step::Begin(&OLD), "Running"),
         (Step::Finished, "false"),
     ];
-    answers(&rt, rt.alloc(), &mut leader(rt.alloc())?, &steps)
+    leader_answers(&rt, rt.alloc(), &steps)
 }
 
 #[test]
@@ -149,7 +171,7 @@ fn opens_and_waits(rt: HostRuntime) -> Result<(), Fail> {
         (Step::Open, "NotDone 0 4"),
         (Step::Finished, "false"),
     ];
-    answers(&rt, rt.alloc(), &mut leader(rt.alloc())?, &steps)
+    leader_answers(&rt, rt.alloc(), &steps)
 }
 
 /// What leads from the old plan to the new one, to the end: the one sub-plan is opened, and both
@@ -161,8 +183,8 @@ const WAY: [(Step, &str); 4] = [
     (Step::Hear { number: 1, part: 3 }, "heard"),
 ];
 
-#[test]
-fn finishes_and_begins_again(rt: HostRuntime) -> Result<(), Fail> {
+/// The leader goes its way, and begins again.
+fn begin_again(rt: &impl Abort, alloc: Global, leader: &mut Leader) -> Result<(), Fail> {
     let steps = [
         (Step::Finished, "true"),
         (Step::Open, "NoMore"),
@@ -170,9 +192,30 @@ fn finishes_and_begins_again(rt: HostRuntime) -> Result<(), Fail> {
         (Step::Finished, "false"),
         (Step::Open, "opened 2 0"),
     ];
+    answers(rt, alloc, leader, &WAY)?;
+    answers(rt, alloc, leader, &steps)
+}
+
+#[test]
+fn finishes_and_begins_again(rt: HostRuntime) -> Result<(), Fail> {
     let mut leader = leader(rt.alloc())?;
-    answers(&rt, rt.alloc(), &mut leader, &WAY)?;
-    answers(&rt, rt.alloc(), &mut leader, &steps)
+    begin_again(&rt, rt.alloc(), &mut leader)
+}
+
+/// Whether the plan is the one of these ranges.
+fn is_plan(alloc: Global, told: &Plan, ranges: &[(u32, u32, u32)]) -> Result<bool, Fail> {
+    let wanted = plan(alloc, ranges).ok_or("a plan")?;
+    Ok(*told == wanted)
+}
+
+/// Whether the issue leads from the one plan to the other.
+fn leads(
+    alloc: Global,
+    issue: &Issue,
+    old: &[(u32, u32, u32)],
+    new: &[(u32, u32, u32)],
+) -> Result<bool, Fail> {
+    Ok(is_plan(alloc, issue.old(), old)? && is_plan(alloc, issue.new_plan(), new)?)
 }
 
 /// Whether the board has one issue of that number, from the one plan to the other.
@@ -183,10 +226,8 @@ fn issues(
     old: &[(u32, u32, u32)],
     new: &[(u32, u32, u32)],
 ) -> Result<bool, Fail> {
-    let old = plan(alloc, old).ok_or("a plan")?;
-    let new = plan(alloc, new).ok_or("a plan")?;
     match board.issuing(number) {
-        Flat::One(issue) => Ok(*issue.old() == old && *issue.new_plan() == new),
+        Flat::One(issue) => leads(alloc, issue, old, new),
         Flat::Unknown | Flat::Clash => Ok(false),
     }
 }
@@ -203,7 +244,8 @@ fn issues_both(rt: &impl Abort, alloc: Global, leader: &mut Leader) -> Result<()
 
 #[test]
 fn tells_what_is_issued(rt: HostRuntime) -> Result<(), Fail> {
-    issues_both(&rt, rt.alloc(), &mut leader(rt.alloc())?)
+    let mut leader = leader(rt.alloc())?;
+    issues_both(&rt, rt.alloc(), &mut leader)
 }
 
 /// A leader of the old plan, where numbers up to `last` were used before.
@@ -212,25 +254,26 @@ fn leader_after(alloc: Global, last: u32) -> Result<Leader, Fail> {
     Ok(Leader::after(alloc, &plan, last)?)
 }
 
+/// The steps of a leader of the old plan, where numbers up to `last` were used before, have their answers.
+fn later_answers(
+    rt: &impl Abort,
+    alloc: Global,
+    last: u32,
+    steps: &[(Step, &str)],
+) -> Result<(), Fail> {
+    let mut leader = leader_after(alloc, last)?;
+    answers(rt, alloc, &mut leader, steps)
+}
+
 #[test]
 fn numbers_end(rt: HostRuntime) -> Result<(), Fail> {
     let last = [
         (Step::Begin(&OLD), "course 4294967295"),
         (Step::Begin(&NEW), "NoNumber"),
     ];
-    answers(
-        &rt,
-        rt.alloc(),
-        &mut leader_after(rt.alloc(), 4294967294)?,
-        &last,
-    )?;
+    later_answers(&rt, rt.alloc(), 4294967294, &last)?;
     let none = [(Step::Begin(&NEW), "NoNumber"), (Step::Open, "Idle")];
-    answers(
-        &rt,
-        rt.alloc(),
-        &mut leader_after(rt.alloc(), 4294967295)?,
-        &none,
-    )
+    later_answers(&rt, rt.alloc(), 4294967295, &none)
 }
 
 #[test]
@@ -241,5 +284,5 @@ fn nothing_moves(rt: HostRuntime) -> Result<(), Fail> {
         (Step::Open, "NoMore"),
         (Step::Begin(&NEW), "course 2"),
     ];
-    answers(&rt, rt.alloc(), &mut leader(rt.alloc())?, &steps)
+    leader_answers(&rt, rt.alloc(), &steps)
 }

@@ -4,7 +4,7 @@ mod clients;
 mod tolerant;
 
 use squall_key::{Bound, Key, PartId};
-use squall_plan::{Plan, PlanRange};
+use squall_plan::{Plan, PlanFault, PlanRange};
 use squall_span::Span;
 use std::alloc::{AllocError, Global};
 use std::process::Abort;
@@ -16,19 +16,34 @@ const OLD: &str =
 const NEW: &str =
     "{\"plan\":[{\"part\":1,\"from\":[0,0],\"to\":[2,0]},{\"part\":2,\"from\":[3,0],\"to\":[5,0]},{\"part\":3,\"from\":[2,0],\"to\":[3,0]},{\"part\":3,\"from\":[5,0],\"to\":[6,0]},{\"part\":4,\"from\":[6,0],\"to\":\"end\"}]}";
 
-/// The ranges of the plan of a text, or its fault, as they are printed.
-fn shown(alloc: Global, text: &[u8]) -> Result<String, Fail> {
-    let plan = match Plan::read(alloc, text) {
-        Ok(plan) => plan,
-        Err(fault) => return Ok(format!(in alloc; "{fault}")?),
-    };
+/// Writes the range, and a semicolon after it.
+fn write_range(out: &mut String, range: &PlanRange) -> Result<(), AllocError> {
+    let part = range.part;
+    let span = range.span;
+    write!(out, "{part} {span};")?;
+    Ok(())
+}
+
+/// The ranges as they are printed.
+fn ranges_shown(alloc: Global, ranges: &[PlanRange]) -> Result<String, AllocError> {
     let mut out = String::new(alloc);
-    for range in plan.ranges() {
-        let part = range.part;
-        let span = range.span;
-        write!(out, "{part} {span};")?;
+    for range in ranges {
+        write_range(&mut out, range)?;
     }
     Ok(out)
+}
+
+/// The fault as it is printed.
+fn fault_shown(alloc: Global, fault: PlanFault) -> Result<String, AllocError> {
+    format!(in alloc; "{fault}")
+}
+
+/// The ranges of the plan of a text, or its fault, as they are printed.
+fn shown(alloc: Global, text: &[u8]) -> Result<String, AllocError> {
+    match Plan::read(alloc, text) {
+        Ok(plan) => ranges_shown(alloc, plan.ranges()),
+        Err(fault) => fault_shown(alloc, fault),
+    }
 }
 
 /// The text is shown so.
@@ -47,12 +62,22 @@ fn one_shows(rt: &impl Abort, alloc: Global, entry: &str, wanted: &str) -> Resul
     shows(rt, alloc, text.as_bytes(), wanted)
 }
 
-fn range(part: u32, lo: &str, hi: &str) -> Result<PlanRange, Fail> {
-    let lo = Bound::read(lo).ok_or("a low bound")?;
-    let hi = Bound::read(hi).ok_or("a high bound")?;
-    let span = Span::new(lo, hi).ok_or("a span")?;
-    let part = PartId::new(part).ok_or("a partition")?;
-    Ok(PlanRange { span, part })
+fn part(rt: &impl Abort, number: u32) -> PartId {
+    PartId::new(number).expect(rt, "a partition")
+}
+
+fn key(rt: &impl Abort, text: &str) -> Key {
+    Key::read(text).expect(rt, "a key")
+}
+
+fn bound(rt: &impl Abort, text: &str) -> Bound {
+    Bound::read(text).expect(rt, "a bound")
+}
+
+fn range(rt: &impl Abort, number: u32, lo: &str, hi: &str) -> PlanRange {
+    let span = Span::new(bound(rt, lo), bound(rt, hi)).expect(rt, "a span");
+    let part = part(rt, number);
+    PlanRange { span, part }
 }
 
 #[test]
@@ -189,16 +214,21 @@ fn too_many(rt: HostRuntime) -> Result<(), Fail> {
     shows(&rt, rt.alloc(), text.as_bytes(), "TooMany")
 }
 
+/// Writes the entry of the root.
+fn write_root(text: &mut String, root: u32, next: u32) -> Result<(), AllocError> {
+    write!(
+        text,
+        "{{\"part\":1,\"from\":[{root},0],\"to\":[{next},0]}},"
+    )?;
+    Ok(())
+}
+
 /// A text of 4096 entries, which make one range.
 fn of_4096(alloc: Global) -> Result<String, AllocError> {
     let mut text = String::new(alloc);
     text.push_str("{\"plan\":[")?;
     for root in 0..4095u32 {
-        let next = root + 1;
-        write!(
-            text,
-            "{{\"part\":1,\"from\":[{root},0],\"to\":[{next},0]}},"
-        )?;
+        write_root(&mut text, root, root + 1)?;
     }
     text.push_str("{\"part\":1,\"from\":[4095,0],\"to\":\"end\"}]}")?;
     Ok(text)
@@ -211,8 +241,8 @@ fn as_many_as_there_can_be(rt: HostRuntime) -> Result<(), Fail> {
 }
 
 /// A plan of two ranges that make one, given in falling order.
-fn plan_of_one_range(alloc: Global) -> Result<Plan, Fail> {
-    let ranges = [range(1, "2:0", "end")?, range(1, "0:0", "2:0")?];
+fn plan_of_one_range(rt: &impl Abort, alloc: Global) -> Result<Plan, Fail> {
+    let ranges = [range(rt, 1, "2:0", "end"), range(rt, 1, "0:0", "2:0")];
     let plan = Plan::from_ranges(alloc, &ranges).ok().ok_or("one range")?;
     Ok(plan)
 }
@@ -233,7 +263,7 @@ fn new_plan(alloc: Global) -> Result<Plan, Fail> {
 
 /// The plan is of one range, and it is not the new one.
 fn look_at_one_range(rt: &impl Abort, alloc: Global, plan: &Plan) -> Result<(), Fail> {
-    assert!(rt; plan.ranges() == [range(1, "0:0", "end")?].as_slice());
+    assert!(rt; plan.ranges() == [range(rt, 1, "0:0", "end")].as_slice());
     assert!(rt; is_its_copy(alloc, plan)?);
     let new = new_plan(alloc)?;
     assert!(rt; new != *plan);
@@ -242,12 +272,12 @@ fn look_at_one_range(rt: &impl Abort, alloc: Global, plan: &Plan) -> Result<(), 
 
 #[test]
 fn ranges_that_are_joined(rt: HostRuntime) -> Result<(), Fail> {
-    let plan = plan_of_one_range(rt.alloc())?;
+    let plan = plan_of_one_range(&rt, rt.alloc())?;
     look_at_one_range(&rt, rt.alloc(), &plan)
 }
 
 /// Looks at the owners of keys by the new plan.
-fn look_at_owners(rt: &impl Abort, new: &Plan) -> Result<(), Fail> {
+fn look_at_owners(rt: &impl Abort, new: &Plan) {
     let owners = [
         ("0:0", 1),
         ("1:4294967295", 1),
@@ -256,52 +286,51 @@ fn look_at_owners(rt: &impl Abort, new: &Plan) -> Result<(), Fail> {
         ("5:0", 3),
         ("6:0", 4),
     ];
-    for (key, part) in owners {
-        let key = Key::read(key).ok_or("a key")?;
-        assert!(rt; new.owner(key).get() == part);
+    for (text, number) in owners {
+        let key = key(rt, text);
+        assert!(rt; new.owner(key).get() == number);
         assert!(rt; new.names(clients::named_owner(new, key)));
     }
-    let other = PartId::new(5).ok_or("a partition")?;
-    assert!(rt; !new.names(other));
-    Ok(())
+    assert!(rt; !new.names(part(rt, 5)));
 }
 
 #[test]
 fn owners(rt: HostRuntime) -> Result<(), Fail> {
     let new = new_plan(rt.alloc())?;
-    look_at_owners(&rt, &new)
+    look_at_owners(&rt, &new);
+    Ok(())
 }
 
 /// The range of roots from `place` on that is the partition 1000 + `place`: one root, or all that
 /// is left.
-fn step(place: u32) -> Result<PlanRange, Fail> {
+fn step(rt: &impl Abort, place: u32) -> PlanRange {
     let end = if place >= 4095 { 4294967295 } else { place + 1 };
-    let lo = Bound::new(place, 0).ok_or("a low bound")?;
-    let hi = Bound::new(end, 0).ok_or("a high bound")?;
-    let span = Span::new(lo, hi).ok_or("a span")?;
-    let part = PartId::new(place.saturating_add(1000)).ok_or("a partition")?;
-    Ok(PlanRange { span, part })
+    let lo = Bound::new(place, 0).expect(rt, "a low bound");
+    let hi = Bound::new(end, 0).expect(rt, "a high bound");
+    let span = Span::new(lo, hi).expect(rt, "a span");
+    let part = part(rt, place.saturating_add(1000));
+    PlanRange { span, part }
 }
 
 /// The 4096 ranges of one root each, and of all that is left, in falling order.
-fn falling_ranges(alloc: Global) -> Result<Vec<PlanRange>, Fail> {
+fn falling_ranges(rt: &impl Abort, alloc: Global) -> Result<Vec<PlanRange>, AllocError> {
     let mut ranges = Vec::new(alloc);
     for place in 0..4096u32 {
-        ranges.push(step(4095 - place)?)?;
+        ranges.push(step(rt, 4095 - place))?;
     }
     Ok(ranges)
 }
 
 /// The plan of these ranges.
-fn plan_of_4096(alloc: Global) -> Result<Plan, Fail> {
-    let ranges = falling_ranges(alloc)?;
+fn plan_of_4096(rt: &impl Abort, alloc: Global) -> Result<Plan, Fail> {
+    let ranges = falling_ranges(rt, alloc)?;
     let plan = Plan::from_ranges(alloc, &ranges).ok().ok_or("a plan")?;
     Ok(plan)
 }
 
 #[test]
 fn a_plan_of_4096_ranges(rt: HostRuntime) -> Result<(), Fail> {
-    let plan = plan_of_4096(rt.alloc())?;
+    let plan = plan_of_4096(&rt, rt.alloc())?;
     assert!(rt; clients::count(&plan) == 4096);
     for range in plan.ranges() {
         assert!(rt; plan.names(range.part));

@@ -27,24 +27,38 @@ fn plan(alloc: Global, text: &str) -> Option<Plan> {
     Plan::read(alloc, text.as_bytes()).ok()
 }
 
-/// The issue of the plans of two texts.
-fn issue(alloc: Global, old: &str, new: &str) -> Result<Arc<Issue>, Fail> {
-    let old = plan(alloc, old).ok_or("an old plan")?;
+/// The issue of the plan and that of a text.
+fn issue_from(alloc: Global, old: &Plan, new: &str) -> Result<Arc<Issue>, Fail> {
     let new = plan(alloc, new).ok_or("a new plan")?;
-    let issue = Issue::new(alloc, &old, &new)?;
+    let issue = Issue::new(alloc, old, &new)?;
     Ok(issue)
 }
 
+/// The issue of the plans of two texts.
+fn issue(alloc: Global, old: &str, new: &str) -> Result<Arc<Issue>, Fail> {
+    let old = plan(alloc, old).ok_or("an old plan")?;
+    issue_from(alloc, &old, new)
+}
+
+/// The three numbers of the cell that is made of these.
+fn cell(number: u32, sub: u32, part: u32) -> Option<(u32, u32, u32)> {
+    let cell = CellId::new(number, sub, part)?;
+    Some((cell.number(), cell.sub(), cell.part()))
+}
+
 #[test]
-fn cells_within_the_limits(rt: HostRuntime) -> Result<(), Fail> {
-    for (number, sub, part) in [(1, 0, 0), (7, 2, 3), (4294967295, 9999, 9999)] {
-        let cell = CellId::new(number, sub, part).ok_or("a cell")?;
-        assert!(rt; (cell.number(), cell.sub(), cell.part()) == (number, sub, part));
+fn cells_within_the_limits(rt: HostRuntime) {
+    for (number, sub, part, is_cell) in [
+        (1, 0, 0, true),
+        (7, 2, 3, true),
+        (4294967295, 9999, 9999, true),
+        (0, 0, 0, false),
+        (1, 10000, 0, false),
+        (1, 0, 10000, false),
+    ] {
+        let wanted = is_cell.then_some((number, sub, part));
+        assert!(rt; cell(number, sub, part) == wanted);
     }
-    for (number, sub, part) in [(0, 0, 0), (1, 10000, 0), (1, 0, 10000)] {
-        assert!(rt; CellId::new(number, sub, part).is_none());
-    }
-    Ok(())
 }
 
 /// Four cells in order.
@@ -57,17 +71,18 @@ fn four_cells() -> Option<[CellId; 4]> {
     ])
 }
 
+/// Whether each cell is below the next one, and is not that one.
+fn rise(cells: &[CellId]) -> bool {
+    cells
+        .windows(2)
+        .all(|pair| pair[0] < pair[1] && pair[0] != pair[1])
+}
+
 #[test]
-fn order_of_cells(rt: HostRuntime) -> Result<(), Fail> {
-    let four = four_cells().ok_or("cells")?;
-    let rising = four.as_slice();
-    for pair in rising.windows(2) {
-        assert!(rt; pair[0] < pair[1]);
-        assert!(rt; pair[0] != pair[1]);
-    }
-    let again = CellId::new(2, 0, 0).ok_or("a cell")?;
-    assert!(rt; rising[3] == again);
-    Ok(())
+fn order_of_cells(rt: HostRuntime) {
+    let four = four_cells().expect(&rt, "cells");
+    assert!(rt; rise(four.as_slice()));
+    assert!(rt; CellId::new(2, 0, 0) == Some(four[3]));
 }
 
 /// Whether there is such a load.
@@ -206,13 +221,18 @@ fn is_issue_of(alloc: Global, issue: &Issue, old: &str, new: &str) -> Result<boo
     Ok(*issue == *other)
 }
 
+/// The issue is equal to that of the same plans, and to no other.
+fn look_at_equal(rt: &impl Abort, alloc: Global, forth: &Issue) -> Result<(), Fail> {
+    for (old, new, is_same) in [(OLD, NEW, true), (OLD, OLD, false), (NEW, NEW, false)] {
+        assert!(rt; is_issue_of(alloc, forth, old, new)? == is_same);
+    }
+    Ok(())
+}
+
 #[test]
 fn equal_issues(rt: HostRuntime) -> Result<(), Fail> {
     let forth = issue(rt.alloc(), OLD, NEW)?;
-    for (old, new, is_same) in [(OLD, NEW, true), (OLD, OLD, false), (NEW, NEW, false)] {
-        assert!(rt; is_issue_of(rt.alloc(), &forth, old, new)? == is_same);
-    }
-    Ok(())
+    look_at_equal(&rt, rt.alloc(), &forth)
 }
 
 /// A copy is the value, and not the other one.

@@ -25,11 +25,21 @@ fn plan(alloc: Global, text: &str) -> Result<Plan, Fail> {
     Ok(Plan::read(alloc, text.as_bytes()).ok().ok_or("plan")?)
 }
 
+/// Course 1 from the plan to that of a text.
+fn course_to(alloc: Global, old: &Plan, new: &str) -> Result<Course, Fail> {
+    let new = plan(alloc, new)?;
+    Ok(Course::new(alloc, 1, old, &new).ok().ok_or("course")?)
+}
+
+/// Course 1 between the plans of two texts.
+pub(crate) fn course_of(alloc: Global, old: &str, new: &str) -> Result<Course, Fail> {
+    let old = plan(alloc, old)?;
+    course_to(alloc, &old, new)
+}
+
 /// Course 1 of the example plans: 2:0 to 3:0 goes from 1 to 3, and 6:0 to 9:0 from 3 to 4.
 pub(crate) fn course(alloc: Global) -> Result<Course, Fail> {
-    let old = plan(alloc, OLD)?;
-    let new = plan(alloc, NEW)?;
-    Ok(Course::new(alloc, 1, &old, &new).ok().ok_or("course")?)
+    course_of(alloc, OLD, NEW)
 }
 
 /// The span of two bounds.
@@ -59,11 +69,21 @@ fn report(said: Said) -> Option<Report> {
     }
 }
 
+/// Takes the report of what is said.
+fn take(delta: &mut Delta, said: Said) -> Result<(), Fail> {
+    let report = report(said).ok_or("report")?;
+    delta.take(&report)?;
+    Ok(())
+}
+
 /// The delta of what is said.
+///
+/// What a proof of a test costs grows with the values that the test owns, times the ways out of it: so a function here
+/// makes one value, and lends it to another that looks at it or makes the next.
 pub(crate) fn delta(alloc: Global, said: &[Said]) -> Result<Delta, Fail> {
     let mut delta = Board::new(alloc);
     for one in said {
-        delta.take(&report(*one).ok_or("report")?)?;
+        take(&mut delta, *one)?;
     }
     Ok(delta)
 }
@@ -96,14 +116,19 @@ pub(crate) fn is_built(
 }
 
 /// Whether the table of the course has the rows after what is said.
-fn is_built_of(alloc: Global, course: &Course, said: &[Said], rows: &str) -> Result<bool, Fail> {
+fn is_built_after(alloc: Global, course: &Course, said: &[Said], rows: &str) -> Result<bool, Fail> {
     let board = delta(alloc, said)?;
     is_built(alloc, course, &board, rows)
 }
 
+/// Whether the table of the example course has the rows after what is said.
+fn is_built_of(alloc: Global, said: &[Said], rows: &str) -> Result<bool, Fail> {
+    let course = course(alloc)?;
+    is_built_after(alloc, &course, said, rows)
+}
+
 #[test]
 fn rows(rt: HostRuntime) -> Result<(), Fail> {
-    let course = course(rt.alloc())?;
     let cases: [(&[Said], &str); 3] = [
         (&[], "1 [0:0,3:0);2 [3:0,5:0);3 [5:0,9:0);4 [9:0,end);"),
         (
@@ -124,14 +149,13 @@ fn rows(rt: HostRuntime) -> Result<(), Fail> {
         ),
     ];
     for (said, rows) in cases {
-        assert!(rt; is_built_of(rt.alloc(), &course, said, rows)?, "{rows}");
+        assert!(rt; is_built_of(rt.alloc(), said, rows)?, "{rows}");
     }
     Ok(())
 }
 
 #[test]
 fn reports_of_others_change_no_row(rt: HostRuntime) -> Result<(), Fail> {
-    let course = course(rt.alloc())?;
     let said = [
         Said::Done {
             number: 2,
@@ -146,15 +170,20 @@ fn reports_of_others_change_no_row(rt: HostRuntime) -> Result<(), Fail> {
         Said::Load("6:0", "9:0"),
     ];
     let rows = "1 [0:0,3:0);2 [3:0,5:0);3 [5:0,9:0);4 [9:0,end);";
-    assert!(rt; is_built_of(rt.alloc(), &course, &said, rows)?);
+    assert!(rt; is_built_of(rt.alloc(), &said, rows)?);
     Ok(())
+}
+
+/// The table of the course after one load.
+fn table_after_a_load(alloc: Global, course: &Course) -> Result<RouteTable, Fail> {
+    let board = delta(alloc, &[Said::Load("2:0", "2:7")])?;
+    Ok(RouteTable::build(alloc, course, &board)?)
 }
 
 /// The table of the example course after one load.
 fn table_of_a_load(alloc: Global) -> Result<RouteTable, Fail> {
     let course = course(alloc)?;
-    let board = delta(alloc, &[Said::Load("2:0", "2:7")])?;
-    Ok(RouteTable::build(alloc, &course, &board)?)
+    table_after_a_load(alloc, &course)
 }
 
 /// Whether the table's legs, cut to a span, are these.

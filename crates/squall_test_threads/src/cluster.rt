@@ -31,12 +31,27 @@ const OLD: &str =
 const NEW: &str =
     "{\"plan\":[{\"part\":1,\"from\":[0,0],\"to\":[2,0]},{\"part\":2,\"from\":[3,0],\"to\":[5,0]},{\"part\":3,\"from\":[2,0],\"to\":[3,0]},{\"part\":3,\"from\":[5,0],\"to\":[6,0]},{\"part\":4,\"from\":[6,0],\"to\":\"end\"}]}";
 
+/// The plan of the text. None also where an allocation fails.
+fn plan(alloc: Global, text: &str) -> Option<Plan> {
+    Plan::read(alloc, text.as_bytes()).ok()
+}
+
+/// Course 1 between the plans. None also where an allocation fails.
+fn course_between(alloc: Global, old: &Plan, new: &Plan) -> Option<Arc<Course>> {
+    let course = Course::new(alloc, 1, old, new).ok()?;
+    Arc::new(alloc, course).ok()
+}
+
+/// Course 1 from the plan to the new one. None also where an allocation fails.
+fn course_from(alloc: Global, old: &Plan) -> Option<Arc<Course>> {
+    let new = plan(alloc, NEW)?;
+    course_between(alloc, old, &new)
+}
+
 /// Course 1 from the old plan to the new one. None also where an allocation fails.
 fn course(alloc: Global) -> Option<Arc<Course>> {
-    let old = Plan::read(alloc, OLD.as_bytes()).ok()?;
-    let new = Plan::read(alloc, NEW.as_bytes()).ok()?;
-    let course = Course::new(alloc, 1, &old, &new).ok()?;
-    Arc::new(alloc, course).ok()
+    let old = plan(alloc, OLD)?;
+    course_from(alloc, &old)
 }
 
 /// From 2:0 to 3:0 the keys are loaded at partition 3.
@@ -64,18 +79,48 @@ fn letter(alloc: Global, report: &Report) -> Option<Letter> {
     Some(Letter::new(board))
 }
 
+/// The letter of the load. None where an allocation fails.
+fn load_letter(alloc: Global) -> Option<Letter> {
+    let report = load()?;
+    letter(alloc, &report)
+}
+
+/// The letter of the completion. None where an allocation fails.
+fn done_letter(alloc: Global) -> Option<Letter> {
+    let report = done()?;
+    letter(alloc, &report)
+}
+
 /// The letter of the load, and that of the completion. None where an allocation fails.
 fn two_letters(alloc: Global) -> Option<(Letter, Letter)> {
-    let first = letter(alloc, &load()?)?;
-    let second = letter(alloc, &done()?)?;
+    let first = load_letter(alloc)?;
+    let second = done_letter(alloc)?;
     Some((first, second))
+}
+
+/// The board takes the report. None where an allocation fails.
+fn take(board: &mut Board, report: Option<Report>) -> Option<()> {
+    let report = report?;
+    board.take(&report).ok()
+}
+
+/// The board takes the load and the completion. None where an allocation fails.
+fn take_both(board: &mut Board) -> Option<()> {
+    take(board, load())?;
+    take(board, done())
 }
 
 /// The board of the load and the completion. None where an allocation fails.
 fn board_of_both(alloc: Global) -> Option<Board> {
-    let mut board = board(alloc, &[load()?])?;
-    board.take(&done()?).ok()?;
+    let mut board = Board::new(alloc);
+    take_both(&mut board)?;
     Some(board)
+}
+
+/// Whether the board is that of the load and the completion. None where an allocation fails.
+fn is_board_of_both(alloc: Global, board: &Board) -> Option<bool> {
+    let wanted = board_of_both(alloc)?;
+    Some(*board == wanted)
 }
 
 /// What a cluster is made with: its course and its opening board.

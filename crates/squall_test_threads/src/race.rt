@@ -50,26 +50,41 @@ const BAD: [(&str, &str); 18] = [
     ("1 route 2:0", "bad line 3: word\n"),
 ];
 
-/// What a text shows, and whether it was refused. None where an allocation failed.
-fn shown<R: Threads + Wait + Sync>(
+/// What a text of two pieces shows, and whether it was refused.
+fn show<R: Threads + Wait + Sync>(
     rt: &R,
     alloc: Global,
-    head: &str,
-    text: &str,
-) -> Result<(String, bool), AllocError> {
-    let mut whole = String::from_str(alloc, head)?;
-    whole.push_str(text)?;
+    pieces: [&str; 2],
+    out: &mut String,
+) -> Result<bool, AllocError> {
+    let mut whole = String::new(alloc);
+    for piece in pieces {
+        whole.push_str(piece)?;
+    }
+    let ended = answer_race(rt, alloc, whole.as_bytes(), out)?;
+    Ok(ended == Ended::Refused)
+}
+
+/// Whether a text of two pieces shows that, and is refused or not.
+fn shows<R: Threads + Wait + Sync>(
+    rt: &R,
+    alloc: Global,
+    pieces: [&str; 2],
+    wanted: &str,
+    refused: bool,
+) -> Result<bool, AllocError> {
     let mut out = String::new(alloc);
-    let ended = answer_race(rt, alloc, whole.as_bytes(), &mut out)?;
-    Ok((out, ended == Ended::Refused))
+    let told = show(rt, alloc, pieces, &mut out)?;
+    Ok(told == refused && out.as_str() == wanted)
 }
 
 #[test]
 fn races(rt: HostRuntime) -> Result<(), Fail> {
     for (text, wanted) in &RACES {
-        let (out, refused) = shown(&rt, rt.alloc(), PLANS, text)?;
-        assert!(rt; out.as_str() == *wanted);
-        assert!(rt; !refused);
+        assert!(rt;
+            shows(&rt, rt.alloc(), [PLANS, *text], wanted, false)?,
+            "{text}"
+        );
     }
     Ok(())
 }
@@ -77,9 +92,10 @@ fn races(rt: HostRuntime) -> Result<(), Fail> {
 #[test]
 fn bad_lines(rt: HostRuntime) -> Result<(), Fail> {
     for (text, wanted) in &BAD {
-        let (out, refused) = shown(&rt, rt.alloc(), PLANS, text)?;
-        assert!(rt; out.as_str() == *wanted);
-        assert!(rt; refused);
+        assert!(rt;
+            shows(&rt, rt.alloc(), [PLANS, *text], wanted, true)?,
+            "{text}"
+        );
     }
     Ok(())
 }
@@ -102,9 +118,19 @@ fn plans_are_missing(rt: HostRuntime) -> Result<(), Fail> {
             "bad line 2: plan Shape\n",
         ),
     ] {
-        let (out, refused) = shown(&rt, rt.alloc(), text, "")?;
-        assert!(rt; out.as_str() == *wanted);
-        assert!(rt; refused);
+        assert!(rt;
+            shows(&rt, rt.alloc(), [*text, ""], wanted, true)?,
+            "{text}"
+        );
+    }
+    Ok(())
+}
+
+/// Adds 64 lists: list I has the load of [2:I,2:I+1).
+fn add_loads(text: &mut String) -> Result<(), AllocError> {
+    for i in 0u32..64 {
+        let next = i + 1;
+        write!(text, "{i} loaded 1 0 3 2:{i} 2:{next}\n")?;
     }
     Ok(())
 }
@@ -112,13 +138,9 @@ fn plans_are_missing(rt: HostRuntime) -> Result<(), Fail> {
 /// Many lists: list I has the load of [2:I,2:I+1).
 #[test]
 fn many_senders(rt: HostRuntime) -> Result<(), Fail> {
-    let alloc = rt.alloc();
-    let mut text = String::from_str(alloc, "senders 64\n")?;
-    for i in 0u32..64 {
-        let next = i + 1;
-        write!(text, "{i} loaded 1 0 3 2:{i} 2:{next}\n")?;
-    }
-    let (out, _) = shown(&rt, alloc, PLANS, text.as_str())?;
-    assert!(rt; out.as_str() == "cell 1 0 3 open [2:0,2:64)\n");
+    let mut text = String::from_str(rt.alloc(), "senders 64\n")?;
+    add_loads(&mut text)?;
+    let wanted = "cell 1 0 3 open [2:0,2:64)\n";
+    assert!(rt; shows(&rt, rt.alloc(), [PLANS, text.as_str()], wanted, false)?);
     Ok(())
 }

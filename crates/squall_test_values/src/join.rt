@@ -52,15 +52,35 @@ pub(crate) fn span(rt: &impl Abort, lo: u64, hi: u64) -> Span {
     Span::new(lo, hi).expect(rt, "a span")
 }
 
+/// The join of two numbers.
+fn joined_numbers(alloc: Global, one: u32, other: u32) -> Result<u32, AllocError> {
+    let joined = Max::new(one).joined(alloc, &Max::new(other))?;
+    Ok(joined.get())
+}
+
+/// The join of two flags.
+fn joined_flags(alloc: Global, one: bool, other: bool) -> Result<bool, AllocError> {
+    let joined = Flag::new(one).joined(alloc, &Flag::new(other))?;
+    Ok(joined.get())
+}
+
+/// The join of two pairs of a number and a flag.
+fn joined_pairs(
+    alloc: Global,
+    one: (u32, bool),
+    other: (u32, bool),
+) -> Result<(u32, bool), AllocError> {
+    let pair = Pair::new(Max::new(one.0), Flag::new(one.1));
+    let joined = pair.joined(alloc, &Pair::new(Max::new(other.0), Flag::new(other.1)))?;
+    Ok((joined.first.get(), joined.second.get()))
+}
+
 #[test]
 fn numbers_and_flags(rt: HostRuntime) -> Result<(), Fail> {
-    let joined = Max::new(3).joined(rt.alloc(), &Max::new(5))?;
-    assert!(rt; joined.get() == 5);
-    let set = Flag::new(false).joined(rt.alloc(), &Flag::new(true))?;
-    assert!(rt; set.get());
-    let pair = Pair::new(Max::new(3), Flag::new(true));
-    let joined = pair.joined(rt.alloc(), &Pair::new(Max::new(1), Flag::new(false)))?;
-    assert!(rt; joined.first.get() == 3 && joined.second.get());
+    let alloc = rt.alloc();
+    assert!(rt; joined_numbers(alloc, 3, 5)? == 5);
+    assert!(rt; joined_flags(alloc, false, true)?);
+    assert!(rt; joined_pairs(alloc, (3, true), (1, false))? == (3, true));
     Ok(())
 }
 
@@ -188,22 +208,61 @@ fn pair(
     Ok(Pair::new(map, Max::new(number)))
 }
 
+/// Each member, of the pair and another.
+fn joins_pairs(
+    rt: &impl Abort,
+    alloc: Global,
+    first: &Pair<JoinMap<u32, Max>, Max>,
+) -> Result<(), AllocError> {
+    let second = pair(alloc, &[(1, 4), (2, 2), (9, 1)], 1)?;
+    joins(rt, alloc, first, &second)
+}
+
 #[test]
 fn pairs_through_the_bound(rt: HostRuntime) -> Result<(), Fail> {
     let first = pair(rt.alloc(), &[(1, 3), (7, 2)], 2)?;
-    let second = pair(rt.alloc(), &[(1, 4), (2, 2), (9, 1)], 1)?;
-    joins(&rt, rt.alloc(), &first, &second)?;
+    joins_pairs(&rt, rt.alloc(), &first)?;
     Ok(())
+}
+
+/// Whether the value is this one, without a call of its library.
+pub(crate) fn is_flat(value: &Flat<u32>, wanted: &Flat<u32>) -> bool {
+    match (value, wanted) {
+        (Flat::One(one), Flat::One(other)) => *one == *other,
+        (Flat::Unknown, Flat::Unknown) | (Flat::Clash, Flat::Clash) => true,
+        _ => false,
+    }
+}
+
+/// The clash of values in a table.
+pub(crate) const CLASH: u32 = 99;
+
+/// The value of a table: nothing for 0, the clash, or the number.
+pub(crate) fn flat(number: u32) -> Flat<u32> {
+    match number {
+        0 => Flat::Unknown,
+        CLASH => Flat::Clash,
+        _ => Flat::One(number),
+    }
+}
+
+/// The join of the two.
+fn flat_join(alloc: Global, one: &Flat<u32>, other: u32) -> Result<Flat<u32>, AllocError> {
+    let other = flat(other);
+    one.joined(alloc, &other)
+}
+
+/// Whether the two join to this value.
+fn flat_joins(alloc: Global, one: u32, other: u32, wanted: u32) -> Result<bool, AllocError> {
+    let joined = flat_join(alloc, &flat(one), other)?;
+    Ok(is_flat(&joined, &flat(wanted)))
 }
 
 #[test]
 fn flat_values(rt: HostRuntime) -> Result<(), Fail> {
-    let alloc = rt.alloc();
-    let one: Flat<u32> = Flat::One(7);
-    let other: Flat<u32> = Flat::One(8);
-    assert!(rt; matches!(one.joined(alloc, &Flat::One(7))?, Flat::One(7)));
-    assert!(rt; matches!(one.joined(alloc, &Flat::Unknown)?, Flat::One(7)));
-    assert!(rt; matches!(one.joined(alloc, &other)?, Flat::Clash));
-    joins(&rt, alloc, &one, &other)?;
+    for (other, joined) in [(7, 7), (0, 7), (8, CLASH)] {
+        assert!(rt; flat_joins(rt.alloc(), 7, other, joined)?);
+    }
+    joins(&rt, rt.alloc(), &flat(7), &flat(8))?;
     Ok(())
 }

@@ -1,5 +1,14 @@
 use squall_key::*;
+use std::alloc::{AllocError, Global};
+use std::fmt::Display;
+use std::process::Abort;
 use std::test::Fail;
+
+/// Whether the value is printed so.
+fn shows<T: Display>(alloc: Global, value: &T, wanted: &str) -> Result<bool, AllocError> {
+    let text = value.to_string(alloc)?;
+    Ok(text.as_str() == wanted)
+}
 
 #[test]
 fn last_key(rt: HostRuntime) -> Result<(), Fail> {
@@ -14,7 +23,7 @@ fn last_key(rt: HostRuntime) -> Result<(), Fail> {
 fn top(rt: HostRuntime) -> Result<(), Fail> {
     assert!(rt; Bound::new(4294967295, 0) == Some(Bound::TOP));
     assert!(rt; Bound::new(4294967295, 1) == None);
-    assert!(rt; Bound::TOP.to_string(rt.alloc())?.as_str() == "end");
+    assert!(rt; shows(rt.alloc(), &Bound::TOP, "end")?);
     assert!(rt; Bound::TOP.rank() == 18446744069414584320);
     assert!(rt; (Bound::TOP.root(), Bound::TOP.second()) == (4294967295, 0));
     Ok(())
@@ -46,13 +55,17 @@ fn steps(rt: HostRuntime) -> Result<(), Fail> {
     Ok(())
 }
 
-#[test]
-fn texts(rt: HostRuntime) -> Result<(), Fail> {
+/// Looks at texts of bounds and keys.
+fn look_at_texts(rt: &impl Abort) {
     assert!(rt; Bound::read("end") == Some(Bound::TOP));
     assert!(rt; Bound::read("4294967295:0") == Some(Bound::TOP));
     assert!(rt; Bound::read("02:7") == Bound::new(2, 7));
     assert!(rt; Key::read("02:7") == Key::new(2, 7));
     assert!(rt; Key::read("0000000002:0000000007") == Key::new(2, 7));
+}
+
+/// Looks at texts that are of no key.
+fn look_at_other_texts(rt: &impl Abort) {
     for text in [
         "end",
         "2:",
@@ -68,12 +81,22 @@ fn texts(rt: HostRuntime) -> Result<(), Fail> {
     ] {
         assert!(rt; Key::read(text) == None, "{text}");
     }
+}
+
+#[test]
+fn texts(rt: HostRuntime) {
+    look_at_texts(&rt);
+    look_at_other_texts(&rt);
     for text in ["END", "4294967295:1", "2:4294967296"] {
         assert!(rt; Bound::read(text) == None, "{text}");
     }
+}
+
+#[test]
+fn printed_texts(rt: HostRuntime) -> Result<(), Fail> {
     let key = Key::new(2, 7).ok_or("key")?;
-    assert!(rt; key.to_string(rt.alloc())?.as_str() == "2:7");
-    assert!(rt; Bound::of_key(key).to_string(rt.alloc())?.as_str() == "2:7");
+    assert!(rt; shows(rt.alloc(), &key, "2:7")?);
+    assert!(rt; shows(rt.alloc(), &Bound::of_key(key), "2:7")?);
     Ok(())
 }
 
@@ -81,7 +104,7 @@ fn texts(rt: HostRuntime) -> Result<(), Fail> {
 fn parts(rt: HostRuntime) -> Result<(), Fail> {
     let part = PartId::new(9999).ok_or("last partition")?;
     assert!(rt; part.get() == 9999);
-    assert!(rt; part.to_string(rt.alloc())?.as_str() == "9999");
+    assert!(rt; shows(rt.alloc(), &part, "9999")?);
     assert!(rt; PartId::new(10000) == None);
     assert!(rt; PartId::new(7) < Some(part));
     Ok(())

@@ -135,11 +135,16 @@ fn meet(rt: HostRuntime) -> Result<(), Fail> {
     Ok(())
 }
 
+/// Looks at the two spans on either side of 2:5.
+fn look_at_halves(rt: &impl Abort, below: &SpanSet, others: &SpanSet) {
+    assert!(rt; has_spans(rt, below, &[("0:0", "1:0"), ("2:0", "2:5")]));
+    assert!(rt; has_spans(rt, others, &[("2:5", "3:0")]));
+}
+
 /// Splits the set of the two spans at 2:5.
 fn split(rt: &impl Abort, alloc: Global, two: &SpanSet) -> Result<(), AllocError> {
     let (below, others) = two.split_at(alloc, bound(rt, "2:5"))?;
-    assert!(rt; has_spans(rt, &below, &[("0:0", "1:0"), ("2:0", "2:5")]));
-    assert!(rt; has_spans(rt, &others, &[("2:5", "3:0")]));
+    look_at_halves(rt, &below, &others);
     Ok(())
 }
 

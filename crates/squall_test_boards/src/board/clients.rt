@@ -9,6 +9,7 @@ ghost use Rattle.squall_board.specs.Listed.{CellEntry, AreCells};
 use squall_board::{Board, Cell, facts_lie_within_the_limits, one_list_of_cells};
 use squall_span::SpanSet;
 use std::alloc::Global;
+use std::process::Abort;
 use std::test::Fail;
 
 /// Each fact that the board says lies within the limits of facts.
@@ -40,12 +41,17 @@ fn put_completion(alloc: Global, board: &mut Board) -> Result<(), Fail> {
     Ok(())
 }
 
+/// Puts the completion into the board, and looks at what callers learn of it then.
+fn learn(rt: &impl Abort, alloc: Global, board: &mut Board) -> Result<(), Fail> {
+    put_completion(alloc, board)?;
+    facts_are_within(board);
+    lists_are_one(board);
+    assert!(rt; board.says_done(1, 0, 3));
+    Ok(())
+}
+
 #[test]
 fn callers_learn(rt: HostRuntime) -> Result<(), Fail> {
     let mut board = Board::new(rt.alloc());
-    put_completion(rt.alloc(), &mut board)?;
-    facts_are_within(&board);
-    lists_are_one(&board);
-    assert!(rt; board.says_done(1, 0, 3));
-    Ok(())
+    learn(&rt, rt.alloc(), &mut board)
 }

@@ -136,11 +136,22 @@ fn are_of_two(cells: &[Cell]) -> bool {
         && cells[0].spans().count() == 4294967296
 }
 
+/// Whether these are the openings of the board.
+fn has_openings(board: &Board, wanted: &[Opening]) -> Result<bool, AllocError> {
+    let openings = board.openings()?;
+    Ok(*openings.as_slice() == *wanted)
+}
+
+/// Whether the cells of the board are those of the two reports.
+fn has_cells_of_two(board: &Board) -> Result<bool, AllocError> {
+    let cells = board.cells()?;
+    Ok(are_of_two(&cells))
+}
+
 /// Looks at the lists of the board of the two reports.
 fn look_at_lists(rt: &impl Abort, board: &Board) -> Result<(), Fail> {
-    assert!(rt; board.openings()?.is_empty());
-    let cells = board.cells()?;
-    assert!(rt; are_of_two(&cells));
+    assert!(rt; has_openings(board, &[])?);
+    assert!(rt; has_cells_of_two(board)?);
     Ok(())
 }
 
@@ -165,38 +176,49 @@ fn put_rows_twice(rt: &impl Abort, board: &Board, again: &mut Board) -> Result<(
 }
 
 /// Puts the rows of the board into an empty one.
-fn put_rows_into_empty(rt: &impl Abort, alloc: Global, board: &Board) -> Result<(), AllocError> {
+fn put_rows_into_empty(rt: &impl Abort, alloc: Global, board: &Board) -> Result<(), Fail> {
     let mut again = Board::new(alloc);
-    put_rows_twice(rt, board, &mut again)
+    Ok(put_rows_twice(rt, board, &mut again)?)
 }
 
 #[test]
 fn rows_put_whole(rt: HostRuntime) -> Result<(), Fail> {
     let board = board_of_two(rt.alloc()).ok_or("a board")?;
-    put_rows_into_empty(&rt, rt.alloc(), &board)?;
-    Ok(())
+    put_rows_into_empty(&rt, rt.alloc(), &board)
 }
 
-/// Whether these are the cells of the two reports.
+/// Whether these are the cells of the two reports: for each the partition, whether it is complete, and how many keys
+/// it has.
 fn lent_are_of_two(cells: &[(CellId, &CellParts)]) -> bool {
-    if cells.len() != 2 {
+    let wanted = [(3, false, 4294967296), (4, true, 0)];
+    if cells.len() != wanted.len() {
         return false;
     }
-    let first = cells[0].1;
-    let second = cells[1].1;
-    cells[0].0.part() == 3
-        && cells[1].0.part() == 4
-        && !first.second.get()
-        && second.second.get()
-        && first.first.count() == 4294967296
+    for (index, cell) in cells.iter().enumerate() {
+        let told = (cell.0.part(), cell.1.second.get(), cell.1.first.count());
+        if told != wanted[index] {
+            return false;
+        }
+    }
+    true
+}
+
+/// Whether the cells that the board lends are those of the two reports.
+fn lends_cells_of_two(board: &Board) -> Result<bool, AllocError> {
+    let cells = board.lent_cells()?;
+    Ok(lent_are_of_two(&cells))
+}
+
+/// Looks at the cells that the board of the two reports lends.
+fn look_at_lent_cells(rt: &impl Abort, board: &Board) -> Result<(), Fail> {
+    assert!(rt; lends_cells_of_two(board)?);
+    Ok(())
 }
 
 #[test]
 fn cells_lent(rt: HostRuntime) -> Result<(), Fail> {
     let board = board_of_two(rt.alloc()).ok_or("a board")?;
-    let cells = board.lent_cells()?;
-    assert!(rt; lent_are_of_two(&cells));
-    Ok(())
+    look_at_lent_cells(&rt, &board)
 }
 
 /// Puts the cells of the board into the other.
@@ -212,11 +234,16 @@ fn is_of_its_cells(alloc: Global, board: &Board) -> Result<bool, AllocError> {
     Ok(again == *board)
 }
 
+/// The board is that of its cells.
+fn look_at_its_cells(rt: &impl Abort, alloc: Global, board: &Board) -> Result<(), Fail> {
+    assert!(rt; is_of_its_cells(alloc, board)?);
+    Ok(())
+}
+
 #[test]
 fn cells_put_again(rt: HostRuntime) -> Result<(), Fail> {
     let board = board_of_two(rt.alloc()).ok_or("a board")?;
-    assert!(rt; is_of_its_cells(rt.alloc(), &board)?);
-    Ok(())
+    look_at_its_cells(&rt, rt.alloc(), &board)
 }
 
 /// Puts an opening into an empty board.
@@ -227,8 +254,7 @@ fn put_opening(rt: &impl Abort, board: &mut Board) -> Result<(), Fail> {
     };
     board.put_opening(&opening)?;
     assert!(rt; board.opened(1) == 2 && board.opened(2) == 0);
-    let openings = board.openings()?;
-    assert!(rt; openings.as_slice() == [opening].as_slice());
+    assert!(rt; has_openings(board, &[opening])?);
     Ok(())
 }
 
@@ -238,11 +264,16 @@ fn an_opening_put(rt: HostRuntime) -> Result<(), Fail> {
     put_opening(&rt, &mut board)
 }
 
+/// The board is the other, and has an issue.
+fn is_again(rt: &impl Abort, board: &Board, again: &Board) {
+    assert!(rt; *again == *board);
+    assert!(rt; matches!(again.issuing(2), Flat::One(_)));
+}
+
 /// Puts the lists of the board into another, and looks at it.
 fn look_at_put_again(rt: &impl Abort, alloc: Global, board: &Board) -> Result<(), Fail> {
     let again = put_again(alloc, board)?;
-    assert!(rt; again == *board);
-    assert!(rt; matches!(again.issuing(2), Flat::One(_)));
+    is_again(rt, board, &again);
     Ok(())
 }
 
@@ -283,37 +314,62 @@ fn count_issues(rt: &impl Abort, board: &Board) {
     }
 }
 
+/// The board is still the full one, where no allocation fails.
+fn is_full(rt: &impl Abort, alloc: Global, board: &Board) {
+    if let Some(full) = full(alloc) {
+        assert!(rt; *board == full);
+    }
+}
+
+/// What a board makes a list of.
+#[derive(Clone, Copy)]
+enum Kind {
+    Cells,
+    Openings,
+    Issues,
+}
+
+/// Makes a list of the board, which stays the full one.
+fn look_at_list(rt: &impl Abort, alloc: Global, board: &Board, kind: Kind) {
+    match kind {
+        Kind::Cells => count_cells(rt, board),
+        Kind::Openings => count_openings(rt, board),
+        Kind::Issues => count_issues(rt, board),
+    }
+    is_full(rt, alloc, board);
+}
+
+/// Makes a list of the full board, where no allocation fails.
+fn list_tolerantly(rt: &impl Abort, alloc: Global, kind: Kind) {
+    if let Some(board) = full(alloc) {
+        look_at_list(rt, alloc, &board, kind);
+    }
+}
+
 #[test]
 fn tolerant_cells(rt: HostRuntime) -> Result<(), Fail> {
-    if let Some(board) = full(rt.alloc()) {
-        count_cells(&rt, &board);
-        is_full(&rt, rt.alloc(), &board);
-    }
+    list_tolerantly(&rt, rt.alloc(), Kind::Cells);
     Ok(())
 }
 
 #[test]
 fn tolerant_openings(rt: HostRuntime) -> Result<(), Fail> {
-    if let Some(board) = full(rt.alloc()) {
-        count_openings(&rt, &board);
-        is_full(&rt, rt.alloc(), &board);
-    }
+    list_tolerantly(&rt, rt.alloc(), Kind::Openings);
     Ok(())
 }
 
 #[test]
 fn tolerant_issues(rt: HostRuntime) -> Result<(), Fail> {
-    if let Some(board) = full(rt.alloc()) {
-        count_issues(&rt, &board);
-        is_full(&rt, rt.alloc(), &board);
-    }
+    list_tolerantly(&rt, rt.alloc(), Kind::Issues);
     Ok(())
 }
 
-/// The board is still the full one, where no allocation fails.
-fn is_full(rt: &impl Abort, alloc: Global, board: &Board) {
-    if let Some(full) = full(alloc) {
-        assert!(rt; *board == full);
+/// Whether the board has the completion beside what it had before, or is as it was.
+fn is_put_or_as_before(board: &Board, before: &Board, put: bool) -> bool {
+    if put {
+        board.says_done(2, 1, 3) && board.covers(before)
+    } else {
+        *board == *before
     }
 }
 
@@ -324,11 +380,8 @@ fn put_completion(
     board: &mut Board,
     before: &Board,
 ) -> Result<(), Fail> {
-    if board.put_cell(cell).is_ok() {
-        assert!(rt; board.says_done(2, 1, 3) && board.covers(before));
-    } else {
-        assert!(rt; *board == *before);
-    }
+    let put = board.put_cell(cell).is_ok();
+    assert!(rt; is_put_or_as_before(board, before, put));
     Ok(())
 }
 

@@ -1,21 +1,16 @@
 //! What boards tell beyond others.
 
-use crate::board::{NEW, OLD, board_of, issue, load};
+use crate::board::{NEW, OLD, board_of, is_of, issue, load};
 use squall_board::Board;
 use squall_report::Report;
 use std::alloc::{AllocError, Global};
+use std::process::Abort;
 use std::test::Fail;
 
 /// What the board tells beyond that of these reports.
 fn beyond(alloc: Global, first: &Board, reports: &[Report]) -> Result<Board, AllocError> {
     let second = board_of(alloc, reports)?;
     first.beyond(alloc, &second)
-}
-
-/// Whether the board is that of these reports.
-fn is_of(alloc: Global, rest: &Board, reports: &[Report]) -> Result<bool, AllocError> {
-    let wanted = board_of(alloc, reports)?;
-    Ok(*rest == wanted)
 }
 
 /// Whether the board tells what the wanted reports tell beyond the others.
@@ -85,13 +80,18 @@ fn completions_beyond(rt: HostRuntime) -> Result<(), Fail> {
     Ok(())
 }
 
-#[test]
-fn issues_beyond(rt: HostRuntime) -> Result<(), Fail> {
-    let alloc = rt.alloc();
-    let reports = [issue(alloc, 2, OLD, NEW)?, issue(alloc, 2, NEW, OLD)?];
+/// What is left of each of two issues that clash, and of both.
+fn look_at_issues(rt: &impl Abort, alloc: Global, reports: &[Report; 2]) -> Result<(), Fail> {
     let list = &reports[..];
     assert!(rt; leave(alloc, &list[..1], &list[1..], &list[..1])?);
     assert!(rt; leave(alloc, &list[..1], list, &[])?);
     assert!(rt; leave(alloc, list, &list[..1], list)?);
     Ok(())
+}
+
+#[test]
+fn issues_beyond(rt: HostRuntime) -> Result<(), Fail> {
+    let alloc = rt.alloc();
+    let reports = [issue(alloc, 2, OLD, NEW)?, issue(alloc, 2, NEW, OLD)?];
+    look_at_issues(&rt, alloc, &reports)
 }

@@ -3,15 +3,22 @@
 use crate::board::{load, two_reports};
 use squall_board::{Board, Opening};
 use squall_join::Flat;
+use squall_key::Key;
 use squall_report::Report;
 use std::alloc::Global;
 use std::process::Abort;
 use std::test::Fail;
 
+/// Takes the report, where there is one. None also where an allocation fails.
+fn take(board: &mut Board, report: Option<Report>) -> Option<()> {
+    let report = report?;
+    board.take(&report).ok()
+}
+
 /// Takes a load and an opening.
 fn take_small(board: &mut Board) -> Option<()> {
-    board.take(&load("2:0", "3:0")?).ok()?;
-    board.take(&Report::opened(1, 0)?).ok()
+    take(board, load("2:0", "3:0"))?;
+    take(board, Report::opened(1, 0))
 }
 
 /// A board of a load and an opening.
@@ -28,130 +35,163 @@ fn is_small_or_grown(rt: &impl Abort, alloc: Global, board: &Board, grown: bool)
     }
 }
 
-/// Whether the board took another load.
-fn takes_a_load(board: &mut Board) -> Result<bool, Fail> {
+/// What is done with a small board.
+#[derive(Clone, Copy)]
+enum Step {
+    /// It takes another load.
+    Take,
+    /// It takes a load and a completion.
+    TakeAll,
+    /// An opening is put into it.
+    PutOpening,
+    /// A clash is put into it.
+    PutClash,
+    /// It takes a load and a completion, and is merged into another.
+    Merge,
+    /// It is copied.
+    Copied,
+    /// What it tells beyond itself is made.
+    Beyond,
+}
+
+/// Whether the board took another load, and whether it tells of it.
+fn takes_a_load(board: &mut Board) -> Result<(bool, bool), Fail> {
+    let key = Key::read("4:0").ok_or("key")?;
     let report = load("4:0", "5:0").ok_or("load")?;
-    Ok(board.take(&report).is_ok())
+    let taken = board.take(&report).is_ok();
+    Ok((taken, board.says_loaded(1, 0, 3, key)))
 }
 
-#[test]
-fn tolerant_take(rt: HostRuntime) -> Result<(), Fail> {
-    let Some(mut board) = small_board(rt.alloc()) else {
-        return Ok(());
-    };
-    let taken = takes_a_load(&mut board)?;
-    is_small_or_grown(&rt, rt.alloc(), &board, taken);
-    Ok(())
-}
-
-/// Whether the board took a load and a completion.
-fn takes_two(board: &mut Board) -> Result<bool, Fail> {
+/// Whether the board took a load and a completion, and whether it tells of the completion.
+fn takes_two(board: &mut Board) -> Result<(bool, bool), Fail> {
     let reports = two_reports().ok_or("reports")?;
-    Ok(board.take_all(&reports).is_ok())
+    let taken = board.take_all(&reports).is_ok();
+    Ok((taken, board.says_done(1, 0, 4)))
 }
 
-#[test]
-fn tolerant_take_all(rt: HostRuntime) -> Result<(), Fail> {
-    let Some(mut board) = small_board(rt.alloc()) else {
-        return Ok(());
+/// Whether an opening was put into the board, and whether the board tells of it.
+fn puts_three(board: &mut Board) -> (bool, bool) {
+    let opening = Opening {
+        number: 2,
+        count: 3,
     };
-    let taken = takes_two(&mut board)?;
-    assert!(rt; taken == board.says_done(1, 0, 4));
-    is_small_or_grown(&rt, rt.alloc(), &board, taken);
-    Ok(())
+    let put = board.put_opening(&opening).is_ok();
+    (put, board.opened(2) == 3)
 }
 
-/// A small board that took two more reports. None where an allocation fails.
-fn board_to_merge(alloc: Global) -> Result<Option<Board>, Fail> {
-    let Some(mut other) = small_board(alloc) else {
-        return Ok(None);
-    };
-    let taken = takes_two(&mut other)?;
-    Ok(if taken { Some(other) } else { None })
+/// Whether a clash was put into the board, and whether the board tells of it.
+fn puts_clash(board: &mut Board) -> (bool, bool) {
+    let put = board.put_issue(3, &Flat::Clash).is_ok();
+    (put, matches!(board.issuing(3), Flat::Clash))
+}
+
+/// The board tells what was put into it, or is a small one as it was: whether it was put, and whether it tells of it.
+fn is_grown_or_not(rt: &impl Abort, alloc: Global, put: (bool, bool), board: &Board) {
+    assert!(rt; put.0 == put.1);
+    is_small_or_grown(rt, alloc, board, put.0);
+}
+
+/// Merges the other into the board, which has it then or is as it was.
+fn merges_or_not(rt: &impl Abort, alloc: Global, board: &mut Board, other: &Board) {
+    let merged = board.merge(other).is_ok();
+    assert!(rt; merged == board.covers(other));
+    is_small_or_grown(rt, alloc, board, merged);
 }
 
 /// Merges the board into a small one.
 fn merge_into_small(rt: &impl Abort, alloc: Global, other: &Board) {
     if let Some(mut board) = small_board(alloc) {
-        let merged = board.merge(other).is_ok();
-        assert!(rt; merged == board.covers(other));
-        is_small_or_grown(rt, alloc, &board, merged);
+        merges_or_not(rt, alloc, &mut board, other);
     }
 }
 
-#[test]
-fn tolerant_merge(rt: HostRuntime) -> Result<(), Fail> {
-    if let Some(other) = board_to_merge(rt.alloc())? {
-        merge_into_small(&rt, rt.alloc(), &other);
+/// Merges the board, once it took two more reports, into a small one.
+fn merge_grown(rt: &impl Abort, alloc: Global, other: &mut Board) -> Result<(), Fail> {
+    if takes_two(other)?.0 {
+        merge_into_small(rt, alloc, other);
     }
     Ok(())
+}
+
+/// Whether the copy is the board, with its opening.
+fn is_copy(copy: &Board, board: &Board) -> bool {
+    *copy == *board && copy.opened(1) == 1
 }
 
 /// A copy of the board is equal to it, where no allocation fails.
 fn look_at_copy(rt: &impl Abort, alloc: Global, board: &Board) {
     if let Ok(copy) = board.copied(alloc) {
-        assert!(rt; copy == *board && copy.opened(1) == 1);
+        assert!(rt; is_copy(&copy, board));
     }
+    assert!(rt; board.opened(1) == 1);
 }
 
-#[test]
-fn tolerant_copied(rt: HostRuntime) -> Result<(), Fail> {
-    if let Some(board) = small_board(rt.alloc()) {
-        look_at_copy(&rt, rt.alloc(), &board);
-        assert!(rt; board.opened(1) == 1);
-    }
-    Ok(())
-}
-
-/// Whether an opening was put into the board.
-fn put_three(board: &mut Board) -> bool {
-    let opening = Opening {
-        number: 2,
-        count: 3,
-    };
-    board.put_opening(&opening).is_ok()
-}
-
-#[test]
-fn tolerant_put_opening(rt: HostRuntime) -> Result<(), Fail> {
-    let Some(mut board) = small_board(rt.alloc()) else {
-        return Ok(());
-    };
-    let put = put_three(&mut board);
-    assert!(rt; put == (board.opened(2) == 3));
-    is_small_or_grown(&rt, rt.alloc(), &board, put);
-    Ok(())
-}
-
-/// Whether a clash was put into the board.
-fn put_clash(board: &mut Board) -> bool {
-    board.put_issue(3, &Flat::Clash).is_ok()
-}
-
-#[test]
-fn tolerant_put_issue(rt: HostRuntime) -> Result<(), Fail> {
-    let Some(mut board) = small_board(rt.alloc()) else {
-        return Ok(());
-    };
-    let put = put_clash(&mut board);
-    assert!(rt; put == matches!(board.issuing(3), Flat::Clash));
-    is_small_or_grown(&rt, rt.alloc(), &board, put);
-    Ok(())
+/// Whether the board has the rest, which has no opening.
+fn has_rest(board: &Board, rest: &Board) -> bool {
+    board.covers(rest) && rest.opened(1) == 0
 }
 
 /// Looks at what the board tells beyond itself, where no allocation fails.
 fn look_beyond(rt: &impl Abort, alloc: Global, board: &Board) {
     if let Ok(rest) = board.beyond(alloc, board) {
-        assert!(rt; board.covers(&rest) && rest.opened(1) == 0);
+        assert!(rt; has_rest(board, &rest));
+    }
+    assert!(rt; board.opened(1) == 1);
+}
+
+/// Takes the step with the board.
+fn step_with(rt: &impl Abort, alloc: Global, board: &mut Board, step: Step) -> Result<(), Fail> {
+    match step {
+        Step::Take => is_grown_or_not(rt, alloc, takes_a_load(board)?, board),
+        Step::TakeAll => is_grown_or_not(rt, alloc, takes_two(board)?, board),
+        Step::PutOpening => is_grown_or_not(rt, alloc, puts_three(board), board),
+        Step::PutClash => is_grown_or_not(rt, alloc, puts_clash(board), board),
+        Step::Merge => merge_grown(rt, alloc, board)?,
+        Step::Copied => look_at_copy(rt, alloc, board),
+        Step::Beyond => look_beyond(rt, alloc, board),
+    }
+    Ok(())
+}
+
+/// Takes the step with a small board, where no allocation fails.
+fn step_with_small(rt: &impl Abort, alloc: Global, step: Step) -> Result<(), Fail> {
+    match small_board(alloc) {
+        Some(mut board) => step_with(rt, alloc, &mut board, step),
+        None => Ok(()),
     }
 }
 
 #[test]
+fn tolerant_take(rt: HostRuntime) -> Result<(), Fail> {
+    step_with_small(&rt, rt.alloc(), Step::Take)
+}
+
+#[test]
+fn tolerant_take_all(rt: HostRuntime) -> Result<(), Fail> {
+    step_with_small(&rt, rt.alloc(), Step::TakeAll)
+}
+
+#[test]
+fn tolerant_merge(rt: HostRuntime) -> Result<(), Fail> {
+    step_with_small(&rt, rt.alloc(), Step::Merge)
+}
+
+#[test]
+fn tolerant_copied(rt: HostRuntime) -> Result<(), Fail> {
+    step_with_small(&rt, rt.alloc(), Step::Copied)
+}
+
+#[test]
+fn tolerant_put_opening(rt: HostRuntime) -> Result<(), Fail> {
+    step_with_small(&rt, rt.alloc(), Step::PutOpening)
+}
+
+#[test]
+fn tolerant_put_issue(rt: HostRuntime) -> Result<(), Fail> {
+    step_with_small(&rt, rt.alloc(), Step::PutClash)
+}
+
+#[test]
 fn tolerant_beyond(rt: HostRuntime) -> Result<(), Fail> {
-    let Some(board) = small_board(rt.alloc()) else {
-        return Ok(());
-    };
-    look_beyond(&rt, rt.alloc(), &board);
-    assert!(rt; board.opened(1) == 1);
-    Ok(())
+    step_with_small(&rt, rt.alloc(), Step::Beyond)
 }

@@ -60,24 +60,43 @@ fn counts(rt: HostRuntime) -> Result<(), Fail> {
     Ok(())
 }
 
+/// The keys from 6:0 up to 9:0.
+fn given() -> Result<Span, Fail> {
+    Ok(span((6, 0), (9, 0)).ok_or("a span")?)
+}
+
+/// Whether the line of a chunk is the text.
+fn gives(alloc: Global, text: &str) -> Result<bool, Fail> {
+    let chunk = Chunk::new(1, 0, part(3)?, part(4)?, given()?).ok_or("a chunk")?;
+    Ok(says(alloc, Answer::Gave { index: 2, chunk }, text)?)
+}
+
+/// Whether the line of a load is the text.
+fn loads(alloc: Global, text: &str) -> Result<bool, Fail> {
+    let load = Report::loaded(1, 0, 4, given()?).ok_or("a load")?;
+    Ok(says(alloc, Answer::Loaded(load), text)?)
+}
+
+/// Whether the line of a completion is the text.
+fn finishes(alloc: Global, text: &str) -> Result<bool, Fail> {
+    let done = Report::done(1, 0, 3).ok_or("a completion")?;
+    Ok(says(alloc, Answer::Finished(done), text)?)
+}
+
+/// Whether the line of a route is the text.
+fn routes(alloc: Global, text: &str) -> Result<bool, Fail> {
+    let part = part(3)?;
+    let key = Key::new(2, 0).ok_or("a key")?;
+    Ok(answers(alloc, &Event::Route(0, key), &Answer::Routed(part), text)?)
+}
+
 #[test]
 fn keys(rt: HostRuntime) -> Result<(), Fail> {
     let alloc = rt.alloc();
-    let given = span((6, 0), (9, 0)).ok_or("a span")?;
-    let chunk = Chunk::new(1, 0, part(3)?, part(4)?, given).ok_or("a chunk")?;
-    assert!(rt;
-        says(
-            alloc,
-            Answer::Gave { index: 2, chunk },
-            "chunk 2 sub 0 3 to 4 [6:0,9:0)\n"
-        )?
-    );
-    let load = Report::loaded(1, 0, 4, given).ok_or("a load")?;
-    assert!(rt; says(alloc, Answer::Loaded(load), "loaded 4 [6:0,9:0)\n")?);
-    let done = Report::done(1, 0, 3).ok_or("a completion")?;
-    assert!(rt; says(alloc, Answer::Finished(done), "done 0 3\n")?);
-    let asked = Event::Route(0, Key::new(2, 0).ok_or("a key")?);
-    assert!(rt; answers(alloc, &asked, &Answer::Routed(part(3)?), "route 2:0 3\n")?);
+    assert!(rt; gives(alloc, "chunk 2 sub 0 3 to 4 [6:0,9:0)\n")?);
+    assert!(rt; loads(alloc, "loaded 4 [6:0,9:0)\n")?);
+    assert!(rt; finishes(alloc, "done 0 3\n")?);
+    assert!(rt; routes(alloc, "route 2:0 3\n")?);
     Ok(())
 }
 

@@ -1,7 +1,7 @@
 //! Events of lines, and limits.
 
 use squall_event_text::{Unfit, event_line, event_of};
-use squall_key::Key;
+use squall_key::{Key, PartId};
 use squall_plan::PlanFault;
 use squall_protocol::{Event, Node};
 use std::alloc::Global;
@@ -50,113 +50,104 @@ fn has_no_list(alloc: Global, rest: &[u8]) -> bool {
 
 #[test]
 fn over_limits(rt: HostRuntime) -> Result<(), Fail> {
-    let alloc = rt.alloc();
-    assert!(rt; is_over_limit(alloc, b"give", b" 10000 1"));
-    assert!(rt; is_over_limit(alloc, b"giveat", b" 10000 2:0"));
-    assert!(rt; is_over_limit(alloc, b"finish", b" 10000 0"));
-    assert!(rt; is_over_limit(alloc, b"finish", b" 3 10000"));
-    assert!(rt; is_over_limit(alloc, b"send", b" p10000"));
-    assert!(rt; is_over_limit(alloc, b"deliver", b" 0 p10000"));
-    assert!(rt; is_over_limit(alloc, b"serve", b" 10000 2:0"));
+    let cases: [(&[u8], &[u8]); 7] = [
+        (b"give", b" 10000 1"),
+        (b"giveat", b" 10000 2:0"),
+        (b"finish", b" 10000 0"),
+        (b"finish", b" 3 10000"),
+        (b"send", b" p10000"),
+        (b"deliver", b" 0 p10000"),
+        (b"serve", b" 10000 2:0"),
+    ];
+    for (name, rest) in cases {
+        assert!(rt; is_over_limit(rt.alloc(), name, rest));
+    }
     Ok(())
 }
 
-/// Whether the partition of that number is to give on so many keys.
-fn gives(event: &Event, part: u32, most: u64) -> bool {
+/// An event in numbers.
+#[derive(Clone, Copy, PartialEq, Eq)]
+enum EventNumbers {
+    Open,
+    Give(u32, u64),
+    GiveAt(u32, Key),
+    Load(usize),
+    Finish(u32, u32),
+    Send(Node),
+    Deliver(usize, Node),
+    Route(u32, Key),
+    Serve(u32, Key, u32),
+}
+
+/// The event in numbers. None for a plan.
+fn numbers_of(event: &Event) -> Option<EventNumbers> {
     match event {
-        Event::Give(giver, count) => giver.get() == part && *count == most,
-        _ => false,
+        Event::OpenNext => Some(EventNumbers::Open),
+        Event::Begin(_) => None,
+        Event::Give(part, most) => Some(EventNumbers::Give(part.get(), *most)),
+        Event::GiveAt(part, key) => Some(EventNumbers::GiveAt(part.get(), *key)),
+        Event::Load(index) => Some(EventNumbers::Load(*index)),
+        Event::Finish(part, sub) => Some(EventNumbers::Finish(part.get(), *sub)),
+        Event::Send(node) => Some(EventNumbers::Send(*node)),
+        Event::Deliver(index, node) => Some(EventNumbers::Deliver(*index, *node)),
+        Event::Route(router, key) => Some(EventNumbers::Route(*router, *key)),
+        Event::Serve(part, key, after) => Some(EventNumbers::Serve(part.get(), *key, *after)),
     }
 }
 
-/// Whether the partition of that number is to give on the key.
-fn gives_at(event: &Event, part: u32, asked: Key) -> bool {
-    match event {
-        Event::GiveAt(giver, key) => giver.get() == part && *key == asked,
-        _ => false,
-    }
-}
-
-/// Whether the partition of that number is to report the sub-plan.
-fn finishes(event: &Event, part: u32, sub: u32) -> bool {
-    match event {
-        Event::Finish(partition, finished) => partition.get() == part && *finished == sub,
-        _ => false,
-    }
-}
-
-/// Whether the router is asked for the key.
-fn asks_router(event: &Event, router: u32, asked: Key) -> bool {
-    match event {
-        Event::Route(number, key) => *number == router && *key == asked,
-        _ => false,
-    }
-}
-
-/// Whether the partition of that number is asked for the key, after a move of that number.
-fn asks_part(event: &Event, part: u32, asked: Key, after: u32) -> bool {
-    match event {
-        Event::Serve(partition, key, last) => {
-            partition.get() == part && *key == asked && *last == after
-        }
-        _ => false,
-    }
-}
-
-/// Whether the node is the partition of that number.
-fn is_part(node: &Node, part: u32) -> bool {
-    match node {
-        Node::Part(partition) => partition.get() == part,
-        _ => false,
-    }
-}
-
-/// Whether the message comes to the partition of that number.
-fn comes_to_part(event: &Event, message: usize, part: u32) -> bool {
-    match event {
-        Event::Deliver(index, node) => *index == message && is_part(node, part),
-        _ => false,
-    }
+/// The event of a line in numbers.
+fn line(alloc: Global, name: &[u8], rest: &[u8]) -> Result<Option<EventNumbers>, Fail> {
+    let event = event(alloc, name, rest)?;
+    Ok(numbers_of(&event))
 }
 
 #[test]
 fn events_at_partitions(rt: HostRuntime) -> Result<(), Fail> {
-    let alloc = rt.alloc();
     let key = Key::new(2, 5).ok_or("a key")?;
-    assert!(rt; gives(&event(alloc, b"give", b" 9999 7")?, 9999, 7));
-    assert!(rt; gives_at(&event(alloc, b"giveat", b" 3 2:5")?, 3, key));
-    assert!(rt; finishes(&event(alloc, b"finish", b" 3 9999")?, 3, 9999));
-    assert!(rt; asks_part(&event(alloc, b"serve", b" 3 2:5 6")?, 3, key, 6));
+    let cases: [(&[u8], &[u8], EventNumbers); 4] = [
+        (b"give", b" 9999 7", EventNumbers::Give(9999, 7)),
+        (b"giveat", b" 3 2:5", EventNumbers::GiveAt(3, key)),
+        (b"finish", b" 3 9999", EventNumbers::Finish(3, 9999)),
+        (b"serve", b" 3 2:5 6", EventNumbers::Serve(3, key, 6)),
+    ];
+    for (name, rest, wanted) in cases {
+        assert!(rt; line(rt.alloc(), name, rest)? == Some(wanted));
+    }
     Ok(())
 }
 
 #[test]
 fn events_elsewhere(rt: HostRuntime) -> Result<(), Fail> {
-    let alloc = rt.alloc();
     let key = Key::new(2, 5).ok_or("a key")?;
-    assert!(rt; matches!(&event(alloc, b"open", b"")?, Event::OpenNext));
-    assert!(rt;
-        matches!(
-            &event(alloc, b"load", b" 4294967295")?,
-            Event::Load(4294967295)
-        )
-    );
-    assert!(rt;
-        asks_router(
-            &event(alloc, b"route", b" 4294967295 2:5")?,
-            4294967295,
-            key
-        )
-    );
-    assert!(rt; matches!(&event(alloc, b"send", b" l")?, Event::Send(Node::Leader)));
-    assert!(rt;
-        matches!(
-            &event(alloc, b"send", b" r10000")?,
-            Event::Send(Node::Router(10000))
-        )
-    );
-    assert!(rt; comes_to_part(&event(alloc, b"deliver", b" 1 p9999")?, 1, 9999));
+    let part = PartId::new(9999).ok_or("a partition")?;
+    let cases: [(&[u8], &[u8], EventNumbers); 6] = [
+        (b"open", b"", EventNumbers::Open),
+        (b"load", b" 4294967295", EventNumbers::Load(4294967295)),
+        (
+            b"route",
+            b" 4294967295 2:5",
+            EventNumbers::Route(4294967295, key),
+        ),
+        (b"send", b" l", EventNumbers::Send(Node::Leader)),
+        (b"send", b" r10000", EventNumbers::Send(Node::Router(10000))),
+        (
+            b"deliver",
+            b" 1 p9999",
+            EventNumbers::Deliver(1, Node::Part(part)),
+        ),
+    ];
+    for (name, rest, wanted) in cases {
+        assert!(rt; line(rt.alloc(), name, rest)? == Some(wanted));
+    }
     Ok(())
+}
+
+/// Whether the text after `begin` is a plan in which the partition has the key.
+fn begins_with(alloc: Global, text: &[u8], part: u32, key: Key) -> Result<bool, Fail> {
+    match &event(alloc, b"begin", text)? {
+        Event::Begin(plan) => Ok(plan.owner(key).get() == part),
+        _ => Ok(false),
+    }
 }
 
 #[test]
@@ -164,10 +155,7 @@ fn plans(rt: HostRuntime) -> Result<(), Fail> {
     let alloc = rt.alloc();
     let key = Key::new(2, 5).ok_or("a key")?;
     let text = b" {\"plan\":[{\"part\":5,\"from\":[0,0],\"to\":\"end\"}]}";
-    match &event(alloc, b"begin", text)? {
-        Event::Begin(plan) => assert!(rt; plan.owner(key).get() == 5),
-        _ => return Err(Fail::from("no plan")),
-    }
+    assert!(rt; begins_with(alloc, text, 5, key)?);
     assert!(rt; has_no_list(alloc, b" {}"));
     assert!(rt; is_no_json(alloc, b""));
     Ok(())

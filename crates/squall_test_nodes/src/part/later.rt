@@ -1,9 +1,10 @@
 //! Two reconfigurations: there and back.
 
-use crate::part::{Step, answers, fresh_part, opened_part, span};
+use crate::part::{Step, answers, fresh_answers, opened_answers, opened_part, span};
 use squall_key::PartId;
 use squall_part::{Chunk, Part};
 use std::alloc::Global;
+use std::process::Abort;
 use std::test::Fail;
 
 /// The chunk of all keys that come to partition 3.
@@ -12,40 +13,55 @@ fn all_of_root_2() -> Option<Chunk> {
     Chunk::new(1, 0, PartId::new(1)?, PartId::new(3)?, span)
 }
 
-/// Partition 3 after it loaded all of root 2.
-fn loaded_part(alloc: Global) -> Option<Part> {
-    let mut part = opened_part(alloc, 3)?;
+/// Loads all of root 2.
+fn load_all(part: &mut Part) -> Option<()> {
     let chunk = all_of_root_2()?;
     if part.load(&chunk).is_ok() {
-        Some(part)
+        Some(())
     } else {
         None
     }
 }
 
-#[test]
-fn all_loaded_is_done(rt: HostRuntime) -> Result<(), Fail> {
-    let mut part = loaded_part(rt.alloc()).ok_or("a partition")?;
+/// Partition 3 after it loaded all of root 2.
+fn loaded_part(alloc: Global) -> Option<Part> {
+    let mut part = opened_part(alloc, 3)?;
+    load_all(&mut part)?;
+    Some(part)
+}
+
+/// The steps of partition 3, after it loaded all of root 2, have their answers.
+fn loaded_answers(rt: &impl Abort, alloc: Global, steps: &[(Step, &str)]) -> Result<(), Fail> {
+    let mut part = loaded_part(alloc).ok_or("a partition")?;
+    answers(rt, alloc, &mut part, steps)
+}
+
+/// The partition finishes twice, and its board says so.
+fn finishes(rt: &impl Abort, alloc: Global, part: &mut Part) -> Result<(), Fail> {
     let steps = [(Step::Finish, "Done"), (Step::Finish, "Done")];
-    answers(&rt, rt.alloc(), &mut part, &steps)?;
+    answers(rt, alloc, part, &steps)?;
     assert!(rt; part.board().says_done(1, 0, 3));
     Ok(())
 }
 
 #[test]
-fn keys_go_back(rt: HostRuntime) -> Result<(), Fail> {
+fn all_loaded_is_done(rt: HostRuntime) -> Result<(), Fail> {
     let mut part = loaded_part(rt.alloc()).ok_or("a partition")?;
+    finishes(&rt, rt.alloc(), &mut part)
+}
+
+#[test]
+fn keys_go_back(rt: HostRuntime) -> Result<(), Fail> {
     let steps = [
         (Step::Turn, "true"),
         (Step::Give(1), "2 0 3 1 [2:0,2:1)"),
         (Step::Serve(0), "Moved 1 2"),
     ];
-    answers(&rt, rt.alloc(), &mut part, &steps)
+    loaded_answers(&rt, rt.alloc(), &steps)
 }
 
 #[test]
 fn a_repeat_brings_nothing_back(rt: HostRuntime) -> Result<(), Fail> {
-    let mut part = loaded_part(rt.alloc()).ok_or("a partition")?;
     let repeat = Step::Load {
         number: 1,
         sub: 0,
@@ -57,24 +73,22 @@ fn a_repeat_brings_nothing_back(rt: HostRuntime) -> Result<(), Fail> {
         (repeat, "Again"),
         (Step::Hold, "[2:1,3:0);[5:0,9:0);"),
     ];
-    answers(&rt, rt.alloc(), &mut part, &steps)
+    loaded_answers(&rt, rt.alloc(), &steps)
 }
 
 #[test]
 fn later_numbers_are_awaited(rt: HostRuntime) -> Result<(), Fail> {
-    let mut part = opened_part(rt.alloc(), 1).ok_or("a partition")?;
     let steps = [
         (Step::Give(1), "1 0 1 3 [2:0,2:1)"),
         (Step::Serve(2), "Behind"),
         (Step::Turn, "true"),
         (Step::Serve(2), "Pending 3"),
     ];
-    answers(&rt, rt.alloc(), &mut part, &steps)
+    opened_answers(&rt, rt.alloc(), 1, &steps)
 }
 
 #[test]
 fn a_key_that_was_not_loaded_is_not_held(rt: HostRuntime) -> Result<(), Fail> {
-    let mut part = fresh_part(rt.alloc(), 3).ok_or("a partition")?;
     let steps = [(Step::Turn, "true"), (Step::GiveAt(2), "NotHeld")];
-    answers(&rt, rt.alloc(), &mut part, &steps)
+    fresh_answers(&rt, rt.alloc(), 3, &steps)
 }

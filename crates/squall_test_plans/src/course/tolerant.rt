@@ -1,83 +1,105 @@
 //! Each call that allocates, which may answer NoMemory and leaves what it was given as it was.
 
-use super::{END, part, range};
+use super::{END, part, plan_of_ranges, range};
 use squall_course::{Course, CourseFault};
 use squall_plan::Plan;
 use std::alloc::Global;
-use std::test::Fail;
+use std::process::Abort;
 
-/// Two plans between which the roots 2 move from the partition 1 to 2, or None where an allocation
+/// The plan of the roots below `middle` for the partition 1 and all others for 2, or None where an
+/// allocation failed.
+fn plan(rt: &impl Abort, alloc: Global, middle: u32) -> Option<Plan> {
+    let ranges = [range(rt, 1, 0, middle), range(rt, 2, middle, END)];
+    plan_of_ranges(alloc, &ranges)
+}
+
+/// The course from the old plan to one by which the roots 2 move from the partition 1 to 2, or None
+/// where an allocation failed.
+fn course_from(rt: &impl Abort, alloc: Global, old: &Plan) -> Option<Course> {
+    let new = plan(rt, alloc, 2)?;
+    Course::new(alloc, 7, old, &new).ok()
+}
+
+/// The course by which the roots 2 move from the partition 1 to 2, or None where an allocation
 /// failed.
-fn plans(alloc: Global) -> Result<Option<(Plan, Plan)>, Fail> {
-    let old = [range(1, 0, 3)?, range(2, 3, END)?];
-    let new = [range(1, 0, 2)?, range(2, 2, END)?];
-    let (Ok(old), Ok(new)) = (
-        Plan::from_ranges(alloc, &old),
-        Plan::from_ranges(alloc, &new),
-    ) else {
-        return Ok(None);
-    };
-    Ok(Some((old, new)))
+fn course(rt: &impl Abort, alloc: Global) -> Option<Course> {
+    let old = plan(rt, alloc, 3)?;
+    course_from(rt, alloc, &old)
 }
 
-/// Their course, or None where an allocation failed.
-fn course(alloc: Global) -> Result<Option<Course>, Fail> {
-    let Some((old, new)) = plans(alloc)? else {
-        return Ok(None);
-    };
-    Ok(Course::new(alloc, 7, &old, &new).ok())
-}
-
-#[test]
-fn tolerant_new(rt: HostRuntime) -> Result<(), Fail> {
-    let (Some((old, new)), Some(before)) = (plans(rt.alloc())?, plans(rt.alloc())?) else {
-        return Ok(());
-    };
-    match Course::new(rt.alloc(), 7, &old, &new) {
-        Ok(course) => {
-            assert!(rt; course.moves().len() == 1);
-        }
-        Err(fault) => {
-            assert!(rt; fault == CourseFault::NoMemory);
-        }
+/// Makes the course between the plans.
+fn look_at_new(rt: &impl Abort, alloc: Global, old: &Plan, new: &Plan) {
+    match Course::new(alloc, 7, old, new) {
+        Ok(course) => assert!(rt; course.moves().len() == 1),
+        Err(fault) => assert!(rt; fault == CourseFault::NoMemory),
     }
-    assert!(rt; old == before.0 && new == before.1);
-    Ok(())
+}
+
+/// The plan is still that of its roots. It looks only where no allocation fails.
+fn is_as_before(rt: &impl Abort, alloc: Global, plan: &Plan, middle: u32) {
+    if let Some(before) = self::plan(rt, alloc, middle) {
+        assert!(rt; *plan == before);
+    }
+}
+
+/// Makes the course from the old plan to another, and looks at both plans.
+fn look_at_plans(rt: &impl Abort, alloc: Global, old: &Plan) {
+    if let Some(new) = plan(rt, alloc, 2) {
+        look_at_new(rt, alloc, old, &new);
+        is_as_before(rt, alloc, old, 3);
+        is_as_before(rt, alloc, &new, 2);
+    }
 }
 
 #[test]
-fn tolerant_incoming(rt: HostRuntime) -> Result<(), Fail> {
-    let Some(course) = course(rt.alloc())? else {
-        return Ok(());
-    };
-    if let Ok(keys) = course.incoming(rt.alloc(), 0, part(2)?) {
+fn tolerant_new(rt: HostRuntime) {
+    if let Some(old) = plan(&rt, rt.alloc(), 3) {
+        look_at_plans(&rt, rt.alloc(), &old);
+    }
+}
+
+/// Asks for the keys that come.
+fn look_at_incoming(rt: &impl Abort, alloc: Global, course: &Course) {
+    if let Ok(keys) = course.incoming(alloc, 0, part(rt, 2)) {
         assert!(rt; keys.spans().len() == 1);
     }
     assert!(rt; course.moves().len() == 1);
-    Ok(())
 }
 
 #[test]
-fn tolerant_outgoing(rt: HostRuntime) -> Result<(), Fail> {
-    let Some(course) = course(rt.alloc())? else {
-        return Ok(());
-    };
-    if let Ok(keys) = course.outgoing(rt.alloc(), 0, part(1)?) {
+fn tolerant_incoming(rt: HostRuntime) {
+    if let Some(course) = course(&rt, rt.alloc()) {
+        look_at_incoming(&rt, rt.alloc(), &course);
+    }
+}
+
+/// Asks for the keys that go.
+fn look_at_outgoing(rt: &impl Abort, alloc: Global, course: &Course) {
+    if let Ok(keys) = course.outgoing(alloc, 0, part(rt, 1)) {
         assert!(rt; keys.spans().len() == 1);
     }
     assert!(rt; course.moves().len() == 1);
-    Ok(())
 }
 
 #[test]
-fn tolerant_receivers(rt: HostRuntime) -> Result<(), Fail> {
-    let Some(course) = course(rt.alloc())? else {
-        return Ok(());
-    };
-    let dest = part(2)?;
-    if let Ok(parts) = course.receivers(rt.alloc(), 0) {
+fn tolerant_outgoing(rt: HostRuntime) {
+    if let Some(course) = course(&rt, rt.alloc()) {
+        look_at_outgoing(&rt, rt.alloc(), &course);
+    }
+}
+
+/// Asks for the partitions that receive keys.
+fn look_at_receivers(rt: &impl Abort, alloc: Global, course: &Course) {
+    let dest = part(rt, 2);
+    if let Ok(parts) = course.receivers(alloc, 0) {
         assert!(rt; parts.as_slice() == [dest].as_slice());
     }
     assert!(rt; course.moves().len() == 1);
-    Ok(())
+}
+
+#[test]
+fn tolerant_receivers(rt: HostRuntime) {
+    if let Some(course) = course(&rt, rt.alloc()) {
+        look_at_receivers(&rt, rt.alloc(), &course);
+    }
 }

@@ -1,14 +1,14 @@
 //! Patches of tables, each beside the table that is built of the same board.
 
 ghost use Rattle.squall_table.specs.Tables.{IsTable};
+ghost use Rattle.squall_table.specs.Touched.{WasTable};
 
-use crate::table::{Said, course, delta, has_rows, is_built};
+use crate::table::{NEW, OLD, Said, course, course_of, delta, has_rows, is_built};
 use squall_board::{Board, Delta};
 use squall_course::Course;
-use squall_plan::Plan;
 use squall_span::SpanSet;
 use squall_table::{Meter, RouteTable, touched};
-use std::alloc::Global;
+use std::alloc::{AllocError, Global};
 use std::test::Fail;
 
 /// Partition 4 is done.
@@ -27,11 +27,21 @@ fn spans(alloc: Global, set: &SpanSet) -> Result<String, Fail> {
     Ok(out)
 }
 
+/// Whether the set has these spans.
+fn has_spans(alloc: Global, set: &SpanSet, wanted: &str) -> Result<bool, Fail> {
+    Ok(spans(alloc, set)?.as_str() == wanted)
+}
+
+/// Whether the delta touches these spans.
+fn is_touched(alloc: Global, course: &Course, delta: &Delta, wanted: &str) -> Result<bool, Fail> {
+    let set = touched(alloc, course, delta)?;
+    has_spans(alloc, &set, wanted)
+}
+
 /// Whether the delta of the reports touches these spans.
 fn touches(alloc: Global, course: &Course, said: &[Said], wanted: &str) -> Result<bool, Fail> {
     let delta = delta(alloc, said)?;
-    let set = touched(alloc, course, &delta)?;
-    Ok(spans(alloc, &set)?.as_str() == wanted)
+    is_touched(alloc, course, &delta, wanted)
 }
 
 #[test]
@@ -66,49 +76,81 @@ fn touched_keys(rt: HostRuntime) -> Result<(), Fail> {
     Ok(())
 }
 
-/// Patches the table of the board for the delta, which the board takes. It says what the meter has
-/// counted.
-fn patch(
+/// Whether the table could be patched for the set, and what the meter has counted then.
+fn metered(course: &Course, board: &Board, table: &mut RouteTable, set: &SpanSet) -> (bool, u64)
+    requires { WasTable course.now board.now set.now table.old }
+{
+    let mut meter = Meter::new();
+    let is_patched = table.patch(course, board, set, &mut meter).is_ok();
+    (is_patched, meter.count())
+}
+
+/// Whether the table of the board could be patched for the delta, which the board takes, and what the
+/// meter has counted then. The error comes where an allocation failed before.
+pub(crate) fn patch(
     alloc: Global,
     course: &Course,
     board: &mut Board,
     table: &mut RouteTable,
     delta: &Delta,
-) -> Result<u64, Fail>
+) -> Result<(bool, u64), AllocError>
     requires { IsTable course.now board.old table.old }
 {
-    let set = touched(alloc, course, delta)?;
     board.merge(delta)?;
-    let mut meter = Meter::new();
-    table.patch(course, board, &set, &mut meter)?;
-    Ok(meter.count())
+    let set = touched(alloc, course, delta)?;
+    Ok(metered(course, board, table, &set))
 }
 
-/// What the meter counts where the table of the course before any report is patched for the delta,
-/// and whether the table has the rows then.
+/// Whether the table is patched for the delta and has the rows then, and what the meter counts.
+fn patches_to(
+    alloc: Global,
+    course: &Course,
+    board: &mut Board,
+    table: &mut RouteTable,
+    delta: &Delta,
+    rows: &str,
+) -> Result<(bool, u64), Fail>
+    requires { IsTable course.now board.old table.old }
+{
+    let (is_patched, count) = patch(alloc, course, board, table, delta)?;
+    Ok((is_patched && has_rows(alloc, table, rows)?, count))
+}
+
+/// Whether the table of the course before any report is patched for the delta and has the rows then,
+/// and what the meter counts.
 fn patched(alloc: Global, course: &Course, delta: &Delta, rows: &str) -> Result<(bool, u64), Fail> {
     let mut board = Board::new(alloc);
     let mut table = RouteTable::build(alloc, course, &board)?;
-    let count = patch(alloc, course, &mut board, &mut table, delta)?;
-    Ok((has_rows(alloc, &table, rows)?, count))
+    patches_to(alloc, course, &mut board, &mut table, delta, rows)
 }
 
-/// Whether the patched table, and that which is built, has the rows, and the meter the count.
+/// Whether the patched table of the course, and that which is built, has the rows, and the meter the
+/// count.
 fn is_patched(
     alloc: Global,
     course: &Course,
-    said: &[Said],
+    delta: &Delta,
     rows: &str,
     count: u64,
 ) -> Result<bool, Fail> {
+    let patched = patched(alloc, course, delta, rows)?;
+    Ok(patched == (true, count) && is_built(alloc, course, delta, rows)?)
+}
+
+/// Whether the table of the example course is patched so for the delta.
+fn is_patched_by(alloc: Global, delta: &Delta, rows: &str, count: u64) -> Result<bool, Fail> {
+    let course = course(alloc)?;
+    is_patched(alloc, &course, delta, rows, count)
+}
+
+/// Whether the table of the example course is patched so for the delta of what is said.
+fn is_patched_for(alloc: Global, said: &[Said], rows: &str, count: u64) -> Result<bool, Fail> {
     let delta = delta(alloc, said)?;
-    let patched = patched(alloc, course, &delta, rows)?;
-    Ok(patched == (true, count) && is_built(alloc, course, &delta, rows)?)
+    is_patched_by(alloc, &delta, rows, count)
 }
 
 #[test]
 fn patches(rt: HostRuntime) -> Result<(), Fail> {
-    let course = course(rt.alloc())?;
     let cases: [(&[Said], &str, u64); 5] = [
         // The move, and the leg that has its keys.
         (
@@ -144,10 +186,7 @@ fn patches(rt: HostRuntime) -> Result<(), Fail> {
         ),
     ];
     for (said, rows, count) in cases {
-        assert!(rt;
-            is_patched(rt.alloc(), &course, said, rows, count)?,
-            "{rows}"
-        );
+        assert!(rt; is_patched_for(rt.alloc(), said, rows, count)?, "{rows}");
     }
     Ok(())
 }
@@ -156,13 +195,6 @@ const ALONE: &str = "{\"plan\":[{\"part\":1,\"from\":[0,0],\"to\":\"end\"}]}";
 
 const ENDS: &str =
     "{\"plan\":[{\"part\":3,\"from\":[0,0],\"to\":[1,0]},{\"part\":1,\"from\":[1,0],\"to\":[8,0]},{\"part\":3,\"from\":[8,0],\"to\":\"end\"}]}";
-
-/// The course 1 that moves the first keys and the last from 1 to 3.
-fn course_of_ends(alloc: Global) -> Result<Course, Fail> {
-    let old = Plan::read(alloc, ALONE.as_bytes()).ok().ok_or("plan")?;
-    let new = Plan::read(alloc, ENDS.as_bytes()).ok().ok_or("plan")?;
-    Ok(Course::new(alloc, 1, &old, &new).ok().ok_or("course")?)
-}
 
 /// The board, and its table, after both deltas, one after the other.
 fn absorb(
@@ -179,6 +211,17 @@ fn absorb(
     Ok(())
 }
 
+/// Whether the table has the rows, and that which is built of the board too.
+fn has_both(
+    alloc: Global,
+    course: &Course,
+    board: &Board,
+    table: &RouteTable,
+    rows: &str,
+) -> Result<bool, Fail> {
+    Ok(has_rows(alloc, table, rows)? && is_built(alloc, course, board, rows)?)
+}
+
 /// Whether the table that has absorbed both deltas, and that which is built, has the rows.
 fn absorbed(
     alloc: Global,
@@ -190,11 +233,23 @@ fn absorbed(
     let mut board = Board::new(alloc);
     let mut table = RouteTable::build(alloc, course, &board)?;
     absorb(course, &mut board, &mut table, first, second)?;
-    Ok(has_rows(alloc, &table, rows)? && is_built(alloc, course, &board, rows)?)
+    has_both(alloc, course, &board, &table, rows)
 }
 
-/// Whether the table has the rows after the one list of reports and then the other.
-fn is_absorbed(
+/// Whether the table has the rows after the delta and then the list of reports.
+fn is_absorbed_after(
+    alloc: Global,
+    course: &Course,
+    first: &Delta,
+    second: &[Said],
+    rows: &str,
+) -> Result<bool, Fail> {
+    let second = delta(alloc, second)?;
+    absorbed(alloc, course, first, &second, rows)
+}
+
+/// Whether the course's table has the rows after the one list of reports and then the other.
+fn is_absorbed_by(
     alloc: Global,
     course: &Course,
     first: &[Said],
@@ -202,13 +257,26 @@ fn is_absorbed(
     rows: &str,
 ) -> Result<bool, Fail> {
     let first = delta(alloc, first)?;
-    let second = delta(alloc, second)?;
-    absorbed(alloc, course, &first, &second, rows)
+    is_absorbed_after(alloc, course, &first, second, rows)
+}
+
+/// Whether the table of the course between the two plans has the rows after the one list of reports
+/// and then the other.
+fn is_absorbed(
+    alloc: Global,
+    plans: (&str, &str),
+    first: &[Said],
+    second: &[Said],
+    rows: &str,
+) -> Result<bool, Fail> {
+    let course = course_of(alloc, plans.0, plans.1)?;
+    is_absorbed_by(alloc, &course, first, second, rows)
 }
 
 #[test]
 fn absorbs_at_both_ends(rt: HostRuntime) -> Result<(), Fail> {
-    let course = course_of_ends(rt.alloc())?;
+    // The first keys and the last go from 1 to 3.
+    let plans = (ALONE, ENDS);
     let cases: [(Said, Said, &str); 2] = [
         (
             Said::Load("0:0", "0:4"),
@@ -227,7 +295,7 @@ fn absorbs_at_both_ends(rt: HostRuntime) -> Result<(), Fail> {
     ];
     for (first, second, rows) in cases {
         assert!(rt;
-            is_absorbed(rt.alloc(), &course, &[first], &[second], rows)?,
+            is_absorbed(rt.alloc(), plans, &[first], &[second], rows)?,
             "{rows}"
         );
     }
@@ -236,7 +304,6 @@ fn absorbs_at_both_ends(rt: HostRuntime) -> Result<(), Fail> {
 
 #[test]
 fn absorbs(rt: HostRuntime) -> Result<(), Fail> {
-    let course = course(rt.alloc())?;
     let two = [Said::Load("2:1", "2:2"), DONE];
     let cases: [(&[Said], &[Said], &str); 2] = [
         // Legs of two loads are joined.
@@ -254,7 +321,7 @@ fn absorbs(rt: HostRuntime) -> Result<(), Fail> {
     ];
     for (first, second, rows) in cases {
         assert!(rt;
-            is_absorbed(rt.alloc(), &course, first, second, rows)?,
+            is_absorbed(rt.alloc(), (OLD, NEW), first, second, rows)?,
             "{rows}"
         );
     }

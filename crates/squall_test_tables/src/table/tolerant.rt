@@ -2,11 +2,13 @@
 
 ghost use Rattle.squall_table.specs.Tables.{IsTable};
 
+use crate::table::patches::patch;
 use crate::table::{NEW, OLD, load, span};
 use squall_board::{Board, Delta};
 use squall_course::Course;
 use squall_plan::Plan;
-use squall_table::{Meter, RouteTable, touched};
+use squall_span::Span;
+use squall_table::{RouteTable, touched};
 use std::alloc::{AllocError, Global};
 use std::process::Abort;
 use std::test::Fail;
@@ -18,18 +20,29 @@ fn small_course(alloc: Global) -> Option<Course> {
     Course::new(alloc, 1, &old, &new).ok()
 }
 
+/// Takes the load. None where an allocation fails.
+fn take_load(delta: &mut Delta) -> Option<()> {
+    let report = load("2:0", "2:7")?;
+    delta.take(&report).ok()
+}
+
 /// The delta of a load. None where an allocation fails.
 fn small_delta(alloc: Global) -> Option<Delta> {
     let mut delta = Board::new(alloc);
-    delta.take(&load("2:0", "2:7")?).ok()?;
+    take_load(&mut delta)?;
     Some(delta)
+}
+
+/// The table of the course before any report. None where an allocation fails.
+fn first_table(alloc: Global, course: &Course) -> Option<RouteTable> {
+    let board = Board::new(alloc);
+    RouteTable::build(alloc, course, &board).ok()
 }
 
 /// The table of the example course before any report. None where an allocation fails.
 fn small_table(alloc: Global) -> Option<RouteTable> {
     let course = small_course(alloc)?;
-    let board = Board::new(alloc);
-    RouteTable::build(alloc, &course, &board).ok()
+    first_table(alloc, &course)
 }
 
 #[test]
@@ -40,11 +53,17 @@ fn tolerant_build(rt: HostRuntime) -> Result<(), Fail> {
     Ok(())
 }
 
+/// How many legs the table has in the span. None where an allocation fails.
+fn count_legs(alloc: Global, table: &RouteTable, span: &Span) -> Option<usize> {
+    let legs = table.legs(alloc, span).ok()?;
+    Some(legs.len())
+}
+
 /// The table answers its legs cut to a span, or none, and stays as it is.
 fn cuts_or_not(rt: &impl Abort, alloc: Global, table: &RouteTable) -> Result<(), Fail> {
     let span = span("1:0", "6:0").ok_or("span")?;
-    if let Ok(legs) = table.legs(alloc, &span) {
-        assert!(rt; legs.len() == 3);
+    if let Some(count) = count_legs(alloc, table, &span) {
+        assert!(rt; count == 3);
     }
     assert!(rt; table.entries().len() == 4);
     Ok(())
@@ -58,36 +77,19 @@ fn tolerant_legs(rt: HostRuntime) -> Result<(), Fail> {
     }
 }
 
-#[test]
-fn tolerant_touched(rt: HostRuntime) -> Result<(), Fail> {
-    let Some(course) = small_course(rt.alloc()) else {
-        return Ok(());
-    };
-    let Some(delta) = small_delta(rt.alloc()) else {
-        return Ok(());
-    };
-    if let Ok(set) = touched(rt.alloc(), &course, &delta) {
-        assert!(rt; set.count() == 7);
-    }
-    Ok(())
-}
-
-/// Whether the table of the board could be patched for the delta, which the board takes, and what the
-/// meter has counted then. The error comes where an allocation failed before.
-fn patches(
+/// Whether the table of the board was patched for the delta, how many legs it has then, and what its
+/// meter has counted. The error comes where an allocation failed before.
+fn patch_and_count(
     alloc: Global,
     course: &Course,
     board: &mut Board,
     table: &mut RouteTable,
     delta: &Delta,
-) -> Result<(bool, u64), AllocError>
+) -> Result<(bool, usize, u64), AllocError>
     requires { IsTable course.now board.old table.old }
 {
-    let set = touched(alloc, course, delta)?;
-    board.merge(delta)?;
-    let mut meter = Meter::new();
-    let is_patched = table.patch(course, board, &set, &mut meter).is_ok();
-    Ok((is_patched, meter.count()))
+    let (is_patched, count) = patch(alloc, course, board, table, delta)?;
+    Ok((is_patched, table.entries().len(), count))
 }
 
 /// Whether a table was patched for the delta, how many legs it has then, and what its meter has
@@ -99,23 +101,7 @@ fn patched(
 ) -> Result<(bool, usize, u64), AllocError> {
     let mut board = Board::new(alloc);
     let mut table = RouteTable::build(alloc, course, &board)?;
-    let (is_patched, count) = patches(alloc, course, &mut board, &mut table, delta)?;
-    Ok((is_patched, table.entries().len(), count))
-}
-
-#[test]
-fn tolerant_patch(rt: HostRuntime) -> Result<(), Fail> {
-    let Some(course) = small_course(rt.alloc()) else {
-        return Ok(());
-    };
-    let Some(delta) = small_delta(rt.alloc()) else {
-        return Ok(());
-    };
-    if let Ok((is_patched, legs, count)) = patched(rt.alloc(), &course, &delta) {
-        assert!(rt; legs == if is_patched { 6 } else { 4 });
-        assert!(rt; count == if is_patched { 2 } else { 0 });
-    }
-    Ok(())
+    patch_and_count(alloc, course, &mut board, &mut table, delta)
 }
 
 /// The board and its table have absorbed the delta, or are as they were.
@@ -133,17 +119,78 @@ fn absorbs_or_not(
     assert!(rt; board.covers(delta) == is_absorbed);
 }
 
+/// What is done with the example course and the delta of a load.
+#[derive(Clone, Copy)]
+enum Step {
+    /// The keys that the delta touches are counted.
+    Touch,
+    /// The course's table is patched for the delta.
+    Patch,
+    /// The course's table absorbs the delta.
+    Absorb,
+}
+
+/// How many keys the delta touches. None where an allocation fails.
+fn count_touched(alloc: Global, course: &Course, delta: &Delta) -> Option<u64> {
+    let set = touched(alloc, course, delta).ok()?;
+    Some(set.count())
+}
+
+/// The delta touches the keys of its load.
+fn touches_or_not(rt: &impl Abort, alloc: Global, course: &Course, delta: &Delta) {
+    if let Some(count) = count_touched(alloc, course, delta) {
+        assert!(rt; count == 7);
+    }
+}
+
+/// The table is patched for the delta, or is as it was.
+fn patches_or_not(rt: &impl Abort, alloc: Global, course: &Course, delta: &Delta) {
+    if let Ok((is_patched, legs, count)) = patched(alloc, course, delta) {
+        assert!(rt; legs == if is_patched { 6 } else { 4 });
+        assert!(rt; count == if is_patched { 2 } else { 0 });
+    }
+}
+
+/// A board and its table absorb the delta, or are as they were.
+fn first_absorbs_or_not(rt: &impl Abort, alloc: Global, course: &Course, delta: &Delta) {
+    let mut board = Board::new(alloc);
+    if let Ok(mut table) = RouteTable::build(alloc, course, &board) {
+        absorbs_or_not(rt, course, &mut board, &mut table, delta);
+    }
+}
+
+/// The step is taken with the course, where the delta can be made.
+fn takes_with(rt: &impl Abort, alloc: Global, course: &Course, step: Step) {
+    if let Some(delta) = small_delta(alloc) {
+        match step {
+            Step::Touch => touches_or_not(rt, alloc, course, &delta),
+            Step::Patch => patches_or_not(rt, alloc, course, &delta),
+            Step::Absorb => first_absorbs_or_not(rt, alloc, course, &delta),
+        }
+    }
+}
+
+/// The step is taken, where the course and the delta can be made.
+fn takes(rt: &impl Abort, alloc: Global, step: Step) {
+    if let Some(course) = small_course(alloc) {
+        takes_with(rt, alloc, &course, step);
+    }
+}
+
+#[test]
+fn tolerant_touched(rt: HostRuntime) -> Result<(), Fail> {
+    takes(&rt, rt.alloc(), Step::Touch);
+    Ok(())
+}
+
+#[test]
+fn tolerant_patch(rt: HostRuntime) -> Result<(), Fail> {
+    takes(&rt, rt.alloc(), Step::Patch);
+    Ok(())
+}
+
 #[test]
 fn tolerant_absorb(rt: HostRuntime) -> Result<(), Fail> {
-    let Some(course) = small_course(rt.alloc()) else {
-        return Ok(());
-    };
-    let Some(delta) = small_delta(rt.alloc()) else {
-        return Ok(());
-    };
-    let mut board = Board::new(rt.alloc());
-    if let Ok(mut table) = RouteTable::build(rt.alloc(), &course, &board) {
-        absorbs_or_not(&rt, &course, &mut board, &mut table, &delta);
-    }
+    takes(&rt, rt.alloc(), Step::Absorb);
     Ok(())
 }

@@ -1,6 +1,8 @@
 //! Races held up at their gates: the work is done at once, and between the calls of the gate.
 
-use super::races::{Setting, setting_of, three_keys, two_list_board, two_list_setting};
+use super::races::{
+    Setting, push, push_list, setting_of, three_keys, two_list_board, two_list_setting,
+};
 use super::{load, moving_key};
 use squall_board::Board;
 use squall_cluster::{Actor, Gate, Raced};
@@ -99,19 +101,40 @@ fn meets<R: Threads + Wait + Sync>(
     Some(setting.ended_well(&raced, wanted, &keys, 1))
 }
 
-#[test]
-fn all_run_at_once(rt: HostRuntime) -> Result<(), Fail> {
-    let setting = two_list_setting(rt.alloc()).ok_or("a setting")?;
-    let wanted = two_list_board(rt.alloc()).ok_or("a board")?;
+/// Whether such a race ends well in the setting of the two lists.
+fn setting_meets<R: Threads + Wait + Sync>(
+    rt: &R,
+    alloc: Global,
+    setting: &Setting,
+    gate: &Meeting,
+) -> Option<bool> {
+    let wanted = two_list_board(alloc)?;
+    meets(rt, alloc, setting, &wanted, gate)
+}
+
+/// Whether such a race of the two lists ends well.
+fn two_lists_meet<R: Threads + Wait + Sync>(rt: &R, alloc: Global, gate: &Meeting) -> Option<bool> {
+    let setting = two_list_setting(alloc)?;
+    setting_meets(rt, alloc, &setting, gate)
+}
+
+/// Whether such a race ends well, and whether somebody waited for too long.
+fn met_and_late<R: Threads + Wait + Sync>(rt: &R, alloc: Global) -> (Option<bool>, bool) {
     let gate = Meeting {
         senders: [Flag::new(), Flag::new()],
         owner: Flag::new(),
         reader: Flag::new(),
         late: Flag::new(),
     };
-    let met = meets(&rt, rt.alloc(), &setting, &wanted, &gate);
+    let met = two_lists_meet(rt, alloc, &gate);
+    (met, gate.late.is_set())
+}
+
+#[test]
+fn all_run_at_once(rt: HostRuntime) -> Result<(), Fail> {
+    let (met, late) = met_and_late(&rt, rt.alloc());
     assert!(rt; met == Some(true));
-    assert!(rt; !gate.late.is_set());
+    assert!(rt; !late);
     Ok(())
 }
 
@@ -149,13 +172,23 @@ impl Gate for InOrder {
     }
 }
 
+/// The load alone. None where an allocation fails.
+fn load_alone(alloc: Global) -> Option<Vec<Report>> {
+    let mut list = Vec::new(alloc);
+    push(&mut list, load())?;
+    Some(list)
+}
+
+/// Adds the load in one list, and a second list that is empty.
+fn push_one_load(alloc: Global, lists: &mut Vec<Vec<Report>>) -> Option<()> {
+    push_list(lists, load_alone(alloc))?;
+    push_list(lists, Some(Vec::new(alloc)))
+}
+
 /// The load in one list, and a second list that is empty.
 fn one_load(alloc: Global) -> Option<Vec<Vec<Report>>> {
-    let mut list = Vec::new(alloc);
-    list.push(load()?).ok()?;
     let mut lists = Vec::new(alloc);
-    lists.push(list).ok()?;
-    lists.push(Vec::new(alloc)).ok()?;
+    push_one_load(alloc, &mut lists)?;
     Some(lists)
 }
 
@@ -194,13 +227,38 @@ fn one_load_setting(alloc: Global) -> Option<Setting> {
     setting_of(alloc, one_load(alloc)?)
 }
 
+/// Two routes, and whether somebody waited for too long.
+type Routed = (Option<(PartId, PartId)>, bool);
+
+/// The reader's routes in the setting, where that one of them waits.
+fn setting_routes<R: Threads + Wait + Sync>(
+    rt: &R,
+    alloc: Global,
+    setting: &Setting,
+    waiting: u64,
+) -> Routed {
+    let gate = in_order(waiting);
+    let routes = two_routes(rt, alloc, setting, &gate);
+    (routes, gate.late.is_set())
+}
+
+/// The reader's routes in a race of one load, where that one of them waits. None where there is no
+/// setting for want of memory.
+fn routes_of_one_load<R: Threads + Wait + Sync>(
+    rt: &R,
+    alloc: Global,
+    waiting: u64,
+) -> Option<Routed> {
+    let setting = one_load_setting(alloc)?;
+    Some(setting_routes(rt, alloc, &setting, waiting))
+}
+
 #[test]
 fn a_reader_sees_a_turn_that_has_ended(rt: HostRuntime) -> Result<(), Fail> {
     let new = PartId::new(3).ok_or("a partition")?;
-    let setting = one_load_setting(rt.alloc()).ok_or("a setting")?;
-    let gate = in_order(1);
-    assert!(rt; two_routes(&rt, rt.alloc(), &setting, &gate) == Some((new, new)));
-    assert!(rt; !gate.late.is_set());
+    let (routes, late) = routes_of_one_load(&rt, rt.alloc(), 1).ok_or("a setting")?;
+    assert!(rt; routes == Some((new, new)));
+    assert!(rt; !late);
     Ok(())
 }
 
@@ -208,9 +266,8 @@ fn a_reader_sees_a_turn_that_has_ended(rt: HostRuntime) -> Result<(), Fail> {
 fn a_reader_sees_what_was_published_before(rt: HostRuntime) -> Result<(), Fail> {
     let (old, new) = (PartId::new(1), PartId::new(3));
     let wanted = (old.ok_or("a partition")?, new.ok_or("a partition")?);
-    let setting = one_load_setting(rt.alloc()).ok_or("a setting")?;
-    let gate = in_order(2);
-    assert!(rt; two_routes(&rt, rt.alloc(), &setting, &gate) == Some(wanted));
-    assert!(rt; !gate.late.is_set());
+    let (routes, late) = routes_of_one_load(&rt, rt.alloc(), 2).ok_or("a setting")?;
+    assert!(rt; routes == Some(wanted));
+    assert!(rt; !late);
     Ok(())
 }

@@ -33,22 +33,53 @@ fn last_load() -> Option<Report> {
     Report::loaded(1, 0, 3, span)
 }
 
-/// A list of two reports.
-fn two(alloc: Global, first: Report, second: Report) -> Option<Vec<Report>> {
+/// Adds the report to the list. None where an allocation fails.
+pub(super) fn push(list: &mut Vec<Report>, report: Option<Report>) -> Option<()> {
+    list.push(report?).ok()
+}
+
+/// Adds the load in two halves.
+fn push_halves(list: &mut Vec<Report>) -> Option<()> {
+    push(list, part_load(0, 7))?;
+    push(list, last_load())
+}
+
+/// Adds the load's first half and the completion.
+fn push_half_and_end(list: &mut Vec<Report>) -> Option<()> {
+    push(list, part_load(0, 7))?;
+    push(list, done())
+}
+
+/// The load in two halves. None where an allocation fails.
+fn halves(alloc: Global) -> Option<Vec<Report>> {
     let mut list = Vec::new(alloc);
-    list.push(first).ok()?;
-    list.push(second).ok()?;
+    push_halves(&mut list)?;
     Some(list)
+}
+
+/// The load's first half and the completion. None where an allocation fails.
+fn half_and_end(alloc: Global) -> Option<Vec<Report>> {
+    let mut list = Vec::new(alloc);
+    push_half_and_end(&mut list)?;
+    Some(list)
+}
+
+/// Adds the list. None where an allocation fails.
+pub(super) fn push_list(lists: &mut Vec<Vec<Report>>, list: Option<Vec<Report>>) -> Option<()> {
+    lists.push(list?).ok()
+}
+
+/// Adds both lists.
+fn push_lists(alloc: Global, lists: &mut Vec<Vec<Report>>) -> Option<()> {
+    push_list(lists, halves(alloc))?;
+    push_list(lists, half_and_end(alloc))
 }
 
 /// The load in two halves, and its first half again with the completion: they tell what the load and
 /// the completion tell. None where an allocation fails.
 fn two_lists(alloc: Global) -> Option<Vec<Vec<Report>>> {
     let mut lists = Vec::new(alloc);
-    lists
-        .push(two(alloc, part_load(0, 7)?, last_load()?)?)
-        .ok()?;
-    lists.push(two(alloc, part_load(0, 7)?, done()?)?).ok()?;
+    push_lists(alloc, &mut lists)?;
     Some(lists)
 }
 
@@ -150,32 +181,77 @@ fn races_well<R: Threads + Wait + Sync>(
     Some(setting.ended_well(&raced, wanted, &keys, readers))
 }
 
+/// How many readers there are, and how many letters the inbox holds.
+type Numbers = (usize, usize);
+
+/// Whether races with each of these numbers end as they have to.
+fn all_race_well<R: Threads + Wait + Sync>(
+    rt: &R,
+    alloc: Global,
+    setting: &Setting,
+    wanted: &Board,
+    numbers: [Numbers; 2],
+) -> Option<bool> {
+    for (readers, capacity) in numbers {
+        if !races_well(rt, alloc, setting, wanted, readers, capacity)? {
+            return Some(false);
+        }
+    }
+    Some(true)
+}
+
+/// Whether races in the setting of the two lists end as they have to.
+fn setting_races_well<R: Threads + Wait + Sync>(
+    rt: &R,
+    alloc: Global,
+    setting: &Setting,
+    numbers: [Numbers; 2],
+) -> Option<bool> {
+    let wanted = two_list_board(alloc)?;
+    all_race_well(rt, alloc, setting, &wanted, numbers)
+}
+
+/// Whether races of the two lists end as they have to.
+fn two_lists_race_well<R: Threads + Wait + Sync>(
+    rt: &R,
+    alloc: Global,
+    numbers: [Numbers; 2],
+) -> Option<bool> {
+    let setting = two_list_setting(alloc)?;
+    setting_races_well(rt, alloc, &setting, numbers)
+}
+
 #[test]
 fn two_senders(rt: HostRuntime) -> Result<(), Fail> {
-    let setting = two_list_setting(rt.alloc()).ok_or("a setting")?;
-    let wanted = two_list_board(rt.alloc()).ok_or("a board")?;
-    assert!(rt; races_well(&rt, rt.alloc(), &setting, &wanted, 1, 1) == Some(true));
-    assert!(rt; races_well(&rt, rt.alloc(), &setting, &wanted, 3, 65536) == Some(true));
+    assert!(rt; two_lists_race_well(&rt, rt.alloc(), [(1, 1), (3, 65536)]) == Some(true));
     Ok(())
 }
 
 #[test]
 fn no_reader_and_many(rt: HostRuntime) -> Result<(), Fail> {
-    let setting = two_list_setting(rt.alloc()).ok_or("a setting")?;
-    let wanted = two_list_board(rt.alloc()).ok_or("a board")?;
-    assert!(rt; races_well(&rt, rt.alloc(), &setting, &wanted, 0, 2) == Some(true));
-    assert!(rt; races_well(&rt, rt.alloc(), &setting, &wanted, 64, 2) == Some(true));
+    assert!(rt; two_lists_race_well(&rt, rt.alloc(), [(0, 2), (64, 2)]) == Some(true));
     Ok(())
+}
+
+/// The load of one key. None where an allocation fails.
+fn one_key(alloc: Global, at: u32) -> Option<Vec<Report>> {
+    let mut list = Vec::new(alloc);
+    push(&mut list, part_load(at, at.checked_add(1)?))?;
+    Some(list)
+}
+
+/// Adds so many lists, each with the load of one key.
+fn push_many(alloc: Global, lists: &mut Vec<Vec<Report>>, count: u32) -> Option<()> {
+    for at in 0..count {
+        push_list(lists, one_key(alloc, at))?;
+    }
+    Some(())
 }
 
 /// So many lists, each with the load of one key.
 fn many_lists(alloc: Global, count: u32) -> Option<Vec<Vec<Report>>> {
     let mut lists = Vec::new(alloc);
-    for at in 0..count {
-        let mut list = Vec::new(alloc);
-        list.push(part_load(at, at.checked_add(1)?)?).ok()?;
-        lists.push(list).ok()?;
-    }
+    push_many(alloc, &mut lists, count)?;
     Some(lists)
 }
 
@@ -195,25 +271,34 @@ fn many_list_setting(alloc: Global, count: u32) -> Option<Setting> {
     setting_of(alloc, many_lists(alloc, count)?)
 }
 
+/// The fault of a race of so many lists. None where it ended well, or where there is no setting.
+fn fault_of_many<R: Threads + Wait + Sync>(
+    rt: &R,
+    alloc: Global,
+    count: u32,
+    readers: usize,
+    capacity: usize,
+) -> Option<RaceFault> {
+    let setting = many_list_setting(alloc, count)?;
+    fault_of(rt, alloc, &setting, readers, capacity)
+}
+
 #[test]
 fn limits_of_lists(rt: HostRuntime) -> Result<(), Fail> {
-    let none = many_list_setting(rt.alloc(), 0).ok_or("a setting")?;
-    let fault = fault_of(&rt, rt.alloc(), &none, 65, 0);
+    let fault = fault_of_many(&rt, rt.alloc(), 0, 65, 0);
     assert!(rt; matches!(fault, Some(RaceFault::BadSenders)));
-    let many = many_list_setting(rt.alloc(), 65).ok_or("a setting")?;
-    let fault = fault_of(&rt, rt.alloc(), &many, 1, 1);
+    let fault = fault_of_many(&rt, rt.alloc(), 65, 1, 1);
     assert!(rt; matches!(fault, Some(RaceFault::BadSenders)));
     Ok(())
 }
 
 #[test]
 fn limits_of_readers_and_room(rt: HostRuntime) -> Result<(), Fail> {
-    let setting = many_list_setting(rt.alloc(), 64).ok_or("a setting")?;
-    let fault = fault_of(&rt, rt.alloc(), &setting, 65, 0);
+    let fault = fault_of_many(&rt, rt.alloc(), 64, 65, 0);
     assert!(rt; matches!(fault, Some(RaceFault::BadReaders)));
-    let fault = fault_of(&rt, rt.alloc(), &setting, 64, 0);
+    let fault = fault_of_many(&rt, rt.alloc(), 64, 64, 0);
     assert!(rt; matches!(fault, Some(RaceFault::BadCapacity)));
-    let fault = fault_of(&rt, rt.alloc(), &setting, 1, 65537);
+    let fault = fault_of_many(&rt, rt.alloc(), 64, 1, 65537);
     assert!(rt; matches!(fault, Some(RaceFault::BadCapacity)));
     Ok(())
 }
@@ -229,12 +314,31 @@ fn joins_all<R: Threads + Wait + Sync>(
     Some(raced.board == *wanted)
 }
 
+/// The board of the loads of 64 lists. None where an allocation fails.
+fn board_of_many(alloc: Global) -> Option<Board> {
+    let reports = [part_load(0, 64)?];
+    board(alloc, &reports)
+}
+
+/// Whether the race in that setting gives the board of all its loads.
+fn setting_joins_all<R: Threads + Wait + Sync>(
+    rt: &R,
+    alloc: Global,
+    setting: &Setting,
+) -> Option<bool> {
+    let wanted = board_of_many(alloc)?;
+    joins_all(rt, alloc, setting, &wanted)
+}
+
+/// Whether a race of 64 lists gives the board of all their loads.
+fn many_join_all<R: Threads + Wait + Sync>(rt: &R, alloc: Global) -> Option<bool> {
+    let setting = many_list_setting(alloc, 64)?;
+    setting_joins_all(rt, alloc, &setting)
+}
+
 #[test]
 fn many_senders(rt: HostRuntime) -> Result<(), Fail> {
-    let setting = many_list_setting(rt.alloc(), 64).ok_or("a setting")?;
-    let load = part_load(0, 64).ok_or("a load")?;
-    let wanted = board(rt.alloc(), &[load]).ok_or("a board")?;
-    assert!(rt; joins_all(&rt, rt.alloc(), &setting, &wanted) == Some(true));
+    assert!(rt; many_join_all(&rt, rt.alloc()) == Some(true));
     Ok(())
 }
 
@@ -254,17 +358,32 @@ fn well_or_refused<R: Threads + Wait + Sync>(
     }
 }
 
+/// Whether a race in the setting of the two lists ends so, or there is no board for want of memory.
+fn setting_ends_well<R: Threads + Wait + Sync>(
+    rt: &R,
+    alloc: Global,
+    setting: &Setting,
+    keys: &[Key; 3],
+) -> bool {
+    match two_list_board(alloc) {
+        Some(wanted) => well_or_refused(rt, alloc, setting, &wanted, keys),
+        None => true,
+    }
+}
+
+/// Whether a race of the two lists ends so, or there is no setting for want of memory.
+fn two_lists_end_well<R: Threads + Wait + Sync>(rt: &R, alloc: Global, keys: &[Key; 3]) -> bool {
+    match two_list_setting(alloc) {
+        Some(setting) => setting_ends_well(rt, alloc, &setting, keys),
+        None => true,
+    }
+}
+
 #[test]
 fn tolerant_race(rt: HostRuntime) -> Result<(), Fail> {
     let Some(keys) = three_keys() else {
         return Ok(());
     };
-    let Some(setting) = two_list_setting(rt.alloc()) else {
-        return Ok(());
-    };
-    let Some(wanted) = two_list_board(rt.alloc()) else {
-        return Ok(());
-    };
-    assert!(rt; well_or_refused(&rt, rt.alloc(), &setting, &wanted, &keys));
+    assert!(rt; two_lists_end_well(&rt, rt.alloc(), &keys));
     Ok(())
 }

@@ -1,7 +1,8 @@
 //! Random races, beside a board that takes the same reports in one thread.
 
-use super::races::{Open, Setting, setting_of};
+use super::races::{Open, Setting, push_list, setting_of};
 use squall_board::Board;
+use squall_cluster::Raced;
 use squall_key::{Bound, Key};
 use squall_report::Report;
 use squall_span::Span;
@@ -43,23 +44,45 @@ impl Draw {
         }
     }
 
+    /// Adds a report, which the board takes too.
+    fn push_report(&mut self, list: &mut Vec<Report>, board: &mut Board) -> Option<()> {
+        let report = self.report()?;
+        board.take(&report).ok()?;
+        list.push(report).ok()
+    }
+
+    /// Adds at most five reports, which the board takes too.
+    fn push_reports(&mut self, list: &mut Vec<Report>, board: &mut Board) -> Option<()> {
+        for _ in 0..self.below(6) {
+            self.push_report(list, board)?;
+        }
+        Some(())
+    }
+
     /// At most five reports, which the board takes too.
     fn list(&mut self, alloc: Global, board: &mut Board) -> Option<Vec<Report>> {
         let mut list = Vec::new(alloc);
-        for _ in 0..self.below(6) {
-            let report = self.report()?;
-            board.take(&report).ok()?;
-            list.push(report).ok()?;
-        }
+        self.push_reports(&mut list, board)?;
         Some(list)
+    }
+
+    /// Adds one to four such lists.
+    fn push_lists(
+        &mut self,
+        alloc: Global,
+        lists: &mut Vec<Vec<Report>>,
+        board: &mut Board,
+    ) -> Option<()> {
+        for _ in 0..self.below(4).checked_add(1)? {
+            push_list(lists, self.list(alloc, board))?;
+        }
+        Some(())
     }
 
     /// One to four such lists.
     fn lists(&mut self, alloc: Global, board: &mut Board) -> Option<Vec<Vec<Report>>> {
         let mut lists = Vec::new(alloc);
-        for _ in 0..self.below(4).checked_add(1)? {
-            lists.push(self.list(alloc, board)?).ok()?;
-        }
+        self.push_lists(alloc, &mut lists, board)?;
         Some(lists)
     }
 }
@@ -71,12 +94,24 @@ struct Drawn {
     wanted: Board,
 }
 
+/// Draws a setting, of which the board takes all reports. None where an allocation fails.
+fn draw_lists(alloc: Global, draw: &mut Draw, wanted: &mut Board) -> Option<Setting> {
+    let lists = draw.lists(alloc, wanted)?;
+    setting_of(alloc, lists)
+}
+
 /// Draws a setting. None where an allocation fails.
 fn draw_setting(alloc: Global, draw: &mut Draw) -> Option<Drawn> {
     let mut wanted = Board::new(alloc);
-    let lists = draw.lists(alloc, &mut wanted)?;
-    let setting = setting_of(alloc, lists)?;
+    let setting = draw_lists(alloc, draw, &mut wanted)?;
     Some(Drawn { setting, wanted })
+}
+
+impl Drawn {
+    /// Whether the race gave the board of one thread, and routes of so many readers.
+    fn is_result(&self, raced: &Raced, readers: usize) -> bool {
+        raced.board == self.wanted && raced.routes.len() == readers
+    }
 }
 
 /// Whether a race gives the board of one thread. None where an allocation or a thread is refused.
@@ -90,17 +125,28 @@ fn is_as_one_thread<R: Threads + Wait + Sync>(
     let keys = [Key::new(2, 0)?, Key::new(6, 0)?];
     let raced = drawn
         .setting
-        .race(rt, alloc, &keys, readers, capacity, &Open);
-    let raced = raced.ok()?;
-    Some(raced.board == drawn.wanted && raced.routes.len() == readers)
+        .race(rt, alloc, &keys, readers, capacity, &Open)
+        .ok()?;
+    Some(drawn.is_result(&raced, readers))
+}
+
+/// The same for a setting that is drawn.
+fn next_is_as_one_thread<R: Threads + Wait + Sync>(
+    rt: &R,
+    alloc: Global,
+    draw: &mut Draw,
+    readers: usize,
+    capacity: usize,
+) -> Option<bool> {
+    let drawn = draw_setting(alloc, draw)?;
+    is_as_one_thread(rt, alloc, &drawn, readers, capacity)
 }
 
 #[test]
 fn races_are_as_one_thread(rt: HostRuntime) -> Result<(), Fail> {
     let mut draw = Draw { state: 20221126 };
     for round in 0..200usize {
-        let drawn = draw_setting(rt.alloc(), &mut draw).ok_or("a setting")?;
-        let alike = is_as_one_thread(&rt, rt.alloc(), &drawn, round % 3, round % 2 + 1);
+        let alike = next_is_as_one_thread(&rt, rt.alloc(), &mut draw, round % 3, round % 2 + 1);
         assert!(rt; alike == Some(true), "{round}");
     }
     Ok(())

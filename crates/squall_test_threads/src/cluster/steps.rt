@@ -3,9 +3,11 @@
 ghost use Rattle.std.specs.Prelude.{◌≡◌, ◌++◌, ◌∷◌, [], None};
 ghost use Rattle.std.specs.Arc.{arc_value};
 
-use super::{Start, board_of_both, closed, empty_start, moving_key, opened, two_letters};
+use super::{Start, closed, empty_start, is_board_of_both, moving_key, opened, two_letters};
 use squall_board::Board;
-use squall_cluster::{Case, Cluster, Full, Letter, Line, Owner, Seat, SeatFault, Sender, Track};
+use squall_cluster::{
+    Case, Cluster, Full, Letter, Line, Notice, Owner, Seat, SeatFault, Sender, Track,
+};
 use squall_key::PartId;
 use std::alloc::Global;
 use std::marker::Brand;
@@ -40,6 +42,13 @@ fn post_and_get_back<K: Case, R: Wait>(
     }
 }
 
+/// Whether the seat sends 2:0 where it moves to, once it learns.
+fn sees_new<K: Case>(seat: &mut Seat<K>, notice: &Notice<K>) -> Option<()> {
+    seat.learn(notice);
+    let sees = seat.route(moving_key()?) == PartId::new(3);
+    sees.then_some(())
+}
+
 /// A turn that takes the letter, which the seat that learns of it sees.
 fn turn_and_learn<K: Case, R: Wait + Drop>(
     owner: &mut Owner<K, R>,
@@ -49,9 +58,11 @@ fn turn_and_learn<K: Case, R: Wait + Drop>(
     ensures senders { (owner.new.made ≡ owner.old.made) × (owner.new.vouched ≡ owner.old.vouched) }
 {
     let turn = owner.turn().ok()?;
-    seat.learn(&turn.notice);
-    let sees = seat.route(moving_key()?) == PartId::new(3);
-    (turn.took && sees).then_some(())
+    if turn.took {
+        sees_new(seat, &turn.notice)
+    } else {
+        None
+    }
 }
 
 /// A turn that finds no letter.
@@ -69,15 +80,27 @@ fn sees_either<K: Case>(seat: &mut Seat<K>) -> Option<()> {
     (part.get() == 1 || part.get() == 3).then_some(())
 }
 
+/// Two turns, of which the first takes a letter, as both seats see, and the second takes none.
+fn turn_before<K: Case, R: Wait + Drop>(
+    owner: &mut Owner<K, R>,
+    one: &mut Seat<K>,
+    other: &mut Seat<K>,
+) -> Option<()>
+    ensures inbox { owner.new.inbox ≡ owner.old.inbox }
+    ensures senders { (owner.new.made ≡ owner.old.made) × (owner.new.vouched ≡ owner.old.vouched) }
+{
+    turn_and_learn(owner, one)?;
+    sees_either(other)?;
+    turn_for_nothing(owner)
+}
+
 /// Two turns, of which the first takes a letter, as two seats see, and the second takes none.
 fn turn_twice<K: Case, R: Wait + Drop>(cluster: &Cluster<K>, owner: &mut Owner<K, R>) -> Option<()>
     ensures inbox { owner.new.inbox ≡ owner.old.inbox }
     ensures senders { (owner.new.made ≡ owner.old.made) × (owner.new.vouched ≡ owner.old.vouched) }
 {
     let (mut one, mut other) = two_seats(cluster)?;
-    turn_and_learn(owner, &mut one)?;
-    sees_either(&mut other)?;
-    turn_for_nothing(owner)
+    turn_before(owner, &mut one, &mut other)
 }
 
 /// A cluster in which two letters are posted, where each step answers as it should. None where one does
@@ -140,7 +163,7 @@ fn are_right<K: Case, R: Wait>(
 {
     let letters = two_letters(alloc)?;
     let closed = steps::<K, R>(rt, alloc, book, start, letters)?;
-    Some(closed == board_of_both(alloc)?)
+    is_board_of_both(alloc, &closed)
 }
 
 #[test]

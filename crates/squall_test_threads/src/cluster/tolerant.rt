@@ -3,7 +3,7 @@
 ghost use Rattle.std.specs.Prelude.{◌≡◌, [], None};
 ghost use Rattle.std.specs.Arc.{arc_value};
 
-use super::{Start, board_of_both, closed, empty_start, moving_key, opened, two_letters};
+use super::{Start, closed, empty_start, is_board_of_both, moving_key, opened, two_letters};
 use squall_board::Board;
 use squall_cluster::{Case, Letter, Line, Owner, Seat, Track};
 use squall_key::PartId;
@@ -69,7 +69,8 @@ fn loses_nothing<K: Case, R: Wait>(
 {
     let letters = two_letters(alloc)?;
     let (right, closed) = takes_both::<K, R>(rt, alloc, book, start, letters)?;
-    Some(right && closed == board_of_both(alloc)?)
+    let told = is_board_of_both(alloc, &closed)?;
+    Some(right && told)
 }
 
 #[test]

@@ -1,6 +1,6 @@
 //! What values have beyond others.
 
-use super::{is_map, join_entry, map, set, span};
+use super::{CLASH, flat, is_flat, is_map, join_entry, map, set, span};
 use squall_join::{Beyond, Flag, Flat, Join, JoinMap, Max, Pair};
 use squall_span::SpanSet;
 use std::alloc::{AllocError, Global};
@@ -57,17 +57,30 @@ fn sets_and_pairs(rt: HostRuntime) -> Result<(), Fail> {
     Ok(())
 }
 
+/// What the value has beyond the other.
+fn flat_rest(alloc: Global, value: &Flat<u32>, other: u32) -> Result<Flat<u32>, AllocError> {
+    let other = flat(other);
+    value.beyond(alloc, &other)
+}
+
+/// Whether the value has this beyond the other.
+fn flat_is_left(alloc: Global, value: u32, other: u32, wanted: u32) -> Result<bool, AllocError> {
+    let rest = flat_rest(alloc, &flat(value), other)?;
+    Ok(is_flat(&rest, &flat(wanted)))
+}
+
 #[test]
 fn flat_values(rt: HostRuntime) -> Result<(), Fail> {
-    let alloc = rt.alloc();
-    let one: Flat<u32> = Flat::One(7);
-    let clash: Flat<u32> = Flat::Clash;
-    assert!(rt; matches!(one.beyond(alloc, &Flat::Unknown)?, Flat::One(7)));
-    assert!(rt; matches!(one.beyond(alloc, &Flat::One(7))?, Flat::Unknown));
-    assert!(rt; matches!(one.beyond(alloc, &Flat::One(8))?, Flat::One(7)));
-    assert!(rt; matches!(one.beyond(alloc, &clash)?, Flat::Unknown));
-    assert!(rt; matches!(clash.beyond(alloc, &one)?, Flat::Clash));
-    assert!(rt; matches!(clash.beyond(alloc, &clash)?, Flat::Unknown));
+    for (value, other, rest) in [
+        (7, 0, 7),
+        (7, 7, 0),
+        (7, 8, 7),
+        (7, CLASH, 0),
+        (CLASH, 7, CLASH),
+        (CLASH, CLASH, 0),
+    ] {
+        assert!(rt; flat_is_left(rt.alloc(), value, other, rest)?);
+    }
     Ok(())
 }
 
@@ -176,10 +189,19 @@ fn pair(
     Ok(Pair::new(set, map))
 }
 
+/// Each member, of the pair and another.
+fn leaves_pairs(
+    rt: &impl Abort,
+    alloc: Global,
+    first: &Pair<SpanSet, JoinMap<u32, Max>>,
+) -> Result<(), AllocError> {
+    let second = pair(rt, alloc, (3, 9), &[(1, 4), (2, 2), (9, 1)])?;
+    leaves(rt, alloc, first, &second)
+}
+
 #[test]
 fn pairs_through_the_bound(rt: HostRuntime) -> Result<(), Fail> {
     let first = pair(&rt, rt.alloc(), (1, 4), &[(1, 3), (7, 2)])?;
-    let second = pair(&rt, rt.alloc(), (3, 9), &[(1, 4), (2, 2), (9, 1)])?;
-    leaves(&rt, rt.alloc(), &first, &second)?;
+    leaves_pairs(&rt, rt.alloc(), &first)?;
     Ok(())
 }

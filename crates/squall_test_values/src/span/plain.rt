@@ -169,8 +169,9 @@ fn split(
     at: u32,
 ) -> Result<(), AllocError> {
     let (below, others) = set.split_at(alloc, bound(rt, at))?;
-    assert!(rt; mask_of(&below) == mask & between(0, u64::from(at)));
-    assert!(rt; mask_of(&others) == mask & between(u64::from(at), 24));
+    let low = mask & between(0, u64::from(at));
+    let high = mask & between(u64::from(at), 24);
+    assert!(rt; (mask_of(&below), mask_of(&others)) == (low, high));
     Ok(())
 }
 
@@ -190,6 +191,14 @@ fn sets_of_one(rt: HostRuntime) -> Result<(), Fail> {
     Ok(())
 }
 
+/// Whether the set has the keys of the mask, each by itself.
+fn has_keys(rt: &impl Abort, set: &SpanSet, mask: u32) -> bool {
+    (0..24u32).all(|rank| {
+        let key = Key::of_rank(u64::from(rank)).expect(rt, "a key");
+        set.has(key) == ((mask >> rank) & 1 == 1)
+    })
+}
+
 #[test]
 fn keys_of_one(rt: HostRuntime) -> Result<(), Fail> {
     let mut state = 3u32;
@@ -197,10 +206,7 @@ fn keys_of_one(rt: HostRuntime) -> Result<(), Fail> {
         let a = mask(state);
         state = next(state);
         let set = made(&rt, rt.alloc(), a)?;
-        for rank in 0..24u32 {
-            let key = Key::of_rank(u64::from(rank)).expect(&rt, "a key");
-            assert!(rt; set.has(key) == ((a >> rank) & 1 == 1));
-        }
+        assert!(rt; has_keys(&rt, &set, a));
     }
     Ok(())
 }
