@@ -2,7 +2,7 @@
 //! that threads send through a `sync_channel` to one that puts them into a board and patches the table.
 
 use std::collections::BTreeMap;
-use std::sync::atomic::{AtomicBool, Ordering};
+use std::sync::atomic::{AtomicBool, AtomicUsize, Ordering};
 use std::sync::{mpsc, RwLock};
 use std::thread;
 use std::time::Instant;
@@ -182,6 +182,67 @@ fn letters(senders: u32) {
     println!("letter, {senders} senders: {each} ns");
 }
 
+/// A board and its table, of which a desk has two copies.
+struct Published {
+    board: Board,
+    legs: Vec<Leg>,
+}
+
+/// Takes a letter, which is a board of loads.
+fn absorb(copy: &RwLock<Published>, fresh: &mut Vec<Leg>, letter: &Board) {
+    let mut copy = copy.write().unwrap();
+    for (&(number, sub, part), spans) in letter {
+        for &(lo, hi) in spans {
+            let report = Report { number, sub, part, lo, hi };
+            take(&mut copy.board, &report);
+            patch(&mut copy.legs, fresh, &report);
+        }
+    }
+}
+
+fn letter_of(report: &Report) -> Board {
+    let mut letter = Board::new();
+    take(&mut letter, report);
+    letter
+}
+
+/// The same work as that of a cluster: a letter is a board, and goes into either of two copies, of which readers look
+/// at one while the owner changes the other.
+fn boards(senders: u32) {
+    let start_of = |sender: u32| sender * (LETTERS / senders);
+    let lists: Vec<Vec<Report>> = (0..senders)
+        .map(|sender| (start_of(sender)..start_of(sender + 1)).map(|at| longer(500, at)).collect())
+        .collect();
+    let copies = [(); 2].map(|()| {
+        let (board, legs) = opening(500);
+        RwLock::new(Published { board, legs })
+    });
+    let shown = AtomicUsize::new(0);
+    let start = Instant::now();
+    thread::scope(|scope| {
+        let (sender, receiver) = mpsc::sync_channel::<Board>(1024);
+        for list in &lists {
+            let sender = sender.clone();
+            scope.spawn(move || {
+                for report in list {
+                    sender.send(letter_of(report)).unwrap();
+                }
+            });
+        }
+        drop(sender);
+        let mut fresh = vec![];
+        for letter in receiver {
+            let hidden = 1 - shown.load(Ordering::SeqCst);
+            absorb(&copies[hidden], &mut fresh, &letter);
+            shown.store(hidden, Ordering::SeqCst);
+            absorb(&copies[1 - hidden], &mut fresh, &letter);
+        }
+    });
+    let each = start.elapsed().as_nanos() / u128::from(LETTERS);
+    std::hint::black_box(&copies);
+    println!("letter as a board, two copies, {senders} senders: {each} ns");
+}
+
 fn main() {
     for readers in 1..5 {
         routes(500, readers);
@@ -191,5 +252,8 @@ fn main() {
     }
     for senders in [1, 2, 4] {
         letters(senders);
+    }
+    for senders in [1, 2, 4] {
+        boards(senders);
     }
 }
