@@ -7,6 +7,7 @@ mod Behind
 mod Picks
 mod Moving
 pub mod Touching
+mod OneLoad
 mod Shifted
 mod Counting
 mod About

@@ -15,6 +15,7 @@ mod patch;
 mod ready;
 mod routes;
 mod search;
+mod single;
 mod table;
 mod touch;
 

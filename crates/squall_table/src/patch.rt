@@ -3,13 +3,13 @@
 ghost use Rattle.std.specs.Prelude.{◌≡◌, ℕ, ◌<◌, ◌≤◌, ◌+◌, ◌^◌, false, length, vec_len, vec_capacity, OnOk, OnErr};
 ghost use Rattle.std.specs.List.{splice};
 ghost use Rattle.squall_key.specs.Keys.{top};
-ghost use Rattle.squall_span.specs.Spans.{has};
+ghost use Rattle.squall_span.specs.Spans.{has, IsSet};
 ghost use Rattle.squall_plan.specs.Ranges.{owner_of, IsCanonical};
 ghost use Rattle.squall_course.specs.Moves.{moves_of};
-ghost use Rattle.squall_board.specs.Boards.{board_join};
+ghost use Rattle.squall_board.specs.Boards.{board_join, says};
 ghost use Rattle.squall_table.specs.Tables.{IsTable};
 ghost use Rattle.squall_table.specs.Strips.{HasIndex};
-ghost use Rattle.squall_table.specs.Touched.{WasTable};
+ghost use Rattle.squall_table.specs.Touched.{WasTable, is_touched};
 ghost use Rattle.squall_table.specs.Reach.{moves_in, reach};
 
 use crate::fresh::{Renewal, know_moves, renew};
@@ -18,12 +18,13 @@ use crate::meter::Meter;
 use crate::near::near_count;
 use crate::ready::replace_ready;
 use crate::routes::Heard;
+use crate::single::touched_span;
 use crate::table::{Leg, RouteTable};
 use crate::touch::touched;
 use squall_board::{Board, Delta};
 use squall_course::Course;
 use squall_key::Bound;
-use squall_span::SpanSet;
+use squall_span::{Span, SpanSet};
 use std::alloc::AllocError;
 
 /// Makes room for fresh legs, and for their index. Where that fails, the legs are as they were, and
@@ -98,6 +99,37 @@ impl RouteTable {
         Ok(())
     }
 
+    /// Merges the delta into the board whose table this is, and patches the table for the spans, whose
+    /// keys are those that the delta touches: both, or neither where an allocation fails.
+    fn absorb_touched(
+        &mut self,
+        course: &Course,
+        board: &mut Board,
+        delta: &Delta,
+        spans: &[Span],
+    ) -> Result<(), AllocError>
+        requires was { IsTable course.now board.old self.old }
+        requires set { IsSet spans.now }
+        requires keys { (k : ℕ) → has spans.now k ≡ is_touched course.now (says delta.now) k }
+        ensures board { OnOk result (board.new ≡ board_join board.old delta.now) }
+        ensures table { OnOk result (IsTable course.now board.new self.new) }
+        ensures err { OnErr result (self.new ≡ self.old) }
+        ensures board_err { OnErr result (board.new ≡ board.old) }
+    {
+        know_moves(course);
+        if spans.is_empty() {
+            return board.merge(delta);
+        }
+        // Every key of the set has come, once the delta is merged.
+        let alloc = *self.legs.allocator();
+        let at = self.place_before(spans[0].lo());
+        let made = renew(alloc, &self.legs, at, course, Heard::All, spans)?;
+        make_room(&mut self.legs, &mut self.index, &made.fresh)?;
+        board.merge(delta)?;
+        put(&mut self.legs, &mut self.index, &made);
+        Ok(())
+    }
+
     /// Merges the delta into the board whose table this is, and patches the table for what the delta
     /// touches: both, or neither where an allocation fails. What can fail for the table is done
     /// before the merge, so that neither is ever copied.
@@ -113,19 +145,10 @@ impl RouteTable {
         ensures err { OnErr result (self.new ≡ self.old) }
         ensures board_err { OnErr result (board.new ≡ board.old) }
     {
-        know_moves(course);
-        let alloc = *self.legs.allocator();
-        let set = touched(alloc, course, delta)?;
-        let spans = set.spans();
-        if spans.is_empty() {
-            return board.merge(delta);
+        if let Some(span) = touched_span(course, delta) {
+            return self.absorb_touched(course, board, delta, &[span]);
         }
-        // Every key of the set has come, once the delta is merged.
-        let at = self.place_before(spans[0].lo());
-        let made = renew(alloc, &self.legs, at, course, Heard::All, spans)?;
-        make_room(&mut self.legs, &mut self.index, &made.fresh)?;
-        board.merge(delta)?;
-        put(&mut self.legs, &mut self.index, &made);
-        Ok(())
+        let set = touched(*self.legs.allocator(), course, delta)?;
+        self.absorb_touched(course, board, delta, set.spans())
     }
 }
