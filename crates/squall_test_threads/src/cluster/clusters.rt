@@ -171,8 +171,9 @@ fn two_at_once(rt: HostRuntime) -> Result<(), Fail> {
     let here = empty_start(alloc).ok_or("a start")?;
     let there = loaded_start(alloc).ok_or("a start")?;
     let asked = asked::<Brand, Brand, _>(&rt, alloc, Line::open(), &here, Line::open(), &there);
-    let (old, new) = (PartId::new(1), PartId::new(3));
-    assert!(rt; asked == Some(((old, new), (None, new))));
+    let before = (PartId::new(1), PartId::new(3));
+    let after = (None, PartId::new(3));
+    assert!(rt; asked == Some((before, after)));
     Ok(())
 }
 
