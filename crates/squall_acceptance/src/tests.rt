@@ -5,9 +5,6 @@ mod headline;
 mod messages;
 mod plain;
 mod random;
-mod streams;
-mod tables;
-mod worlds;
 
 use squall_key::Bound;
 use squall_plan::Plan;
