@@ -3,4 +3,3 @@
 mod answers;
 mod events;
 mod tolerant;
-mod words;

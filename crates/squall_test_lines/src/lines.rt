@@ -6,7 +6,6 @@ use squall_lines::{Ended, Flow, LONGEST_PIECE, RunFault, next_line, read_all, ru
 use std::alloc::{AllocError, Global};
 use std::io;
 use std::io::{ErrorKind, Read, Write};
-use std::process::Abort;
 use std::test::Fail;
 
 /// Answers each line that is not empty by its length. A line that begins with `x` is bad.
@@ -66,10 +65,11 @@ impl Machine for Numbers {
     }
 }
 
-/// Gives one byte per read, and fails after some reads.
+/// Gives at most so many bytes per read, and fails after some reads.
 #[derive(Drop)]
 struct Drip<'a> {
     bytes: &'a [u8],
+    most: usize,
     reads_left: u64,
 }
 
@@ -79,40 +79,10 @@ impl Read for Drip<'_> {
             return Err(io::Error::from(ErrorKind::Other));
         }
         self.reads_left -= 1;
-        match (self.bytes, buf) {
-            ([first, rest @ ..], [place, ..]) => {
-                *place = *first;
-                self.bytes = rest;
-                Ok(1)
-            }
-            _ => Ok(0),
-        }
-    }
-}
-
-/// Gives one byte per read, lines of nine letters, and ends after some reads.
-#[derive(Drop)]
-struct Letters {
-    reads_left: u32,
-}
-
-impl Read for Letters {
-    fn read(&mut self, buf: &mut [u8]) -> io::Result<usize> {
-        if self.reads_left == 0 {
-            return Ok(0);
-        }
-        self.reads_left -= 1;
-        match buf {
-            [place, ..] => {
-                *place = if self.reads_left % 10 == 0 {
-                    b'\n'
-                } else {
-                    b'a'
-                };
-                Ok(1)
-            }
-            [] => Ok(0),
-        }
+        let mut piece = self.bytes.get(..self.most).unwrap_or(self.bytes);
+        let count = piece.read(buf)?;
+        self.bytes = self.bytes.get(count..).unwrap_or(b"");
+        Ok(count)
     }
 }
 
@@ -152,57 +122,126 @@ const INPUT: &[u8; 13] = b"ab\n\nabcde\nabc";
 
 const OUTPUT: &[u8; 6] = b"2\n5\n3\n";
 
-/// A run of a sample over the text.
-fn run_text(alloc: Global, text: &[u8], out: &mut Vec<u8>) -> Result<Ended, RunFault> {
-    let mut sample = Sample;
-    let mut reader = Reader::new(text);
-    let mut writer = Writer::new(out);
-    run(alloc, &mut sample, &mut reader, &mut writer)
-}
-
-/// How a run ended, and what it wrote.
+/// How many bytes a read gives, how many reads and how many writes of a byte work, and whether the next
+/// write fails or takes nothing.
 #[derive(Clone, Copy)]
-struct Outcome<'a> {
-    ended: Result<Ended, RunFault>,
-    written: &'a [u8],
+struct Way {
+    most: usize,
+    reads: u64,
+    writes: u64,
+    fails: bool,
 }
 
-impl Outcome<'_> {
-    /// Whether a run that ended so wrote that.
-    fn is(&self, ended: Result<Ended, RunFault>, written: &[u8]) -> bool {
-        self.ended == ended && self.written == written
+const FREE: Way = Way {
+    most: 1,
+    reads: u64::MAX,
+    writes: u64::MAX,
+    fails: false,
+};
+
+/// A run of a sample over a slow reader and a slow writer.
+fn run_sample(alloc: Global, drip: Drip<'_>, dropper: &mut Dropper) -> Result<Ended, RunFault> {
+    let mut reader = Reader::new(drip);
+    let mut writer = Writer::new(dropper);
+    run(alloc, &mut Sample, &mut reader, &mut writer)
+}
+
+/// How a run ends, and what it writes.
+type Outcome<'a> = (Result<Ended, RunFault>, &'a [u8]);
+
+/// Whether such a run over the bytes comes out so.
+fn comes_out(alloc: Global, bytes: &[u8], way: Way, wanted: Outcome<'_>) -> bool {
+    let mut dropper = Dropper {
+        taken: Vec::new(alloc),
+        writes_left: way.writes,
+        fails: way.fails,
+    };
+    let drip = Drip {
+        bytes,
+        most: way.most,
+        reads_left: way.reads,
+    };
+    let ended = run_sample(alloc, drip, &mut dropper);
+    ended == wanted.0 && dropper.taken.as_slice() == wanted.1
+}
+
+/// A piece so many times, and what follows it.
+type Text<'a> = (&'a [u8], usize, &'a [u8]);
+
+/// Whether a run over the text, with so many bytes a read, comes out so.
+fn answers(
+    alloc: Global,
+    text: Text<'_>,
+    most: usize,
+    wanted: Outcome<'_>,
+) -> Result<bool, AllocError> {
+    let mut bytes = Vec::new(alloc);
+    for _ in 0..text.1 {
+        bytes.extend_from_slice(text.0)?;
     }
+    bytes.extend_from_slice(text.2)?;
+    let way = Way { most, ..FREE };
+    Ok(comes_out(alloc, bytes.as_slice(), way, wanted))
 }
 
-/// Whether a run of a sample over the text comes out so.
-fn answers(alloc: Global, text: &[u8], wanted: Outcome<'_>) -> bool {
-    let mut out = Vec::new(alloc);
-    let ended = run_text(alloc, text, &mut out);
-    wanted.is(ended, out.as_slice())
-}
-
-fn repeated(alloc: Global, piece: &[u8], times: usize) -> Result<Vec<u8>, AllocError> {
-    let mut text = Vec::new(alloc);
-    for _ in 0..times {
-        text.extend_from_slice(piece)?;
+/// Short texts; the longest piece, and one byte more; and more than a million reads and lines, none of
+/// which ends a run before the input ends.
+#[test]
+fn texts_are_answered(rt: HostRuntime) -> Result<(), Fail> {
+    let (fine, refused) = (Ok(Ended::Fine), Ok(Ended::Refused));
+    let cases: [(Text<'_>, usize, Outcome<'_>); 9] = [
+        ((b"", 1, b""), 1, (fine, b"")),
+        ((b"ab\n\nabcde\nabc", 1, b""), 64, (fine, b"2\n5\n3\n")),
+        ((b"abc\n", 1, b""), 1, (fine, b"3\n")),
+        ((b"ab\nxyz\nabc\n", 1, b""), 64, (refused, b"2\nno\n")),
+        ((b"abc\n", 2, b"x"), 2, (refused, b"3\n3\nno\n")),
+        ((b"\n", 3, b""), 1, (fine, b"")),
+        ((b"a", LONGEST_PIECE, b""), 65536, (fine, b"1048577\n")),
+        ((b"a", LONGEST_PIECE, b"a"), 65536, (refused, b"long\n")),
+        ((b"\n", 1_200_000, b"abc"), 1, (fine, b"3\n")),
+    ];
+    for (text, most, wanted) in cases {
+        assert!(rt; answers(rt.alloc(), text, most, wanted)?);
     }
-    Ok(text)
+    Ok(())
 }
 
 #[test]
-fn texts_are_answered(rt: HostRuntime) -> Result<(), Fail> {
-    let cases: [(&[u8], Result<Ended, RunFault>, &[u8]); 6] = [
-        (b"", Ok(Ended::Fine), b""),
-        (b"ab\n\nabcde\nabc", Ok(Ended::Fine), b"2\n5\n3\n"),
-        (b"abc\n", Ok(Ended::Fine), b"3\n"),
-        (b"ab\nxyz\nabc\n", Ok(Ended::Refused), b"2\nno\n"),
-        (b"abc\nx", Ok(Ended::Refused), b"3\nno\n"),
-        (b"\n\n\n", Ok(Ended::Fine), b""),
-    ];
-    for (text, ended, written) in cases {
-        assert!(rt; answers(rt.alloc(), text, Outcome { ended, written }));
+fn readers_that_fail(rt: HostRuntime) {
+    for reads in 0..20u64 {
+        // Thirteen reads give a byte, and the next one finds the end.
+        let wanted = match reads {
+            0..=2 => (Err(RunFault::Read), &OUTPUT[..0]),
+            3..=9 => (Err(RunFault::Read), &OUTPUT[..2]),
+            10..=13 => (Err(RunFault::Read), &OUTPUT[..4]),
+            _ => (Ok(Ended::Fine), OUTPUT.as_slice()),
+        };
+        let way = Way { reads, ..FREE };
+        assert!(rt;
+            comes_out(rt.alloc(), INPUT.as_slice(), way, wanted),
+            "at {reads}"
+        );
     }
-    Ok(())
+}
+
+#[test]
+fn writers_that_stop(rt: HostRuntime) {
+    for round in 0..14u64 {
+        let writes = round / 2;
+        let wanted = match OUTPUT.get(..writes as usize) {
+            Some(written) if writes < 6 => (Err(RunFault::Write), written),
+            _ => (Ok(Ended::Fine), OUTPUT.as_slice()),
+        };
+        let way = Way {
+            writes,
+            fails: round % 2 == 0,
+            ..FREE
+        };
+        assert!(rt;
+            comes_out(rt.alloc(), INPUT.as_slice(), way, wanted),
+            "at {round}"
+        );
+    }
 }
 
 /// A run of a machine that numbers the lines of the input.
@@ -212,211 +251,77 @@ fn run_numbers(alloc: Global, out: &mut Vec<u8>) -> Result<Ended, RunFault> {
     run(alloc, &mut Numbers { line: 0 }, &mut reader, &mut writer)
 }
 
-/// Whether that run comes out so.
-fn numbers_lines(alloc: Global, wanted: Outcome<'_>) -> bool {
-    let mut out = Vec::new(alloc);
-    let ended = run_numbers(alloc, &mut out);
-    wanted.is(ended, out.as_slice())
-}
-
 #[test]
-fn lines_are_numbered(rt: HostRuntime) -> Result<(), Fail> {
-    let wanted = Outcome {
-        ended: Ok(Ended::Fine),
-        written: b"1\n2\n3\n4\n",
-    };
-    assert!(rt; numbers_lines(rt.alloc(), wanted));
-    Ok(())
+fn lines_are_numbered(rt: HostRuntime) {
+    let mut out = Vec::new(rt.alloc());
+    let ended = run_numbers(rt.alloc(), &mut out);
+    assert!(rt; ended == Ok(Ended::Fine) && out.as_slice() == b"1\n2\n3\n4\n".as_slice());
 }
 
-/// A run of a sample over the input, at a byte a read, with so many reads.
-fn run_drip(alloc: Global, reads_left: u64, out: &mut Vec<u8>) -> Result<Ended, RunFault> {
-    let mut sample = Sample;
+/// Whether so many reads of a byte give all bytes, and then the end.
+fn gives_all(alloc: Global, bytes: &[u8], reads_left: u64) -> Result<bool, RunFault> {
+    let most = 1;
     let mut reader = Reader::new(Drip {
-        bytes: INPUT.as_slice(),
+        bytes,
+        most,
         reads_left,
     });
-    let mut writer = Writer::new(out);
-    run(alloc, &mut sample, &mut reader, &mut writer)
-}
-
-/// Whether that run comes out so.
-fn drips(alloc: Global, reads_left: u64, wanted: Outcome<'_>) -> bool {
-    let mut out = Vec::new(alloc);
-    let ended = run_drip(alloc, reads_left, &mut out);
-    wanted.is(ended, out.as_slice())
+    let all = read_all(alloc, &mut reader)?;
+    Ok(all.as_slice() == bytes)
 }
 
 #[test]
-fn one_byte_per_read(rt: HostRuntime) -> Result<(), Fail> {
-    for reads_left in 0..20u64 {
-        // Thirteen reads give a byte, and the next one finds the end.
-        let ended = if reads_left < 14 {
-            Err(RunFault::Read)
-        } else {
-            Ok(Ended::Fine)
-        };
-        let written = match reads_left {
-            0..=2 => &OUTPUT[..0],
-            3..=9 => &OUTPUT[..2],
-            10..=13 => &OUTPUT[..4],
-            _ => OUTPUT.as_slice(),
-        };
-        let wanted = Outcome { ended, written };
-        assert!(rt; drips(rt.alloc(), reads_left, wanted), "at {reads_left}");
+fn whole_inputs(rt: HostRuntime) {
+    let cases: [(&[u8], u64, Result<bool, RunFault>); 3] = [
+        (INPUT, 13, Err(RunFault::Read)),
+        (INPUT, 14, Ok(true)),
+        (b"", 1, Ok(true)),
+    ];
+    for (bytes, reads, wanted) in cases {
+        assert!(rt; gives_all(rt.alloc(), bytes, reads) == wanted);
     }
-    Ok(())
 }
 
-/// A run of a sample over the input, into the dropper.
-fn run_dropper(alloc: Global, dropper: &mut Dropper) -> Result<Ended, RunFault> {
-    let mut sample = Sample;
-    let mut reader = Reader::new(INPUT.as_slice());
-    let mut writer = Writer::new(dropper);
-    run(alloc, &mut sample, &mut reader, &mut writer)
-}
+/// A piece of a text, and what follows it.
+type Cut = Option<(&'static [u8], &'static [u8])>;
 
-/// Whether that run comes out so, after so many writes.
-fn drops(alloc: Global, writes_left: u64, fails: bool, wanted: Outcome<'_>) -> bool {
-    let mut dropper = Dropper {
-        taken: Vec::new(alloc),
-        writes_left,
-        fails,
-    };
-    let ended = run_dropper(alloc, &mut dropper);
-    wanted.is(ended, dropper.taken.as_slice())
-}
-
-#[test]
-fn one_byte_per_write(rt: HostRuntime) -> Result<(), Fail> {
-    for writes_left in 0..10u64 {
-        let wanted = if writes_left < 6 {
-            Outcome {
-                ended: Err(RunFault::Write),
-                written: &OUTPUT[..writes_left as usize],
-            }
-        } else {
-            Outcome {
-                ended: Ok(Ended::Fine),
-                written: OUTPUT.as_slice(),
-            }
-        };
-        assert!(rt;
-            drops(rt.alloc(), writes_left, false, wanted),
-            "at {writes_left}"
-        );
-        assert!(rt;
-            drops(rt.alloc(), writes_left, true, wanted),
-            "at {writes_left}"
-        );
-    }
-    Ok(())
-}
-
-/// The longest piece is answered as a line, and one byte more as a line that is too long.
-fn pieces_are_answered(
-    rt: &impl Abort,
-    alloc: Global,
-    text: &mut Vec<u8>,
-) -> Result<(), AllocError> {
-    let whole = Outcome {
-        ended: Ok(Ended::Fine),
-        written: b"1048577\n",
-    };
-    assert!(rt; answers(alloc, text.as_slice(), whole));
-    text.extend_from_slice(b"a")?;
-    let long = Outcome {
-        ended: Ok(Ended::Refused),
-        written: b"long\n",
-    };
-    assert!(rt; answers(alloc, text.as_slice(), long));
-    Ok(())
-}
-
-#[test]
-fn long_lines(rt: HostRuntime) -> Result<(), Fail> {
-    let mut text = repeated(rt.alloc(), b"a", LONGEST_PIECE)?;
-    pieces_are_answered(&rt, rt.alloc(), &mut text)?;
-    Ok(())
-}
-
-/// A run of a sample over more than a million letters.
-fn run_letters(alloc: Global, out: &mut Vec<u8>) -> Result<Ended, RunFault> {
-    let mut sample = Sample;
-    let mut reader = Reader::new(Letters {
-        reads_left: 1_200_000,
-    });
-    let mut writer = Writer::new(out);
-    run(alloc, &mut sample, &mut reader, &mut writer)
-}
-
-/// Whether that run comes out so.
-fn reads_letters(alloc: Global, wanted: Outcome<'_>) -> bool {
-    let mut out = Vec::new(alloc);
-    let ended = run_letters(alloc, &mut out);
-    wanted.is(ended, out.as_slice())
-}
-
-/// Neither many reads nor many lines end a run before the input ends.
-#[test]
-fn a_million_short_reads(rt: HostRuntime) -> Result<(), Fail> {
-    let text = repeated(rt.alloc(), b"9\n", 120_000)?;
-    let wanted = Outcome {
-        ended: Ok(Ended::Fine),
-        written: text.as_slice(),
-    };
-    assert!(rt; reads_letters(rt.alloc(), wanted));
-    Ok(())
-}
-
-/// Whether all that comes of a reader of one byte a read is the input.
-fn drip_is_input(alloc: Global, reads_left: u64) -> Result<bool, RunFault> {
-    let mut reader = Reader::new(Drip {
-        bytes: INPUT.as_slice(),
-        reads_left,
-    });
-    let text = read_all(alloc, &mut reader)?;
-    Ok(text.as_slice() == INPUT.as_slice())
-}
-
-/// Whether all that comes of an empty reader is nothing.
-fn nothing_is_nothing(alloc: Global) -> Result<bool, RunFault> {
-    let text = read_all(alloc, &mut Reader::new(b"".as_slice()))?;
-    Ok(text.is_empty())
-}
-
-#[test]
-fn whole_inputs(rt: HostRuntime) -> Result<(), Fail> {
-    assert!(rt; drip_is_input(rt.alloc(), 13) == Err(RunFault::Read));
-    assert!(rt; drip_is_input(rt.alloc(), 14) == Ok(true));
-    assert!(rt; nothing_is_nothing(rt.alloc()) == Ok(true));
-    Ok(())
-}
-
-fn bytes(text: &str) -> &[u8] {
-    text.as_bytes()
-}
+/// A line without the blanks before it, its first word, and whether it has just one.
+static LINES: [(&[u8], &[u8], Cut, bool); 3] = [
+    (
+        b" \tput 7-9\t 3 ",
+        b"put 7-9\t 3 ",
+        Some((b"put", b" 7-9\t 3 ")),
+        false,
+    ),
+    (b" \t ", b"", None, false),
+    (b"\tput ", b"put ", Some((b"put", b" ")), true),
+];
 
 #[test]
 fn words_of_a_line(rt: HostRuntime) {
-    let line = without_cr(b" \tput 7-9\t 3 \r");
-    assert!(rt; line == bytes(" \tput 7-9\t 3 "));
-    assert!(rt; without_cr(b"a\r\r") == bytes("a\r"));
-    assert!(rt; without_cr(b"").is_empty());
-    assert!(rt; next_word(line) == Some((bytes("put"), bytes(" 7-9\t 3 "))));
-    assert!(rt; after_blanks(b" 7-9\t 3 ") == bytes("7-9\t 3 "));
-    assert!(rt; next_word(b" \t ").is_none());
-    assert!(rt; only_word(b"\tput ") == Some(bytes("put")));
-    assert!(rt; only_word(line).is_none());
-    assert!(rt; only_word(b" ").is_none());
+    for (line, rest, first, only) in &LINES {
+        assert!(rt; after_blanks(line) == *rest);
+        assert!(rt; next_word(line) == *first);
+        assert!(rt; only_word(line).is_some() == *only);
+    }
 }
+
+/// Texts, and the first line of each without its carriage return.
+static TEXTS: [(&[u8], Cut, &[u8]); 4] = [
+    (b"", None, b""),
+    (b"\na", Some((b"", b"a")), b""),
+    (b"a b\r\n\n", Some((b"a b\r", b"\n")), b"a b"),
+    (b"a\r\r", Some((b"a\r\r", b"")), b"a\r"),
+];
 
 #[test]
 fn lines_of_a_text(rt: HostRuntime) {
-    assert!(rt; next_line(b"").is_none());
-    assert!(rt; next_line(b"\na") == Some((bytes(""), bytes("a"))));
-    assert!(rt; next_line(b"a b\n\n") == Some((bytes("a b"), bytes("\n"))));
-    assert!(rt; next_line(b"last\r") == Some((bytes("last\r"), bytes(""))));
+    for (text, first, line) in &TEXTS {
+        assert!(rt; next_line(text) == *first);
+        if let Some((whole, _)) = first {
+            assert!(rt; without_cr(whole) == *line);
+        }
+    }
 }
 
 #[test]

@@ -3,12 +3,11 @@
 mod clients;
 mod tolerant;
 
-use squall_course::{Course, CourseFault, Move, Owners, Status};
+use squall_course::{Course, CourseFault, Owners, Status};
 use squall_key::{Bound, Key, PartId};
 use squall_plan::{Plan, PlanRange};
 use squall_span::{Span, SpanSet};
 use std::alloc::{AllocError, Global};
-use std::fmt::Display;
 use std::process::Abort;
 use std::test::Fail;
 
@@ -99,93 +98,29 @@ fn course_between(
     course_from(rt, alloc, &old, new)
 }
 
-fn old_to_new(rt: &impl Abort, alloc: Global) -> Result<Course, Fail> {
-    course_between(rt, alloc, &OLD, &NEW)
-}
-
-/// Writes the keys of the move and where they come from.
-fn write_source(out: &mut String, one: &Move) -> Result<(), AllocError> {
-    let span = one.span;
-    let source = one.source;
-    write!(out, "{span} {source} to ")?;
-    Ok(())
-}
-
-/// Writes where the keys of the move go to, and in which sub-plan.
-fn write_dest(out: &mut String, one: &Move) -> Result<(), AllocError> {
-    let dest = one.dest;
-    let sub = one.sub;
-    write!(out, "{dest} sub {sub};")?;
-    Ok(())
-}
-
-/// Writes the move.
-fn write_move(out: &mut String, one: &Move) -> Result<(), AllocError> {
-    write_source(out, one)?;
-    write_dest(out, one)
-}
-
-/// The moves as text.
-fn shown(alloc: Global, moves: &[Move]) -> Result<String, AllocError> {
-    let mut out = String::new(alloc);
-    for one in moves {
-        write_move(&mut out, one)?;
+/// Whether the moves of the course are these: each its first root, the root after it, its source, its destination and
+/// its sub-plan.
+fn has_moves(rt: &impl Abort, course: &Course, wanted: &[(u32, u32, u32, u32, u32)]) -> bool {
+    let moves = course.moves();
+    if moves.len() != wanted.len() {
+        return false;
     }
-    Ok(out)
-}
-
-/// The moves of the course are shown so.
-fn moves_show(
-    rt: &impl Abort,
-    alloc: Global,
-    course: &Course,
-    wanted: &str,
-) -> Result<(), AllocError> {
-    let text = shown(alloc, course.moves())?;
-    assert!(rt; text.as_str() == wanted);
-    Ok(())
-}
-
-/// Writes the item, and a semicolon after it.
-fn write_item<T: Display>(out: &mut String, item: &T) -> Result<(), AllocError> {
-    write!(out, "{item};")?;
-    Ok(())
-}
-
-/// The items as text.
-fn listed<T: Display>(alloc: Global, items: &[T]) -> Result<String, AllocError> {
-    let mut out = String::new(alloc);
-    for item in items {
-        write_item(&mut out, item)?;
+    let mut right = true;
+    for (at, (lo, hi, source, dest, sub)) in wanted.iter().enumerate() {
+        let one = &moves[at];
+        right &= one.span == span(rt, (*lo, 0), (*hi, 0)) && one.sub == *sub;
+        right &= (one.source.get(), one.dest.get()) == (*source, *dest);
     }
-    Ok(out)
+    right
 }
 
-/// The items are shown so.
-fn items_show<T: Display>(
-    rt: &impl Abort,
-    alloc: Global,
-    items: &[T],
-    wanted: &str,
-) -> Result<(), AllocError> {
-    let text = listed(alloc, items)?;
-    assert!(rt; text.as_str() == wanted);
-    Ok(())
-}
-
-/// There is no course of the number 0 from the plan to itself, and one of the number 1.
-fn look_at_number_0(rt: &impl Abort, alloc: Global, old: &Plan) -> Result<(), Fail> {
+/// There is no course of the number 0 from the plan to itself, and one of the number 1, which moves nothing.
+fn look_at_still(rt: &impl Abort, alloc: Global, old: &Plan) -> Result<(), Fail> {
     let fault = Course::new(alloc, 0, old, old).err();
     assert!(rt; fault == Some(CourseFault::ZeroNumber));
     let course = course(alloc, old, old)?;
-    assert!(rt; course.number() == 1);
+    assert!(rt; course.number() == 1 && course.moves().is_empty() && course.subplans() == 0);
     Ok(())
-}
-
-#[test]
-fn a_course_has_no_number_0(rt: HostRuntime) -> Result<(), Fail> {
-    let old = plan(&rt, rt.alloc(), &OLD)?;
-    look_at_number_0(&rt, rt.alloc(), &old)
 }
 
 /// The course has this number, these plans and two moves.
@@ -193,19 +128,6 @@ fn look_at_course(rt: &impl Abort, course: &Course, number: u32, old: &Plan, new
     assert!(rt; course.number() == number);
     assert!(rt; *course.old_plan() == *old && *course.new_plan() == *new);
     assert!(rt; course.moves().len() == 2);
-}
-
-/// The course of the number from the old plan to the new one.
-fn look_at_number(
-    rt: &impl Abort,
-    alloc: Global,
-    number: u32,
-    old: &Plan,
-    new: &Plan,
-) -> Result<(), CourseFault> {
-    let course = Course::new(alloc, number, old, new)?;
-    look_at_course(rt, &course, number, old, new);
-    Ok(())
 }
 
 /// The courses of many numbers from the old plan to the new one.
@@ -216,7 +138,8 @@ fn look_at_numbers(
     new: &Plan,
 ) -> Result<(), CourseFault> {
     for number in [2, 7, 4294967295] {
-        look_at_number(rt, alloc, number, old, new)?;
+        let course = Course::new(alloc, number, old, new)?;
+        look_at_course(rt, &course, number, old, new);
     }
     Ok(())
 }
@@ -231,36 +154,17 @@ fn look_at_numbers_from(rt: &impl Abort, alloc: Global, old: &Plan) -> Result<()
 #[test]
 fn courses_of_many_numbers(rt: HostRuntime) -> Result<(), Fail> {
     let old = plan(&rt, rt.alloc(), &OLD)?;
+    look_at_still(&rt, rt.alloc(), &old)?;
     look_at_numbers_from(&rt, rt.alloc(), &old)
 }
 
-/// The course has two moves, both in one sub-plan.
-fn look_at_two(rt: &impl Abort, alloc: Global, course: &Course) -> Result<(), AllocError> {
-    let wanted = "[2:0,3:0) 1 to 3 sub 0;[6:0,9:0) 3 to 4 sub 0;";
-    moves_show(rt, alloc, course, wanted)?;
+/// The course has two moves, both in one sub-plan, where each source has its destination.
+fn look_at_two(rt: &impl Abort, course: &Course) {
+    assert!(rt; has_moves(rt, course, &[(2, 3, 1, 3, 0), (6, 9, 3, 4, 0)]));
     assert!(rt; course.subplans() == 1);
-    Ok(())
-}
-
-#[test]
-fn moves_are_numbered(rt: HostRuntime) -> Result<(), Fail> {
-    let course = old_to_new(&rt, rt.alloc())?;
-    look_at_two(&rt, rt.alloc(), &course)?;
-    Ok(())
-}
-
-/// The source 3 has the destination 4 in the first sub-plan, and none in the next.
-fn look_at_destination(rt: &impl Abort, course: &Course) {
     let source = part(rt, 3);
     assert!(rt; course.dest(0, source) == Some(part(rt, 4)));
     assert!(rt; course.dest(1, source).is_none());
-}
-
-#[test]
-fn a_source_has_a_destination(rt: HostRuntime) -> Result<(), Fail> {
-    let course = old_to_new(&rt, rt.alloc())?;
-    look_at_destination(&rt, &course);
-    Ok(())
 }
 
 /// Looks at the owners of a key that moves, and of one that does not.
@@ -278,112 +182,77 @@ fn look_at_owners(rt: &impl Abort, course: &Course) {
     assert!(rt; course.owners(still).sub.is_none());
 }
 
-#[test]
-fn keys_have_owners_and_subplans(rt: HostRuntime) -> Result<(), Fail> {
-    let course = old_to_new(&rt, rt.alloc())?;
-    look_at_owners(&rt, &course);
-    Ok(())
-}
-
-/// The keys that move to the partition in the first sub-plan are shown so.
-fn keys_come_to(
+/// Of the roots of the first sub-plan those from `lo` on, below `hi`, come to the partition.
+fn roots_come(
     rt: &impl Abort,
     alloc: Global,
     course: &Course,
     number: u32,
-    wanted: &str,
+    lo: u32,
+    hi: u32,
 ) -> Result<(), AllocError> {
     let incoming = course.incoming(alloc, 0, part(rt, number))?;
-    items_show(rt, alloc, incoming.spans(), wanted)
-}
-
-#[test]
-fn keys_come(rt: HostRuntime) -> Result<(), Fail> {
-    let course = old_to_new(&rt, rt.alloc())?;
-    keys_come_to(&rt, rt.alloc(), &course, 4, "[6:0,9:0);")?;
+    assert!(rt; incoming.spans() == [span(rt, (lo, 0), (hi, 0))].as_slice());
     Ok(())
 }
 
-/// The keys that move away from the partition in the first sub-plan are shown so.
-fn keys_go_from(
-    rt: &impl Abort,
-    alloc: Global,
-    course: &Course,
-    number: u32,
-    wanted: &str,
-) -> Result<(), AllocError> {
-    let outgoing = course.outgoing(alloc, 0, part(rt, number))?;
-    items_show(rt, alloc, outgoing.spans(), wanted)
-}
-
-#[test]
-fn keys_go(rt: HostRuntime) -> Result<(), Fail> {
-    let course = old_to_new(&rt, rt.alloc())?;
-    keys_go_from(&rt, rt.alloc(), &course, 1, "[2:0,3:0);")?;
+/// Of the roots of the first sub-plan those from 2 on, below 3, go from the partition 1.
+fn roots_go(rt: &impl Abort, alloc: Global, course: &Course) -> Result<(), AllocError> {
+    let outgoing = course.outgoing(alloc, 0, part(rt, 1))?;
+    assert!(rt; outgoing.spans() == [span(rt, (2, 0), (3, 0))].as_slice());
     Ok(())
 }
 
-/// Whether no keys move to the partition 4 in the second sub-plan.
-fn none_come_later(rt: &impl Abort, alloc: Global, course: &Course) -> Result<bool, AllocError> {
+/// No keys come to the partition 4 in the second sub-plan.
+fn none_come_later(rt: &impl Abort, alloc: Global, course: &Course) -> Result<(), AllocError> {
     let later = course.incoming(alloc, 1, part(rt, 4))?;
-    Ok(later.is_empty())
-}
-
-#[test]
-fn no_keys_come_later(rt: HostRuntime) -> Result<(), Fail> {
-    let course = old_to_new(&rt, rt.alloc())?;
-    assert!(rt; none_come_later(&rt, rt.alloc(), &course)?);
+    assert!(rt; later.is_empty());
     Ok(())
 }
 
-/// The partitions to which keys move in the first sub-plan are shown so.
-fn receivers_show(
-    rt: &impl Abort,
-    alloc: Global,
-    course: &Course,
-    wanted: &str,
-) -> Result<(), AllocError> {
+/// Keys come to the partitions 3 and 4 in the first sub-plan.
+fn two_receive(rt: &impl Abort, alloc: Global, course: &Course) -> Result<(), AllocError> {
     let receivers = course.receivers(alloc, 0)?;
-    items_show(rt, alloc, &receivers, wanted)
-}
-
-#[test]
-fn partitions_receive(rt: HostRuntime) -> Result<(), Fail> {
-    let course = old_to_new(&rt, rt.alloc())?;
-    receivers_show(&rt, rt.alloc(), &course, "3;4;")?;
+    assert!(rt; receivers.as_slice() == [part(rt, 3), part(rt, 4)].as_slice());
     Ok(())
 }
 
-/// Whether the course from the plan to itself moves nothing.
-fn moves_nothing(alloc: Global, old: &Plan) -> Result<bool, Fail> {
-    let course = course(alloc, old, old)?;
-    Ok(course.moves().is_empty() && course.subplans() == 0)
-}
-
-#[test]
-fn equal_plans_move_nothing(rt: HostRuntime) -> Result<(), Fail> {
-    let old = plan(&rt, rt.alloc(), &OLD)?;
-    assert!(rt; moves_nothing(rt.alloc(), &old)?);
+/// A span is complete beside the set of its keys.
+fn look_at_status(rt: &impl Abort, alloc: Global, course: &Course) -> Result<(), AllocError> {
+    let prefix = span(rt, (2, 0), (2, 7));
+    let some = SpanSet::of(alloc, &prefix)?;
+    assert!(rt; course.status(&prefix, &some) == Status::Complete);
     Ok(())
 }
 
-/// The course has three moves, each in a sub-plan of its own.
-fn look_at_three(rt: &impl Abort, alloc: Global, course: &Course) -> Result<(), AllocError> {
-    let wanted = "[10:0,20:0) 1 to 4 sub 2;[20:0,30:0) 1 to 2 sub 0;[30:0,end) 1 to 3 sub 1;";
-    moves_show(rt, alloc, course, wanted)?;
-    assert!(rt; course.subplans() == 3);
+/// Each call that the course of the example answers.
+fn look_at_example(rt: &impl Abort, alloc: Global, course: &Course) -> Result<(), AllocError> {
+    look_at_two(rt, course);
+    look_at_owners(rt, course);
+    roots_come(rt, alloc, course, 4, 6, 9)?;
+    roots_go(rt, alloc, course)?;
+    none_come_later(rt, alloc, course)?;
+    two_receive(rt, alloc, course)?;
+    look_at_status(rt, alloc, course)
+}
+
+#[test]
+fn moves_of_the_example(rt: HostRuntime) -> Result<(), Fail> {
+    let course = course_between(&rt, rt.alloc(), &OLD, &NEW)?;
+    look_at_example(&rt, rt.alloc(), &course)?;
     Ok(())
 }
 
 #[test]
 fn destinations_take_subplans_by_their_numbers(rt: HostRuntime) -> Result<(), Fail> {
     let course = course_between(&rt, rt.alloc(), &ONE, &FOUR)?;
-    look_at_three(&rt, rt.alloc(), &course)?;
+    let wanted = [(10, 20, 1, 4, 2), (20, 30, 1, 2, 0), (30, END, 1, 3, 1)];
+    assert!(rt; has_moves(&rt, &course, &wanted) && course.subplans() == 3);
     Ok(())
 }
 
 /// The range of the root `place`, or from it on, of a plan of 4096 ranges.
-fn step(rt: &impl Abort, first: u32, place: u32) -> PlanRange {
+pub(crate) fn step(rt: &impl Abort, first: u32, place: u32) -> PlanRange {
     let hi = if place >= 4095 { END } else { place + 1 };
     range(rt, place.saturating_add(first), place, hi)
 }
@@ -450,7 +319,7 @@ fn look_at_4096(rt: &impl Abort, alloc: Global, course: &Course) -> Result<(), A
     assert!(rt; course.moves().len() == 4096);
     assert!(rt; course.subplans() == 1);
     assert!(rt; receiver_count(alloc, course)? == 4096);
-    keys_come_to(rt, alloc, course, 1001, "[0:0,1:0);")
+    roots_come(rt, alloc, course, 1001, 0, 1)
 }
 
 #[test]
@@ -460,18 +329,7 @@ fn ranges_of_4096_move_on(rt: HostRuntime) -> Result<(), Fail> {
     Ok(())
 }
 
-/// How many keys from 2:0 on, below 3:0, are in the set.
-fn status_in(rt: &impl Abort, set: &SpanSet) -> Status {
-    Status::of(&span(rt, (2, 0), (3, 0)), set)
-}
-
-/// How many of them are in the empty set.
-fn status_in_none(rt: &impl Abort, alloc: Global) -> Status {
-    let empty = SpanSet::empty(alloc);
-    status_in(rt, &empty)
-}
-
-/// How many of them are in the set of the keys between these.
+/// How many keys from 2:0 on, below 3:0, are in the set of the keys between these.
 fn status_between(
     rt: &impl Abort,
     alloc: Global,
@@ -479,29 +337,17 @@ fn status_between(
     hi: (u32, u32),
 ) -> Result<Status, AllocError> {
     let set = SpanSet::of(alloc, &span(rt, lo, hi))?;
-    Ok(status_in(rt, &set))
+    Ok(Status::of(&span(rt, (2, 0), (3, 0)), &set))
 }
 
 #[test]
-fn status_of_a_span(rt: HostRuntime) -> Result<(), Fail> {
-    let alloc = rt.alloc();
-    assert!(rt; status_in_none(&rt, alloc) == Status::NotStarted);
-    assert!(rt; status_between(&rt, alloc, (2, 0), (2, 7))? == Status::Partial);
-    assert!(rt; status_between(&rt, alloc, (0, 0), (END, 0))? == Status::Complete);
-    Ok(())
-}
-
-/// A span is complete beside the set of its keys.
-fn look_at_status(rt: &impl Abort, alloc: Global, course: &Course) -> Result<(), AllocError> {
-    let prefix = span(rt, (2, 0), (2, 7));
-    let some = SpanSet::of(alloc, &prefix)?;
-    assert!(rt; course.status(&prefix, &some) == Status::Complete);
-    Ok(())
-}
-
-#[test]
-fn status_under_a_course(rt: HostRuntime) -> Result<(), Fail> {
-    let course = old_to_new(&rt, rt.alloc())?;
-    look_at_status(&rt, rt.alloc(), &course)?;
+fn status_of_a_span(rt: HostRuntime) -> Result<(), AllocError> {
+    for (lo, hi, wanted) in [
+        ((3, 0), (END, 0), Status::NotStarted),
+        ((2, 0), (2, 7), Status::Partial),
+        ((0, 0), (END, 0), Status::Complete),
+    ] {
+        assert!(rt; status_between(&rt, rt.alloc(), lo, hi)? == wanted);
+    }
     Ok(())
 }

@@ -3,6 +3,7 @@
 mod clients;
 mod tolerant;
 
+use crate::course::step;
 use squall_key::{Bound, Key, PartId};
 use squall_plan::{Plan, PlanFault, PlanRange};
 use squall_span::Span;
@@ -81,21 +82,16 @@ fn range(rt: &impl Abort, number: u32, lo: &str, hi: &str) -> PlanRange {
 }
 
 #[test]
-fn texts_that_are_plans(rt: HostRuntime) -> Result<(), Fail> {
+fn texts(rt: HostRuntime) -> Result<(), Fail> {
     let old = "1 [0:0,3:0);2 [3:0,5:0);3 [5:0,9:0);4 [9:0,end);";
     let new = "1 [0:0,2:0);3 [2:0,3:0);2 [3:0,5:0);3 [5:0,6:0);4 [6:0,end);";
     let one =
         "{\"plan\":[{\"part\":9999,\"from\":[0,0],\"to\":[4294967295,0],\"note\":\"x\"}],\"v\":1}";
-    for (text, wanted) in [(OLD, old), (NEW, new), (one, "9999 [0:0,end);")] {
-        shows(&rt, rt.alloc(), text.as_bytes(), wanted)?;
-    }
-    Ok(())
-}
-
-#[test]
-fn texts_without_a_list(rt: HostRuntime) -> Result<(), Fail> {
     shows(&rt, rt.alloc(), &[255], "Json")?;
     for (text, wanted) in [
+        (OLD, old),
+        (NEW, new),
+        (one, "9999 [0:0,end);"),
         ("", "Json"),
         ("{\"plan\":[", "Json"),
         ("[]", "Shape"),
@@ -111,7 +107,7 @@ fn texts_without_a_list(rt: HostRuntime) -> Result<(), Fail> {
 }
 
 #[test]
-fn entries_without_the_form(rt: HostRuntime) -> Result<(), Fail> {
+fn entries_that_are_no_ranges(rt: HostRuntime) -> Result<(), Fail> {
     for (entry, wanted) in [
         ("{\"part\":1,\"from\":[0,0]}", "Shape 0"),
         ("{\"part\":-1,\"from\":[0,0],\"to\":\"end\"}", "Shape 0"),
@@ -128,15 +124,6 @@ fn entries_without_the_form(rt: HostRuntime) -> Result<(), Fail> {
             "{\"part\":18446744073709551615,\"from\":[0,0],\"to\":\"end\"}",
             "BadPart 0",
         ),
-    ] {
-        one_shows(&rt, rt.alloc(), entry, wanted)?;
-    }
-    Ok(())
-}
-
-#[test]
-fn entries_that_are_no_ranges(rt: HostRuntime) -> Result<(), Fail> {
-    for (entry, wanted) in [
         (
             "{\"part\":10000,\"from\":[0,0],\"to\":\"end\"}",
             "BadPart 0",
@@ -197,23 +184,6 @@ fn deep_texts(rt: HostRuntime) -> Result<(), Fail> {
     nested_shows(&rt, rt.alloc(), 127, "Json")
 }
 
-/// A text of 4097 entries.
-fn of_4097(alloc: Global) -> Result<String, AllocError> {
-    let mut text = String::new(alloc);
-    text.push_str("{\"plan\":[{\"part\":1,\"from\":[0,0],\"to\":\"end\"}")?;
-    for _ in 0..4096 {
-        text.push_str(",{\"part\":1,\"from\":[0,0],\"to\":\"end\"}")?;
-    }
-    text.push_str("]}")?;
-    Ok(text)
-}
-
-#[test]
-fn too_many(rt: HostRuntime) -> Result<(), Fail> {
-    let text = of_4097(rt.alloc())?;
-    shows(&rt, rt.alloc(), text.as_bytes(), "TooMany")
-}
-
 /// Writes the entry of the root.
 fn write_root(text: &mut String, root: u32, next: u32) -> Result<(), AllocError> {
     write!(
@@ -223,21 +193,27 @@ fn write_root(text: &mut String, root: u32, next: u32) -> Result<(), AllocError>
     Ok(())
 }
 
-/// A text of 4096 entries, which make one range.
-fn of_4096(alloc: Global) -> Result<String, AllocError> {
+/// A text of an entry for each root below the last one, and of one for all others. They make one range.
+fn of_roots(alloc: Global, last: u32) -> Result<String, AllocError> {
     let mut text = String::new(alloc);
     text.push_str("{\"plan\":[")?;
-    for root in 0..4095u32 {
-        write_root(&mut text, root, root + 1)?;
+    for root in 0..last {
+        write_root(&mut text, root, root.saturating_add(1))?;
     }
-    text.push_str("{\"part\":1,\"from\":[4095,0],\"to\":\"end\"}]}")?;
+    write!(text, "{{\"part\":1,\"from\":[{last},0],\"to\":\"end\"}}]}}")?;
     Ok(text)
 }
 
+/// A text of that many entries and one more is shown so.
+fn long_shows(rt: &impl Abort, alloc: Global, last: u32, wanted: &str) -> Result<(), Fail> {
+    let text = of_roots(alloc, last)?;
+    shows(rt, alloc, text.as_bytes(), wanted)
+}
+
 #[test]
-fn as_many_as_there_can_be(rt: HostRuntime) -> Result<(), Fail> {
-    let text = of_4096(rt.alloc())?;
-    shows(&rt, rt.alloc(), text.as_bytes(), "1 [0:0,end);")
+fn long_texts(rt: HostRuntime) -> Result<(), Fail> {
+    long_shows(&rt, rt.alloc(), 4095, "1 [0:0,end);")?;
+    long_shows(&rt, rt.alloc(), 4096, "TooMany")
 }
 
 /// A plan of two ranges that make one, given in falling order.
@@ -301,22 +277,11 @@ fn owners(rt: HostRuntime) -> Result<(), Fail> {
     Ok(())
 }
 
-/// The range of roots from `place` on that is the partition 1000 + `place`: one root, or all that
-/// is left.
-fn step(rt: &impl Abort, place: u32) -> PlanRange {
-    let end = if place >= 4095 { 4294967295 } else { place + 1 };
-    let lo = Bound::new(place, 0).expect(rt, "a low bound");
-    let hi = Bound::new(end, 0).expect(rt, "a high bound");
-    let span = Span::new(lo, hi).expect(rt, "a span");
-    let part = part(rt, place.saturating_add(1000));
-    PlanRange { span, part }
-}
-
 /// The 4096 ranges of one root each, and of all that is left, in falling order.
 fn falling_ranges(rt: &impl Abort, alloc: Global) -> Result<Vec<PlanRange>, AllocError> {
     let mut ranges = Vec::new(alloc);
     for place in 0..4096u32 {
-        ranges.push(step(rt, 4095 - place))?;
+        ranges.push(step(rt, 1000, 4095 - place))?;
     }
     Ok(ranges)
 }

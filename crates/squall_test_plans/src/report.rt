@@ -85,30 +85,9 @@ fn order_of_cells(rt: HostRuntime) {
     assert!(rt; CellId::new(2, 0, 0) == Some(four[3]));
 }
 
-/// Whether there is such a load.
-fn is_load(number: u32, sub: u32, part: u32, span: Span) -> bool {
-    Report::loaded(number, sub, part, span).is_some()
-}
-
-#[test]
-fn loads_outside_the_limits(rt: HostRuntime) -> Result<(), Fail> {
-    let span = span("2:0", "3:0")?;
-    for (number, sub, part) in [(0, 0, 3), (1, 10000, 3), (1, 0, 10000)] {
-        assert!(rt; !is_load(number, sub, part, span));
-    }
-    Ok(())
-}
-
-/// Whether there is such a completion.
-fn is_completion(number: u32, sub: u32, part: u32) -> bool {
-    Report::done(number, sub, part).is_some()
-}
-
-#[test]
-fn completions_outside_the_limits(rt: HostRuntime) {
-    for (number, sub, part) in [(0, 0, 3), (1, 10000, 3), (1, 0, 10000)] {
-        assert!(rt; !is_completion(number, sub, part));
-    }
+/// Whether there is such a load or such a completion.
+fn is_of_a_cell(number: u32, sub: u32, part: u32, span: Span) -> bool {
+    Report::loaded(number, sub, part, span).is_some() || Report::done(number, sub, part).is_some()
 }
 
 /// Whether there is such an opening.
@@ -123,7 +102,11 @@ fn is_issue(alloc: Global, number: u32) -> Result<bool, Fail> {
 }
 
 #[test]
-fn openings_and_issues_outside_the_limits(rt: HostRuntime) -> Result<(), Fail> {
+fn reports_outside_the_limits(rt: HostRuntime) -> Result<(), Fail> {
+    let span = span("2:0", "3:0")?;
+    for (number, sub, part) in [(0, 0, 3), (1, 10000, 3), (1, 0, 10000)] {
+        assert!(rt; !is_of_a_cell(number, sub, part, span));
+    }
     assert!(rt; !is_opening(0, 0) && !is_opening(1, 10000));
     assert!(rt; !is_issue(rt.alloc(), 0)?);
     Ok(())
@@ -152,41 +135,39 @@ fn kind_of_a_load(rt: HostRuntime) -> Result<(), Fail> {
     look_at_load(&rt, &load, span)
 }
 
-/// Whether the report is of the completion of partition 4 in sub-plan 2 of number 1.
-fn is_done(report: &Report) -> bool {
-    matches!(
-        report.kind(),
-        ReportKind::Done {
-            number: 1,
-            sub: 2,
-            part: 4
-        }
-    )
+/// Whether the report of the completion of partition 4 in sub-plan 2 of number 1 says so.
+fn completion_is_told() -> bool {
+    match Report::done(1, 2, 4) {
+        Some(done) => matches!(
+            done.kind(),
+            ReportKind::Done {
+                number: 1,
+                sub: 2,
+                part: 4
+            }
+        ),
+        None => false,
+    }
+}
+
+/// Whether the report of the opening of the last sub-plan of number 1 says so.
+fn opening_is_told() -> bool {
+    match Report::opened(1, 9999) {
+        Some(opened) => matches!(
+            opened.kind(),
+            ReportKind::Opened {
+                number: 1,
+                sub: 9999
+            }
+        ),
+        None => false,
+    }
 }
 
 #[test]
-fn kind_of_a_completion(rt: HostRuntime) -> Result<(), Fail> {
-    let done = Report::done(1, 2, 4).ok_or("completion")?;
-    assert!(rt; is_done(&done));
-    Ok(())
-}
-
-/// Whether the report is of the opening of the last sub-plan of number 1.
-fn is_opened(report: &Report) -> bool {
-    matches!(
-        report.kind(),
-        ReportKind::Opened {
-            number: 1,
-            sub: 9999
-        }
-    )
-}
-
-#[test]
-fn kind_of_an_opening(rt: HostRuntime) -> Result<(), Fail> {
-    let opened = Report::opened(1, 9999).ok_or("opening")?;
-    assert!(rt; is_opened(&opened));
-    Ok(())
+fn kinds_of_completions_and_openings(rt: HostRuntime) {
+    assert!(rt; completion_is_told());
+    assert!(rt; opening_is_told());
 }
 
 /// Whether the plan is that of the text.
@@ -208,13 +189,6 @@ fn look_at_issue(rt: &impl Abort, alloc: Global, issued: &Report) -> Result<(), 
     Ok(())
 }
 
-#[test]
-fn kind_of_an_issue(rt: HostRuntime) -> Result<(), Fail> {
-    let issue = issue(rt.alloc(), OLD, NEW)?;
-    let issued = Report::issued(2, issue).ok_or("issue")?;
-    look_at_issue(&rt, rt.alloc(), &issued)
-}
-
 /// Whether the issue is that of the plans of two texts.
 fn is_issue_of(alloc: Global, issue: &Issue, old: &str, new: &str) -> Result<bool, Fail> {
     let other = self::issue(alloc, old, new)?;
@@ -227,12 +201,6 @@ fn look_at_equal(rt: &impl Abort, alloc: Global, forth: &Issue) -> Result<(), Fa
         assert!(rt; is_issue_of(alloc, forth, old, new)? == is_same);
     }
     Ok(())
-}
-
-#[test]
-fn equal_issues(rt: HostRuntime) -> Result<(), Fail> {
-    let forth = issue(rt.alloc(), OLD, NEW)?;
-    look_at_equal(&rt, rt.alloc(), &forth)
 }
 
 /// A copy is the value, and not the other one.
@@ -256,9 +224,12 @@ fn copies_one_way(rt: &impl Abort, alloc: Global, forth: &Issue) -> Result<(), F
 }
 
 #[test]
-fn issues_through_the_bound(rt: HostRuntime) -> Result<(), Fail> {
+fn issues(rt: HostRuntime) -> Result<(), Fail> {
     let forth = issue(rt.alloc(), OLD, NEW)?;
-    copies_one_way(&rt, rt.alloc(), &forth)
+    look_at_equal(&rt, rt.alloc(), &forth)?;
+    copies_one_way(&rt, rt.alloc(), &forth)?;
+    let issued = Report::issued(2, forth).ok_or("issue")?;
+    look_at_issue(&rt, rt.alloc(), &issued)
 }
 
 /// An issue has both plans, or there is none.

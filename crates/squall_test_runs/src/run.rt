@@ -1,12 +1,14 @@
-use squall_run::*;
+//! What the program does with each kind of input, over readers and writers that work, fail or stop.
+
+use squall_run::{Ended, Reader, RunFault, Writer, check_text, course_text, race_text, run_text};
 use std::alloc::{AllocError, Global};
 use std::io;
 use std::io::{ErrorKind, Read, Write};
-use std::process::Abort;
+use std::sync::Wait;
 use std::test::Fail;
+use std::thread::Threads;
 
 mod program;
-mod races;
 
 const OLD: &str =
     "old {\"plan\":[{\"part\":1,\"from\":[0,0],\"to\":[3,0]},{\"part\":2,\"from\":[3,0],\"to\":[5,0]},{\"part\":3,\"from\":[5,0],\"to\":[9,0]},{\"part\":4,\"from\":[9,0],\"to\":\"end\"}]}\n";
@@ -116,21 +118,101 @@ const LEG_ANSWERS: [&str; 10] = [
     "issue 2 one\ncell 1 0 3 open [2:0,2:7)\ncell 2 0 1 done\n",
 ];
 
+/// Two senders, one of which reports a load that the other one reports too, and an inbox of one
+/// letter.
+const RACE: &str =
+    "old {\"plan\":[{\"part\":1,\"from\":[0,0],\"to\":[3,0]},{\"part\":2,\"from\":[3,0],\"to\":[5,0]},{\"part\":3,\"from\":[5,0],\"to\":[9,0]},{\"part\":4,\"from\":[9,0],\"to\":\"end\"}]}
+new {\"plan\":[{\"part\":1,\"from\":[0,0],\"to\":[2,0]},{\"part\":2,\"from\":[3,0],\"to\":[5,0]},{\"part\":3,\"from\":[2,0],\"to\":[3,0]},{\"part\":3,\"from\":[5,0],\"to\":[6,0]},{\"part\":4,\"from\":[6,0],\"to\":\"end\"}]}
+capacity 1
+0 loaded 1 0 3 2:0 2:7
+0 loaded 1 0 3 2:7 3:0
+1 loaded 1 0 3 2:0 2:7
+1 done 1 0 4
+key 2:0
+key 6:0
+key 9:0
+";
+
+/// What that race shows, whatever its threads do first.
+const SHOWN: &str =
+    "cell 1 0 3 open [2:0,3:0)\ncell 1 0 4 done\nroute 2:0 3\nroute 6:0 4\nroute 9:0 4\n";
+
+const OLD_PLAN: &str =
+    "{\"plan\":[{\"part\":1,\"from\":[0,0],\"to\":[3,0]},{\"part\":2,\"from\":[3,0],\"to\":[5,0]},{\"part\":3,\"from\":[5,0],\"to\":[9,0]},{\"part\":4,\"from\":[9,0],\"to\":\"end\"}]}";
+
+const NEW_PLAN: &str =
+    "{\"plan\":[{\"part\":1,\"from\":[0,0],\"to\":[2,0]},{\"part\":2,\"from\":[3,0],\"to\":[5,0]},{\"part\":3,\"from\":[2,0],\"to\":[3,0]},{\"part\":3,\"from\":[5,0],\"to\":[6,0]},{\"part\":4,\"from\":[6,0],\"to\":\"end\"}]}";
+
+const NEW_CHECKED: &str =
+    "range 1 [0:0,2:0)\nrange 3 [2:0,3:0)\nrange 2 [3:0,5:0)\nrange 3 [5:0,6:0)\nrange 4 [6:0,end)\nplan 5\n";
+
+const GAP: &str =
+    "{\"plan\":[{\"part\":1,\"from\":[0,0],\"to\":[3,5]},{\"part\":2,\"from\":[3,6],\"to\":\"end\"}]}";
+
+/// What is done with an input: its lines are run, it is raced, it is checked as a plan, or it is the old
+/// plan of a course.
+#[derive(Clone, Copy, PartialEq, Eq)]
+enum Task {
+    Run,
+    Race,
+    Check,
+    Course,
+}
+
+/// A task, its input, and its output.
+struct Job {
+    task: Task,
+    input: &'static [&'static str],
+    output: &'static [&'static str],
+}
+
+const MOVES: &str =
+    "moves 2\nsub-plans 1\nmove [2:0,3:0) 1 to 3 sub 0\nmove [6:0,9:0) 3 to 4 sub 0\n";
+
+/// Jobs that end well.
+static JOBS: [Job; 7] = [
+    Job {
+        task: Task::Run,
+        input: &LINES,
+        output: &ANSWERS,
+    },
+    Job {
+        task: Task::Race,
+        input: &[RACE],
+        output: &[SHOWN],
+    },
+    Job {
+        task: Task::Check,
+        input: &[NEW_PLAN],
+        output: &[NEW_CHECKED],
+    },
+    Job {
+        task: Task::Run,
+        input: &BOARD_LINES,
+        output: &BOARD_ANSWERS,
+    },
+    Job {
+        task: Task::Run,
+        input: &FRAME_LINES,
+        output: &FRAME_ANSWERS,
+    },
+    Job {
+        task: Task::Run,
+        input: &LEG_LINES,
+        output: &LEG_ANSWERS,
+    },
+    Job {
+        task: Task::Course,
+        input: &[OLD_PLAN],
+        output: &[MOVES],
+    },
+];
+
 /// The texts, one after another.
 fn joined(alloc: Global, texts: &[&str]) -> Result<String, AllocError> {
     let mut all = String::new(alloc);
     for text in texts {
         all.push_str(text)?;
-    }
-    Ok(all)
-}
-
-/// The answers to the lines that end in a prefix of the input.
-fn answers_to(alloc: Global, prefix: &[u8]) -> Result<String, Fail> {
-    let mut all = String::new(alloc);
-    let ends = prefix.iter().filter(|b| **b == b'\n').count();
-    for answer in ANSWERS.iter().take(ends) {
-        all.push_str(answer)?;
     }
     Ok(all)
 }
@@ -190,166 +272,218 @@ impl Write for Drops {
     }
 }
 
-/// A run of the lines writes the answers.
-fn runs(rt: &impl Abort, alloc: Global, lines: &[&str], answers: &[&str]) -> Result<(), Fail> {
-    let input = joined(alloc, lines)?;
-    let wanted = joined(alloc, answers)?;
-    let mut out = Vec::new(alloc);
-    let mut reader = Reader::new(input.as_bytes());
-    let mut writer = Writer::new(&mut out);
-    assert!(rt; run_text(alloc, &mut reader, &mut writer) == Ok(Ended::Fine));
-    assert!(rt; out.as_slice() == wanted.as_bytes());
-    Ok(())
+/// The task is done over a slow reader of the input and a slow writer.
+fn does<R: Threads + Wait + Sync>(
+    rt: &R,
+    alloc: Global,
+    task: Task,
+    input: Drip<'_>,
+    drops: &mut Drops,
+) -> Result<Ended, RunFault> {
+    let mut writer = Writer::new(drops);
+    match task {
+        Task::Run => run_text(alloc, &mut Reader::new(input), &mut writer),
+        Task::Race => race_text(rt, alloc, &mut Reader::new(input), &mut writer),
+        Task::Check => check_text(alloc, input.bytes, &mut writer),
+        Task::Course => course_text(alloc, input.bytes, NEW_PLAN.as_bytes(), &mut writer),
+    }
 }
 
-#[test]
-fn whole_input(rt: HostRuntime) -> Result<(), Fail> {
-    runs(&rt, rt.alloc(), LINES.as_slice(), ANSWERS.as_slice())
+/// After how many reads and writes of a byte a reader and a writer fail. The writer then takes nothing,
+/// where the number of writes is even.
+#[derive(Clone, Copy)]
+struct Fails {
+    reads: usize,
+    writes: usize,
 }
 
-#[test]
-fn board(rt: HostRuntime) -> Result<(), Fail> {
-    runs(
-        &rt,
-        rt.alloc(),
-        BOARD_LINES.as_slice(),
-        BOARD_ANSWERS.as_slice(),
-    )
-}
+const NEVER: Fails = Fails {
+    reads: usize::MAX,
+    writes: usize::MAX,
+};
 
-#[test]
-fn frames(rt: HostRuntime) -> Result<(), Fail> {
-    runs(
-        &rt,
-        rt.alloc(),
-        FRAME_LINES.as_slice(),
-        FRAME_ANSWERS.as_slice(),
-    )
-}
-
-#[test]
-fn legs_and_issues(rt: HostRuntime) -> Result<(), Fail> {
-    runs(
-        &rt,
-        rt.alloc(),
-        LEG_LINES.as_slice(),
-        LEG_ANSWERS.as_slice(),
-    )
-}
-
-#[test]
-fn tolerant_board(rt: HostRuntime) -> Result<(), Fail> {
-    tolerant(
-        &rt,
-        rt.alloc(),
-        BOARD_LINES.as_slice(),
-        BOARD_ANSWERS.as_slice(),
-    )
-}
-
-#[test]
-fn tolerant_frames(rt: HostRuntime) -> Result<(), Fail> {
-    tolerant(
-        &rt,
-        rt.alloc(),
-        FRAME_LINES.as_slice(),
-        FRAME_ANSWERS.as_slice(),
-    )
-}
-
-#[test]
-fn tolerant_legs_and_issues(rt: HostRuntime) -> Result<(), Fail> {
-    tolerant(
-        &rt,
-        rt.alloc(),
-        LEG_LINES.as_slice(),
-        LEG_ANSWERS.as_slice(),
-    )
-}
-
-/// A run of the lines writes the answers, or where an allocation fails a prefix of them.
-fn tolerant(rt: &impl Abort, alloc: Global, lines: &[&str], answers: &[&str]) -> Result<(), Fail> {
-    let Ok(input) = joined(alloc, lines) else {
-        return Ok(());
+/// Whether the task ends so, and has written just that.
+fn comes_out<R: Threads + Wait + Sync>(
+    rt: &R,
+    alloc: Global,
+    task: Task,
+    bytes: &[u8],
+    fails: Fails,
+    wanted: (Result<Ended, RunFault>, &[u8]),
+) -> bool {
+    let mut drops = Drops {
+        taken: Vec::new(alloc),
+        fails: fails.writes,
+        takes_nothing: fails.writes % 2 == 0,
     };
-    let Ok(wanted) = joined(alloc, answers) else {
-        return Ok(());
+    let input = Drip {
+        bytes,
+        fails: fails.reads,
     };
-    let mut out = Vec::new(alloc);
-    let mut reader = Reader::new(input.as_bytes());
-    let mut writer = Writer::new(&mut out);
-    let outcome = run_text(alloc, &mut reader, &mut writer);
-    if outcome == Ok(Ended::Fine) {
-        assert!(rt; out.as_slice() == wanted.as_bytes());
-    } else {
-        // The writer, which grows too, may be the one that was refused.
-        assert!(rt; outcome == Err(RunFault::NoMemory) || outcome == Err(RunFault::Write));
-        assert!(rt; wanted.as_bytes().starts_with(out.as_slice()));
+    let ended = does(rt, alloc, task, input, &mut drops);
+    ended == wanted.0 && drops.taken.as_slice() == wanted.1
+}
+
+/// Wherever the writer stops among the first so many bytes, it has those before that place; where it does
+/// not stop, the output is whole.
+fn stops<R: Threads + Wait + Sync>(
+    rt: &R,
+    alloc: Global,
+    task: Task,
+    input: &[u8],
+    output: &[u8],
+    places: usize,
+) -> bool {
+    for writes in 0..places.min(output.len()) {
+        let fails = Fails { writes, ..NEVER };
+        let wanted = (Err(RunFault::Write), output.get(..writes).unwrap_or(output));
+        if !comes_out(rt, alloc, task, input, fails, wanted) {
+            return false;
+        }
+    }
+    comes_out(rt, alloc, task, input, NEVER, (Ok(Ended::Fine), output))
+}
+
+/// Whether the job is done, and its writer may stop at the first so many places.
+fn is_done<R: Threads + Wait + Sync>(
+    rt: &R,
+    alloc: Global,
+    job: &Job,
+    places: usize,
+) -> Result<bool, AllocError> {
+    let input = joined(alloc, job.input)?;
+    let output = joined(alloc, job.output)?;
+    Ok(stops(
+        rt,
+        alloc,
+        job.task,
+        input.as_bytes(),
+        output.as_bytes(),
+        places,
+    ))
+}
+
+#[test]
+fn jobs_are_done(rt: HostRuntime) -> Result<(), Fail> {
+    for job in &JOBS {
+        assert!(rt; is_done(&rt, rt.alloc(), job, 0)?);
     }
     Ok(())
 }
 
 #[test]
-fn bad_line(rt: HostRuntime) -> Result<(), Fail> {
-    let alloc = rt.alloc();
-    let mut out = Vec::new(alloc);
-    let mut reader = Reader::new(b"\n# a remark\nroute 2:0\nbogus\n".as_slice());
-    let mut writer = Writer::new(&mut out);
-    assert!(rt; run_text(alloc, &mut reader, &mut writer) == Ok(Ended::Refused));
-    assert!(rt; out.as_slice() == b"bad line 3: order\n".as_slice());
-    Ok(())
-}
-
-#[test]
-fn a_reader_of_one_byte_that_fails(rt: HostRuntime) -> Result<(), Fail> {
-    let alloc = rt.alloc();
-    let input = joined(alloc, LINES.as_slice())?;
-    let bytes = input.as_bytes();
-    for fails in 0..bytes.len() + 2 {
-        let mut out = Vec::new(alloc);
-        let mut reader = Reader::new(Drip { bytes, fails });
-        let mut writer = Writer::new(&mut out);
-        let outcome = run_text(alloc, &mut reader, &mut writer);
-        let wanted = if fails <= bytes.len() {
-            Err(RunFault::Read)
-        } else {
-            Ok(Ended::Fine)
-        };
-        assert!(rt; outcome == wanted, "at {fails}");
-        let prefix = if fails < bytes.len() {
-            &bytes[..fails]
-        } else {
-            bytes
-        };
-        let answers = answers_to(alloc, prefix)?;
-        assert!(rt; out.as_slice() == answers.as_bytes(), "at {fails}");
+fn writers_that_stop(rt: HostRuntime) -> Result<(), Fail> {
+    for job in &JOBS[..3] {
+        assert!(rt; is_done(&rt, rt.alloc(), job, usize::MAX)?);
     }
     Ok(())
 }
 
+/// How long the answers are to the lines that end in the bytes; nothing is written in a race that still
+/// reads.
+fn answered(job: &Job, bytes: &[u8]) -> usize {
+    let lines = match job.task {
+        Task::Race => 0,
+        _ => bytes.iter().filter(|byte| **byte == b'\n').count(),
+    };
+    let mut length = 0usize;
+    for answer in job.output.iter().take(lines) {
+        length = length.saturating_add(answer.len());
+    }
+    length
+}
+
+/// Whichever read fails, the answers to the lines before are written.
+fn fails_to_read<R: Threads + Wait + Sync>(
+    rt: &R,
+    alloc: Global,
+    job: &Job,
+    input: &[u8],
+    output: &[u8],
+) -> bool {
+    // As many reads give a byte as there are, and the next one finds the end.
+    for reads in 0..=input.len() {
+        let length = answered(job, input.get(..reads).unwrap_or(input));
+        let wanted = (Err(RunFault::Read), output.get(..length).unwrap_or(output));
+        let fails = Fails { reads, ..NEVER };
+        if !comes_out(rt, alloc, job.task, input, fails, wanted) {
+            return false;
+        }
+    }
+    true
+}
+
+/// Whether the reader of the job may fail anywhere.
+fn may_fail<R: Threads + Wait + Sync>(
+    rt: &R,
+    alloc: Global,
+    job: &Job,
+) -> Result<bool, AllocError> {
+    let input = joined(alloc, job.input)?;
+    let output = joined(alloc, job.output)?;
+    Ok(fails_to_read(rt, alloc, job, input.as_bytes(), output.as_bytes()))
+}
+
 #[test]
-fn a_writer_of_one_byte_that_stops(rt: HostRuntime) -> Result<(), Fail> {
-    let alloc = rt.alloc();
-    let input = joined(alloc, LINES.as_slice())?;
-    let answers = joined(alloc, ANSWERS.as_slice())?;
-    let bytes = answers.as_bytes();
-    for fails in 0..bytes.len() + 1 {
-        let mut reader = Reader::new(input.as_bytes());
-        let takes_nothing = fails % 2 == 0;
-        let mut drops = Drops {
-            taken: Vec::new(alloc),
-            fails,
-            takes_nothing,
-        };
-        let mut writer = Writer::new(&mut drops);
-        let outcome = run_text(alloc, &mut reader, &mut writer);
-        let wanted = if fails < bytes.len() {
-            Err(RunFault::Write)
-        } else {
-            Ok(Ended::Fine)
-        };
-        assert!(rt; outcome == wanted, "at {fails}");
-        assert!(rt; drops.taken.as_slice() == &bytes[..fails], "at {fails}");
+fn readers_that_fail(rt: HostRuntime) -> Result<(), Fail> {
+    for job in &JOBS[..2] {
+        assert!(rt; may_fail(&rt, rt.alloc(), job)?);
+    }
+    Ok(())
+}
+
+/// Whether what a task wrote is right, where an allocation or a thread may have been refused: it is the
+/// whole output, or says which thread or place was missing; or it is a prefix of the answers to lines, or
+/// nothing. The writer, which grows too, may be the one that was refused.
+fn is_right(task: Task, ended: Result<Ended, RunFault>, written: &[u8], output: &[u8]) -> bool {
+    match ended {
+        Ok(Ended::Fine) => written == output,
+        Ok(Ended::Refused) => {
+            task == Task::Race
+                && (written == b"refused NoThread\n".as_slice()
+                    || written == b"refused NoPlace\n".as_slice())
+        }
+        Err(RunFault::NoMemory) if task != Task::Run => written.is_empty(),
+        Err(RunFault::NoMemory | RunFault::Write) => output.starts_with(written),
+        Err(RunFault::Read) => false,
+    }
+}
+
+/// Whether the task comes out right where an allocation may fail.
+fn comes_out_right<R: Threads + Wait + Sync>(
+    rt: &R,
+    alloc: Global,
+    task: Task,
+    bytes: &[u8],
+    output: &[u8],
+) -> bool {
+    let mut drops = Drops {
+        taken: Vec::new(alloc),
+        fails: usize::MAX,
+        takes_nothing: false,
+    };
+    let fails = usize::MAX;
+    let ended = does(rt, alloc, task, Drip { bytes, fails }, &mut drops);
+    is_right(task, ended, drops.taken.as_slice(), output)
+}
+
+/// Whether the job comes out right. None where an allocation fails before.
+fn tolerates<R: Threads + Wait + Sync>(rt: &R, alloc: Global, job: &Job) -> Option<bool> {
+    let input = joined(alloc, job.input).ok()?;
+    let output = joined(alloc, job.output).ok()?;
+    Some(comes_out_right(rt, alloc, job.task, input.as_bytes(), output.as_bytes()))
+}
+
+#[test]
+fn tolerant_race(rt: HostRuntime) -> Result<(), Fail> {
+    assert!(rt; tolerates(&rt, rt.alloc(), &JOBS[1]) != Some(false));
+    Ok(())
+}
+
+#[test]
+fn tolerant_jobs(rt: HostRuntime) -> Result<(), Fail> {
+    for job in &JOBS[2..] {
+        assert!(rt; tolerates(&rt, rt.alloc(), job) != Some(false));
     }
     Ok(())
 }

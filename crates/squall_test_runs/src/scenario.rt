@@ -152,123 +152,84 @@ const REFUSALS: [(&str, &str); 18] = [
     ("route 0 2:0", "no NoSuch\n"),
 ];
 
-/// What a scenario answers to the lines, and whether the last one was bad.
-fn answered(
-    alloc: Global,
+/// The scenario answers each line by the text beside it, and ends where that says that the line is bad.
+fn answers(
+    rt: &impl Abort,
+    scenario: &mut Scenario,
     lines: &[(&str, &str)],
-    last: &str,
     out: &mut String,
-) -> Result<Flow, AllocError> {
-    let mut scenario = Scenario::new(alloc);
-    for pair in lines {
-        let _flow = scenario.take(pair.0.as_bytes(), out)?;
+) -> Result<(), AllocError> {
+    for (line, wanted) in lines {
+        out.clear();
+        let flow = scenario.take(line.as_bytes(), out)?;
+        let right = (flow == Flow::End) == wanted.starts_with("bad line");
+        assert!(rt; right && out.as_str() == *wanted, "at {line}");
     }
-    scenario.take(last.as_bytes(), out)
-}
-
-/// The answers, one after another.
-fn joined(alloc: Global, lines: &[(&str, &str)]) -> Result<String, AllocError> {
-    let mut all = String::new(alloc);
-    for pair in lines {
-        all.push_str(pair.1)?;
-    }
-    Ok(all)
-}
-
-/// A scenario answers the lines, and then nothing to a remark.
-fn plays(rt: &impl Abort, alloc: Global, lines: &[(&str, &str)]) -> Result<(), Fail> {
-    let mut out = String::new(alloc);
-    assert!(rt; answered(alloc, lines, "# the end", &mut out)? == Flow::On);
-    let wanted = joined(alloc, lines)?;
-    assert!(rt; out.as_str() == wanted.as_str());
     Ok(())
 }
 
-/// A scenario answers the lines, or an allocation fails.
-fn tolerant(rt: &impl Abort, alloc: Global, lines: &[(&str, &str)]) -> Result<(), Fail> {
-    let mut out = String::new(alloc);
-    let Ok(_flow) = answered(alloc, lines, "# the end", &mut out) else {
-        return Ok(());
-    };
-    let Ok(wanted) = joined(alloc, lines) else {
-        return Ok(());
-    };
-    assert!(rt; out.as_str() == wanted.as_str());
-    Ok(())
-}
-
-/// After the lines this one is bad, by that answer.
-fn is_bad(
+/// A new scenario answers the first lines so, and then the others.
+fn plays(
     rt: &impl Abort,
     alloc: Global,
-    lines: &[(&str, &str)],
-    last: &str,
-    answer: &str,
-) -> Result<(), Fail> {
-    let mut out = String::new(alloc);
-    assert!(rt; answered(alloc, lines, last, &mut out)? == Flow::End);
-    let mut wanted = joined(alloc, lines)?;
-    wanted.push_str(answer)?;
-    assert!(rt; out.as_str() == wanted.as_str(), "at {last}");
+    first: &[(&str, &str)],
+    others: &[(&str, &str)],
+    out: &mut String,
+) -> Result<(), AllocError> {
+    let mut scenario = Scenario::new(alloc);
+    answers(rt, &mut scenario, first, out)?;
+    answers(rt, &mut scenario, others, out)
+}
+
+/// Bad lines, and why each is bad: where there is no plan, after both plans, and in a world.
+static BAD: [(&[(&str, &str)], &str, &str); 12] = [
+    (&[], "world 1", "bad line 1: order\n"),
+    (&PLANS, "world 1001", "bad line 3: limit\n"),
+    (&PLANS, "open", "bad line 3: order\n"),
+    (&PLANS, "route 0 2:0", "bad line 3: word\n"),
+    (&PLANS, "hear 5", "bad line 3: word\n"),
+    (&PLANS, "legs 3:0 3:0", "bad line 3: limit\n"),
+    (&NO_ROUTERS, "world 0", "bad line 4: order\n"),
+    (&NO_ROUTERS, "board", "bad line 4: order\n"),
+    (&NO_ROUTERS, "loaded 1 0 3 2:0 3:0", "bad line 4: order\n"),
+    (&NO_ROUTERS, "route 2:0", "bad line 4: word\n"),
+    (&NO_ROUTERS, "give 10000 1", "bad line 4: limit\n"),
+    (&NO_ROUTERS, "begin {}", "bad line 4: plan Shape\n"),
+];
+
+const PLANS: [(&str, &str); 2] = [(OLD, "old 4\n"), (NEW, "new 5\n")];
+
+const NO_ROUTERS: [(&str, &str); 3] = [
+    (OLD, "old 4\n"),
+    (NEW, "new 5\n"),
+    ("world 0", "world 4 0\n"),
+];
+
+/// Scenarios of all kinds of lines.
+static SCENARIOS: [&[(&str, &str)]; 5] = [&LEGS, &ISSUES, &FRAMES, &WORLD, &REFUSALS];
+
+#[test]
+fn scenarios(rt: HostRuntime) -> Result<(), Fail> {
+    let mut out = String::new(rt.alloc());
+    for lines in &SCENARIOS {
+        plays(&rt, rt.alloc(), lines, &[("# the end", "")], &mut out)?;
+    }
     Ok(())
 }
 
 #[test]
-fn legs(rt: HostRuntime) -> Result<(), Fail> {
-    plays(&rt, rt.alloc(), LEGS.as_slice())
+fn bad_lines(rt: HostRuntime) -> Result<(), Fail> {
+    let mut out = String::new(rt.alloc());
+    for (first, last, answer) in &BAD {
+        plays(&rt, rt.alloc(), first, &[(*last, *answer)], &mut out)?;
+    }
+    Ok(())
 }
 
-#[test]
-fn issues(rt: HostRuntime) -> Result<(), Fail> {
-    plays(&rt, rt.alloc(), ISSUES.as_slice())
-}
-
-#[test]
-fn frames(rt: HostRuntime) -> Result<(), Fail> {
-    plays(&rt, rt.alloc(), FRAMES.as_slice())
-}
-
-#[test]
-fn a_world_of_two_courses(rt: HostRuntime) -> Result<(), Fail> {
-    plays(&rt, rt.alloc(), WORLD.as_slice())
-}
-
-#[test]
-fn refusals_of_a_world(rt: HostRuntime) -> Result<(), Fail> {
-    plays(&rt, rt.alloc(), REFUSALS.as_slice())
-}
-
+/// A world answers each line as it should, up to an allocation that fails.
 #[test]
 fn tolerant_world(rt: HostRuntime) -> Result<(), Fail> {
-    tolerant(&rt, rt.alloc(), WORLD.as_slice())
-}
-
-#[test]
-fn bad_lines_without_a_world(rt: HostRuntime) -> Result<(), Fail> {
-    let alloc = rt.alloc();
-    let lines = &LEGS[..2];
-    is_bad(&rt, alloc, &[], "world 1", "bad line 1: order\n")?;
-    is_bad(&rt, alloc, lines, "world 1001", "bad line 3: limit\n")?;
-    is_bad(&rt, alloc, lines, "open", "bad line 3: order\n")?;
-    is_bad(&rt, alloc, lines, "route 0 2:0", "bad line 3: word\n")?;
-    is_bad(&rt, alloc, lines, "hear 5", "bad line 3: word\n")?;
-    is_bad(&rt, alloc, lines, "legs 3:0 3:0", "bad line 3: limit\n")
-}
-
-#[test]
-fn bad_lines_in_a_world(rt: HostRuntime) -> Result<(), Fail> {
-    let alloc = rt.alloc();
-    let lines = &REFUSALS[..3];
-    is_bad(&rt, alloc, lines, "world 0", "bad line 4: order\n")?;
-    is_bad(&rt, alloc, lines, "board", "bad line 4: order\n")?;
-    is_bad(
-        &rt,
-        alloc,
-        lines,
-        "loaded 1 0 3 2:0 3:0",
-        "bad line 4: order\n",
-    )?;
-    is_bad(&rt, alloc, lines, "route 2:0", "bad line 4: word\n")?;
-    is_bad(&rt, alloc, lines, "give 10000 1", "bad line 4: limit\n")?;
-    is_bad(&rt, alloc, lines, "begin {}", "bad line 4: plan Shape\n")
+    let mut out = String::new(rt.alloc());
+    let _played = plays(&rt, rt.alloc(), &WORLD, &[("# the end", "")], &mut out);
+    Ok(())
 }

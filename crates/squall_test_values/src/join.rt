@@ -1,12 +1,11 @@
 //! Tests of joins.
 
 mod clients;
-mod rests;
 mod shared;
 mod tolerant;
 mod updates;
 
-use squall_join::{Flag, Flat, Join, JoinMap, Max, Pair};
+use squall_join::{Beyond, Flag, Flat, Join, JoinMap, Max, Pair};
 use squall_key::Bound;
 use squall_span::{Span, SpanSet};
 use std::alloc::{AllocError, Global};
@@ -52,84 +51,146 @@ pub(crate) fn span(rt: &impl Abort, lo: u64, hi: u64) -> Span {
     Span::new(lo, hi).expect(rt, "a span")
 }
 
-/// The join of two numbers.
-fn joined_numbers(alloc: Global, one: u32, other: u32) -> Result<u32, AllocError> {
-    let joined = Max::new(one).joined(alloc, &Max::new(other))?;
-    Ok(joined.get())
+/// The join of two numbers, and what the first has beyond the other.
+fn numbers(alloc: Global, one: u32, other: u32) -> Result<(u32, u32), AllocError> {
+    let one = Max::new(one);
+    let other = Max::new(other);
+    Ok((
+        one.joined(alloc, &other)?.get(),
+        one.beyond(alloc, &other)?.get(),
+    ))
 }
 
-/// The join of two flags.
-fn joined_flags(alloc: Global, one: bool, other: bool) -> Result<bool, AllocError> {
-    let joined = Flag::new(one).joined(alloc, &Flag::new(other))?;
-    Ok(joined.get())
-}
-
-/// The join of two pairs of a number and a flag.
-fn joined_pairs(
-    alloc: Global,
-    one: (u32, bool),
-    other: (u32, bool),
-) -> Result<(u32, bool), AllocError> {
-    let pair = Pair::new(Max::new(one.0), Flag::new(one.1));
-    let joined = pair.joined(alloc, &Pair::new(Max::new(other.0), Flag::new(other.1)))?;
-    Ok((joined.first.get(), joined.second.get()))
+/// The join of two flags, and whether the first is beyond the other.
+fn flags(alloc: Global, one: bool, other: bool) -> Result<(bool, bool), AllocError> {
+    let one = Flag::new(one);
+    let other = Flag::new(other);
+    Ok((
+        one.joined(alloc, &other)?.get(),
+        one.beyond(alloc, &other)?.get(),
+    ))
 }
 
 #[test]
-fn numbers_and_flags(rt: HostRuntime) -> Result<(), Fail> {
-    let alloc = rt.alloc();
-    assert!(rt; joined_numbers(alloc, 3, 5)? == 5);
-    assert!(rt; joined_flags(alloc, false, true)?);
-    assert!(rt; joined_pairs(alloc, (3, true), (1, false))? == (3, true));
+fn numbers_and_flags(rt: HostRuntime) -> Result<(), AllocError> {
+    for (one, other, both, rest) in [(5, 3, 5, 5), (3, 5, 5, 0), (4, 4, 4, 0)] {
+        assert!(rt; numbers(rt.alloc(), one, other)? == (both, rest));
+    }
+    for (one, other, both, rest) in [
+        (true, false, true, true),
+        (false, true, true, false),
+        (true, true, true, false),
+        (false, false, false, false),
+    ] {
+        assert!(rt; flags(rt.alloc(), one, other)? == (both, rest));
+    }
     Ok(())
 }
 
-/// The join of the map with one of two entries.
-fn joined_with_two(
-    alloc: Global,
-    first: &JoinMap<u32, Max>,
-) -> Result<JoinMap<u32, Max>, AllocError> {
-    let second = map(alloc, &[(1, 2), (4, 1)])?;
-    first.joined(alloc, &second)
+/// The clash of values in a table.
+const CLASH: u32 = 99;
+
+/// The value of a table: nothing for 0, the clash, or the number.
+fn flat(number: u32) -> Flat<u32> {
+    match number {
+        0 => Flat::Unknown,
+        CLASH => Flat::Clash,
+        _ => Flat::One(number),
+    }
 }
 
-/// The join of two maps, with the entries (1, 3) and (4, 1).
-fn joined_map(alloc: Global) -> Result<JoinMap<u32, Max>, AllocError> {
-    let first = map(alloc, &[(1, 3)])?;
-    joined_with_two(alloc, &first)
+/// What stands for the value in a table.
+fn entry_of(value: &Flat<u32>) -> u32 {
+    match value {
+        Flat::Unknown => 0,
+        Flat::Clash => CLASH,
+        Flat::One(number) => *number,
+    }
+}
+
+/// The join of the two.
+fn flat_join(alloc: Global, one: &Flat<u32>, other: &Flat<u32>) -> Result<u32, AllocError> {
+    let joined = one.joined(alloc, other)?;
+    Ok(entry_of(&joined))
+}
+
+/// What the first has beyond the other.
+fn flat_rest(alloc: Global, one: &Flat<u32>, other: &Flat<u32>) -> Result<u32, AllocError> {
+    let rest = one.beyond(alloc, other)?;
+    Ok(entry_of(&rest))
+}
+
+#[test]
+fn flat_values(rt: HostRuntime) -> Result<(), AllocError> {
+    for (one, other, both, rest) in [
+        (7, 0, 7, 7),
+        (7, 7, 7, 0),
+        (7, 8, CLASH, 7),
+        (7, CLASH, CLASH, 0),
+        (CLASH, 7, CLASH, CLASH),
+        (CLASH, CLASH, CLASH, 0),
+    ] {
+        assert!(rt; flat_join(rt.alloc(), &flat(one), &flat(other))? == both);
+        assert!(rt; flat_rest(rt.alloc(), &flat(one), &flat(other))? == rest);
+    }
+    Ok(())
+}
+
+/// Whether the entry of the map at the index is this one.
+fn has_entry(map: &JoinMap<u32, Max>, index: usize, key: u32, value: u32) -> bool {
+    match map.at(index) {
+        Some((at, number)) => *at == key && number.get() == value,
+        None => false,
+    }
 }
 
 /// Looks at the entries (1, 3) and (4, 1).
 fn look_at_entries(rt: &impl Abort, joined: &JoinMap<u32, Max>) {
-    assert!(rt; joined.len() == 2);
-    assert!(rt;
-        joined
-            .at(0)
-            .is_some_and(|entry| *entry.0 == 1 && entry.1.get() == 3)
-    );
-    assert!(rt; joined.get(&4).is_some_and(|value| value.get() == 1));
-    assert!(rt; joined.get(&2).is_none() && joined.at(2).is_none());
-}
-
-/// Whether a copy of the map is the map.
-fn is_its_copy(alloc: Global, map: &JoinMap<u32, Max>) -> Result<bool, AllocError> {
-    let copy = map.copied(alloc)?;
-    Ok(copy.same(map))
+    assert!(rt; joined.len() == 2 && joined.get(&2).is_none() && joined.at(2).is_none());
+    for (index, key, value) in [(0, 1, 3), (1, 4, 1)] {
+        assert!(rt; has_entry(joined, index, key, value) && joined.get(&key).is_some());
+    }
 }
 
 #[test]
-fn maps(rt: HostRuntime) -> Result<(), Fail> {
-    let joined = joined_map(rt.alloc())?;
-    assert!(rt; is_map(rt.alloc(), &joined, &[(4, 1), (1, 3)])?);
+fn maps(rt: HostRuntime) -> Result<(), AllocError> {
+    let joined = map(rt.alloc(), &[(4, 1), (1, 2), (7, 0), (1, 3), (1, 1)])?;
     look_at_entries(&rt, &joined);
-    assert!(rt; is_its_copy(rt.alloc(), &joined)?);
     Ok(())
 }
 
+/// Whether the entries of the first list have these beyond the map.
+fn are_left(
+    alloc: Global,
+    entries: &[(u32, u32)],
+    other: &JoinMap<u32, Max>,
+    wanted: &[(u32, u32)],
+) -> Result<bool, AllocError> {
+    let map = map(alloc, entries)?;
+    let rest = map.beyond(alloc, other)?;
+    is_map(alloc, &rest, wanted)
+}
+
+/// The map of 40 keys from 0 on, each with the value 3.
+fn forty(alloc: Global) -> Result<JoinMap<u32, Max>, AllocError> {
+    let mut many: JoinMap<u32, Max> = JoinMap::empty(alloc);
+    for key in 0..40u32 {
+        join_entry(alloc, &mut many, key, 3)?;
+    }
+    Ok(many)
+}
+
 #[test]
-fn bottoms_are_no_entries(rt: HostRuntime) -> Result<(), Fail> {
-    let none: JoinMap<u32, Max> = JoinMap::single(rt.alloc(), 1, Max::new(0))?;
-    assert!(rt; none.is_bottom() && none.len() == 0);
+fn maps_beyond_many(rt: HostRuntime) -> Result<(), AllocError> {
+    let many = forty(rt.alloc())?;
+    let cases: [(&[(u32, u32)], &[(u32, u32)]); 3] = [
+        (&[(1, 3), (2, 5), (7, 2), (9, 4)], &[(2, 5), (9, 4)]),
+        (&[(38, 4), (41, 1)], &[(38, 4), (41, 1)]),
+        (&[(0, 3), (39, 1)], &[]),
+    ];
+    for (entries, wanted) in cases {
+        assert!(rt; are_left(rt.alloc(), entries, &many, wanted)?);
+    }
     Ok(())
 }
 
@@ -161,108 +222,94 @@ fn copy_joins<J: Join>(
     Ok(())
 }
 
+/// Whether the rest, joined with the other, is the join of the two.
+fn restores<J: Beyond>(alloc: Global, rest: &J, both: &J, other: &J) -> Result<bool, AllocError> {
+    let again = rest.joined(alloc, other)?;
+    Ok(again.same(both))
+}
+
+/// What the value has beyond the other is less than it, and joins with the other to both.
+fn leaves<J: Beyond>(
+    rt: &impl Abort,
+    alloc: Global,
+    value: &J,
+    other: &J,
+    both: &J,
+) -> Result<(), AllocError> {
+    let rest = value.beyond(alloc, other)?;
+    assert!(rt; value.covers(&rest));
+    assert!(rt; restores(alloc, &rest, both, other)?);
+    assert!(rt; rest.is_bottom() == other.covers(value));
+    Ok(())
+}
+
 /// Each member, through the bound.
-fn joins<J: Join>(rt: &impl Abort, alloc: Global, less: &J, more: &J) -> Result<(), AllocError> {
+fn joins<J: Beyond>(rt: &impl Abort, alloc: Global, less: &J, more: &J) -> Result<(), AllocError> {
     covers_the_bottom(rt, alloc, less);
     let both = less.joined(alloc, more)?;
     assert!(rt; both.covers(less) && both.covers(more));
     assert!(rt; is_join(alloc, &both, more, less)?);
-    copy_joins(rt, alloc, less, more, &both)
-}
-
-/// The set of one span.
-pub(crate) fn set(rt: &impl Abort, alloc: Global, lo: u64, hi: u64) -> Result<SpanSet, AllocError> {
-    SpanSet::of(alloc, &span(rt, lo, hi))
+    copy_joins(rt, alloc, less, more, &both)?;
+    leaves(rt, alloc, more, less, &both)
 }
 
 #[test]
-fn numbers_and_flags_through_the_bound(rt: HostRuntime) -> Result<(), Fail> {
+fn plain_values_through_the_bound(rt: HostRuntime) -> Result<(), AllocError> {
     joins(&rt, rt.alloc(), &Max::new(3), &Max::new(5))?;
     joins(&rt, rt.alloc(), &Flag::new(false), &Flag::new(true))?;
-    Ok(())
+    joins(&rt, rt.alloc(), &flat(7), &flat(8))
 }
 
-#[test]
-fn sets_through_the_bound(rt: HostRuntime) -> Result<(), Fail> {
-    let one = set(&rt, rt.alloc(), 1, 4)?;
-    let two = set(&rt, rt.alloc(), 6, 9)?;
-    joins(&rt, rt.alloc(), &one, &two)?;
-    Ok(())
-}
-
-#[test]
-fn maps_through_the_bound(rt: HostRuntime) -> Result<(), Fail> {
-    let few = map(rt.alloc(), &[(1, 3), (7, 2)])?;
-    let more = map(rt.alloc(), &[(1, 4), (2, 2), (9, 1)])?;
-    joins(&rt, rt.alloc(), &few, &more)?;
-    Ok(())
-}
-
-/// The pair of a map of these entries and the number.
+/// The pair of a set of one span and a map of these entries.
 fn pair(
-    alloc: Global,
-    entries: &[(u32, u32)],
-    number: u32,
-) -> Result<Pair<JoinMap<u32, Max>, Max>, AllocError> {
-    let map = map(alloc, entries)?;
-    Ok(Pair::new(map, Max::new(number)))
-}
-
-/// Each member, of the pair and another.
-fn joins_pairs(
     rt: &impl Abort,
     alloc: Global,
-    first: &Pair<JoinMap<u32, Max>, Max>,
+    lo: u64,
+    hi: u64,
+    entries: &[(u32, u32)],
+) -> Result<Pair<SpanSet, JoinMap<u32, Max>>, AllocError> {
+    let set = SpanSet::of(alloc, &span(rt, lo, hi))?;
+    let map = map(alloc, entries)?;
+    Ok(Pair::new(set, map))
+}
+
+/// Whether the rest is of the keys from 4 on, below 9, and of these entries.
+fn is_rest(
+    rt: &impl Abort,
+    alloc: Global,
+    rest: &Pair<SpanSet, JoinMap<u32, Max>>,
+    entries: &[(u32, u32)],
+) -> Result<bool, AllocError> {
+    let spans = rest.first.spans();
+    Ok(spans.len() == 1 && spans[0] == span(rt, 4, 9) && is_map(alloc, &rest.second, entries)?)
+}
+
+/// The second pair has more keys and more entries than the first. Each member, of the pairs and of their halves.
+fn join_pairs(
+    rt: &impl Abort,
+    alloc: Global,
+    first: &Pair<SpanSet, JoinMap<u32, Max>>,
+    second: &Pair<SpanSet, JoinMap<u32, Max>>,
 ) -> Result<(), AllocError> {
-    let second = pair(alloc, &[(1, 4), (2, 2), (9, 1)], 1)?;
-    joins(rt, alloc, first, &second)
+    let rest = second.beyond(alloc, first)?;
+    assert!(rt; is_rest(rt, alloc, &rest, &[(1, 4), (9, 1)])?);
+    joins(rt, alloc, &first.first, &second.first)?;
+    joins(rt, alloc, &first.second, &second.second)?;
+    joins(rt, alloc, first, second)
+}
+
+/// Joins the pair with another.
+fn join_another(
+    rt: &impl Abort,
+    alloc: Global,
+    first: &Pair<SpanSet, JoinMap<u32, Max>>,
+) -> Result<(), AllocError> {
+    let second = pair(rt, alloc, 3, 9, &[(1, 4), (7, 2), (9, 1)])?;
+    join_pairs(rt, alloc, first, &second)
 }
 
 #[test]
-fn pairs_through_the_bound(rt: HostRuntime) -> Result<(), Fail> {
-    let first = pair(rt.alloc(), &[(1, 3), (7, 2)], 2)?;
-    joins_pairs(&rt, rt.alloc(), &first)?;
-    Ok(())
-}
-
-/// Whether the value is this one, without a call of its library.
-pub(crate) fn is_flat(value: &Flat<u32>, wanted: &Flat<u32>) -> bool {
-    match (value, wanted) {
-        (Flat::One(one), Flat::One(other)) => *one == *other,
-        (Flat::Unknown, Flat::Unknown) | (Flat::Clash, Flat::Clash) => true,
-        _ => false,
-    }
-}
-
-/// The clash of values in a table.
-pub(crate) const CLASH: u32 = 99;
-
-/// The value of a table: nothing for 0, the clash, or the number.
-pub(crate) fn flat(number: u32) -> Flat<u32> {
-    match number {
-        0 => Flat::Unknown,
-        CLASH => Flat::Clash,
-        _ => Flat::One(number),
-    }
-}
-
-/// The join of the two.
-fn flat_join(alloc: Global, one: &Flat<u32>, other: u32) -> Result<Flat<u32>, AllocError> {
-    let other = flat(other);
-    one.joined(alloc, &other)
-}
-
-/// Whether the two join to this value.
-fn flat_joins(alloc: Global, one: u32, other: u32, wanted: u32) -> Result<bool, AllocError> {
-    let joined = flat_join(alloc, &flat(one), other)?;
-    Ok(is_flat(&joined, &flat(wanted)))
-}
-
-#[test]
-fn flat_values(rt: HostRuntime) -> Result<(), Fail> {
-    for (other, joined) in [(7, 7), (0, 7), (8, CLASH)] {
-        assert!(rt; flat_joins(rt.alloc(), 7, other, joined)?);
-    }
-    joins(&rt, rt.alloc(), &flat(7), &flat(8))?;
-    Ok(())
+fn pairs_of_sets_and_maps(rt: HostRuntime) -> Result<(), AllocError> {
+    let first = pair(&rt, rt.alloc(), 1, 4, &[(1, 3), (7, 2)])?;
+    join_another(&rt, rt.alloc(), &first)
 }

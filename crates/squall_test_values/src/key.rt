@@ -1,73 +1,86 @@
+//! Tests of keys, bounds and partitions.
+
 use squall_key::*;
 use std::alloc::{AllocError, Global};
 use std::fmt::Display;
 use std::process::Abort;
 use std::test::Fail;
 
-/// Whether the value is printed so.
-fn shows<T: Display>(alloc: Global, value: &T, wanted: &str) -> Result<bool, AllocError> {
+/// The value is printed so.
+fn shows<T: Display>(
+    rt: &impl Abort,
+    alloc: Global,
+    value: &T,
+    wanted: &str,
+) -> Result<(), AllocError> {
     let text = value.to_string(alloc)?;
-    Ok(text.as_str() == wanted)
-}
-
-#[test]
-fn last_key(rt: HostRuntime) -> Result<(), Fail> {
-    let key = Key::new(4294967294, 4294967295).ok_or("last key")?;
-    assert!(rt; key.rank() == 18446744069414584319);
-    assert!(rt; (key.root(), key.second()) == (4294967294, 4294967295));
-    assert!(rt; Key::new(4294967295, 0) == None);
+    assert!(rt; text.as_str() == wanted);
     Ok(())
 }
 
+/// The key of the pair has the rank.
+fn look_at_key(rt: &impl Abort, root: u32, second: u32, rank: u64) {
+    let key = Key::new(root, second).expect(rt, "a key");
+    assert!(rt; (key.root(), key.second(), key.rank()) == (root, second, rank));
+    assert!(rt; Key::of_rank(rank) == Some(key));
+    assert!(rt; Some(Bound::of_key(key)) == Bound::new(root, second));
+    assert!(rt; Bound::of_key(key) < Bound::TOP);
+}
+
 #[test]
-fn top(rt: HostRuntime) -> Result<(), Fail> {
+fn keys(rt: HostRuntime) {
+    look_at_key(&rt, 2, 7, 8589934599);
+    look_at_key(&rt, 4294967294, 4294967295, 18446744069414584319);
+    assert!(rt; Key::new(4294967295, 0) == None);
+    assert!(rt; Key::of_rank(18446744069414584320) == None);
+    assert!(rt; Key::new(1, 4294967295) < Key::new(2, 7));
+}
+
+#[test]
+fn bounds(rt: HostRuntime) {
     assert!(rt; Bound::new(4294967295, 0) == Some(Bound::TOP));
     assert!(rt; Bound::new(4294967295, 1) == None);
-    assert!(rt; shows(rt.alloc(), &Bound::TOP, "end")?);
-    assert!(rt; Bound::TOP.rank() == 18446744069414584320);
-    assert!(rt; (Bound::TOP.root(), Bound::TOP.second()) == (4294967295, 0));
-    Ok(())
-}
-
-#[test]
-fn ranks(rt: HostRuntime) -> Result<(), Fail> {
-    assert!(rt; Key::of_rank(8589934599) == Key::new(2, 7));
-    assert!(rt; Key::of_rank(18446744069414584320) == None);
     assert!(rt; Bound::of_rank(18446744069414584320) == Some(Bound::TOP));
     assert!(rt; Bound::of_rank(18446744069414584321) == None);
-    let key = Key::new(2, 7).ok_or("key")?;
-    assert!(rt; Some(Bound::of_key(key)) == Bound::new(2, 7));
-    assert!(rt; Key::new(1, 4294967295) < Some(key));
-    assert!(rt; Bound::of_key(key) < Bound::TOP);
-    Ok(())
+    assert!(rt; Bound::TOP.rank() == 18446744069414584320);
+    assert!(rt; (Bound::TOP.root(), Bound::TOP.second()) == (4294967295, 0));
 }
 
 #[test]
-fn steps(rt: HostRuntime) -> Result<(), Fail> {
-    let low = Bound::new(0, 0).ok_or("low")?;
-    let next = Bound::new(0, 1).ok_or("next")?;
-    assert!(rt; next.step_beyond(low, 5) == 5);
-    assert!(rt; low.step_beyond(next, 5) == 0);
-    assert!(rt; low.step_beyond(low, 5) == 0);
-    assert!(rt; Bound::TOP.step_beyond(low, usize::MAX) == usize::MAX);
-    assert!(rt; low.step_beyond(Bound::TOP, usize::MAX) == 0);
-    assert!(rt; Bound::TOP.step_beyond(next, 0) == 0);
-    Ok(())
+fn steps(rt: HostRuntime) {
+    let low = Bound::new(0, 0).expect(&rt, "the lowest bound");
+    let next = Bound::new(0, 1).expect(&rt, "the next bound");
+    let top = Bound::TOP;
+    for (at, other, step, wanted) in [
+        (next, low, 5, 5),
+        (low, next, 5, 0),
+        (low, low, 5, 0),
+        (top, low, usize::MAX, usize::MAX),
+        (low, top, usize::MAX, 0),
+        (top, next, 0, 0),
+    ] {
+        assert!(rt; at.step_beyond(other, step) == wanted);
+    }
 }
 
-/// Looks at texts of bounds and keys.
-fn look_at_texts(rt: &impl Abort) {
-    assert!(rt; Bound::read("end") == Some(Bound::TOP));
-    assert!(rt; Bound::read("4294967295:0") == Some(Bound::TOP));
-    assert!(rt; Bound::read("02:7") == Bound::new(2, 7));
-    assert!(rt; Key::read("02:7") == Key::new(2, 7));
-    assert!(rt; Key::read("0000000002:0000000007") == Key::new(2, 7));
+#[test]
+fn texts(rt: HostRuntime) {
+    for (text, root, second) in [
+        ("end", 4294967295, 0),
+        ("4294967295:0", 4294967295, 0),
+        ("02:7", 2, 7),
+        ("0000000002:0000000007", 2, 7),
+    ] {
+        assert!(rt; Bound::read(text) == Bound::new(root, second), "{text}");
+        assert!(rt; Key::read(text) == Key::new(root, second), "{text}");
+    }
 }
 
-/// Looks at texts that are of no key.
-fn look_at_other_texts(rt: &impl Abort) {
+#[test]
+fn other_texts(rt: HostRuntime) {
     for text in [
-        "end",
+        "END",
+        "4294967295:1",
         "2:",
         ":7",
         "2",
@@ -75,37 +88,35 @@ fn look_at_other_texts(rt: &impl Abort) {
         "2:7:1",
         "+2:7",
         "2: 7",
-        "4294967295:0",
         "00000000002:7",
         "2:4294967296",
     ] {
-        assert!(rt; Key::read(text) == None, "{text}");
+        assert!(rt;
+            Bound::read(text) == None && Key::read(text) == None,
+            "{text}"
+        );
     }
 }
 
-#[test]
-fn texts(rt: HostRuntime) {
-    look_at_texts(&rt);
-    look_at_other_texts(&rt);
-    for text in ["END", "4294967295:1", "2:4294967296"] {
-        assert!(rt; Bound::read(text) == None, "{text}");
-    }
+/// Looks at the printed texts of a bound, of the key and bound of the same pair, and of a partition.
+fn look_at_printed(
+    rt: &impl Abort,
+    alloc: Global,
+    key: Key,
+    part: PartId,
+) -> Result<(), AllocError> {
+    shows(rt, alloc, &Bound::TOP, "end")?;
+    shows(rt, alloc, &key, "2:7")?;
+    shows(rt, alloc, &Bound::of_key(key), "2:7")?;
+    shows(rt, alloc, &part, "9999")
 }
 
 #[test]
-fn printed_texts(rt: HostRuntime) -> Result<(), Fail> {
-    let key = Key::new(2, 7).ok_or("key")?;
-    assert!(rt; shows(rt.alloc(), &key, "2:7")?);
-    assert!(rt; shows(rt.alloc(), &Bound::of_key(key), "2:7")?);
-    Ok(())
-}
-
-#[test]
-fn parts(rt: HostRuntime) -> Result<(), Fail> {
-    let part = PartId::new(9999).ok_or("last partition")?;
-    assert!(rt; part.get() == 9999);
-    assert!(rt; shows(rt.alloc(), &part, "9999")?);
-    assert!(rt; PartId::new(10000) == None);
+fn parts_and_printed_texts(rt: HostRuntime) -> Result<(), Fail> {
+    let key = Key::new(2, 7).expect(&rt, "a key");
+    let part = PartId::new(9999).expect(&rt, "the last partition");
+    assert!(rt; part.get() == 9999 && PartId::new(10000) == None);
     assert!(rt; PartId::new(7) < Some(part));
+    look_at_printed(&rt, rt.alloc(), key, part)?;
     Ok(())
 }

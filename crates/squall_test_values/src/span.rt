@@ -2,12 +2,10 @@
 
 mod clients;
 mod plain;
-mod ready;
-mod removal;
 mod tolerant;
 
 use squall_key::{Bound, Key};
-use squall_span::{Span, SpanSet};
+use squall_span::{ReadySet, Span, SpanSet};
 use std::alloc::{AllocError, Global};
 use std::process::Abort;
 use std::test::Fail;
@@ -68,12 +66,6 @@ fn with(
     set.union(alloc, &other)
 }
 
-/// The union of the sets of two spans.
-fn both(rt: &impl Abort, alloc: Global) -> Result<SpanSet, AllocError> {
-    let first = one(rt, alloc, "0:0", "1:0")?;
-    with(rt, alloc, &first, "2:0", "3:0")
-}
-
 /// Whether the set without the keys from 1:0 to 2:0 is the other.
 fn is_without_middle(
     rt: &impl Abort,
@@ -101,37 +93,16 @@ fn is_its_copy(alloc: Global, set: &SpanSet) -> Result<bool, AllocError> {
     Ok(copy == *set)
 }
 
-#[test]
-fn union_of_two_spans(rt: HostRuntime) -> Result<(), Fail> {
-    let both = both(&rt, rt.alloc())?;
-    assert!(rt; has_spans(&rt, &both, &TWO));
-    fill_the_middle(&rt, rt.alloc(), &both)?;
-    assert!(rt; is_its_copy(rt.alloc(), &both)?);
-    Ok(())
-}
-
-#[test]
-fn spans_in_rising_order(rt: HostRuntime) -> Result<(), Fail> {
-    let three = [("0:0", "1:0"), ("2:0", "3:0"), ("4:0", "5:0")];
-    let mut rising = set(&rt, rt.alloc(), &three)?;
-    assert!(rt; has_spans(&rt, &rising, &three));
-    rising.insert(span(&rt, "5:0", "6:0"))?;
-    let last_longer = [("0:0", "1:0"), ("2:0", "3:0"), ("4:0", "6:0")];
-    assert!(rt; has_spans(&rt, &rising, &last_longer));
-    Ok(())
-}
-
 /// The keys that the set shares with those from 0:5 to 2:5.
 fn met_with_middle(rt: &impl Abort, alloc: Global, set: &SpanSet) -> Result<SpanSet, AllocError> {
     let middle = one(rt, alloc, "0:5", "2:5")?;
     set.meet(alloc, &middle)
 }
 
-#[test]
-fn meet(rt: HostRuntime) -> Result<(), Fail> {
-    let two = set(&rt, rt.alloc(), &TWO)?;
-    let met = met_with_middle(&rt, rt.alloc(), &two)?;
-    assert!(rt; has_spans(&rt, &met, &[("0:5", "1:0"), ("2:0", "2:5")]));
+/// Meets the set of the two spans with keys of both.
+fn meet(rt: &impl Abort, alloc: Global, two: &SpanSet) -> Result<(), AllocError> {
+    let met = met_with_middle(rt, alloc, two)?;
+    assert!(rt; has_spans(rt, &met, &[("0:5", "1:0"), ("2:0", "2:5")]));
     Ok(())
 }
 
@@ -145,52 +116,6 @@ fn look_at_halves(rt: &impl Abort, below: &SpanSet, others: &SpanSet) {
 fn split(rt: &impl Abort, alloc: Global, two: &SpanSet) -> Result<(), AllocError> {
     let (below, others) = two.split_at(alloc, bound(rt, "2:5"))?;
     look_at_halves(rt, &below, &others);
-    Ok(())
-}
-
-#[test]
-fn split_in_two(rt: HostRuntime) -> Result<(), Fail> {
-    let two = set(&rt, rt.alloc(), &TWO)?;
-    split(&rt, rt.alloc(), &two)?;
-    Ok(())
-}
-
-#[test]
-fn first_keys(rt: HostRuntime) -> Result<(), Fail> {
-    let two = set(&rt, rt.alloc(), &TWO)?;
-    assert!(rt; two.first_keys(3) == Some(span(&rt, "0:0", "0:3")));
-    assert!(rt; two.first_keys(0).is_none());
-    assert!(rt; two.first_keys(18446744069414584320) == Some(span(&rt, "0:0", "1:0")));
-    Ok(())
-}
-
-#[test]
-fn counts_and_members(rt: HostRuntime) -> Result<(), Fail> {
-    let two = set(&rt, rt.alloc(), &TWO)?;
-    assert!(rt; two.count() == 8589934592);
-    assert!(rt; two.has(key(&rt, "0:4294967295")));
-    assert!(rt; !two.has(key(&rt, "1:0")));
-    Ok(())
-}
-
-/// How many spans of the set end at the bound or before it.
-fn ended(rt: &impl Abort, set: &SpanSet, text: &str) -> usize {
-    set.ended(bound(rt, text))
-}
-
-#[test]
-fn spans_that_ended(rt: HostRuntime) -> Result<(), Fail> {
-    let two = set(&rt, rt.alloc(), &TWO)?;
-    assert!(rt; ended(&rt, &two, "0:0") == 0 && ended(&rt, &two, "0:9") == 0);
-    assert!(rt; ended(&rt, &two, "1:0") == 1 && ended(&rt, &two, "2:5") == 1);
-    assert!(rt; ended(&rt, &two, "3:0") == 2 && ended(&rt, &two, "end") == 2);
-    Ok(())
-}
-
-#[test]
-fn count_of_all_keys(rt: HostRuntime) -> Result<(), Fail> {
-    let all = one(&rt, rt.alloc(), "0:0", "end")?;
-    assert!(rt; all.count() == 18446744069414584320);
     Ok(())
 }
 
@@ -210,18 +135,141 @@ fn covers_the_empty(rt: &impl Abort, alloc: Global, two: &SpanSet) {
     assert!(rt; empty.first_keys(3).is_none());
 }
 
+/// Looks at the keys of the two spans: the first ones, how many there are, and how many spans end by a bound.
+fn look_at_keys(rt: &impl Abort, two: &SpanSet) {
+    assert!(rt; two.first_keys(3) == Some(span(rt, "0:0", "0:3")));
+    assert!(rt; two.first_keys(0).is_none());
+    assert!(rt; two.first_keys(18446744069414584320) == Some(span(rt, "0:0", "1:0")));
+    assert!(rt; two.count() == 8589934592 && !two.is_empty());
+    assert!(rt; two.has(key(rt, "0:4294967295")) && !two.has(key(rt, "1:0")));
+    for (text, ended) in [
+        ("0:0", 0),
+        ("0:9", 0),
+        ("1:0", 1),
+        ("2:5", 1),
+        ("3:0", 2),
+        ("end", 2),
+    ] {
+        assert!(rt; two.ended(bound(rt, text)) == ended, "{text}");
+    }
+}
+
+/// Each call that a set of two spans answers.
+fn look_at_two(rt: &impl Abort, alloc: Global, two: &SpanSet) -> Result<(), AllocError> {
+    look_at_keys(rt, two);
+    covers_the_empty(rt, alloc, two);
+    covers_a_part(rt, alloc, two)?;
+    meet(rt, alloc, two)?;
+    split(rt, alloc, two)?;
+    fill_the_middle(rt, alloc, two)
+}
+
+/// The union of the sets of two spans.
+fn both(rt: &impl Abort, alloc: Global) -> Result<SpanSet, AllocError> {
+    let first = one(rt, alloc, "0:0", "1:0")?;
+    with(rt, alloc, &first, "2:0", "3:0")
+}
+
 #[test]
-fn parts_and_the_empty_set(rt: HostRuntime) -> Result<(), Fail> {
-    let two = set(&rt, rt.alloc(), &TWO)?;
-    covers_a_part(&rt, rt.alloc(), &two)?;
-    covers_the_empty(&rt, rt.alloc(), &two);
-    assert!(rt; !two.is_empty());
+fn union_of_two_spans(rt: HostRuntime) -> Result<(), Fail> {
+    let both = both(&rt, rt.alloc())?;
+    assert!(rt; has_spans(&rt, &both, &TWO));
+    look_at_two(&rt, rt.alloc(), &both)?;
+    Ok(())
+}
+
+/// Takes the keys out of the set, whose spans are these then.
+fn leaves(
+    rt: &impl Abort,
+    set: &mut SpanSet,
+    removed: (&str, &str),
+    left: &[(&str, &str)],
+) -> Result<(), AllocError> {
+    set.remove(span(rt, removed.0, removed.1))?;
+    assert!(rt; has_spans(rt, set, left));
+    assert!(rt; set.is_empty() == left.is_empty());
     Ok(())
 }
 
 #[test]
-fn a_span_has_a_key(rt: HostRuntime) -> Result<(), Fail> {
+fn inserts_and_removals(rt: HostRuntime) -> Result<(), Fail> {
+    let three = [("0:0", "1:0"), ("2:0", "3:0"), ("4:0", "5:0")];
+    let mut set = set(&rt, rt.alloc(), &three)?;
+    set.insert(span(&rt, "5:0", "6:0"))?;
+    let cases: [((&str, &str), &[(&str, &str)]); 10] = [
+        // Nothing, since these keys are not in the set.
+        (
+            ("1:0", "2:0"),
+            &[("0:0", "1:0"), ("2:0", "3:0"), ("4:0", "6:0")],
+        ),
+        // A whole span.
+        (("4:0", "6:0"), &TWO),
+        // The middle of a span, twice.
+        (
+            ("0:5", "0:7"),
+            &[("0:0", "0:5"), ("0:7", "1:0"), ("2:0", "3:0")],
+        ),
+        (
+            ("0:5", "0:7"),
+            &[("0:0", "0:5"), ("0:7", "1:0"), ("2:0", "3:0")],
+        ),
+        // Ends of spans.
+        (("0:7", "2:5"), &[("0:0", "0:5"), ("2:5", "3:0")]),
+        (("0:0", "0:1"), &[("0:1", "0:5"), ("2:5", "3:0")]),
+        (("2:9", "end"), &[("0:1", "0:5"), ("2:5", "2:9")]),
+        (("0:0", "1:0"), &[("2:5", "2:9")]),
+        // All that is left, and then nothing.
+        (("0:0", "end"), &[]),
+        (("0:0", "end"), &[]),
+    ];
+    for (removed, left) in cases {
+        leaves(&rt, &mut set, removed, left)?;
+    }
+    Ok(())
+}
+
+/// The set of two spans with that room.
+fn with_room(rt: &impl Abort, alloc: Global, room: usize) -> Result<ReadySet, Fail> {
+    let two = set(rt, alloc, &TWO)?;
+    Ok(two.with_room(room).ok().ok_or("room")?)
+}
+
+/// Whether the spans of the set with room are these, once it is a set again.
+fn ends_with(rt: &impl Abort, ready: ReadySet, spans: &[(&str, &str)]) -> bool {
+    let set = ready.into_set();
+    has_spans(rt, &set, spans)
+}
+
+/// Puts keys into the set, and takes some out.
+fn edit(rt: &impl Abort, ready: &mut ReadySet) {
+    assert!(rt; ready.room() >= 3);
+    ready.insert(span(rt, "1:5", "1:9"));
+    ready.remove(span(rt, "2:3", "2:4"));
+    ready.insert(span(rt, "0:7", "1:5"));
+    assert!(rt; ready.spans().len() == 3);
+}
+
+#[test]
+fn edits_in_room(rt: HostRuntime) -> Result<(), Fail> {
+    let mut ready = with_room(&rt, rt.alloc(), 3)?;
+    edit(&rt, &mut ready);
+    let edited = [("0:0", "1:9"), ("2:0", "2:3"), ("2:4", "3:0")];
+    assert!(rt; ends_with(&rt, ready, &edited));
+    Ok(())
+}
+
+#[test]
+fn a_set_that_is_not_edited(rt: HostRuntime) -> Result<(), Fail> {
+    let ready = with_room(&rt, rt.alloc(), 0)?;
+    assert!(rt; ends_with(&rt, ready, &TWO));
+    Ok(())
+}
+
+#[test]
+fn spans_and_all_keys(rt: HostRuntime) -> Result<(), Fail> {
     assert!(rt; Span::new(bound(&rt, "3:0"), bound(&rt, "3:0")).is_none());
     assert!(rt; span(&rt, "3:0", "3:7").count() == 7);
+    let all = one(&rt, rt.alloc(), "0:0", "end")?;
+    assert!(rt; all.count() == 18446744069414584320);
     Ok(())
 }

@@ -1,162 +1,167 @@
-//! Events of lines, and limits.
+//! Events of lines, limits, and lines that are none.
 
 use squall_event_text::{Unfit, event_line, event_of};
-use squall_key::{Key, PartId};
 use squall_plan::PlanFault;
 use squall_protocol::{Event, Node};
-use std::alloc::Global;
+use std::alloc::{AllocError, Global};
 use std::test::Fail;
 
-/// The event of a line that is one.
-fn event(alloc: Global, name: &[u8], rest: &[u8]) -> Result<Event, Fail> {
-    let Some(words) = event_line(name, rest) else {
-        return Err(Fail::from("no words"));
-    };
-    match event_of(alloc, words)? {
-        Ok(event) => Ok(event),
-        Err(_) => Err(Fail::from("no event")),
+/// An event as its name and its numbers, or why a line is none.
+type Told = (&'static str, [u64; 4]);
+
+/// A node as its kind and its number.
+fn node_numbers(node: Node) -> (u64, u64) {
+    match node {
+        Node::Leader => (0, 0),
+        Node::Part(part) => (1, u64::from(part.get())),
+        Node::Router(router) => (2, u64::from(router)),
     }
 }
 
-/// Whether a value of the line lies outside its limits.
-fn is_over_limit(alloc: Global, name: &[u8], rest: &[u8]) -> bool {
-    let Some(words) = event_line(name, rest) else {
-        return false;
-    };
-    matches!(event_of(alloc, words), Ok(Err(Unfit::OverLimit)))
-}
-
-/// Whether the text after `begin` is no JSON.
-fn is_no_json(alloc: Global, rest: &[u8]) -> bool {
-    let Some(words) = event_line(b"begin", rest) else {
-        return false;
-    };
-    matches!(
-        event_of(alloc, words),
-        Ok(Err(Unfit::NoPlan(PlanFault::Json)))
-    )
-}
-
-/// Whether the text after `begin` has no list of ranges.
-fn has_no_list(alloc: Global, rest: &[u8]) -> bool {
-    let Some(words) = event_line(b"begin", rest) else {
-        return false;
-    };
-    matches!(
-        event_of(alloc, words),
-        Ok(Err(Unfit::NoPlan(PlanFault::Shape(None))))
-    )
-}
-
-#[test]
-fn over_limits(rt: HostRuntime) -> Result<(), Fail> {
-    let cases: [(&[u8], &[u8]); 7] = [
-        (b"give", b" 10000 1"),
-        (b"giveat", b" 10000 2:0"),
-        (b"finish", b" 10000 0"),
-        (b"finish", b" 3 10000"),
-        (b"send", b" p10000"),
-        (b"deliver", b" 0 p10000"),
-        (b"serve", b" 10000 2:0"),
-    ];
-    for (name, rest) in cases {
-        assert!(rt; is_over_limit(rt.alloc(), name, rest));
-    }
-    Ok(())
-}
-
-/// An event in numbers.
-#[derive(Clone, Copy, PartialEq, Eq)]
-enum EventNumbers {
-    Open,
-    Give(u32, u64),
-    GiveAt(u32, Key),
-    Load(usize),
-    Finish(u32, u32),
-    Send(Node),
-    Deliver(usize, Node),
-    Route(u32, Key),
-    Serve(u32, Key, u32),
-}
-
-/// The event in numbers. None for a plan.
-fn numbers_of(event: &Event) -> Option<EventNumbers> {
+/// The event in numbers.
+fn numbers_of(event: &Event) -> Told {
     match event {
-        Event::OpenNext => Some(EventNumbers::Open),
-        Event::Begin(_) => None,
-        Event::Give(part, most) => Some(EventNumbers::Give(part.get(), *most)),
-        Event::GiveAt(part, key) => Some(EventNumbers::GiveAt(part.get(), *key)),
-        Event::Load(index) => Some(EventNumbers::Load(*index)),
-        Event::Finish(part, sub) => Some(EventNumbers::Finish(part.get(), *sub)),
-        Event::Send(node) => Some(EventNumbers::Send(*node)),
-        Event::Deliver(index, node) => Some(EventNumbers::Deliver(*index, *node)),
-        Event::Route(router, key) => Some(EventNumbers::Route(*router, *key)),
-        Event::Serve(part, key, after) => Some(EventNumbers::Serve(part.get(), *key, *after)),
+        Event::OpenNext => ("open", [0; 4]),
+        Event::Begin(_) => ("begin", [0; 4]),
+        Event::Give(part, most) => ("give", [u64::from(part.get()), *most, 0, 0]),
+        Event::GiveAt(part, key) => {
+            let (root, second) = (u64::from(key.root()), u64::from(key.second()));
+            ("giveat", [u64::from(part.get()), root, second, 0])
+        }
+        Event::Load(index) => ("load", [*index as u64, 0, 0, 0]),
+        Event::Finish(part, sub) => ("finish", [u64::from(part.get()), u64::from(*sub), 0, 0]),
+        Event::Send(node) => {
+            let (kind, number) = node_numbers(*node);
+            ("send", [kind, number, 0, 0])
+        }
+        Event::Deliver(index, node) => {
+            let (kind, number) = node_numbers(*node);
+            ("deliver", [*index as u64, kind, number, 0])
+        }
+        Event::Route(router, key) => {
+            let (root, second) = (u64::from(key.root()), u64::from(key.second()));
+            ("route", [u64::from(*router), root, second, 0])
+        }
+        Event::Serve(part, key, after) => {
+            let (root, second) = (u64::from(key.root()), u64::from(key.second()));
+            (
+                "serve",
+                [u64::from(part.get()), root, second, u64::from(*after)],
+            )
+        }
     }
 }
 
-/// The event of a line in numbers.
-fn line(alloc: Global, name: &[u8], rest: &[u8]) -> Result<Option<EventNumbers>, Fail> {
-    let event = event(alloc, name, rest)?;
-    Ok(numbers_of(&event))
+/// What the line is.
+fn told(alloc: Global, name: &str, rest: &str) -> Result<Told, AllocError> {
+    let Some(words) = event_line(name.as_bytes(), rest.as_bytes()) else {
+        return Ok(("no", [0; 4]));
+    };
+    Ok(match event_of(alloc, words)? {
+        Ok(event) => numbers_of(&event),
+        Err(Unfit::OverLimit) => ("limit", [0; 4]),
+        Err(Unfit::NoPlan(PlanFault::Json)) => ("json", [0; 4]),
+        Err(Unfit::NoPlan(PlanFault::Shape(None))) => ("shape", [0; 4]),
+        Err(Unfit::NoPlan(_)) => ("plan", [0; 4]),
+    })
 }
 
+/// Lines of events, and their numbers.
+static EVENTS: [(&str, &str, [u64; 4]); 20] = [
+    ("open", " \t", [0; 4]),
+    (
+        "begin",
+        " {\"plan\":[{\"part\":5,\"from\":[0,0],\"to\":\"end\"}]}",
+        [0; 4],
+    ),
+    (
+        "give",
+        " 3 18446744073709551615",
+        [3, 18446744073709551615, 0, 0],
+    ),
+    ("give", " 9999 00000000000000000007", [9999, 7, 0, 0]),
+    ("giveat", " 3\t2:5 ", [3, 2, 5, 0]),
+    ("load", " 4294967295", [4294967295, 0, 0, 0]),
+    ("finish", " 4 0", [4, 0, 0, 0]),
+    ("finish", " 3 9999", [3, 9999, 0, 0]),
+    ("send", " l", [0; 4]),
+    ("send", " p3", [1, 3, 0, 0]),
+    ("send", " p9999", [1, 9999, 0, 0]),
+    ("send", " r10000", [2, 10000, 0, 0]),
+    ("deliver", " 2 r07", [2, 2, 7, 0]),
+    ("deliver", " 1 p9999", [1, 1, 9999, 0]),
+    ("deliver", " 0 l", [0; 4]),
+    ("route", " 1 2:0", [1, 2, 0, 0]),
+    ("route", " 4294967295 2:5", [4294967295, 2, 5, 0]),
+    ("serve", " 3 2:0", [3, 2, 0, 0]),
+    ("serve", " 1 2:0 2", [1, 2, 0, 2]),
+    ("serve", " 9999 2:5 6", [9999, 2, 5, 6]),
+];
+
 #[test]
-fn events_at_partitions(rt: HostRuntime) -> Result<(), Fail> {
-    let key = Key::new(2, 5).ok_or("a key")?;
-    let cases: [(&[u8], &[u8], EventNumbers); 4] = [
-        (b"give", b" 9999 7", EventNumbers::Give(9999, 7)),
-        (b"giveat", b" 3 2:5", EventNumbers::GiveAt(3, key)),
-        (b"finish", b" 3 9999", EventNumbers::Finish(3, 9999)),
-        (b"serve", b" 3 2:5 6", EventNumbers::Serve(3, key, 6)),
-    ];
-    for (name, rest, wanted) in cases {
-        assert!(rt; line(rt.alloc(), name, rest)? == Some(wanted));
+fn events(rt: HostRuntime) -> Result<(), Fail> {
+    for (name, rest, numbers) in &EVENTS {
+        assert!(rt;
+            told(rt.alloc(), name, rest)? == (*name, *numbers),
+            "{name}{rest}"
+        );
     }
     Ok(())
 }
 
-#[test]
-fn events_elsewhere(rt: HostRuntime) -> Result<(), Fail> {
-    let key = Key::new(2, 5).ok_or("a key")?;
-    let part = PartId::new(9999).ok_or("a partition")?;
-    let cases: [(&[u8], &[u8], EventNumbers); 6] = [
-        (b"open", b"", EventNumbers::Open),
-        (b"load", b" 4294967295", EventNumbers::Load(4294967295)),
-        (
-            b"route",
-            b" 4294967295 2:5",
-            EventNumbers::Route(4294967295, key),
-        ),
-        (b"send", b" l", EventNumbers::Send(Node::Leader)),
-        (b"send", b" r10000", EventNumbers::Send(Node::Router(10000))),
-        (
-            b"deliver",
-            b" 1 p9999",
-            EventNumbers::Deliver(1, Node::Part(part)),
-        ),
-    ];
-    for (name, rest, wanted) in cases {
-        assert!(rt; line(rt.alloc(), name, rest)? == Some(wanted));
+/// Names, what follows each, and why none of these lines is an event: a value is over its limit, a plan
+/// is none, the number of words is wrong, or one of them has another form.
+static OTHERS: [(&str, &[&str], &str); 23] = [
+    ("give", &[" 10000 1"], "limit"),
+    ("giveat", &[" 10000 2:0"], "limit"),
+    ("finish", &[" 10000 0", " 3 10000"], "limit"),
+    ("send", &[" p10000"], "limit"),
+    ("deliver", &[" 0 p10000"], "limit"),
+    ("serve", &[" 10000 2:0"], "limit"),
+    ("begin", &[""], "json"),
+    ("begin", &[" {}"], "shape"),
+    ("open", &[" 1"], "no"),
+    ("give", &["", " 1", " 1 2 3"], "no"),
+    (
+        "give",
+        &[
+            " 1 +7",
+            " 1 000000000000000000007",
+            " 1 18446744073709551616",
+            " 1 99999999999999999999",
+            " 4294967296 1",
+            " -1 1",
+        ],
+        "no",
+    ),
+    ("giveat", &["", " 1", " 1 2:0 3"], "no"),
+    ("giveat", &[" 1 2", " 1 end", " 1 4294967295:0"], "no"),
+    ("load", &["", " 1 2", " 4294967296", " p1"], "no"),
+    ("finish", &["", " 1", " 1 2 3", " 1 x"], "no"),
+    ("send", &["", " l l", " p", " px", " l0", " r"], "no"),
+    ("send", &[" P3", " 3", " p 3", " p4294967296"], "no"),
+    ("deliver", &["", " 1", " 1 l l"], "no"),
+    ("route", &["", " 1", " 1 2:0 3", " r0 2:0"], "no"),
+    ("serve", &["", " 1", " 1 2:0 3 4"], "no"),
+    ("serve", &[" 1 2:0 x", " 1 2:0 4294967296"], "no"),
+    ("loaded", &[" 1 0 3 2:0 2:1"], "no"),
+    ("Open", &[""], "no"),
+];
+
+/// Whether each of the lines of that name is none for that reason.
+fn all_are(alloc: Global, name: &str, rests: &[&str], why: &str) -> Result<bool, AllocError> {
+    for rest in rests {
+        if told(alloc, name, rest)?.0 != why {
+            return Ok(false);
+        }
     }
-    Ok(())
+    Ok(true)
 }
 
-/// Whether the text after `begin` is a plan in which the partition has the key.
-fn begins_with(alloc: Global, text: &[u8], part: u32, key: Key) -> Result<bool, Fail> {
-    match &event(alloc, b"begin", text)? {
-        Event::Begin(plan) => Ok(plan.owner(key).get() == part),
-        _ => Ok(false),
-    }
-}
-
 #[test]
-fn plans(rt: HostRuntime) -> Result<(), Fail> {
-    let alloc = rt.alloc();
-    let key = Key::new(2, 5).ok_or("a key")?;
-    let text = b" {\"plan\":[{\"part\":5,\"from\":[0,0],\"to\":\"end\"}]}";
-    assert!(rt; begins_with(alloc, text, 5, key)?);
-    assert!(rt; has_no_list(alloc, b" {}"));
-    assert!(rt; is_no_json(alloc, b""));
+fn lines_of_no_event(rt: HostRuntime) -> Result<(), Fail> {
+    for (name, rests, why) in &OTHERS {
+        assert!(rt; all_are(rt.alloc(), name, rests, why)?, "{name}");
+    }
     Ok(())
 }

@@ -5,7 +5,6 @@ use squall_join::{Exact, Flat, Join, JoinMap, Shared};
 use std::alloc::{AllocError, Global};
 use std::process::Abort;
 use std::sync::Arc;
-use std::test::Fail;
 
 type Held = JoinMap<u32, Flat<Shared<u32>>>;
 
@@ -32,11 +31,12 @@ fn is_of(alloc: Global, first: &Shared<u32>, value: u32) -> Result<bool, AllocEr
 }
 
 #[test]
-fn owners_of_one_value(rt: HostRuntime) -> Result<(), Fail> {
+fn owners_of_one_value(rt: HostRuntime) -> Result<(), AllocError> {
     let first = shared(rt.alloc(), 7)?;
     look_at_second(&rt, &first)?;
-    assert!(rt; is_of(rt.alloc(), &first, 7)?);
-    assert!(rt; !is_of(rt.alloc(), &first, 8)?);
+    for (value, is_same) in [(7, true), (8, false)] {
+        assert!(rt; is_of(rt.alloc(), &first, value)? == is_same);
+    }
     Ok(())
 }
 
@@ -61,27 +61,19 @@ fn clashes_at_5(held: &Held) -> bool {
     matches!(found, Some(Flat::Clash))
 }
 
+/// Each member, through the bound, of a map of one entry and this one.
+fn join_with_one(rt: &impl Abort, alloc: Global, held: &Held) -> Result<(), AllocError> {
+    let less = one(alloc, 4, 5)?;
+    joins(rt, alloc, &less, held)
+}
+
 #[test]
-fn maps_of_shared_values(rt: HostRuntime) -> Result<(), Fail> {
+fn maps_of_shared_values(rt: HostRuntime) -> Result<(), AllocError> {
     let mut held = one(rt.alloc(), 5, 7)?;
     join_one(&mut held, 2, 9)?;
     look_at_two(&rt, &held);
+    join_with_one(&rt, rt.alloc(), &held)?;
     join_one(&mut held, 5, 8)?;
     assert!(rt; clashes_at_5(&held));
-    Ok(())
-}
-
-/// A map of two entries.
-fn two(alloc: Global) -> Result<Held, AllocError> {
-    let mut many = one(alloc, 1, 2)?;
-    join_one(&mut many, 4, 6)?;
-    Ok(many)
-}
-
-#[test]
-fn shared_values_through_the_bound(rt: HostRuntime) -> Result<(), Fail> {
-    let less = one(rt.alloc(), 4, 5)?;
-    let many = two(rt.alloc())?;
-    joins(&rt, rt.alloc(), &less, &many)?;
     Ok(())
 }

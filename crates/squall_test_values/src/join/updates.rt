@@ -4,7 +4,6 @@ ghost use Rattle.std.specs.Prelude.{true};
 
 use squall_join::{Flag, Join, JoinMap, Update, UpdateAt};
 use std::alloc::{AllocError, Global};
-use std::test::Fail;
 
 /// Stands for a set flag.
 #[derive(Clone, Copy)]
@@ -32,19 +31,36 @@ fn put<V: Join, U: Update<V>>(alloc: Global, update: &U) -> Result<V, AllocError
     Ok(value)
 }
 
-#[test]
-fn updates_at_keys(rt: HostRuntime) -> Result<(), Fail> {
-    let alloc = rt.alloc();
-    let raised: JoinMap<u32, Flag> = put(alloc, &UpdateAt::new(7, Raised))?;
-    assert!(rt; raised.same(&JoinMap::single(alloc, 7, Flag::new(true))?));
-    let mut map: JoinMap<u32, JoinMap<u32, Flag>> = JoinMap::empty(alloc);
-    for key in [4, 2, 4] {
-        map.update_at(alloc, key, &UpdateAt::new(7, Raised))?;
+/// Whether the map has a flag that is set at each of these keys, and no other.
+fn is_raised(map: &JoinMap<u32, Flag>, keys: &[u32]) -> bool {
+    let mut right = map.len() == keys.len();
+    for key in keys {
+        right &= matches!(map.get(key), Some(flag) if flag.get());
     }
-    map.update_at(alloc, 2, &UpdateAt::new(9, Raised))?;
-    assert!(rt; map.len() == 2);
-    assert!(rt; map.get(&4).is_some_and(|inner| inner.len() == 1));
-    let inner = map.get(&2).ok_or("a map at 2")?;
-    assert!(rt; inner.len() == 2 && inner.get(&9).is_some_and(|flag| flag.get()));
+    right
+}
+
+/// Whether the map has at the key a map with a flag that is set at each of these keys, and no other.
+fn is_raised_at(map: &JoinMap<u32, JoinMap<u32, Flag>>, key: u32, keys: &[u32]) -> bool {
+    match map.get(&key) {
+        Some(inner) => is_raised(inner, keys),
+        None => false,
+    }
+}
+
+#[test]
+fn a_map_of_one_update(rt: HostRuntime) -> Result<(), AllocError> {
+    let raised: JoinMap<u32, Flag> = put(rt.alloc(), &UpdateAt::new(7, Raised))?;
+    assert!(rt; is_raised(&raised, &[7]));
+    Ok(())
+}
+
+#[test]
+fn updates_at_keys(rt: HostRuntime) -> Result<(), AllocError> {
+    let mut map: JoinMap<u32, JoinMap<u32, Flag>> = JoinMap::empty(rt.alloc());
+    for (outer, inner) in [(4, 7), (2, 7), (4, 7), (2, 9)] {
+        map.update_at(rt.alloc(), outer, &UpdateAt::new(inner, Raised))?;
+    }
+    assert!(rt; map.len() == 2 && is_raised_at(&map, 4, &[7]) && is_raised_at(&map, 2, &[7, 9]));
     Ok(())
 }

@@ -40,15 +40,6 @@ fn tolerant_insert(rt: HostRuntime) -> Result<(), Fail> {
     Ok(())
 }
 
-#[test]
-fn tolerant_of(rt: HostRuntime) -> Result<(), Fail> {
-    let one = span(&rt, 3, 9);
-    if let Ok(set) = SpanSet::of(rt.alloc(), &one) {
-        assert!(rt; set.count() == 6);
-    }
-    Ok(())
-}
-
 /// The set is still that of a few spans. It looks only where no allocation fails.
 fn is_few(rt: &impl Abort, alloc: Global, set: &SpanSet) {
     if let Ok(before) = few(rt, alloc, 0) {
@@ -56,75 +47,11 @@ fn is_few(rt: &impl Abort, alloc: Global, set: &SpanSet) {
     }
 }
 
-/// Copies the set of a few spans.
-fn look_at_copy(rt: &impl Abort, alloc: Global, set: &SpanSet) {
-    if let Ok(copy) = set.copied(alloc) {
-        is_few(rt, alloc, &copy);
-    }
-}
-
-#[test]
-fn tolerant_copied(rt: HostRuntime) -> Result<(), Fail> {
-    if let Ok(set) = few(&rt, rt.alloc(), 0) {
-        look_at_copy(&rt, rt.alloc(), &set);
-        is_few(&rt, rt.alloc(), &set);
-    }
-    Ok(())
-}
-
 /// The set has so many keys, where no allocation failed.
 fn has_count(rt: &impl Abort, made: Result<SpanSet, AllocError>, count: u64) {
     if let Ok(set) = made {
         assert!(rt; set.count() == count);
     }
-}
-
-/// Joins a few spans to the set.
-fn join_few(rt: &impl Abort, alloc: Global, set: &SpanSet) {
-    if let Ok(other) = few(rt, alloc, 8) {
-        has_count(rt, set.union(alloc, &other), 52);
-    }
-}
-
-#[test]
-fn tolerant_union(rt: HostRuntime) -> Result<(), Fail> {
-    if let Ok(set) = few(&rt, rt.alloc(), 0) {
-        join_few(&rt, rt.alloc(), &set);
-        is_few(&rt, rt.alloc(), &set);
-    }
-    Ok(())
-}
-
-/// Takes a few spans from the set.
-fn take_few(rt: &impl Abort, alloc: Global, set: &SpanSet) {
-    if let Ok(other) = few(rt, alloc, 3) {
-        has_count(rt, set.minus(alloc, &other), 18);
-    }
-}
-
-#[test]
-fn tolerant_minus(rt: HostRuntime) -> Result<(), Fail> {
-    if let Ok(set) = few(&rt, rt.alloc(), 0) {
-        take_few(&rt, rt.alloc(), &set);
-        is_few(&rt, rt.alloc(), &set);
-    }
-    Ok(())
-}
-
-/// Meets the set with a few spans.
-fn meet_few(rt: &impl Abort, alloc: Global, set: &SpanSet) {
-    if let Ok(other) = few(rt, alloc, 3) {
-        has_count(rt, set.meet(alloc, &other), 18);
-    }
-}
-
-#[test]
-fn tolerant_meet(rt: HostRuntime) -> Result<(), Fail> {
-    if let Ok(set) = few(&rt, rt.alloc(), 0) {
-        meet_few(&rt, rt.alloc(), &set);
-        is_few(&rt, rt.alloc(), &set);
-    }
-    Ok(())
 }
 
 /// Splits the set of a few spans.
@@ -135,25 +62,33 @@ fn split_few(rt: &impl Abort, alloc: Global, set: &SpanSet) {
     }
 }
 
-#[test]
-fn tolerant_split_at(rt: HostRuntime) -> Result<(), Fail> {
-    if let Ok(set) = few(&rt, rt.alloc(), 0) {
-        split_few(&rt, rt.alloc(), &set);
-        is_few(&rt, rt.alloc(), &set);
-    }
-    Ok(())
+/// Each call that answers a new set, of the set and of a few other spans.
+fn operate(rt: &impl Abort, alloc: Global, set: &SpanSet, other: &SpanSet) {
+    has_count(rt, set.copied(alloc), 36);
+    has_count(rt, set.union(alloc, other), 54);
+    has_count(rt, set.minus(alloc, other), 18);
+    has_count(rt, set.meet(alloc, other), 18);
+    split_few(rt, alloc, set);
 }
 
-/// One long span, of which much can be cut out.
-fn long(rt: &impl Abort, alloc: Global) -> Result<SpanSet, AllocError> {
-    let mut set = SpanSet::empty(alloc);
-    set.insert(span(rt, 0, 1000))?;
-    Ok(set)
+/// Each call that answers a new set.
+fn operate_with_few(rt: &impl Abort, alloc: Global, set: &SpanSet) {
+    if let Ok(other) = few(rt, alloc, 3) {
+        operate(rt, alloc, set, &other);
+    }
+}
+
+#[test]
+fn tolerant_operations(rt: HostRuntime) {
+    if let Ok(set) = few(&rt, rt.alloc(), 0) {
+        operate_with_few(&rt, rt.alloc(), &set);
+        is_few(&rt, rt.alloc(), &set);
+    }
 }
 
 #[test]
 fn tolerant_remove(rt: HostRuntime) -> Result<(), Fail> {
-    let Ok(mut set) = long(&rt, rt.alloc()) else {
+    let Ok(mut set) = SpanSet::of(rt.alloc(), &span(&rt, 0, 1000)) else {
         return Ok(());
     };
     for place in 0..20u64 {
