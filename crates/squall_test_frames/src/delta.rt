@@ -1,4 +1,4 @@
 //! Tests of what boards send each other.
 
-mod digests;
 mod pieces;
+mod repairs;

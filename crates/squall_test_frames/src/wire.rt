@@ -3,24 +3,28 @@
 mod clients;
 mod digests;
 mod feeds;
-mod first_version;
-mod limits;
-mod second_version;
-mod texts;
+mod frames;
 mod tolerant;
 
+pub(crate) use self::feeds::hears;
 use squall_board::Board;
 use squall_wire::*;
 use std::alloc::{AllocError, Global};
 use std::process::Abort;
-use std::test::Fail;
 
 /// The frame of the load of the keys from 2:0 to 3:0 at partition 3, in sub-plan 0 of number 1.
 pub(crate) const LOAD: &str =
     "53510101 00000029 00000000 00000001 00000001 00000000 00000003 00 00000001 0000000200000000 0000000300000000";
 
+/// The frame of a delta of nothing.
+pub(crate) const EMPTY_DELTA: &str = "53510101 00000008 00000000 00000000";
+
 /// The frame of a digest of nothing.
 pub(crate) const EMPTY_DIGEST: &str = "53510102 00000008 00000000 00000000";
+
+/// The frame of the digest of the load.
+pub(crate) const LOAD_DIGEST: &str =
+    "53510102 00000030 00000000 00000001 00000001 00000000 25868db80855a707339da598e4f3a16ab6b7b5400f2c937e7a625817d02bfa4a";
 
 /// The bytes that the text writes in hexadecimal digits. Blanks are passed over.
 pub(crate) fn hex(alloc: Global, text: &str) -> Result<Vec<u8>, AllocError> {
@@ -52,79 +56,42 @@ pub(crate) fn are_of(alloc: Global, bytes: &[u8], text: &str) -> Result<bool, Al
     Ok(*bytes == *wanted.as_slice())
 }
 
-/// Why the bytes of the text do not begin with a frame.
-pub(crate) fn fault_of(alloc: Global, text: &str) -> Result<Option<WireFault>, Fail> {
-    let bytes = hex(alloc, text)?;
-    Ok(decode(alloc, &bytes).err())
-}
-
-/// Each text does not begin with a frame, for the reason beside it.
-pub(crate) fn have_faults(
-    rt: &impl Abort,
-    alloc: Global,
-    rows: &[(&str, WireFault)],
-) -> Result<(), Fail> {
-    for (text, fault) in rows {
-        assert!(rt; fault_of(alloc, text)? == Some(*fault), "{text}");
-    }
-    Ok(())
-}
-
-/// The message of the frame that the text begins with, and how many bytes that frame takes.
-fn decoded(alloc: Global, text: &str) -> Result<(Message, usize), Fail> {
-    let bytes = hex(alloc, text)?;
-    Ok(decode(alloc, &bytes)?)
-}
-
-/// How many bytes the first frame of the text takes.
-pub(crate) fn used_of(alloc: Global, text: &str) -> Result<usize, Fail> {
-    let (_message, used) = decoded(alloc, text)?;
-    Ok(used)
-}
-
 /// The board of the delta whose frame the text begins with.
-pub(crate) fn board_of(alloc: Global, text: &str) -> Result<Board, Fail> {
-    let (message, _used) = decoded(alloc, text)?;
+pub(crate) fn board_of(alloc: Global, text: &str) -> Result<Board, WireFault> {
+    let bytes = hex(alloc, text)?;
+    let (message, _used) = decode(alloc, &bytes)?;
     match message {
         Message::Delta(board) => Ok(board),
-        Message::Digest(_digest) => Err("a digest".into()),
+        Message::Digest(_digest) => Err(WireFault::Kind),
     }
 }
 
-/// The digest whose frame the text begins with.
-pub(crate) fn digest_of(alloc: Global, text: &str) -> Result<Digest, Fail> {
-    let (message, _used) = decoded(alloc, text)?;
-    match message {
-        Message::Delta(_board) => Err("a delta".into()),
-        Message::Digest(digest) => Ok(digest),
+/// Whether the frame of the board is the one that the text writes.
+pub(crate) fn is_framed_as(alloc: Global, board: &Board, text: &str) -> Result<bool, EncodeFault> {
+    let bytes = encode_board(alloc, board)?;
+    Ok(are_of(alloc, &bytes, text)?)
+}
+
+/// The frame of the board is still the one that the text writes. It looks only where no allocation
+/// fails.
+pub(crate) fn is_still(rt: &impl Abort, alloc: Global, board: &Board, text: &str) {
+    if let Ok(same) = is_framed_as(alloc, board, text) {
+        assert!(rt; same);
     }
 }
 
 /// Whether the frame of the message is the one that the text writes.
-pub(crate) fn is_encoded_as(alloc: Global, message: &Message, text: &str) -> Result<bool, Fail> {
+fn message_is_framed_as(alloc: Global, message: &Message, text: &str) -> Result<bool, EncodeFault> {
     let bytes = encode(alloc, message)?;
     Ok(are_of(alloc, &bytes, text)?)
 }
 
-/// Whether the bytes are one frame, and its message is encoded as the text writes.
-fn are_encoded_as(alloc: Global, bytes: &[u8], text: &str) -> Result<bool, Fail> {
-    let (message, used) = decode(alloc, bytes)?;
-    Ok(used == bytes.len() && is_encoded_as(alloc, &message, text)?)
-}
-
-/// Whether the message of the frame is encoded as that frame.
-pub(crate) fn comes_back(alloc: Global, text: &str) -> Result<bool, Fail> {
-    let bytes = hex(alloc, text)?;
-    are_encoded_as(alloc, &bytes, text)
-}
-
-/// Whether each proper prefix of the frame, the empty one too, is too short.
-pub(crate) fn prefixes_are_short(alloc: Global, text: &str) -> Result<bool, Fail> {
-    let bytes = hex(alloc, text)?;
-    for end in 0..bytes.len() {
-        if decode(alloc, &bytes[..end]).err() != Some(WireFault::Short) {
-            return Ok(false);
-        }
-    }
-    Ok(true)
+/// Whether the frame of the digest is the one that the text writes.
+pub(crate) fn digest_is_framed_as(
+    alloc: Global,
+    digest: Digest,
+    text: &str,
+) -> Result<bool, EncodeFault> {
+    let message = Message::Digest(digest);
+    message_is_framed_as(alloc, &message, text)
 }

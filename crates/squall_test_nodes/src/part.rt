@@ -1,16 +1,13 @@
 //! Partitions between plans whose moves were worked out by hand: 2:0 up to 3:0 goes from partition 1 to 3,
 //! and 6:0 up to 9:0 from 3 to 4, each in sub-plan 0.
 
-mod given;
-mod later;
-mod loaded;
 mod tolerant;
 
 use squall_board::Board;
 use squall_course::Course;
 use squall_key::{Bound, Key, PartId};
 use squall_part::{Chunk, FinishFault, GiveFault, Load, LoadFault, Part};
-use squall_plan::{Plan, PlanRange};
+use squall_plan::Plan;
 use squall_report::{Issue, Report};
 use squall_router::Reply;
 use squall_span::{Span, SpanSet};
@@ -19,53 +16,17 @@ use std::process::Abort;
 use std::sync::Arc;
 use std::test::Fail;
 
-/// The root of the end.
-const END: u32 = 4294967295;
+/// Partition 1 below 3:0, then 2 below 5:0, then 3 below 9:0, then 4.
+pub(crate) const OLD: &str =
+    "{\"plan\":[{\"part\":1,\"from\":[0,0],\"to\":[3,0]},{\"part\":2,\"from\":[3,0],\"to\":[5,0]},{\"part\":3,\"from\":[5,0],\"to\":[9,0]},{\"part\":4,\"from\":[9,0],\"to\":\"end\"}]}";
 
-pub(crate) const OLD: [(u32, u32, u32); 4] = [(1, 0, 3), (2, 3, 5), (3, 5, 9), (4, 9, END)];
+/// Partition 1 below 2:0, then 3 below 3:0, 2 below 5:0, 3 below 6:0, and then 4.
+pub(crate) const NEW: &str =
+    "{\"plan\":[{\"part\":1,\"from\":[0,0],\"to\":[2,0]},{\"part\":2,\"from\":[3,0],\"to\":[5,0]},{\"part\":3,\"from\":[2,0],\"to\":[3,0]},{\"part\":3,\"from\":[5,0],\"to\":[6,0]},{\"part\":4,\"from\":[6,0],\"to\":\"end\"}]}";
 
-pub(crate) const NEW: [(u32, u32, u32); 5] = [
-    (1, 0, 2),
-    (3, 2, 3),
-    (2, 3, 5),
-    (3, 5, 6),
-    (4, 6, END),
-];
-
-fn part_id(number: u32) -> Result<PartId, Fail> {
-    Ok(PartId::new(number).ok_or("a partition")?)
-}
-
-fn key(root: u32, second: u32) -> Result<Key, Fail> {
-    Ok(Key::new(root, second).ok_or("a key")?)
-}
-
-/// The keys from the pair `lo` on, below the pair `hi`.
-fn span(lo: (u32, u32), hi: (u32, u32)) -> Option<Span> {
-    Span::new(Bound::new(lo.0, lo.1)?, Bound::new(hi.0, hi.1)?)
-}
-
-/// The roots from `lo` on, below `hi`, for the partition.
-fn range(number: u32, lo: u32, hi: u32) -> Option<PlanRange> {
-    let span = span((lo, 0), (hi, 0))?;
-    let part = PartId::new(number)?;
-    Some(PlanRange { span, part })
-}
-
-/// Adds the range of the roots from `lo` on, below `hi`, for the partition. Like what follows, None
-/// where an allocation fails.
-fn add_range(listed: &mut Vec<PlanRange>, number: u32, lo: u32, hi: u32) -> Option<()> {
-    let range = range(number, lo, hi)?;
-    listed.push(range).ok()
-}
-
-/// A plan of ranges of roots, each a partition, its first root and the root after it.
-pub(crate) fn plan(alloc: Global, ranges: &[(u32, u32, u32)]) -> Option<Plan> {
-    let mut listed = Vec::new(alloc);
-    for (number, lo, hi) in ranges {
-        add_range(&mut listed, *number, *lo, *hi)?;
-    }
-    Plan::from_ranges(alloc, &listed).ok()
+/// The plan of a text. Like what follows, None where an allocation fails.
+pub(crate) fn plan(alloc: Global, text: &str) -> Option<Plan> {
+    Plan::read(alloc, text.as_bytes()).ok()
 }
 
 /// Course 1 from the plan to the new one.
@@ -73,18 +34,14 @@ pub(crate) fn plan(alloc: Global, ranges: &[(u32, u32, u32)]) -> Option<Plan> {
 /// What a proof of a test costs grows with the values that the test owns, times the ways out of it: so a function here
 /// makes one value, and lends it to another that makes the next.
 fn course_after(alloc: Global, old: &Plan) -> Option<Course> {
-    let new = plan(alloc, &NEW)?;
+    let new = plan(alloc, NEW)?;
     Course::new(alloc, 1, old, &new).ok()
 }
 
 /// Course 1 of the example plans.
-fn example(alloc: Global) -> Option<Course> {
-    let old = plan(alloc, &OLD)?;
-    course_after(alloc, &old)
-}
-
 fn course(alloc: Global) -> Option<Arc<Course>> {
-    Arc::new(alloc, example(alloc)?).ok()
+    let old = plan(alloc, OLD)?;
+    Arc::new(alloc, course_after(alloc, &old)?).ok()
 }
 
 /// A partition that has heard nothing.
@@ -106,37 +63,16 @@ fn hears_opening(alloc: Global, part: &mut Part, number: u32) -> Option<bool> {
     Some(hears(alloc, part, &opening))
 }
 
-/// Tells the partition that sub-plan 0 is opened.
-fn open(alloc: Global, part: &mut Part) -> Option<()> {
-    if hears_opening(alloc, part, 1)? {
-        Some(())
-    } else {
-        None
-    }
-}
-
-/// A partition that has heard that sub-plan 0 is opened.
-fn opened_part(alloc: Global, number: u32) -> Option<Part> {
-    let mut part = fresh_part(alloc, number)?;
-    open(alloc, &mut part)?;
-    Some(part)
-}
-
-/// The issue that leads from the plan to the old one.
-fn issue_back(alloc: Global, from: &Plan) -> Option<Arc<Issue>> {
-    let to = plan(alloc, &OLD)?;
-    Issue::new(alloc, from, &to).ok()
-}
-
-/// The issue that leads from the new plan to the old one.
-fn issue_of_way_back(alloc: Global) -> Option<Arc<Issue>> {
-    let from = plan(alloc, &NEW)?;
-    issue_back(alloc, &from)
+/// The report that reconfiguration 2 leads from the plan to the old one.
+fn report_back(alloc: Global, from: &Plan) -> Option<Report> {
+    let to = plan(alloc, OLD)?;
+    Report::issued(2, Issue::new(alloc, from, &to).ok()?)
 }
 
 /// The report that the way back is reconfiguration 2.
 fn way_back(alloc: Global) -> Option<Report> {
-    Report::issued(2, issue_of_way_back(alloc)?)
+    let from = plan(alloc, NEW)?;
+    report_back(alloc, &from)
 }
 
 /// Whether the partition has heard of the way back. None where an allocation failed before.
@@ -145,40 +81,37 @@ fn hears_of_way_back(alloc: Global, part: &mut Part) -> Option<bool> {
     Some(hears(alloc, part, &report))
 }
 
-/// A chunk of keys of root 2 for partition 3, from the one second on, below the other.
-fn chunk(number: u32, sub: u32, source: u32, lo: u32, hi: u32) -> Option<Chunk> {
-    let span = span((2, lo), (2, hi))?;
+/// A chunk of the keys from 2:0 on, below the bound, for partition 3.
+fn chunk(number: u32, sub: u32, source: u32, hi: &str) -> Option<Chunk> {
+    let span = Span::new(Bound::read("2:0")?, Bound::read(hi)?)?;
     Chunk::new(number, sub, PartId::new(source)?, PartId::new(3)?, span)
 }
 
-/// Writes the chunk.
-fn write_chunk(out: &mut String, chunk: Chunk) -> Result<(), AllocError> {
-    let (number, sub) = (chunk.number(), chunk.sub());
-    let (source, dest) = (chunk.source(), chunk.dest());
-    let span = chunk.span();
-    write!(out, "{number} {sub} {source} {dest} {span}")
+#[test]
+fn chunks_have_limits(rt: HostRuntime) {
+    for (number, sub, is_some) in [(0, 0, false), (1, 10000, false), (1, 9999, true)] {
+        assert!(rt; chunk(number, sub, 1, "2:1").is_some() == is_some);
+    }
 }
 
 /// Writes a chunk, or the fault.
 fn write_gift(out: &mut String, given: Result<Chunk, GiveFault>) -> Result<(), AllocError> {
     match given {
-        Ok(chunk) => write_chunk(out, chunk),
+        Ok(chunk) => {
+            let (number, sub) = (chunk.number(), chunk.sub());
+            let (source, dest) = (chunk.source(), chunk.dest());
+            let span = chunk.span();
+            write!(out, "{number} {sub} {source} {dest} {span}")
+        }
         Err(fault) => write!(out, "{fault}"),
-    }
-}
-
-/// What came of a chunk.
-fn outcome(load: &Load) -> &'static str {
-    match load {
-        Load::Again => "Again",
-        Load::Loaded(_) => "Loaded",
     }
 }
 
 /// Writes what came of a chunk, or the fault.
 fn write_outcome(out: &mut String, loaded: Result<Load, LoadFault>) -> Result<(), AllocError> {
     match loaded {
-        Ok(load) => out.push_str(outcome(&load)),
+        Ok(Load::Again) => out.push_str("Again"),
+        Ok(Load::Loaded(_)) => out.push_str("Loaded"),
         Err(fault) => write!(out, "{fault}"),
     }
 }
@@ -206,102 +139,188 @@ fn write_reply(out: &mut String, reply: Reply) -> Result<(), AllocError> {
 fn write_spans(out: &mut String, set: &SpanSet) -> Result<(), AllocError> {
     for span in set.spans() {
         let span = *span;
-        write!(out, "{span};")?;
+        write!(out, "{span}")?;
     }
     Ok(())
+}
+
+/// Writes whether the partition has the set of what it gave in number 1 and of what it loaded in
+/// number 2, and whether its board says partition 3 done.
+fn write_sets(out: &mut String, part: &Part) -> Result<(), AllocError> {
+    let gave = part.given(1).is_some();
+    let loaded = part.loaded(2).is_some();
+    let done = part.board().says_done(1, 0, 3);
+    write!(out, "{gave} {loaded} {done}")
 }
 
 /// What is asked of a partition.
 #[derive(Clone, Copy)]
 enum Step {
+    /// To hear that sub-plan 0 of the number is opened.
+    Open(u32),
+    /// To hear of the way back.
+    Turn,
     /// To give on so many keys at most.
     Give(u64),
     /// To give on the first key of the root.
     GiveAt(u32),
-    /// To load the first key of root 2, in a chunk of that number, sub-plan and source.
-    Load { number: u32, sub: u32, source: u32 },
+    /// To load the keys from 2:0 to the bound, in a chunk of a number, sub-plan and source.
+    Load(u32, u32, u32, &'static str),
     /// To finish sub-plan 0.
     Finish,
     /// To serve the first key of root 2 to one who comes by a reply of that number.
     Serve(u32),
     /// To tell which keys it holds.
     Hold,
-    /// To hear of the way back, and that its sub-plan 0 is opened.
-    Turn,
-}
-
-/// Whether the partition has heard of the way back, and of its opening. None where an allocation
-/// fails.
-fn turns(alloc: Global, part: &mut Part) -> Option<bool> {
-    Some(hears_of_way_back(alloc, part)? && hears_opening(alloc, part, 2)?)
-}
-
-/// Writes whether the partition has heard of the way back, and of its opening.
-fn write_turn(alloc: Global, part: &mut Part, out: &mut String) -> Result<(), Fail> {
-    let turned = turns(alloc, part).ok_or("a way back")?;
-    write!(out, "{turned}")?;
-    Ok(())
+    /// To tell which sets it has.
+    Tell,
 }
 
 /// Writes what comes of the step.
 fn answer(alloc: Global, part: &mut Part, step: Step, out: &mut String) -> Result<(), Fail> {
     match step {
+        Step::Open(number) => {
+            let heard = hears_opening(alloc, part, number).ok_or("an opening")?;
+            write!(out, "{heard}")?;
+        }
+        Step::Turn => {
+            let heard = hears_of_way_back(alloc, part).ok_or("a way back")?;
+            write!(out, "{heard}")?;
+        }
         Step::Give(max) => write_gift(out, part.give(max))?,
-        Step::GiveAt(root) => write_gift(out, part.give_at(key(root, 0)?))?,
-        Step::Load {
-            number,
-            sub,
-            source,
-        } => {
-            let chunk = chunk(number, sub, source, 0, 1).ok_or("a chunk")?;
+        Step::GiveAt(root) => write_gift(out, part.give_at(Key::new(root, 0).ok_or("a key")?))?,
+        Step::Load(number, sub, source, hi) => {
+            let chunk = chunk(number, sub, source, hi).ok_or("a chunk")?;
             write_outcome(out, part.load(&chunk))?;
         }
         Step::Finish => write_ending(out, part.finish(0).err())?,
-        Step::Serve(after) => write_reply(out, part.serve(key(2, 0)?, after))?,
+        Step::Serve(after) => write_reply(out, part.serve(Key::new(2, 0).ok_or("a key")?, after))?,
         Step::Hold => write_spans(out, part.held())?,
-        Step::Turn => write_turn(alloc, part, out)?,
+        Step::Tell => write_sets(out, part)?,
     }
+    out.push_str("; ")?;
     Ok(())
 }
 
-/// Whether the step has the answer.
-fn is_answered(alloc: Global, part: &mut Part, step: Step, wanted: &str) -> Result<bool, Fail> {
-    let mut out = String::new(alloc);
-    answer(alloc, part, step, &mut out)?;
-    Ok(out.as_str() == wanted)
-}
-
-/// Each of the steps, one after the other, has its answer.
-fn answers(
-    rt: &impl Abort,
+/// Writes what comes of each of the steps, one after the other.
+fn write_answers(
     alloc: Global,
     part: &mut Part,
-    steps: &[(Step, &str)],
+    steps: &[Step],
+    out: &mut String,
 ) -> Result<(), Fail> {
-    for (step, wanted) in steps {
-        assert!(rt; is_answered(alloc, part, *step, wanted)?, "{wanted}");
+    for step in steps {
+        answer(alloc, part, *step, out)?;
     }
     Ok(())
 }
 
-/// The steps of a partition that has heard that sub-plan 0 is opened have their answers.
-fn opened_answers(
-    rt: &impl Abort,
-    alloc: Global,
-    number: u32,
-    steps: &[(Step, &str)],
-) -> Result<(), Fail> {
-    let mut part = opened_part(alloc, number).ok_or("a partition")?;
-    answers(rt, alloc, &mut part, steps)
+/// Whether the steps of a partition of that number, which has heard nothing, have these answers.
+fn has_answers(alloc: Global, number: u32, steps: &[Step], wanted: &str) -> Result<bool, Fail> {
+    let mut part = fresh_part(alloc, number).ok_or("a partition")?;
+    let mut out = String::new(alloc);
+    write_answers(alloc, &mut part, steps, &mut out)?;
+    Ok(part.id().get() == number && out.as_str() == wanted)
 }
 
-/// The steps of a partition that has heard nothing have their answers.
-fn fresh_answers(
-    rt: &impl Abort,
-    alloc: Global,
-    number: u32,
-    steps: &[(Step, &str)],
-) -> Result<(), Fail> {
-    let mut part = fresh_part(alloc, number).ok_or("a partition")?;
-    answers(rt, alloc, &mut part, steps)
+/// Steps of partitions that have heard nothing, each step with its answer.
+const STEPS: [(u32, &[Step], &str); 7] = [
+    // Before an opening.
+    (
+        1,
+        &[Step::Tell, Step::Give(1), Step::GiveAt(2), Step::Finish],
+        "true false false; NotOpen; NotOpen; NotOpen; ",
+    ),
+    // What is given on goes in order, and each key once.
+    (
+        1,
+        &[
+            Step::Open(1),
+            Step::Give(0),
+            Step::Give(1),
+            Step::Serve(0),
+            Step::GiveAt(2),
+            Step::GiveAt(0),
+            Step::Give(u64::MAX),
+            Step::Give(1),
+            Step::Hold,
+        ],
+        "true; ZeroMax; 1 0 1 3 [2:0,2:1); Moved 3 1; Given; NotOutgoing; 1 0 1 3 [2:1,3:0); NothingLeft; [0:0,2:0); ",
+    ),
+    // A later number is awaited.
+    (
+        1,
+        &[
+            Step::Open(1),
+            Step::GiveAt(2),
+            Step::Serve(2),
+            Step::Turn,
+            Step::Open(2),
+            Step::Serve(2),
+        ],
+        "true; 1 0 1 3 [2:0,2:1); Behind; true; true; Pending 3; ",
+    ),
+    // Strangers are refused, a chunk is loaded once, and what is missing is named.
+    (
+        3,
+        &[
+            Step::Open(1),
+            Step::Load(2, 0, 1, "2:1"),
+            Step::Load(1, 0, 2, "2:1"),
+            Step::Load(1, 1, 1, "2:1"),
+            Step::Serve(0),
+            Step::Load(1, 0, 1, "2:1"),
+            Step::Load(1, 0, 1, "2:1"),
+            Step::Serve(0),
+            Step::Hold,
+            Step::Finish,
+        ],
+        "true; Stranger; Stranger; NotOpen; Pending 1; Loaded; Again; Held; [2:0,2:1)[5:0,9:0); NotAll [2:1,3:0); ",
+    ),
+    // Keys come and go back, and a repeat brings nothing back.
+    (
+        3,
+        &[
+            Step::Open(1),
+            Step::Load(1, 0, 1, "3:0"),
+            Step::Finish,
+            Step::Finish,
+            Step::Turn,
+            Step::Open(2),
+            Step::Give(1),
+            Step::Serve(0),
+            Step::Load(1, 0, 1, "2:1"),
+            Step::Hold,
+            Step::Tell,
+        ],
+        "true; Loaded; Done; Done; true; true; 2 0 3 1 [2:0,2:1); Moved 1 2; Again; [2:1,3:0)[5:0,9:0); true true true; ",
+    ),
+    // Nothing is due at others.
+    (
+        2,
+        &[Step::Open(1), Step::Finish, Step::Serve(0)],
+        "true; NothingDue; Elsewhere 1; ",
+    ),
+    // What was not loaded is not held.
+    (
+        3,
+        &[Step::Turn, Step::Open(2), Step::GiveAt(2), Step::Hold],
+        "true; true; NotHeld; [5:0,9:0); ",
+    ),
+];
+
+/// Each partition has its answers.
+///
+/// A table is lent to a function that goes over it, since a loop over the table itself costs a
+/// proof more with each of its rows.
+fn have_answers(rt: &impl Abort, alloc: Global, rows: &[(u32, &[Step], &str)]) -> Result<(), Fail> {
+    for (number, steps, wanted) in rows {
+        assert!(rt; has_answers(alloc, *number, steps, wanted)?, "{wanted}");
+    }
+    Ok(())
+}
+
+#[test]
+fn partitions_answer(rt: HostRuntime) -> Result<(), Fail> {
+    have_answers(&rt, rt.alloc(), &STEPS)
 }

@@ -39,24 +39,20 @@ fn hear_both(
     Ok((heard.messages.len(), heard.fault))
 }
 
-/// The feed hears the frame in two pieces, and then nothing after a fault.
+/// The feed hears the frame in two pieces, and then nothing after a fault, which ends the stream.
 fn look_at_pieces(rt: &impl Abort, feed: &mut Feed, frame: &[u8]) -> Result<(), FeedFault> {
     assert!(rt; frame.len() == 49);
     let (first, second) = frame.split_at(30);
     assert!(rt; hear_both(feed, first, second)? == (1, None));
     assert!(rt; hear_both(feed, &[0x54], frame)? == (0, Some(WireFault::Magic)));
+    assert!(rt; feed.failed() && feed.push(&[]).err() == Some(FeedFault::Failed));
     Ok(())
-}
-
-/// A new feed hears the frame in two pieces.
-fn hear_in_two(rt: &impl Abort, alloc: Global, frame: &[u8]) -> Result<(), FeedFault> {
-    let mut feed = Feed::new(alloc);
-    look_at_pieces(rt, &mut feed, frame)
 }
 
 #[test]
 fn two_pieces_as_one(rt: HostRuntime) -> Result<(), Fail> {
     let frame = hex(rt.alloc(), LOAD)?;
-    hear_in_two(&rt, rt.alloc(), &frame)?;
+    let mut feed = Feed::new(rt.alloc());
+    look_at_pieces(&rt, &mut feed, &frame)?;
     Ok(())
 }
