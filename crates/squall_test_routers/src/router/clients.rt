@@ -12,14 +12,14 @@ ghost use Rattle.squall_board.specs.Route.{has_come};
 ghost use Rattle.squall_board.specs.CourseRoute.{course_of_reports, route_by_reports};
 ghost use Rattle.squall_router.specs.Routers.{course_of_router};
 
-use super::{Missing, router};
+use super::heard;
 use squall_course::Course;
 use squall_key::{Key, PartId};
 use squall_router::{
     Router, all_in_is_the_new_plan, routers_follow_reports, same_told_same_routers,
 };
 use squall_table::Leg;
-use std::alloc::Global;
+use std::process::Abort;
 use std::sync::Arc;
 use std::test::Fail;
 
@@ -63,26 +63,21 @@ fn entries_once_all_is_in(router: &Router) -> &[Leg]
     router.table().entries()
 }
 
-/// Whether two routers answer alike, to each client above.
-fn clients_agree(alloc: Global, key: Key) -> Result<bool, Missing> {
-    let one = router(alloc)?;
-    let other = router(alloc)?;
-    let parts = both_parts(&one, &other, key);
-    let entries = both_entries(&one, &other);
-    Ok(parts.0 == parts.1 && entries.0 == entries.1 && part_by_reports(&one, key) == parts.0)
-}
-
-/// Whether what one router says by its reports is what it says.
-fn says_by_reports(alloc: Global) -> Result<bool, Missing> {
-    let router = router(alloc)?;
-    let entries = entries_once_all_is_in(&router).len();
-    Ok(course_by_reports(&router).number() == 1 && entries == router.table().entries().len())
+/// What each client above says of the router is what it says.
+fn look_at_router(rt: &impl Abort, router: &Router, key: Key) {
+    let part = router.route(key);
+    let (one, other) = both_parts(router, router, key);
+    assert!(rt; (part_by_reports(router, key), one, other) == (part, part, part));
+    assert!(rt; course_by_reports(router).number() == router.course().number());
+    let entries = router.table().entries();
+    assert!(rt; both_entries(router, router).0 == entries);
+    assert!(rt; entries_once_all_is_in(router) == entries);
 }
 
 #[test]
 fn callers_learn(rt: HostRuntime) -> Result<(), Fail> {
     let key = Key::read("2:0").ok_or("key")?;
-    assert!(rt; clients_agree(rt.alloc(), key)?);
-    assert!(rt; says_by_reports(rt.alloc())?);
+    let router = heard(rt.alloc(), &[]).ok_or("a router")?;
+    look_at_router(&rt, &router, key);
     Ok(())
 }

@@ -3,10 +3,10 @@
 ghost use Rattle.std.specs.Prelude.{◌≡◌, IfOk};
 ghost use Rattle.squall_router.specs.Errands.{answers_of};
 
-use super::{Missing, part};
 use squall_key::PartId;
 use squall_router::{Errand, Next, Reply};
 use std::alloc::{AllocError, Global};
+use std::process::Abort;
 use std::test::Fail;
 
 /// The answers to the replies, one after the other.
@@ -20,100 +20,165 @@ fn answers(alloc: Global, errand: &mut Errand, replies: &[Reply]) -> Result<Vec<
     Ok(answers)
 }
 
-/// Whether an errand that begins at partition 1 answers so to the replies.
-fn answers_so(alloc: Global, replies: &[Reply], wanted: &[Next]) -> Result<bool, Missing> {
-    let mut errand = Errand::at(part(1)?);
-    let answers = answers(alloc, &mut errand, replies)?;
-    Ok(answers.as_slice() == wanted)
+/// The reply of that name, with the partition and the number.
+fn reply(name: &str, part: u32, number: u32) -> Option<Reply> {
+    let part = PartId::new(part)?;
+    match name {
+        "held" => Some(Reply::Held),
+        "moved" => Some(Reply::Moved { dest: part, number }),
+        "pending" => Some(Reply::Pending { source: part }),
+        "behind" => Some(Reply::Behind),
+        "elsewhere" => Some(Reply::Elsewhere { dest: part }),
+        _ => None,
+    }
 }
 
-/// The reply that the key was given to the partition in the reconfiguration of that number.
-fn moved(dest: u32, number: u32) -> Result<Reply, Missing> {
-    let dest = part(dest)?;
-    Ok(Reply::Moved { dest, number })
+/// The replies of those names, each with a partition and a number.
+fn replies(alloc: Global, rows: &[(&str, u32, u32)]) -> Result<Vec<Reply>, Fail> {
+    let mut replies = Vec::new(alloc);
+    for row in rows {
+        replies.push(reply(row.0, row.1, row.2).ok_or("a reply")?)?;
+    }
+    Ok(replies)
 }
 
-/// The reply that the key is on its way from the partition.
-fn pending(source: u32) -> Result<Reply, Missing> {
-    let source = part(source)?;
-    Ok(Reply::Pending { source })
+/// Writes the answer.
+fn write_next(out: &mut String, next: Next) -> Result<(), AllocError> {
+    match next {
+        Next::Served => write!(out, "Served; "),
+        Next::Again(part) => write!(out, "Again {part}; "),
+        Next::Ask(part) => write!(out, "Ask {part}; "),
+        Next::Lost => write!(out, "Lost; "),
+    }
 }
 
-/// The reply that the key was never there.
-fn elsewhere(dest: u32) -> Result<Reply, Missing> {
-    let dest = part(dest)?;
-    Ok(Reply::Elsewhere { dest })
-}
-
-#[test]
-fn held_ends(rt: HostRuntime) -> Result<(), Fail> {
-    let replies = [Reply::Held, Reply::Behind, moved(2, 9)?, elsewhere(2)?];
-    assert!(rt; answers_so(rt.alloc(), &replies, &[Next::Served; 4])?);
-    Ok(())
-}
-
-#[test]
-fn waits_where_it_is(rt: HostRuntime) -> Result<(), Fail> {
-    let replies = [pending(4)?, Reply::Behind, Reply::Held];
-    let again = Next::Again(part(1)?);
-    assert!(rt; answers_so(rt.alloc(), &replies, &[again, again, Next::Served])?);
-    Ok(())
-}
-
-#[test]
-fn follows_greater_numbers(rt: HostRuntime) -> Result<(), Fail> {
-    let replies = [moved(3, 2)?, pending(1)?, moved(5, 7)?, Reply::Behind];
-    let third = part(3)?;
-    let fifth = part(5)?;
-    let wanted = [
-        Next::Ask(third),
-        Next::Again(third),
-        Next::Ask(fifth),
-        Next::Again(fifth),
-    ];
-    assert!(rt; answers_so(rt.alloc(), &replies, &wanted)?);
-    Ok(())
-}
-
-/// Whether an errand that was sent to partition 3 under the number 2 is lost by the reply, for ever.
-fn is_lost_by(alloc: Global, reply: Reply) -> Result<bool, Missing> {
-    let replies = [moved(3, 2)?, reply, Reply::Held, moved(4, 9)?];
-    let wanted = [Next::Ask(part(3)?), Next::Lost, Next::Lost, Next::Lost];
-    answers_so(alloc, &replies, &wanted)
-}
-
-#[test]
-fn contradictions_are_lost(rt: HostRuntime) -> Result<(), Fail> {
-    let alloc = rt.alloc();
-    assert!(rt; is_lost_by(alloc, moved(5, 2)?)?, "an equal number");
-    assert!(rt; is_lost_by(alloc, moved(5, 1)?)?, "a lower number");
-    assert!(rt; is_lost_by(alloc, moved(3, 2)?)?, "the same again");
-    assert!(rt; is_lost_by(alloc, elsewhere(1)?)?, "never there");
-    Ok(())
-}
-
-#[test]
-fn number_zero_is_no_move(rt: HostRuntime) -> Result<(), Fail> {
-    assert!(rt; answers_so(rt.alloc(), &[moved(3, 0)?], &[Next::Lost])?);
-    Ok(())
-}
-
-/// The partition that is asked and the number of the last move, after the replies.
-fn place_after(
+/// Writes the answers of the errand to the replies.
+fn write_answers(
     alloc: Global,
     errand: &mut Errand,
     replies: &[Reply],
-) -> Result<(PartId, u32), AllocError> {
-    let _answers = answers(alloc, errand, replies)?;
-    Ok((errand.asked(), errand.number()))
+    out: &mut String,
+) -> Result<(), AllocError> {
+    for next in &answers(alloc, errand, replies)? {
+        write_next(out, *next)?;
+    }
+    Ok(())
+}
+
+/// Replies to an errand that begins at partition 1, its answers, and the partition that it asks and
+/// the number of the last move then. A reply without a
+/// partition has 1 there, and one without a number 0.
+const ROWS: [(&[(&str, u32, u32)], &str, (u32, u32)); 9] = [
+    (
+        &[
+            ("held", 1, 0),
+            ("behind", 1, 0),
+            ("moved", 2, 9),
+            ("elsewhere", 2, 0),
+        ],
+        "Served; Served; Served; Served; ",
+        (1, 0),
+    ),
+    // It waits where the key is on its way.
+    (
+        &[("pending", 4, 0), ("behind", 1, 0), ("held", 1, 0)],
+        "Again 1; Again 1; Served; ",
+        (1, 0),
+    ),
+    // It follows greater numbers.
+    (
+        &[
+            ("moved", 3, 2),
+            ("pending", 1, 0),
+            ("moved", 5, 7),
+            ("behind", 1, 0),
+        ],
+        "Ask 3; Again 3; Ask 5; Again 5; ",
+        (5, 7),
+    ),
+    // An equal number, a lower one, the same again, and a key that was never there are
+    // contradictions: it is lost for ever, and keeps its place and number.
+    (
+        &[
+            ("moved", 3, 2),
+            ("moved", 5, 2),
+            ("held", 1, 0),
+            ("moved", 4, 9),
+        ],
+        "Ask 3; Lost; Lost; Lost; ",
+        (3, 2),
+    ),
+    (
+        &[
+            ("moved", 3, 2),
+            ("moved", 5, 1),
+            ("held", 1, 0),
+            ("moved", 4, 9),
+        ],
+        "Ask 3; Lost; Lost; Lost; ",
+        (3, 2),
+    ),
+    (
+        &[
+            ("moved", 3, 2),
+            ("moved", 3, 2),
+            ("held", 1, 0),
+            ("moved", 4, 9),
+        ],
+        "Ask 3; Lost; Lost; Lost; ",
+        (3, 2),
+    ),
+    (
+        &[
+            ("moved", 3, 2),
+            ("elsewhere", 1, 0),
+            ("held", 1, 0),
+            ("moved", 4, 9),
+        ],
+        "Ask 3; Lost; Lost; Lost; ",
+        (3, 2),
+    ),
+    (&[("moved", 3, 0)], "Lost; ", (1, 0)),
+    (
+        &[
+            ("moved", 3, 2),
+            ("moved", 5, 7),
+            ("moved", 6, 7),
+            ("moved", 8, 9),
+        ],
+        "Ask 3; Ask 5; Lost; Lost; ",
+        (5, 7),
+    ),
+];
+
+/// Whether an errand that begins at partition 1 answers so to the replies, and is then at the
+/// partition of the place, with its number.
+fn answers_so(
+    alloc: Global,
+    replies: &[Reply],
+    wanted: &str,
+    place: (u32, u32),
+) -> Result<bool, Fail> {
+    let mut errand = Errand::at(PartId::new(1).ok_or("a partition")?);
+    let mut out = String::new(alloc);
+    write_answers(alloc, &mut errand, replies, &mut out)?;
+    Ok(out.as_str() == wanted && (errand.asked().get(), errand.number()) == place)
+}
+
+/// Looks at an errand for each row.
+fn look_at_rows(
+    rt: &impl Abort,
+    alloc: Global,
+    rows: &[(&[(&str, u32, u32)], &str, (u32, u32))],
+) -> Result<(), Fail> {
+    for (names, wanted, place) in rows {
+        let replies = replies(alloc, names)?;
+        assert!(rt; answers_so(alloc, &replies, wanted, *place)?, "{wanted}");
+    }
+    Ok(())
 }
 
 #[test]
-fn keeps_place_and_number(rt: HostRuntime) -> Result<(), Fail> {
-    let mut errand = Errand::at(part(1)?);
-    assert!(rt; errand.asked() == part(1)? && errand.number() == 0);
-    let replies = [moved(3, 2)?, moved(5, 7)?, moved(6, 7)?, moved(8, 9)?];
-    let place = place_after(rt.alloc(), &mut errand, &replies)?;
-    assert!(rt; place == (part(5)?, 7));
-    Ok(())
+fn errands_answer(rt: HostRuntime) -> Result<(), Fail> {
+    look_at_rows(&rt, rt.alloc(), &ROWS)
 }

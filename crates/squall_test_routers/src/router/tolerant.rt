@@ -1,22 +1,21 @@
 //! Where an allocation fails a router is as it was.
 
-use super::{Said, course, delta, heard, number};
+use super::{Said, delta, heard};
 use squall_board::Board;
-use squall_plan::PlanRange;
 use squall_router::Router;
+use squall_table::Leg;
 use std::alloc::{AllocError, Global};
 use std::test::Fail;
 
-/// What can be seen of a router: its board, the number of its course, and its table.
+/// What is seen of a router.
 #[derive(Drop)]
 struct Seen {
     board: Board,
     number: u32,
-    entries: Vec<PlanRange>,
+    entries: Vec<Leg>,
 }
 
-/// The entries once more.
-fn copied(alloc: Global, entries: &[PlanRange]) -> Result<Vec<PlanRange>, AllocError> {
+fn copied(alloc: Global, entries: &[Leg]) -> Result<Vec<Leg>, AllocError> {
     let mut copy = Vec::new(alloc);
     copy.extend_from_slice(entries)?;
     Ok(copy)
@@ -27,7 +26,7 @@ fn look(alloc: Global, router: &Router) -> Result<Seen, AllocError> {
     let entries = copied(alloc, router.table().entries())?;
     Ok(Seen {
         board,
-        number: number(router),
+        number: router.course().number(),
         entries,
     })
 }
@@ -35,7 +34,7 @@ fn look(alloc: Global, router: &Router) -> Result<Seen, AllocError> {
 /// Whether the router is as it was seen.
 fn is_as_seen(router: &Router, seen: &Seen) -> bool {
     *router.board() == seen.board
-        && number(router) == seen.number
+        && router.course().number() == seen.number
         && router.table().entries() == seen.entries.as_slice()
 }
 
@@ -46,47 +45,30 @@ fn takes_all_or_nothing(router: &mut Router, seen: &Seen, next: &Board) -> bool 
     taken == router.board().covers(next) && taken != is_as_seen(router, seen)
 }
 
-/// Whether a router that has heard of a load takes all or nothing of what is said. Also where one
-/// allocation of those before failed.
-fn absorbs_all_or_nothing(alloc: Global, said: Said) -> bool {
-    let Ok(mut router) = heard(alloc, &[Said::Half]) else {
+/// Whether the router takes all or nothing of what is said. Also where one allocation of those before failed.
+fn absorbs_all_or_nothing(alloc: Global, router: &mut Router, said: Said) -> bool {
+    let Ok(seen) = look(alloc, router) else {
         return true;
     };
-    let Ok(seen) = look(alloc, &router) else {
+    let Some(next) = delta(alloc, said) else {
         return true;
     };
-    let Ok(next) = delta(alloc, said) else {
-        return true;
-    };
-    takes_all_or_nothing(&mut router, &seen, &next)
+    takes_all_or_nothing(router, &seen, &next)
 }
 
-#[test]
-fn tolerant_new(rt: HostRuntime) -> Result<(), Fail> {
-    let Ok(course) = course(rt.alloc()) else {
-        return Ok(());
-    };
-    if let Ok(router) = Router::new(rt.alloc(), &course) {
-        assert!(rt; number(&router) == 1);
+/// Whether the router takes all or nothing of each: a load, a completion and an issue.
+fn absorbs_each(alloc: Global, router: &mut Router) -> bool {
+    let mut right = true;
+    for said in [Said::Load, Said::Done, Said::Back(2)] {
+        right &= absorbs_all_or_nothing(alloc, router, said);
     }
-    assert!(rt; course.number() == 1);
-    Ok(())
+    right
 }
 
 #[test]
-fn tolerant_load(rt: HostRuntime) -> Result<(), Fail> {
-    assert!(rt; absorbs_all_or_nothing(rt.alloc(), Said::Load));
-    Ok(())
-}
-
-#[test]
-fn tolerant_completion(rt: HostRuntime) -> Result<(), Fail> {
-    assert!(rt; absorbs_all_or_nothing(rt.alloc(), Said::Done));
-    Ok(())
-}
-
-#[test]
-fn tolerant_issue(rt: HostRuntime) -> Result<(), Fail> {
-    assert!(rt; absorbs_all_or_nothing(rt.alloc(), Said::Back(2)));
+fn tolerant_absorb(rt: HostRuntime) -> Result<(), Fail> {
+    if let Some(mut router) = heard(rt.alloc(), &[Said::Half]) {
+        assert!(rt; absorbs_each(rt.alloc(), &mut router));
+    }
     Ok(())
 }
