@@ -2,6 +2,7 @@
 use squall_lines::Ended;
 use squall_race::answer_race;
 use std::alloc::{AllocError, Global};
+use std::process::Abort;
 use std::sync::Wait;
 use std::test::Fail;
 use std::thread::Threads;
@@ -10,8 +11,8 @@ use std::thread::Threads;
 const PLANS: &str =
     "old {\"plan\":[{\"part\":1,\"from\":[0,0],\"to\":[3,0]},{\"part\":2,\"from\":[3,0],\"to\":[5,0]},{\"part\":3,\"from\":[5,0],\"to\":[9,0]},{\"part\":4,\"from\":[9,0],\"to\":\"end\"}]}\nnew {\"plan\":[{\"part\":1,\"from\":[0,0],\"to\":[2,0]},{\"part\":2,\"from\":[3,0],\"to\":[5,0]},{\"part\":3,\"from\":[2,0],\"to\":[3,0]},{\"part\":3,\"from\":[5,0],\"to\":[6,0]},{\"part\":4,\"from\":[6,0],\"to\":\"end\"}]}\n";
 
-/// What follows the plans, and what is shown.
-const RACES: [(&str, &str); 5] = [
+/// What follows the plans, and what is shown: the board and routes, or why a line is bad.
+static RACES: [(&str, &str); 23] = [
     ("", "empty\n"),
     ("# no report\n\nkey 2:0\n", "empty\nroute 2:0 1\n"),
     (
@@ -26,10 +27,6 @@ const RACES: [(&str, &str); 5] = [
         "readers 64\nsenders 64\ncapacity 65536\r\n63 opened 1 0\nkey 6:0",
         "opened 1 1\nroute 6:0 3\n",
     ),
-];
-
-/// What follows the plans, and why a line of it is bad.
-const BAD: [(&str, &str); 18] = [
     ("old {}", "bad line 3: order\n"),
     ("new {}", "bad line 3: order\n"),
     ("board", "bad line 3: word\n"),
@@ -50,7 +47,24 @@ const BAD: [(&str, &str); 18] = [
     ("1 route 2:0", "bad line 3: word\n"),
 ];
 
-/// What a text of two pieces shows, and whether it was refused.
+/// Files that end too soon, or whose plans are none.
+static NO_PLANS: [(&str, &str); 7] = [
+    ("", "bad line 1: order\n"),
+    ("# remark", "bad line 2: order\n"),
+    ("key 2:0", "bad line 1: order\n"),
+    ("old {}", "bad line 1: plan Shape\n"),
+    ("new {}", "bad line 1: order\n"),
+    (
+        "old {\"plan\":[{\"part\":1,\"from\":[0,0],\"to\":\"end\"}]}\n",
+        "bad line 2: order\n",
+    ),
+    (
+        "old {\"plan\":[{\"part\":1,\"from\":[0,0],\"to\":\"end\"}]}\nnew 1\n",
+        "bad line 2: plan Shape\n",
+    ),
+];
+
+/// What a text shows, and whether it was refused.
 fn show<R: Threads + Wait + Sync>(
     rt: &R,
     alloc: Global,
@@ -65,82 +79,26 @@ fn show<R: Threads + Wait + Sync>(
     Ok(ended == Ended::Refused)
 }
 
-/// Whether a text of two pieces shows that, and is refused or not.
-fn shows<R: Threads + Wait + Sync>(
+/// Each text after the first piece shows what it should, and is refused where that is a bad line.
+fn all_show<R: Threads + Wait + Sync + Abort>(
     rt: &R,
     alloc: Global,
-    pieces: [&str; 2],
-    wanted: &str,
-    refused: bool,
-) -> Result<bool, AllocError> {
+    first: &str,
+    rows: &[(&str, &str)],
+) -> Result<(), AllocError> {
     let mut out = String::new(alloc);
-    let told = show(rt, alloc, pieces, &mut out)?;
-    Ok(told == refused && out.as_str() == wanted)
+    for (text, wanted) in rows {
+        out.clear();
+        let refused = show(rt, alloc, [first, *text], &mut out)?;
+        let right = refused == wanted.starts_with("bad line") && out.as_str() == *wanted;
+        assert!(rt; right, "{text}");
+    }
+    Ok(())
 }
 
 #[test]
 fn races(rt: HostRuntime) -> Result<(), Fail> {
-    for (text, wanted) in &RACES {
-        assert!(rt;
-            shows(&rt, rt.alloc(), [PLANS, *text], wanted, false)?,
-            "{text}"
-        );
-    }
-    Ok(())
-}
-
-#[test]
-fn bad_lines(rt: HostRuntime) -> Result<(), Fail> {
-    for (text, wanted) in &BAD {
-        assert!(rt;
-            shows(&rt, rt.alloc(), [PLANS, *text], wanted, true)?,
-            "{text}"
-        );
-    }
-    Ok(())
-}
-
-/// Files that end too soon, or whose plans are none.
-#[test]
-fn plans_are_missing(rt: HostRuntime) -> Result<(), Fail> {
-    for (text, wanted) in &[
-        ("", "bad line 1: order\n"),
-        ("# remark", "bad line 2: order\n"),
-        ("key 2:0", "bad line 1: order\n"),
-        ("old {}", "bad line 1: plan Shape\n"),
-        ("new {}", "bad line 1: order\n"),
-        (
-            "old {\"plan\":[{\"part\":1,\"from\":[0,0],\"to\":\"end\"}]}\n",
-            "bad line 2: order\n",
-        ),
-        (
-            "old {\"plan\":[{\"part\":1,\"from\":[0,0],\"to\":\"end\"}]}\nnew 1\n",
-            "bad line 2: plan Shape\n",
-        ),
-    ] {
-        assert!(rt;
-            shows(&rt, rt.alloc(), [*text, ""], wanted, true)?,
-            "{text}"
-        );
-    }
-    Ok(())
-}
-
-/// Adds 64 lists: list I has the load of [2:I,2:I+1).
-fn add_loads(text: &mut String) -> Result<(), AllocError> {
-    for i in 0u32..64 {
-        let next = i + 1;
-        write!(text, "{i} loaded 1 0 3 2:{i} 2:{next}\n")?;
-    }
-    Ok(())
-}
-
-/// Many lists: list I has the load of [2:I,2:I+1).
-#[test]
-fn many_senders(rt: HostRuntime) -> Result<(), Fail> {
-    let mut text = String::from_str(rt.alloc(), "senders 64\n")?;
-    add_loads(&mut text)?;
-    let wanted = "cell 1 0 3 open [2:0,2:64)\n";
-    assert!(rt; shows(&rt, rt.alloc(), [PLANS, text.as_str()], wanted, false)?);
+    all_show(&rt, rt.alloc(), PLANS, &RACES)?;
+    all_show(&rt, rt.alloc(), "", &NO_PLANS)?;
     Ok(())
 }

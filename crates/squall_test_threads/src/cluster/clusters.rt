@@ -88,7 +88,8 @@ fn loaded_start(alloc: Global) -> Option<Start> {
     Some(Start { first, opening })
 }
 
-/// The board of a cluster whose senders end at once. None where an allocation fails.
+/// The board of a cluster of no readers whose senders end at once. None where it hands out a seat, or
+/// where an allocation fails.
 fn ended<K: Case, R: Wait>(
     rt: &R,
     alloc: Global,
@@ -99,7 +100,9 @@ fn ended<K: Case, R: Wait>(
     requires start { (arc_value start.now.first ≡ K.first) × (start.now.opening ≡ K.opening) }
 {
     let pair = opened::<K, &R>(rt, alloc, book, start, 0)?;
-    closed(alloc, pair.first, pair.second, pair.owner)
+    let none = matches!(pair.cluster.seat(), Err(SeatFault::NoPlace));
+    let board = closed(alloc, pair.first, pair.second, pair.owner)?;
+    none.then_some(board)
 }
 
 #[test]
@@ -174,28 +177,6 @@ fn two_at_once(rt: HostRuntime) -> Result<(), Fail> {
     let before = (PartId::new(1), PartId::new(3));
     let after = (None, PartId::new(3));
     assert!(rt; asked == Some((before, after)));
-    Ok(())
-}
-
-/// Whether a cluster of no readers hands out no seat. None where an allocation fails.
-fn hands_out_none<K: Case, R: Wait>(
-    rt: &R,
-    alloc: Global,
-    book: (Track, Line),
-    start: &Start,
-) -> Option<bool>
-    requires book { (book.0 ≡ K.book) × (book.1.book ≡ K.book) × (book.1.log ≡ []) }
-    requires start { (arc_value start.now.first ≡ K.first) × (start.now.opening ≡ K.opening) }
-{
-    let pair = opened::<K, &R>(rt, alloc, book, start, 0)?;
-    Some(matches!(pair.cluster.seat(), Err(SeatFault::NoPlace)))
-}
-
-#[test]
-fn no_readers(rt: HostRuntime) -> Result<(), Fail> {
-    let start = empty_start(rt.alloc()).ok_or("a start")?;
-    let none = hands_out_none::<Brand, _>(&rt, rt.alloc(), Line::open(), &start);
-    assert!(rt; none == Some(true));
     Ok(())
 }
 

@@ -1,13 +1,9 @@
 //! Races held up at their gates: the work is done at once, and between the calls of the gate.
 
-use super::races::{
-    Setting, push, push_list, setting_of, three_keys, two_list_board, two_list_setting,
-};
-use super::{load, moving_key};
-use squall_board::Board;
+use super::moving_key;
+use super::races::{LOAD, Setting, three_keys, told_setting, two_list_setting};
 use squall_cluster::{Actor, Gate, Raced};
 use squall_key::PartId;
-use squall_report::Report;
 use std::alloc::Global;
 use std::sync::Wait;
 use std::sync::atomic::{AtomicBool, Ordering};
@@ -88,53 +84,28 @@ impl Gate for Meeting {
     }
 }
 
-/// Whether a race ends well whose actors have to run at once.
+/// Whether a race of the two lists ends well whose actors have to run at once.
 fn meets<R: Threads + Wait + Sync>(
     rt: &R,
     alloc: Global,
     setting: &Setting,
-    wanted: &Board,
     gate: &Meeting,
 ) -> Option<bool> {
     let keys = three_keys()?;
     let raced = setting.race(rt, alloc, &keys, 1, 1, gate).ok()?;
-    Some(setting.ended_well(&raced, wanted, &keys, 1))
+    Some(setting.ended_well(&raced, &keys, 1))
 }
 
-/// Whether such a race ends well in the setting of the two lists.
-fn setting_meets<R: Threads + Wait + Sync>(
-    rt: &R,
-    alloc: Global,
-    setting: &Setting,
-    gate: &Meeting,
-) -> Option<bool> {
-    let wanted = two_list_board(alloc)?;
-    meets(rt, alloc, setting, &wanted, gate)
-}
-
-/// Whether such a race of the two lists ends well.
-fn two_lists_meet<R: Threads + Wait + Sync>(rt: &R, alloc: Global, gate: &Meeting) -> Option<bool> {
-    let setting = two_list_setting(alloc)?;
-    setting_meets(rt, alloc, &setting, gate)
-}
-
-/// Whether such a race ends well, and whether somebody waited for too long.
-fn met_and_late<R: Threads + Wait + Sync>(rt: &R, alloc: Global) -> (Option<bool>, bool) {
+#[test]
+fn all_run_at_once(rt: HostRuntime) -> Result<(), Fail> {
     let gate = Meeting {
         senders: [Flag::new(), Flag::new()],
         owner: Flag::new(),
         reader: Flag::new(),
         late: Flag::new(),
     };
-    let met = two_lists_meet(rt, alloc, &gate);
-    (met, gate.late.is_set())
-}
-
-#[test]
-fn all_run_at_once(rt: HostRuntime) -> Result<(), Fail> {
-    let (met, late) = met_and_late(&rt, rt.alloc());
-    assert!(rt; met == Some(true));
-    assert!(rt; !late);
+    let setting = two_list_setting(rt.alloc()).ok_or("a setting")?;
+    assert!(rt; meets(&rt, rt.alloc(), &setting, &gate) == Some(true) && !gate.late.is_set());
     Ok(())
 }
 
@@ -172,26 +143,6 @@ impl Gate for InOrder {
     }
 }
 
-/// The load alone. None where an allocation fails.
-fn load_alone(alloc: Global) -> Option<Vec<Report>> {
-    let mut list = Vec::new(alloc);
-    push(&mut list, load())?;
-    Some(list)
-}
-
-/// Adds the load in one list, and a second list that is empty.
-fn push_one_load(alloc: Global, lists: &mut Vec<Vec<Report>>) -> Option<()> {
-    push_list(lists, load_alone(alloc))?;
-    push_list(lists, Some(Vec::new(alloc)))
-}
-
-/// The load in one list, and a second list that is empty.
-fn one_load(alloc: Global) -> Option<Vec<Vec<Report>>> {
-    let mut lists = Vec::new(alloc);
-    push_one_load(alloc, &mut lists)?;
-    Some(lists)
-}
-
 /// The first two routes of the first reader.
 fn first_routes(raced: &Raced) -> Option<(PartId, PartId)> {
     let routes = raced.routes.first()?;
@@ -222,11 +173,6 @@ fn in_order(waiting: u64) -> InOrder {
     }
 }
 
-/// The setting of one load. None where an allocation fails.
-fn one_load_setting(alloc: Global) -> Option<Setting> {
-    setting_of(alloc, one_load(alloc)?)
-}
-
 /// Two routes, and whether somebody waited for too long.
 type Routed = (Option<(PartId, PartId)>, bool);
 
@@ -242,32 +188,16 @@ fn setting_routes<R: Threads + Wait + Sync>(
     (routes, gate.late.is_set())
 }
 
-/// The reader's routes in a race of one load, where that one of them waits. None where there is no
-/// setting for want of memory.
-fn routes_of_one_load<R: Threads + Wait + Sync>(
-    rt: &R,
-    alloc: Global,
-    waiting: u64,
-) -> Option<Routed> {
-    let setting = one_load_setting(alloc)?;
-    Some(setting_routes(rt, alloc, &setting, waiting))
-}
-
+/// A reader sees a turn that has ended, and before that what was published then. The load stands in one
+/// list; a second list is empty.
 #[test]
-fn a_reader_sees_a_turn_that_has_ended(rt: HostRuntime) -> Result<(), Fail> {
+fn readers_see_what_was_published(rt: HostRuntime) -> Result<(), Fail> {
+    let old = PartId::new(1).ok_or("a partition")?;
     let new = PartId::new(3).ok_or("a partition")?;
-    let (routes, late) = routes_of_one_load(&rt, rt.alloc(), 1).ok_or("a setting")?;
-    assert!(rt; routes == Some((new, new)));
-    assert!(rt; !late);
-    Ok(())
-}
-
-#[test]
-fn a_reader_sees_what_was_published_before(rt: HostRuntime) -> Result<(), Fail> {
-    let (old, new) = (PartId::new(1), PartId::new(3));
-    let wanted = (old.ok_or("a partition")?, new.ok_or("a partition")?);
-    let (routes, late) = routes_of_one_load(&rt, rt.alloc(), 2).ok_or("a setting")?;
-    assert!(rt; routes == Some(wanted));
-    assert!(rt; !late);
+    let setting = told_setting(rt.alloc(), &[&[LOAD], &[]], &[LOAD]).ok_or("a setting")?;
+    for (waiting, first) in [(1, new), (2, old)] {
+        let routed = setting_routes(&rt, rt.alloc(), &setting, waiting);
+        assert!(rt; routed == (Some((first, new)), false), "{waiting}");
+    }
     Ok(())
 }

@@ -2,7 +2,6 @@
 
 use super::races::{Open, Setting, push_list, setting_of};
 use squall_board::Board;
-use squall_cluster::Raced;
 use squall_key::{Bound, Key};
 use squall_report::Report;
 use squall_span::Span;
@@ -87,66 +86,35 @@ impl Draw {
     }
 }
 
-/// A setting, and the board of all reports of its lists.
-#[derive(Drop)]
-struct Drawn {
-    setting: Setting,
-    wanted: Board,
+/// Draws lists, of which the board takes all reports. None where an allocation fails.
+fn drawn_into(alloc: Global, draw: &mut Draw, mut wanted: Board) -> Option<Setting> {
+    let lists = draw.lists(alloc, &mut wanted)?;
+    setting_of(alloc, lists, wanted)
 }
 
-/// Draws a setting, of which the board takes all reports. None where an allocation fails.
-fn draw_lists(alloc: Global, draw: &mut Draw, wanted: &mut Board) -> Option<Setting> {
-    let lists = draw.lists(alloc, wanted)?;
-    setting_of(alloc, lists)
-}
-
-/// Draws a setting. None where an allocation fails.
-fn draw_setting(alloc: Global, draw: &mut Draw) -> Option<Drawn> {
-    let mut wanted = Board::new(alloc);
-    let setting = draw_lists(alloc, draw, &mut wanted)?;
-    Some(Drawn { setting, wanted })
-}
-
-impl Drawn {
-    /// Whether the race gave the board of one thread, and routes of so many readers.
-    fn is_result(&self, raced: &Raced, readers: usize) -> bool {
-        raced.board == self.wanted && raced.routes.len() == readers
-    }
-}
-
-/// Whether a race gives the board of one thread. None where an allocation or a thread is refused.
+/// Whether a race in the setting gives the board of one thread, and routes of so many readers. None where
+/// an allocation or a thread is refused.
 fn is_as_one_thread<R: Threads + Wait + Sync>(
     rt: &R,
     alloc: Global,
-    drawn: &Drawn,
+    setting: &Setting,
     readers: usize,
     capacity: usize,
 ) -> Option<bool> {
     let keys = [Key::new(2, 0)?, Key::new(6, 0)?];
-    let raced = drawn
-        .setting
+    let raced = setting
         .race(rt, alloc, &keys, readers, capacity, &Open)
         .ok()?;
-    Some(drawn.is_result(&raced, readers))
-}
-
-/// The same for a setting that is drawn.
-fn next_is_as_one_thread<R: Threads + Wait + Sync>(
-    rt: &R,
-    alloc: Global,
-    draw: &mut Draw,
-    readers: usize,
-    capacity: usize,
-) -> Option<bool> {
-    let drawn = draw_setting(alloc, draw)?;
-    is_as_one_thread(rt, alloc, &drawn, readers, capacity)
+    Some(setting.gave_wanted(&raced, readers))
 }
 
 #[test]
 fn races_are_as_one_thread(rt: HostRuntime) -> Result<(), Fail> {
     let mut draw = Draw { state: 20221126 };
     for round in 0..200usize {
-        let alike = next_is_as_one_thread(&rt, rt.alloc(), &mut draw, round % 3, round % 2 + 1);
+        let alloc = rt.alloc();
+        let setting = drawn_into(alloc, &mut draw, Board::new(alloc)).ok_or("a setting")?;
+        let alike = is_as_one_thread(&rt, alloc, &setting, round % 3, round % 2 + 1);
         assert!(rt; alike == Some(true), "{round}");
     }
     Ok(())
