@@ -8,6 +8,7 @@ use crate::tests::random::one_by_one;
 use crate::tests::{NEW, OLD, load, plan};
 use squall_board::Board;
 use squall_course::Course;
+use squall_delta::delta_of;
 use squall_key::{Key, PartId};
 use squall_plan::Plan;
 use squall_report::Report;
@@ -126,4 +127,13 @@ fn reports_route_keys(rt: HostRuntime) -> Result<(), Fail> {
 fn order_and_repetition_change_nothing(rt: HostRuntime) -> Result<(), Fail> {
     let reports = two_reports()?;
     only_reports_count(&rt, rt.alloc(), &reports)
+}
+
+/// The delta of a report is the board that took it alone.
+#[test]
+fn a_report_is_its_delta(rt: HostRuntime) -> Result<(), Fail> {
+    let report = load("2:0", "3:0").ok_or("load")?;
+    let delta = delta_of(rt.alloc(), &report)?;
+    assert!(rt; is_board_of(rt.alloc(), &delta, &[report])?);
+    Ok(())
 }
