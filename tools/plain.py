@@ -1,7 +1,7 @@
 """A plain, slow program of squall's definitions, which tools/model runs beside the built one.
 
-It shares nothing with the crates, and is written from docs/ alone: keys are places in a list, sets are Python's, and
-what a node knows is asked key by key. The keys 0:0, 0:1 .. are told apart; the last place stands for all keys above.
+It shares no code with the crates, and answers as docs/ says: keys are places in a list, sets are Python's, and what a
+node knows is asked key by key. The keys 0:0, 0:1 .. are told apart; the last place stands for all keys above.
 """
 import hashlib
 import struct
@@ -480,6 +480,8 @@ class World:
 
     def broken(self):
         """The promise that does not hold now, if there is one."""
+        if any(not {source, dest} <= self.held.keys() for _, _, source, dest, _, _ in self.chunks):
+            return "both ends of each chunk are there"
         flying = [(chunk, self.in_flight(chunk)) for chunk in self.chunks]
         carried = sorted(place for keys in [*self.held.values(), *(keys for _, keys in flying)] for place in keys)
         if carried != list(range(PLACES)):
