@@ -156,9 +156,14 @@ fn merged_from_last(alloc: Global, reports: &[Report; 2]) -> Result<Board, Alloc
     Ok(merged)
 }
 
+/// Whether each of the boards covers the other.
+fn cover_each_other(a: &Board, b: &Board) -> bool {
+    a.covers(b) && b.covers(a)
+}
+
 /// Whether the boards are equal, and each covers the other.
 fn are_alike(a: &Board, b: &Board) -> bool {
-    *a == *b && a.covers(b) && b.covers(a)
+    *a == *b && cover_each_other(a, b)
 }
 
 /// Whether the board is that of the reports, merged from the last to the first.

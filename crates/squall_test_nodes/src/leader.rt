@@ -8,6 +8,7 @@ use squall_board::Board;
 use squall_course::Course;
 use squall_join::Flat;
 use squall_leader::{Leader, LeaderFault};
+use squall_plan::{Plan, PlanRange};
 use squall_report::{Report, ReportKind};
 use std::alloc::{AllocError, Global};
 use std::process::Abort;
@@ -77,12 +78,22 @@ fn hears_done(alloc: Global, leader: &mut Leader, part: u32) -> Option<bool> {
     Some(hears(alloc, leader, &report))
 }
 
-/// Writes how many ranges the plans have between which the number leads.
+/// Writes the ranges of the plan.
+fn write_plan(plan: &Plan, out: &mut String) -> Result<(), AllocError> {
+    for range in plan.ranges() {
+        let PlanRange { span, part } = *range;
+        write!(out, "{part} {span} ")?;
+    }
+    Ok(())
+}
+
+/// Writes the plans between which the number leads.
 fn write_issued(board: &Board, number: u32, out: &mut String) -> Result<(), AllocError> {
     match board.issuing(number) {
         Flat::One(issue) => {
-            let (old, new) = (issue.old().ranges().len(), issue.new_plan().ranges().len());
-            write!(out, "{old} to {new}")
+            write_plan(issue.old(), out)?;
+            out.push_str("to ")?;
+            write_plan(issue.new_plan(), out)
         }
         Flat::Unknown => write!(out, "unknown"),
         Flat::Clash => write!(out, "clash"),
@@ -178,7 +189,11 @@ const STEPS: [(u32, &[Step], &str); 5] = [
             Step::Issued(1),
             Step::Issued(2),
         ],
-        "course 1; opened 1 0; true; true; 1 true; NoMore; unknown; course 2; 1 false; opened 2 0; 4 to 5; 5 to 4; ",
+        "course 1; opened 1 0; true; true; 1 true; NoMore; unknown; course 2; 1 false; opened 2 0; \
+         1 [0:0,3:0) 2 [3:0,5:0) 3 [5:0,9:0) 4 [9:0,end) to \
+         1 [0:0,2:0) 3 [2:0,3:0) 2 [3:0,5:0) 3 [5:0,6:0) 4 [6:0,end) ; \
+         1 [0:0,2:0) 3 [2:0,3:0) 2 [3:0,5:0) 3 [5:0,6:0) 4 [6:0,end) to \
+         1 [0:0,3:0) 2 [3:0,5:0) 3 [5:0,9:0) 4 [9:0,end) ; ",
     ),
     // Nothing moves.
     (

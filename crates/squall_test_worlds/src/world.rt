@@ -101,48 +101,93 @@ fn answer(alloc: Global, world: &mut World, call: Call) -> Option<Answer> {
     }
 }
 
-/// An answer as its name and its numbers.
-type Said = (&'static str, u32, u32);
+/// The keys from a bound up to another, each bound as its two numbers.
+type Keys = (u32, u32, u32, u32);
 
-/// What the answer says: of a load the partition and the second number of the first key.
+const NO_KEYS: Keys = (0, 0, 0, 0);
+
+/// An answer as its name, the numbers that it gives, and its keys.
+type Said = (&'static str, (u64, u32, u32), Keys);
+
+/// What the answer says.
 fn said(answer: &Answer) -> Said {
     match answer {
-        Answer::Opened { sub } => ("opened", *sub, 0),
-        Answer::Begun { number, .. } => ("begun", *number, 0),
-        Answer::Gave { chunk, .. } => given(chunk),
+        Answer::Opened { sub } => numbers("opened", (0, *sub, 0)),
+        Answer::Begun { number, parts } => numbers("begun", (*parts as u64, *number, 0)),
+        Answer::Gave { index, chunk } => given(*index as u64, chunk),
         Answer::Loaded(report) | Answer::Finished(report) => reported(report),
-        Answer::Again => ("again", 0, 0),
-        Answer::Sent { .. } => ("sent", 0, 0),
-        Answer::Delivered => ("delivered", 0, 0),
-        Answer::Routed(part) => ("route", part.get(), 0),
+        Answer::Again => numbers("again", (0, 0, 0)),
+        Answer::Sent { index } => numbers("sent", (*index as u64, 0, 0)),
+        Answer::Delivered => numbers("delivered", (0, 0, 0)),
+        Answer::Routed(part) => numbers("route", (0, part.get(), 0)),
         Answer::Served(reply) => replied(*reply),
-        Answer::Refused(Refusal::Running) => ("running", 0, 0),
-        Answer::Refused(Refusal::NotDone { sub, part }) => ("not done", *sub, part.get()),
-        Answer::Refused(_) => ("refused", 0, 0),
+        Answer::Refused(refusal) => refused(refusal),
     }
 }
 
-/// Where the chunk goes, and the second number of its first key.
-fn given(chunk: &Chunk) -> Said {
-    ("gave", chunk.dest().get(), chunk.span().lo().second())
+/// An answer without keys.
+fn numbers(name: &'static str, numbers: (u64, u32, u32)) -> Said {
+    (name, numbers, NO_KEYS)
 }
 
-/// Whose report it is, and what it is about.
+/// The keys of the span.
+fn keys(span: Span) -> Keys {
+    let (lo, hi) = (span.lo(), span.hi());
+    (lo.root(), lo.second(), hi.root(), hi.second())
+}
+
+/// The index of the chunk, its sub-plan, and where it goes.
+fn given(index: u64, chunk: &Chunk) -> Said {
+    (
+        "gave",
+        (index, chunk.sub(), chunk.dest().get()),
+        keys(chunk.span()),
+    )
+}
+
+/// The number of the report, its sub-plan, and whose it is.
 fn reported(report: &Report) -> Said {
     match report.kind() {
-        ReportKind::Loaded { part, span, .. } => ("loaded", part, span.lo().second()),
-        ReportKind::Done { sub, part, .. } => ("done", part, sub),
-        ReportKind::Opened { .. } | ReportKind::Issued { .. } => ("another", 0, 0),
+        ReportKind::Loaded {
+            number,
+            sub,
+            part,
+            span,
+        } => { ("loaded", (u64::from(number), sub, part), keys(span)) }
+        ReportKind::Done { number, sub, part } => {
+            numbers("done", (u64::from(number), sub, part))
+        }
+        ReportKind::Opened { .. } | ReportKind::Issued { .. } => numbers("another", (0, 0, 0)),
     }
 }
 
 /// The reply with the partition that it names.
 fn replied(reply: Reply) -> Said {
     match reply {
-        Reply::Held => ("held", 0, 0),
-        Reply::Moved { dest, number } => ("moved", dest.get(), number),
-        Reply::Pending { source } => ("pending", source.get(), 0),
-        Reply::Behind => ("behind", 0, 0),
-        Reply::Elsewhere { dest } => ("elsewhere", dest.get(), 0),
+        Reply::Held => numbers("held", (0, 0, 0)),
+        Reply::Moved { dest, number } => numbers("moved", (0, dest.get(), number)),
+        Reply::Pending { source } => numbers("pending", (0, source.get(), 0)),
+        Reply::Behind => numbers("behind", (0, 0, 0)),
+        Reply::Elsewhere { dest } => numbers("elsewhere", (0, dest.get(), 0)),
+    }
+}
+
+/// Why nothing changed.
+fn refused(refusal: &Refusal) -> Said {
+    match refusal {
+        Refusal::NoSuch => numbers("no such", (0, 0, 0)),
+        Refusal::NotDone { sub, part } => numbers("not done", (0, *sub, part.get())),
+        Refusal::NoMore => numbers("no more", (0, 0, 0)),
+        Refusal::Running => numbers("running", (0, 0, 0)),
+        Refusal::NoNumber => numbers("no number", (0, 0, 0)),
+        Refusal::NotOpen => numbers("not open", (0, 0, 0)),
+        Refusal::NothingLeft => numbers("nothing left", (0, 0, 0)),
+        Refusal::ZeroMax => numbers("zero max", (0, 0, 0)),
+        Refusal::NotOutgoing => numbers("not outgoing", (0, 0, 0)),
+        Refusal::Given => numbers("given", (0, 0, 0)),
+        Refusal::NotHeld => numbers("not held", (0, 0, 0)),
+        Refusal::Stranger => numbers("stranger", (0, 0, 0)),
+        Refusal::NotAll(span) => ("not all", (0, 0, 0), keys(*span)),
+        Refusal::NothingDue => numbers("nothing due", (0, 0, 0)),
     }
 }

@@ -1,7 +1,7 @@
 //! Events of lines, limits, and lines that are none.
 
 use squall_event_text::{Unfit, event_line, event_of};
-use squall_plan::PlanFault;
+use squall_plan::{Plan, PlanFault, PlanRange};
 use squall_protocol::{Event, Node};
 use std::alloc::{AllocError, Global};
 use std::test::Fail;
@@ -18,11 +18,25 @@ fn node_numbers(node: Node) -> (u64, u64) {
     }
 }
 
+/// How many ranges the plan has, and of the first the partition and both bounds.
+fn numbers_of_plan(plan: &Plan) -> [u64; 4] {
+    let count = plan.ranges().len() as u64;
+    match plan.ranges().first() {
+        Some(PlanRange { span, part }) => [
+            count,
+            u64::from(part.get()),
+            span.lo().rank(),
+            span.hi().rank(),
+        ],
+        None => [count, 0, 0, 0],
+    }
+}
+
 /// The event in numbers.
 fn numbers_of(event: &Event) -> Told {
     match event {
         Event::OpenNext => ("open", [0; 4]),
-        Event::Begin(_) => ("begin", [0; 4]),
+        Event::Begin(plan) => ("begin", numbers_of_plan(plan)),
         Event::Give(part, most) => ("give", [u64::from(part.get()), *most, 0, 0]),
         Event::GiveAt(part, key) => {
             let (root, second) = (u64::from(key.root()), u64::from(key.second()));
@@ -72,7 +86,7 @@ static EVENTS: [(&str, &str, [u64; 4]); 20] = [
     (
         "begin",
         " {\"plan\":[{\"part\":5,\"from\":[0,0],\"to\":\"end\"}]}",
-        [0; 4],
+        [1, 5, 0, 18446744069414584320],
     ),
     (
         "give",

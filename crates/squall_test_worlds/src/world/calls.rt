@@ -1,6 +1,6 @@
 //! Each call once, and what it answers.
 
-use crate::world::{Call, NEW, OLD, Range, Said, To, answer, plan, said, world_to};
+use crate::world::{Call, NEW, NO_KEYS, OLD, Range, Said, To, answer, plan, said, world_to};
 use squall_world::{World, WorldFault};
 use std::alloc::Global;
 use std::process::Abort;
@@ -10,39 +10,64 @@ use std::test::Fail;
 type Lines = &'static [(Call, Said)];
 
 /// A key of partition 1 moves to partition 3, and the router learns of it.
-static MOVES: [(Call, Said); 20] = [
-    (Call::Open, ("opened", 0, 0)),
-    (Call::Send(To::Leader), ("sent", 0, 0)),
-    (Call::Deliver(0, To::Part(1)), ("delivered", 0, 0)),
-    (Call::Deliver(0, To::Part(3)), ("delivered", 0, 0)),
-    (Call::Give(1, 1), ("gave", 3, 0)),
-    (Call::GiveAt(1, (2, 7)), ("gave", 3, 7)),
-    (Call::Serve(1, (2, 0), 0), ("moved", 3, 1)),
-    (Call::Serve(3, (2, 0), 0), ("pending", 1, 0)),
-    (Call::Load(0), ("loaded", 3, 0)),
-    (Call::Load(1), ("loaded", 3, 7)),
-    (Call::Load(0), ("again", 0, 0)),
-    (Call::Serve(3, (2, 0), 0), ("held", 0, 0)),
-    (Call::Route(0, (2, 0)), ("route", 1, 0)),
-    (Call::Send(To::Part(3)), ("sent", 0, 0)),
-    (Call::Deliver(1, To::Router(0)), ("delivered", 0, 0)),
-    (Call::Route(0, (2, 0)), ("route", 3, 0)),
-    (Call::Open, ("not done", 0, 3)),
-    (Call::Begin(&OLD), ("running", 0, 0)),
-    (Call::Give(1, 4294967295), ("gave", 3, 1)),
-    (Call::Give(1, 0), ("refused", 0, 0)),
+static MOVES: [(Call, Said); 24] = [
+    (Call::Open, ("opened", (0, 0, 0), NO_KEYS)),
+    (Call::Send(To::Leader), ("sent", (0, 0, 0), NO_KEYS)),
+    (
+        Call::Deliver(0, To::Part(1)),
+        ("delivered", (0, 0, 0), NO_KEYS),
+    ),
+    (
+        Call::Deliver(0, To::Part(3)),
+        ("delivered", (0, 0, 0), NO_KEYS),
+    ),
+    (Call::Give(1, 1), ("gave", (0, 0, 3), (2, 0, 2, 1))),
+    (Call::GiveAt(1, (2, 7)), ("gave", (1, 0, 3), (2, 7, 2, 8))),
+    (Call::GiveAt(1, (2, 7)), ("given", (0, 0, 0), NO_KEYS)),
+    (
+        Call::GiveAt(1, (1, 7)),
+        ("not outgoing", (0, 0, 0), NO_KEYS),
+    ),
+    (Call::Serve(1, (2, 0), 0), ("moved", (0, 3, 1), NO_KEYS)),
+    (Call::Serve(3, (2, 0), 0), ("pending", (0, 1, 0), NO_KEYS)),
+    (Call::Load(0), ("loaded", (1, 0, 3), (2, 0, 2, 1))),
+    (Call::Load(1), ("loaded", (1, 0, 3), (2, 7, 2, 8))),
+    (Call::Load(0), ("again", (0, 0, 0), NO_KEYS)),
+    (Call::Load(2), ("no such", (0, 0, 0), NO_KEYS)),
+    (Call::Serve(3, (2, 0), 0), ("held", (0, 0, 0), NO_KEYS)),
+    (Call::Route(0, (2, 0)), ("route", (0, 1, 0), NO_KEYS)),
+    (Call::Send(To::Part(3)), ("sent", (1, 0, 0), NO_KEYS)),
+    (
+        Call::Deliver(1, To::Router(0)),
+        ("delivered", (0, 0, 0), NO_KEYS),
+    ),
+    (Call::Route(0, (2, 0)), ("route", (0, 3, 0), NO_KEYS)),
+    (Call::Open, ("not done", (0, 0, 3), NO_KEYS)),
+    (Call::Begin(&OLD), ("running", (0, 0, 0), NO_KEYS)),
+    (Call::Give(1, 4294967295), ("gave", (2, 0, 3), (2, 1, 2, 7))),
+    (Call::Give(1, 0), ("zero max", (0, 0, 0), NO_KEYS)),
+    (Call::Finish(3, 0), ("not all", (0, 0, 0), (2, 1, 2, 7))),
 ];
 
 /// All keys of a chunk are loaded, after a course that moves none.
 static ENDS: [(Call, Said); 8] = [
-    (Call::Begin(&NEW), ("begun", 2, 0)),
-    (Call::Open, ("opened", 0, 0)),
-    (Call::Send(To::Leader), ("sent", 0, 0)),
-    (Call::Deliver(0, To::Part(1)), ("delivered", 0, 0)),
-    (Call::Deliver(0, To::Part(3)), ("delivered", 0, 0)),
-    (Call::Give(1, 18446744073709551615), ("gave", 3, 0)),
-    (Call::Load(0), ("loaded", 3, 0)),
-    (Call::Finish(3, 0), ("done", 3, 0)),
+    (Call::Begin(&NEW), ("begun", (4, 2, 0), NO_KEYS)),
+    (Call::Open, ("opened", (0, 0, 0), NO_KEYS)),
+    (Call::Send(To::Leader), ("sent", (0, 0, 0), NO_KEYS)),
+    (
+        Call::Deliver(0, To::Part(1)),
+        ("delivered", (0, 0, 0), NO_KEYS),
+    ),
+    (
+        Call::Deliver(0, To::Part(3)),
+        ("delivered", (0, 0, 0), NO_KEYS),
+    ),
+    (
+        Call::Give(1, 18446744073709551615),
+        ("gave", (0, 0, 3), (2, 0, 3, 0)),
+    ),
+    (Call::Load(0), ("loaded", (2, 0, 3), (2, 0, 3, 0))),
+    (Call::Finish(3, 0), ("done", (2, 0, 3), NO_KEYS)),
 ];
 
 /// The world answers to each of the calls as it should. None where an allocation fails.
