@@ -3,7 +3,7 @@
 mod clients;
 mod tolerant;
 
-use crate::part::{NEW, OLD, plan};
+use crate::example::{NEW, OLD, plan};
 use squall_board::Board;
 use squall_course::Course;
 use squall_join::Flat;

@@ -1,7 +1,13 @@
-//! Tests of partitions and the leader, over public names alone. There is nothing here to call.
+//! Tests of routers, partitions, leaders and worlds, over public names alone. There is nothing here to call.
 #![tactic(auto)]
 
+#[cfg(test)]
+mod example;
 #[cfg(test)]
 mod leader;
 #[cfg(test)]
 mod part;
+#[cfg(test)]
+mod router;
+#[cfg(test)]
+mod world;

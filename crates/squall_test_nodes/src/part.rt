@@ -3,46 +3,16 @@
 
 mod tolerant;
 
+use crate::example::{NEW, OLD, course, issue};
 use squall_board::Board;
-use squall_course::Course;
 use squall_key::{Bound, Key, PartId};
 use squall_part::{Chunk, FinishFault, GiveFault, Load, LoadFault, Part};
-use squall_plan::Plan;
-use squall_report::{Issue, Report};
+use squall_report::Report;
 use squall_router::Reply;
 use squall_span::{Span, SpanSet};
 use std::alloc::{AllocError, Global};
 use std::process::Abort;
-use std::sync::Arc;
 use std::test::Fail;
-
-/// Partition 1 below 3:0, then 2 below 5:0, then 3 below 9:0, then 4.
-pub(crate) const OLD: &str =
-    "{\"plan\":[{\"part\":1,\"from\":[0,0],\"to\":[3,0]},{\"part\":2,\"from\":[3,0],\"to\":[5,0]},{\"part\":3,\"from\":[5,0],\"to\":[9,0]},{\"part\":4,\"from\":[9,0],\"to\":\"end\"}]}";
-
-/// Partition 1 below 2:0, then 3 below 3:0, 2 below 5:0, 3 below 6:0, and then 4.
-pub(crate) const NEW: &str =
-    "{\"plan\":[{\"part\":1,\"from\":[0,0],\"to\":[2,0]},{\"part\":2,\"from\":[3,0],\"to\":[5,0]},{\"part\":3,\"from\":[2,0],\"to\":[3,0]},{\"part\":3,\"from\":[5,0],\"to\":[6,0]},{\"part\":4,\"from\":[6,0],\"to\":\"end\"}]}";
-
-/// The plan of a text. Like what follows, None where an allocation fails.
-pub(crate) fn plan(alloc: Global, text: &str) -> Option<Plan> {
-    Plan::read(alloc, text.as_bytes()).ok()
-}
-
-/// Course 1 from the plan to the new one.
-///
-/// What a proof of a test costs grows with the values that the test owns, times the ways out of it: so a function here
-/// makes one value, and lends it to another that makes the next.
-fn course_after(alloc: Global, old: &Plan) -> Option<Course> {
-    let new = plan(alloc, NEW)?;
-    Course::new(alloc, 1, old, &new).ok()
-}
-
-/// Course 1 of the example plans.
-fn course(alloc: Global) -> Option<Arc<Course>> {
-    let old = plan(alloc, OLD)?;
-    Arc::new(alloc, course_after(alloc, &old)?).ok()
-}
 
 /// A partition that has heard nothing.
 fn fresh_part(alloc: Global, number: u32) -> Option<Part> {
@@ -63,21 +33,9 @@ fn hears_opening(alloc: Global, part: &mut Part, number: u32) -> Option<bool> {
     Some(hears(alloc, part, &opening))
 }
 
-/// The report that reconfiguration 2 leads from the plan to the old one.
-fn report_back(alloc: Global, from: &Plan) -> Option<Report> {
-    let to = plan(alloc, OLD)?;
-    Report::issued(2, Issue::new(alloc, from, &to).ok()?)
-}
-
-/// The report that the way back is reconfiguration 2.
-fn way_back(alloc: Global) -> Option<Report> {
-    let from = plan(alloc, NEW)?;
-    report_back(alloc, &from)
-}
-
 /// Whether the partition has heard of the way back. None where an allocation failed before.
 fn hears_of_way_back(alloc: Global, part: &mut Part) -> Option<bool> {
-    let report = way_back(alloc)?;
+    let report = issue(alloc, 2, NEW, OLD)?;
     Some(hears(alloc, part, &report))
 }
 

@@ -1,7 +1,7 @@
 //! Where an allocation fails a leader is as it was.
 
+use crate::example::{NEW, plan};
 use crate::leader::{hears_done, leader};
-use crate::part::{NEW, plan};
 use squall_join::Flat;
 use squall_leader::{Leader, LeaderFault};
 use std::alloc::Global;

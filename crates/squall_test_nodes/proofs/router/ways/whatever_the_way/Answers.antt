@@ -4,8 +4,8 @@ use Rattle.squall_report.specs.Told.{SameTold, told_by}
 use Rattle.squall_board.specs.Boards.{BoardValue}
 use Rattle.squall_router.specs.Ways.{Reports, LeadTo, ByTake, ByMerge, ByFrames, packed}
 use Rattle.squall_router.specs.WayLaws.{has_come_by}
-use Rattle.squall_test_routers.proofs.Swapped.{swapped}
-use Rattle.squall_test_routers.proofs.router.ways.whatever_the_way.Goals as goal
+use Rattle.squall_test_nodes.proofs.Swapped.{swapped}
+use Rattle.squall_test_nodes.proofs.router.ways.whatever_the_way.Goals as goal
 
 pub returns-clause-merged : goal.returns-clause-merged
 returns-clause-merged c =

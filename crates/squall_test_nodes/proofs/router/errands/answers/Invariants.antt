@@ -1,6 +1,6 @@
 use Rattle.std.proofs.Common.{◌≡◌, ◌++◌, drop}
 use Rattle.squall_router.specs.Errands.{answers_of}
-use Rattle.squall_test_routers.proofs.router.errands.answers.Given as goal
+use Rattle.squall_test_nodes.proofs.router.errands.answers.Given as goal
 
 -- the answers so far and those to come are all
 abbrev pub invariant-loop-reply : goal.invariant-loop-reply

@@ -1,6 +1,7 @@
 //! What routers do with deltas.
 
-use super::{NEW, OLD, Said, heard, plan};
+use super::{Said, heard};
+use crate::example::{NEW, OLD, plan};
 use squall_board::Board;
 use squall_key::{Bound, Key};
 use squall_router::{Errand, Router};

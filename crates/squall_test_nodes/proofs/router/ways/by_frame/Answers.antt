@@ -4,8 +4,8 @@ use Rattle.squall_board.specs.Boards.{BoardValue}
 use Rattle.squall_wire.specs.Hearing.{FeedValue, HearsOn}
 use Rattle.squall_router.specs.Routers.{RouterValue}
 use Rattle.squall_router.specs.Ways.{TakesIn}
-use Rattle.squall_test_routers.proofs.Pieces.{takes_on, two_pieces, cut_in_two}
-use Rattle.squall_test_routers.proofs.router.ways.by_frame.Goals as goal
+use Rattle.squall_test_nodes.proofs.Pieces.{takes_on, two_pieces, cut_in_two}
+use Rattle.squall_test_nodes.proofs.router.ways.by_frame.Goals as goal
 
 pub returns-clause-ways : goal.returns-clause-ways
 returns-clause-ways c rs taken =
