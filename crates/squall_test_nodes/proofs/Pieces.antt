@@ -1,5 +1,5 @@
 -- Pieces of a stream, heard one after the other.
-use Rattle.std.specs.Prelude.{◌≡◌, ℕ, true, false, List, [], ◌∷◌, ◌++◌, Option, None, Some, refl}
+use Rattle.std.specs.Prelude.{◌≡◌, ℕ, List, [], ◌∷◌, ◌++◌, Option, None, Some, refl}
 use Rattle.std.proofs.Common.{sym, ap, ◌∙◌, subst, inl, inr}
 use Rattle.std.proofs.lemmas.Bool.{true≢false}
 use Rattle.std.proofs.Common.{take, drop, length, ◌-◌}
@@ -8,7 +8,7 @@ use Rattle.squall_board.specs.Boards.{BoardValue}
 use Rattle.squall_wire.specs.declared.fault.WireFault.{WireFault}
 use Rattle.squall_wire.specs.declared.message.Message.{Message}
 use Rattle.squall_wire.specs.declared.message.Message.TheVariants.{Delta, Digest}
-use Rattle.squall_wire.specs.Hearing.{FeedValue, new_feed, HearsOn, HearsAll, EndsAt, GoesOn}
+use Rattle.squall_wire.specs.Hearing.{FeedValue, HearsOn, HearsAll}
 use Rattle.squall_router.specs.Ways.{TakesIn}
 
 -- messages taken in, and then more of them

@@ -1,6 +1,5 @@
-use Rattle.std.specs.Prelude.{◌≡◌, ℕ, List, refl, [], ◌∷◌, ◌++◌}
-use Rattle.std.proofs.Common.{subst, ap, ◌∙◌, take, drop, length, ◌-◌}
-use Rattle.squall_board.specs.Boards.{BoardValue}
+use Rattle.std.specs.Prelude.{ℕ, List, refl, [], ◌∷◌, ◌++◌}
+use Rattle.std.proofs.Common.{subst, ◌∙◌, take, drop, length, ◌-◌}
 use Rattle.squall_wire.specs.Hearing.{FeedValue, HearsOn}
 use Rattle.squall_router.specs.Routers.{RouterValue}
 use Rattle.squall_router.specs.Ways.{TakesIn}
