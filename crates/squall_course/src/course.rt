@@ -1,6 +1,6 @@
 //! Courses.
 
-ghost use Rattle.std.specs.Prelude.{◌≡◌, ◌≢◌, ◌≤◌, ◌==◌, ◌&&◌, ℕ, Bool, IfOk, IfErr};
+ghost use Rattle.std.specs.Prelude.{◌≡◌, ◌≢◌, ◌≤◌, ◌==◌, ◌&&◌, ℕ, Bool, IfOk, IfErr, Err};
 ghost use Rattle.std.specs.List.{list_any};
 ghost use Rattle.std.specs.List.Sorted.{IsNonDecreasingBy};
 ghost use Rattle.squall_course.specs.declared.fault.CourseFault.TheVariants.{ZeroNumber, NoMemory};
@@ -63,12 +63,13 @@ impl Model for Course {
 }
 
 impl Course {
-    /// The course of the number from the old plan to the new one. ZeroNumber where the number is
-    /// 0; NoMemory where an allocation failed.
+    /// The course of the number from the old plan to the new one. `ZeroNumber` if the number is 0,
+    /// which is refused before anything is allocated; `NoMemory` if an allocation fails.
     pub fn new(alloc: Global, number: u32, old: &Plan, new: &Plan) -> Result<Course, CourseFault>
         ensures course { IfOk result (λ c. c ≡ record { number = number; old = old.now; new = new.now }) }
         ensures numbered { IfOk result (λ c. 1 ≤ c.number) }
         ensures fault { IfErr result (λ e. e ≢ NoMemory → (e ≡ ZeroNumber) × (number ≡ 0)) }
+        ensures memory { result ≡ Err NoMemory → 1 ≤ number }
     {
         if number == 0 {
             return Err(CourseFault::ZeroNumber);

@@ -1,6 +1,6 @@
 //! A plan.
 
-ghost use Rattle.std.specs.Prelude.{◌≡◌, ◌<◌, ◌≤◌, IfOk, length};
+ghost use Rattle.std.specs.Prelude.{◌≡◌, ◌<◌, ◌≤◌, IfOk, Err, length};
 ghost use Rattle.squall_key.specs.Keys.{top};
 ghost use Rattle.squall_plan.specs.Ranges.{IsTiling, IsPlace, IsCanonical, IsRange, AreRanges, owner_of, names};
 ghost use Rattle.squall_plan.specs.Equal.{are_same_ranges};
@@ -97,10 +97,12 @@ impl Plan {
     ///
     /// The first of these faults that is present: `TooMany` above 4096 ranges, `Overlap` with the
     /// least key that is in two of them, `Gap` with the least key that is in none; or `NoMemory`
-    /// where an allocation failed. There is no other fault.
+    /// if an allocation fails. There is no other fault. More than 4096 ranges are refused before
+    /// anything is allocated.
     pub fn from_ranges(alloc: Global, ranges: &[PlanRange]) -> Result<Plan, PlanFault>
         ensures answer { Gives result (plan_of_ranges ranges.now) }
         ensures meaning { IsArranged ranges.now result }
+        ensures memory { result ≡ Err PlanFault.NoMemory → length ranges.now ≤ range_limit }
     {
         if ranges.len() > RANGE_LIMIT {
             return Err(PlanFault::TooMany);

@@ -89,9 +89,9 @@ impl Digest {
     /// The digest of three lists: of how many sub-plans are opened and of the hashes of issues, by
     /// rising number, and of the hashes of rows, by rising number and sub-plan.
     ///
-    /// `BadDigest` where a list is not in order or has more items than four bytes can count, where
-    /// a number is 0, a count 0 or above 10,000, or a sub-plan above 9999; `NoMemory` where an
-    /// allocation failed.
+    /// `BadDigest` if a list is not in order or has more items than four bytes can count, or if a
+    /// number is 0, a count 0 or above 10,000, or a sub-plan above 9999. All of this is tried before
+    /// anything is allocated. `NoMemory` if an allocation fails.
     pub fn of(
         alloc: Global,
         openings: &[Opening],
@@ -101,6 +101,7 @@ impl Digest {
         ensures value { IfOk result (λ d. d ≡ digest_with openings.now issue_rows.now rows.now) }
         ensures ok { IfOk result (λ _. IsDigest (digest_with openings.now issue_rows.now rows.now)) }
         ensures bad { result ≡ Err BadDigest → IsDigest (digest_with openings.now issue_rows.now rows.now) → ⊥ }
+        ensures memory { result ≡ Err NoMemory → IsDigest (digest_with openings.now issue_rows.now rows.now) }
     {
         if !are_openings(openings) || !are_issue_rows(issue_rows) || !are_rows(rows) {
             return Err(DigestFault::BadDigest);
