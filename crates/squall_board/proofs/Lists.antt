@@ -1,12 +1,18 @@
 -- The lists of a board, one entry after another.
-use Rattle.std.specs.Prelude.{◌≡◌, ◌≢◌, ℕ, ◌<◌, suc, zero, length, List, [], ◌∷◌, Result, IfOk}
-use Rattle.std.proofs.Common.{sym, subst, ap, ◌∙◌, arith, get_or}
+use Rattle.std.specs.Prelude.{◌≡◌, ◌≢◌, ℕ, ◌<◌, suc, zero, length, List, [], ◌∷◌, Bool, true, false, not, Result, IfOk, IsTrue, ◌↔◌, Some, cond, refl}
+use Rattle.std.proofs.Common.{sym, subst, ap, ◌∙◌, arith, get_or, true≢false}
+use Rattle.std.proofs.lemmas.Cmp.{tied_itself, nat_cmp_total}
 use Rattle.std.proofs.lemmas.Result.{IfOk-weaker}
 use Rattle.std.specs.List.{AllByRecursion}
+use Rattle.std.specs.Ordering.{nat_cmp, is_eq}
+use Rattle.std.specs.FinMap.Entries.{find}
 use Rattle.squall_join.specs.declared.flat.Flat.{Flat}
+use Rattle.squall_join.specs.declared.flat.Flat.TheVariants.{Unknown}
+use Rattle.squall_join.specs.Entries.{IsMap}
+use Rattle.squall_join.specs.Looked.{looked}
 use Rattle.squall_report.specs.Issues.{PlanPair}
 use Rattle.squall_board.specs.declared.opening.Opening.{Opening}
-use Rattle.squall_board.specs.Boards.{Parts, Subs, Cells, Openings, BoardValue, openings_in, issues_in, cells_in, IsBoard}
+use Rattle.squall_board.specs.Boards.{Parts, Subs, Cells, Openings, Issues, BoardValue, openings_in, issues_in, cells_in, issue_is, issued, IsBoard}
 use Rattle.squall_board.specs.Listed.{CellEntry, AreCellsOfParts, AreCellsOfSubs, AreCellsOfNumbers, AreSomeRows, cells_of, AreCells, openings_of_counts, AreOpenings, AreIssues}
 use Rattle.squall_board.specs.ListedLaws.{board_cells, cells_listed, openings_listed, issues_listed}
 
@@ -44,3 +50,13 @@ openings_are r list counts b x is view same ok = IfOk-weaker r (λ os. list os �
 pub issues_are : {V E : Type 0} (r : Result V E) (list : V → List (ℕ × Flat PlanPair)) (es : List (ℕ × Flat PlanPair)) (b x : BoardValue) → IsBoard b → x ≡ b → es ≡ issues_in x → IfOk r (λ os. list os ≡ es) → IfOk r (λ os. AreIssues b (list os))
 issues_are r list es b x is view same ok = IfOk-weaker r (λ os. list os ≡ es) (λ os. AreIssues b (list os)) (λ os e.
     subst (AreIssues b) (sym (e ∙ (same ∙ ap issues_in view))) (issues_listed b is)) ok
+
+-- a map with an entry issues something under the number of its first
+entry_issued : (es : Issues) → IsMap nat_cmp issue_is Unknown es → (es ≡ [] → ⊥) → (n : ℕ) × (looked Unknown (find nat_cmp n es) ≢ Unknown)
+entry_issued [] m some = absurd (some refl)
+entry_issued (e ∷ es) m some = (e.0, λ same. m.kept.0.1 (sym (ap (λ b. looked Unknown (cond b (Some e.1) (find nat_cmp e.0 es))) (ap is_eq (tied_itself nat_cmp_total e.0))) ∙ same))
+
+-- a board whose issues are not the empty map issues something
+pub has_some : (empty : Bool) (x b : BoardValue) → x ≡ b → IsBoard b → (IsTrue empty ↔ (issues_in x ≡ [])) → IsTrue (not empty) → (n : ℕ) × (issued b n ≢ Unknown)
+has_some true x b view is empty t = absurd (true≢false (sym t))
+has_some false x b view is empty t = entry_issued (issues_in b) is.nested.0.1 (λ none. true≢false (sym (empty.1 (ap issues_in view ∙ none))))

@@ -1,14 +1,16 @@
 //! What a board holds, as lists.
 
-ghost use Rattle.std.specs.Prelude.{◌≡◌, ◌++◌, map, IfOk, OnOk};
+ghost use Rattle.std.specs.Prelude.{◌≡◌, ◌≢◌, ◌++◌, ℕ, map, IfOk, OnOk, IsTrue, false};
 ghost use Rattle.std.specs.Arc.{arc_value};
 ghost use Rattle.squall_join.specs.Flats.{flat_map};
+ghost use Rattle.squall_join.specs.declared.flat.Flat.TheVariants.{Unknown};
+ghost use Rattle.squall_board.specs.Boards.{issued};
 ghost use Rattle.squall_board.specs.Listed.{AreCellsOfParts, AreCellsOfSubs, AreCellsOfNumbers, AreCells, AreOpenings, AreIssues, cells_of_parts, cells_of_subs, cells_of_numbers, cells_of, openings_of_counts, openings_of, issues_of};
 
 use crate::board::{Board, CellParts};
 use crate::cell::Cell;
 use crate::opening::Opening;
-use squall_join::{Flat, JoinMap, Max, Shared};
+use squall_join::{Flat, Join, JoinMap, Max, Shared};
 use squall_report::{CellId, Issue};
 use std::alloc::{AllocError, Global};
 use std::sync::Arc;
@@ -122,6 +124,15 @@ impl Board {
     {
         self.known();
         owned_all(self.allocator(), self.parts.first.second.entries())
+    }
+
+    /// Whether anything is issued, a clash included. It allocates nothing.
+    pub fn has_issues(&self) -> bool
+        ensures some { IsTrue result → (n : ℕ) × (issued self.now n ≢ Unknown) }
+        ensures none { (result ≡ false) → (n : ℕ) → issued self.now n ≡ Unknown }
+    {
+        self.known();
+        !self.parts.first.second.is_bottom()
     }
 
     /// What was reported of each partition in each sub-plan, by rising number, sub-plan and
