@@ -1,7 +1,9 @@
 -- What is known of bytes over several reads and writes.
 use Rattle.std.proofs.Common.{◌≡◌, ℕ, ◌+◌, ◌-◌, ◌<◌, ◌≤◌, List, ◌++◌, length, take, drop, Option, Result, Ok, Err, true, sym, subst, ◌∙◌, ap, arith}
 use Rattle.std.proofs.lemmas.List.{length-drop, drop-drop}
+use Rattle.std.proofs.lemmas.Bool.{false≢true}
 use Rattle.std.proofs.lemmas.Bool.Decides.{nat_tests}
+use Rattle.std.specs.Prelude.{is_ok}
 use Rattle.squall_device.specs.Counts.{counted, is_idle, one_more, times_more, IsCountedSince}
 use Rattle.std.proofs.Math.Seq.{take-add}
 use Rattle.std.proofs.KnownBytes.{Appends-trans}
@@ -39,3 +41,7 @@ used_more n k r m h is = omega arith
 -- the error of another result is the same
 pub error_is : {T U E : Type 0} (r : Result T E) (s : Result U E) (x y : E) → r ≡ Err x → r ≡ Err y → s ≡ Err x → s ≡ Err y
 error_is r s x y p q t = let e : x ≡ y = cc in t ∙ ap Err e
+
+-- what is fine is no error
+pub fine_is_no_error : {T E : Type 0} (x : T) (y : E) → Ok x ≡ Err y → ⊥
+fine_is_no_error x y e = false≢true (sym (ap is_ok e))

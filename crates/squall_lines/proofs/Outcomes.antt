@@ -1,6 +1,6 @@
 -- How a run ends.
-use Rattle.std.proofs.Common.{◌≡◌, ℕ, ◌<◌, List, [], ◌∷◌, ◌++◌, length, take, drop, Option, Result, Ok, Err, sym, ◌∙◌, ap, subst, refl, arith}
-use Rattle.std.proofs.lemmas.List.{append_assoc, append-nil, take-append-drop}
+use Rattle.std.proofs.Common.{◌≡◌, ℕ, ◌<◌, ◌≤◌, List, [], ◌∷◌, ◌++◌, length, take, drop, Option, Result, Ok, Err, false, sym, ◌∙◌, ap, subst, refl, arith}
+use Rattle.std.proofs.lemmas.List.{append_assoc, append-nil, take-append-drop, length-take}
 use Rattle.std.specs.List.{concat}
 use Rattle.std.specs.Io.KnownBytes.{Appends, Consumes, Keeps}
 use Rattle.squall_lines.specs.declared.Flow.{Flow}
@@ -10,7 +10,7 @@ use Rattle.squall_lines.specs.declared.Ended.TheVariants.{Fine, Refused}
 use Rattle.squall_lines.specs.declared.RunFault.{RunFault}
 use Rattle.squall_lines.specs.declared.RunFault.TheVariants.{Read, Write, NoMemory}
 use Rattle.squall_lines.specs.Lines.{lines_of, whole_lines, IsOneLine}
-use Rattle.squall_lines.specs.Script.{Script, TakesLine, silence, after, last_word, IsOutcome}
+use Rattle.squall_lines.specs.Script.{Script, TakesLine, silence, after, last_word, text_of, HasNoBadLine, IsOutcome, IsPrompt}
 use Rattle.squall_lines.specs.Running.{Running, Cuts, Finishes, StopsBy}
 use Rattle.squall_lines.proofs.LineLemmas.{lines_of-last, whole_lines-none}
 use Rattle.std.proofs.KnownBytes.{Appends-nil, Appends-trans, Consumes-nil, Consumes-trans, Consumes-kept}
@@ -66,6 +66,14 @@ pub record Reading (first now : List (List ℕ) → Script → Type 0) (reader r
 abbrev pub EndsAs : Result Ended RunFault → (List (List ℕ) → Script → Type 0) → (reader reader' writer writer' : Option (List ℕ)) → Type 0
 EndsAs result first reader reader' writer writer' = (read : List ℕ) × (written : List ℕ) × Consumes reader reader' read × Appends writer writer' written × IsOutcome result first read written
 
+-- what was done before the last read
+abbrev pub PromptAs : (List (List ℕ) → Script → Type 0) → (reader reader' writer writer' : Option (List ℕ)) → Type 0
+PromptAs first reader reader' writer writer' = (read : List ℕ) × (written : List ℕ) × Consumes reader reader' read × Appends writer writer' written × IsPrompt first read written
+
+-- the first bytes of a block
+pub take_small : (n : ℕ) (xs : List ℕ) → length xs ≡ 65536 → length (take n xs) ≤ 65536
+take_small n xs e = let l = length-take n xs in omega arith
+
 pub Reading-start : (first : List (List ℕ) → Script → Type 0) (reader writer : Option (List ℕ)) → Reading first first reader reader writer writer []
 Reading-start first reader writer = record {
   read = [];
@@ -77,13 +85,54 @@ Reading-start first reader writer = record {
 }
 
 module _ (first now next : List (List ℕ) → Script → Type 0) (reader reader' reader'' writer writer' writer'' : Option (List ℕ)) (carry : List ℕ) (r : Reading first now reader reader' writer writer' carry) where
-  -- the lines with their LF are answered
-  whole_answered : now [] silence → IsOutcome (Err Read) first r.read r.sent
-  whole_answered quiet =
+  -- the lines with their LF are answered, and none of them was bad
+  whole_played : now [] silence → (s : Script) × first (lines_of (whole_lines r.read)) s × (r.sent ≡ text_of s) × (s.refused ≡ false)
+  whole_played quiet =
       let u = r.running in
       let whole : u.whole ≡ whole_lines r.read = sym (append-nil u.whole) ∙ ap (λ w. u.whole ++ w) (sym (whole_lines-none carry r.one)) ∙ sym (u.closed carry) ∙ ap whole_lines (sym u.split) in
       let lines_are : lines_of u.whole ++ [] ≡ lines_of (whole_lines r.read) = append-nil (lines_of u.whole) ∙ ap lines_of whole in
-      (after u.done silence, subst (λ w. first w (after u.done silence)) lines_are (u.answered [] silence quiet), u.written ∙ ap concat (sym (append-nil u.done)))
+      (after u.done silence, subst (λ w. first w (after u.done silence)) lines_are (u.answered [] silence quiet), u.written ∙ ap concat (sym (append-nil u.done)), refl)
+
+  whole_answered : now [] silence → IsOutcome (Err Read) first r.read r.sent
+  whole_answered quiet = let w = whole_played quiet in (w.0, w.1, w.2)
+
+  pub whole_good : now [] silence → Consumes reader' reader'' [] → (read : List ℕ) × Consumes reader reader'' read × HasNoBadLine first (whole_lines read)
+  whole_good quiet consumes =
+      let w = whole_played quiet in
+      (r.read, subst (λ x. Consumes reader reader'' x) (append-nil r.read) (Consumes-trans reader reader' reader'' r.read [] r.consumes consumes), (w.0, w.1, w.3))
+
+  -- a read, and what was written since
+  pub PromptAs-block : now [] silence → (block more : List ℕ) → length block ≤ 65536 → Consumes reader' reader'' block → Appends writer' writer'' more → PromptAs first reader reader'' writer writer''
+  PromptAs-block quiet block more small consumes appends =
+      let w = whole_played quiet in (
+        r.read ++ block,
+        r.sent ++ more,
+        Consumes-trans reader reader' reader'' r.read block r.consumes consumes,
+        Appends-trans writer writer' writer'' r.sent more r.appends appends,
+        record { earlier = r.read; last = block; split = refl; small = small; script = w.0; played = w.1; good = w.3; answered = (more, ap (λ t. t ++ more) w.2) },
+      )
+
+  -- a read that failed
+  pub PromptAs-read : now [] silence → Keeps reader' reader'' → PromptAs first reader reader'' writer writer'
+  PromptAs-read quiet keeps =
+      let w = whole_played quiet in (
+        r.read,
+        r.sent,
+        Consumes-kept reader reader' reader'' r.read r.consumes keeps,
+        r.appends,
+        record { earlier = r.read; last = []; split = sym (append-nil r.read); small = omega arith; script = w.0; played = w.1; good = w.3; answered = ([], w.2 ∙ sym (append-nil (text_of w.0))) },
+      )
+
+  -- between two reads
+  pub PromptAs-now : now [] silence → PromptAs first reader reader' writer writer'
+  PromptAs-now quiet =
+      let w = whole_played quiet in (
+        r.read,
+        r.sent,
+        r.consumes,
+        r.appends,
+        record { earlier = r.read; last = []; split = sym (append-nil r.read); small = omega arith; script = w.0; played = w.1; good = w.3; answered = ([], w.2 ∙ sym (append-nil (text_of w.0))) },
+      )
 
   pub EndsAs-read : now [] silence → Keeps reader' reader'' → EndsAs (Err Read) first reader reader'' writer writer'
   EndsAs-read quiet keeps = (r.read, r.sent, Consumes-kept reader reader' reader'' r.read r.consumes keeps, r.appends, whole_answered quiet)

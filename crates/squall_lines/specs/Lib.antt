@@ -1,5 +1,6 @@
 pub mod Lines
 pub mod Script
+pub mod Faults
 pub mod Running
 pub mod Words
 pub mod Sample

@@ -1,5 +1,5 @@
 -- What a machine answers to lines, and what of it a run writes.
-use Rattle.std.specs.Prelude.{◌≡◌, ℕ, List, [], ◌∷◌, ◌++◌, take, Bool, true, false, Result, Ok, Err}
+use Rattle.std.specs.Prelude.{◌≡◌, ℕ, ◌≤◌, List, [], ◌∷◌, ◌++◌, length, take, Bool, true, false, Result, Ok, Err}
 use Rattle.std.specs.List.{concat}
 use Rattle.squall_lines.specs.declared.Flow.{Flow}
 use Rattle.squall_lines.specs.declared.Flow.TheVariants.{On, End}
@@ -12,6 +12,10 @@ use Rattle.squall_lines.specs.Lines.{lines_of, whole_lines}
 -- how many reads are made of one input at most
 abbrev pub read_limit : ℕ
 read_limit = 16777216
+
+-- how many bytes one read gives at most
+abbrev pub block_size : ℕ
+block_size = 65536
 
 -- The answers to some lines, one for each line in turn, which may be empty. Where a line is bad its answer is
 -- the last one, and no later line has one.
@@ -58,6 +62,23 @@ IsOutcome (Err Read) plays read written = (s : Script) × plays (lines_of (whole
 IsOutcome (Err Write) plays read written = (n : ℕ) × (s : Script) × plays (take n (lines_of read)) s × IsPrefix written (text_of s)
 -- the answers to some first lines, each whole
 IsOutcome (Err NoMemory) plays read written = (n : ℕ) × (s : Script) × plays (take n (lines_of read)) s × (written ≡ text_of s)
+
+-- a machine may play to the lines of this text a script that has no bad line
+abbrev pub HasNoBadLine : (List (List ℕ) → Script → Type 0) → List ℕ → Type 0
+HasNoBadLine plays text = (s : Script) × plays (lines_of text) s × (s.refused ≡ false)
+
+-- What was done before the last read. What was read is what earlier reads gave, and then the last block, which is
+-- empty where the last read failed or found the end. No line that came with its LF in earlier reads was bad, and what
+-- is written begins with the answers to those lines.
+pub record IsPrompt (plays : List (List ℕ) → Script → Type 0) (read written : List ℕ) : Type 0 where
+  pub earlier : List ℕ
+  pub last : List ℕ
+  pub split : read ≡ earlier ++ last
+  pub small : length last ≤ block_size
+  pub script : Script
+  pub played : plays (lines_of (whole_lines earlier)) script
+  pub good : script.refused ≡ false
+  pub answered : IsPrefix (text_of script) written
 
 -- ---- machines with one script for each list of lines
 

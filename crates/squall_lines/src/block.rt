@@ -47,8 +47,8 @@ pub fn take_block<M: Machine, K: Sink>(
     ensures took { (sent : List ℕ) × Appends (K.contents writer.old) (K.contents writer.new) sent
         × TookBlock result (M.plays machine.old) (M.plays machine.new) (carry.old.items ++ block.now) carry.new.items sent }
     ensures out { OnOk result (string_bytes out.new ≡ []) }
-    ensures uncounted { OnOk result ((K.faults writer.new ≡ K.faults writer.old)
-        × (K.empties writer.new ≡ K.empties writer.old)) }
+    ensures heeds { result ≢ Err RunFault.Write → (K.faults writer.new ≡ K.faults writer.old)
+        × (K.empties writer.new ≡ K.empties writer.old) }
     ensures counted { result ≡ Err RunFault.Write → IsCountedSince (K.faults writer.old) (K.faults writer.new)
         ⊎ IsCountedSince (K.empties writer.old) (K.empties writer.new) }
 {
@@ -89,6 +89,8 @@ pub fn take_last<M: Machine, K: Sink>(
     ensures took { (sent : List ℕ) × Appends (K.contents writer.old) (K.contents writer.new) sent
         × IsOutcome result (M.plays machine.old) carry.now sent }
     ensures only { result ≢ Err RunFault.Read }
+    ensures heeds { result ≢ Err RunFault.Write → (K.faults writer.new ≡ K.faults writer.old)
+        × (K.empties writer.new ≡ K.empties writer.old) }
     ensures counted { result ≡ Err RunFault.Write → IsCountedSince (K.faults writer.old) (K.faults writer.new)
         ⊎ IsCountedSince (K.empties writer.old) (K.empties writer.new) }
 {

@@ -31,6 +31,9 @@ pub fn read_all<S: Source>(alloc: Global, source: &mut S) -> Result<Vec<u8>, Run
         ⊎ (times_more read_limit (S.reads source.old) ≤ S.reads source.new) }
     ensures only { result ≢ Err RunFault.Write }
 
+    // A failed read is not passed over.
+    ensures heeds_reads { result ≢ Err RunFault.Read → S.faults source.new ≡ S.faults source.old }
+
     // Whatever the source does, so many reads are made at most.
     ensures reads { S.reads source.new ≤ S.reads source.old + read_limit }
 {

@@ -5,14 +5,17 @@
 //! the next block is read, so that a reader who waits for an answer gets it.
 #![tactic(auto)]
 
-ghost use Rattle.std.specs.Prelude.{◌≡◌, ◌⊎◌, ℕ, List, ◌+◌, ◌≤◌, Ok, Err};
+ghost use Rattle.std.specs.Prelude.{◌≡◌, ◌≢◌, ◌⊎◌, ℕ, List, ◌+◌, ◌≤◌, Some, Ok, Err};
 ghost use Rattle.std.specs.Io.KnownBytes.{Appends, Consumes, IsAtEnd};
 ghost use Rattle.squall_device.specs.Counts.{IsCountedSince, times_more};
-ghost use Rattle.squall_lines.specs.Script.{IsOutcome, read_limit};
+ghost use Rattle.squall_lines.specs.Lines.{whole_lines};
+ghost use Rattle.squall_lines.specs.Script.{HasNoBadLine, IsOutcome, IsPrompt, read_limit};
+ghost use Rattle.squall_lines.specs.Faults.{text_of_run_fault};
 
 use squall_device::{Sink, Source};
 use std::alloc::{AllocError, Global};
-use thiserror::Error;
+use std::error::Error;
+use std::fmt;
 
 mod block;
 mod input;
@@ -49,18 +52,29 @@ pub enum Ended {
 }
 
 /// What stopped a run before its end.
-#[derive(Clone, Copy, Debug, PartialEq, Eq, Error)]
+#[derive(Clone, Copy, Debug, PartialEq, Eq)]
 pub enum RunFault {
     /// A read failed, or there were too many of them.
-    #[error("read failed")]
     Read,
     /// A write failed, or took no byte.
-    #[error("write failed")]
     Write,
     /// An allocation failed.
-    #[error("no memory")]
     NoMemory,
 }
+
+impl fmt::Display for RunFault {
+    ghost output = { λ e. Some (text_of_run_fault e) };
+
+    fn fmt<W: fmt::Write>(&self, f: &mut fmt::Formatter<W>) -> fmt::Result {
+        match self {
+            RunFault::Read => write!(f, "read failed"),
+            RunFault::Write => write!(f, "write failed"),
+            RunFault::NoMemory => write!(f, "no memory"),
+        }
+    }
+}
+
+impl Error for RunFault {}
 
 impl From<AllocError> for RunFault {
     ghost use Rattle.squall_lines.specs.declared.RunFault.TheVariants.{NoMemory};
@@ -98,6 +112,9 @@ pub const LONGEST_PIECE: usize = LONGEST_LINE + 1;
 /// - `Write`: a write failed, or took no byte. The writer has a prefix of the answers.
 /// - `NoMemory`: an allocation failed. Some first lines are answered, each whole.
 ///
+/// Before each read the lines that came with their LF so far are answered, and none of them was
+/// bad. A read or a write that failed is always answered so: it ends the run.
+///
 /// Nothing is known of the machine afterwards.
 pub fn run<S: Source, K: Sink, M: Machine>(
     alloc: Global,
@@ -112,6 +129,18 @@ pub fn run<S: Source, K: Sink, M: Machine>(
         × Appends (K.contents writer.old) (K.contents writer.new) written
         × IsOutcome result (M.plays machine.old) read written }
 
+    // The lines that came before the last read were answered before it, and none of them was bad.
+    // A run can't know that a read is the last one, so this holds of each read.
+    ensures prompt { (read : List ℕ) × (written : List ℕ)
+        × Consumes (S.remaining reader.old) (S.remaining reader.new) read
+        × Appends (K.contents writer.old) (K.contents writer.new) written
+        × IsPrompt (M.plays machine.old) read written }
+
+    // No read follows a bad line: the end was found only where the bad line came without its LF.
+    ensures no_read_after { result ≡ Ok Ended.Refused → (S.ends reader.new ≡ S.ends reader.old)
+        ⊎ ((read : List ℕ) × Consumes (S.remaining reader.old) (S.remaining reader.new) read
+        × HasNoBadLine (M.plays machine.old) (whole_lines read)) }
+
     // `Fine` comes only where a read found the end, and then nothing is left.
     ensures fine { result ≡ Ok Ended.Fine → IsCountedSince (S.ends reader.old) (S.ends reader.new) }
     ensures all { result ≡ Ok Ended.Fine → IsAtEnd (S.remaining reader.new) }
@@ -121,6 +150,11 @@ pub fn run<S: Source, K: Sink, M: Machine>(
         ⊎ (times_more read_limit (S.reads reader.old) ≤ S.reads reader.new) }
     ensures unwritten { result ≡ Err RunFault.Write → IsCountedSince (K.faults writer.old) (K.faults writer.new)
         ⊎ IsCountedSince (K.empties writer.old) (K.empties writer.new) }
+
+    // A failed read ends the run, and so does a write that failed or took nothing.
+    ensures heeds_reads { result ≢ Err RunFault.Read → S.faults reader.new ≡ S.faults reader.old }
+    ensures heeds_writes { result ≢ Err RunFault.Write → (K.faults writer.new ≡ K.faults writer.old)
+        × (K.empties writer.new ≡ K.empties writer.old) }
 
     // Whatever the source does, so many reads are made at most.
     ensures reads { S.reads reader.new ≤ S.reads reader.old + read_limit }

@@ -1,7 +1,7 @@
-use Rattle.std.proofs.Common.{◌∙◌, [], sym, subst, inl, Err, length, take, ap, arith, refl}
+use Rattle.std.proofs.Common.{◌∙◌, [], sym, subst, inl, inr, Err, length, take, ap, arith, refl}
 use Rattle.std.proofs.lemmas.Result.{err_from_is_err_and}
-use Rattle.squall_lines.proofs.Bytes.{counted_now, idle_counted, used_more, not_idle, error_is}
-use Rattle.squall_lines.proofs.Outcomes.{Reading, Reading-start, EndsAs-read, EndsAs-now, EndsAs-last, EndsAs-no_memory, Reading-block, EndsAs-refused, EndsAs-stopped}
+use Rattle.squall_lines.proofs.Bytes.{counted_now, idle_counted, used_more, not_idle, error_is, fine_is_no_error}
+use Rattle.squall_lines.proofs.Outcomes.{Reading, Reading-start, EndsAs-read, EndsAs-now, EndsAs-last, EndsAs-no_memory, Reading-block, EndsAs-refused, EndsAs-stopped, PromptAs-block, PromptAs-read, PromptAs-now, whole_good, take_small}
 use Rattle.squall_lines.proofs.run.Goals as goal
 
 pub returns-in_err-room-clause-text : goal.returns-in_err-room-clause-text
@@ -103,6 +103,7 @@ loop-turn-preserved g c =
     let i = c.loop-turn.invariant in
     let t = rw c.in-On.is at c.in_ok-take_block.ensures.took in
     let b = c.in_ok-take_block.ensures in
+    let h = b.heeds (λ e. fine_is_no_error _ _ e) in
     record {
       reading = Reading-block first now (g.M.Machine.plays c.take_block.new.machine) r0 r1 (g.S.Source.remaining c.read.new.self) w0 w1 (g.K.Sink.contents c.take_block.new.writer) c.loop-turn.carry.items i.reading (take c.in-Ok.n c.read.new.buf) t.0 c.in-Ok.ensures.bytes.0 t.1 c.take_block.new.carry.items t.2.0 t.2.1;
       out = b.out;
@@ -111,8 +112,8 @@ loop-turn-preserved g c =
       reads = omega (arith, c.in-Ok.ensures.reads);
       read_faults = c.in-Ok.ensures.faults ∙ i.read_faults;
       ends = c.in-Ok.ensures.ends ∙ not_idle _ c.in-Ok.n _ c.if-n-eq0.false ∙ i.ends;
-      write_faults = b.uncounted.0 ∙ i.write_faults;
-      empties = b.uncounted.1 ∙ i.empties;
+      write_faults = h.0 ∙ i.write_faults;
+      empties = h.1 ∙ i.empties;
     }
 
 pub returns-clause-text : goal.returns-clause-text
@@ -125,3 +126,90 @@ returns-clause-text g c =
     let w1 = g.K.Sink.contents c.loop-turn.writer in
     let i = c.loop-turn.invariant in
     EndsAs-now first now now r0 r1 r1 w0 w1 w1 c.loop-turn.carry.items i.reading (g.met.M.Machine.silent_at_first c.loop-turn.machine)
+
+pub returns-in_err-room-clause-prompt : goal.returns-in_err-room-clause-prompt
+returns-in_err-room-clause-prompt g c =
+    let first = g.M.Machine.plays c.args.machine.now in
+    let reader = g.S.Source.remaining c.args.reader.now in
+    let writer = g.K.Sink.contents c.args.writer.now in
+    PromptAs-now first first first reader reader reader writer writer writer [] (Reading-start first reader writer) (g.met.M.Machine.silent_at_first c.args.machine.now)
+
+pub returns-in_default-clause-prompt : goal.returns-in_default-clause-prompt
+returns-in_default-clause-prompt g c =
+    let first = g.M.Machine.plays c.args.machine.now in
+    let now = g.M.Machine.plays c.loop-turn.machine in
+    let r0 = g.S.Source.remaining c.args.reader.now in
+    let r1 = g.S.Source.remaining c.loop-turn.reader in
+    let w0 = g.K.Sink.contents c.args.writer.now in
+    let w1 = g.K.Sink.contents c.loop-turn.writer in
+    let i = c.loop-turn.invariant in
+    PromptAs-read first now now r0 r1 (g.S.Source.remaining c.read.new.self) w0 w1 w1 c.loop-turn.carry.items i.reading (g.met.M.Machine.silent_at_first c.loop-turn.machine) c.in_default.ensures.bytes
+
+pub returns-then-n-eq0-clause-prompt : goal.returns-then-n-eq0-clause-prompt
+returns-then-n-eq0-clause-prompt g c =
+    let first = g.M.Machine.plays c.args.machine.now in
+    let now = g.M.Machine.plays c.loop-turn.machine in
+    let r0 = g.S.Source.remaining c.args.reader.now in
+    let r1 = g.S.Source.remaining c.loop-turn.reader in
+    let w0 = g.K.Sink.contents c.args.writer.now in
+    let w1 = g.K.Sink.contents c.loop-turn.writer in
+    let i = c.loop-turn.invariant in
+    let t = c.take_last.ensures.took in
+    PromptAs-block first now now r0 r1 (g.S.Source.remaining c.read.new.self) w0 w1 (g.K.Sink.contents c.take_last.new.writer) c.loop-turn.carry.items i.reading (g.met.M.Machine.silent_at_first c.loop-turn.machine) [] t.0 (omega arith) (rw c.if-n-eq0.true at c.in-Ok.ensures.bytes.0) t.1
+
+pub returns-then-n-eq0-clause-no_read_after : goal.returns-then-n-eq0-clause-no_read_after
+returns-then-n-eq0-clause-no_read_after g c =
+    let first = g.M.Machine.plays c.args.machine.now in
+    let now = g.M.Machine.plays c.loop-turn.machine in
+    let r0 = g.S.Source.remaining c.args.reader.now in
+    let r1 = g.S.Source.remaining c.loop-turn.reader in
+    let w0 = g.K.Sink.contents c.args.writer.now in
+    let w1 = g.K.Sink.contents c.loop-turn.writer in
+    let i = c.loop-turn.invariant in
+    λ _. inr (whole_good first now now r0 r1 (g.S.Source.remaining c.read.new.self) w0 w1 w1 c.loop-turn.carry.items i.reading (g.met.M.Machine.silent_at_first c.loop-turn.machine) (rw c.if-n-eq0.true at c.in-Ok.ensures.bytes.0))
+
+pub returns-then-n-eq0-clause-heeds_writes : goal.returns-then-n-eq0-clause-heeds_writes
+returns-then-n-eq0-clause-heeds_writes g c =
+    λ e. let h = c.take_last.ensures.heeds e in (h.0 ∙ c.loop-turn.invariant.write_faults, h.1 ∙ c.loop-turn.invariant.empties)
+
+pub returns-in_err-take_block-clause-prompt : goal.returns-in_err-take_block-clause-prompt
+returns-in_err-take_block-clause-prompt g c =
+    let first = g.M.Machine.plays c.args.machine.now in
+    let now = g.M.Machine.plays c.loop-turn.machine in
+    let r0 = g.S.Source.remaining c.args.reader.now in
+    let r1 = g.S.Source.remaining c.loop-turn.reader in
+    let w0 = g.K.Sink.contents c.args.writer.now in
+    let w1 = g.K.Sink.contents c.loop-turn.writer in
+    let i = c.loop-turn.invariant in
+    let t = c.in_err-take_block.ensures.took in
+    PromptAs-block first now now r0 r1 (g.S.Source.remaining c.read.new.self) w0 w1 (g.K.Sink.contents c.take_block.new.writer) c.loop-turn.carry.items i.reading (g.met.M.Machine.silent_at_first c.loop-turn.machine) (take c.in-Ok.n c.read.new.buf) t.0 (take_small c.in-Ok.n c.read.new.buf (omega arith)) c.in-Ok.ensures.bytes.0 t.1
+
+pub returns-in_err-take_block-clause-heeds_writes : goal.returns-in_err-take_block-clause-heeds_writes
+returns-in_err-take_block-clause-heeds_writes g c =
+    let p = err_from_is_err_and c.from_residual-in_err-take_block.result c.from_residual-in_err-take_block.ensures.1 in
+    λ e.
+    let h = c.in_err-take_block.ensures.heeds (λ w. e (error_is (Err c.in_err-take_block.field-0.0) c.from_residual-in_err-take_block.result _ _ refl w (p.1 ∙ ap Err p.2))) in
+    (h.0 ∙ c.loop-turn.invariant.write_faults, h.1 ∙ c.loop-turn.invariant.empties)
+
+pub returns-in-End-clause-prompt : goal.returns-in-End-clause-prompt
+returns-in-End-clause-prompt g c =
+    let first = g.M.Machine.plays c.args.machine.now in
+    let now = g.M.Machine.plays c.loop-turn.machine in
+    let r0 = g.S.Source.remaining c.args.reader.now in
+    let r1 = g.S.Source.remaining c.loop-turn.reader in
+    let w0 = g.K.Sink.contents c.args.writer.now in
+    let w1 = g.K.Sink.contents c.loop-turn.writer in
+    let i = c.loop-turn.invariant in
+    let t = c.in_ok-take_block.ensures.took in
+    PromptAs-block first now now r0 r1 (g.S.Source.remaining c.read.new.self) w0 w1 (g.K.Sink.contents c.take_block.new.writer) c.loop-turn.carry.items i.reading (g.met.M.Machine.silent_at_first c.loop-turn.machine) (take c.in-Ok.n c.read.new.buf) t.0 (take_small c.in-Ok.n c.read.new.buf (omega arith)) c.in-Ok.ensures.bytes.0 t.1
+
+pub returns-clause-prompt : goal.returns-clause-prompt
+returns-clause-prompt g c =
+    let first = g.M.Machine.plays c.args.machine.now in
+    let now = g.M.Machine.plays c.loop-turn.machine in
+    let r0 = g.S.Source.remaining c.args.reader.now in
+    let r1 = g.S.Source.remaining c.loop-turn.reader in
+    let w0 = g.K.Sink.contents c.args.writer.now in
+    let w1 = g.K.Sink.contents c.loop-turn.writer in
+    let i = c.loop-turn.invariant in
+    PromptAs-now first now now r0 r1 r1 w0 w1 w1 c.loop-turn.carry.items i.reading (g.met.M.Machine.silent_at_first c.loop-turn.machine)
