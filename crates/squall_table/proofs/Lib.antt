@@ -8,6 +8,7 @@ mod Picks
 mod Moving
 pub mod Touching
 mod OneLoad
+mod Reported
 mod Shifted
 mod Counting
 mod About

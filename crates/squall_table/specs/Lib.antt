@@ -16,5 +16,6 @@ pub mod LegLaws
 pub mod Touched
 pub mod Reach
 pub mod Touching
+pub mod News
 pub mod Patching
 pub mod TableLaws

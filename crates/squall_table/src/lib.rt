@@ -11,6 +11,7 @@ mod laws;
 mod legs;
 mod meter;
 mod near;
+mod news;
 mod patch;
 mod ready;
 mod routes;

@@ -6,24 +6,27 @@ ghost use Rattle.squall_key.specs.Keys.{top};
 ghost use Rattle.squall_span.specs.Spans.{has, IsSet};
 ghost use Rattle.squall_plan.specs.Ranges.{owner_of, IsCanonical};
 ghost use Rattle.squall_course.specs.Moves.{moves_of};
-ghost use Rattle.squall_board.specs.Boards.{board_join, says};
+ghost use Rattle.squall_board.specs.Boards.{board_join, report_board, says};
 ghost use Rattle.squall_table.specs.Tables.{IsTable};
 ghost use Rattle.squall_table.specs.Strips.{HasIndex};
 ghost use Rattle.squall_table.specs.Touched.{WasTable, is_touched};
 ghost use Rattle.squall_table.specs.Reach.{moves_in, reach};
+ghost use Rattle.squall_table.specs.News.{news_board};
 
 use crate::fresh::{Renewal, know_moves, renew};
 use crate::index::Index;
 use crate::meter::Meter;
 use crate::near::near_count;
+use crate::news::{News, take_news};
 use crate::ready::replace_ready;
 use crate::routes::Heard;
-use crate::single::touched_span;
+use crate::single::{reported_span, touched_span};
 use crate::table::{Leg, RouteTable};
-use crate::touch::touched;
+use crate::touch::{touched, touched_by_report};
 use squall_board::{Board, Delta};
 use squall_course::Course;
 use squall_key::Bound;
+use squall_report::Report;
 use squall_span::{Span, SpanSet};
 use std::alloc::AllocError;
 
@@ -99,33 +102,33 @@ impl RouteTable {
         Ok(())
     }
 
-    /// Merges the delta into the board whose table this is, and patches the table for the spans, whose
-    /// keys are those that the delta touches: both, or neither where an allocation fails.
+    /// The board whose table this is takes the news, and the table is patched for the spans, whose keys
+    /// are those that the news touch: both, or neither where an allocation fails.
     fn absorb_touched(
         &mut self,
         course: &Course,
         board: &mut Board,
-        delta: &Delta,
+        news: News,
         spans: &[Span],
     ) -> Result<(), AllocError>
         requires was { IsTable course.now board.old self.old }
         requires set { IsSet spans.now }
-        requires keys { (k : ℕ) → has spans.now k ≡ is_touched course.now (says delta.now) k }
-        ensures board { OnOk result (board.new ≡ board_join board.old delta.now) }
+        requires keys { (k : ℕ) → has spans.now k ≡ is_touched course.now (says (news_board news)) k }
+        ensures board { OnOk result (board.new ≡ board_join board.old (news_board news.entry)) }
         ensures table { OnOk result (IsTable course.now board.new self.new) }
         ensures err { OnErr result (self.new ≡ self.old) }
         ensures board_err { OnErr result (board.new ≡ board.old) }
     {
         know_moves(course);
         if spans.is_empty() {
-            return board.merge(delta);
+            return take_news(board, news);
         }
-        // Every key of the set has come, once the delta is merged.
+        // Every key of the set has come, once the news are taken.
         let alloc = *self.legs.allocator();
         let at = self.place_before(spans[0].lo());
         let made = renew(alloc, &self.legs, at, course, Heard::All, spans)?;
         make_room(&mut self.legs, &mut self.index, &made.fresh)?;
-        board.merge(delta)?;
+        take_news(board, news)?;
         put(&mut self.legs, &mut self.index, &made);
         Ok(())
     }
@@ -146,9 +149,34 @@ impl RouteTable {
         ensures board_err { OnErr result (board.new ≡ board.old) }
     {
         if let Some(span) = touched_span(course, delta) {
-            return self.absorb_touched(course, board, delta, &[span]);
+            return self.absorb_touched(course, board, News::Delta(delta), &[span]);
         }
         let set = touched(*self.legs.allocator(), course, delta)?;
-        self.absorb_touched(course, board, delta, set.spans())
+        self.absorb_touched(course, board, News::Delta(delta), set.spans())
+    }
+
+    /// Takes the report into the board whose table this is, and patches the table for what the report
+    /// touches: of a load the keys that its place awaits, of a completion all that its place awaits,
+    /// and of other reports none. Board and table change together, or neither does: where an
+    /// allocation fails, or where the count of an issue's owners is full, both are unchanged.
+    ///
+    /// It does what [`RouteTable::absorb`] does of the report's board, which is not made.
+    pub fn take(
+        &mut self,
+        course: &Course,
+        board: &mut Board,
+        report: &Report,
+    ) -> Result<(), AllocError>
+        requires was { IsTable course.now board.old self.old }
+        ensures board { OnOk result (board.new ≡ board_join board.old (report_board report.now)) }
+        ensures table { OnOk result (IsTable course.now board.new self.new) }
+        ensures err { OnErr result (self.new ≡ self.old) }
+        ensures board_err { OnErr result (board.new ≡ board.old) }
+    {
+        if let Some(span) = reported_span(course, report) {
+            return self.absorb_touched(course, board, News::Report(report), &[span]);
+        }
+        let set = touched_by_report(*self.legs.allocator(), course, report)?;
+        self.absorb_touched(course, board, News::Report(report), set.spans())
     }
 }

@@ -1,8 +1,10 @@
-//! Deltas of one load, as most are that a report makes: what they touch needs no set.
+//! Loads, alone in a delta or as a report, all of whose keys one move brings: what they touch needs no
+//! set.
 
 ghost use Rattle.std.specs.Prelude.{◌≡◌, ℕ, ◌&&◌, true, false, List, [], ◌∷◌, IsTrue, IfSome};
 ghost use Rattle.squall_span.specs.Spans.{has, span_has, IsSet};
 ghost use Rattle.squall_course.specs.declared.moving.Move.{Move};
+ghost use Rattle.squall_report.specs.Facts.{report_says};
 ghost use Rattle.squall_board.specs.Boards.{says};
 ghost use Rattle.squall_table.specs.Legs.{MovesRise};
 ghost use Rattle.squall_table.specs.Touched.{is_touched};
@@ -12,6 +14,7 @@ use crate::routes::first_move;
 use squall_board::{CellParts, Delta};
 use squall_course::{Course, Move};
 use squall_join::JoinMap;
+use squall_report::{Report, ReportKind};
 use squall_span::Span;
 
 /// The one span of a cell that has no other and is not complete.
@@ -65,6 +68,28 @@ pub(crate) fn touched_span(course: &Course, delta: &Delta) -> Option<Span>
     let subs = delta.cell_map().get(&course.number())?;
     let (sub, part, span) = single_load(subs.entries())?;
     if is_brought(course.moves(), sub, part, span) {
+        Some(span)
+    } else {
+        None
+    }
+}
+
+/// The keys that the report touches, where it is a load under the course's number, all of whose keys
+/// one move brings there. None says nothing.
+pub(crate) fn reported_span(course: &Course, report: &Report) -> Option<Span>
+    ensures set { IfSome result (λ s. IsSet (s ∷ [])) }
+    ensures keys { IfSome result (λ s. (k : ℕ) → has (s ∷ []) k ≡ is_touched course.now (report_says report.now) k) }
+{
+    let ReportKind::Loaded {
+        number,
+        sub,
+        part,
+        span,
+    } = report.kind()
+    else {
+        return None;
+    };
+    if number == course.number() && is_brought(course.moves(), sub, part, span) {
         Some(span)
     } else {
         None

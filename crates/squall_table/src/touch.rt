@@ -1,8 +1,10 @@
-//! The keys that a delta touches.
+//! The keys that a delta or a report touches.
 
 ghost use Rattle.std.specs.Prelude.{◌≡◌, ℕ, ◌||◌, ◌&&◌, max, min, IfOk, OnOk};
 ghost use Rattle.squall_span.specs.Spans.{has, span_has, span_at};
 ghost use Rattle.squall_course.specs.Moves.{goes_to, move_has};
+ghost use Rattle.squall_report.specs.declared.report.ReportKind.TheVariants.{Loaded, Done};
+ghost use Rattle.squall_report.specs.Facts.{report_says};
 ghost use Rattle.squall_report.specs.Told.{TellsBoth};
 ghost use Rattle.squall_board.specs.Boards.{BoardValue, says, told};
 ghost use Rattle.squall_table.specs.Legs.{MovesRise};
@@ -13,6 +15,8 @@ use crate::routes::first_move;
 use squall_board::{CellParts, Delta};
 use squall_course::{Course, Move};
 use squall_join::JoinMap;
+use squall_key::PartId;
+use squall_report::{CellId, Report, ReportKind};
 use squall_span::{Span, SpanSet};
 use std::alloc::{AllocError, Global};
 
@@ -172,4 +176,64 @@ pub fn touched(alloc: Global, course: &Course, delta: &Delta) -> Result<SpanSet,
     };
     add_subs(&mut set, course.moves(), subs.entries())?;
     Ok(set)
+}
+
+/// The keys that a load of the span at the place touches: those that moves bring there, where its
+/// number is the course's.
+fn touched_by_load(
+    alloc: Global,
+    course: &Course,
+    cell: CellId,
+    span: Span,
+) -> Result<SpanSet, AllocError>
+    ensures { IfOk result (λ set. (k : ℕ) → has set k ≡ is_touched course.now (report_says (Loaded cell.number cell.sub cell.part span)) k) }
+{
+    let mut set = SpanSet::empty(alloc);
+    if cell.number() != course.number() {
+        return Ok(set);
+    }
+    add_span(&mut set, course.moves(), cell.sub(), cell.part(), span)?;
+    Ok(set)
+}
+
+/// The keys that a completion at the place touches: all that moves bring there, where its number is
+/// the course's.
+fn touched_by_completion(
+    alloc: Global,
+    course: &Course,
+    cell: CellId,
+) -> Result<SpanSet, AllocError>
+    ensures { IfOk result (λ set. (k : ℕ) → has set k ≡ is_touched course.now (report_says (Done cell.number cell.sub cell.part)) k) }
+{
+    if cell.number() != course.number() {
+        return Ok(SpanSet::empty(alloc));
+    }
+    match PartId::new(cell.part()) {
+        Some(part) => course.incoming(alloc, cell.sub(), part),
+        // No place has such a partition.
+        None => Ok(SpanSet::empty(alloc)),
+    }
+}
+
+/// The keys that the report touches: of a load under the course's number those that its place awaits,
+/// of a completion all that its place awaits. It fails only where an allocation fails.
+pub(crate) fn touched_by_report(
+    alloc: Global,
+    course: &Course,
+    report: &Report,
+) -> Result<SpanSet, AllocError>
+    ensures { IfOk result (λ set. (k : ℕ) → has set k ≡ is_touched course.now (report_says report.now) k) }
+{
+    match report.kind() {
+        ReportKind::Loaded {
+            number,
+            sub,
+            part,
+            span,
+        } => touched_by_load(alloc, course, CellId::of(number, sub, part), span),
+        ReportKind::Done { number, sub, part } => {
+            touched_by_completion(alloc, course, CellId::of(number, sub, part))
+        }
+        ReportKind::Opened { .. } | ReportKind::Issued { .. } => Ok(SpanSet::empty(alloc)),
+    }
 }

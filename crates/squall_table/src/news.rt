@@ -1,0 +1,32 @@
+//! What a board and its table take.
+
+ghost use Rattle.std.specs.Prelude.{◌≡◌, OnOk, OnErr};
+ghost use Rattle.squall_report.specs.Told.{TellsBoth};
+ghost use Rattle.squall_board.specs.Boards.{board_join, told};
+ghost use Rattle.squall_table.specs.News.{news_board};
+
+use squall_board::{Board, Delta};
+use squall_report::Report;
+use std::alloc::AllocError;
+
+/// What a board and its table take.
+#[derive(Clone, Copy)]
+pub(crate) enum News<'a> {
+    /// What a delta tells.
+    Delta(&'a Delta),
+    /// What one report tells, of which no board is made.
+    Report(&'a Report),
+}
+
+/// The board takes the news. It fails where an allocation fails, or where the count of an issue's
+/// owners is full, and then the board is unchanged.
+pub(crate) fn take_news(board: &mut Board, news: News) -> Result<(), AllocError>
+    ensures board { OnOk result (board.new ≡ board_join board.old (news_board news.entry)) }
+    ensures told { OnOk result (TellsBoth (told board.new) (told board.old) (told (news_board news.entry))) }
+    ensures err { OnErr result (board.new ≡ board.old) }
+{
+    match news {
+        News::Delta(delta) => board.merge(delta),
+        News::Report(report) => board.take(report),
+    }
+}
