@@ -7,21 +7,19 @@ ghost use Rattle.squall_c.specs.Reporting.{loaded_report, told_station, TakesInS
 
 use crate::router::{RouterSlot, Station, read_plan};
 use crate::status::{CLOSED, IN_NEW_PLAN, LIMIT, NO_MEMORY, memory_status};
-use squall_delta::delta_of;
 use squall_key::Bound;
 use squall_plan::Plan;
 use squall_report::{Issue, Report};
 use squall_span::Span;
 use std::alloc::AllocError;
 
-/// Has the station hear what the report tells. It fails where an allocation fails, or where a count
-/// of owners is full, and then the station is as it was.
-fn absorb_report(station: &mut Station, report: &Report) -> Result<(), AllocError>
+/// The station's router takes the report. It fails where an allocation fails, or where a count of
+/// owners is full, and then the station is unchanged.
+fn take_in_router(station: &mut Station, report: &Report) -> Result<(), AllocError>
     ensures told { OnOk result (station.new ≡ told_station station.old report.now) }
     ensures err { OnErr result (station.new ≡ station.old) }
 {
-    let delta = delta_of(station.alloc, report)?;
-    station.router.absorb(&delta)
+    station.router.take(report)
 }
 
 /// Takes the report, where there is one.
@@ -29,7 +27,7 @@ fn take_report(station: &mut Station, report: Option<Report>) -> u32
     ensures { TakesInStation report station.old station.new result }
 {
     match report {
-        Some(report) => memory_status(absorb_report(station, &report)),
+        Some(report) => memory_status(take_in_router(station, &report)),
         None => LIMIT,
     }
 }

@@ -38,7 +38,8 @@ loaded_kept s v h e = some_none (ap (λ (w : CellValue). w.first) (sym h ∙ e))
 done_kept : (v : CellValue) → v ≡ pair_of [] true → v ≢ cell_bottom
 done_kept v h e = true≢false (ap (λ (w : CellValue). w.second) (sym h ∙ e))
 
-report_board_is : (r : ReportKind PlanPair) → is_report r ≡ true → IsBoard (report_board r)
+-- the board of a report within the limits is a board
+pub report_board_is : (r : ReportKind PlanPair) → is_report r ≡ true → IsBoard (report_board r)
 report_board_is (Loaded number sub part span) h =
     let is = second_so (is_cell_place (place_at number sub part)) _ h in
     cell_board_is (place_at number sub part) (pair_of (span ∷ []) false) (first_so _ _ h) (((span_keys span is, tt, tt), (span_ends span is, tt)), tt) (loaded_kept span _ refl)
@@ -46,5 +47,6 @@ report_board_is (Done number sub part) h = cell_board_is (place_at number sub pa
 report_board_is (Opened number sub) h = opening_board_is number (sub + 1) (from_one number (first_so _ _ h)) (omega arith) (opened_below number sub h)
 report_board_is (Issued number issue) h = issue_board_is number (One issue) (from_one number h)
 
+-- a board that tells what the report tells is its board
 pub one_board : (d : BoardValue) (r : ReportKind PlanPair) → IsBoard d → is_report r ≡ true → SameTold (told d) (told_by_report r) → d ≡ report_board r
 one_board d r is h e = same_board d (report_board r) is.nested (report_board_is r h).nested (record { facts = λ f. e.facts f ∙ sym ((report_tells r).facts f); issues = λ n. e.issues n ∙ sym ((report_tells r).issues n) })

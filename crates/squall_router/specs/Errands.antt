@@ -1,6 +1,6 @@
 -- Errands: a key is brought to its partition by the partitions' replies (this project; that a partition which no longer has a key
 -- sends on to the next: Squall, SIGMOD 2015).
-use Rattle.std.specs.Prelude.{◌≡◌, ℕ, nat_lt, Bool, true, false, List, [], ◌∷◌, Option, None, Some, if◌then◌else◌}
+use Rattle.std.specs.Prelude.{ℕ, nat_lt, List, [], ◌∷◌, Option, None, Some, if◌then◌else◌}
 use Rattle.squall_router.specs.declared.errand.Reply.{Reply}
 use Rattle.squall_router.specs.declared.errand.Reply.TheVariants.{Held, Moved, Pending, Behind, Elsewhere}
 use Rattle.squall_router.specs.declared.errand.Next.{Next}

@@ -15,3 +15,4 @@ pub mod Routers
 pub mod Errands
 pub mod Ways
 pub mod WayLaws
+pub mod ComingLaws

@@ -1,42 +1,41 @@
 -- Laws of the ways by which reports come to a board.
-use Rattle.std.specs.Prelude.{◌≡◌, ℕ, ◌==◌, ◌||◌, not, Bool, cond, true, false, List, [], ◌∷◌, ◌++◌, Option, None, refl}
-use Rattle.std.proofs.Common.{sym, ap, ◌∙◌, subst, inl, inr}
+use Rattle.std.specs.Prelude.{◌≡◌, ℕ, ◌==◌, ◌||◌, not, Bool, cond, true, false, List, [], ◌∷◌, ◌++◌, refl}
+use Rattle.std.proofs.Common.{sym, subst, inl, inr}
+use Rattle.std.specs.List.{concat}
 use Rattle.std.proofs.lemmas.Bool.{cases_Bool}
 use Rattle.std.proofs.lemmas.List.{append-nil, append_assoc}
 use Rattle.squall_key.specs.Lemmas.{same_number}
 use Rattle.squall_plan.specs.Ranges.{owner_of}
 use Rattle.squall_course.specs.Change.{Change}
-use Rattle.squall_course.specs.Subplans.{moves}
 use Rattle.squall_report.specs.Facts.{Fact}
-use Rattle.squall_report.specs.Told.{SameTold, TellsBoth, told_by, told_by_report}
+use Rattle.squall_report.specs.Told.{told_by, told_by_report}
 use Rattle.squall_board.specs.Boards.{BoardValue, HasTaken, IsBoard, empty_board, told}
 use Rattle.squall_board.specs.BoardLaws.{has_both, has_none, one_tells, same_taken}
-use Rattle.squall_board.specs.Route.{has_come, route}
+use Rattle.squall_board.specs.Route.{route}
 use Rattle.squall_wire.specs.declared.message.Message.{Message}
-use Rattle.squall_wire.specs.declared.message.Message.TheVariants.{Delta, Digest}
-use Rattle.squall_wire.specs.Hearing.{new_feed, IsHeard}
-use Rattle.squall_wire.specs.HearingLaws.{one_hearing, spelled_are_heard, new_is_feed, pieces_are_one_push}
-use Rattle.squall_router.specs.Ways.{Reports, Packed, Way, ByTake, ByTakeAll, ByMerge, ByFrames, reports_packed, reports_by, reports_of, deltas_of, ArePacked, TakesIn, IsStreamed, Leads, LeadOn, LeadTo, BringTheSame, IsSent}
+use Rattle.squall_wire.specs.HearingLaws.{one_hearing, pieces_are_one_push}
+use Rattle.squall_router.specs.Ways.{Reports, Sent, SentBoard, SentDigest, Way, ByTake, ByTakeAll, ByMerge, ByFrames, reports_sent, reports_by, reports_of, messages_of, ArePacked, TakesIn, IsStreamed, Leads, LeadOn, LeadTo, BringTheSame, IsSent}
 
--- deltas taken in one after the other
-taken_in : (ps : List Packed) (b c : BoardValue) (rs : Reports) → ArePacked ps → HasTaken b rs → TakesIn (deltas_of ps) b c → HasTaken c (rs ++ reports_packed ps)
+-- messages of what was sent, taken in one after the other
+taken_in : (ss : List Sent) (b c : BoardValue) (rs : Reports) → ArePacked ss → HasTaken b rs → TakesIn (messages_of ss) b c → HasTaken c (rs ++ reports_sent ss)
 taken_in [] b c rs packed has same = subst (λ (qs : Reports). HasTaken c qs) (sym (append-nil rs)) (subst (λ (x : BoardValue). HasTaken x rs) same has)
-taken_in (p ∷ ps) b c rs packed has takes =
+taken_in (SentBoard p ∷ ss) b c rs packed has takes =
     let middle : HasTaken takes.0 (rs ++ p.reports) = has_both (told takes.0) (told b) (told p.board) rs p.reports takes.1 has packed.0 in
-    subst (λ (qs : Reports). HasTaken c qs) (append_assoc rs p.reports (reports_packed ps)) (taken_in ps takes.0 c (rs ++ p.reports) packed.1 middle takes.2)
+    subst (λ (qs : Reports). HasTaken c qs) (append_assoc rs p.reports (reports_sent ss)) (taken_in ss takes.0 c (rs ++ p.reports) packed.1 middle takes.2)
+taken_in (SentDigest d ∷ ss) b c rs packed has takes = taken_in ss b c rs packed.1 has takes
 
--- a feed gives the deltas that were sent, wherever their stream was cut
-same_deltas : (ps : List Packed) (pieces : List (List ℕ)) (b c : BoardValue) (s : IsStreamed ps pieces b c) → s.messages ≡ deltas_of ps
-same_deltas ps pieces b c s =
-    let on = pieces_are_one_push new_feed pieces s.messages s.fault s.feed refl new_is_feed s.heard in
-    (one_hearing _ s.messages (deltas_of ps) s.fault None on.rest [] on.heard (subst (λ (t : List ℕ). IsHeard t (deltas_of ps) None []) (sym s.stream) (spelled_are_heard (deltas_of ps) s.each))).0
+-- a feed gives the messages that were sent, wherever their stream was cut
+same_messages : (ss : List Sent) (pieces : List (List ℕ)) (b c : BoardValue) (s : IsStreamed ss pieces b c) → s.messages ≡ messages_of ss
+same_messages ss pieces b c s =
+    let on = pieces_are_one_push s.old pieces s.messages s.fault s.new s.unended s.is_feed s.heard in
+    (one_hearing (s.old.waiting ++ concat pieces) s.messages (messages_of ss) s.fault s.ends on.rest s.rest on.heard s.stream).0
 
 -- what was taken before, and what the call brings
 leads : (w : Way) (b c : BoardValue) (rs : Reports) → HasTaken b rs → Leads w b c → HasTaken c (rs ++ reports_by w)
 leads (ByTake r) b c rs has tells = has_both (told c) (told b) (told_by_report r) rs (r ∷ []) tells has (one_tells r)
 leads (ByTakeAll qs) b c rs has tells = has_both (told c) (told b) (told_by qs) rs qs tells has (record { facts = λ f. refl; issues = λ n. refl })
 leads (ByMerge p) b c rs has tells = has_both (told c) (told b) (told p.board) rs p.reports tells.1 has tells.0
-leads (ByFrames ps pieces) b c rs has s = taken_in ps b c rs s.packed has (subst (λ (ms : List Message). TakesIn ms b c) (same_deltas ps pieces b c s) s.taken)
+leads (ByFrames ss pieces) b c rs has s = taken_in ss b c rs s.packed has (subst (λ (ms : List Message). TakesIn ms b c) (same_messages ss pieces b c s) s.taken)
 
 lead_on : (ws : List Way) (b c : BoardValue) (rs : Reports) → HasTaken b rs → LeadOn ws b c → HasTaken c (rs ++ reports_of ws)
 lead_on [] b c rs has same = subst (λ (qs : Reports). HasTaken c qs) (sym (append-nil rs)) (subst (λ (x : BoardValue). HasTaken x rs) same has)

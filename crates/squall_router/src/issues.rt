@@ -1,17 +1,17 @@
-//! What is issued by one board or another.
+//! What is issued by a report, or by one board or another.
 
-ghost use Rattle.std.specs.Prelude.{◌≡◌, ◌≤◌, ℕ, map, IfOk, OnOk, IsTrue};
+ghost use Rattle.std.specs.Prelude.{◌≡◌, ◌≤◌, ℕ, map, false, IfOk, OnOk};
 ghost use Rattle.std.specs.List.{AllByRecursion};
 ghost use Rattle.std.specs.Arc.{arc_value};
 ghost use Rattle.squall_join.specs.declared.flat.Flat.TheVariants.{Unknown};
 ghost use Rattle.squall_join.specs.Flats.{flat_map};
 ghost use Rattle.squall_report.specs.Told.{both_issued};
-ghost use Rattle.squall_board.specs.Boards.{issued};
+ghost use Rattle.squall_board.specs.Boards.{issued, report_board};
 ghost use Rattle.squall_board.specs.Listed.{entries_issue};
 
 use squall_board::Board;
 use squall_join::Flat;
-use squall_report::Issue;
+use squall_report::{Issue, Report, ReportKind};
 use std::alloc::{AllocError, Global};
 use std::sync::Arc;
 
@@ -47,11 +47,9 @@ pub(crate) fn both_issues(alloc: Global, first: &Board, second: &Board) -> Resul
     Ok(board)
 }
 
-/// Whether the board issues nothing. It fails where an allocation fails, or where the count of an
-/// issue's owners is full.
-pub(crate) fn issues_nothing(board: &Board) -> Result<bool, AllocError>
-    ensures { IfOk result (λ none. IsTrue none → (n : ℕ) → issued board.now n ≡ Unknown) }
+/// Whether the report issues a pair of plans.
+pub(crate) fn is_issue(report: &Report) -> bool
+    ensures { result ≡ false → (n : ℕ) → issued (report_board report.now) n ≡ Unknown }
 {
-    let issues = board.issues()?;
-    Ok(issues.is_empty())
+    matches!(report.kind(), ReportKind::Issued { .. })
 }

@@ -10,7 +10,8 @@ mod router;
 
 pub use errand::{Errand, Next, Reply};
 pub use laws::{
-    all_in_is_the_new_plan, ends_are_for_ever, routers_follow_reports, same_told_same_routers,
+    all_in_is_the_new_plan, ends_are_for_ever, pieces_bring_messages, routers_follow_reports,
+    same_told_same_routers,
 };
 pub use promise::headline;
 pub use router::Router;

@@ -16,15 +16,17 @@ use crate::router::Router;
 use squall_board::Board;
 
 /// Whatever calls bring the same reports to two boards, one by one, in lists, in merged boards, or
-/// in frames that were encoded, cut anywhere, pushed into a feed and absorbed, in whatever order and
-/// however often: the boards are equal and have the same frame; routers with these boards and one
-/// first course have the same table; and a router sends each key to its new partition exactly where
-/// its load, or that partition's completion, is told for the key's own sub-plan of the newest
-/// course's number, and else to its old one.
+/// in frames that were encoded, among digests, cut anywhere, pushed into feeds in any state and
+/// absorbed, in whatever order and however often: the boards are equal and have the same frame;
+/// routers with these boards and one first course have the same table; and a router sends each key to
+/// its new partition exactly where its load, or that partition's completion, is told for the key's
+/// own sub-plan of the newest course's number, and else to its old one.
 ///
 /// A call's own contract says that it leads from the board before it to the board after it: the
-/// clauses `told` of [`Board::take`], [`Board::take_all`], [`Board::merge`] and [`Router::absorb`],
-/// and `heard` of `Feed::push`. That a merge loses nothing and adds nothing is its clause `told`.
+/// clauses `told` of [`Board::take`], [`Board::take_all`], [`Board::merge`], [`Router::take`] and
+/// [`Router::absorb`], and `heard` of `Feed::push`. Which messages a piece of a stream brings, where
+/// other calls come between the pieces, is the law `pieces_bring_messages`. That a merge loses
+/// nothing and adds nothing is the clause `told` of [`Board::merge`].
 pub fn headline(a: &Board, b: &Board, one: &Router, other: &Router)
     // Nothing is lost and nothing added: a board tells what the reports tell that came to it.
     ensures reports { (ws : List Way) → LeadTo ws a.now → HasTaken a.now (reports_of ws) }

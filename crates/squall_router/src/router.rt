@@ -1,22 +1,23 @@
 //! Routers.
 
-ghost use Rattle.std.specs.Prelude.{◌≡◌, ◌++◌, List, IfOk, OnOk, OnErr, option_map, unwrap_or};
+ghost use Rattle.std.specs.Prelude.{◌≡◌, ◌++◌, ◌∷◌, [], List, IfOk, OnOk, OnErr, option_map, unwrap_or};
 ghost use Rattle.std.specs.Arc.{arc_value};
 ghost use Rattle.squall_course.specs.Change.{ArePlans};
 ghost use Rattle.squall_report.specs.declared.report.ReportKind.{ReportKind};
 ghost use Rattle.squall_report.specs.Issues.{PlanPair};
-ghost use Rattle.squall_report.specs.Told.{TellsBoth};
-ghost use Rattle.squall_board.specs.Boards.{IsBoard, HasTaken, empty_board, board_join, told};
+ghost use Rattle.squall_report.specs.Told.{TellsBoth, told_by_report};
+ghost use Rattle.squall_board.specs.Boards.{IsBoard, HasTaken, empty_board, board_join, report_board, told};
 ghost use Rattle.squall_board.specs.CourseRoute.{course_by, course_of_board};
 ghost use Rattle.squall_table.specs.Tables.{AreLegs, legs_between};
 ghost use Rattle.squall_router.specs.Routers.{router_with, course_of_router, route_of_router, IsTableOf};
 
-use crate::issues::{both_issues, issues_nothing};
+use crate::issues::{both_issues, is_issue};
 use squall_board::{Board, Delta};
 use squall_course::Course;
+use squall_delta::delta_of;
 use squall_join::Shared;
 use squall_key::{Key, PartId};
-use squall_report::Issue;
+use squall_report::{Issue, Report};
 use squall_span::Span;
 use squall_table::{Leg, RouteTable, legs_are_key_by_key};
 use std::alloc::{AllocError, Global};
@@ -154,6 +155,39 @@ impl Router {
         self.take_up(&news)
     }
 
+    /// Takes the report, and answers from then on by it too, as after [`Router::absorb`] of its board.
+    /// It patches its table where the report moves keys, and builds it where the report makes another
+    /// course the newest. It fails where an allocation fails, or where a count of owners is full, and
+    /// then the router is unchanged.
+    ///
+    /// The report goes into board and table in place: a board of it is made only where it is an issue.
+    pub fn take(&mut self, report: &Report) -> Result<(), AllocError>
+        ensures first { self.new.first ≡ self.old.first }
+        ensures board { OnOk result (self.new.board ≡ board_join self.old.board (report_board report.now)) }
+        ensures told { OnOk result (TellsBoth (told self.new.board) (told self.old.board) (told_by_report report.now)) }
+        ensures taken { OnOk result ((rs : List (ReportKind PlanPair)) → HasTaken self.old.board rs → HasTaken self.new.board (rs ++ report.now ∷ [])) }
+        ensures err { OnErr result (self.new ≡ self.old) }
+    {
+        self.known();
+        // The proof learns that the report lies within the limits, so that its board is one.
+        let _kind = report.kind();
+        if is_issue(report) {
+            let issue = delta_of(self.alloc, report)?;
+            return self.take_up(&issue);
+        }
+        self.take_in_place(report)
+    }
+
+    /// Takes a report after which the course stays.
+    fn take_in_place(&mut self, report: &Report) -> Result<(), AllocError>
+        requires { course_of_router self.old ≡ course_of_board self.old.first (board_join self.old.board (report_board report.now)) }
+        ensures ok { OnOk result (self.new ≡ router_with self.old.first (board_join self.old.board (report_board report.now))) }
+        ensures err { OnErr result (self.new ≡ self.old) }
+    {
+        self.table
+            .take(self.course.as_arc(), &mut self.board, report)
+    }
+
     /// Takes all of the news, whether its board told it before or not.
     fn take_up(&mut self, news: &Delta) -> Result<(), AllocError>
         ensures ok { OnOk result (self.new ≡ router_with self.old.first (board_join self.old.board news.now)) }
@@ -174,7 +208,7 @@ impl Router {
     {
         self.board.known();
         news.known();
-        if issues_nothing(news)? {
+        if !news.has_issues() {
             return Ok(None);
         }
         let issues = both_issues(self.alloc, &self.board, news)?;

@@ -1,10 +1,10 @@
-use Rattle.std.proofs.Common.{◌≡◌, ap, ◌∙◌}
+use Rattle.std.proofs.Common.{◌≡◌, ap, ◌∙◌, rules}
 use Rattle.squall_course.specs.Change.{Change}
 use Rattle.squall_router.proofs.Newer.{other_is, same_number_stays, stays_without_issues}
 use Rattle.squall_router.proofs.router.Router.other_course.Goals as goal
 
-pub returns-then-branch : goal.returns-then-branch
-returns-then-branch c = stays_without_issues c.args.self.now c.self.inside.first c.self.inside.board c.args.news.now c.self.view_is c.known.ensures.board c.known-2.ensures.board (c.in_ok-issues_nothing.ensures c.if-branch.true)
+pub returns-then-not-has_issues : goal.returns-then-not-has_issues
+returns-then-not-has_issues c = stays_without_issues c.args.self.now c.self.inside.first c.self.inside.board c.args.news.now c.self.view_is c.known.ensures.board c.known-2.ensures.board (c.has_issues.ensures.none (search rules))
 
 pub returns-then-number_of-number : goal.returns-then-number_of-number
 returns-then-number_of-number c =
