@@ -6,7 +6,7 @@ use Rattle.std.proofs.lemmas.Bool.{cases_Bool, cases_lt, cases_eq, both_ways}
 use Rattle.squall_key.specs.Keys.{top}
 use Rattle.squall_span.specs.Spans.{span_has}
 use Rattle.squall_part.specs.Chunks.{ChunkValue}
-use Rattle.squall_protocol.specs.Worlds.{WorldValue, is_part}
+use Rattle.squall_protocol.specs.Worlds.{WorldValue, WasBegun, is_part}
 use Rattle.squall_protocol.specs.Promises.{Carrier, Holder, Flight, IsInFlight, Carries, OneCarrier, TrueReports, OneDestination, ChunksHaveNodes}
 use Rattle.squall_protocol.proofs.Courses.{old_owner, new_owner, sub_in, Moves, single_dest, moving_key, is_incoming_so}
 use Rattle.squall_protocol.proofs.Kept.{TrueFacts, IsGiven, IsLoaded, IsSent, HasChunk, Kept}
@@ -116,13 +116,23 @@ one_destination w kept i j k m a b at_i at_j in_a in_b same =
 
 -- ---- true reports
 
+-- a key is loaded in a course that was begun
+loaded_begun : (w : WorldValue) → Kept w → (n q k : ℕ) → w.loaded n q k ≡ true → WasBegun w n
+loaded_begun w kept n q k h =
+    let l : IsLoaded w n q k = kept.loaded n q k h in
+    let g : IsGiven w n (old_owner w n k) k = kept.given n (old_owner w n k) k l.given in (g.first, g.last)
+
 pub true_reports : (w : WorldValue) → Kept w → TrueReports w
 true_reports w kept node =
     let t : TrueFacts w (w.facts node) = kept.facts node in
     record {
+      loaded_begun = λ c k h. loaded_begun w kept c.number c.part k (t.loaded c k h);
       loaded = t.loaded;
+      done_begun = t.done_begun;
       done = λ c h k comes. let x = is_incoming_so (w.plan (c.number - 1)) (w.plan c.number) c.sub c.part k comes in t.done c h k x.0 x.2 x.1;
+      opened_begun = t.opened_begun;
       opened = t.opened;
+      issued = t.issued;
     }
 
 -- ---- the nodes of chunks

@@ -4,9 +4,9 @@ use Rattle.std.proofs.lemmas.Bool.{cases_Bool, cases_lt, cases_eq, both_ways, fa
 use Rattle.squall_key.specs.Keys.{top}
 use Rattle.squall_plan.specs.Ranges.{owner_of}
 use Rattle.squall_protocol.specs.declared.event.Node.TheVariants.{Part}
-use Rattle.squall_protocol.specs.Worlds.{WorldValue, is_part, course_at}
+use Rattle.squall_protocol.specs.Worlds.{WorldValue, is_part, course_at, WasBegun}
 use Rattle.squall_protocol.proofs.Courses.{old_owner, new_owner, Moves}
-use Rattle.squall_protocol.proofs.Kept.{WasBegun, IsGiven, IsLoaded, Kept}
+use Rattle.squall_protocol.proofs.Kept.{IsGiven, IsLoaded, Kept}
 use Rattle.squall_protocol.specs.Knowledge.{part_in, IsLastGiven}
 use Rattle.squall_protocol.proofs.Later.{Later}
 use Rattle.squall_protocol.proofs.Known.{hears_course}

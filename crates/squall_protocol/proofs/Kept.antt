@@ -1,25 +1,21 @@
 -- What holds in each world of a run.
-use Rattle.std.proofs.Common.{◌≡◌, ◌⊎◌, ℕ, ◌+◌, ◌-◌, ◌<◌, ◌≤◌, true, false}
+use Rattle.std.proofs.Common.{◌≡◌, ◌⊎◌, ℕ, ◌+◌, ◌<◌, ◌≤◌, true, false}
 use Rattle.std.specs.Prelude.{Some}
 use Rattle.std.specs.List.{slice_get}
 use Rattle.squall_key.specs.Keys.{top}
 use Rattle.squall_span.specs.Spans.{span_has}
 use Rattle.squall_join.specs.declared.flat.Flat.TheVariants.{Unknown, One}
 use Rattle.squall_plan.specs.Ranges.{owner_of}
-use Rattle.squall_report.specs.Issues.{PlanPair, plan_pair}
+use Rattle.squall_report.specs.Issues.{PlanPair}
 use Rattle.squall_report.specs.Cells.{CellPlace}
 use Rattle.squall_report.specs.Tests.{Tests}
 use Rattle.squall_part.specs.Chunks.{ChunkValue}
 use Rattle.squall_protocol.specs.declared.event.Node.{Node}
 use Rattle.squall_protocol.specs.declared.event.Node.TheVariants.{Part}
-use Rattle.squall_protocol.specs.Worlds.{WorldValue, is_part}
+use Rattle.squall_protocol.specs.Worlds.{WorldValue, WasBegun, pair_at, is_part}
 use Rattle.squall_protocol.specs.Steps.{IsPlan}
 use Rattle.squall_protocol.specs.Promises.{opened_of}
 use Rattle.squall_protocol.proofs.Courses.{old_owner, new_owner, sub_in, count_of, Moves}
-
--- the course of the number was begun
-abbrev pub WasBegun : WorldValue → ℕ → Type 0
-WasBegun w n = (1 ≤ n) × (n ≤ w.last)
 
 -- the number is the first course's, or one pair of plans is issued under it
 abbrev pub Hears : Tests → ℕ → Type 0
@@ -29,10 +25,6 @@ Hears f n = (n ≡ 1) ⊎ ((pair : PlanPair) × (f.issued n ≡ One pair))
 abbrev pub IsNewest : Tests → ℕ → Type 0
 IsNewest f n = Hears f n × ((m : ℕ) → Hears f m → m ≤ n)
 
--- both plans of the course of a number
-abbrev pub pair_of : WorldValue → ℕ → PlanPair
-pair_of w n = plan_pair (w.plan (n - 1)) (w.plan n)
-
 -- each thing that is told happened
 pub record TrueFacts (w : WorldValue) (f : Tests) : Type 0 where
   pub loaded : (c : CellPlace) (k : ℕ) → f.loaded c k ≡ true → w.loaded c.number c.part k ≡ true
@@ -40,7 +32,7 @@ pub record TrueFacts (w : WorldValue) (f : Tests) : Type 0 where
   pub done : (c : CellPlace) → f.done c ≡ true → (k : ℕ) → Moves w c.number k → new_owner w c.number k ≡ c.part → sub_in w c.number k ≡ c.sub → w.loaded c.number c.part k ≡ true
   pub opened_begun : (n t : ℕ) → t < f.opened n → WasBegun w n
   pub opened : (n t : ℕ) → t < f.opened n → t < opened_of w n
-  pub issued : (n : ℕ) → (f.issued n ≡ Unknown) ⊎ (WasBegun w n × (f.issued n ≡ One (pair_of w n)))
+  pub issued : (n : ℕ) → (f.issued n ≡ Unknown) ⊎ (WasBegun w n × (f.issued n ≡ One (pair_at w n)))
 
 -- who holds a key: its new partition where it stays or is loaded, its old one where it moves and is not given
 abbrev pub Holds : WorldValue → ℕ → ℕ → Type 0

@@ -9,9 +9,9 @@ use Rattle.squall_report.specs.Issues.{PlanPair}
 use Rattle.squall_report.specs.Tests.{Tests}
 use Rattle.squall_board.specs.CourseRoute.{IsCourseBy}
 use Rattle.squall_part.specs.Parts.{course_under}
-use Rattle.squall_protocol.specs.Worlds.{WorldValue, course_at, first_course}
+use Rattle.squall_protocol.specs.Worlds.{WorldValue, course_at, first_course, WasBegun, pair_at}
 use Rattle.squall_protocol.specs.Knowledge.{known_by}
-use Rattle.squall_protocol.proofs.Kept.{WasBegun, Hears, IsNewest, pair_of, TrueFacts}
+use Rattle.squall_protocol.proofs.Kept.{Hears, IsNewest, TrueFacts}
 
 one_unknown : (pair : PlanPair) → One pair ≡ Unknown → ⊥
 one_unknown pair h = cc
@@ -23,10 +23,10 @@ some_same : (c d : Change) → Some c ≡ Some d → c ≡ d
 some_same c d h = cc
 
 -- a course that is issued was begun, and the issue is of its plans
-issued_begun : (w : WorldValue) (f : Tests) (n : ℕ) (pair : PlanPair) → TrueFacts w f → f.issued n ≡ One pair → WasBegun w n × (f.issued n ≡ One (pair_of w n))
+issued_begun : (w : WorldValue) (f : Tests) (n : ℕ) (pair : PlanPair) → TrueFacts w f → f.issued n ≡ One pair → WasBegun w n × (f.issued n ≡ One (pair_at w n))
 issued_begun w f n pair t e = ⊎_elim
     (λ (u : f.issued n ≡ Unknown). absurd (one_unknown pair (sym e ∙ u)))
-    (λ (u : WasBegun w n × (f.issued n ≡ One (pair_of w n))). u)
+    (λ (u : WasBegun w n × (f.issued n ≡ One (pair_at w n))). u)
     (t.issued n)
 
 pub hears_begun : (w : WorldValue) (f : Tests) (n : ℕ) → 1 ≤ w.last → TrueFacts w f → Hears f n → WasBegun w n
@@ -50,8 +50,8 @@ known_course w f n c first t e = ⊎_elim
     let rest : course_under n (f.issued n) ≡ Some c = sym (cond-false (n == 1) (Some (first_course w)) (course_under n (f.issued n)) (ne_eqb n 1 other)) ∙ e in
     ⊎_elim
     (λ (u : f.issued n ≡ Unknown). absurd (some_none c (subst (λ (x : Flat PlanPair). course_under n x ≡ Some c) u rest)))
-    (λ (u : WasBegun w n × (f.issued n ≡ One (pair_of w n))).
-    record { hears = inr (pair_of w n, u.1); begun = u.0; same = sym (some_same (course_at w n) c (subst (λ (x : Flat PlanPair). course_under n x ≡ Some c) u.1 rest)) })
+    (λ (u : WasBegun w n × (f.issued n ≡ One (pair_at w n))).
+    record { hears = inr (pair_at w n, u.1); begun = u.0; same = sym (some_same (course_at w n) c (subst (λ (x : Flat PlanPair). course_under n x ≡ Some c) u.1 rest)) })
     (t.issued n))
     (cases_eq n 1)
 
@@ -61,7 +61,7 @@ hears_course w f n t heard = ⊎_elim
     (λ (other : n ≡ 1 → ⊥). cond-false (n == 1) (Some (first_course w)) (course_under n (f.issued n)) (ne_eqb n 1 other) ∙ ap (course_under n) (issue other heard))
     (cases_eq n 1)
   where
-    issue : (n ≡ 1 → ⊥) → Hears f n → f.issued n ≡ One (pair_of w n)
+    issue : (n ≡ 1 → ⊥) → Hears f n → f.issued n ≡ One (pair_at w n)
     issue other (inl one) = absurd (other one)
     issue other (inr (pair, e)) = (issued_begun w f n pair t e).1
 
@@ -82,7 +82,7 @@ newest_course w f c first t (None, is, e) =
     subst (λ d. NewestCourse w f d) (sym e) (record { begun = (omega arith, first); newest = (inl refl, none_newer f 1 (omega arith) is); same = refl })
 newest_course w f c first t (Some x, is, e) =
     let known = issued_begun w f x.0 x.1 t is.1 in
-    let pair : x.1 ≡ pair_of w x.0 = one_same x.1 (pair_of w x.0) (sym is.1 ∙ known.1) in
+    let pair : x.1 ≡ pair_at w x.0 = one_same x.1 (pair_at w x.0) (sym is.1 ∙ known.1) in
     let same : c ≡ course_at w x.0 = e ∙ ap (λ (p : PlanPair). record { number = x.0; old = p.old; new = p.new }) pair in
     subst (λ d. NewestCourse w f d) (sym same) (record { begun = known.0; newest = (inr (x.1, is.1), none_newer f x.0 known.0.0 is.2); same = refl })
   where

@@ -6,10 +6,10 @@ use Rattle.squall_plan.specs.Ranges.{owner_of}
 use Rattle.squall_course.specs.Subplans.{sub_of, subplan_count}
 use Rattle.squall_report.specs.Issues.{plan_pair}
 use Rattle.squall_report.specs.Tests.{Tests}
-use Rattle.squall_protocol.specs.Worlds.{WorldValue}
+use Rattle.squall_protocol.specs.Worlds.{WorldValue, WasBegun, pair_at}
 use Rattle.squall_protocol.specs.Promises.{opened_of}
 use Rattle.squall_protocol.proofs.Courses.{old_owner, new_owner, sub_in, count_of, Moves}
-use Rattle.squall_protocol.proofs.Kept.{WasBegun, pair_of, TrueFacts}
+use Rattle.squall_protocol.proofs.Kept.{TrueFacts}
 
 -- begun courses keep their plans, and no fewer sub-plans are opened and no fewer keys given and loaded
 pub record Later (w v : WorldValue) : Type 0 where
@@ -90,7 +90,7 @@ opened_later w v l most n h = ⊎_elim
     over before e = let x : w.last ≤ v.last = l.last in before (omega arith)
 
 -- both plans of a course that was begun stay
-pub pair_same : (w v : WorldValue) → Later w v → (n : ℕ) → n ≤ w.last → pair_of v n ≡ pair_of w n
+pub pair_same : (w v : WorldValue) → Later w v → (n : ℕ) → n ≤ w.last → pair_at v n ≡ pair_at w n
 pair_same w v l n h = ap₂ plan_pair (l.plan (n - 1) (omega arith)) (l.plan n h)
 
 -- ---- what was true stays true
@@ -108,6 +108,6 @@ true_later w v f l t most =
           let o : opened_of w n ≤ opened_of v n = opened_later w v l most n b.1 in omega arith;
       issued = λ n. ⊎_elim
           (λ (e : f.issued n ≡ Unknown). inl e)
-          (λ (e : WasBegun w n × (f.issued n ≡ One (pair_of w n))). inr ((e.0.0, le_trans e.0.1 l.last), e.1 ∙ ap One (sym (pair_same w v l n e.0.1))))
+          (λ (e : WasBegun w n × (f.issued n ≡ One (pair_at w n))). inr ((e.0.0, le_trans e.0.1 l.last), e.1 ∙ ap One (sym (pair_same w v l n e.0.1))))
           (t.issued n);
     }

@@ -17,6 +17,7 @@ pub mod Open
 pub mod Begin
 pub mod Changes
 pub mod Runs
+pub mod Reached
 pub mod Start
 pub mod Carriers
 pub mod Had

@@ -3,9 +3,9 @@ use Rattle.std.proofs.Common.{◌≡◌, ◌≢◌, ℕ, ◌-◌, ◌<◌, ◌�
 use Rattle.std.proofs.lemmas.Bool.{cases_lt, cases_eq}
 use Rattle.squall_plan.specs.Ranges.{owner_of}
 use Rattle.squall_protocol.specs.declared.event.Node.TheVariants.{Part}
-use Rattle.squall_protocol.specs.Worlds.{WorldValue}
+use Rattle.squall_protocol.specs.Worlds.{WorldValue, WasBegun}
 use Rattle.squall_protocol.proofs.Courses.{old_owner, new_owner, Moves}
-use Rattle.squall_protocol.proofs.Kept.{WasBegun, IsNewest, IsLoaded, Kept}
+use Rattle.squall_protocol.proofs.Kept.{IsNewest, IsLoaded, Kept}
 use Rattle.squall_protocol.proofs.Known.{hears_begun}
 use Rattle.squall_protocol.proofs.Chain.{Comes, comes}
 

@@ -1,5 +1,5 @@
 -- Worlds that agree in each part are one.
-use Rattle.std.proofs.Common.{◌≡◌}
+use Rattle.std.proofs.Common.{◌≡◌, refl}
 use Rattle.squall_report.specs.TestsLaws.{same_tests}
 use Rattle.squall_protocol.specs.Worlds.{WorldValue, SameWorld}
 
@@ -17,4 +17,20 @@ same_world w v s =
       facts = λ node. same_tests (w.facts node) (v.facts node) (s.facts node) i;
       messages = s.messages i;
       chunks = s.chunks i;
+    }
+
+pub same_as_itself : (w : WorldValue) → SameWorld w w
+same_as_itself w =
+    record {
+      plan = λ n. refl;
+      last = refl;
+      opened = refl;
+      parts = refl;
+      routers = refl;
+      held = λ p k. refl;
+      given = λ n p k. refl;
+      loaded = λ n p k. refl;
+      facts = λ node. record { loaded = λ c k. refl; done = λ c. refl; opened = λ n. refl; issued = λ n. refl };
+      messages = refl;
+      chunks = refl;
     }

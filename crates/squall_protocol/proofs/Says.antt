@@ -5,10 +5,10 @@ use Rattle.squall_join.specs.declared.flat.Flat.TheVariants.{Unknown, One}
 use Rattle.squall_report.specs.Issues.{PlanPair}
 use Rattle.squall_report.specs.Cells.{CellPlace, place_at, is_same_cell}
 use Rattle.squall_report.specs.Tests.{loaded_tests, done_tests, opened_tests, issued_tests}
-use Rattle.squall_protocol.specs.Worlds.{WorldValue}
+use Rattle.squall_protocol.specs.Worlds.{WorldValue, WasBegun, pair_at}
 use Rattle.squall_protocol.specs.Promises.{opened_of}
 use Rattle.squall_protocol.proofs.Courses.{new_owner, sub_in, Moves}
-use Rattle.squall_protocol.proofs.Kept.{WasBegun, pair_of, TrueFacts}
+use Rattle.squall_protocol.proofs.Kept.{TrueFacts}
 use Rattle.squall_report.specs.Tests.{no_tests}
 use Rattle.squall_protocol.proofs.Later.{opened_now}
 
@@ -79,7 +79,7 @@ opened_true w s first below =
         (λ (e : (w.last == m) ≡ false). none_below t (subst (λ x. t < x) (cond-false (w.last == m) (s + 1) 0 e) h))
         (cases_Bool (w.last == m))
 
-pub issued_true : (w : WorldValue) (n : ℕ) (pair : PlanPair) → WasBegun w n → pair ≡ pair_of w n → TrueFacts w (issued_tests n pair)
+pub issued_true : (w : WorldValue) (n : ℕ) (pair : PlanPair) → WasBegun w n → pair ≡ pair_at w n → TrueFacts w (issued_tests n pair)
 issued_true w n pair begun is =
     record {
       loaded = λ c k h. false_is_true h;
@@ -88,7 +88,7 @@ issued_true w n pair begun is =
       opened_begun = λ m t h. none_below t h;
       opened = λ m t h. none_below t h;
       issued = λ m. ⊎_elim
-          (λ (e : (n == m) ≡ true). inr (subst (λ x. WasBegun w x × (cond (n == m) (One pair) Unknown ≡ One (pair_of w x))) (eqb-true n m e) (begun, cond-true (n == m) (One pair) Unknown e ∙ ap One is)))
+          (λ (e : (n == m) ≡ true). inr (subst (λ x. WasBegun w x × (cond (n == m) (One pair) Unknown ≡ One (pair_at w x))) (eqb-true n m e) (begun, cond-true (n == m) (One pair) Unknown e ∙ ap One is)))
           (λ (e : (n == m) ≡ false). inl (cond-false (n == m) (One pair) Unknown e))
           (cases_Bool (n == m));
     }

@@ -8,9 +8,9 @@ use Rattle.squall_report.specs.Told.{both_issued}
 use Rattle.squall_report.specs.ToldLaws.{issued_idem}
 use Rattle.squall_report.specs.Tests.{Tests, joined_tests}
 use Rattle.squall_protocol.specs.declared.event.Node.{Node}
-use Rattle.squall_protocol.specs.Worlds.{WorldValue, same_node}
+use Rattle.squall_protocol.specs.Worlds.{WorldValue, same_node, WasBegun, pair_at}
 use Rattle.squall_protocol.specs.Steps.{told_to}
-use Rattle.squall_protocol.proofs.Kept.{WasBegun, Hears, pair_of, TrueFacts}
+use Rattle.squall_protocol.proofs.Kept.{Hears, TrueFacts}
 
 known_unknown : (pair : PlanPair) → One pair ≡ Unknown → ⊥
 known_unknown pair h = cc
@@ -25,12 +25,12 @@ true_joined w f g t u =
       opened_begun = λ n s h. ⊎_elim (λ x. t.opened_begun n s x) (λ x. u.opened_begun n s x) (either s (f.opened n) (g.opened n) h);
       opened = λ n s h. ⊎_elim (λ x. t.opened n s x) (λ x. u.opened n s x) (either s (f.opened n) (g.opened n) h);
       issued = λ n. ⊎_elim
-          (λ (a : f.issued n ≡ Unknown). subst (λ (x : Flat PlanPair). (both_issued x (g.issued n) ≡ Unknown) ⊎ (WasBegun w n × (both_issued x (g.issued n) ≡ One (pair_of w n)))) (sym a) (u.issued n))
-          (λ (a : WasBegun w n × (f.issued n ≡ One (pair_of w n))). inr (
+          (λ (a : f.issued n ≡ Unknown). subst (λ (x : Flat PlanPair). (both_issued x (g.issued n) ≡ Unknown) ⊎ (WasBegun w n × (both_issued x (g.issued n) ≡ One (pair_at w n)))) (sym a) (u.issued n))
+          (λ (a : WasBegun w n × (f.issued n ≡ One (pair_at w n))). inr (
             a.0,
             ⊎_elim
                 (λ (b : g.issued n ≡ Unknown). ap₂ both_issued a.1 b)
-                (λ (b : WasBegun w n × (g.issued n ≡ One (pair_of w n))). ap₂ both_issued a.1 b.1 ∙ issued_idem (One (pair_of w n)))
+                (λ (b : WasBegun w n × (g.issued n ≡ One (pair_at w n))). ap₂ both_issued a.1 b.1 ∙ issued_idem (One (pair_at w n)))
                 (u.issued n),
           ))
           (t.issued n);
@@ -46,9 +46,9 @@ hears_joined w f g t u n (inr (pair, e)) = inr (
   pair,
   ⊎_elim
       (λ (x : g.issued n ≡ Unknown). ap₂ both_issued e x)
-      (λ (x : WasBegun w n × (g.issued n ≡ One (pair_of w n))). ⊎_elim
+      (λ (x : WasBegun w n × (g.issued n ≡ One (pair_at w n))). ⊎_elim
       (λ (y : f.issued n ≡ Unknown). absurd (known_unknown pair (sym e ∙ y)))
-      (λ (y : WasBegun w n × (f.issued n ≡ One (pair_of w n))). ap₂ both_issued e (x.1 ∙ sym y.1 ∙ e) ∙ issued_idem (One pair))
+      (λ (y : WasBegun w n × (f.issued n ≡ One (pair_at w n))). ap₂ both_issued e (x.1 ∙ sym y.1 ∙ e) ∙ issued_idem (One pair))
       (t.issued n))
       (u.issued n),
 )

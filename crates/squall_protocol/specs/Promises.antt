@@ -1,8 +1,9 @@
 -- What is promised of each world of a run.
-use Rattle.std.specs.Prelude.{◌≡◌, ◌≢◌, ℕ, ◌+◌, ◌<◌, ◌==◌, true, false, List, Some, if◌then◌else◌}
+use Rattle.std.specs.Prelude.{◌≡◌, ◌≢◌, ◌⊎◌, ℕ, ◌+◌, ◌<◌, ◌==◌, true, false, List, Some, if◌then◌else◌}
 use Rattle.std.specs.List.{slice_get}
 use Rattle.squall_key.specs.Keys.{top}
 use Rattle.squall_span.specs.Spans.{span_has}
+use Rattle.squall_join.specs.declared.flat.Flat.TheVariants.{Unknown, One}
 use Rattle.squall_plan.specs.declared.range.PlanRange.{PlanRange}
 use Rattle.squall_plan.specs.Ranges.{owner_of}
 use Rattle.squall_course.specs.Change.{Change}
@@ -20,7 +21,7 @@ use Rattle.squall_protocol.specs.declared.event.Event.{Event}
 use Rattle.squall_protocol.specs.declared.event.Event.TheVariants.{Serve}
 use Rattle.squall_protocol.specs.declared.answer.Answer.{Answer}
 use Rattle.squall_protocol.specs.declared.answer.Answer.TheVariants.{Served}
-use Rattle.squall_protocol.specs.Worlds.{WorldValue, course_at, first_course, is_part, start}
+use Rattle.squall_protocol.specs.Worlds.{WorldValue, course_at, first_course, WasBegun, pair_at, is_part, start}
 use Rattle.squall_protocol.specs.Knowledge.{part_in, Serves}
 use Rattle.squall_protocol.specs.Steps.{IsPlan, Step, Run}
 
@@ -60,12 +61,17 @@ OneCarrier w = (k : ℕ) → k < top → (x : Carrier) × Carries w k x × ((y :
 abbrev pub opened_of : WorldValue → ℕ → ℕ
 opened_of w n = if n == w.last then w.opened else subplan_count (course_at w n).old (course_at w n).new
 
--- what is told happened: a key that is told loaded is loaded; where a partition is told to have all keys of a sub-plan, each of them is
--- loaded there; a sub-plan that is told to be opened is
+-- what is told happened: a key that is told loaded is loaded; if a partition is told to have all keys of a sub-plan, each of them is loaded
+-- there; a sub-plan that is told to be opened is; the numbers of all these were begun; and under a number either nothing is issued, or the
+-- number was begun and both plans of its course are issued, so that nothing clashes
 pub record Happened (w : WorldValue) (f : Tests) : Type 0 where
+  pub loaded_begun : (c : CellPlace) (k : ℕ) → f.loaded c k ≡ true → WasBegun w c.number
   pub loaded : (c : CellPlace) (k : ℕ) → f.loaded c k ≡ true → w.loaded c.number c.part k ≡ true
+  pub done_begun : (c : CellPlace) → f.done c ≡ true → WasBegun w c.number
   pub done : (c : CellPlace) → f.done c ≡ true → (k : ℕ) → is_incoming (course_at w c.number).old (course_at w c.number).new c.sub c.part k ≡ true → w.loaded c.number c.part k ≡ true
+  pub opened_begun : (n t : ℕ) → t < f.opened n → WasBegun w n
   pub opened : (n t : ℕ) → t < f.opened n → t < opened_of w n
+  pub issued : (n : ℕ) → (f.issued n ≡ Unknown) ⊎ (WasBegun w n × (f.issued n ≡ One (pair_at w n)))
 
 -- whatever a node was told happened
 abbrev pub TrueReports : WorldValue → Type 0

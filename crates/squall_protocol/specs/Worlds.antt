@@ -1,13 +1,13 @@
 -- Worlds: a leader, partitions and routers, and the messages and chunks on their way between them (a leader that starts
 -- reconfigurations, and partitions that give keys on and report what they loaded: Squall, SIGMOD 2015; routers, messages that may be lost,
 -- repeated and reordered, and several reconfigurations are this project's).
-use Rattle.std.specs.Prelude.{◌≡◌, ℕ, ◌-◌, ◌==◌, ◌&&◌, ◌||◌, nat_lt, Bool, true, false, List, [], if◌then◌else◌}
+use Rattle.std.specs.Prelude.{◌≡◌, ℕ, ◌-◌, ◌==◌, ◌≤◌, ◌&&◌, ◌||◌, nat_lt, Bool, true, false, List, [], if◌then◌else◌}
 use Rattle.std.specs.List.{filter, list_any, range_with_len}
 use Rattle.squall_key.specs.Keys.{top, part_limit}
 use Rattle.squall_plan.specs.declared.range.PlanRange.{PlanRange}
 use Rattle.squall_plan.specs.Ranges.{owner_of, names}
 use Rattle.squall_course.specs.Change.{Change}
-use Rattle.squall_report.specs.Issues.{plan_pair}
+use Rattle.squall_report.specs.Issues.{PlanPair, plan_pair}
 use Rattle.squall_report.specs.Tests.{Tests, SameTests, no_tests, issued_tests}
 use Rattle.squall_part.specs.Chunks.{ChunkValue}
 use Rattle.squall_protocol.specs.declared.event.Node.{Node}
@@ -45,6 +45,14 @@ first_course w = course_at w 1
 
 abbrev pub last_course : WorldValue → Change
 last_course w = course_at w w.last
+
+-- the course of the number was begun
+abbrev pub WasBegun : WorldValue → ℕ → Type 0
+WasBegun w n = (1 ≤ n) × (n ≤ w.last)
+
+-- both plans of the course of a number
+abbrev pub pair_at : WorldValue → ℕ → PlanPair
+pair_at w n = plan_pair (w.plan (n - 1)) (w.plan n)
 
 -- ---- its nodes
 

@@ -17,13 +17,14 @@ use Rattle.squall_protocol.specs.declared.answer.Answer.TheVariants.{Routed, Ser
 use Rattle.squall_protocol.specs.Worlds.{first_course}
 use Rattle.squall_protocol.specs.Knowledge.{Serves}
 use Rattle.squall_protocol.specs.Steps.{RouteStep, ServeStep}
+use Rattle.squall_protocol.proofs.Same.{same_as_itself}
 use Rattle.squall_world.specs.declared.peer.Role.TheVariants.{Router as RouterRole}
 use Rattle.squall_world.specs.Nets.{PeerValue, NetValue, IsNet, IsPeer, IsRole, IsRouterAt, role_board, first_of}
 use Rattle.squall_world.specs.Views.{view, facts_of}
 use Rattle.squall_world.specs.Events.{IsRouteIn, IsServeIn}
 use Rattle.squall_world.proofs.Lists.{all_at}
 use Rattle.squall_world.proofs.Nodes.{node_there, no_node, router_place, router_same, first_seen}
-use Rattle.squall_world.proofs.Seen.{tests_of_part, part_seen, peer_there, same_world}
+use Rattle.squall_world.proofs.Seen.{tests_of_part, part_seen, peer_there}
 use Rattle.squall_world.proofs.Gifts.{part_valid, there_seen}
 
 -- ---- routers
@@ -42,9 +43,9 @@ route_steps n r k (Routed p) net (at, peer, a, place, there, role, e) =
     let facts : tests_of a.board ≡ (view n).facts (Router r) = sym (ap facts_of (peer_there n (Router r) at peer place there) ∙ ap (λ v. tests_of (role_board v)) role) in (
       node_there n (Router r) at place,
       subst (λ c. IsRoutedBy c ((view n).facts (Router r)) k p) first (subst (λ t. IsRoutedBy a.first t k p) facts (subst (IsRoutedBy a.first (tests_of a.board) k) (sym e) (board_routes a.first a.board k board))),
-      same_world (view n),
+      same_as_itself (view n),
     )
-route_steps n r k (Refused e) net (none, s) = subst (λ v. RouteStep (view n) r k (Refused v) (view n)) (sym s) (no_node n (Router r) none, same_world (view n))
+route_steps n r k (Refused e) net (none, s) = subst (λ v. RouteStep (view n) r k (Refused v) (view n)) (sym s) (no_node n (Router r) none, same_as_itself (view n))
 route_steps n r k answer net is = absurd is
 
 -- ---- partitions
@@ -60,7 +61,7 @@ pub serve_steps : (n : NetValue) (p k after : ℕ) (answer : Answer) → IsNet n
 serve_steps n p k after (Served reply) net (at, peer, a, h, r) = (
   there_seen n p at peer a h,
   subst (λ v. Serves v k after reply) (sym (part_seen n p at peer a net h)) (serves a k after reply (part_valid n p at peer a net h).1 r),
-  same_world (view n),
+  same_as_itself (view n),
 )
-serve_steps n p k after (Refused e) net (none, s) = subst (λ v. ServeStep (view n) p k after (Refused v) (view n)) (sym s) (no_node n (Part p) none, same_world (view n))
+serve_steps n p k after (Refused e) net (none, s) = subst (λ v. ServeStep (view n) p k after (Refused v) (view n)) (sym s) (no_node n (Part p) none, same_as_itself (view n))
 serve_steps n p k after answer net is = absurd is

@@ -3,23 +3,15 @@ use Rattle.std.proofs.Common.{◌≡◌, ℕ, ◌+◌, ◌<◌, List, [], ◌∷
 use Rattle.std.proofs.lemmas.List.{append-nil, append_assoc, take_more}
 use Rattle.squall_protocol.specs.declared.event.Event.{Event}
 use Rattle.squall_protocol.specs.declared.answer.Answer.{Answer}
-use Rattle.squall_protocol.specs.Worlds.{WorldValue, SameWorld}
+use Rattle.squall_protocol.specs.Worlds.{WorldValue}
 use Rattle.squall_protocol.specs.Steps.{Step, Run}
-use Rattle.squall_protocol.proofs.Same.{same_world as one_world}
+use Rattle.squall_protocol.proofs.Same.{same_as_itself}
+use Rattle.squall_protocol.proofs.Reached.{run_more}
 use Rattle.squall_world.specs.Runs.{IsRun}
-use Rattle.squall_world.proofs.Seen.{same_world}
-
--- ---- a step more
-
-run_more : (w : WorldValue) (es : List Event) (rs : List Answer) (v : WorldValue) (e : Event) (r : Answer) (u : WorldValue) → Run w es rs v → Step v e r u → Run w (es ++ e ∷ []) (rs ++ r ∷ []) u
-run_more w [] [] v e r u run step = (u, subst (λ x. Step x e r u) (one_world v w run) step, same_world u)
-run_more w (d ∷ es) (q ∷ rs) v e r u run step = (run.0, run.1, run_more run.0 es rs v e r u run.2 step)
-run_more w [] (q ∷ rs) v e r u run step = absurd run
-run_more w (d ∷ es) [] v e r u run step = absurd run
 
 -- no event
 pub no_run : (w : WorldValue) (answers : List Answer) → IsRun w [] answers w answers
-no_run w answers = ([], same_world w, sym (append-nil answers))
+no_run w answers = ([], same_as_itself w, sym (append-nil answers))
 
 -- one more event of the list
 pub run_on : (w : WorldValue) (es : List Event) (i : ℕ) (before after : List Answer) (v : WorldValue) (e : Event) (r : Answer) (u : WorldValue) → i < length es → e ≡ get_or es i e → IsRun w (take i es) before v after → Step v e r u → IsRun w (take (i + 1) es) before u (after ++ r ∷ [])

@@ -9,16 +9,17 @@ use Rattle.squall_board.specs.BoardTests.{tests_of}
 use Rattle.squall_part.specs.Parts.{PartValue, given_by, loaded_by}
 use Rattle.squall_protocol.specs.declared.event.Node.{Node}
 use Rattle.squall_protocol.specs.declared.event.Node.TheVariants.{Leader, Part, Router}
-use Rattle.squall_protocol.specs.Worlds.{WorldValue, SameWorld, same_node, first_course}
+use Rattle.squall_protocol.specs.Worlds.{SameWorld, same_node, first_course}
 use Rattle.squall_protocol.specs.Knowledge.{PartTests, part_in as part_tests}
 use Rattle.squall_protocol.specs.Steps.{told_to}
+use Rattle.squall_protocol.proofs.Same.{same_as_itself}
 use Rattle.squall_world.specs.Nets.{PeerValue, NetValue, IsNet, place_of, peer_of, at_place, put_at, role_board, first_of, leader_in, part_in, AreWithin, with_peer}
 use Rattle.squall_world.specs.Views.{view, id_of, ids_in, part_of, held_by, given_under, loaded_under, facts_of, opened_by, opened_in, told_by_message}
 use Rattle.squall_world.specs.Events.{HasPart}
 use Rattle.squall_world.proofs.Lists.{eq_same, eq_apart, flat_put, put_here, put_there}
 use Rattle.squall_world.proofs.Nodes.{IsChanged, part_there, part_same, first_seen, each_node, at_part, same_refl}
 use Rattle.squall_world.proofs.Told.{told_more}
-use Rattle.squall_world.proofs.Boards.{same_self, same_by}
+use Rattle.squall_world.proofs.Boards.{same_by}
 use Rattle.squall_report.specs.declared.report.ReportKind.{ReportKind}
 use Rattle.squall_report.specs.Issues.{PlanPair}
 
@@ -103,20 +104,5 @@ module _ (n : NetValue) (x : Node) (at : ℕ) (a c : PeerValue) (net : IsNet n) 
 
 -- ---- nothing changed
 
-pub same_world : (w : WorldValue) → SameWorld w w
-same_world w = record {
-  plan = λ m. refl;
-  last = refl;
-  opened = refl;
-  parts = refl;
-  routers = refl;
-  held = λ p k. refl;
-  given = λ m p k. refl;
-  loaded = λ m p k. refl;
-  facts = λ y. same_self (w.facts y);
-  messages = refl;
-  chunks = refl;
-}
-
 pub still : (n m : NetValue) → m ≡ n → SameWorld (view m) (view n)
-still n m e = subst (λ v. SameWorld (view v) (view n)) (sym e) (same_world (view n))
+still n m e = subst (λ v. SameWorld (view v) (view n)) (sym e) (same_as_itself (view n))

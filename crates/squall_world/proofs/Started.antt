@@ -27,9 +27,11 @@ use Rattle.squall_leader.specs.Leaders.{IsLeader, new_leader, issue_report}
 use Rattle.squall_protocol.specs.declared.event.Node.{Node}
 use Rattle.squall_protocol.specs.declared.event.Node.TheVariants.{Leader, Part, Router}
 use Rattle.squall_protocol.specs.Worlds.{SameWorld, start, first_parts, first_facts}
+use Rattle.squall_protocol.proofs.Reached.{reached_start}
 use Rattle.squall_world.specs.declared.peer.Role.TheVariants.{Leader as LeaderRole, Router as RouterRole}
 use Rattle.squall_world.specs.Nets.{PeerValue, NetValue, IsNet, IsRole, IsRouterAt, ArePlaced, new_peer, place_of, peer_of, at_place, is_part_peer}
 use Rattle.squall_world.specs.Views.{view, id_of, ids_in, part_of, facts_of, held_by, given_under, loaded_under}
+use Rattle.squall_world.specs.Runs.{IsWorld}
 use Rattle.squall_world.specs.Events.{IsFirstNet, first_course_of, first_leader, leader_peer, router_peers, part_peers}
 use Rattle.squall_world.proofs.Lists.{eq_same, flat_append, get_left, place_is}
 use Rattle.squall_world.proofs.Boards.{tests_report, same_by}
@@ -330,3 +332,13 @@ first_is_start old new count m is =
     let e : m ≡ net_with old new count m.places = net_is old new count m is in
     let valid = subst (λ n. AllByRecursion (λ p. IsRole p.role) n.peers) e is.valid in
     subst (λ n. SameWorld (view n) (start old new count)) (sym e) (first_world old new count m.places (plans_of old new count m.places valid) valid)
+
+-- a run with no event leads to it
+pub first_is_world : (old new : List PlanRange) (count : ℕ) (m : NetValue) → IsFirstNet old new count (first_parts old new) m → IsWorld m
+first_is_world old new count m is =
+    let e : m ≡ net_with old new count m.places = net_is old new count m is in
+    let plans = plans_of old new count m.places (subst (λ n. AllByRecursion (λ p. IsRole p.role) n.peers) e is.valid) in
+    record {
+      net = first_is_net old new count m is;
+      reached = reached_start old new count (view m) (record { canonical = plans.old_canonical; ranges = plans.old_ranges }) (record { canonical = plans.new_canonical; ranges = plans.new_ranges }) (first_is_start old new count m is);
+    }

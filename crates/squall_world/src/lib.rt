@@ -9,6 +9,7 @@ mod moving;
 mod naming;
 mod net;
 mod peer;
+mod promise;
 mod refusal;
 mod reports;
 mod sending;

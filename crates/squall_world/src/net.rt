@@ -1,7 +1,8 @@
 //! The nodes of a world, and what is on its way between them.
 
-ghost use Rattle.std.specs.Prelude.{◌≡◌};
+ghost use Rattle.std.specs.Prelude.{◌≡◌, length};
 ghost use Rattle.squall_world.specs.Nets.{IsNet, place_of, newest_of};
+ghost use Rattle.squall_world.specs.Views.{ids_in};
 
 use crate::peer::Peer;
 use squall_course::Course;
@@ -61,6 +62,14 @@ impl Net {
             Node::Router(_) => None,
             Node::Part(part) => self.places[part.get() as usize],
         }
+    }
+
+    /// How many partitions there are.
+    pub(crate) fn parts(&self) -> usize
+        requires { IsNet self.now }
+        ensures { result ≡ length (ids_in self.now) }
+    {
+        self.peers.len() - 1 - self.routers as usize
     }
 
     /// The course begun last.

@@ -1,9 +1,10 @@
 //! What a world is asked, and what may happen in it.
 
-ghost use Rattle.std.specs.Prelude.{◌≡◌, ◌<◌, ◌≤◌, ℕ, length, take, IfOk, IfErr, OnOk, OnErr};
+ghost use Rattle.std.specs.Prelude.{◌≡◌, ◌<◌, ◌≤◌, ◌↔◌, ℕ, length, take, IfOk, IfErr, OnOk, OnErr};
 ghost use Rattle.squall_world.specs.declared.steps.WorldFault.TheVariants.{NoMemory, TooManyRouters};
 ghost use Rattle.squall_protocol.specs.Worlds.{start, SameWorld};
 ghost use Rattle.squall_protocol.specs.Steps.{OpenStep, BeginStep, GiveStep, GiveAtStep, LoadStep, FinishStep, SendStep, DeliverStep, RouteStep, ServeStep, Step};
+ghost use Rattle.squall_protocol.specs.Promises.{IsReached};
 ghost use Rattle.squall_world.specs.Runs.{IsRun};
 ghost use Rattle.squall_world.specs.Views.{view};
 
@@ -39,11 +40,12 @@ impl World {
     /// lies where the old plan has it: with one partition node for each partition that a plan names,
     /// and so many routers.
     ///
-    /// `TooManyRouters` above 1000; or `NoMemory`.
+    /// `TooManyRouters` above 1000, whatever memory there is; or `NoMemory`.
     pub fn new(alloc: Global, old: &Plan, new: &Plan, routers: u32) -> Result<World, WorldFault>
         ensures ok { IfOk result (λ w. SameWorld (view w) (start old.now new.now routers)) }
-        ensures routers { IfOk result (λ w. routers ≤ 1000) }
-        ensures err { IfErr result (λ e. e ≡ TooManyRouters → 1000 < routers) }
+        ensures reached { IfOk result (λ w. IsReached (view w)) }
+        ensures routers { OnOk result (routers ≤ 1000) }
+        ensures err { IfErr result (λ e. (e ≡ TooManyRouters) ↔ (1000 < routers)) }
     {
         if routers > 1000 {
             return Err(WorldFault::TooManyRouters);
@@ -56,7 +58,7 @@ impl World {
     pub fn parts(&self) -> usize
         ensures { result ≡ length (view self.now).parts }
     {
-        self.net.peers.len() - 1 - self.net.routers as usize
+        self.net.parts()
     }
 
     /// The leader opens the next sub-plan of the course begun last: `Opened`. Refused as `NotDone`
@@ -146,8 +148,8 @@ impl World {
         self.net.serve(part, key, after)
     }
 
-    /// Takes an event, and answers as the method of its name does.
-    pub fn step(&mut self, event: &Event) -> Result<Answer, AllocError>
+    /// Answers as the method of the event's name does.
+    fn answer(&mut self, event: &Event) -> Result<Answer, AllocError>
         ensures ok { IfOk result (λ answer. Step (view self.old) event.now answer (view self.new)) }
         ensures err { OnErr result (self.new ≡ self.old) }
     {
@@ -165,12 +167,26 @@ impl World {
         }
     }
 
+    /// Takes an event, and answers as the method of its name does. A run leads to the world then, as
+    /// to every world (`World::promised`).
+    pub fn step(&mut self, event: &Event) -> Result<Answer, AllocError>
+        ensures ok { IfOk result (λ answer. Step (view self.old) event.now answer (view self.new)) }
+        ensures err { OnErr result (self.new ≡ self.old) }
+        ensures reached { IsReached (view self.new) }
+    {
+        let answer = self.answer(event);
+        self.promised();
+        answer
+    }
+
     /// Takes the events one after another, and adds their answers to the list. Where an allocation
     /// fails, the events whose answers were added took effect, and no others.
     pub fn run(&mut self, events: &[Event], answers: &mut Vec<Answer>) -> Result<(), AllocError>
         ensures ok { OnOk result (IsRun (view self.old) events.now answers.old.items (view self.new) answers.new.items) }
         ensures err { OnErr result ((n : ℕ) × (n < length events.now) × IsRun (view self.old) (take n events.now) answers.old.items (view self.new) answers.new.items) }
+        ensures reached { IsReached (view self.new) }
     {
+        self.promised();
         for event in events {
             answers.reserve(1)?;
             let answer = self.step(event)?;

@@ -10,18 +10,20 @@ use std::marker::Model;
 /// Chunks and messages are counted from 0, and stay: each may come again.
 ///
 /// Contracts see a world through `view`: the plans, what each partition holds, gave and loaded, what
-/// each node was told, and the messages and chunks.
+/// each node was told, and the messages and chunks. Every world is one to which a run leads, and
+/// `World::promised` says what holds in it.
 #[derive(Drop)]
 pub struct World {
     pub(crate) net: Net,
 }
 
 impl Model for World {
-    ghost use Rattle.squall_world.specs.Nets.{NetValue, IsNet};
+    ghost use Rattle.squall_world.specs.Nets.{NetValue};
+    ghost use Rattle.squall_world.specs.Runs.{IsWorld};
 
     ghost Value = { NetValue };
 
     ghost view = { λ w. w.net };
 
-    ghost invariant = { λ w. IsNet w.net };
+    ghost invariant = { λ w. IsWorld w.net };
 }

@@ -7,7 +7,7 @@ use Rattle.squall_world.proofs.Runs.{no_run, run_on}
 use Rattle.squall_world.proofs.world.World.run.Goals as goal
 
 pub loop-event-init : goal.loop-event-init
-loop-event-init c = record { run = no_run (view c.args.self.now) c.args.answers.now.items }
+loop-event-init c = record { run = no_run (view c.args.self.now) c.args.answers.now.items; reached = c.promised.ensures.reached }
 
 pub returns-in_err-reserve-clause-err : goal.returns-in_err-reserve-clause-err
 returns-in_err-reserve-clause-err c =
@@ -32,6 +32,7 @@ loop-event-preserved c = record {
       (sym (c.push_reserved.ensures.items ∙ ap (λ l. l ++ c.in_ok-answer.answer ∷ []) c.in_ok-reserve.ensures.items))
       (run_on (view c.args.self.now) c.args.events.now c.loop-event.event-index c.args.answers.now.items c.loop-event.answers.items (view c.loop-event.self) c.event-item.result c.in_ok-answer.answer (view c.step.new.self)
       (omega (arith, c.loop-event-test.true)) c.event-item.is c.loop-event.invariant.run c.in_ok-answer.ensures.ok);
+  reached = c.step.ensures.reached;
 }
 
 pub returns-clause-ok : goal.returns-clause-ok
