@@ -13,3 +13,4 @@ pub mod Owners
 pub mod Joined
 pub mod Race
 pub mod RaceFaults
+pub mod CloseFaults

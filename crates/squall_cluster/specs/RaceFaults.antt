@@ -1,6 +1,11 @@
 -- What a fault of a race tells of the numbers that were asked for (this project).
 use Rattle.std.specs.Prelude.{ℕ}
+use Rattle.squall_cluster.specs.declared.cluster.ClusterFault.{ClusterFault}
 use Rattle.squall_cluster.specs.declared.cluster.ClusterFault.TheVariants as Cluster
+use Rattle.squall_desk.specs.declared.places.SeatFault.{SeatFault}
+use Rattle.squall_desk.specs.declared.places.SeatFault.TheVariants as Seat
+use Rattle.squall_cluster.specs.declared.halt.Stop.{Stop}
+use Rattle.squall_cluster.specs.declared.halt.Stop.TheVariants as Stopped
 use Rattle.squall_cluster.specs.declared.halt.RaceFault.{RaceFault}
 use Rattle.squall_cluster.specs.declared.halt.RaceFault.TheVariants.{BadSenders, BadReaders, BadCapacity, NoPlace, NoThread, NoMemory}
 use Rattle.squall_cluster.specs.Faults.{InLimits, FaultOf}
@@ -13,3 +18,20 @@ RaceFaultOf senders readers capacity BadCapacity = FaultOf senders readers capac
 RaceFaultOf senders readers capacity NoPlace = InLimits senders readers capacity
 RaceFaultOf senders readers capacity NoThread = InLimits senders readers capacity
 RaceFaultOf senders readers capacity NoMemory = InLimits senders readers capacity
+
+-- the fault of the same name
+abbrev pub fault_of_cluster : ClusterFault → RaceFault
+fault_of_cluster Cluster.BadSenders = BadSenders
+fault_of_cluster Cluster.BadReaders = BadReaders
+fault_of_cluster Cluster.BadCapacity = BadCapacity
+fault_of_cluster Cluster.NoMemory = NoMemory
+
+abbrev pub fault_of_stop : Stop → RaceFault
+fault_of_stop Stopped.NoPlace = NoPlace
+fault_of_stop Stopped.NoThread = NoThread
+fault_of_stop Stopped.NoMemory = NoMemory
+
+-- a refused seat stops a race for the same cause
+abbrev pub stop_of_seat : SeatFault → Stop
+stop_of_seat Seat.NoPlace = Stopped.NoPlace
+stop_of_seat Seat.NoMemory = Stopped.NoMemory

@@ -1,10 +1,11 @@
 //! How a cluster ends.
 
-ghost use Rattle.std.specs.Prelude.{◌≡◌, ◌∷◌, [], ℕ, length, All, IfOk, OnOk, IfErr};
+ghost use Rattle.std.specs.Prelude.{◌≡◌, ◌∷◌, [], ℕ, length, All, IfOk, OnOk, OnErr, IfErr};
 ghost use Rattle.squall_inbox.specs.Inbox.{of, posted};
 ghost use Rattle.squall_inbox.specs.Ends.{vouching};
 ghost use Rattle.squall_inbox.specs.Letters.{letters_of};
 ghost use Rattle.squall_cluster.specs.Owners.{IsBoardOfPosted};
+ghost use Rattle.squall_cluster.specs.CloseFaults.{owner_of, spent_of};
 
 use crate::owner::Owner;
 use squall_board::Board;
@@ -12,13 +13,16 @@ use squall_inbox::{Case, Spent};
 use std::alloc::AllocError;
 use std::sync::Wait;
 
-/// Why a cluster is not closed: an allocation failed. What comes back closes it at another try.
+/// Why a cluster is not closed. What comes back closes it at another try.
 #[derive(Drop)]
-pub struct CloseFault<K: Case, R: Wait + Drop> {
-    /// The senders that are not joined to the owner yet.
-    pub spent: Vec<Spent>,
-    /// The owner. What it took so far is published, save one letter that may be in its hand.
-    pub owner: Owner<K, R>,
+pub enum CloseFault<K: Case, R: Wait + Drop> {
+    /// An allocation failed.
+    NoMemory {
+        /// The senders that are not joined to the owner yet.
+        spent: Vec<Spent>,
+        /// The owner. What it took so far is published, save one letter that is in its hand.
+        owner: Owner<K, R>,
+    },
 }
 
 /// Joins each of them to the owner.
@@ -33,21 +37,23 @@ fn join_all<K: Case, R: Wait + Drop>(owner: &mut Owner<K, R>, spent: &mut Vec<Sp
     }
 }
 
-/// Takes and publishes what the inbox holds. It fails where an allocation fails.
+/// Takes and publishes all that the inbox holds. It fails if an allocation fails, with a letter in
+/// hand.
 fn drain<K: Case, R: Wait + Drop>(owner: &mut Owner<K, R>) -> Result<(), AllocError>
     requires { length owner.old.vouched ≡ owner.old.made }
     ensures same { (owner.new.inbox ≡ owner.old.inbox) × (owner.new.made ≡ owner.old.made) × (owner.new.vouched ≡ owner.old.vouched) }
     ensures published { OnOk result (owner.new.published ≡ letters_of owner.new.taken) }
     ensures whole { OnOk result ((p : ℕ) → of p owner.new.taken ≡ posted p owner.new.vouched) }
+    ensures failed { OnErr result (length owner.new.hand ≡ 1) }
 {
-    for _ in 0..u64::MAX {
+    loop {
         let turn = owner.turn()?;
         if !turn.took {
             return Ok(());
         }
+        // A count of 64 bits holds the number of letters published, so there is a last one.
+        owner.known();
     }
-    // No inbox ever holds so many.
-    Err(AllocError)
 }
 
 /// Closes a cluster, whose senders have all ended: the board that it was opened with, joined with all
@@ -55,8 +61,8 @@ fn drain<K: Case, R: Wait + Drop>(owner: &mut Owner<K, R>) -> Result<(), AllocEr
 /// posted them. Seats see nothing from then on.
 ///
 /// The senders are all that were made with the owner, but for those that an earlier call joined to it.
-/// It fails where an allocation fails. What then comes back, given to another call, closes the cluster
-/// with the same letters.
+/// It fails if an allocation fails, and then a letter is in the owner's hand. What comes back, given to
+/// another call, closes the cluster with the same letters.
 ///
 /// It waits for seats that are looking.
 pub fn close<K: Case, R: Wait + Drop>(
@@ -66,9 +72,10 @@ pub fn close<K: Case, R: Wait + Drop>(
     requires inbox { All (λ s. s.inbox ≡ owner.inbox) spent.items }
     requires all_senders { length (vouching spent.items owner.vouched) ≡ owner.made }
     ensures board_of_posted { IfOk result (λ board. IsBoardOfPosted K.allowed K.opening (vouching spent.items owner.vouched) board) }
-    ensures same_owner { IfErr result (λ fault. (fault.owner.inbox ≡ owner.inbox) × (fault.owner.made ≡ owner.made)) }
-    ensures same_inbox { IfErr result (λ fault. All (λ s. s.inbox ≡ fault.owner.inbox) fault.spent.items) }
-    ensures none_lost { IfErr result (λ fault. vouching fault.spent.items fault.owner.vouched ≡ vouching spent.items owner.vouched) }
+    ensures same_owner { IfErr result (λ fault. ((owner_of fault).inbox ≡ owner.inbox) × ((owner_of fault).made ≡ owner.made)) }
+    ensures same_inbox { IfErr result (λ fault. All (λ s. s.inbox ≡ (owner_of fault).inbox) (spent_of fault)) }
+    ensures none_lost { IfErr result (λ fault. vouching (spent_of fault) (owner_of fault).vouched ≡ vouching spent.items owner.vouched) }
+    ensures failed { IfErr result (λ fault. length (owner_of fault).hand ≡ 1) }
 {
     join_all(&mut owner, &mut spent);
     match drain(&mut owner) {
@@ -76,6 +83,6 @@ pub fn close<K: Case, R: Wait + Drop>(
             owner.known();
             Ok(owner.into_board())
         }
-        Err(_) => Err(CloseFault { spent, owner }),
+        Err(_) => Err(CloseFault::NoMemory { spent, owner }),
     }
 }

@@ -1,8 +1,10 @@
 //! What makes a cluster, and its seats.
 
-ghost use Rattle.std.specs.Prelude.{◌≡◌, ◌≤◌, [], length, IfOk, IfErr, OnOk};
+ghost use Rattle.std.specs.Prelude.{◌≡◌, ◌≤◌, ◌<◌, [], length, Err, IfOk, IfErr, OnOk};
 ghost use Rattle.std.specs.Arc.{arc_value};
+ghost use Rattle.squall_inbox.specs.Ends.{room_of};
 ghost use Rattle.squall_desk.specs.Seats.{nothing_seen};
+ghost use Rattle.squall_desk.specs.declared.places.SeatFault.TheVariants.{NoPlace};
 ghost use Rattle.squall_cluster.specs.Faults.{InLimits, FaultOf};
 ghost use Rattle.squall_cluster.specs.Owners.{Fresh, owning_with};
 
@@ -12,6 +14,7 @@ use squall_course::Course;
 use squall_desk::{Line, Places, Seat, SeatFault, Track};
 use squall_inbox::{Case, Sender};
 use std::alloc::{AllocError, Global};
+use std::marker::Model;
 use std::sync::{Arc, Wait};
 use thiserror::Error;
 
@@ -27,15 +30,25 @@ pub enum ClusterFault {
     /// Its inbox has room for 1 to 65536 letters.
     #[error("BadCapacity")]
     BadCapacity,
-    /// An allocation failed, or the count of the course's owners is full.
+    /// An allocation failed, or the count of the owners of the course, of the inbox or of the desk is
+    /// full.
     #[error("NoMemory")]
     NoMemory,
 }
 
-/// What makes the seats of a cluster. Threads may share it.
+/// What makes the seats of a cluster. Threads may share it. Contracts see for how many readers it has
+/// places.
 #[derive(Drop)]
 pub struct Cluster<K: Case> {
     places: Places<K>,
+}
+
+impl<K: Case> Model for Cluster<K> {
+    ghost use Rattle.std.specs.Prelude.{ℕ};
+
+    ghost Value = { ℕ };
+
+    ghost view = { λ c. c.places };
 }
 
 /// A new cluster, in parts that go to their threads.
@@ -75,6 +88,7 @@ fn hire_all<K: Case, R: Wait + Drop>(
     requires { owner.old ≡ owning_with owner.old.inbox 0 }
     ensures fresh { IfOk result (λ senders. Fresh owner.new senders.items) }
     ensures count { IfOk result (λ senders. length senders.items ≡ count) }
+    ensures inbox { owner.new.inbox ≡ owner.old.inbox }
 {
     let mut senders = Vec::new(alloc);
     for _ in 0..count {
@@ -105,6 +119,8 @@ impl<K: Case> Cluster<K> {
         requires opening { (arc_value first.now ≡ K.first) × (opening.now ≡ K.opening) }
         ensures fresh { IfOk result (λ setup. Fresh setup.owner setup.senders.items) }
         ensures senders { IfOk result (λ setup. length setup.senders.items ≡ senders) }
+        ensures places { IfOk result (λ setup. setup.cluster ≡ readers) }
+        ensures room { IfOk result (λ setup. room_of setup.owner.inbox ≡ capacity) }
         ensures limits { OnOk result (InLimits senders readers capacity) }
         ensures fault { IfErr result (FaultOf senders readers capacity) }
     {
@@ -136,10 +152,14 @@ impl<K: Case> Cluster<K> {
         })
     }
 
-    /// A seat that has seen nothing. It answers [`SeatFault::NoPlace`] where each place is taken, and
-    /// then nothing changed. A seat that is dropped gives its place back.
+    /// A seat that has seen nothing. It answers [`SeatFault::NoPlace`] if each place is taken, and
+    /// always in a cluster of no readers; [`SeatFault::NoMemory`] if the count of the desk's owners is
+    /// full. It allocates nothing, and after a fault nothing changed. A seat that is dropped gives its
+    /// place back.
     pub fn seat(&self) -> Result<Seat<K>, SeatFault>
-        ensures { IfOk result (λ seat. seat ≡ nothing_seen) }
+        ensures nothing_seen { IfOk result (λ seat. seat ≡ nothing_seen) }
+        ensures places { OnOk result (0 < self.now) }
+        ensures no_places { (self.now ≡ 0) → result ≡ Err NoPlace }
     {
         self.places.seat()
     }

@@ -1,9 +1,11 @@
 //! How the threads of a race hear that it is off, and why.
 
+ghost use Rattle.std.specs.Prelude.{◌≡◌};
 ghost use Rattle.squall_cluster.specs.Faults.{InLimits, FaultOf};
-ghost use Rattle.squall_cluster.specs.RaceFaults.{RaceFaultOf};
+ghost use Rattle.squall_cluster.specs.RaceFaults.{RaceFaultOf, fault_of_cluster, fault_of_stop, stop_of_seat};
 
 use crate::cluster::ClusterFault;
+use squall_desk::SeatFault;
 use std::sync::OnceLock;
 use thiserror::Error;
 
@@ -25,14 +27,16 @@ pub enum RaceFault {
     /// A thread could not be started.
     #[error("NoThread")]
     NoThread,
-    /// An allocation failed, or the count of an issue's or the course's owners is full.
+    /// An allocation failed, or the count of the owners of an issue, of the course, of the inbox or of
+    /// the desk is full.
     #[error("NoMemory")]
     NoMemory,
 }
 
 impl From<ClusterFault> for RaceFault {
     fn from(fault: ClusterFault) -> RaceFault
-        ensures { (senders : _) (readers : _) (capacity : _) → FaultOf senders readers capacity fault → RaceFaultOf senders readers capacity result }
+        ensures same { result ≡ fault_of_cluster fault }
+        ensures of_numbers { (senders : _) (readers : _) (capacity : _) → FaultOf senders readers capacity fault → RaceFaultOf senders readers capacity result }
     {
         match fault {
             ClusterFault::BadSenders => RaceFault::BadSenders,
@@ -51,9 +55,21 @@ pub(crate) enum Stop {
     NoMemory,
 }
 
+impl From<SeatFault> for Stop {
+    fn from(fault: SeatFault) -> Stop
+        ensures { result ≡ stop_of_seat fault }
+    {
+        match fault {
+            SeatFault::NoPlace => Stop::NoPlace,
+            SeatFault::NoMemory => Stop::NoMemory,
+        }
+    }
+}
+
 impl From<Stop> for RaceFault {
     fn from(stop: Stop) -> RaceFault
-        ensures { (senders : _) (readers : _) (capacity : _) → InLimits senders readers capacity → RaceFaultOf senders readers capacity result }
+        ensures same { result ≡ fault_of_stop stop }
+        ensures of_numbers { (senders : _) (readers : _) (capacity : _) → InLimits senders readers capacity → RaceFaultOf senders readers capacity result }
     {
         match stop {
             Stop::NoPlace => RaceFault::NoPlace,

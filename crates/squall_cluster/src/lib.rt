@@ -19,5 +19,5 @@ pub use halt::RaceFault;
 pub use laws::{letters_are_joined, publishing_is_absorbing};
 pub use owner::{Owner, Turn};
 pub use racing::{Raced, race};
-pub use squall_desk::{Line, Notice, Seat, SeatFault, Track};
+pub use squall_desk::{Line, Notice, Seat, SeatFault, Track, one_list, one_list_of_notice};
 pub use squall_inbox::{Case, Full, Letter, Parcel, Sender, Spent};

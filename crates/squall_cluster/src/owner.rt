@@ -4,7 +4,7 @@ ghost use Rattle.std.specs.Prelude.{◌≡◌, ◌⊎◌, ◌+◌, ◌≤◌, �
 ghost use Rattle.std.specs.Arc.{arc_value};
 ghost use Rattle.squall_board.specs.Boards.{BoardValue};
 ghost use Rattle.squall_inbox.specs.declared.letter.Parcel.{Parcel};
-ghost use Rattle.squall_inbox.specs.Ends.{posting_of};
+ghost use Rattle.squall_inbox.specs.Ends.{posting_of, room_of};
 ghost use Rattle.squall_inbox.specs.Letters.{AreLetters, letters_of, board_after};
 ghost use Rattle.squall_cluster.specs.Owners.{Owning, Whole, owning_with, Finished, Idle};
 
@@ -61,7 +61,8 @@ impl<K: Case, R: Wait + Drop> Owner<K, R> {
         requires book { (track ≡ K.book) × (line.book ≡ K.book) × (line.log ≡ []) }
         requires opening { (arc_value first.now ≡ K.first) × (opening.now ≡ K.opening) }
         requires limits { (0 < places) × (places < 2 ^ 32) × (0 < capacity) }
-        ensures { IfOk result (λ o. o ≡ owning_with o.inbox 0) }
+        ensures new { IfOk result (λ o. o ≡ owning_with o.inbox 0) }
+        ensures room { IfOk result (λ o. room_of o.inbox ≡ capacity) }
     {
         let taker = Taker::<K>::open(alloc, capacity)?;
         let publisher = Publisher::<K, R>::open(rt, alloc, track, line, first, opening, places)?;
@@ -69,10 +70,12 @@ impl<K: Case, R: Wait + Drop> Owner<K, R> {
     }
 
     /// Changes nothing: after it a proof knows what holds of every owner. The letters taken are those
-    /// published and then the one in hand, if there is one, and each is one that the cluster allows.
+    /// published and then the one in hand, if there is one, and each is one that the cluster allows. A
+    /// count of 64 bits holds the number of those published.
     pub fn known(&self)
         ensures published_is_taken { letters_of self.now.taken ≡ self.now.published ++ self.now.hand }
         ensures hand { length self.now.hand ≤ 1 }
+        ensures count { length self.now.published < 2 ^ 64 }
         ensures letters { AreLetters K.allowed (letters_of self.now.taken) }
     {
         self.taker.known();
@@ -99,8 +102,9 @@ impl<K: Case, R: Wait + Drop> Owner<K, R> {
     /// Takes at most one letter and publishes it. A letter in hand is published first, and then no other
     /// is taken.
     ///
-    /// It fails where an allocation fails, and then nothing more is published: a letter that was taken
-    /// stays in hand, and the next turn publishes it. It waits for seats that are looking.
+    /// It fails if an allocation fails, and then nothing more is published: the letter stays in hand,
+    /// and the next turn publishes it. Without a letter it does not fail. It waits for seats that are
+    /// looking.
     pub fn turn(&mut self) -> Result<Turn<K>, AllocError>
         ensures inbox { self.new.inbox ≡ self.old.inbox }
         ensures senders { (self.new.made ≡ self.old.made) × (self.new.vouched ≡ self.old.vouched) }
@@ -111,7 +115,7 @@ impl<K: Case, R: Wait + Drop> Owner<K, R> {
         ensures whole { IfOk result (λ turn. IsFalse turn.took → Whole self.new) }
         ensures notice { IfOk result (λ turn. turn.notice ≡ self.new.published) }
         ensures err { OnErr result (self.new.published ≡ self.old.published) }
-        ensures left_in_hand { OnErr result ((letters_of self.new.taken ≡ self.new.published ++ self.new.hand) × (length self.new.hand ≤ 1)) }
+        ensures left_in_hand { OnErr result ((letters_of self.new.taken ≡ self.new.published ++ self.new.hand) × (length self.new.hand ≡ 1)) }
     {
         let took = self.take();
         let shown = self.publisher.publish();
@@ -142,6 +146,7 @@ impl<K: Case, R: Wait + Drop> Owner<K, R> {
     /// owners is full.
     pub(crate) fn places(&self, start: Line, readers: usize) -> Result<Places<K>, AllocError>
         requires { (start.book ≡ K.book) × (start.log ≡ []) }
+        ensures { IfOk result (λ places. places ≡ readers) }
     {
         self.publisher.places(start, readers)
     }

@@ -161,8 +161,9 @@ fn seats_of<K: Case>(
 {
     let mut seats = Vec::new(alloc);
     for _ in 0..readers {
-        let Ok(seat) = cluster.seat() else {
-            return Err(Stop::NoPlace);
+        let seat = match cluster.seat() {
+            Ok(seat) => seat,
+            Err(fault) => return Err(Stop::from(fault)),
         };
         if seats.push(seat).is_err() {
             return Err(Stop::NoMemory);

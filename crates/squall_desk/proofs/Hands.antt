@@ -1,5 +1,5 @@
 -- The letter in hand, and what is shown once it was absorbed.
-use Rattle.std.proofs.Common.{◌≡◌, ◌+◌, ◌<◌, ◌≤◌, List, [], ◌∷◌, ◌++◌, length, Option, Some, None, Bool, true, false, true≢false, suc, refl, sym, ap, ◌∙◌, subst, arith, append-nil, length-append, is_some, IsTrue, MatchBool, MatchResult, Result, Ok, Err, fold}
+use Rattle.std.proofs.Common.{◌≡◌, ◌+◌, ◌<◌, ◌≤◌, List, [], ◌∷◌, ◌++◌, length, Option, Some, None, Bool, true, false, true≢false, suc, refl, sym, ap, ◌∙◌, subst, arith, append-nil, length-append, is_some, IsTrue, MatchBool, MatchResult, OnErr, Result, Ok, Err, fold}
 use Rattle.logbook.specs.Pages.{Book}
 use Rattle.squall_course.specs.Change.{Change}
 use Rattle.squall_board.specs.Boards.{BoardValue, board_join}
@@ -26,6 +26,13 @@ waits_held pend (Some e) le s = let a = length-letters (pend ++ e ∷ []) in let
 
 pub waits_pending : (pend : List Entry) (h : Option Entry) → length (pend ++ listed h) ≤ 1 → 0 < length pend → length (letters (pend ++ listed h)) ≡ 1
 waits_pending pend h le lt = let a = length-letters (pend ++ listed h) in let b = length-append pend (listed h) in omega arith
+
+pub one_waits : (all : List Entry) → length all ≤ 1 → 0 < length all → length (letters all) ≡ 1
+one_waits all le lt = let a = length-letters all in omega arith
+
+pub on_err : {A E : Type 0} (r : Result A E) (P : Type 0) → P → OnErr r P
+on_err (Ok x) P p = tt
+on_err (Err e) P p = p
 
 pub waits_said : (b : Bool) (pend : List Entry) (h : Option Entry) → (IsTrue b → 0 < length pend) → (0 < length pend → IsTrue b) → is_some h ≡ false → length (pend ++ listed h) ≤ 1
     → MatchBool b (length (letters (pend ++ listed h)) ≡ 1) (letters (pend ++ listed h) ≡ [])

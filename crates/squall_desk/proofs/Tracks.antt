@@ -1,5 +1,5 @@
 -- The exchange that adds a letter keeps the rule of the book. Beginnings of one list.
-use Rattle.std.proofs.Common.{◌≡◌, ℕ, ◌+◌, ◌<◌, ◌≤◌, ◌==◌, Bool, true, false, List, [], ◌∷◌, ◌++◌, length, refl, ap, sym, subst, arith, inl, length-append, None}
+use Rattle.std.proofs.Common.{◌≡◌, ◌⊎◌, ℕ, ◌+◌, ◌<◌, ◌≤◌, ◌==◌, Bool, true, false, IsTrue, List, [], ◌∷◌, ◌++◌, length, refl, ap, sym, subst, arith, inl, inr, length-append, None}
 use Rattle.std.proofs.lemmas.List.{append-nil}
 use Rattle.std.proofs.lemmas.Bool.Decides.{nat_tests}
 use mathlib.Core.List.{IsPrefix}
@@ -25,6 +25,14 @@ prefix_whole [] (y ∷ ys) p le = absurd (omega arith)
 prefix_whole (x ∷ xs) [] p le = absurd (cc (p.1))
 prefix_whole (x ∷ xs) (y ∷ ys) p le =
     let rest = prefix_whole xs ys (p.0, cc (p.1)) (omega arith) in cc (p.1, rest)
+
+pub prefix_length : {A : Type 0} (xs ys : List A) → IsPrefix xs ys → length xs ≤ length ys
+prefix_length xs ys p = let n : length (xs ++ p.0) ≡ length ys = ap length p.1 in omega (arith, length-append xs p.0)
+
+-- one of two begins the other, by what was told
+pub one_of_two : (b : Bool) (xs ys : List BoardValue) → (IsTrue b → IsPrefix xs ys) → (b ≡ false → IsPrefix ys xs) → IsPrefix xs ys ⊎ IsPrefix ys xs
+one_of_two true xs ys f g = inl (f refl)
+one_of_two false xs ys f g = inr (g refl)
 
 abbrev pub shown : List BoardValue → List BoardValue
 shown log = []

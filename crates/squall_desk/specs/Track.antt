@@ -1,5 +1,6 @@
 -- The rule of the book of letters, and what its steps tell.
-use Rattle.std.specs.Prelude.{ℕ, ◌≡◌, ◌==◌, true, List, [], ◌∷◌, ◌++◌, length, MatchBool}
+use Rattle.std.specs.Prelude.{ℕ, ◌≡◌, ◌⊎◌, ◌==◌, true, List, [], ◌∷◌, ◌++◌, length, MatchBool}
+use mathlib.Core.List.{IsPrefix}
 use Rattle.logbook.specs.Pages.{Cell, Step, View, Book, Named}
 use Rattle.squall_board.specs.Boards.{BoardValue}
 
@@ -11,6 +12,10 @@ pub record IsKept (cells : List Cell) (log : List BoardValue) : Type 0 where
 pub record Run : Type 0 where
   pub book : Book
   pub log : List BoardValue
+
+-- both are beginnings of one list: one of them begins the other
+abbrev pub AreOfOneList : List BoardValue → List BoardValue → Type 0
+AreOfOneList xs ys = IsPrefix xs ys ⊎ IsPrefix ys xs
 
 abbrev pub head_of : Book → Named
 head_of b = record { tracked = true; key = 0; book = b }

@@ -11,5 +11,5 @@ mod track;
 
 pub use places::{Places, SeatFault};
 pub use publisher::Publisher;
-pub use seat::{Notice, Seat};
+pub use seat::{Notice, Seat, one_list, one_list_of_notice};
 pub use track::{Line, Track};

@@ -1,7 +1,8 @@
 //! The places of the desk.
 
-ghost use Rattle.std.specs.Prelude.{◌≡◌, [], IfOk};
+ghost use Rattle.std.specs.Prelude.{◌≡◌, ◌<◌, ℕ, [], Err, IfOk, OnOk};
 ghost use Rattle.squall_desk.specs.Seats.{Seen, nothing_seen};
+ghost use Rattle.squall_desk.specs.declared.places.SeatFault.TheVariants.{NoPlace};
 
 use crate::rule::DeskFactory;
 use crate::seat::Seat;
@@ -14,13 +15,16 @@ use thiserror::Error;
 /// Why there is no seat.
 #[derive(Debug, Drop, Error)]
 pub enum SeatFault {
-    /// Each place is taken. So it may be, too, where other threads take and give back places
-    /// meanwhile, or where the count of the desk's owners is full.
+    /// Each place was found taken, as may happen too while other threads take places and give them
+    /// back.
     #[error("NoPlace")]
     NoPlace,
+    /// The count of the desk's owners is full.
+    #[error("NoMemory")]
+    NoMemory,
 }
 
-/// The places of a desk, for seats. Threads may share them.
+/// The places of a desk, for seats. Threads may share them. Contracts see how many there are.
 #[derive(Drop)]
 pub struct Places<K: Case> {
     factory: DeskFactory<K>,
@@ -29,18 +33,19 @@ pub struct Places<K: Case> {
 }
 
 impl<K: Case> Model for Places<K> {
-    ghost Value = { Unit {0} };
+    ghost Value = { ℕ };
 
-    ghost view = { λ p. tt };
+    ghost view = { λ p. p.readers };
 
     ghost invariant = { λ p. (p.start.book ≡ K.book) × (p.start.log ≡ []) };
 }
 
 impl<K: Case> Places<K> {
-    /// So many places of the desk. A desk has one place at least, so that where `readers` is 0 one is
-    /// never handed out.
+    /// So many places of the desk. A desk has one place at least, which is never handed out if
+    /// `readers` is 0.
     pub(crate) fn of_parts(factory: DeskFactory<K>, start: Line, readers: usize) -> Places<K>
         requires { (start.book ≡ K.book) × (start.log ≡ []) }
+        ensures { result ≡ readers }
     {
         Places {
             factory,
@@ -49,15 +54,21 @@ impl<K: Case> Places<K> {
         }
     }
 
-    /// A seat that has seen nothing. It answers [`SeatFault::NoPlace`] where each place is taken, and
-    /// then nothing changed.
+    /// A seat that has seen nothing. It answers [`SeatFault::NoPlace`] if each place is taken, and
+    /// always if there is none; [`SeatFault::NoMemory`] if the count of the desk's owners is full. It
+    /// allocates nothing, and after a fault nothing changed.
     pub fn seat(&self) -> Result<Seat<K>, SeatFault>
-        ensures { IfOk result (λ seat. seat ≡ nothing_seen) }
+        ensures nothing_seen { IfOk result (λ seat. seat ≡ nothing_seen) }
+        ensures places { OnOk result (0 < self.now) }
+        ensures no_places { (self.now ≡ 0) → result ≡ Err NoPlace }
     {
         if self.readers == 0 {
             return Err(SeatFault::NoPlace);
         }
-        match self.factory.reader() {
+        let Ok(factory) = self.factory.another() else {
+            return Err(SeatFault::NoMemory);
+        };
+        match factory.reader() {
             Ok(reader) => Ok(Seat::of_parts(reader, &self.start)),
             Err(_) => Err(SeatFault::NoPlace),
         }

@@ -69,6 +69,7 @@ fn settle<K: Case>(held: &mut Option<Entry>, writer: &mut DeskWriter<K>) -> Resu
     ensures desk { writer.new.desk ≡ writer.old.desk }
     ensures ok { OnOk result ((held.new ≡ None) × (drop writer.new.behind writer.new.log.items ≡ drop writer.old.behind writer.old.log.items ++ listed held.old)) }
     ensures err { OnErr result ((held.new ≡ held.old) × (drop writer.new.behind writer.new.log.items ≡ drop writer.old.behind writer.old.log.items)) }
+    ensures tried { OnErr result (length (listed held.old) ≡ 1) }
 {
     if let Some(entry) = held.take() {
         if let Err(entry) = writer.append(entry) {
@@ -139,12 +140,13 @@ impl<K: Case, R: Wait + Drop> Publisher<K, R> {
     }
 
     /// Changes nothing: after it a proof knows that each published letter is one that the cluster allows,
-    /// and that at most one letter is in hand.
+    /// that a count of 64 bits holds their number, and that at most one letter is in hand.
     pub fn known(&self)
         ensures letters { AreLetters K.allowed self.now.published }
+        ensures count { length self.now.published < 2 ^ 64 }
         ensures hand { length self.now.hand ≤ 1 }
     {
-        let _held = &self.held;
+        let _count = self.writer.published().line.len();
     }
 
     /// The handle with which it waits.
@@ -176,13 +178,15 @@ impl<K: Case, R: Wait + Drop> Publisher<K, R> {
     }
 
     /// Publishes the letter in hand, if there is one: the router that readers see takes it, and no board
-    /// and no table is copied. It fails where an allocation fails, and then nothing changed.
+    /// and no table is copied. It fails only with a letter in hand, if an allocation fails, and then
+    /// nothing changed.
     ///
     /// It waits for readers that still read the other copy.
     pub fn publish(&mut self) -> Result<(), AllocError>
         ensures published { OnOk result (self.new.published ≡ self.old.published ++ self.old.hand) }
         ensures hand { OnOk result (self.new.hand ≡ []) }
         ensures err { OnErr result (self.new ≡ self.old) }
+        ensures failed { OnErr result (length self.old.hand ≡ 1) }
     {
         settle(&mut self.held, &mut self.writer)?;
         if !self.writer.has_pending_operations() {
@@ -212,6 +216,7 @@ impl<K: Case, R: Wait + Drop> Publisher<K, R> {
     /// full.
     pub fn places(&self, start: Line, readers: usize) -> Result<Places<K>, AllocError>
         requires { (start.book ≡ K.book) × (start.log ≡ []) }
+        ensures { IfOk result (λ places. places ≡ readers) }
     {
         let factory = self.writer.factory().another()?;
         Ok(Places::of_parts(factory, start, readers))

@@ -1,10 +1,11 @@
 //! The seats: readers of the desk.
 
-ghost use Rattle.std.specs.Prelude.{◌≡◌, ◌⊎◌, IfSome, OnSome, IfNone};
+ghost use Rattle.std.specs.Prelude.{◌≡◌, ◌⊎◌, IfSome, OnSome, IfNone, IsTrue, false};
 ghost use mathlib.Core.List.{IsPrefix};
 ghost use Rattle.squall_board.specs.CourseRoute.{route_by_newest};
 ghost use Rattle.squall_inbox.specs.Letters.{AreLetters, board_after};
 ghost use Rattle.squall_desk.specs.Seats.{Seen};
+ghost use Rattle.squall_desk.specs.Track.{AreOfOneList};
 
 use crate::rule::{DeskReader, Looking};
 use crate::track::Line;
@@ -105,8 +106,8 @@ impl<K: Case> Seat<K> {
     }
 
     /// The partition to ask for the key, by a look at the desk: that of a router which has taken the
-    /// letters of the list that is then seen. None where the desk is gone, with its owner, and then
-    /// nothing changed.
+    /// letters of the list that is then seen. None if the desk gives no look, since its owner is gone,
+    /// or a look at less than the seat knows, which no desk does; then nothing changed.
     ///
     /// It waits for nobody and allocates nothing.
     pub fn route(&mut self, key: Key) -> Option<PartId>
@@ -132,6 +133,16 @@ impl<K: Case> Seat<K> {
         Some(part)
     }
 
+    /// Whether the seat knows all that the notice tells. If not, the notice tells all that the seat
+    /// knows, and more.
+    pub fn knows(&self, notice: &Notice<K>) -> bool
+        ensures known { IsTrue result → IsPrefix notice.now self.now.known }
+        ensures exact { IsPrefix notice.now self.now.known → IsTrue result }
+        ensures more { (result ≡ false) → IsPrefix self.now.known notice.now }
+    {
+        notice.line.begins(&self.known)
+    }
+
     /// From now on the seat knows what the notice tells: its later looks see at least that.
     pub fn learn(&mut self, notice: &Notice<K>)
         ensures seen { self.new.seen ≡ self.old.seen }
@@ -143,4 +154,26 @@ impl<K: Case> Seat<K> {
             self.known = notice.line.again();
         }
     }
+}
+
+/// The seats of a cluster see one list: what two of them have seen or know are beginnings of one list.
+/// It changes nothing, and a proof knows this after it.
+pub fn one_list<K: Case>(one: &Seat<K>, other: &Seat<K>)
+    ensures seen { AreOfOneList one.now.seen other.now.seen }
+    ensures known { AreOfOneList one.now.known other.now.known }
+    ensures seen_and_known { AreOfOneList one.now.seen other.now.known }
+{
+    one.seen.beside(&other.seen);
+    one.known.beside(&other.known);
+    one.seen.beside(&other.known);
+}
+
+/// A notice of a cluster tells a beginning of the list that its seats see. It changes nothing, and a
+/// proof knows this after it.
+pub fn one_list_of_notice<K: Case>(seat: &Seat<K>, notice: &Notice<K>)
+    ensures seen { AreOfOneList seat.now.seen notice.now }
+    ensures known { AreOfOneList seat.now.known notice.now }
+{
+    seat.seen.beside(&notice.line);
+    seat.known.beside(&notice.line);
 }

@@ -2,7 +2,7 @@
 ghost use Rattle.std.specs.Prelude.{◌≡◌, ◌^◌, ◌<◌, ◌≤◌, ◌++◌, ◌∷◌, ◌⊎◌, [], length, IsTrue, false};
 ghost use mathlib.Core.List.{IsPrefix};
 ghost use Rattle.logbook.specs.Pages.{Book};
-ghost use Rattle.squall_desk.specs.Track.{head_of, Run};
+ghost use Rattle.squall_desk.specs.Track.{head_of, Run, AreOfOneList};
 
 use logbook::{Gain, Offer, Plain, Play, Rule, Seen, Start, Word};
 use squall_inbox::Letter;
@@ -110,10 +110,19 @@ impl Line {
         requires { other.now.book ≡ self.now.book }
         ensures begins { IsTrue result → IsPrefix self.now.log other.now.log }
         ensures longer { (result ≡ false) → IsPrefix other.now.log self.now.log }
+        ensures exact { IsPrefix self.now.log other.now.log → IsTrue result }
     {
         let mut both = self.seen.again();
         both.learn(&other.seen);
         self.count <= other.count
+    }
+
+    /// Changes nothing: after it a proof knows that both are beginnings of one list.
+    pub fn beside(&self, other: &Line)
+        requires { other.now.book ≡ self.now.book }
+        ensures { AreOfOneList self.now.log other.now.log }
+    {
+        let _goes_as_far = self.begins(other);
     }
 
     /// Adds a letter to all that was seen, and says whether it did. It did not where there are more.

@@ -9,7 +9,7 @@ use Rattle.squall_inbox.proofs.Views.{at_back, All, all_set}
 use Rattle.squall_board.specs.Boards.{BoardValue}
 use Rattle.squall_inbox.specs.declared.letter.Parcel.{Parcel}
 use Rattle.squall_inbox.specs.declared.knows.Knows.{Knows}
-use Rattle.squall_inbox.specs.Inbox.{of, posted, taker, sender, nobody, present, live, FitsSender, FitsTaker, Delivers, Ruled}
+use Rattle.squall_inbox.specs.Inbox.{of, posted, AreLast, taker, sender, nobody, present, live, FitsSender, FitsTaker, Delivers, Ruled}
 use Rattle.squall_inbox.specs.Letters.{Allowance, IsLetter, AreLetters, letters_of}
 
 -- ---- a function that is changed at one number
@@ -229,6 +229,12 @@ settles pass v may items views h at all p =
     let quiet : seat p ≡ 0 = elim (dec_le v.made p) [ yes d ↦ (mine.2 p d).0 | no d ↦ live_none seat v.made none p (lt_of_not-le d) ] in
     ap (λ l. of p (l ++ items)) mine.1 ∙ h.4 p ∙ sym (mine.3 p quiet)
 
+-- what waits of a sender is what it posted last
+pub awaits : (pass : ℕ) (v : Knows) → v.sends ≡ true → Learns Delivers pass v (λ items. AreLast (of v.from items) v.put)
+awaits pass v may items views h at =
+    let taken : List Parcel = h.3 in let mine = (h.5 pass v at).0 may in
+    (of v.from taken, mine.1 ∙ sym (h.4 v.from) ∙ of-append v.from taken items)
+
 -- ---- the same where the queue's letters are allowed
 allheld_snoc : (allowed : Allowance) (xs : List Parcel) (x : Parcel) → AreLetters allowed (letters_of xs) → IsLetter allowed x.letter → AreLetters allowed (letters_of (xs ++ x ∷ []))
 allheld_snoc allowed [] x h m = (m, tt)
@@ -252,3 +258,6 @@ module _ (allowed : Allowance) where
 
   pub settles_ruled : (pass : ℕ) (v : Knows) → v.owns ≡ true → Learns (Ruled allowed) pass v (λ items. length v.vouched ≡ v.made → (p : ℕ) → of p (v.taken ++ items) ≡ posted p v.vouched)
   settles_ruled pass v may items views h at = settles pass v may items views h.1 at
+
+  pub awaits_ruled : (pass : ℕ) (v : Knows) → v.sends ≡ true → Learns (Ruled allowed) pass v (λ items. AreLast (of v.from items) v.put)
+  awaits_ruled pass v may items views h at = awaits pass v may items views h.1 at

@@ -3,14 +3,19 @@ use Rattle.std.specs.Prelude.{◌≡◌, ℕ, List, [], ◌∷◌, length}
 use Prim.Native.Nat.{suc}
 use Rattle.atomic_table.specs.Seated.{TableId}
 use Rattle.crossbeam_queue.specs.Passes.{Pass, view}
+use Rattle.crossbeam_queue.specs.Fifo.{Held}
 use Rattle.squall_board.specs.Boards.{BoardValue}
 use Rattle.squall_inbox.specs.declared.letter.Parcel.{Parcel}
 use Rattle.squall_inbox.specs.declared.knows.Knows.{Knows}
-use Rattle.squall_inbox.specs.Inbox.{of, posted}
+use Rattle.squall_inbox.specs.Inbox.{of, posted, AreLast}
 
 -- what a pass of the inbox knows
 abbrev pub knows_of : Pass Parcel Knows → Knows
 knows_of hand = view hand
+
+-- for how many letters an inbox has room
+abbrev pub room_of : TableId → ℕ
+room_of inbox = inbox.slots
 
 -- a sender: its inbox, its number, and all that it posted
 pub record Posting : Type 0 where
@@ -20,6 +25,10 @@ pub record Posting : Type 0 where
 
 abbrev pub posting_of : TableId → ℕ → List BoardValue → Posting
 posting_of inbox from letters = record { inbox = inbox; from = from; posted = letters }
+
+-- at one moment as many parcels waited as the inbox has room for, those of this sender being its last
+abbrev pub FoundFull : Posting → Type 0
+FoundFull s = Held (room_of s.inbox) (λ items. AreLast (of s.from items) s.posted)
 
 -- the taker: its inbox, what it took, how many senders were made, and what those posted that it vouches for
 pub record Taking : Type 0 where

@@ -18,6 +18,10 @@ abbrev pub posted : ℕ → List (ℕ × List BoardValue) → List BoardValue
 posted p [] = []
 posted p (k ∷ ks) = cond (k.0 == p) k.1 (posted p ks)
 
+-- these letters are the last of those
+abbrev pub AreLast : List BoardValue → List BoardValue → Type 0
+AreLast xs all = (before : List BoardValue) × (all ≡ before ++ xs)
+
 -- ---- what an end of the inbox knows
 
 -- the taker's: what was taken, how many senders were made, and what those posted that it vouches for

@@ -1,7 +1,7 @@
 //! The queue between senders and taker, under a rule, and the kinds of its steps.
 
 ghost use Rattle.std.specs.Prelude.{◌≡◌, ◌+◌, ℕ, [], ◌∷◌, ◌++◌, length};
-ghost use Rattle.squall_inbox.specs.Inbox.{of, posted, taker, sender, nobody, Ruled};
+ghost use Rattle.squall_inbox.specs.Inbox.{of, posted, AreLast, taker, sender, nobody, Ruled};
 ghost use Rattle.squall_inbox.specs.Letters.{IsLetter};
 
 use crate::case::Case;
@@ -42,7 +42,7 @@ impl Join<Knows> for Retires {
 }
 
 /// A push: the list of what the sender posted grows by the letter. A push that is refused changes
-/// nothing.
+/// nothing, and tells that of this sender's letters the last ones wait.
 pub struct Posts;
 
 impl Outcome<Parcel, Knows> for Posts {
@@ -50,7 +50,7 @@ impl Outcome<Parcel, Knows> for Posts {
 }
 
 impl Lesson<Parcel, Knows> for Posts {
-    ghost fact = { λ v items. Unit {0} };
+    ghost fact = { λ v items. AreLast (of v.from items) v.put };
 }
 
 /// A pop: the list of what was taken grows by the parcel. A pop that finds nothing changes nothing,

@@ -3,7 +3,7 @@
 ghost use Rattle.std.specs.Prelude.{◌≡◌, ◌++◌, ◌∷◌, [], OnOk, IfErr, OnErr};
 ghost use Rattle.std.specs.Arc.{arc_value};
 ghost use Rattle.squall_inbox.specs.Inbox.{sender};
-ghost use Rattle.squall_inbox.specs.Ends.{Posting, knows_of};
+ghost use Rattle.squall_inbox.specs.Ends.{Posting, FoundFull, knows_of};
 ghost use Rattle.squall_inbox.specs.Letters.{IsAllowed};
 
 use crate::case::Case;
@@ -56,8 +56,8 @@ impl<K: Case> Sender<K> {
         Sender { inbox, hand, from }
     }
 
-    /// Posts a letter at the back of the inbox. It answers [`Full`], with the letter, where the inbox
-    /// was full, and then nothing was posted.
+    /// Posts a letter at the back of the inbox. It answers [`Full`], with the letter, if at one moment
+    /// of the call as many letters waited as the inbox has room for, and then nothing was posted.
     ///
     /// It may wait while another thread is inside a call on the inbox.
     pub fn post<R: Wait>(&mut self, rt: &R, letter: Letter) -> Result<(), Full>
@@ -67,6 +67,7 @@ impl<K: Case> Sender<K> {
         ensures posted { OnOk result (self.new.posted ≡ self.old.posted ++ letter ∷ []) }
         ensures letter_back { IfErr result (λ full. full.0 ≡ letter) }
         ensures nothing_posted { OnErr result (self.new.posted ≡ self.old.posted) }
+        ensures full { OnErr result (FoundFull self.old) }
     {
         letter.known();
         let parcel = Parcel {

@@ -3,7 +3,7 @@
 ghost use Rattle.std.specs.Prelude.{◌≡◌, ◌+◌, ◌<◌, ◌++◌, ◌∷◌, [], IfOk, OnOk, OnErr, IfSome, IfNone};
 ghost use Rattle.std.specs.Arc.{arc_value};
 ghost use Rattle.squall_inbox.specs.Inbox.{taker};
-ghost use Rattle.squall_inbox.specs.Ends.{Taking, Whole, knows_of, taking_with, posting_of};
+ghost use Rattle.squall_inbox.specs.Ends.{Taking, Whole, knows_of, taking_with, posting_of, room_of};
 ghost use Rattle.squall_inbox.specs.Letters.{IsLetter, AreLetters, letters_of};
 
 use crate::case::Case;
@@ -42,7 +42,8 @@ impl<K: Case> Taker<K> {
     /// The taker of a new inbox, with room for so many letters. It fails where an allocation fails.
     pub fn open(alloc: Global, capacity: usize) -> Result<Taker<K>, AllocError>
         requires { 0 < capacity }
-        ensures { IfOk result (λ t. t ≡ taking_with t.inbox 0) }
+        ensures new { IfOk result (λ t. t ≡ taking_with t.inbox 0) }
+        ensures room { IfOk result (λ t. room_of t.inbox ≡ capacity) }
     {
         let (queue, hand) = Queue::<K>::ruled(alloc, capacity)?;
         let inbox = Arc::new(alloc, queue)?;

@@ -1,5 +1,5 @@
 -- What the lines of a race file set up, one after another (this project's scenario language).
-use Rattle.std.specs.Prelude.{ℕ, zero, suc, ◌+◌, ◌-◌, ◌^◌, min, Bool, true, false, ◌&&◌, List, [], ◌∷◌, ◌++◌, length, replicate, nat_lt, Option, None, Some, Result, Ok, Err}
+use Rattle.std.specs.Prelude.{ℕ, zero, suc, ◌+◌, ◌-◌, ◌^◌, min, Bool, true, false, ◌&&◌, List, [], ◌∷◌, ◌++◌, length, replicate, nat_lt, Option, None, Some, unwrap_or, Result, Ok, Err}
 use Rattle.squall_plan.specs.declared.range.PlanRange.{PlanRange}
 use Rattle.squall_plan.specs.declared.fault.PlanFault.{PlanFault}
 use Rattle.squall_plan.specs.Form.{plan_of_text}
@@ -39,6 +39,13 @@ silent n = replicate n []
 -- a race before the first line of its file: without a line that says otherwise there are two senders
 abbrev pub at_start : RaceState
 at_start = record { line = 0; plans = NoPlan; capacity = None; readers = None; settled = false; lists = silent 2; keys = [] }
+
+-- without a line that says so there is one reader, and the inbox holds 16 letters
+abbrev pub readers_of : Option ℕ → ℕ
+readers_of asked = unwrap_or asked 1
+
+abbrev pub capacity_of : Option ℕ → ℕ
+capacity_of asked = unwrap_or asked 16
 
 abbrev pub with_plans : RaceState → Plans → RaceState
 with_plans s plans = record s { plans = plans }

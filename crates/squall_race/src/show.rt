@@ -1,9 +1,13 @@
 //! What a race shows.
 
-ghost use Rattle.std.specs.Prelude.{◌≡◌, ◌++◌, ℕ, List, IfOk, OnOk, string_bytes};
+ghost use Rattle.std.specs.Prelude.{◌≡◌, ◌++◌, ℕ, List, All, Some, length, IfOk, IfErr, OnOk, string_bytes};
 ghost use Rattle.std.specs.Arc.{arc_value};
+ghost use Rattle.squall_board.specs.Boards.{empty_board};
+ghost use Rattle.squall_cluster.specs.Race.{Read};
+ghost use Rattle.squall_cluster.specs.RaceFaults.{RaceFaultOf};
+ghost use Rattle.squall_race.specs.RaceFiles.{readers_of, capacity_of};
 ghost use Rattle.squall_language.specs.Reasons.{bad_line};
-ghost use Rattle.squall_race.specs.RaceText.{route_line, route_lines, text_of_race, MayShow, RefusesLine, ShowsRace, EndsIn, IsRefusal};
+ghost use Rattle.squall_race.specs.RaceText.{route_line, route_lines, text_of_race, board_of_lists, MayShow, RefusesLine, ShowsRace, EndsIn, IsRefusal};
 
 use crate::file::{BadLine, RaceFile, Stage};
 use crate::lines::read_file;
@@ -56,6 +60,47 @@ fn refuse_line(number: u64, reason: Reason, out: &mut String) -> Result<Ended, A
     Ok(Ended::Refused)
 }
 
+/// How many readers the race of a file has.
+fn readers_of(file: &RaceFile) -> usize
+    ensures { result ≡ readers_of file.now.readers }
+{
+    file.readers.unwrap_or(READERS) as usize
+}
+
+/// How many letters the inbox of the race of a file holds.
+fn capacity_of(file: &RaceFile) -> usize
+    ensures { result ≡ capacity_of file.now.capacity }
+{
+    file.capacity.unwrap_or(CAPACITY) as usize
+}
+
+/// The race of a file, from the board of no report: as many senders, readers and places in the inbox
+/// as the file says, each sender with its reports and each reader with all keys.
+fn race_of<R: Threads + Wait + Sync>(
+    rt: &R,
+    alloc: Global,
+    file: &RaceFile,
+    course: &Arc<Course>,
+) -> Result<Raced, RaceFault>
+    ensures board { IfOk result (λ raced. raced.board ≡ board_of_lists file.now.lists) }
+    ensures readers { IfOk result (λ raced. length raced.routes.items ≡ readers_of file.now.readers) }
+    ensures keys { IfOk result (λ raced. All (λ routes. Read (Some file.now.lists) (arc_value course.now) empty_board file.now.keys routes.items) raced.routes.items) }
+    ensures fault { IfErr result (RaceFaultOf (length file.now.lists) (readers_of file.now.readers) (capacity_of file.now.capacity)) }
+{
+    let opening = Board::new(alloc);
+    race(
+        rt,
+        alloc,
+        course,
+        &opening,
+        &file.lists,
+        &file.keys,
+        readers_of(file),
+        capacity_of(file),
+        &Open,
+    )
+}
+
 /// Runs the race, and adds what it comes to.
 fn run_race<R: Threads + Wait + Sync>(
     rt: &R,
@@ -66,21 +111,7 @@ fn run_race<R: Threads + Wait + Sync>(
 ) -> Result<Ended, AllocError>
     ensures { IfOk result (λ ended. (shown : List ℕ) × (string_bytes out.new ≡ string_bytes out.old ++ shown) × ShowsRace file.now (arc_value course.now) ended shown) }
 {
-    let opening = Board::new(alloc);
-    let readers = file.readers.unwrap_or(READERS) as usize;
-    let capacity = file.capacity.unwrap_or(CAPACITY) as usize;
-    let raced = race(
-        rt,
-        alloc,
-        course,
-        &opening,
-        &file.lists,
-        &file.keys,
-        readers,
-        capacity,
-        &Open,
-    );
-    match raced {
+    match race_of(rt, alloc, file, course) {
         Ok(raced) => {
             add_board(&raced.board, out)?;
             add_routes(course, &raced.board, &file.keys, out)?;

@@ -14,4 +14,4 @@ loop-preserved g c =
     let old : List Posting = c.loop.senders.items in
     let items : c.push.new.self.items ≡ old ++ one ∷ [] = c.in_ok-push.ensures.items in
     let grown : length (old ++ one ∷ []) ≡ c.loop.counter + 1 = let a = i.1 in omega (arith, length-append old (one ∷ [])) in
-    (subst (λ (l : List Posting). Fresh o' l) (sym items) (fresh_more o o' old one i.0 h.sender h.made), ap length items ∙ grown)
+    (subst (λ (l : List Posting). Fresh o' l) (sym items) (fresh_more o o' old one i.0 h.sender h.made), ap length items ∙ grown, ap (λ (o : Owning). o.inbox) h.made ∙ i.2)

@@ -11,7 +11,7 @@ use Rattle.squall_cluster.proofs.Races.{fresh_new, settled, within_all}
 use Rattle.squall_cluster.proofs.racing.race_in.Goals as goal
 
 pub returns-in-Err-clause-fault : goal.returns-in-Err-clause-fault
-returns-in-Err-clause-fault g c = c.from.ensures _ _ _ c.in-Err.ensures.fault
+returns-in-Err-clause-fault g c = c.from.ensures.of_numbers _ _ _ c.in-Err.ensures.fault
 
 pub run_all-owner-requires-after_bounds : goal.run_all-owner-requires-after_bounds
 run_all-owner-requires-after_bounds g c κs within =

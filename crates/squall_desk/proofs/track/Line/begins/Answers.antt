@@ -3,7 +3,7 @@ use Rattle.std.proofs.lemmas.Bool.Decides.{nat_tests}
 use mathlib.Core.List.{IsPrefix}
 use Rattle.squall_board.specs.Boards.{BoardValue}
 use Rattle.squall_desk.specs.Track.{Run}
-use Rattle.squall_desk.proofs.Tracks.{prefix_shorter}
+use Rattle.squall_desk.proofs.Tracks.{prefix_shorter, prefix_length}
 use Rattle.squall_desk.proofs.track.Line.begins.Goals as goal
 
 pub returns-clause-begins : goal.returns-clause-begins
@@ -21,3 +21,10 @@ returns-clause-longer c t =
     let le : c.other.inside.count ≤ c.self.inside.count = grind (arith, nat_tests) in
     let less : length c.other.inside.seen.log ≤ length c.self.inside.seen.log = omega (arith, c.self.invariant, c.other.invariant) in
     rw (← ap (λ (r : Run). r.log) c.self.view_is, ← ap (λ (r : Run). r.log) c.other.view_is) (prefix_shorter c.other.inside.seen.log c.self.inside.seen.log both c.learn.ensures.3 this less)
+
+pub returns-clause-exact : goal.returns-clause-exact
+returns-clause-exact c p =
+    let begins : IsPrefix c.self.inside.seen.log c.other.inside.seen.log = rw (ap (λ (r : Run). r.log) c.self.view_is, ap (λ (r : Run). r.log) c.other.view_is) p in
+    let le = prefix_length c.self.inside.seen.log c.other.inside.seen.log begins in
+    let less : c.self.inside.count ≤ c.other.inside.count = omega (arith, c.self.invariant, c.other.invariant) in
+    grind (arith, nat_tests)

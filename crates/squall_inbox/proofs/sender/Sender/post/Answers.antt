@@ -1,9 +1,10 @@
 use Rattle.std.proofs.Common.{ap, sym}
 use Rattle.squall_inbox.specs.declared.knows.Knows.{Knows}
-use Rattle.squall_inbox.proofs.Inboxes.{posts_ruled}
+use Rattle.squall_inbox.proofs.Inboxes.{posts_ruled, awaits_ruled}
 use Rattle.squall_inbox.proofs.sender.Sender.post.Goals as goal
 
 pub push_as-requires-clause-rule : goal.push_as-requires-clause-rule
 push_as-requires-clause-rule g c =
     let is = c.self.invariant.2 in
-    (posts_ruled g.K.Case.allowed _ _ _ _ (ap (λ (v : Knows). v.sends) is) (sym (ap (λ (v : Knows). v.from) is)) (c.known.ensures, c.requires), λ items views h at. tt)
+    let sends = ap (λ (v : Knows). v.sends) is in
+    (posts_ruled g.K.Case.allowed _ _ _ _ sends (sym (ap (λ (v : Knows). v.from) is)) (c.known.ensures, c.requires), awaits_ruled g.K.Case.allowed _ _ sends)
