@@ -1,4 +1,4 @@
--- How a world is made.
+-- How a world is made, and how an event happens in one.
 use Rattle.std.proofs.Common.{◌≡◌, ℕ, ◌<◌, ◌≤◌, nat_lt, true, false, List, [], ◌++◌, Result, Ok, Err, Option, None, Some, sym, subst, refl, ap, arith}
 use Rattle.std.specs.Prelude.{IfOk, IsErr}
 use Rattle.std.proofs.lemmas.List.{append-nil}
@@ -10,12 +10,17 @@ use Rattle.squall_board.specs.Boards.{BoardValue, empty_board}
 use Rattle.squall_wire.specs.Hearing.{FeedValue}
 use Rattle.squall_language.specs.declared.reason.Reason.{Reason}
 use Rattle.squall_language.specs.declared.reason.Reason.TheVariants.{Limit}
+use Rattle.squall_protocol.specs.declared.event.Event.{Event}
+use Rattle.squall_protocol.specs.declared.answer.Answer.{Answer}
 use Rattle.squall_protocol.specs.Worlds.{WorldValue, start}
+use Rattle.squall_protocol.specs.Steps.{Step}
+use Rattle.squall_event_text.specs.declared.events.Unfit.{Unfit}
+use Rattle.squall_event_text.specs.AnswerText.{answer_line}
 use Rattle.squall_world.specs.Nets.{NetValue}
 use Rattle.squall_world.specs.Views.{view}
-use Rattle.squall_scenario.specs.State.{StageOf, BothPlans, InWorld, ScenarioOf, ScenarioState}
+use Rattle.squall_scenario.specs.State.{StageOf, StageState, BothPlans, InWorld, ScenarioOf, ScenarioState}
 use Rattle.squall_scenario.specs.Stages.{stage_meant, meant}
-use Rattle.squall_scenario.specs.Replies.{Reply, limit_where, world_text, world_of, world_reply}
+use Rattle.squall_scenario.specs.Replies.{Reply, limit_where, world_text, world_of, world_reply, happen_reply}
 use Rattle.squall_scenario.specs.Answered.{Answers}
 
 -- the plans are known by other names
@@ -56,3 +61,16 @@ pub world_made : (l : ℕ) (stage : StageOf NetValue) (board : BoardValue) (feed
 world_made l stage board feed s old new routers w out out' view_is known few is grown =
     subst (λ (u : ScenarioOf NetValue). Answers (Ok None) out out' (record { line = l; stage = InWorld w; board = empty_board; feed = feed }) (world_reply (meant u) (meant u).stage routers)) view_is
     (made l stage board feed old new routers w out out' known few is grown)
+
+-- an event happens in the scenario's world, and its answer is added
+pub event_happened : (l : ℕ) (stage : StageOf NetValue) (board : BoardValue) (feed : FeedValue) (s : ScenarioOf NetValue) (w v : WorldValue) (asked : Result Event Unfit) (event : Event) (answer : Answer) (out out' : List ℕ)
+    → record { line = l; stage = stage; board = board; feed = feed } ≡ s → board ≡ empty_board → stage_meant stage ≡ InWorld w → asked ≡ Ok event → Step w event answer v → out' ≡ out ++ answer_line event answer
+    → Answers (Ok None) out out' (record { line = l; stage = InWorld v; board = empty_board; feed = feed }) (happen_reply (meant s) (meant s).stage asked)
+event_happened l stage board feed s w v asked event answer out out' view_is rests known is step grown =
+    let before : ScenarioState = meant (record { line = l; stage = stage; board = board; feed = feed }) in
+    let after : BoardValue → ScenarioState = λ b. record { line = l; stage = InWorld v; board = b; feed = feed } in
+    subst (λ b. Answers (Ok None) out out' (after b) (happen_reply (meant s) (meant s).stage asked)) rests
+    (subst (λ (u : ScenarioOf NetValue). Answers (Ok None) out out' (after board) (happen_reply (meant u) (meant u).stage asked)) view_is
+    (subst (λ (g : StageState). Answers (Ok None) out out' (after board) (happen_reply before g asked)) (sym known)
+    (subst (λ (e : Result Event Unfit). Answers (Ok None) out out' (after board) (happen_reply before (InWorld w) e)) (sym is)
+    (answer_line event answer, grown, (answer, v, step, refl, refl)))))

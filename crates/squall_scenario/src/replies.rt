@@ -1,8 +1,7 @@
 //! What a scenario answers to a line.
 
-ghost use Rattle.std.specs.Prelude.{◌≡◌, ◌++◌, ℕ, List, IfOk, OnOk, string_bytes, codes, refl};
+ghost use Rattle.std.specs.Prelude.{◌≡◌, ◌++◌, ℕ, List, IfOk, string_bytes, codes, refl};
 ghost use Rattle.squall_lines.specs.declared.Flow.TheVariants.{End};
-ghost use Rattle.squall_board.specs.Boards.{board_join, report_board};
 ghost use Rattle.squall_language.specs.Reasons.{bad_line};
 ghost use Rattle.squall_scenario.specs.Replies.{old_reply, new_reply, first_course, report_reply, issued_reply, route_reply, board_reply, reply_to_line, MayAnswer};
 ghost use Rattle.squall_scenario.specs.Answered.{Answers, IsAnswer};
@@ -14,7 +13,6 @@ use crate::legs::show_legs;
 use crate::scenario::{Scenario, Stage};
 use crate::worlds::{happen, make_world};
 use squall_course::Course;
-use squall_delta::delta_of;
 use squall_event_text::event_of;
 use squall_key::Key;
 use squall_language::{Reason, add_bad_line, add_board, read_plan};
@@ -83,15 +81,6 @@ fn new_plan(
     Ok(None)
 }
 
-/// Has the router hear what the report tells.
-fn absorb_report(alloc: Global, router: &mut Router, report: &Report) -> Result<(), AllocError>
-    ensures first { router.new.first ≡ router.old.first }
-    ensures board { OnOk result (router.new.board ≡ board_join router.old.board (report_board report.now)) }
-{
-    let delta = delta_of(alloc, report)?;
-    router.absorb(&delta)
-}
-
 /// Takes the report, where there is one, once both plans are read.
 fn take_report(
     scenario: &mut Scenario,
@@ -106,7 +95,7 @@ fn take_report(
     let Some(report) = report else {
         return Ok(Some(Reason::Limit));
     };
-    absorb_report(*out.allocator(), router, &report)?;
+    router.take(&report)?;
     write!(out, "taken\n")?;
     Ok(None)
 }
