@@ -126,3 +126,22 @@ fn messages(rt: HostRuntime) -> Result<(), Fail> {
     assert!(rt; message(rt.alloc(), &["squall", "run", "x"])?.is_empty());
     Ok(())
 }
+
+/// The task of the words, or that memory is short, whichever allocation is refused.
+#[test]
+fn tolerant_command(rt: HostRuntime) {
+    for (words, wanted) in &CASES {
+        let task = command(rt.alloc(), words);
+        assert!(rt; asked(&task) == *wanted || asked(&task).0 == "no memory");
+    }
+}
+
+/// The whole message of the words, or that memory is short.
+#[test]
+fn tolerant_message(rt: HostRuntime) {
+    for (words, lines, pieces) in &SHOWN {
+        if let Ok(text) = message(rt.alloc(), words) {
+            assert!(rt; has_all(text.as_str(), *lines, pieces));
+        }
+    }
+}

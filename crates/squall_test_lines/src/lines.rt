@@ -65,7 +65,7 @@ impl Machine for Numbers {
     }
 }
 
-/// Gives at most so many bytes per read, and fails after some reads.
+/// Gives at most so many bytes per read. After some reads it fails once, and then goes on.
 #[derive(Drop)]
 struct Drip<'a> {
     bytes: &'a [u8],
@@ -76,6 +76,7 @@ struct Drip<'a> {
 impl Read for Drip<'_> {
     fn read(&mut self, buf: &mut [u8]) -> io::Result<usize> {
         if self.reads_left == 0 {
+            self.reads_left = u64::MAX;
             return Err(io::Error::from(ErrorKind::Other));
         }
         self.reads_left -= 1;
@@ -86,7 +87,7 @@ impl Read for Drip<'_> {
     }
 }
 
-/// Takes one byte per write, and after some writes fails or takes nothing.
+/// Takes one byte per write. After some writes it fails or takes nothing once, and then goes on.
 #[derive(Drop)]
 struct Dropper {
     taken: Vec<u8>,
@@ -97,6 +98,7 @@ struct Dropper {
 impl Write for Dropper {
     fn write(&mut self, buf: &[u8]) -> io::Result<usize> {
         if self.writes_left == 0 {
+            self.writes_left = u64::MAX;
             return if self.fails {
                 Err(io::Error::from(ErrorKind::Other))
             } else {
@@ -122,8 +124,8 @@ const INPUT: &[u8; 13] = b"ab\n\nabcde\nabc";
 
 const OUTPUT: &[u8; 6] = b"2\n5\n3\n";
 
-/// How many bytes a read gives, how many reads and how many writes of a byte work, and whether the next
-/// write fails or takes nothing.
+/// How many bytes a read gives, before which read and which write one fails, and whether that write
+/// fails or takes nothing.
 #[derive(Clone, Copy)]
 struct Way {
     most: usize,
@@ -258,7 +260,7 @@ fn lines_are_numbered(rt: HostRuntime) {
     assert!(rt; ended == Ok(Ended::Fine) && out.as_slice() == b"1\n2\n3\n4\n".as_slice());
 }
 
-/// Whether so many reads of a byte give all bytes, and then the end.
+/// Whether reads of a byte give all bytes and then the end, of which one fails after so many.
 fn gives_all(alloc: Global, bytes: &[u8], reads_left: u64) -> Result<bool, RunFault> {
     let most = 1;
     let mut reader = Reader::new(Drip {
@@ -272,13 +274,48 @@ fn gives_all(alloc: Global, bytes: &[u8], reads_left: u64) -> Result<bool, RunFa
 
 #[test]
 fn whole_inputs(rt: HostRuntime) {
-    let cases: [(&[u8], u64, Result<bool, RunFault>); 3] = [
+    let cases: [(&[u8], u64, Result<bool, RunFault>); 5] = [
+        (INPUT, 0, Err(RunFault::Read)),
+        (INPUT, 7, Err(RunFault::Read)),
         (INPUT, 13, Err(RunFault::Read)),
         (INPUT, 14, Ok(true)),
         (b"", 1, Ok(true)),
     ];
     for (bytes, reads, wanted) in cases {
         assert!(rt; gives_all(rt.alloc(), bytes, reads) == wanted);
+    }
+}
+
+/// Whether the run comes out right where an allocation is refused. It writes to room that is there, so that it
+/// alone takes memory.
+fn comes_out_tolerant(alloc: Global) -> Result<bool, AllocError> {
+    let mut taken = Vec::with_capacity(alloc, OUTPUT.len())?;
+    let mut machine = Sample;
+    let mut reader = Reader::new(INPUT.as_slice());
+    let mut writer = Writer::new(&mut taken);
+    let ended = run(alloc, &mut machine, &mut reader, &mut writer);
+    Ok(match ended {
+        Ok(Ended::Fine) => taken.as_slice() == OUTPUT.as_slice(),
+        // Some first lines are answered, each whole.
+        Err(RunFault::NoMemory) => {
+            OUTPUT.starts_with(taken.as_slice()) && taken.last().copied() != Some(b'2')
+        }
+        _ => false,
+    })
+}
+
+#[test]
+fn tolerant_run(rt: HostRuntime) {
+    assert!(rt; comes_out_tolerant(rt.alloc()) != Ok(false));
+}
+
+/// A whole input, or that memory is short; the input stays.
+#[test]
+fn tolerant_whole_input(rt: HostRuntime) {
+    let mut reader = Reader::new(INPUT.as_slice());
+    match read_all(rt.alloc(), &mut reader) {
+        Ok(bytes) => assert!(rt; bytes.as_slice() == INPUT.as_slice()),
+        Err(fault) => assert!(rt; fault == RunFault::NoMemory),
     }
 }
 

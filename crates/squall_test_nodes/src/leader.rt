@@ -45,14 +45,14 @@ fn write_begun(
     }
 }
 
-/// Begins the course to the plan of the text, and writes its number, or the fault.
+/// Begins the course to the plan of the text, and writes its number, or the fault. Like what follows,
+/// None where an allocation fails.
 ///
 /// What a proof of a test costs grows with the values that the test owns, times the ways out of it: so a function here
 /// makes one value, and lends it to another.
-fn begin(alloc: Global, leader: &mut Leader, text: &str, out: &mut String) -> Result<(), Fail> {
-    let plan = plan(alloc, text).ok_or("a plan")?;
-    write_begun(out, leader.begin(&plan))?;
-    Ok(())
+fn begin(alloc: Global, leader: &mut Leader, text: &str, out: &mut String) -> Option<()> {
+    let plan = plan(alloc, text)?;
+    write_begun(out, leader.begin(&plan)).ok()
 }
 
 /// Opens the next sub-plan, and writes what is opened, or the fault.
@@ -100,23 +100,25 @@ fn write_issued(board: &Board, number: u32, out: &mut String) -> Result<(), Allo
     }
 }
 
+/// Writes how many sub-plans of number 1 are opened, and whether the course begun last is finished.
+fn write_state(leader: &Leader, out: &mut String) -> Result<(), AllocError> {
+    let (count, is_finished) = (leader.board().opened(1), leader.finished());
+    write!(out, "{count} {is_finished}")
+}
+
 /// Writes what comes of the step.
-fn answer(alloc: Global, leader: &mut Leader, step: Step, out: &mut String) -> Result<(), Fail> {
+fn answer(alloc: Global, leader: &mut Leader, step: Step, out: &mut String) -> Option<()> {
     match step {
         Step::Begin(text) => begin(alloc, leader, text, out)?,
-        Step::Open => open(leader, out)?,
+        Step::Open => open(leader, out).ok()?,
         Step::Hear(part) => {
-            let heard = hears_done(alloc, leader, part).ok_or("a completion")?;
-            write!(out, "{heard}")?;
+            let heard = hears_done(alloc, leader, part)?;
+            write!(out, "{heard}").ok()?;
         }
-        Step::Tell => {
-            let (count, is_finished) = (leader.board().opened(1), leader.finished());
-            write!(out, "{count} {is_finished}")?;
-        }
-        Step::Issued(number) => write_issued(leader.board(), number, out)?,
+        Step::Tell => write_state(leader, out).ok()?,
+        Step::Issued(number) => write_issued(leader.board(), number, out).ok()?,
     }
-    out.push_str("; ")?;
-    Ok(())
+    out.push_str("; ").ok()
 }
 
 /// Writes what comes of each of the steps, one after the other.
@@ -125,11 +127,11 @@ fn write_answers(
     leader: &mut Leader,
     steps: &[Step],
     out: &mut String,
-) -> Result<(), Fail> {
+) -> Option<()> {
     for step in steps {
         answer(alloc, leader, *step, out)?;
     }
-    Ok(())
+    Some(())
 }
 
 /// A leader of the old plan, where numbers up to `last` were used before. None where an allocation
@@ -147,7 +149,7 @@ fn leader(alloc: Global, last: u32) -> Option<Leader> {
 fn has_answers(alloc: Global, last: u32, steps: &[Step], wanted: &str) -> Result<bool, Fail> {
     let mut leader = leader(alloc, last).ok_or("a leader")?;
     let mut out = String::new(alloc);
-    write_answers(alloc, &mut leader, steps, &mut out)?;
+    write_answers(alloc, &mut leader, steps, &mut out).ok_or("memory")?;
     Ok(out.as_str() == wanted)
 }
 

@@ -7,7 +7,7 @@ use crate::example::{NEW, OLD, course, issue};
 use squall_board::Board;
 use squall_key::{Bound, Key, PartId};
 use squall_part::{Chunk, FinishFault, GiveFault, Load, LoadFault, Part};
-use squall_report::Report;
+use squall_report::{Report, ReportKind};
 use squall_router::Reply;
 use squall_span::{Span, SpanSet};
 use std::alloc::{AllocError, Global};
@@ -65,20 +65,34 @@ fn write_gift(out: &mut String, given: Result<Chunk, GiveFault>) -> Result<(), A
     }
 }
 
+/// Writes what the report tells.
+fn write_report(out: &mut String, report: &Report) -> Result<(), AllocError> {
+    match report.kind() {
+        ReportKind::Loaded {
+            number,
+            sub,
+            part,
+            span,
+        } => write!(out, "loaded {number} {sub} {part} {span}"),
+        ReportKind::Done { number, sub, part } => write!(out, "done {number} {sub} {part}"),
+        ReportKind::Opened { .. } | ReportKind::Issued { .. } => out.push_str("another report"),
+    }
+}
+
 /// Writes what came of a chunk, or the fault.
 fn write_outcome(out: &mut String, loaded: Result<Load, LoadFault>) -> Result<(), AllocError> {
     match loaded {
         Ok(Load::Again) => out.push_str("Again"),
-        Ok(Load::Loaded(_)) => out.push_str("Loaded"),
+        Ok(Load::Loaded(report)) => write_report(out, &report),
         Err(fault) => write!(out, "{fault}"),
     }
 }
 
 /// Writes the end of a sub-plan, or the fault.
-fn write_ending(out: &mut String, fault: Option<FinishFault>) -> Result<(), AllocError> {
-    match fault {
-        None => out.push_str("Done"),
-        Some(fault) => write!(out, "{fault}"),
+fn write_ending(out: &mut String, done: Result<Report, FinishFault>) -> Result<(), AllocError> {
+    match done {
+        Ok(report) => write_report(out, &report),
+        Err(fault) => write!(out, "{fault}"),
     }
 }
 
@@ -102,13 +116,38 @@ fn write_spans(out: &mut String, set: &SpanSet) -> Result<(), AllocError> {
     Ok(())
 }
 
-/// Writes whether the partition has the set of what it gave in number 1 and of what it loaded in
-/// number 2, and whether its board says partition 3 done.
+/// Writes what the partition gave and loaded under the number, if it knows its course.
+fn write_log(out: &mut String, part: &Part, number: u32) -> Result<(), AllocError> {
+    let (Some(given), Some(loaded)) = (part.given(number), part.loaded(number)) else {
+        return write!(out, "{number} unknown, ");
+    };
+    write!(out, "{number} gave ")?;
+    write_spans(out, given)?;
+    out.push_str(" loaded ")?;
+    write_spans(out, loaded)?;
+    out.push_str(", ")
+}
+
+/// Writes the cells of the board.
+fn write_cells(out: &mut String, board: &Board) -> Result<(), AllocError> {
+    for cell in &board.cells()? {
+        let (number, sub, part, is_done) = (
+            cell.number(),
+            cell.sub(),
+            cell.part(),
+            cell.complete(),
+        );
+        write!(out, "cell {number} {sub} {part} {is_done} ")?;
+        write_spans(out, cell.spans())?;
+    }
+    Ok(())
+}
+
+/// Writes what the partition gave and loaded under numbers 1 and 2, and the cells of its board.
 fn write_sets(out: &mut String, part: &Part) -> Result<(), AllocError> {
-    let gave = part.given(1).is_some();
-    let loaded = part.loaded(2).is_some();
-    let done = part.board().says_done(1, 0, 3);
-    write!(out, "{gave} {loaded} {done}")
+    write_log(out, part, 1)?;
+    write_log(out, part, 2)?;
+    write_cells(out, part.board())
 }
 
 /// What is asked of a partition.
@@ -130,7 +169,7 @@ enum Step {
     Serve(u32),
     /// To tell which keys it holds.
     Hold,
-    /// To tell which sets it has.
+    /// To tell what it gave and loaded, and what its board says of loads.
     Tell,
 }
 
@@ -151,7 +190,7 @@ fn answer(alloc: Global, part: &mut Part, step: Step, out: &mut String) -> Resul
             let chunk = chunk(number, sub, source, hi).ok_or("a chunk")?;
             write_outcome(out, part.load(&chunk))?;
         }
-        Step::Finish => write_ending(out, part.finish(0).err())?,
+        Step::Finish => write_ending(out, part.finish(0))?,
         Step::Serve(after) => write_reply(out, part.serve(Key::new(2, 0).ok_or("a key")?, after))?,
         Step::Hold => write_spans(out, part.held())?,
         Step::Tell => write_sets(out, part)?,
@@ -187,7 +226,7 @@ const STEPS: [(u32, &[Step], &str); 7] = [
     (
         1,
         &[Step::Tell, Step::Give(1), Step::GiveAt(2), Step::Finish],
-        "true false false; NotOpen; NotOpen; NotOpen; ",
+        "1 gave  loaded , 2 unknown, ; NotOpen; NotOpen; NotOpen; ",
     ),
     // What is given on goes in order, and each key once.
     (
@@ -233,7 +272,7 @@ const STEPS: [(u32, &[Step], &str); 7] = [
             Step::Hold,
             Step::Finish,
         ],
-        "true; Stranger; Stranger; NotOpen; Pending 1; Loaded; Again; Held; [2:0,2:1)[5:0,9:0); NotAll [2:1,3:0); ",
+        "true; Stranger; Stranger; NotOpen; Pending 1; loaded 1 0 3 [2:0,2:1); Again; Held; [2:0,2:1)[5:0,9:0); NotAll [2:1,3:0); ",
     ),
     // Keys come and go back, and a repeat brings nothing back.
     (
@@ -251,7 +290,8 @@ const STEPS: [(u32, &[Step], &str); 7] = [
             Step::Hold,
             Step::Tell,
         ],
-        "true; Loaded; Done; Done; true; true; 2 0 3 1 [2:0,2:1); Moved 1 2; Again; [2:1,3:0)[5:0,9:0); true true true; ",
+        "true; loaded 1 0 3 [2:0,3:0); done 1 0 3; done 1 0 3; true; true; 2 0 3 1 [2:0,2:1); Moved 1 2; Again; \
+         [2:1,3:0)[5:0,9:0); 1 gave  loaded [2:0,3:0), 2 gave [2:0,2:1) loaded , cell 1 0 3 true [2:0,3:0); ",
     ),
     // Nothing is due at others.
     (

@@ -3,6 +3,7 @@
 mod clients;
 mod errands;
 mod routers;
+mod takes;
 mod tolerant;
 mod ways;
 
@@ -21,6 +22,12 @@ pub(crate) enum Said {
     Half,
     /// From 2:0 to 3:0 they are.
     Load,
+    /// From 2:0 to 4:0 they are, of which those from 3:0 on don't move.
+    Wide,
+    /// From 2:0 to 3:0 they are, in sub-plan 1, in which no key moves.
+    Astray,
+    /// Sub-plan 0 of number 1 is opened.
+    Opened,
     /// Partition 4 is done in sub-plan 0 of number 1.
     Done,
     /// The new plan follows the old one under the number.
@@ -29,17 +36,20 @@ pub(crate) enum Said {
     Back(u32),
 }
 
-/// The report of a load from 2:0 on at partition 3, in sub-plan 0 of number 1.
-fn load(hi: &str) -> Option<Report> {
+/// The report of a load from 2:0 on at partition 3, in a sub-plan of number 1.
+fn load(sub: u32, hi: &str) -> Option<Report> {
     let span = Span::new(Bound::read("2:0")?, Bound::read(hi)?)?;
-    Report::loaded(1, 0, 3, span)
+    Report::loaded(1, sub, 3, span)
 }
 
 /// The report of what is said.
-fn report(alloc: Global, said: Said) -> Option<Report> {
+pub(crate) fn report(alloc: Global, said: Said) -> Option<Report> {
     match said {
-        Said::Half => load("2:7"),
-        Said::Load => load("3:0"),
+        Said::Half => load(0, "2:7"),
+        Said::Load => load(0, "3:0"),
+        Said::Wide => load(0, "4:0"),
+        Said::Astray => load(1, "3:0"),
+        Said::Opened => Report::opened(1, 0),
         Said::Done => Report::done(1, 0, 4),
         Said::There(number) => issue(alloc, number, OLD, NEW),
         Said::Back(number) => issue(alloc, number, NEW, OLD),
@@ -61,7 +71,7 @@ fn hear(alloc: Global, router: &mut Router, said: Said) -> Option<()> {
 }
 
 /// A router that begins with course 1.
-fn router(alloc: Global) -> Option<Router> {
+pub(crate) fn router(alloc: Global) -> Option<Router> {
     let course = course(alloc)?;
     Router::new(alloc, &course).ok()
 }

@@ -2,6 +2,7 @@
 //! up to 9:0 from 3 to 4, each in sub-plan 0. Longer runs stand among the cases of the built program.
 
 mod calls;
+mod clients;
 mod tolerant;
 
 use squall_key::{Bound, Key, PartId};

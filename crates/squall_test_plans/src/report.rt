@@ -249,3 +249,24 @@ fn tolerant_new_issue(rt: HostRuntime) -> Result<(), Fail> {
     }
     Ok(())
 }
+
+/// The issue of the plan and of a copy of it. None where an allocation fails.
+fn still(alloc: Global) -> Option<Arc<Issue>> {
+    let plan = plan(alloc, OLD)?;
+    Issue::new(alloc, &plan, &plan).ok()
+}
+
+/// A copy of the issue is the issue.
+fn copy_is_issue(rt: &impl Abort, alloc: Global, issue: &Issue) {
+    if let Ok(copy) = issue.copied(alloc) {
+        assert!(rt; copy.is_same(issue));
+    }
+    assert!(rt; *issue.old() == *issue.new_plan());
+}
+
+#[test]
+fn tolerant_copied_issue(rt: HostRuntime) {
+    if let Some(issue) = still(rt.alloc()) {
+        copy_is_issue(&rt, rt.alloc(), &issue);
+    }
+}

@@ -2,7 +2,9 @@
 
 mod patches;
 mod searches;
+mod takes;
 mod tolerant;
+mod unchanged;
 
 use squall_board::{Board, Delta};
 use squall_course::Course;
@@ -59,13 +61,16 @@ pub(crate) enum Said {
     Load(&'static str, &'static str),
     /// The partition is done in the sub-plan of the number.
     Done { number: u32, sub: u32, part: u32 },
+    /// The sub-plan is opened, and all those before it.
+    Opened { sub: u32 },
 }
 
 /// The report of what is said.
-fn report(said: Said) -> Option<Report> {
+pub(crate) fn report(said: Said) -> Option<Report> {
     match said {
         Said::Load(lo, hi) => load(lo, hi),
         Said::Done { number, sub, part } => Report::done(number, sub, part),
+        Said::Opened { sub } => Report::opened(1, sub),
     }
 }
 
@@ -187,7 +192,13 @@ fn table_of_a_load(alloc: Global) -> Result<RouteTable, Fail> {
 }
 
 /// Whether the table's legs, cut to a span, are these.
-fn is_cut(alloc: Global, table: &RouteTable, lo: &str, hi: &str, rows: &str) -> Result<bool, Fail> {
+pub(crate) fn is_cut(
+    alloc: Global,
+    table: &RouteTable,
+    lo: &str,
+    hi: &str,
+    rows: &str,
+) -> Result<bool, Fail> {
     let legs = table.legs(alloc, &span(lo, hi).ok_or("span")?)?;
     Ok(shown(alloc, &legs)?.as_str() == rows)
 }

@@ -1,19 +1,23 @@
 //! Tests of running clusters. The plans, reports and partitions were worked out by hand.
 
-ghost use Rattle.std.specs.Prelude.{◌≡◌, [], ◌∷◌, length, IfSome, None};
+ghost use Rattle.std.specs.Prelude.{◌≡◌, [], ◌∷◌, length, All, IfSome, None};
 ghost use Rattle.std.specs.Arc.{arc_value};
-ghost use Rattle.squall_inbox.specs.Ends.{posting_of};
+ghost use Rattle.squall_inbox.specs.Ends.{posting_of, vouching};
 ghost use Rattle.squall_cluster.specs.Owners.{owning_with, IsBoardOfPosted};
+ghost use Rattle.squall_cluster.specs.CloseFaults.{owner_of, spent_of};
 
 mod clusters;
 mod gates;
+mod made;
+mod numbered;
 mod races;
 mod random;
+mod sizes;
 mod steps;
 mod tolerant;
 
 use squall_board::Board;
-use squall_cluster::{Case, Cluster, Letter, Line, Owner, Sender, Setup, Track, close};
+use squall_cluster::{Case, CloseFault, Cluster, Letter, Line, Owner, Sender, Setup, Track, close};
 use squall_course::Course;
 use squall_key::{Bound, Key};
 use squall_plan::Plan;
@@ -146,7 +150,7 @@ struct Pair<K: Case, R: Wait + Drop> {
     owner: Owner<K, R>,
 }
 
-/// A cluster of two senders and so many readers, whose inbox has room for one letter. None where an
+/// A cluster of two senders and so many readers, whose inbox has room for so many letters. None where an
 /// allocation fails.
 fn opened<K: Case, R: Wait + Drop>(
     rt: R,
@@ -154,12 +158,13 @@ fn opened<K: Case, R: Wait + Drop>(
     book: (Track, Line),
     start: &Start,
     readers: usize,
+    capacity: usize,
 ) -> Option<Pair<K, R>>
     requires book { (book.0 ≡ K.book) × (book.1.book ≡ K.book) × (book.1.log ≡ []) }
     requires start { (arc_value start.now.first ≡ K.first) × (start.now.opening ≡ K.opening) }
     ensures { IfSome result (λ pair. (pair.first ≡ posting_of pair.owner.inbox 0 []) × (pair.second ≡ posting_of pair.owner.inbox 1 []) × (pair.owner ≡ owning_with pair.owner.inbox 2)) }
 {
-    let made = Cluster::<K>::new(
+    let Ok(setup) = Cluster::<K>::new(
         rt,
         alloc,
         book.0,
@@ -168,13 +173,15 @@ fn opened<K: Case, R: Wait + Drop>(
         &start.opening,
         2,
         readers,
-        1,
-    );
+        capacity,
+    ) else {
+        return None;
+    };
     let Setup {
         cluster,
         mut senders,
         owner,
-    } = made.ok()?;
+    } = setup;
     let second = senders.pop()?;
     let first = senders.pop()?;
     Some(Pair {
@@ -183,6 +190,17 @@ fn opened<K: Case, R: Wait + Drop>(
         second,
         owner,
     })
+}
+
+/// Closes the cluster by what came back of a try without memory. None where there is none again.
+fn closed_again<K: Case, R: Wait + Drop>(fault: CloseFault<K, R>) -> Option<Board>
+    requires inbox { All (λ s. s.inbox ≡ (owner_of fault).inbox) (spent_of fault) }
+    requires all { length (vouching (spent_of fault) (owner_of fault).vouched) ≡ (owner_of fault).made }
+    ensures { IfSome result (IsBoardOfPosted K.allowed K.opening (vouching (spent_of fault) (owner_of fault).vouched)) }
+{
+    match fault {
+        CloseFault::NoMemory { spent, owner } => close(spent, owner).ok(),
+    }
 }
 
 /// Ends both senders and closes the cluster, at a second try where the first had no memory. None where
@@ -202,7 +220,7 @@ fn closed<K: Case, R: Wait + Drop>(
     spent.push(second.end()).ok()?;
     match close(spent, owner) {
         Ok(board) => Some(board),
-        Err(fault) => close(fault.spent, fault.owner).ok(),
+        Err(fault) => closed_again(fault),
     }
 }
 

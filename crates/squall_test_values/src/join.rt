@@ -253,6 +253,24 @@ fn joins<J: Beyond>(rt: &impl Abort, alloc: Global, less: &J, more: &J) -> Resul
     leaves(rt, alloc, more, less, &both)
 }
 
+/// The pair of a number and a flag.
+fn number_and_flag(number: u32, is_set: bool) -> Pair<Max, Flag> {
+    Pair::new(Max::new(number), Flag::new(is_set))
+}
+
+/// The number and the flag of the join of (3, set) and (1, not set).
+fn join_of_two(alloc: Global) -> Result<(u32, bool), AllocError> {
+    let both = number_and_flag(3, true).joined(alloc, &number_and_flag(1, false))?;
+    Ok((both.first.get(), both.second.get()))
+}
+
+#[test]
+fn pairs_of_a_number_and_a_flag(rt: HostRuntime) -> Result<(), AllocError> {
+    assert!(rt; join_of_two(rt.alloc())? == (3, true));
+    let (less, more) = (number_and_flag(1, false), number_and_flag(3, true));
+    joins(&rt, rt.alloc(), &less, &more)
+}
+
 #[test]
 fn plain_values_through_the_bound(rt: HostRuntime) -> Result<(), AllocError> {
     joins(&rt, rt.alloc(), &Max::new(3), &Max::new(5))?;

@@ -101,7 +101,7 @@ fn span(lo: &str, hi: &str) -> Option<Span> {
 }
 
 /// An issue that leads from a plan to the same plan.
-fn issue(alloc: Global) -> Option<Arc<Issue>> {
+pub(crate) fn issue(alloc: Global) -> Option<Arc<Issue>> {
     let range = PlanRange {
         span: span("0:0", "end")?,
         part: PartId::new(1)?,
@@ -162,7 +162,7 @@ fn cells_of_a_board(rt: HostRuntime) -> Result<(), Fail> {
 }
 
 /// Puts the rows of the board into the other.
-fn put_rows_of(board: &Board, again: &mut Board) -> Result<(), AllocError> {
+pub(crate) fn put_rows_of(board: &Board, again: &mut Board) -> Result<(), AllocError> {
     put_all_rows(again, board.cell_map().entries())
 }
 
@@ -300,6 +300,13 @@ fn count_cells(rt: &impl Abort, board: &Board) {
     }
 }
 
+/// Lists the cells that the board lends, where no allocation fails.
+fn look_at_lent(rt: &impl Abort, board: &Board) {
+    if let Ok(are_wanted) = lends_cells_of_two(board) {
+        assert!(rt; are_wanted);
+    }
+}
+
 /// Lists the openings, where no allocation fails.
 fn count_openings(rt: &impl Abort, board: &Board) {
     if let Ok(openings) = board.openings() {
@@ -325,6 +332,7 @@ fn is_full(rt: &impl Abort, alloc: Global, board: &Board) {
 #[derive(Clone, Copy)]
 enum Kind {
     Cells,
+    Lent,
     Openings,
     Issues,
 }
@@ -333,6 +341,7 @@ enum Kind {
 fn look_at_list(rt: &impl Abort, alloc: Global, board: &Board, kind: Kind) {
     match kind {
         Kind::Cells => count_cells(rt, board),
+        Kind::Lent => look_at_lent(rt, board),
         Kind::Openings => count_openings(rt, board),
         Kind::Issues => count_issues(rt, board),
     }
@@ -350,6 +359,11 @@ fn list_tolerantly(rt: &impl Abort, alloc: Global, kind: Kind) {
 fn tolerant_cells(rt: HostRuntime) -> Result<(), Fail> {
     list_tolerantly(&rt, rt.alloc(), Kind::Cells);
     Ok(())
+}
+
+#[test]
+fn tolerant_lent_cells(rt: HostRuntime) {
+    list_tolerantly(&rt, rt.alloc(), Kind::Lent);
 }
 
 #[test]

@@ -1,6 +1,7 @@
 //! Where an allocation fails a board is as it was.
 
-use crate::board::{load, two_reports};
+use crate::board::listed::{issue, put_rows_of};
+use crate::board::{board_of_two, has_one_issue, is_empty, load, two_reports};
 use squall_board::{Board, Opening};
 use squall_join::Flat;
 use squall_key::Key;
@@ -42,10 +43,18 @@ enum Step {
     Take,
     /// It takes a load and a completion.
     TakeAll,
+    /// It takes an issue.
+    TakeIssue,
+    /// It takes a completion and an issue.
+    TakeAllIssue,
     /// An opening is put into it.
     PutOpening,
     /// A clash is put into it.
     PutClash,
+    /// One issue is put into it.
+    PutOne,
+    /// A row of two cells is put into it, and into an empty board.
+    PutRow,
     /// It takes a load and a completion, and is merged into another.
     Merge,
     /// It is copied.
@@ -69,6 +78,21 @@ fn takes_two(board: &mut Board) -> Result<(bool, bool), Fail> {
     Ok((taken, board.says_done(1, 0, 4)))
 }
 
+/// Whether the board took an issue, and whether it tells of it. None where no issue could be made.
+fn takes_issue(alloc: Global, board: &mut Board) -> Option<(bool, bool)> {
+    let report = Report::issued(2, issue(alloc)?)?;
+    let taken = board.take(&report).is_ok();
+    Some((taken, has_one_issue(board, 2)))
+}
+
+/// Whether the board took a completion and an issue, and whether it tells of both. None where no issue could be made.
+fn takes_two_with_issue(alloc: Global, board: &mut Board) -> Option<(bool, bool)> {
+    let reports = [Report::done(1, 0, 4)?, Report::issued(2, issue(alloc)?)?];
+    let taken = board.take_all(&reports).is_ok();
+    let tells = board.says_done(1, 0, 4) && has_one_issue(board, 2);
+    Some((taken, tells))
+}
+
 /// Whether an opening was put into the board, and whether the board tells of it.
 fn puts_three(board: &mut Board) -> (bool, bool) {
     let opening = Opening {
@@ -85,10 +109,44 @@ fn puts_clash(board: &mut Board) -> (bool, bool) {
     (put, matches!(board.issuing(3), Flat::Clash))
 }
 
+/// Whether one issue was put into the board, and whether the board tells of it. None where no issue could be made.
+fn puts_one(alloc: Global, board: &mut Board) -> Option<(bool, bool)> {
+    let issue = Flat::One(issue(alloc)?);
+    let put = board.put_issue(3, &issue).is_ok();
+    Some((put, has_one_issue(board, 3)))
+}
+
+/// Whether the row of the other, a load and a completion, was put into the board, and whether the board tells of it.
+fn puts_row(board: &mut Board, other: &Board) -> (bool, bool) {
+    let put = put_rows_of(other, board).is_ok();
+    (put, board.covers(other))
+}
+
+/// Puts the row of the other into an empty board, which is the other then or still empty.
+fn put_row_into_empty(rt: &impl Abort, alloc: Global, other: &Board) {
+    let mut board = Board::new(alloc);
+    let put = puts_row(&mut board, other);
+    assert!(rt; put.0 == put.1 && put.0 != is_empty(alloc, &board));
+}
+
+/// Puts a row of two cells into an empty board, and then into this one.
+fn put_row(rt: &impl Abort, alloc: Global, board: &mut Board) {
+    if let Some(other) = board_of_two(alloc) {
+        put_row_into_empty(rt, alloc, &other);
+        let put = puts_row(board, &other);
+        is_grown_or_not(rt, alloc, put, board);
+    }
+}
+
 /// The board tells what was put into it, or is a small one as it was: whether it was put, and whether it tells of it.
 fn is_grown_or_not(rt: &impl Abort, alloc: Global, put: (bool, bool), board: &Board) {
     assert!(rt; put.0 == put.1);
     is_small_or_grown(rt, alloc, board, put.0);
+}
+
+/// The board is still a small one where there was nothing to put, and else it tells that or is a small one.
+fn is_grown_where_made(rt: &impl Abort, alloc: Global, put: Option<(bool, bool)>, board: &Board) {
+    is_grown_or_not(rt, alloc, put.unwrap_or((false, false)), board);
 }
 
 /// Merges the other into the board, which has it then or is as it was.
@@ -144,8 +202,14 @@ fn step_with(rt: &impl Abort, alloc: Global, board: &mut Board, step: Step) -> R
     match step {
         Step::Take => is_grown_or_not(rt, alloc, takes_a_load(board)?, board),
         Step::TakeAll => is_grown_or_not(rt, alloc, takes_two(board)?, board),
+        Step::TakeIssue => is_grown_where_made(rt, alloc, takes_issue(alloc, board), board),
+        Step::TakeAllIssue => {
+            is_grown_where_made(rt, alloc, takes_two_with_issue(alloc, board), board)
+        }
         Step::PutOpening => is_grown_or_not(rt, alloc, puts_three(board), board),
         Step::PutClash => is_grown_or_not(rt, alloc, puts_clash(board), board),
+        Step::PutOne => is_grown_where_made(rt, alloc, puts_one(alloc, board), board),
+        Step::PutRow => put_row(rt, alloc, board),
         Step::Merge => merge_grown(rt, alloc, board)?,
         Step::Copied => look_at_copy(rt, alloc, board),
         Step::Beyond => look_beyond(rt, alloc, board),
@@ -172,6 +236,16 @@ fn tolerant_take_all(rt: HostRuntime) -> Result<(), Fail> {
 }
 
 #[test]
+fn tolerant_take_of_an_issue(rt: HostRuntime) -> Result<(), Fail> {
+    step_with_small(&rt, rt.alloc(), Step::TakeIssue)
+}
+
+#[test]
+fn tolerant_take_all_of_an_issue(rt: HostRuntime) -> Result<(), Fail> {
+    step_with_small(&rt, rt.alloc(), Step::TakeAllIssue)
+}
+
+#[test]
 fn tolerant_merge(rt: HostRuntime) -> Result<(), Fail> {
     step_with_small(&rt, rt.alloc(), Step::Merge)
 }
@@ -189,6 +263,16 @@ fn tolerant_put_opening(rt: HostRuntime) -> Result<(), Fail> {
 #[test]
 fn tolerant_put_issue(rt: HostRuntime) -> Result<(), Fail> {
     step_with_small(&rt, rt.alloc(), Step::PutClash)
+}
+
+#[test]
+fn tolerant_put_one_issue(rt: HostRuntime) -> Result<(), Fail> {
+    step_with_small(&rt, rt.alloc(), Step::PutOne)
+}
+
+#[test]
+fn tolerant_put_row(rt: HostRuntime) -> Result<(), Fail> {
+    step_with_small(&rt, rt.alloc(), Step::PutRow)
 }
 
 #[test]

@@ -155,6 +155,37 @@ fn issues_and_many_cells(rt: HostRuntime) -> Result<(), Fail> {
     cut_wide(&rt, rt.alloc(), &board)
 }
 
+/// How many pieces the board has.
+fn piece_count(alloc: Global, board: &Board) -> Result<usize, AllocError> {
+    let cut = pieces(alloc, board)?;
+    Ok(cut.len())
+}
+
+#[test]
+fn pieces_of_the_empty_board(rt: HostRuntime) -> Result<(), Fail> {
+    let empty = Board::new(rt.alloc());
+    assert!(rt; piece_count(rt.alloc(), &empty)? == 0);
+    Ok(())
+}
+
+/// Takes the load of the keys from 2:0 to 3:0, and the completion of partition 4.
+fn take_both(board: &mut Board) -> Result<(), Fail> {
+    let lo = Bound::new(2, 0).ok_or("a bound")?;
+    let hi = Bound::new(3, 0).ok_or("a bound")?;
+    let span = Span::new(lo, hi).ok_or("a span")?;
+    board.take(&Report::loaded(1, 0, 3, span).ok_or("a load")?)?;
+    board.take(&Report::done(1, 0, 4).ok_or("a completion")?)?;
+    Ok(())
+}
+
+#[test]
+fn one_piece_of_two_cells(rt: HostRuntime) -> Result<(), Fail> {
+    let mut board = Board::new(rt.alloc());
+    take_both(&mut board)?;
+    assert!(rt; is_one_piece(rt.alloc(), &board)?);
+    Ok(())
+}
+
 /// Cuts the board of the load, where no allocation fails.
 fn cut_tolerantly(rt: &impl Abort, alloc: Global, board: &Board) {
     if let Ok(is_one) = is_one_piece(alloc, board) {

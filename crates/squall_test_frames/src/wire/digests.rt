@@ -39,6 +39,13 @@ fn the_frame_of_a_digest(rt: HostRuntime) -> Result<(), Fail> {
 }
 
 #[test]
+fn the_digest_of_nothing(rt: HostRuntime) -> Result<(), Fail> {
+    let digest = Digest::of(rt.alloc(), &[], &[], &[])?;
+    assert!(rt; digest_is_framed_as(rt.alloc(), digest, EMPTY_DIGEST)?);
+    Ok(())
+}
+
+#[test]
 fn rows_of_no_digest(rt: HostRuntime) -> Result<(), Fail> {
     let alloc = rt.alloc();
     let bad = Some(DigestFault::BadDigest);
@@ -92,7 +99,7 @@ fn lent_cells_are(
 }
 
 /// The issues and the cells of the board have these bytes.
-fn look_at_items(
+pub(crate) fn look_at_items(
     rt: &impl Abort,
     alloc: Global,
     board: &Board,
@@ -105,16 +112,18 @@ fn look_at_items(
     Ok(())
 }
 
+/// The bytes of the issues of the frame of each item.
+pub(crate) const ISSUES: &str =
+    "00000001 01 00000001 ffffffff00000000 00000001 00000001 ffffffff00000000 00000002 00000002 02";
+
+/// The bytes of the cells of that frame.
+pub(crate) const CELLS: &str =
+    "00000001 00000000 00000003 00 00000001 0000000200000000 0000000300000000 ffffffff 0000270f 0000270f 01 00000000";
+
 #[test]
 fn the_bytes_of_issues_and_cells(rt: HostRuntime) -> Result<(), Fail> {
     let board = board_of(rt.alloc(), super::frames::EACH)?;
-    look_at_items(
-        &rt,
-        rt.alloc(),
-        &board,
-        "00000001 01 00000001 ffffffff00000000 00000001 00000001 ffffffff00000000 00000002 00000002 02",
-        "00000001 00000000 00000003 00 00000001 0000000200000000 0000000300000000 ffffffff 0000270f 0000270f 01 00000000",
-    )?;
+    look_at_items(&rt, rt.alloc(), &board, ISSUES, CELLS)?;
     Ok(())
 }
 

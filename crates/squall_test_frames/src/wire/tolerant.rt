@@ -1,5 +1,7 @@
 //! Where an allocation fails nothing has changed.
 
+use super::digests::{CELLS, ISSUES, look_at_items};
+use super::frames::EACH;
 use super::*;
 use squall_board::Board;
 use std::alloc::Global;
@@ -32,22 +34,21 @@ fn tolerant_decode_and_encode(rt: HostRuntime) {
     }
 }
 
-/// Writes the bytes of each cell of the load's board.
-fn write_cells(rt: &impl Abort, alloc: Global, board: &Board) {
-    if let Ok(cells) = board.cells() {
-        for cell in &cells {
-            if let Ok(bytes) = cell_bytes(alloc, cell) {
-                assert!(rt; bytes.len() == 33);
-            }
-        }
+/// Writes the frame of the board, and the bytes of its issues and of its cells.
+fn write_items(rt: &impl Abort, alloc: Global, board: &Board) {
+    match is_framed_as(alloc, board, EACH) {
+        Ok(is_same) => assert!(rt; is_same),
+        Err(fault) => assert!(rt; fault == EncodeFault::NoMemory),
     }
-    is_still(rt, alloc, board, LOAD);
+    if look_at_items(rt, alloc, board, ISSUES, CELLS).is_err() {
+        is_still(rt, alloc, board, EACH);
+    }
 }
 
 #[test]
-fn tolerant_cell_bytes(rt: HostRuntime) {
-    if let Ok(board) = board_of(rt.alloc(), LOAD) {
-        write_cells(&rt, rt.alloc(), &board);
+fn tolerant_items(rt: HostRuntime) {
+    if let Ok(board) = board_of(rt.alloc(), EACH) {
+        write_items(&rt, rt.alloc(), &board);
     }
 }
 
@@ -64,35 +65,67 @@ fn tolerant_digest_of(rt: HostRuntime) {
 }
 
 /// What the feed hears in the piece, which is pushed again where an allocation failed.
-fn pushed(feed: &mut Feed, piece: &[u8]) -> Option<Heard> {
+fn pushed(rt: &impl Abort, feed: &mut Feed, piece: &[u8]) -> Option<Heard> {
     match feed.push(piece) {
         Ok(heard) => Some(heard),
-        Err(_) => feed.push(piece).ok(),
+        Err(fault) => {
+            assert!(rt; fault == FeedFault::NoMemory);
+            feed.push(piece).ok()
+        }
     }
 }
 
-/// Pushes the frame of the load in two pieces, and then a byte with which no frame begins.
-fn push_pieces(rt: &impl Abort, feed: &mut Feed, stream: &[u8]) {
+/// The feed hears so many messages in the piece, and then finds the fault. None where allocations fail.
+fn hears_in(
+    rt: &impl Abort,
+    feed: &mut Feed,
+    piece: &[u8],
+    count: usize,
+    fault: Option<WireFault>,
+) -> Option<()> {
+    let heard = pushed(rt, feed, piece)?;
+    assert!(rt; heard.messages.len() == count && heard.fault == fault);
+    Some(())
+}
+
+/// A copy of the feed hears one message in the piece.
+fn copy_hears(rt: &impl Abort, alloc: Global, feed: &Feed, piece: &[u8]) -> Option<()> {
+    let mut copy = feed.copied(alloc).ok()?;
+    hears_in(rt, &mut copy, piece, 1, None)
+}
+
+/// Pushes the frame of the load in two pieces, of which a copy hears the second too, and then a byte with which no
+/// frame begins.
+fn push_pieces(rt: &impl Abort, alloc: Global, feed: &mut Feed, stream: &[u8]) -> Option<()> {
     assert!(rt; stream.len() == 50);
-    for (piece, count, fault) in [
-        (&stream[..10], 0, None),
-        (&stream[10..49], 1, None),
-        (&stream[49..], 0, Some(WireFault::Magic)),
-    ] {
-        match pushed(feed, piece) {
-            Some(heard) => assert!(rt; heard.messages.len() == count && heard.fault == fault),
-            None => return,
-        }
-    }
+    hears_in(rt, feed, &stream[..10], 0, None)?;
+    let is_copied = copy_hears(rt, alloc, feed, &stream[10..49]).is_some();
+    hears_in(rt, feed, &stream[10..49], 1, None)?;
+    hears_in(rt, feed, &stream[49..], 0, Some(WireFault::Magic))?;
     assert!(rt; feed.push(&[]).err() == Some(FeedFault::Failed));
+    is_copied.then_some(())
+}
+
+/// The frame of the load, and then a byte with which no frame begins.
+const LOAD_AND_BYTE: &str =
+    "53510101 00000029 00000000 00000001 00000001 00000000 00000003 00 00000001 0000000200000000 0000000300000000 54";
+
+/// Whether a new feed and a copy of it hear all of the stream.
+fn feeds_hear(rt: &impl Abort, alloc: Global, stream: &[u8]) -> bool {
+    let mut feed = Feed::new(alloc);
+    push_pieces(rt, alloc, &mut feed, stream).is_some()
 }
 
 #[test]
-fn tolerant_push(rt: HostRuntime) {
-    let text =
-        "53510101 00000029 00000000 00000001 00000001 00000000 00000003 00 00000001 0000000200000000 0000000300000000 54";
-    if let Ok(stream) = hex(rt.alloc(), text) {
-        let mut feed = Feed::new(rt.alloc());
-        push_pieces(&rt, &mut feed, &stream);
+fn a_feed_and_its_copy(rt: HostRuntime) -> Result<(), Fail> {
+    let stream = hex(rt.alloc(), LOAD_AND_BYTE)?;
+    assert!(rt; feeds_hear(&rt, rt.alloc(), &stream));
+    Ok(())
+}
+
+#[test]
+fn tolerant_push_and_copied(rt: HostRuntime) {
+    if let Ok(stream) = hex(rt.alloc(), LOAD_AND_BYTE) {
+        feeds_hear(&rt, rt.alloc(), &stream);
     }
 }

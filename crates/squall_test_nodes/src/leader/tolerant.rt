@@ -1,53 +1,235 @@
-//! Where an allocation fails a leader is as it was.
+//! Where an allocation fails the answer is NoMemory, and leader and arguments are what they were.
 
-use crate::example::{NEW, plan};
-use crate::leader::{hears_done, leader};
-use squall_join::Flat;
+use crate::example::{NEW, OLD, plan};
+use crate::leader::{Step, leader, write_answers};
+use squall_board::Board;
 use squall_leader::{Leader, LeaderFault};
-use std::alloc::Global;
+use squall_plan::Plan;
+use squall_report::Report;
+use std::alloc::{AllocError, Global};
 use std::process::Abort;
 
-/// Whether the leader has begun a course to the new plan. None where an allocation failed before.
-fn begins(alloc: Global, leader: &mut Leader) -> Option<bool> {
+/// What is tried with a leader.
+#[derive(Clone, Copy)]
+enum Call {
+    /// To begin the course to the new plan.
+    Begin,
+    /// To open the next sub-plan.
+    Open,
+    /// To absorb that partition 3 is done.
+    Hear,
+}
+
+/// Whether the course to the plan is begun: there is no other fault than NoMemory.
+fn is_begun(rt: &impl Abort, leader: &mut Leader, new: &Plan) -> bool {
+    let begun = leader.begin(new);
+    assert!(rt; matches!(begun, Ok(_) | Err(LeaderFault::NoMemory)));
+    begun.is_ok()
+}
+
+/// Whether the course to the plan is begun. The plan is what its copy is. None where an allocation
+/// failed before.
+fn begins_to(rt: &impl Abort, alloc: Global, leader: &mut Leader, new: &Plan) -> Option<bool> {
+    let copy = new.copied(alloc).ok()?;
+    let begun = is_begun(rt, leader, new);
+    assert!(rt; *new == copy);
+    Some(begun)
+}
+
+/// Whether the course to the new plan is begun. None where an allocation failed before.
+fn begins(rt: &impl Abort, alloc: Global, leader: &mut Leader) -> Option<bool> {
     let new = plan(alloc, NEW)?;
-    Some(leader.begin(&new).is_ok())
+    begins_to(rt, alloc, leader, &new)
 }
 
-/// The leader begins the course and issues it, or has none. Whether it has begun.
-fn begins_or_not(rt: &impl Abort, alloc: Global, leader: &mut Leader) -> bool {
-    let began = begins(alloc, leader) == Some(true);
-    assert!(rt; matches!(leader.board().issuing(1), Flat::One(_)) == began);
-    began
+/// Whether the next sub-plan is opened: there is no other fault than NoMemory.
+fn opens(rt: &impl Abort, leader: &mut Leader) -> bool {
+    let opened = leader.open_next();
+    assert!(rt; matches!(opened, Ok(_) | Err(LeaderFault::NoMemory)));
+    opened.is_ok()
 }
 
-/// The leader opens the sub-plan and waits, or neither.
-fn opens_or_not(rt: &impl Abort, leader: &mut Leader) {
-    let opened = leader.open_next().is_ok();
-    assert!(rt; opened == (leader.board().opened(1) == 1));
-    assert!(rt; matches!(leader.open_next(), Err(LeaderFault::NotDone { .. })) == opened);
+/// Whether the leader absorbed the delta, which is what its copy is. None where an allocation failed
+/// before.
+fn absorbs_delta(
+    rt: &impl Abort,
+    alloc: Global,
+    leader: &mut Leader,
+    delta: &Board,
+) -> Option<bool> {
+    let copy = delta.copied(alloc).ok()?;
+    let absorbed = leader.absorb(delta).is_ok();
+    assert!(rt; *delta == copy);
+    Some(absorbed)
 }
 
-/// The leader absorbs the completion, or is as it was.
-fn absorbs_or_not(rt: &impl Abort, alloc: Global, leader: &mut Leader) {
-    let absorbed = hears_done(alloc, leader, 3) == Some(true);
-    assert!(rt; absorbed == leader.board().says_done(1, 0, 3));
-    assert!(rt; matches!(leader.board().issuing(1), Flat::One(_)));
+/// Whether the leader absorbed what the report tells. None where an allocation failed before.
+fn absorbs(rt: &impl Abort, alloc: Global, leader: &mut Leader, report: &Report) -> Option<bool> {
+    let mut delta = Board::new(alloc);
+    delta.take(report).ok()?;
+    absorbs_delta(rt, alloc, leader, &delta)
 }
 
-/// The leader is asked, and looked at after each step.
-fn look_at(rt: &impl Abort, alloc: Global, leader: &mut Leader) {
-    assert!(rt; !leader.finished() && leader.board().opened(1) == 0);
-    if begins_or_not(rt, alloc, leader) {
-        opens_or_not(rt, leader);
-        absorbs_or_not(rt, alloc, leader);
-    } else {
-        assert!(rt; matches!(leader.open_next(), Err(LeaderFault::Idle)));
+/// Whether the call was answered, and not by NoMemory. None where an allocation failed before it.
+fn is_answered(rt: &impl Abort, alloc: Global, leader: &mut Leader, call: Call) -> Option<bool> {
+    match call {
+        Call::Begin => begins(rt, alloc, leader),
+        Call::Open => Some(opens(rt, leader)),
+        Call::Hear => {
+            let done = Report::done(1, 0, 3)?;
+            absorbs(rt, alloc, leader, &done)
+        }
     }
+}
+
+/// The leader takes the calls. None where an allocation fails.
+fn take_all(rt: &impl Abort, alloc: Global, leader: &mut Leader, calls: &[Call]) -> Option<()> {
+    for call in calls {
+        if !is_answered(rt, alloc, leader, *call)? {
+            return None;
+        }
+    }
+    Some(())
+}
+
+/// The last number that was used before, the calls that a leader takes first, and the one that is
+/// tried then.
+type Row = (u32, &'static [Call], Call);
+
+const ROWS: [Row; 4] = [
+    (0, &[], Call::Begin),
+    (7, &[], Call::Begin),
+    (0, &[Call::Begin], Call::Open),
+    (0, &[Call::Begin, Call::Open], Call::Hear),
+];
+
+/// The leader of the row, which has taken the first calls. None where an allocation fails.
+fn leader_before(rt: &impl Abort, alloc: Global, row: &Row) -> Option<Leader> {
+    let mut leader = leader(alloc, row.0)?;
+    take_all(rt, alloc, &mut leader, row.1)?;
+    Some(leader)
+}
+
+/// How a leader goes on.
+const GOING_ON: [Step; 11] = [
+    Step::Tell,
+    Step::Issued(1),
+    Step::Open,
+    Step::Begin(NEW),
+    Step::Open,
+    Step::Hear(3),
+    Step::Hear(4),
+    Step::Begin(OLD),
+    Step::Tell,
+    Step::Issued(1),
+    Step::Issued(2),
+];
+
+/// What the leader answers as it goes on. None where an allocation fails.
+fn goes_on(alloc: Global, leader: &mut Leader) -> Option<String> {
+    let mut says = String::new(alloc);
+    write_answers(alloc, leader, &GOING_ON, &mut says)?;
+    Some(says)
+}
+
+/// The leader goes on with these answers. None where an allocation fails.
+fn goes_on_so(rt: &impl Abort, alloc: Global, leader: &mut Leader, says: &str) -> Option<()> {
+    let other = goes_on(alloc, leader)?;
+    assert!(rt; other.as_str() == says);
+    Some(())
+}
+
+/// The leader is what its twin is: its board, whether it is finished, and all that it answers after.
+fn is_as_twin(
+    rt: &impl Abort,
+    alloc: Global,
+    leader: &mut Leader,
+    twin: &mut Leader,
+) -> Option<()> {
+    assert!(rt; *leader.board() == *twin.board() && leader.finished() == twin.finished());
+    let says = goes_on(alloc, leader)?;
+    goes_on_so(rt, alloc, twin, says.as_str())?;
+    assert!(rt; *leader.board() == *twin.board());
+    Some(())
+}
+
+/// Whether the call was answered: then the leader's board differs from its twin's, and else the
+/// leader is what its twin is.
+fn takes_or_not(
+    rt: &impl Abort,
+    alloc: Global,
+    leader: &mut Leader,
+    twin: &mut Leader,
+    call: Call,
+) -> Option<bool> {
+    let answered = is_answered(rt, alloc, leader, call)?;
+    assert!(rt; answered != (*leader.board() == *twin.board()));
+    if !answered {
+        is_as_twin(rt, alloc, leader, twin)?;
+    }
+    Some(answered)
+}
+
+/// Tries the call of the row beside a twin. None where an allocation fails before it.
+fn try_beside(rt: &impl Abort, alloc: Global, row: &Row, twin: &mut Leader) -> Option<bool> {
+    let mut leader = leader_before(rt, alloc, row)?;
+    takes_or_not(rt, alloc, &mut leader, twin, row.2)
+}
+
+/// Tries the call of the row. None where an allocation fails before it.
+fn try_row(rt: &impl Abort, alloc: Global, row: &Row) -> Option<bool> {
+    let mut twin = leader_before(rt, alloc, row)?;
+    try_beside(rt, alloc, row, &mut twin)
 }
 
 #[test]
 fn tolerant_leader(rt: HostRuntime) {
-    if let Some(mut leader) = leader(rt.alloc(), 0) {
-        look_at(&rt, rt.alloc(), &mut leader);
+    for row in &ROWS {
+        let _answered = try_row(&rt, rt.alloc(), row);
     }
+}
+
+#[test]
+fn leaders_take_calls(rt: HostRuntime) {
+    for row in &ROWS {
+        assert!(rt; try_row(&rt, rt.alloc(), row) == Some(true));
+    }
+}
+
+/// Whether a leader is made: it has begun nothing then.
+fn is_made(rt: &impl Abort, alloc: Global, made: Result<Leader, AllocError>) -> bool {
+    match made {
+        Ok(leader) => {
+            let board = Board::new(alloc);
+            assert!(rt; !leader.finished() && *leader.board() == board);
+            true
+        }
+        Err(_) => false,
+    }
+}
+
+/// Whether both calls that make a leader make one.
+fn makes_both(rt: &impl Abort, alloc: Global, plan: &Plan) -> bool {
+    let new = is_made(rt, alloc, Leader::new(alloc, plan));
+    let after = is_made(rt, alloc, Leader::after(alloc, plan, 7));
+    new && after
+}
+
+/// Tries to make leaders. The plan is what its copy is. None where an allocation fails before.
+fn try_new(rt: &impl Abort, alloc: Global) -> Option<bool> {
+    let plan = plan(alloc, OLD)?;
+    let copy = plan.copied(alloc).ok()?;
+    let made = makes_both(rt, alloc, &plan);
+    assert!(rt; plan == copy);
+    Some(made)
+}
+
+#[test]
+fn tolerant_new(rt: HostRuntime) {
+    let _made = try_new(&rt, rt.alloc());
+}
+
+#[test]
+fn leaders_are_made(rt: HostRuntime) {
+    assert!(rt; try_new(&rt, rt.alloc()) == Some(true));
 }

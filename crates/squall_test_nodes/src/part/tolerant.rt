@@ -1,73 +1,242 @@
-//! Where an allocation fails a partition is as it was.
+//! Where an allocation fails the answer is NoMemory, and partition and arguments are what they were.
 
-use crate::part::{chunk, fresh_part, hears_of_way_back, hears_opening};
-use squall_key::Key;
-use squall_part::Part;
+use crate::example::{NEW, OLD, course, issue, plan};
+use crate::part::chunk;
+use squall_board::Board;
+use squall_course::Course;
+use squall_key::{Key, PartId};
+use squall_part::{Chunk, FinishFault, GiveFault, Load, LoadFault, Part};
+use squall_plan::Plan;
+use squall_report::Report;
+use squall_span::SpanSet;
 use std::alloc::Global;
 use std::process::Abort;
+use std::sync::Arc;
 use std::test::Fail;
 
-/// The partition gives on the key and then the rest of root 2, or holds what it did not give.
-fn gives_or_not(rt: &impl Abort, part: &mut Part, key: Key) {
-    assert!(rt; part.held().has(key) && part.held().count() == 3 * 4294967296);
-    let given = part.give_at(key).is_ok();
-    assert!(rt; given != part.held().has(key));
-    let left = if given { 1 } else { 0 };
-    let roots = if part.give(u64::MAX).is_ok() {
-        (2, 0)
-    } else {
-        (3, left)
-    };
-    assert!(rt; part.held().count() == roots.0 * 4294967296 - roots.1);
-}
-
-/// The partition loads the key and says so, or neither. It does not finish.
-fn loads_or_not(rt: &impl Abort, part: &mut Part, key: Key) -> Result<(), Fail> {
-    let chunk = chunk(1, 0, 1, "2:1").ok_or("a chunk")?;
-    let loaded = part.load(&chunk).is_ok();
-    assert!(rt; loaded == part.held().has(key));
-    assert!(rt; loaded == part.board().says_loaded(1, 0, 3, key));
-    assert!(rt; part.finish(0).is_err() && !part.board().says_done(1, 0, 3));
-    Ok(())
-}
-
-/// The partition hears of the way back, or is as it was.
-fn turns_or_not(rt: &impl Abort, alloc: Global, part: &mut Part) {
-    if let Some(heard) = hears_of_way_back(alloc, part) {
-        assert!(rt; heard == part.given(2).is_some());
+/// Whether both sets have the same keys, or neither is there.
+fn are_same(one: Option<&SpanSet>, other: Option<&SpanSet>) -> bool {
+    match (one, other) {
+        (Some(one), Some(other)) => *one == *other,
+        (None, None) => true,
+        _ => false,
     }
 }
 
-/// The partition hears that sub-plan 0 is opened, gives on keys or loads one, and hears of the way
-/// back.
-fn look_at(rt: &impl Abort, alloc: Global, part: &mut Part) -> Result<(), Fail> {
-    let key = Key::new(2, 0).ok_or("a key")?;
-    let opened = hears_opening(alloc, part, 1);
-    assert!(rt; (part.board().opened(1) == 1) == (opened == Some(true)));
-    if opened == Some(true) {
-        match part.id().get() {
-            1 => gives_or_not(rt, part, key),
-            _ => loads_or_not(rt, part, key)?,
+/// Whether both partitions gave and loaded the same under the number.
+fn did_the_same(one: &Part, other: &Part, number: u32) -> bool {
+    are_same(one.given(number), other.given(number))
+        && are_same(one.loaded(number), other.loaded(number))
+}
+
+/// Whether both partitions are one: in their number, what they hold, what they were told, and what
+/// they gave and loaded.
+fn is_same(one: &Part, other: &Part) -> bool {
+    one.id() == other.id()
+        && *one.held() == *other.held()
+        && *one.board() == *other.board()
+        && did_the_same(one, other, 1)
+        && did_the_same(one, other, 2)
+}
+
+/// What is tried with a partition.
+#[derive(Clone, Copy)]
+enum Call {
+    /// To absorb that sub-plan 0 is opened.
+    Open,
+    /// To absorb the way back.
+    Turn,
+    /// To give on the keys of root 2.
+    Give,
+    /// To give on the first key of root 2.
+    GiveAt,
+    /// To load the keys of root 2.
+    Load,
+    /// To report that it has all keys of sub-plan 0.
+    Finish,
+}
+
+/// Whether the partition absorbed the delta, which is what its copy is. None where an allocation
+/// failed before.
+fn absorbs_delta(rt: &impl Abort, alloc: Global, part: &mut Part, delta: &Board) -> Option<bool> {
+    let copy = delta.copied(alloc).ok()?;
+    let absorbed = part.absorb(delta).is_ok();
+    assert!(rt; *delta == copy);
+    Some(absorbed)
+}
+
+/// Whether the partition absorbed what the report tells. None where an allocation failed before.
+fn absorbs(rt: &impl Abort, alloc: Global, part: &mut Part, report: &Report) -> Option<bool> {
+    let mut delta = Board::new(alloc);
+    delta.take(report).ok()?;
+    absorbs_delta(rt, alloc, part, &delta)
+}
+
+/// Whether keys were given on: there is no other fault than NoMemory.
+fn gave(rt: &impl Abort, given: Result<Chunk, GiveFault>) -> bool {
+    assert!(rt; matches!(given, Ok(_) | Err(GiveFault::NoMemory)));
+    given.is_ok()
+}
+
+/// Whether the keys were loaded: there is no other fault than NoMemory.
+fn loaded(rt: &impl Abort, loaded: Result<Load, LoadFault>) -> bool {
+    assert!(rt; matches!(loaded, Ok(Load::Loaded(_)) | Err(LoadFault::NoMemory)));
+    loaded.is_ok()
+}
+
+/// Whether the sub-plan was finished: there is no other fault than NoMemory.
+fn finished(rt: &impl Abort, done: Result<Report, FinishFault>) -> bool {
+    assert!(rt; matches!(done, Ok(_) | Err(FinishFault::NoMemory)));
+    done.is_ok()
+}
+
+/// Whether the call was answered, and not by NoMemory. None where an allocation failed before it.
+fn is_answered(rt: &impl Abort, alloc: Global, part: &mut Part, call: Call) -> Option<bool> {
+    match call {
+        Call::Open => {
+            let opening = Report::opened(1, 0)?;
+            absorbs(rt, alloc, part, &opening)
+        }
+        Call::Turn => {
+            let issued = issue(alloc, 2, NEW, OLD)?;
+            absorbs(rt, alloc, part, &issued)
+        }
+        Call::Give => Some(gave(rt, part.give(u64::MAX))),
+        Call::GiveAt => Some(gave(rt, part.give_at(Key::new(2, 0)?))),
+        Call::Load => {
+            let chunk = chunk(1, 0, 1, "3:0")?;
+            Some(loaded(rt, part.load(&chunk)))
+        }
+        Call::Finish => Some(finished(rt, part.finish(0))),
+    }
+}
+
+/// The partition takes the calls. None where an allocation fails.
+fn take_all(rt: &impl Abort, alloc: Global, part: &mut Part, calls: &[Call]) -> Option<()> {
+    for call in calls {
+        if !is_answered(rt, alloc, part, *call)? {
+            return None;
         }
     }
-    turns_or_not(rt, alloc, part);
-    Ok(())
+    Some(())
 }
 
-/// A partition that has heard nothing is asked, and looked at after.
-fn look_at_fresh(rt: &impl Abort, alloc: Global, number: u32) -> Result<(), Fail> {
-    match fresh_part(alloc, number) {
-        Some(mut part) => look_at(rt, alloc, &mut part),
-        None => Ok(()),
+/// The number of a partition, the calls that it takes first, and the one that is tried then.
+type Row = (u32, &'static [Call], Call);
+
+const ROWS: [Row; 6] = [
+    (1, &[], Call::Open),
+    (1, &[], Call::Turn),
+    (1, &[Call::Open], Call::Give),
+    (1, &[Call::Open], Call::GiveAt),
+    (3, &[Call::Open], Call::Load),
+    (3, &[Call::Open, Call::Load], Call::Finish),
+];
+
+/// The partition of the row, which has taken the first calls. None where an allocation fails.
+fn part_before(rt: &impl Abort, alloc: Global, row: &Row) -> Option<Part> {
+    let id = PartId::new(row.0)?;
+    let course = course(alloc)?;
+    let mut part = Part::new(alloc, id, &course).ok()?;
+    take_all(rt, alloc, &mut part, row.1)?;
+    Some(part)
+}
+
+/// Whether the call was answered: then the partition differs from its twin, and else it is the same.
+fn takes_or_not(
+    rt: &impl Abort,
+    alloc: Global,
+    part: &mut Part,
+    twin: &Part,
+    call: Call,
+) -> Option<bool> {
+    assert!(rt; is_same(part, twin));
+    let answered = is_answered(rt, alloc, part, call)?;
+    assert!(rt; answered != is_same(part, twin));
+    Some(answered)
+}
+
+/// Tries the call of the row beside a twin. None where an allocation fails before it.
+fn try_beside(rt: &impl Abort, alloc: Global, row: &Row, twin: &Part) -> Option<bool> {
+    let mut part = part_before(rt, alloc, row)?;
+    takes_or_not(rt, alloc, &mut part, twin, row.2)
+}
+
+/// Tries the call of the row. None where an allocation fails before it.
+fn try_row(rt: &impl Abort, alloc: Global, row: &Row) -> Option<bool> {
+    let twin = part_before(rt, alloc, row)?;
+    try_beside(rt, alloc, row, &twin)
+}
+
+#[test]
+fn tolerant_part(rt: HostRuntime) {
+    for row in &ROWS {
+        let _answered = try_row(&rt, rt.alloc(), row);
     }
 }
 
 #[test]
-fn tolerant_giving(rt: HostRuntime) -> Result<(), Fail> {
-    look_at_fresh(&rt, rt.alloc(), 1)
+fn parts_take_calls(rt: HostRuntime) {
+    for row in &ROWS {
+        assert!(rt; try_row(&rt, rt.alloc(), row) == Some(true));
+    }
+}
+
+/// Whether the partition has heard nothing: 1, with the keys below 3:0.
+fn is_fresh(alloc: Global, part: &Part) -> bool {
+    let board = Board::new(alloc);
+    part.id().get() == 1
+        && part.held().count() == 3 * 4294967296
+        && *part.board() == board
+        && part.given(1).is_some()
+        && part.given(2).is_none()
+}
+
+/// Whether the course leads from the one plan to the other under the number 1.
+fn leads(course: &Course, old: &Plan, new: &Plan) -> bool {
+    course.number() == 1 && *course.old_plan() == *old && *course.new_plan() == *new
+}
+
+/// Whether partition 1 is made. It has heard nothing then.
+fn makes_or_not(rt: &impl Abort, alloc: Global, course: &Arc<Course>) -> Option<bool> {
+    let id = PartId::new(1)?;
+    match Part::new(alloc, id, course) {
+        Ok(part) => {
+            assert!(rt; is_fresh(alloc, &part));
+            Some(true)
+        }
+        Err(_) => Some(false),
+    }
+}
+
+/// Whether partition 1 is made of a course, which leads between both plans as before. None where an
+/// allocation fails before.
+fn makes_between(rt: &impl Abort, alloc: Global, old: &Plan, new: &Plan) -> Option<bool> {
+    let course = course(alloc)?;
+    let made = makes_or_not(rt, alloc, &course);
+    assert!(rt; leads(&course, old, new));
+    made
+}
+
+/// Whether partition 1 is made of a course from the plan. None where an allocation fails before.
+fn makes_from(rt: &impl Abort, alloc: Global, old: &Plan) -> Option<bool> {
+    let new = plan(alloc, NEW)?;
+    makes_between(rt, alloc, old, &new)
+}
+
+/// Tries to make partition 1. None where an allocation fails before.
+fn try_new(rt: &impl Abort, alloc: Global) -> Option<bool> {
+    let old = plan(alloc, OLD)?;
+    makes_from(rt, alloc, &old)
 }
 
 #[test]
-fn tolerant_loading(rt: HostRuntime) -> Result<(), Fail> {
-    look_at_fresh(&rt, rt.alloc(), 3)
+fn tolerant_new(rt: HostRuntime) {
+    let _made = try_new(&rt, rt.alloc());
+}
+
+#[test]
+fn parts_are_made(rt: HostRuntime) -> Result<(), Fail> {
+    assert!(rt; try_new(&rt, rt.alloc()).ok_or("a course")?);
+    Ok(())
 }

@@ -3,7 +3,8 @@
 ghost use Rattle.std.specs.Prelude.{◌≡◌, IfOk};
 ghost use Rattle.squall_router.specs.Errands.{answers_of};
 
-use squall_key::PartId;
+use super::heard;
+use squall_key::{Key, PartId};
 use squall_router::{Errand, Next, Reply};
 use std::alloc::{AllocError, Global};
 use std::process::Abort;
@@ -151,6 +152,21 @@ const ROWS: [(&[(&str, u32, u32)], &str, (u32, u32)); 9] = [
     ),
 ];
 
+/// Whether the errand answers so to the replies, and is then at the partition of the place, with its
+/// number.
+fn goes_so(
+    alloc: Global,
+    begun: Errand,
+    replies: &[Reply],
+    wanted: &str,
+    place: (u32, u32),
+) -> Result<bool, Fail> {
+    let mut errand = begun;
+    let mut out = String::new(alloc);
+    write_answers(alloc, &mut errand, replies, &mut out)?;
+    Ok(out.as_str() == wanted && (errand.asked().get(), errand.number()) == place)
+}
+
 /// Whether an errand that begins at partition 1 answers so to the replies, and is then at the
 /// partition of the place, with its number.
 fn answers_so(
@@ -159,10 +175,8 @@ fn answers_so(
     wanted: &str,
     place: (u32, u32),
 ) -> Result<bool, Fail> {
-    let mut errand = Errand::at(PartId::new(1).ok_or("a partition")?);
-    let mut out = String::new(alloc);
-    write_answers(alloc, &mut errand, replies, &mut out)?;
-    Ok(out.as_str() == wanted && (errand.asked().get(), errand.number()) == place)
+    let errand = Errand::at(PartId::new(1).ok_or("a partition")?);
+    goes_so(alloc, errand, replies, wanted, place)
 }
 
 /// Looks at an errand for each row.
@@ -181,4 +195,53 @@ fn look_at_rows(
 #[test]
 fn errands_answer(rt: HostRuntime) -> Result<(), Fail> {
     look_at_rows(&rt, rt.alloc(), &ROWS)
+}
+
+/// Replies to an errand for 2:0 that a new router begins, its answers, and its place then.
+const STARTED: [(&[(&str, u32, u32)], &str, (u32, u32)); 2] = [
+    (
+        &[
+            ("moved", 3, 1),
+            ("pending", 1, 0),
+            ("held", 1, 0),
+            ("elsewhere", 1, 0),
+        ],
+        "Ask 3; Again 3; Served; Served; ",
+        (3, 1),
+    ),
+    (
+        &[("moved", 3, 1), ("moved", 3, 1), ("held", 1, 0)],
+        "Ask 3; Lost; Lost; ",
+        (3, 1),
+    ),
+];
+
+/// Looks at copies of the errand, one for each row.
+fn look_at_started(
+    rt: &impl Abort,
+    alloc: Global,
+    errand: Errand,
+    rows: &[(&[(&str, u32, u32)], &str, (u32, u32))],
+) -> Result<(), Fail> {
+    assert!(rt; (errand.asked().get(), errand.number()) == (1, 0));
+    for (names, wanted, place) in rows {
+        let replies = replies(alloc, names)?;
+        assert!(rt;
+            goes_so(alloc, errand, &replies, wanted, *place)?,
+            "{wanted}"
+        );
+    }
+    Ok(())
+}
+
+/// An errand for 2:0 that a new router begins.
+fn started(alloc: Global) -> Option<Errand> {
+    let router = heard(alloc, &[])?;
+    Some(Errand::start(&router, Key::read("2:0")?))
+}
+
+#[test]
+fn started_errands_answer(rt: HostRuntime) -> Result<(), Fail> {
+    let errand = started(rt.alloc()).ok_or("an errand")?;
+    look_at_started(&rt, rt.alloc(), errand, &STARTED)
 }

@@ -1,5 +1,6 @@
-//! What routers do with deltas.
+//! What routers do with deltas and reports.
 
+use super::takes::taken;
 use super::{Said, heard};
 use crate::example::{NEW, OLD, plan};
 use squall_board::Board;
@@ -52,8 +53,24 @@ fn look_at_router(
 
 /// What a router hears, the number of the course that it goes by then, the plan that its table is,
 /// where it is one, and whom it asks for keys.
-const ROUTERS: [(&[Said], u32, Option<&str>, &[(&str, u32)]); 14] = [
+const ROUTERS: [(&[Said], u32, Option<&str>, &[(&str, u32)]); 18] = [
     (&[], 1, Some(OLD), &[("2:0", 1)]),
+    // An opening moves no key, nor does a load in a sub-plan that brings the partition none.
+    (&[Said::Opened], 1, Some(OLD), &[("2:0", 1), ("6:0", 3)]),
+    (&[Said::Astray], 1, Some(OLD), &[("2:0", 1)]),
+    // Of a load the keys move that the sub-plan brings there.
+    (
+        &[Said::Wide],
+        1,
+        None,
+        &[("1:9", 1), ("2:0", 3), ("2:9", 3), ("3:0", 2)],
+    ),
+    (
+        &[Said::Load, Said::Done],
+        1,
+        Some(NEW),
+        &[("2:0", 3), ("6:0", 4), ("8:4294967295", 4), ("3:0", 2)],
+    ),
     // A load moves its keys.
     (
         &[Said::Half],
@@ -117,17 +134,32 @@ const ROUTERS: [(&[Said], u32, Option<&str>, &[(&str, u32)]); 14] = [
     ),
 ];
 
-/// Looks at a router that has heard so much.
-fn look_at_heard(
+/// How reports come to a router.
+#[derive(Clone, Copy)]
+enum Come {
+    /// Each in a board of its own, which it absorbs.
+    Absorbed,
+    /// Each as it is.
+    Taken,
+}
+
+/// A router to which so much came.
+fn router_after(alloc: Global, come: Come, said: &[Said]) -> Option<Router> {
+    match come {
+        Come::Absorbed => heard(alloc, said),
+        Come::Taken => taken(alloc, said),
+    }
+}
+
+/// Looks at a router to which so much came.
+fn look_at_come(
     rt: &impl Abort,
     alloc: Global,
-    said: &[Said],
-    number: u32,
-    text: Option<&str>,
-    asked: &[(&str, u32)],
+    router: Option<Router>,
+    row: &(&[Said], u32, Option<&str>, &[(&str, u32)]),
 ) -> Result<(), Fail> {
-    let router = heard(alloc, said).ok_or("a router")?;
-    look_at_router(rt, alloc, &router, number, text, asked)
+    let router = router.ok_or("a router")?;
+    look_at_router(rt, alloc, &router, row.1, row.2, row.3)
 }
 
 /// Looks at a router for each row.
@@ -137,17 +169,23 @@ fn look_at_heard(
 fn look_at_rows(
     rt: &impl Abort,
     alloc: Global,
+    come: Come,
     rows: &[(&[Said], u32, Option<&str>, &[(&str, u32)])],
 ) -> Result<(), Fail> {
-    for (said, number, text, asked) in rows {
-        look_at_heard(rt, alloc, said, *number, *text, asked)?;
+    for row in rows {
+        look_at_come(rt, alloc, router_after(alloc, come, row.0), row)?;
     }
     Ok(())
 }
 
 #[test]
 fn routers_answer(rt: HostRuntime) -> Result<(), Fail> {
-    look_at_rows(&rt, rt.alloc(), &ROUTERS)
+    look_at_rows(&rt, rt.alloc(), Come::Absorbed, &ROUTERS)
+}
+
+#[test]
+fn routers_answer_what_they_took(rt: HostRuntime) -> Result<(), Fail> {
+    look_at_rows(&rt, rt.alloc(), Come::Taken, &ROUTERS)
 }
 
 /// The board of a router that has heard so much.
@@ -177,34 +215,39 @@ fn any_order_and_number(rt: HostRuntime) -> Result<(), Fail> {
     Ok(())
 }
 
-/// Writes the legs of the keys from 2:5 to 5:1.
-fn write_legs(alloc: Global, router: &Router, out: &mut String) -> Result<(), Fail> {
-    let lo = Bound::read("2:5").ok_or("a bound")?;
-    let hi = Bound::read("5:1").ok_or("a bound")?;
-    let span = Span::new(lo, hi).ok_or("a span")?;
-    for leg in &router.route_span(alloc, &span)? {
+/// The span between two bounds.
+fn span(lo: &str, hi: &str) -> Option<Span> {
+    Span::new(Bound::read(lo)?, Bound::read(hi)?)
+}
+
+/// Writes the legs of the span.
+fn write_legs(alloc: Global, router: &Router, span: &Span, out: &mut String) -> Result<(), Fail> {
+    for leg in &router.route_span(alloc, span)? {
         let (span, part) = (leg.span, leg.part);
         write!(out, "{span} {part}; ")?;
     }
     Ok(())
 }
 
-/// Whether the legs are cut to these.
-fn has_legs(alloc: Global, router: &Router, wanted: &str) -> Result<bool, Fail> {
+/// Whether the legs of the span are these.
+fn has_legs(alloc: Global, router: &Router, span: &Span, wanted: &str) -> Result<bool, Fail> {
     let mut out = String::new(alloc);
-    write_legs(alloc, router, &mut out)?;
+    write_legs(alloc, router, span, &mut out)?;
     Ok(out.as_str() == wanted)
+}
+
+/// Whether a router that has heard so much has these legs between two bounds.
+fn is_cut(alloc: Global, said: &[Said], lo: &str, hi: &str, wanted: &str) -> Result<bool, Fail> {
+    let span = span(lo, hi).ok_or("a span")?;
+    let router = heard(alloc, said).ok_or("a router")?;
+    has_legs(alloc, &router, &span, wanted)
 }
 
 #[test]
 fn legs_are_cut_to_the_span(rt: HostRuntime) -> Result<(), Fail> {
-    let router = heard(rt.alloc(), &[]).ok_or("a router")?;
-    assert!(rt;
-        has_legs(
-            rt.alloc(),
-            &router,
-            "[2:5,3:0) 1; [3:0,5:0) 2; [5:0,5:1) 3; "
-        )?
-    );
+    let before = "[2:5,3:0) 1; [3:0,5:0) 2; [5:0,5:1) 3; ";
+    assert!(rt; is_cut(rt.alloc(), &[], "2:5", "5:1", before)?);
+    let after = "[2:0,3:0) 3; [3:0,4:0) 2; ";
+    assert!(rt; is_cut(rt.alloc(), &[Said::Load], "2:0", "4:0", after)?);
     Ok(())
 }

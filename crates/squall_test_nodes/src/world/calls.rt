@@ -1,7 +1,9 @@
 //! Each call once, and what it answers.
 
+use crate::world::clients::asks_after;
 use crate::world::{Call, NEW, NO_KEYS, OLD, Range, Said, To, answer, plan, said, world_to};
-use squall_world::{World, WorldFault};
+use squall_key::Key;
+use squall_world::{Answer, Event, Node, World, WorldFault};
 use std::alloc::Global;
 use std::process::Abort;
 use std::test::Fail;
@@ -99,5 +101,51 @@ fn routers_are_counted(rt: HostRuntime) -> Result<(), Fail> {
     let many = World::new(rt.alloc(), &old, &old, 1001);
     assert!(rt; matches!(many, Err(WorldFault::TooManyRouters)));
     assert!(rt; World::new(rt.alloc(), &old, &old, 1000).is_ok());
+    Ok(())
+}
+
+/// A sub-plan is opened, a router asked, and a message told that nobody sent.
+const EVENTS_SAY: [Said; 3] = [
+    ("opened", (0, 0, 0), NO_KEYS),
+    ("route", (0, 1, 0), NO_KEYS),
+    ("no such", (0, 0, 0), NO_KEYS),
+];
+
+/// What happens, in one run.
+fn events() -> Option<[Event; 3]> {
+    Some([
+        Event::OpenNext,
+        Event::Route(0, Key::new(2, 0)?),
+        Event::Deliver(0, Node::Leader),
+    ])
+}
+
+/// Each answer says what is wanted, and there are as many.
+fn all_said(rt: &impl Abort, answers: &[Answer], wanted: &[Said]) {
+    assert!(rt; answers.len() == wanted.len());
+    for (answer, wanted) in answers.iter().zip(wanted) {
+        assert!(rt; said(answer) == *wanted);
+    }
+}
+
+/// The events happen, and the router is asked for a key after them.
+fn run_says(rt: &impl Abort, alloc: Global, world: &mut World, events: &[Event]) -> Option<()> {
+    let key = Key::new(2, 0)?;
+    let mut answers = Vec::new(alloc);
+    let after = asks_after(world, events, &mut answers, 0, key);
+    all_said(rt, &answers, &EVENTS_SAY);
+    assert!(rt; said(&after) == EVENTS_SAY[1]);
+    Some(())
+}
+
+/// The events happen in a world from the old plan to the new one.
+fn runs(rt: &impl Abort, alloc: Global) -> Option<()> {
+    let mut world = world_to(alloc, &NEW)?;
+    run_says(rt, alloc, &mut world, &events()?)
+}
+
+#[test]
+fn runs_answer(rt: HostRuntime) -> Result<(), Fail> {
+    runs(&rt, rt.alloc()).ok_or("a world")?;
     Ok(())
 }

@@ -1,33 +1,11 @@
-//! Where an allocation fails a world answers as before.
+//! Where an allocation fails a world is what it was, and so are the arguments.
 
-use crate::world::{Call, END, NEW, OLD, Range, Said, To, answer, said, world_to};
+use crate::world::{Call, END, NEW, OLD, Range, Said, To, answer, plan, said, world_to};
 use squall_key::PartId;
-use squall_world::{Answer, Event, Node, World};
+use squall_plan::Plan;
+use squall_world::{Answer, Event, Node, World, WorldFault};
 use std::alloc::Global;
 use std::process::Abort;
-use std::test::Fail;
-
-/// Adds what each partition replies for the key, and where the router sends it. None where an
-/// allocation fails.
-fn ask(alloc: Global, world: &mut World, at: (u32, u32), says: &mut Vec<Said>) -> Option<()> {
-    for number in 1..7u32 {
-        for after in 0..2u32 {
-            says.push(said(&answer(alloc, world, Call::Serve(number, at, after))?))
-                .ok()?;
-        }
-    }
-    says.push(said(&answer(alloc, world, Call::Route(0, at))?))
-        .ok()
-}
-
-/// What a world says of some keys. None where an allocation fails.
-fn asked(alloc: Global, world: &mut World) -> Option<Vec<Said>> {
-    let mut says = Vec::new(alloc);
-    for at in [(2, 0), (2, 5), (6, 0), (9, 0)] {
-        ask(alloc, world, at, &mut says)?;
-    }
-    Some(says)
-}
 
 /// All partitions have heard that sub-plan 0 is opened, partition 1 gave its keys to partition 3, which
 /// loaded one of two chunks, and messages are on their way.
@@ -57,7 +35,7 @@ struct Case {
     tried: &'static [Call],
 }
 
-static CASES: [Case; 10] = [
+static CASES: [Case; 9] = [
     Case {
         new: &NEW,
         before: &[],
@@ -106,12 +84,66 @@ static CASES: [Case; 10] = [
             Call::Deliver(0, To::Router(0)),
         ],
     },
-    Case {
-        new: &NEW,
-        before: &MOVING,
-        tried: &[Call::Route(0, (2, 0)), Call::Serve(3, (2, 0), 1)],
-    },
 ];
+
+/// What is asked of a world to see what it is: where keys are, what each node was told, which
+/// messages and chunks there are, and how it goes on.
+static ASKED: [Call; 38] = [
+    Call::Route(0, (2, 0)),
+    Call::Route(0, (2, 5)),
+    Call::Route(0, (6, 0)),
+    Call::Serve(1, (2, 0), 0),
+    Call::Serve(1, (2, 5), 0),
+    Call::Serve(3, (2, 0), 0),
+    Call::Serve(3, (2, 5), 0),
+    Call::Serve(3, (6, 0), 0),
+    Call::Serve(3, (6, 5), 0),
+    Call::Serve(3, (6, 5), 1),
+    Call::Serve(4, (6, 0), 0),
+    Call::Serve(5, (2, 0), 0),
+    Call::Send(To::Leader),
+    Call::Send(To::Router(0)),
+    Call::Send(To::Part(1)),
+    Call::Send(To::Part(2)),
+    Call::Send(To::Part(3)),
+    Call::Send(To::Part(4)),
+    Call::Give(1, 1),
+    Call::Give(3, 2),
+    Call::Give(3, 3),
+    Call::GiveAt(3, (7, 0)),
+    Call::Load(0),
+    Call::Load(1),
+    Call::Load(2),
+    Call::Load(3),
+    Call::Finish(3, 0),
+    Call::Open,
+    Call::Deliver(2, To::Router(0)),
+    Call::Route(0, (2, 0)),
+    Call::Route(0, (2, 5)),
+    Call::Deliver(3, To::Part(4)),
+    Call::Serve(4, (6, 5), 1),
+    Call::Begin(&SIX),
+    Call::Open,
+    Call::Send(To::Leader),
+    Call::Serve(5, (1, 0), 0),
+    Call::Serve(6, (6, 0), 0),
+];
+
+/// What the world says to the call. None where an allocation fails.
+fn says(alloc: Global, world: &mut World, call: Call) -> Option<Said> {
+    Some(said(&answer(alloc, world, call)?))
+}
+
+/// Both worlds are one: they have as many partitions, and go on with the same answers. None where an
+/// allocation fails.
+fn are_same(rt: &impl Abort, alloc: Global, world: &mut World, twin: &mut World) -> Option<()> {
+    assert!(rt; world.parts() == twin.parts());
+    for call in &ASKED {
+        let (one, other) = (says(alloc, world, *call)?, says(alloc, twin, *call)?);
+        assert!(rt; one == other);
+    }
+    Some(())
+}
 
 /// The world takes the calls. None where an allocation fails.
 fn take_all(alloc: Global, world: &mut World, calls: &[Call]) -> Option<()> {
@@ -128,41 +160,68 @@ fn world_after(alloc: Global, new: &[Range], calls: &[Call]) -> Option<World> {
     Some(world)
 }
 
-/// Whether the world says the same as before, or cannot be asked for want of memory.
-fn still_says(alloc: Global, world: &mut World, before: &[Said]) -> bool {
-    match asked(alloc, world) {
-        Some(after) => after.as_slice() == before,
-        None => true,
+/// Whether both worlds took the call with one answer. Where an allocation failed the first is what
+/// the second is. None where an allocation fails for the second.
+fn take_or_not(
+    rt: &impl Abort,
+    alloc: Global,
+    world: &mut World,
+    twin: &mut World,
+    call: Call,
+) -> Option<bool> {
+    if answer(alloc, world, call).is_none() {
+        are_same(rt, alloc, world, twin)?;
+        return Some(false);
     }
+    answer(alloc, twin, call)?;
+    Some(true)
 }
 
-/// The world takes the call; where an allocation fails it answers as before. None where it cannot be
-/// asked for want of memory.
-fn takes(rt: &impl Abort, alloc: Global, world: &mut World, call: Call) -> Option<()> {
-    let before = asked(alloc, world)?;
-    let failed = answer(alloc, world, call).is_none();
-    assert!(rt; !failed || still_says(alloc, world, before.as_slice()));
-    Some(())
+/// Whether the worlds took each of the calls. None where an allocation fails for the second.
+fn try_calls(
+    rt: &impl Abort,
+    alloc: Global,
+    world: &mut World,
+    twin: &mut World,
+    calls: &[Call],
+) -> Option<bool> {
+    for call in calls {
+        if !take_or_not(rt, alloc, world, twin, *call)? {
+            return Some(false);
+        }
+    }
+    are_same(rt, alloc, world, twin)?;
+    Some(true)
 }
 
-/// Each call of the case is tried. None where an allocation fails before.
-fn try_case(rt: &impl Abort, alloc: Global, case: &Case) -> Option<()> {
+/// Tries the calls of the case beside a second world. None where an allocation fails before, or for
+/// that world.
+fn try_beside(rt: &impl Abort, alloc: Global, case: &Case, twin: &mut World) -> Option<bool> {
     let mut world = world_after(alloc, case.new, case.before)?;
-    for call in case.tried {
-        takes(rt, alloc, &mut world, *call)?;
-    }
-    Some(())
+    try_calls(rt, alloc, &mut world, twin, case.tried)
+}
+
+/// Tries the calls of the case. None where an allocation fails before, or for the second world.
+fn try_case(rt: &impl Abort, alloc: Global, case: &Case) -> Option<bool> {
+    let mut twin = world_after(alloc, case.new, case.before)?;
+    try_beside(rt, alloc, case, &mut twin)
 }
 
 #[test]
-fn tolerant_calls(rt: HostRuntime) -> Result<(), Fail> {
+fn tolerant_calls(rt: HostRuntime) {
     for case in &CASES {
-        let _tried = try_case(&rt, rt.alloc(), case);
+        let _taken = try_case(&rt, rt.alloc(), case);
     }
-    Ok(())
 }
 
-/// What is run in a world in which keys are on their way.
+#[test]
+fn worlds_take_calls(rt: HostRuntime) {
+    for case in &CASES {
+        assert!(rt; try_case(&rt, rt.alloc(), case) == Some(true));
+    }
+}
+
+/// What happens in a world in which keys are on their way.
 fn events() -> Option<[Event; 5]> {
     let (three, four) = (PartId::new(3)?, PartId::new(4)?);
     Some([
@@ -174,40 +233,158 @@ fn events() -> Option<[Event; 5]> {
     ])
 }
 
-/// What a world says that takes so many of the events one by one. None where an allocation fails.
-fn first_say(alloc: Global, events: &[Event]) -> Option<Vec<Said>> {
-    let mut world = world_after(alloc, &NEW, &MOVING)?;
+/// The world takes the events one by one. None where an allocation fails.
+fn step_all(world: &mut World, events: &[Event]) -> Option<()> {
     for event in events {
         world.step(event).ok()?;
     }
-    asked(alloc, &mut world)
+    Some(())
 }
 
 /// How many answers the world gives to the events in one run, which fails where it does not answer all.
-/// As many of the events took effect. None where an allocation fails before or after.
-fn runs(rt: &impl Abort, alloc: Global, world: &mut World, events: &[Event]) -> Option<usize> {
+/// Then it is what its twin is, which takes as many of the events one by one. None where an
+/// allocation fails for the twin.
+fn runs(
+    rt: &impl Abort,
+    alloc: Global,
+    world: &mut World,
+    twin: &mut World,
+    events: &[Event],
+) -> Option<usize> {
     let mut answers: Vec<Answer> = Vec::new(alloc);
     let failed = world.run(events, &mut answers).is_err();
     assert!(rt; failed == (answers.len() < events.len()));
-    let taken = events.get(..answers.len())?;
-    assert!(rt; still_says(alloc, world, first_say(alloc, taken)?.as_slice()));
+    step_all(twin, events.get(..answers.len())?)?;
+    are_same(rt, alloc, world, twin)?;
     Some(answers.len())
 }
 
 /// The same in a world in which keys are on their way.
-fn runs_moving(rt: &impl Abort, alloc: Global) -> Option<usize> {
+fn runs_beside(rt: &impl Abort, alloc: Global, twin: &mut World) -> Option<usize> {
     let mut world = world_after(alloc, &NEW, &MOVING)?;
-    runs(rt, alloc, &mut world, &events()?)
+    runs(rt, alloc, &mut world, twin, &events()?)
+}
+
+/// The same, with such a twin.
+fn runs_moving(rt: &impl Abort, alloc: Global) -> Option<usize> {
+    let mut twin = world_after(alloc, &NEW, &MOVING)?;
+    runs_beside(rt, alloc, &mut twin)
 }
 
 #[test]
-fn tolerant_run(rt: HostRuntime) -> Result<(), Fail> {
+fn tolerant_run(rt: HostRuntime) {
     let _answers = runs_moving(&rt, rt.alloc());
-    Ok(())
 }
 
 #[test]
-fn events_run(rt: HostRuntime) -> Result<(), Fail> {
+fn events_run(rt: HostRuntime) {
     assert!(rt; runs_moving(&rt, rt.alloc()) == Some(5));
-    Ok(())
+}
+
+/// Whether the world took the event, as its twin does. Where an allocation failed it is what its
+/// twin is. None where an allocation fails for the twin.
+fn steps_or_not(
+    rt: &impl Abort,
+    alloc: Global,
+    world: &mut World,
+    twin: &mut World,
+    event: &Event,
+) -> Option<bool> {
+    if world.step(event).is_err() {
+        are_same(rt, alloc, world, twin)?;
+        return Some(false);
+    }
+    twin.step(event).ok()?;
+    Some(true)
+}
+
+/// Whether the worlds took each of the events one by one. None where an allocation fails for the
+/// second.
+fn steps_alike(
+    rt: &impl Abort,
+    alloc: Global,
+    world: &mut World,
+    twin: &mut World,
+    events: &[Event],
+) -> Option<bool> {
+    for event in events {
+        if !steps_or_not(rt, alloc, world, twin, event)? {
+            return Some(false);
+        }
+    }
+    Some(true)
+}
+
+/// The same in a world in which keys are on their way.
+fn steps_beside(rt: &impl Abort, alloc: Global, twin: &mut World) -> Option<bool> {
+    let mut world = world_after(alloc, &NEW, &MOVING)?;
+    steps_alike(rt, alloc, &mut world, twin, &events()?)
+}
+
+/// The same, with such a twin.
+fn steps_moving(rt: &impl Abort, alloc: Global) -> Option<bool> {
+    let mut twin = world_after(alloc, &NEW, &MOVING)?;
+    steps_beside(rt, alloc, &mut twin)
+}
+
+#[test]
+fn tolerant_step(rt: HostRuntime) {
+    let _taken = steps_moving(&rt, rt.alloc());
+}
+
+#[test]
+fn worlds_step(rt: HostRuntime) {
+    assert!(rt; steps_moving(&rt, rt.alloc()) == Some(true));
+}
+
+/// Whether a world of both plans is made. There is no other fault than NoMemory.
+fn is_made(rt: &impl Abort, alloc: Global, old: &Plan, new: &Plan) -> bool {
+    match World::new(alloc, old, new, 2) {
+        Ok(world) => {
+            assert!(rt; world.parts() == 4);
+            true
+        }
+        Err(fault) => {
+            assert!(rt; matches!(fault, WorldFault::NoMemory));
+            false
+        }
+    }
+}
+
+/// The same, and the new plan is what its copy is. None where an allocation fails before.
+fn keeps_new(rt: &impl Abort, alloc: Global, old: &Plan, new: &Plan) -> Option<bool> {
+    let copy = new.copied(alloc).ok()?;
+    let made = is_made(rt, alloc, old, new);
+    assert!(rt; *new == copy);
+    Some(made)
+}
+
+/// The same, and the old plan is what its copy is. None where an allocation fails before.
+fn keeps_old(rt: &impl Abort, alloc: Global, old: &Plan, new: &Plan) -> Option<bool> {
+    let copy = old.copied(alloc).ok()?;
+    let made = keeps_new(rt, alloc, old, new);
+    assert!(rt; *old == copy);
+    made
+}
+
+/// The same, with the new plan. None where an allocation fails before.
+fn try_from(rt: &impl Abort, alloc: Global, old: &Plan) -> Option<bool> {
+    let new = plan(alloc, &NEW)?;
+    keeps_old(rt, alloc, old, &new)
+}
+
+/// Tries to make a world. None where an allocation fails before.
+fn try_new(rt: &impl Abort, alloc: Global) -> Option<bool> {
+    let old = plan(alloc, &OLD)?;
+    try_from(rt, alloc, &old)
+}
+
+#[test]
+fn tolerant_new(rt: HostRuntime) {
+    let _made = try_new(&rt, rt.alloc());
+}
+
+#[test]
+fn worlds_are_made(rt: HostRuntime) {
+    assert!(rt; try_new(&rt, rt.alloc()) == Some(true));
 }

@@ -1,5 +1,6 @@
 //! Patches of tables, each beside the table that is built of the same board.
 
+ghost use Rattle.std.specs.Prelude.{◌<◌, ◌^◌, OnOk};
 ghost use Rattle.squall_table.specs.Tables.{IsTable};
 ghost use Rattle.squall_table.specs.Touched.{WasTable};
 
@@ -47,7 +48,8 @@ fn touches(alloc: Global, course: &Course, said: &[Said], wanted: &str) -> Resul
 #[test]
 fn touched_keys(rt: HostRuntime) -> Result<(), Fail> {
     let course = course(rt.alloc())?;
-    let rows: [(&[Said], &str); 4] = [
+    let rows: [(&[Said], &str); 5] = [
+        (&[Said::Opened { sub: 0 }], ""),
         (&[Said::Load("1:0", "2:5")], "[2:0,2:5);"),
         (
             &[Said::Load("2:6", "4:0"), Said::Load("0:0", "2:3")],
@@ -188,6 +190,83 @@ fn patches(rt: HostRuntime) -> Result<(), Fail> {
     for (said, rows, count) in cases {
         assert!(rt; is_patched_for(rt.alloc(), said, rows, count)?, "{rows}");
     }
+    Ok(())
+}
+
+/// The board takes the delta, and its table is patched for it, by a meter that counts on.
+fn patch_on(
+    alloc: Global,
+    course: &Course,
+    board: &mut Board,
+    table: &mut RouteTable,
+    meter: &mut Meter,
+    delta: &Delta,
+) -> Result<(), AllocError>
+    requires table { IsTable course.now board.old table.old }
+    requires room { meter.old < 2 ^ 63 }
+    ensures { OnOk result (IsTable course.now board.new table.new) }
+{
+    board.merge(delta)?;
+    let set = touched(alloc, course, delta)?;
+    table.patch(course, board, &set, meter)
+}
+
+/// What one meter has counted after the table was patched for the first delta, and after it was
+/// patched for the second too.
+fn patch_twice(
+    alloc: Global,
+    course: &Course,
+    board: &mut Board,
+    table: &mut RouteTable,
+    first: &Delta,
+    second: &Delta,
+) -> Result<(u64, u64), Fail>
+    requires { IsTable course.now board.old table.old }
+{
+    let mut meter = Meter::new();
+    patch_on(alloc, course, board, table, &mut meter, first)?;
+    let once = meter.count();
+    if once > 1000 {
+        return Err("a count".into());
+    }
+    patch_on(alloc, course, board, table, &mut meter, second)?;
+    Ok((once, meter.count()))
+}
+
+/// Whether the table of the course is patched for both deltas, one after the other, and has the rows
+/// then; and what one meter has counted after each.
+fn patched_twice(
+    alloc: Global,
+    course: &Course,
+    first: &Delta,
+    second: &Delta,
+    rows: &str,
+) -> Result<(bool, (u64, u64)), Fail> {
+    let mut board = Board::new(alloc);
+    let mut table = RouteTable::build(alloc, course, &board)?;
+    let counts = patch_twice(alloc, course, &mut board, &mut table, first, second)?;
+    Ok((has_rows(alloc, &table, rows)?, counts))
+}
+
+/// The same for what is said.
+fn patched_twice_for(
+    alloc: Global,
+    course: &Course,
+    first: &Delta,
+    second: Said,
+    rows: &str,
+) -> Result<(bool, (u64, u64)), Fail> {
+    let second = delta(alloc, &[second])?;
+    patched_twice(alloc, course, first, &second, rows)
+}
+
+#[test]
+fn one_meter_counts_on(rt: HostRuntime) -> Result<(), Fail> {
+    let course = course(rt.alloc())?;
+    let first = delta(rt.alloc(), &[Said::Load("2:0", "3:0")])?;
+    let rows = "1 [0:0,2:0);3 [2:0,3:0);2 [3:0,5:0);3 [5:0,6:0);4 [6:0,end);";
+    let patched = patched_twice_for(rt.alloc(), &course, &first, DONE, rows)?;
+    assert!(rt; patched == (true, (3, 6)));
     Ok(())
 }
 

@@ -1,4 +1,4 @@
-//! Where an allocation fails, tables, boards and meters are as they were.
+//! Where an allocation fails, tables, boards and meters are unchanged.
 
 ghost use Rattle.squall_table.specs.Tables.{IsTable};
 
@@ -14,7 +14,7 @@ use std::process::Abort;
 use std::test::Fail;
 
 /// The example course. None where an allocation fails.
-fn small_course(alloc: Global) -> Option<Course> {
+pub(crate) fn small_course(alloc: Global) -> Option<Course> {
     let old = Plan::read(alloc, OLD.as_bytes()).ok()?;
     let new = Plan::read(alloc, NEW.as_bytes()).ok()?;
     Course::new(alloc, 1, &old, &new).ok()

@@ -99,7 +99,7 @@ fn ended<K: Case, R: Wait>(
     requires book { (book.0 ≡ K.book) × (book.1.book ≡ K.book) × (book.1.log ≡ []) }
     requires start { (arc_value start.now.first ≡ K.first) × (start.now.opening ≡ K.opening) }
 {
-    let pair = opened::<K, &R>(rt, alloc, book, start, 0)?;
+    let pair = opened::<K, &R>(rt, alloc, book, start, 0, 1)?;
     let none = matches!(pair.cluster.seat(), Err(SeatFault::NoPlace));
     let board = closed(alloc, pair.first, pair.second, pair.owner)?;
     none.then_some(board)
@@ -145,7 +145,7 @@ fn beside<J: Case, K: Case, R: Wait>(
     requires here { (arc_value here.now.first ≡ J.first) × (here.now.opening ≡ J.opening) }
 {
     let mut far = other.seat().ok()?;
-    let one = opened::<J, &R>(rt, alloc, one, here, 1)?;
+    let one = opened::<J, &R>(rt, alloc, one, here, 1, 1)?;
     let_go(one, &mut far)
 }
 
@@ -164,7 +164,7 @@ fn asked<J: Case, K: Case, R: Wait>(
     requires other { (other.0 ≡ K.book) × (other.1.book ≡ K.book) × (other.1.log ≡ []) }
     requires there { (arc_value there.now.first ≡ K.first) × (there.now.opening ≡ K.opening) }
 {
-    let other = opened::<K, &R>(rt, alloc, other, there, 1)?;
+    let other = opened::<K, &R>(rt, alloc, other, there, 1, 1)?;
     beside::<J, K, R>(rt, alloc, one, here, &other.cluster)
 }
 
@@ -223,7 +223,7 @@ fn seated<K: Case, R: Wait>(
     requires book { (book.0 ≡ K.book) × (book.1.book ≡ K.book) × (book.1.log ≡ []) }
     requires start { (arc_value start.now.first ≡ K.first) × (start.now.opening ≡ K.opening) }
 {
-    let pair = opened::<K, &R>(rt, alloc, book, start, 64)?;
+    let pair = opened::<K, &R>(rt, alloc, book, start, 64, 1)?;
     are_seated(alloc, &pair.cluster)
 }
 

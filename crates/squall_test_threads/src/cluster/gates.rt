@@ -13,27 +13,27 @@ use std::thread::Threads;
 
 /// Something that an actor has done, for others to wait for.
 #[derive(Drop)]
-struct Flag {
+pub(super) struct Flag {
     set: AtomicBool,
 }
 
 impl Flag {
-    fn new() -> Flag {
+    pub(super) fn new() -> Flag {
         Flag {
             set: AtomicBool::new(false),
         }
     }
 
-    fn set(&self) {
+    pub(super) fn set(&self) {
         self.set.store(true, Ordering::SeqCst);
     }
 
-    fn is_set(&self) -> bool {
+    pub(super) fn is_set(&self) -> bool {
         self.set.load(Ordering::SeqCst)
     }
 
     /// Waits, but not for ever. It says whether the flag was set.
-    fn wait(&self) -> bool {
+    pub(super) fn wait(&self) -> bool {
         for _ in 0..100000000u64 {
             if self.is_set() {
                 return true;

@@ -304,8 +304,8 @@ fn many_senders(rt: HostRuntime) -> Result<(), Fail> {
     Ok(())
 }
 
-/// Whether a race ends as it has to, or is refused for a failed allocation, or for a place or a thread that
-/// takes memory.
+/// Whether a race ends as it has to, or is refused for a failed allocation, or for a thread, whose start
+/// takes memory of the C library's.
 fn well_or_refused<R: Threads + Wait + Sync>(
     rt: &R,
     alloc: Global,
@@ -314,7 +314,7 @@ fn well_or_refused<R: Threads + Wait + Sync>(
 ) -> bool {
     match setting.race(rt, alloc, keys, 2, 1, &Open) {
         Ok(raced) => setting.ended_well(&raced, keys, 2),
-        Err(RaceFault::NoMemory | RaceFault::NoThread | RaceFault::NoPlace) => true,
+        Err(RaceFault::NoMemory | RaceFault::NoThread) => true,
         Err(_) => false,
     }
 }

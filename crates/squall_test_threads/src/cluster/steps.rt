@@ -20,7 +20,7 @@ fn two_seats<K: Case>(cluster: &Cluster<K>) -> Option<(Seat<K>, Seat<K>)> {
     let other = cluster.seat().ok()?;
     match cluster.seat() {
         Err(SeatFault::NoPlace) => Some((one, other)),
-        Ok(_third) => None,
+        _ => None,
     }
 }
 
@@ -136,7 +136,7 @@ fn steps<K: Case, R: Wait>(
     requires start { (arc_value start.now.first ≡ K.first) × (start.now.opening ≡ K.opening) }
     requires allowed { K.allowed ≡ None }
 {
-    let pair = opened::<K, &R>(rt, alloc, book, start, 2)?;
+    let pair = opened::<K, &R>(rt, alloc, book, start, 2, 1)?;
     let (mut first, mut second, mut owner) = (pair.first, pair.second, pair.owner);
     take_steps(
         rt,

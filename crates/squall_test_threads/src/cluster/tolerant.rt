@@ -46,7 +46,7 @@ fn takes_both<K: Case, R: Wait>(
     requires start { (arc_value start.now.first ≡ K.first) × (start.now.opening ≡ K.opening) }
     requires allowed { K.allowed ≡ None }
 {
-    let pair = opened::<K, &R>(rt, alloc, book, start, 1)?;
+    let pair = opened::<K, &R>(rt, alloc, book, start, 1, 1)?;
     let (mut first, mut second, mut owner) = (pair.first, pair.second, pair.owner);
     let mut seat = pair.cluster.seat().ok()?;
     let posted = first.post(rt, letters.0).is_ok();

@@ -1,6 +1,7 @@
 //! Values with several owners, alone and in maps.
 
 use super::joins;
+use super::tolerant::{answers, tries};
 use squall_join::{Exact, Flat, Join, JoinMap, Shared};
 use std::alloc::{AllocError, Global};
 use std::process::Abort;
@@ -76,4 +77,20 @@ fn maps_of_shared_values(rt: HostRuntime) -> Result<(), AllocError> {
     join_one(&mut held, 5, 8)?;
     assert!(rt; clashes_at_5(&held));
     Ok(())
+}
+
+/// Joins one entry into the map, and asks the map with it.
+fn tries_one(rt: &impl Abort, alloc: Global, held: &mut Held, key: u32, value: u32) {
+    if let Ok(other) = one(alloc, key, value) {
+        answers(rt, alloc, held, &other);
+        tries(rt, alloc, held, &other);
+    }
+}
+
+#[test]
+fn tolerant_shared_values(rt: HostRuntime) {
+    if let Ok(mut held) = one(rt.alloc(), 5, 7) {
+        tries_one(&rt, rt.alloc(), &mut held, 2, 9);
+        tries_one(&rt, rt.alloc(), &mut held, 5, 8);
+    }
 }

@@ -1,6 +1,6 @@
 //! Each call that allocates, any one of whose allocations may fail: then nothing has changed.
 
-use super::{map, span};
+use super::{has_entry, map, span};
 use squall_join::{Beyond, Join, JoinMap, Max, Pair};
 use squall_span::SpanSet;
 use std::alloc::{AllocError, Global};
@@ -26,7 +26,7 @@ fn one(
 }
 
 /// Joins one value into another, and sees that a failed allocation changes nothing.
-fn tries<J: Join>(rt: &impl Abort, alloc: Global, value: &mut J, other: &J) {
+pub(crate) fn tries<J: Join>(rt: &impl Abort, alloc: Global, value: &mut J, other: &J) {
     let Ok(before) = value.copied(alloc) else {
         return;
     };
@@ -34,6 +34,21 @@ fn tries<J: Join>(rt: &impl Abort, alloc: Global, value: &mut J, other: &J) {
         assert!(rt; value.covers(other) && value.covers(&before));
     } else {
         assert!(rt; value.same(&before));
+    }
+}
+
+/// The map of one number at the key 4 has that entry, and none where the number is 0.
+fn look_at_single(rt: &impl Abort, alloc: Global, number: u32) {
+    if let Ok(map) = JoinMap::single(alloc, 4, Max::new(number)) {
+        assert!(rt; has_entry(&map, 0, 4, number) == (number != 0));
+        assert!(rt; map.len() == usize::from(number != 0));
+    }
+}
+
+#[test]
+fn tolerant_single(rt: HostRuntime) {
+    for number in [0, 3] {
+        look_at_single(&rt, rt.alloc(), number);
     }
 }
 
@@ -83,7 +98,7 @@ fn is_as_before(rt: &impl Abort, alloc: Global, value: &Outer) {
 }
 
 /// Copies the value, joins it with the other and looks at what it has beyond the other.
-fn answers(rt: &impl Abort, alloc: Global, value: &Outer, other: &Outer) {
+pub(crate) fn answers<J: Beyond>(rt: &impl Abort, alloc: Global, value: &J, other: &J) {
     if let Ok(copy) = value.copied(alloc) {
         assert!(rt; copy.same(value));
     }

@@ -25,6 +25,14 @@ fn few(rt: &impl Abort, alloc: Global, from: u64) -> Result<SpanSet, AllocError>
 }
 
 #[test]
+fn tolerant_of(rt: HostRuntime) {
+    let span = span(&rt, 3, 9);
+    if let Ok(set) = SpanSet::of(rt.alloc(), &span) {
+        assert!(rt; set.spans() == [span].as_slice());
+    }
+}
+
+#[test]
 fn tolerant_insert(rt: HostRuntime) -> Result<(), Fail> {
     let mut set = SpanSet::empty(rt.alloc());
     for place in 0..20u64 {
@@ -40,9 +48,9 @@ fn tolerant_insert(rt: HostRuntime) -> Result<(), Fail> {
     Ok(())
 }
 
-/// The set is still that of a few spans. It looks only where no allocation fails.
-fn is_few(rt: &impl Abort, alloc: Global, set: &SpanSet) {
-    if let Ok(before) = few(rt, alloc, 0) {
+/// The set is still that of a few spans from the key on. It looks only where no allocation fails.
+fn is_few(rt: &impl Abort, alloc: Global, set: &SpanSet, from: u64) {
+    if let Ok(before) = few(rt, alloc, from) {
         assert!(rt; *set == before);
     }
 }
@@ -75,6 +83,7 @@ fn operate(rt: &impl Abort, alloc: Global, set: &SpanSet, other: &SpanSet) {
 fn operate_with_few(rt: &impl Abort, alloc: Global, set: &SpanSet) {
     if let Ok(other) = few(rt, alloc, 3) {
         operate(rt, alloc, set, &other);
+        is_few(rt, alloc, &other, 3);
     }
 }
 
@@ -82,7 +91,7 @@ fn operate_with_few(rt: &impl Abort, alloc: Global, set: &SpanSet) {
 fn tolerant_operations(rt: HostRuntime) {
     if let Ok(set) = few(&rt, rt.alloc(), 0) {
         operate_with_few(&rt, rt.alloc(), &set);
-        is_few(&rt, rt.alloc(), &set);
+        is_few(&rt, rt.alloc(), &set, 0);
     }
 }
 
@@ -116,7 +125,7 @@ fn tolerant_with_room(rt: HostRuntime) -> Result<(), Fail> {
             ready.remove(span(&rt, 2, 3));
             assert!(rt; ready.into_set().count() == 38);
         }
-        Err(set) => is_few(&rt, rt.alloc(), &set),
+        Err(set) => is_few(&rt, rt.alloc(), &set, 0),
     }
     Ok(())
 }

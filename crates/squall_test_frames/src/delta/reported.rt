@@ -1,0 +1,124 @@
+//! Boards of one report, and of what one board tells beyond another.
+
+use crate::wire::{board_of, is_framed_as, is_still};
+use squall_board::Board;
+use squall_delta::{beyond, delta_of};
+use squall_key::{Bound, PartId};
+use squall_plan::{Plan, PlanRange};
+use squall_report::{Issue, Report};
+use squall_span::Span;
+use squall_wire::EncodeFault;
+use std::alloc::{AllocError, Global};
+use std::process::Abort;
+use std::test::Fail;
+
+/// The completion of partition 4 in sub-plan 0 of number 1.
+const DONE: &str = "53510101 00000019 00000000 00000001 00000001 00000000 00000004 01 00000000";
+
+/// The issue of number 1 from partition 1, which has all keys, to partition 1.
+const ISSUED: &str =
+    "53510201 00000031 00000000 00000001 00000001 01 00000001 ffffffff00000000 00000001 00000001 ffffffff00000000 00000001 00000000";
+
+/// The load of the keys from 2:0 to 3:0 and one opening, both of number 1: two sub-plans are opened.
+const WHOLE: &str =
+    "53510101 00000031 00000001 00000001 00000002 00000001 00000001 00000000 00000003 00 00000001 0000000200000000 0000000300000000";
+
+/// The load of the keys from 2:7 to 2:9 and a lower opening.
+const MIDDLE: &str =
+    "53510101 00000031 00000001 00000001 00000001 00000001 00000001 00000000 00000003 00 00000001 0000000200000007 0000000200000009";
+
+/// What the first tells beyond the second.
+const ENDS: &str =
+    "53510101 00000041 00000001 00000001 00000002 00000001 00000001 00000000 00000003 00 00000002 0000000200000000 0000000200000007 0000000200000009 0000000300000000";
+
+/// Whether the board of the report alone has the frame that the text writes.
+fn is_delta_of(alloc: Global, report: &Report, text: &str) -> Result<bool, EncodeFault> {
+    let delta = delta_of(alloc, report)?;
+    is_framed_as(alloc, &delta, text)
+}
+
+#[test]
+fn the_delta_of_a_completion(rt: HostRuntime) -> Result<(), Fail> {
+    let report = Report::done(1, 0, 4).ok_or("a report")?;
+    assert!(rt; is_delta_of(rt.alloc(), &report, DONE)?);
+    Ok(())
+}
+
+/// The board of the load of these keys at partition 3, and of the opening of the sub-plan, in number 1.
+fn take_two(board: &mut Board, lo: &str, hi: &str, sub: u32) -> Result<(), Fail> {
+    let lo = Bound::read(lo).ok_or("a bound")?;
+    let hi = Bound::read(hi).ok_or("a bound")?;
+    let span = Span::new(lo, hi).ok_or("a span")?;
+    board.take(&Report::loaded(1, 0, 3, span).ok_or("a load")?)?;
+    board.take(&Report::opened(1, sub).ok_or("an opening")?)?;
+    Ok(())
+}
+
+/// What the board tells beyond that of the keys amid its load and of a lower opening.
+fn beyond_middle(alloc: Global, board: &Board) -> Result<Board, Fail> {
+    let mut middle = Board::new(alloc);
+    take_two(&mut middle, "2:7", "2:9", 0)?;
+    Ok(beyond(alloc, board, &middle)?)
+}
+
+/// Whether the board tells the ends of its load, and its opening, beyond the other.
+fn has_ends_beyond_middle(alloc: Global, board: &Board) -> Result<bool, Fail> {
+    let rest = beyond_middle(alloc, board)?;
+    Ok(is_framed_as(alloc, &rest, ENDS)?)
+}
+
+#[test]
+fn a_load_and_an_opening_beyond_others(rt: HostRuntime) -> Result<(), Fail> {
+    let mut whole = Board::new(rt.alloc());
+    take_two(&mut whole, "2:0", "3:0", 1)?;
+    assert!(rt; has_ends_beyond_middle(rt.alloc(), &whole)?);
+    Ok(())
+}
+
+/// The plan by which partition 1 has all keys. None where an allocation fails.
+fn all_keys(alloc: Global) -> Option<Plan> {
+    let span = Span::new(Bound::read("0:0")?, Bound::TOP)?;
+    let part = PartId::new(1)?;
+    Plan::from_ranges(alloc, &[PlanRange { span, part }]).ok()
+}
+
+/// The issue of number 1 from that plan to the same. None where an allocation fails.
+fn issued(alloc: Global) -> Option<Report> {
+    let plan = all_keys(alloc)?;
+    let issue = Issue::new(alloc, &plan, &plan).ok()?;
+    Report::issued(1, issue)
+}
+
+/// Makes the board of the report alone, which has the frame that the text writes.
+fn make_delta(rt: &impl Abort, alloc: Global, report: Option<Report>, text: &str) {
+    if let Some(report) = report {
+        match is_delta_of(alloc, &report, text) {
+            Ok(is_same) => assert!(rt; is_same),
+            Err(fault) => assert!(rt; fault == EncodeFault::NoMemory),
+        }
+    }
+}
+
+#[test]
+fn tolerant_delta_of(rt: HostRuntime) {
+    make_delta(&rt, rt.alloc(), Report::done(1, 0, 4), DONE);
+    make_delta(&rt, rt.alloc(), issued(rt.alloc()), ISSUED);
+}
+
+/// Makes what the first board tells beyond the second, which both stay as they were.
+fn make_rest(rt: &impl Abort, alloc: Global, whole: &Board, middle: &Board) {
+    if let Ok(rest) = beyond(alloc, whole, middle) {
+        is_still(rt, alloc, &rest, ENDS);
+    }
+    is_still(rt, alloc, whole, WHOLE);
+    is_still(rt, alloc, middle, MIDDLE);
+}
+
+#[test]
+fn tolerant_beyond(rt: HostRuntime) {
+    if let Ok(whole) = board_of(rt.alloc(), WHOLE) {
+        if let Ok(middle) = board_of(rt.alloc(), MIDDLE) {
+            make_rest(&rt, rt.alloc(), &whole, &middle);
+        }
+    }
+}

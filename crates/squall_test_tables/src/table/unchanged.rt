@@ -1,0 +1,101 @@
+//! Where an allocation fails, no report is taken and no table copied, and nothing changes.
+
+ghost use Rattle.squall_table.specs.Tables.{IsTable};
+
+use crate::table::tolerant::small_course;
+use crate::table::{Said, report};
+use squall_board::Board;
+use squall_course::Course;
+use squall_report::Report;
+use squall_table::{Leg, RouteTable};
+use std::alloc::{AllocError, Global};
+use std::process::Abort;
+use std::test::Fail;
+
+/// Whether the table has the legs of the old plan, and the board tells nothing: what both were before
+/// any report.
+fn are_new(alloc: Global, course: &Course, board: &Board, table: &RouteTable) -> bool {
+    let empty = Board::new(alloc);
+    table.entries() == course.old_plan().ranges() && *board == empty
+}
+
+/// The board and its table, which are new, take the report; or the answer is a failed allocation, and
+/// they are as before.
+fn takes_or_not(
+    rt: &impl Abort,
+    alloc: Global,
+    course: &Course,
+    board: &mut Board,
+    table: &mut RouteTable,
+    report: &Report,
+)
+    requires { IsTable course.now board.old table.old }
+{
+    match table.take(course, board, report) {
+        Ok(()) => assert!(rt; !are_new(alloc, course, board, table)),
+        Err(AllocError) => assert!(rt; are_new(alloc, course, board, table)),
+    }
+}
+
+/// A new board and its table take the report or not. Where an allocation fails before, nothing is
+/// looked at.
+fn new_take_or_not(rt: &impl Abort, alloc: Global, course: &Course, report: &Report) {
+    let mut board = Board::new(alloc);
+    if let Ok(mut table) = RouteTable::build(alloc, course, &board) {
+        takes_or_not(rt, alloc, course, &mut board, &mut table, report);
+    }
+}
+
+/// The same for what is said, in turn: loads all and some of whose keys one move brings, a completion
+/// and an opening.
+fn each_or_not(rt: &impl Abort, alloc: Global, course: &Course, said: &[Said]) {
+    for one in said {
+        if let Some(report) = report(*one) {
+            new_take_or_not(rt, alloc, course, &report);
+        }
+    }
+}
+
+#[test]
+fn tolerant_take(rt: HostRuntime) -> Result<(), Fail> {
+    let done = Said::Done {
+        number: 1,
+        sub: 0,
+        part: 4,
+    };
+    let said = [
+        Said::Load("2:0", "2:7"),
+        Said::Load("1:0", "4:0"),
+        done,
+        Said::Opened { sub: 0 },
+    ];
+    if let Some(course) = small_course(rt.alloc()) {
+        each_or_not(&rt, rt.alloc(), &course, &said);
+    }
+    Ok(())
+}
+
+/// The table is copied, or the answer is a failed allocation; and it stays the same.
+fn copies_or_not(rt: &impl Abort, alloc: Global, table: &RouteTable, before: &[Leg]) {
+    match table.copied(alloc) {
+        Ok(copy) => assert!(rt; copy.entries() == before),
+        Err(AllocError) => {}
+    }
+    assert!(rt; table.entries() == before);
+}
+
+/// The table of the course before any report is copied or not.
+fn new_copies_or_not(rt: &impl Abort, alloc: Global, course: &Course) {
+    let board = Board::new(alloc);
+    if let Ok(table) = RouteTable::build(alloc, course, &board) {
+        copies_or_not(rt, alloc, &table, course.old_plan().ranges());
+    }
+}
+
+#[test]
+fn tolerant_copied(rt: HostRuntime) -> Result<(), Fail> {
+    if let Some(course) = small_course(rt.alloc()) {
+        new_copies_or_not(&rt, rt.alloc(), &course);
+    }
+    Ok(())
+}

@@ -1,0 +1,123 @@
+//! Clusters of several sizes: as many seats as readers, as many letters as the inbox has room for.
+
+ghost use Rattle.std.specs.Prelude.{◌≡◌, [], None};
+ghost use Rattle.std.specs.Arc.{arc_value};
+
+use super::{Start, board, closed, empty_start, load, load_letter, opened};
+use squall_board::Board;
+use squall_cluster::{Case, Cluster, Line, Owner, Seat, SeatFault, Sender, Track};
+use std::alloc::Global;
+use std::marker::Brand;
+use std::process::Abort;
+use std::sync::Wait;
+use std::test::Fail;
+
+/// How many readers a cluster has, and room for how many letters its inbox.
+type Size = (usize, usize);
+
+/// Sizes of clusters.
+const SIZES: [Size; 4] = [(0, 1), (1, 2), (2, 3), (5, 16)];
+
+/// Adds that many seats of the cluster. None if it has fewer.
+fn push_seats<K: Case>(cluster: &Cluster<K>, count: usize, seats: &mut Vec<Seat<K>>) -> Option<()> {
+    for _ in 0..count {
+        seats.push(cluster.seat().ok()?).ok()?;
+    }
+    Some(())
+}
+
+/// Whether the cluster hands out that many seats at once, and then has no place.
+fn has_seats<K: Case>(alloc: Global, cluster: &Cluster<K>, count: usize) -> Option<bool> {
+    let mut seats = Vec::new(alloc);
+    push_seats(cluster, count, &mut seats)?;
+    Some(matches!(cluster.seat(), Err(SeatFault::NoPlace)))
+}
+
+/// Posts the load. None if the inbox is full, or if an allocation fails.
+fn post_load<K: Case, R: Wait>(rt: &R, alloc: Global, sender: &mut Sender<K>) -> Option<()>
+    requires { K.allowed ≡ None }
+    ensures inbox { sender.new.inbox ≡ sender.old.inbox }
+{
+    let letter = load_letter(alloc)?;
+    sender.post(rt, letter).ok()
+}
+
+/// Posts that many letters. None if the inbox is full before, or if an allocation fails.
+fn post_loads<K: Case, R: Wait>(
+    rt: &R,
+    alloc: Global,
+    sender: &mut Sender<K>,
+    count: usize,
+) -> Option<()>
+    requires { K.allowed ≡ None }
+    ensures inbox { sender.new.inbox ≡ sender.old.inbox }
+{
+    for _ in 0..count {
+        post_load(rt, alloc, sender)?;
+    }
+    Some(())
+}
+
+/// Whether the inbox takes that many letters and no more, and one more after a turn.
+fn has_room<K: Case, R: Wait, W: Wait + Drop>(
+    rt: &R,
+    alloc: Global,
+    sender: &mut Sender<K>,
+    owner: &mut Owner<K, W>,
+    count: usize,
+) -> Option<bool>
+    requires { K.allowed ≡ None }
+    ensures inbox { (sender.new.inbox ≡ sender.old.inbox) × (owner.new.inbox ≡ owner.old.inbox) }
+    ensures senders { (owner.new.made ≡ owner.old.made) × (owner.new.vouched ≡ owner.old.vouched) }
+{
+    post_loads(rt, alloc, sender, count)?;
+    let full = post_load(rt, alloc, sender).is_none();
+    let took = owner.turn().ok()?.took;
+    post_load(rt, alloc, sender)?;
+    let full_again = post_load(rt, alloc, sender).is_none();
+    Some(full && took && full_again)
+}
+
+/// Whether a cluster of that size has as many seats and as much room as it should, and its board when it
+/// is closed with all these letters. None if an allocation fails.
+fn sized<K: Case, R: Wait>(
+    rt: &R,
+    alloc: Global,
+    book: (Track, Line),
+    start: &Start,
+    size: Size,
+) -> Option<(bool, Board)>
+    requires book { (book.0 ≡ K.book) × (book.1.book ≡ K.book) × (book.1.log ≡ []) }
+    requires start { (arc_value start.now.first ≡ K.first) × (start.now.opening ≡ K.opening) }
+    requires allowed { K.allowed ≡ None }
+{
+    let (readers, capacity) = size;
+    let pair = opened::<K, &R>(rt, alloc, book, start, readers, capacity)?;
+    let (mut first, second, mut owner) = (pair.first, pair.second, pair.owner);
+    let seats = has_seats(alloc, &pair.cluster, readers)?;
+    let room = has_room(rt, alloc, &mut first, &mut owner, capacity)?;
+    let closed = closed(alloc, first, second, owner)?;
+    Some((seats && room, closed))
+}
+
+/// Whether a cluster of that size is as it should be. None if an allocation fails.
+fn is_right(rt: &impl Wait, alloc: Global, start: &Start, size: Size) -> Option<bool> {
+    let (right, closed) = sized::<Brand, _>(rt, alloc, Line::open(), start, size)?;
+    let wanted = board(alloc, &[load()?])?;
+    Some(right && closed == wanted)
+}
+
+/// Each of these clusters is as it should be.
+fn all_are_right<R: Abort + Wait>(rt: &R, alloc: Global, start: &Start) -> Result<(), Fail> {
+    for (readers, capacity) in SIZES {
+        let right = is_right(rt, alloc, start, (readers, capacity));
+        assert!(rt; right == Some(true), "{capacity}");
+    }
+    Ok(())
+}
+
+#[test]
+fn sizes(rt: HostRuntime) -> Result<(), Fail> {
+    let start = empty_start(rt.alloc()).ok_or("a start")?;
+    all_are_right(&rt, rt.alloc(), &start)
+}
