@@ -2,21 +2,25 @@
  * own links its own three in the place of this file.
  *
  * `align` is a power of two, at most 16. A block of no bytes is asked for as one of `align` bytes,
- * so that a null pointer means one thing: there is no memory. */
-#include <stdbool.h>
-#include <stddef.h>
-#include <stdlib.h>
+ * so that a null pointer means one thing: there is no memory.
+ *
+ * No header is included: the toolchain, whose compiler builds this file, has none. */
+typedef __SIZE_TYPE__ size_t;
+
+void *malloc(size_t size);
+void *realloc(void *block, size_t size);
+void free(void *block);
 
 /* Whether there is memory, and where. Where there is none, `block` is not null, and not used. */
 struct tried {
-    bool ok;
+    _Bool ok;
     void *block;
 };
 
 static char nowhere[16];
 
 static struct tried tried(void *block) {
-    return (struct tried){block != NULL, block != NULL ? block : nowhere};
+    return (struct tried){block != 0, block != 0 ? block : nowhere};
 }
 
 /* A new block of `size` bytes. */

@@ -319,6 +319,13 @@ uint32_t squall_errand_heed(squall_errand *errand, uint32_t reply, uint32_t part
 /* Closes the errand. */
 void squall_errand_close(squall_errand *errand);
 
+
+/* THE LIBRARY */
+
+/* The version of the library, as "0.1.0": a text that ends in a 0 byte and is never freed. May be
+ * called at any time, in any thread. Allocates nothing. */
+const char *squall_version(void);
+
 #ifdef __cplusplus
 }
 #endif

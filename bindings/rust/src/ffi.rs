@@ -1,5 +1,7 @@
 //! The functions of `squall.h`, where their rules and answers stand.
 
+use std::ffi::c_char;
+
 use crate::key::Leg;
 
 /// What stands in the room of a router: nobody looks into it here.
@@ -100,4 +102,6 @@ unsafe extern "C" {
         number: u32,
     ) -> u32;
     pub(crate) fn squall_errand_close(errand: *mut RawErrand);
+
+    pub(crate) safe fn squall_version() -> *const c_char;
 }

@@ -23,8 +23,9 @@
 //!
 //! # Linking
 //!
-//! The crate has no dependencies. `SQUALL_DIR` names the folder with `libsquall.a` when it is built,
-//! as `tools/library DIR` makes it.
+//! The crate has no dependencies. When a program is built, `SQUALL_DIR` names the folder with
+//! `libsquall.a`, as `tools/library DIR` makes it or as the release holds it. Without it the library
+//! that `pkg-config` finds is linked. `cargo check` and `cargo doc` need neither.
 //!
 //! # Threads
 //!
@@ -42,6 +43,8 @@
 //! changed nothing. Rooms and what this layer gives out, as the legs of [`Router::legs`], are
 //! allocated as all else in Rust is.
 
+use std::ffi::CStr;
+
 mod errand;
 mod error;
 mod ffi;
@@ -55,3 +58,10 @@ pub use error::{Error, FrameFault, PlanFault};
 pub use key::{Leg, Rank};
 pub use router::{Frames, Router};
 pub use view::View;
+
+/// The version of the library that is linked, as `0.1.0`.
+pub fn version() -> &'static str {
+    // SAFETY: the library answers a text that ends in a 0 byte, never changes and is never freed.
+    let text = unsafe { CStr::from_ptr(ffi::squall_version()) };
+    text.to_str().unwrap_or_default()
+}

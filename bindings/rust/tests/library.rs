@@ -35,6 +35,11 @@ fn the_worked_scenario() -> Result<(), Error> {
 }
 
 #[test]
+fn the_library_has_the_version_of_the_crate() {
+    assert_eq!(squall::version(), env!("CARGO_PKG_VERSION"));
+}
+
+#[test]
 fn faults_are_named() {
     let plan = |text: &str| Router::open(1, text.as_bytes(), NEW).err();
     assert_eq!(plan(""), Some(Error::OldPlan(PlanFault::Json)));
