@@ -9,10 +9,10 @@ use Rattle.squall_report.specs.Facts.{is_report}
 use Rattle.squall_report.specs.Told.{TellsBoth, told_by_report, both_issued}
 use Rattle.squall_board.specs.Boards.{BoardValue, IsBoard, HasTaken, board_join, report_board, issued, says, told}
 use Rattle.squall_board.specs.BoardLaws.{tells_both, has_both, one_tells, report_tells}
-use Rattle.squall_delta.proofs.Reported.{report_board_is}
 use Rattle.squall_board.specs.CourseRoute.{course_of_board}
 use Rattle.squall_router.specs.Routers.{RouterValue, router_with, course_of_router}
 use Rattle.squall_router.proofs.Newer.{same_without_issues}
+use Rattle.squall_router.proofs.Reports.{report_board_is}
 
 -- the board with the report's tells what it told and what the report tells
 joined_tells : (b : BoardValue) (q : ReportKind PlanPair) → IsBoard b → is_report q ≡ true → TellsBoth (told (board_join b (report_board q))) (told b) (told_by_report q)

@@ -9,10 +9,4 @@ pub use Rattle.squall_board.specs.Newest
 pub use Rattle.squall_board.specs.Route
 pub use Rattle.squall_board.specs.CourseRoute
 pub use Rattle.squall_table.specs.Tables
-pub use Rattle.squall_wire.specs.Messages
-pub use Rattle.squall_wire.specs.Hearing
 pub mod Routers
-pub mod Errands
-pub mod Ways
-pub mod WayLaws
-pub mod ComingLaws

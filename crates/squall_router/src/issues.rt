@@ -9,7 +9,7 @@ ghost use Rattle.squall_report.specs.Told.{both_issued};
 ghost use Rattle.squall_board.specs.Boards.{issued, report_board};
 ghost use Rattle.squall_board.specs.Listed.{entries_issue};
 
-use squall_board::Board;
+use squall_board::{Board, Delta};
 use squall_join::Flat;
 use squall_report::{Issue, Report, ReportKind};
 use std::alloc::{AllocError, Global};
@@ -45,6 +45,20 @@ pub(crate) fn both_issues(alloc: Global, first: &Board, second: &Board) -> Resul
     put_issues(&mut board, first)?;
     put_issues(&mut board, second)?;
     Ok(board)
+}
+
+/// The board that has taken the report alone. It fails if an allocation fails, or if the count of an
+/// issue's owners is full.
+#[tactic(auto, using(crate::proofs::Reports::one_board))]
+pub(crate) fn issue_alone(alloc: Global, report: &Report) -> Result<Delta, AllocError>
+    ensures { IfOk result (λ d. d ≡ report_board report.now) }
+{
+    let mut delta = Board::new(alloc);
+    delta.take(report)?;
+    // The proof learns that the delta is a board and the report one within its limits.
+    delta.known();
+    let _kind = report.kind();
+    Ok(delta)
 }
 
 /// Whether the report issues a pair of plans.

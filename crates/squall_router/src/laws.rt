@@ -1,32 +1,18 @@
-//! Laws of routers and errands, each the contract of a function that does nothing.
+//! Laws of routers, each the contract of a function that does nothing.
 
-ghost use Rattle.std.specs.Prelude.{◌≡◌, ℕ, ◌<◌, ◌++◌, true, List, [], map, Option};
+ghost use Rattle.std.specs.Prelude.{◌≡◌, ℕ, ◌<◌, true, List};
 ghost use Rattle.squall_key.specs.Keys.{top};
 ghost use Rattle.squall_plan.specs.declared.range.PlanRange.{PlanRange};
 ghost use Rattle.squall_course.specs.Subplans.{moves};
 ghost use Rattle.squall_report.specs.declared.report.ReportKind.{ReportKind};
 ghost use Rattle.squall_report.specs.Issues.{PlanPair};
 ghost use Rattle.squall_report.specs.Told.{SameTold};
-ghost use Rattle.squall_board.specs.Boards.{BoardValue, HasTaken, says, told};
+ghost use Rattle.squall_board.specs.Boards.{HasTaken, says, told};
 ghost use Rattle.squall_board.specs.Route.{has_come};
 ghost use Rattle.squall_board.specs.CourseRoute.{course_of_reports, route_by_reports};
-ghost use Rattle.squall_wire.specs.declared.fault.WireFault.{WireFault};
-ghost use Rattle.squall_wire.specs.declared.message.Message.{Message};
-ghost use Rattle.squall_wire.specs.Hearing.{FeedValue, HearsOn};
-ghost use Rattle.squall_router.specs.declared.errand.Reply.{Reply};
-ghost use Rattle.squall_router.specs.declared.errand.Next.TheVariants.{Served, Lost};
 ghost use Rattle.squall_router.specs.Routers.{course_of_router, route_of_router, IsTableOf};
-ghost use Rattle.squall_router.specs.Errands.{ErrandValue, step_of, answers_of};
-ghost use Rattle.squall_router.specs.Ways.{Sent, TakesIn, AreComing, Brings};
 
 use crate::router::Router;
-
-/// Once an errand answers that the key is served, or lost, it answers the same for ever, whatever is
-/// replied.
-pub fn ends_are_for_ever()
-    ensures served { (e : ErrandValue) (reply : Reply) (replies : List Reply) → (step_of e reply).next ≡ Served → answers_of (step_of e reply).after replies ≡ map (λ _. Served) replies }
-    ensures lost { (e : ErrandValue) (reply : Reply) (replies : List Reply) → (step_of e reply).next ≡ Lost → answers_of (step_of e reply).after replies ≡ map (λ _. Lost) replies }
-{}
 
 /// A router whose board has taken a list of reports goes by the course of the reports, and sends
 /// each key where they do.
@@ -55,12 +41,3 @@ pub fn all_in_is_the_new_plan(router: &Router)
 {
     router.known();
 }
-
-/// Where messages are on their way to a feed, a piece of their stream brings the first of them, those
-/// whose frames it ends, and the others stay on their way; once all bytes have come, none is. So
-/// between two pieces there may be pieces for other feeds and any other calls.
-pub fn pieces_bring_messages()
-    ensures piece { (sent : List Sent) (old new : FeedValue) (piece coming : List ℕ) (messages : List Message) (fault : Option WireFault) (before after : BoardValue)
-        → AreComing sent old (piece ++ coming) → HearsOn old piece messages fault new → TakesIn messages before after → Brings sent piece coming before after new }
-    ensures last { (sent : List Sent) (feed : FeedValue) → AreComing sent feed [] → sent ≡ [] }
-{}

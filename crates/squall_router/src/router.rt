@@ -11,10 +11,10 @@ ghost use Rattle.squall_board.specs.CourseRoute.{course_by, course_of_board};
 ghost use Rattle.squall_table.specs.Tables.{AreLegs, legs_between};
 ghost use Rattle.squall_router.specs.Routers.{router_with, course_of_router, route_of_router, IsTableOf};
 
-use crate::issues::{both_issues, is_issue};
+use crate::issues::{both_issues, is_issue, issue_alone};
 use squall_board::{Board, Delta};
 use squall_course::Course;
-use squall_delta::delta_of;
+use squall_errand::Routes;
 use squall_join::Shared;
 use squall_key::{Key, PartId};
 use squall_report::{Issue, Report};
@@ -172,7 +172,7 @@ impl Router {
         // The proof learns that the report lies within the limits, so that its board is one.
         let _kind = report.kind();
         if is_issue(report) {
-            let issue = delta_of(self.alloc, report)?;
+            let issue = issue_alone(self.alloc, report)?;
             return self.take_up(&issue);
         }
         self.take_in_place(report)
@@ -297,5 +297,13 @@ impl Router {
         ensures { IsTableOf self.now result.now }
     {
         &self.table
+    }
+}
+
+impl Routes for Router {
+    ghost routed = { route_of_router };
+
+    fn route(&self, key: Key) -> PartId {
+        Router::route(self, key)
     }
 }

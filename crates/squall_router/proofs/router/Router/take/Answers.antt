@@ -8,19 +8,19 @@ use Rattle.squall_router.proofs.router.Router.take.Goals as goal
 pub returns-then-is_issue-clause-board : goal.returns-then-is_issue-clause-board
 returns-then-is_issue-clause-board c =
     let s = c.args.self.now in
-    let ok : OnOk c.take_up.result (c.take_up.new.self ≡ router_with s.first (board_join s.board (report_board c.args.report.now))) = subst (λ (d : BoardValue). OnOk c.take_up.result (c.take_up.new.self ≡ router_with s.first (board_join s.board d))) c.in_ok-issue.ensures.value c.take_up.ensures.ok in
+    let ok : OnOk c.take_up.result (c.take_up.new.self ≡ router_with s.first (board_join s.board (report_board c.args.report.now))) = subst (λ (d : BoardValue). OnOk c.take_up.result (c.take_up.new.self ≡ router_with s.first (board_join s.board d))) c.in_ok-issue.ensures c.take_up.ensures.ok in
     taken_board c.take_up.result c.take_up.new.self s (report_board c.args.report.now) ok
 
 pub returns-then-is_issue-clause-told : goal.returns-then-is_issue-clause-told
 returns-then-is_issue-clause-told c =
     let s = c.args.self.now in
-    let ok : OnOk c.take_up.result (c.take_up.new.self ≡ router_with s.first (board_join s.board (report_board c.args.report.now))) = subst (λ (d : BoardValue). OnOk c.take_up.result (c.take_up.new.self ≡ router_with s.first (board_join s.board d))) c.in_ok-issue.ensures.value c.take_up.ensures.ok in
+    let ok : OnOk c.take_up.result (c.take_up.new.self ≡ router_with s.first (board_join s.board (report_board c.args.report.now))) = subst (λ (d : BoardValue). OnOk c.take_up.result (c.take_up.new.self ≡ router_with s.first (board_join s.board d))) c.in_ok-issue.ensures c.take_up.ensures.ok in
     taken_told c.take_up.result c.take_up.new.self s c.args.report.now c.known.ensures.board c.kind-kind.ensures.limits ok
 
 pub returns-then-is_issue-clause-taken : goal.returns-then-is_issue-clause-taken
 returns-then-is_issue-clause-taken c =
     let s = c.args.self.now in
-    let ok : OnOk c.take_up.result (c.take_up.new.self ≡ router_with s.first (board_join s.board (report_board c.args.report.now))) = subst (λ (d : BoardValue). OnOk c.take_up.result (c.take_up.new.self ≡ router_with s.first (board_join s.board d))) c.in_ok-issue.ensures.value c.take_up.ensures.ok in
+    let ok : OnOk c.take_up.result (c.take_up.new.self ≡ router_with s.first (board_join s.board (report_board c.args.report.now))) = subst (λ (d : BoardValue). OnOk c.take_up.result (c.take_up.new.self ≡ router_with s.first (board_join s.board d))) c.in_ok-issue.ensures c.take_up.ensures.ok in
     taken_list c.take_up.result c.take_up.new.self s c.args.report.now c.known.ensures.board c.kind-kind.ensures.limits ok
 
 pub take_in_place-requires : goal.take_in_place-requires

@@ -1,4 +1,8 @@
-//! What squall promises, in one place.
+//! What squall promises, in one place: start here to see what the proofs are for.
+//!
+//! [`headline`] is the promise. The definitions that it cites are in `specs/`: `Ways.antt` says by which
+//! calls reports come, and its last lines to which partition a key goes.
+#![tactic(auto)]
 
 ghost use Rattle.std.specs.Prelude.{◌≡◌, ℕ, ◌<◌, List};
 ghost use Rattle.squall_key.specs.Keys.{top};
@@ -10,10 +14,13 @@ ghost use Rattle.squall_board.specs.CourseRoute.{course_of_reports};
 ghost use Rattle.squall_wire.specs.declared.message.Message.TheVariants.{Delta};
 ghost use Rattle.squall_wire.specs.Messages.{spell};
 ghost use Rattle.squall_router.specs.Routers.{route_of_router, IsTableOf};
-ghost use Rattle.squall_router.specs.Ways.{Way, reports_of, LeadTo, BringTheSame, IsSent};
+ghost use Rattle.squall_headline.specs.Ways.{Way, reports_of, LeadTo, BringTheSame, IsSent};
 
-use crate::router::Router;
+mod laws;
+
+pub use laws::pieces_bring_messages;
 use squall_board::Board;
+use squall_router::Router;
 
 /// Whatever calls bring the same reports to two boards, one by one, in lists, in merged boards, or
 /// in frames that were encoded, among digests, cut anywhere, pushed into feeds in any state and

@@ -1,10 +1,10 @@
 -- Errands: a key is brought to its partition by the partitions' replies (this project; that a partition which no longer has a key
 -- sends on to the next: Squall, SIGMOD 2015).
 use Rattle.std.specs.Prelude.{ℕ, nat_lt, List, [], ◌∷◌, Option, None, Some, if◌then◌else◌}
-use Rattle.squall_router.specs.declared.errand.Reply.{Reply}
-use Rattle.squall_router.specs.declared.errand.Reply.TheVariants.{Held, Moved, Pending, Behind, Elsewhere}
-use Rattle.squall_router.specs.declared.errand.Next.{Next}
-use Rattle.squall_router.specs.declared.errand.Next.TheVariants.{Ask, Again, Served, Lost}
+use Rattle.squall_errand.specs.declared.errand.Reply.{Reply}
+use Rattle.squall_errand.specs.declared.errand.Reply.TheVariants.{Held, Moved, Pending, Behind, Elsewhere}
+use Rattle.squall_errand.specs.declared.errand.Next.{Next}
+use Rattle.squall_errand.specs.declared.errand.Next.TheVariants.{Ask, Again, Served, Lost}
 
 -- an errand: the partition that it asks, the number of its last Moved, 0 before the first, and how it ended, if it has
 pub record ErrandValue : Type 0 where

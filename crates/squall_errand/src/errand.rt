@@ -1,11 +1,10 @@
 //! Errands.
 
 ghost use Rattle.std.specs.Prelude.{◌≡◌, Some};
-ghost use Rattle.squall_router.specs.Routers.{route_of_router};
-ghost use Rattle.squall_router.specs.Errands.{errand_from, errand_with, step_of, step_on};
-ghost use Rattle.squall_router.specs.declared.errand.Reply.TheVariants.{Moved};
+ghost use Rattle.squall_errand.specs.Errands.{errand_from, errand_with, step_of, step_on};
+ghost use Rattle.squall_errand.specs.declared.errand.Reply.TheVariants.{Moved};
 
-use crate::router::Router;
+use crate::routes::Routes;
 use squall_key::{Key, PartId};
 use std::marker::Model;
 
@@ -48,8 +47,8 @@ pub enum Next {
     Lost,
 }
 
-/// The search for the partition that holds a key: it starts where a router sends the key, and
-/// follows the partitions' replies. It changes no board: a reply is no report.
+/// The search for the partition that holds a key: it starts at the partition to which a router
+/// sends the key, and follows the partitions' replies. It changes no board: a reply is no report.
 ///
 /// Contracts see an errand as the partition that it asks, the number of its last `Moved` and how it
 /// ended.
@@ -61,7 +60,7 @@ pub struct Errand {
 }
 
 impl Model for Errand {
-    ghost use Rattle.squall_router.specs.Errands.{ErrandValue, errand_with};
+    ghost use Rattle.squall_errand.specs.Errands.{ErrandValue, errand_with};
 
     ghost Value = { ErrandValue };
 
@@ -72,8 +71,8 @@ impl Model for Errand {
 
 impl Errand {
     /// An errand for the key, which asks the partition to which the router sends it.
-    pub fn start(router: &Router, key: Key) -> Errand
-        ensures { result ≡ errand_from (route_of_router router.now key) }
+    pub fn start<R: Routes>(router: &R, key: Key) -> Errand
+        ensures { result ≡ errand_from (R.routed router.now key) }
     {
         Errand::at(router.route(key))
     }

@@ -9,9 +9,9 @@ use Rattle.squall_board.specs.CourseRouteLaws.{taken_route}
 use Rattle.squall_wire.specs.declared.message.Message.TheVariants.{Delta}
 use Rattle.squall_wire.specs.Messages.{spell}
 use Rattle.squall_board.specs.Boards.{BoardValue}
-use Rattle.squall_router.specs.Ways.{reports_of, IsSent}
-use Rattle.squall_router.specs.WayLaws.{has_come_by, same_boards, sent_by_route}
-use Rattle.squall_router.proofs.promise.headline.Goals as goal
+use Rattle.squall_headline.specs.Ways.{reports_of, IsSent}
+use Rattle.squall_headline.specs.WayLaws.{has_come_by, same_boards, sent_by_route}
+use Rattle.squall_headline.proofs.headline.Goals as goal
 
 pub returns-clause-reports : goal.returns-clause-reports
 returns-clause-reports c ws leads = has_come_by ws c.args.a.now leads

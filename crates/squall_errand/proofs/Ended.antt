@@ -1,11 +1,11 @@
 -- Errands that have ended.
 use Rattle.std.specs.Prelude.{◌≡◌, ℕ, Bool, true, false, cond, nat_lt, List, [], ◌∷◌, map, Option, None, Some, refl}
 use Rattle.std.proofs.Common.{ap, ◌∙◌}
-use Rattle.squall_router.specs.declared.errand.Reply.{Reply}
-use Rattle.squall_router.specs.declared.errand.Reply.TheVariants.{Held, Moved, Pending, Behind, Elsewhere}
-use Rattle.squall_router.specs.declared.errand.Next.{Next}
-use Rattle.squall_router.specs.declared.errand.Next.TheVariants.{Ask, Served, Lost}
-use Rattle.squall_router.specs.Errands.{ErrandValue, errand_with, Step, goes_on, ends, step_on, step_from, step_of, answers_of}
+use Rattle.squall_errand.specs.declared.errand.Reply.{Reply}
+use Rattle.squall_errand.specs.declared.errand.Reply.TheVariants.{Held, Moved, Pending, Behind, Elsewhere}
+use Rattle.squall_errand.specs.declared.errand.Next.{Next}
+use Rattle.squall_errand.specs.declared.errand.Next.TheVariants.{Ask, Served, Lost}
+use Rattle.squall_errand.specs.Errands.{ErrandValue, errand_with, Step, goes_on, ends, step_on, step_from, step_of, answers_of}
 
 -- it has ended, and answers that
 abbrev pub HasEnded : Next → ErrandValue → Type 0

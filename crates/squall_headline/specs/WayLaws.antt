@@ -14,7 +14,7 @@ use Rattle.squall_board.specs.BoardLaws.{has_both, has_none, one_tells, same_tak
 use Rattle.squall_board.specs.Route.{route}
 use Rattle.squall_wire.specs.declared.message.Message.{Message}
 use Rattle.squall_wire.specs.HearingLaws.{one_hearing, pieces_are_one_push}
-use Rattle.squall_router.specs.Ways.{Reports, Sent, SentBoard, SentDigest, Way, ByTake, ByTakeAll, ByMerge, ByFrames, reports_sent, reports_by, reports_of, messages_of, ArePacked, TakesIn, IsStreamed, Leads, LeadOn, LeadTo, BringTheSame, IsSent}
+use Rattle.squall_headline.specs.Ways.{Reports, Sent, SentBoard, SentDigest, Way, ByTake, ByTakeAll, ByMerge, ByFrames, reports_sent, reports_by, reports_of, messages_of, ArePacked, TakesIn, IsStreamed, Leads, LeadOn, LeadTo, BringTheSame, IsSent}
 
 -- messages of what was sent, taken in one after the other
 taken_in : (ss : List Sent) (b c : BoardValue) (rs : Reports) → ArePacked ss → HasTaken b rs → TakesIn (messages_of ss) b c → HasTaken c (rs ++ reports_sent ss)

@@ -10,7 +10,7 @@ use Rattle.squall_wire.specs.Messages.{IsMessage, spell, spell_all}
 use Rattle.squall_wire.specs.Reading.{message_at}
 use Rattle.squall_wire.specs.Hearing.{FeedValue, feed_with, feed_after, EndsIn, IsHeard, HearsOn, HearsAll}
 use Rattle.squall_wire.specs.HearingLaws.{one_frame, one_hearing, spelled_are_heard, heard_after_fault, read_again, feed_stays}
-use Rattle.squall_router.specs.Ways.{Reports, Sent, SentBoard, SentDigest, reports_sent, message_of, messages_of, ArePacked, TakesIn, AreComing, Brings}
+use Rattle.squall_headline.specs.Ways.{Reports, Sent, SentBoard, SentDigest, reports_sent, message_of, messages_of, ArePacked, TakesIn, AreComing, Brings}
 
 -- ---- the first of the messages of a stream
 

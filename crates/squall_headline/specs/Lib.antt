@@ -1,0 +1,15 @@
+-- what the clauses here cite of the crates below
+pub use Rattle.squall_key.specs.Keys
+pub use Rattle.squall_plan.specs.Ranges
+pub use Rattle.squall_course.specs.Change
+pub use Rattle.squall_report.specs.Told
+pub use Rattle.squall_report.specs.Facts
+pub use Rattle.squall_board.specs.Boards
+pub use Rattle.squall_board.specs.Route
+pub use Rattle.squall_board.specs.CourseRoute
+pub use Rattle.squall_wire.specs.Messages
+pub use Rattle.squall_wire.specs.Hearing
+pub use Rattle.squall_router.specs.Routers
+pub mod Ways
+pub mod WayLaws
+pub mod ComingLaws
