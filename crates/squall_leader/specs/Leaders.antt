@@ -13,6 +13,7 @@ use Rattle.squall_report.specs.Issues.{PlanPair, plan_pair}
 use Rattle.squall_report.specs.Cells.{place_at}
 use Rattle.squall_report.specs.Facts.{DonePart}
 use Rattle.squall_board.specs.Boards.{BoardValue, IsBoard, empty_board, board_join, report_board, says}
+use Rattle.squall_protocol.specs.Known.{last_number}
 use Rattle.squall_leader.specs.declared.fault.LeaderFault.{LeaderFault}
 use Rattle.squall_leader.specs.declared.fault.LeaderFault.TheVariants.{Running, NoNumber, Idle, NotDone, NoMore, NoMemory}
 
@@ -50,10 +51,6 @@ IsFinished l = (c : Change) × (l.course ≡ Some c) × IsOver l c
 abbrev pub IsRunning : LeaderValue → Type 0
 IsRunning l = (c : Change) × (l.course ≡ Some c) × (IsOver l c → ⊥)
 
--- the greatest number that there can be
-abbrev pub last_number : ℕ
-last_number = 2 ^ 32 - 1
-
 -- the course that leads from the newest plan to another, under the next number
 abbrev pub next_course : LeaderValue → List PlanRange → Change
 next_course l plan = record { number = l.last + 1; old = l.plan; new = plan }
@@ -65,7 +62,7 @@ issue_report c = Issued c.number (plan_pair c.old c.new)
 abbrev pub after_begin : LeaderValue → Change → LeaderValue
 after_begin l c = record { plan = c.new; last = c.number; course = Some c; opened = 0; board = board_join l.board (report_board (issue_report c)) }
 
--- the answer where a course to the plan is to be begun
+-- the answer where a course to the plan is to be begun; memory is missing only where nothing else is in the way
 abbrev pub IsBegun : LeaderValue → List PlanRange → Result Change LeaderFault → LeaderValue → Type 0
 IsBegun l plan (Ok c) m = (IsRunning l → ⊥) × (l.last < last_number) × (c ≡ next_course l plan) × (m ≡ after_begin l c)
 IsBegun l plan (Err Running) m = IsRunning l × (m ≡ l)
@@ -73,7 +70,7 @@ IsBegun l plan (Err NoNumber) m = (IsRunning l → ⊥) × (l.last ≡ last_numb
 IsBegun l plan (Err Idle) m = ⊥
 IsBegun l plan (Err (NotDone sub part)) m = ⊥
 IsBegun l plan (Err NoMore) m = ⊥
-IsBegun l plan (Err NoMemory) m = m ≡ l
+IsBegun l plan (Err NoMemory) m = (IsRunning l → ⊥) × (l.last < last_number) × (m ≡ l)
 
 abbrev pub open_report : Change → ℕ → ReportKind PlanPair
 open_report c sub = Opened c.number sub
@@ -82,7 +79,7 @@ open_report c sub = Opened c.number sub
 abbrev pub after_open : LeaderValue → Change → LeaderValue
 after_open l c = record l { opened = l.opened + 1; board = board_join l.board (report_board (open_report c l.opened)) }
 
--- the answer where the next sub-plan is to be opened
+-- the answer where the next sub-plan is to be opened; memory is missing only where nothing else is in the way
 abbrev pub IsOpened : LeaderValue → Result (ReportKind PlanPair) LeaderFault → LeaderValue → Type 0
 IsOpened l (Ok report) m =
     (c : Change) × (l.course ≡ Some c) × (waited_after c l.board l.opened ≡ None) × (l.opened < subplan_count c.old c.new)
@@ -92,7 +89,7 @@ IsOpened l (Err NoNumber) m = ⊥
 IsOpened l (Err Idle) m = (l.course ≡ None) × (m ≡ l)
 IsOpened l (Err (NotDone sub part)) m = (c : Change) × (l.course ≡ Some c) × (l.opened ≡ sub + 1) × (waited_for c l.board sub ≡ Some part) × (m ≡ l)
 IsOpened l (Err NoMore) m = (c : Change) × (l.course ≡ Some c) × (waited_after c l.board l.opened ≡ None) × (l.opened ≡ subplan_count c.old c.new) × (m ≡ l)
-IsOpened l (Err NoMemory) m = m ≡ l
+IsOpened l (Err NoMemory) m = (c : Change) × (l.course ≡ Some c) × (waited_after c l.board l.opened ≡ None) × (l.opened < subplan_count c.old c.new) × (m ≡ l)
 
 -- what holds of every leader: its board is a board, its newest plan is a plan, the course begun last leads to it under the last number,
 -- which is from 1 on, both plans of that course are plans, and no more sub-plans are opened than there are

@@ -7,5 +7,6 @@ pub use Rattle.squall_course.specs.Moves
 pub use Rattle.squall_report.specs.Facts
 pub use Rattle.squall_report.specs.Told
 pub use Rattle.squall_board.specs.Boards
+pub use Rattle.squall_protocol.specs.Known
 pub mod Leaders
 pub mod Waiting

@@ -12,7 +12,8 @@ use Rattle.squall_report.specs.Issues.{PlanPair, is_same_pair}
 use Rattle.squall_report.specs.Told.{TellsBoth, both_issued}
 use Rattle.squall_board.specs.Boards.{BoardValue, IsBoard, issued, told, one_issue}
 use Rattle.squall_board.specs.Listed.{AreIssues, IssuesRise, entries_issue, issues_of}
-use Rattle.squall_part.specs.Parts.{PartValue, Log, log_of, IsPart, IsLog, IsHeard, IsNotIn, AreApart, known_course, course_under, given_in, loaded_in, given_by, loaded_by}
+use Rattle.squall_part.specs.Parts.{PartValue, Log, log_of, IsPart, IsLog, IsHeard, IsNotIn, AreApart, known_course, given_in, loaded_in, given_by, loaded_by}
+use Rattle.squall_protocol.specs.Known.{course_under}
 use Rattle.squall_part.specs.Fresh.{is_unknown, is_new, empty_log, fresh_log, fresh_logs}
 use Rattle.squall_part.proofs.Logs.{eq_refl, eq_differ}
 

@@ -14,8 +14,8 @@ use Rattle.squall_course.specs.Change.{Change}
 use Rattle.squall_course.specs.Subplans.{sub_at}
 use Rattle.squall_course.specs.Moves.{move_has, in_moves, IsMove, Rise, LongestFrom, AreLongest, AreMoves}
 use Rattle.squall_course.proofs.Moved.{within}
-use Rattle.squall_part.specs.Chunks.{ChunkValue}
-use Rattle.squall_part.specs.Carried.{ends_beyond, carries, Carried}
+use Rattle.squall_protocol.specs.Chunks.{ChunkValue}
+use Rattle.squall_protocol.specs.Carried.{ends_beyond, carries, Carried}
 use Rattle.squall_part.proofs.Logs.{eq_refl, eq_same, eq_differ}
 
 -- ---- the first move beyond a bound

@@ -12,7 +12,8 @@ use Rattle.squall_report.specs.Issues.{PlanPair}
 use Rattle.squall_report.specs.declared.report.ReportKind.{ReportKind}
 use Rattle.squall_report.specs.Told.{TellsBoth, both_issued, told_by_report, report_issues}
 use Rattle.squall_board.specs.Boards.{BoardValue, IsBoard, issued, told}
-use Rattle.squall_part.specs.Parts.{PartValue, Log, log_with, log_of, IsPart, IsLog, IsHeard, known_to, course_under, course_of_part, given_in, loaded_in, given_by, loaded_by, with_given, with_loaded}
+use Rattle.squall_part.specs.Parts.{PartValue, Log, log_with, log_of, IsPart, IsLog, IsHeard, known_to, course_of_part, given_in, loaded_in, given_by, loaded_by, with_given, with_loaded}
+use Rattle.squall_protocol.specs.Known.{course_under}
 use Rattle.squall_part.specs.Logs.{IsLogAt}
 use Rattle.squall_part.specs.Giving.{after_giving}
 use Rattle.squall_part.proofs.Logs.{edit_at, edit_apart, edit_heard, edit_courses, edit_logs}

@@ -13,7 +13,8 @@ use Rattle.squall_board.specs.Boards.{BoardValue, issued}
 use Rattle.squall_board.specs.Newest.{IsNewest, newest_of}
 use Rattle.squall_board.specs.NewestLaws.{newest_is_greatest}
 use Rattle.squall_board.specs.CourseRoute.{course_by}
-use Rattle.squall_part.specs.Parts.{PartValue, Log, log_of, IsPart, known_to, known_course, course_under, course_of_part, given_in, loaded_in, given_by, loaded_by}
+use Rattle.squall_part.specs.Parts.{PartValue, Log, log_of, IsPart, known_to, known_course, course_of_part, given_in, loaded_in, given_by, loaded_by}
+use Rattle.squall_protocol.specs.Known.{course_under}
 use Rattle.squall_part.specs.Logs.{has_number, IsLogAt}
 use Rattle.squall_part.proofs.Logs.{eq_refl, eq_same, eq_differ, found_at}
 

@@ -4,16 +4,11 @@ use Rattle.std.proofs.lemmas.Bool.{false≢true}
 use Rattle.squall_span.specs.Spans.{has}
 use Rattle.squall_plan.specs.Ranges.{owner_of}
 use Rattle.squall_course.specs.Change.{Change}
-use Rattle.squall_router.specs.declared.errand.Reply.{Reply}
-use Rattle.squall_router.specs.declared.errand.Reply.TheVariants.{Held, Moved, Pending, Behind, Elsewhere}
+use Rattle.squall_errand.specs.declared.errand.Reply.{Reply}
+use Rattle.squall_errand.specs.declared.errand.Reply.TheVariants.{Held, Moved, Pending, Behind, Elsewhere}
+use Rattle.squall_protocol.proofs.Greatest.{same_greatest}
 use Rattle.squall_part.specs.Parts.{PartValue, known_to}
-use Rattle.squall_part.specs.Serving.{IsGreatest, IsLastGiven, IsLastComing, IsReply}
-
-greatest_upto : (R : ℕ → Type 0) (g h : ℕ) → IsGreatest R g → IsGreatest R h → g ≤ h
-greatest_upto R g h a b = elim a.reached [ inl zero ↦ omega arith | inr there ↦ b.top g there ]
-
-pub same_greatest : (R : ℕ → Type 0) (g h : ℕ) → IsGreatest R g → IsGreatest R h → g ≡ h
-same_greatest R g h a b = omega (arith, greatest_upto R g h a b, greatest_upto R h g b a)
+use Rattle.squall_part.specs.Serving.{IsLastGiven, IsLastComing, IsReply}
 
 same_change : (p : PartValue) (n : ℕ) (c d : Change) → known_to p n ≡ Some c → known_to p n ≡ Some d → c ≡ d
 same_change p n c d e f = let g : Some c ≡ Some d = sym e ∙ f in cc

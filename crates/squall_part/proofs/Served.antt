@@ -8,10 +8,11 @@ use Rattle.squall_span.specs.Spans.{has}
 use Rattle.squall_plan.specs.Ranges.{owner_of}
 use Rattle.squall_course.specs.Change.{Change}
 use Rattle.squall_course.specs.Subplans.{moves}
-use Rattle.squall_router.specs.declared.errand.Reply.TheVariants.{Moved, Pending}
+use Rattle.squall_errand.specs.declared.errand.Reply.TheVariants.{Moved, Pending}
 use Rattle.squall_part.specs.Parts.{PartValue, Log, log_of, IsPart, AreApart, known_to, given_in, loaded_in}
 use Rattle.squall_part.specs.Logs.{number_in, later, last_from, last_of, gave, comes}
-use Rattle.squall_part.specs.Serving.{IsGreatest, GaveUnder, ComesUnder, IsLastGiven, IsLastComing, IsReply}
+use Rattle.squall_part.specs.Serving.{GaveUnder, ComesUnder, IsLastGiven, IsLastComing, IsReply}
+use Rattle.squall_protocol.specs.Firsts.{IsGreatest}
 use Rattle.squall_part.proofs.Logs.{eq_refl, eq_same, found_at}
 use Rattle.squall_part.proofs.Known.{known_number}
 

@@ -10,13 +10,13 @@ use Rattle.squall_course.specs.Change.{Change}
 use Rattle.squall_course.specs.Moves.{is_incoming}
 use Rattle.squall_report.specs.Told.{TellsBoth, told_by_report}
 use Rattle.squall_board.specs.Boards.{BoardValue, IsBoard, told}
-use Rattle.squall_part.specs.Chunks.{ChunkValue}
+use Rattle.squall_protocol.specs.Chunks.{ChunkValue, load_report}
 use Rattle.squall_part.specs.Parts.{PartValue, Log, log_with, IsPart, known_to, course_of_part, opened_at, loaded_in, loaded_by}
 use Rattle.squall_part.specs.Logs.{IsLogAt}
 use Rattle.squall_part.specs.Steps.{IsLoadPlace}
-use Rattle.squall_part.specs.Carried.{Carried}
+use Rattle.squall_protocol.specs.Carried.{Carried}
 use Rattle.squall_part.specs.Giving.{after_giving}
-use Rattle.squall_part.specs.Loading.{MayLoad, AllLoaded, SomeMissing, is_missing, IsRun, done_report, after_finish}
+use Rattle.squall_part.specs.Loading.{MayLoad, AllLoaded, SomeMissing, is_missing, done_report, after_finish}
 use Rattle.squall_part.proofs.Known.{log_at}
 use Rattle.squall_part.proofs.Given.{loaded_here}
 use Rattle.squall_report.specs.Issues.{PlanPair}
@@ -24,7 +24,8 @@ use Rattle.squall_report.specs.declared.report.ReportKind.TheVariants.{Done as D
 use Rattle.std.specs.List.{slice_get}
 use Rattle.squall_report.specs.declared.report.ReportKind.{ReportKind}
 use Rattle.squall_board.specs.Boards.{board_join, report_board}
-use Rattle.squall_part.specs.Loading.{after_load, load_report}
+use Rattle.squall_part.specs.Loading.{after_load}
+use Rattle.squall_protocol.specs.Firsts.{IsRun}
 use Rattle.squall_part.proofs.Changed.{giving_logs, giving_part, loading_logs, loading_part, told_part}
 
 -- ---- a gift

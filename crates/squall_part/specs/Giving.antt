@@ -5,7 +5,8 @@ use Rattle.squall_course.specs.Subplans.{dest_of}
 use Rattle.squall_course.specs.Moves.{is_outgoing}
 use Rattle.squall_part.specs.declared.giving.GiveFault.{GiveFault}
 use Rattle.squall_part.specs.declared.giving.GiveFault.TheVariants.{NotOpen, NothingLeft, ZeroMax, NotOutgoing, Given, NotHeld, NoMemory}
-use Rattle.squall_part.specs.Chunks.{ChunkValue}
+use Rattle.squall_protocol.specs.Chunks.{ChunkValue}
+use Rattle.squall_protocol.specs.Firsts.{AreFirst}
 use Rattle.squall_part.specs.Parts.{PartValue, course_of_part, opened_at, given_by, with_given}
 
 -- the sub-plan is the one opened last under the partition's newest course, as far as it knows
@@ -24,15 +25,6 @@ goes_out p sub k = is_outgoing (course_of_part p).old (course_of_part p).new sub
 abbrev pub is_left : PartValue → ℕ → ℕ → Bool
 is_left p sub k = goes_out p sub k && has p.held k
 
--- the span has the first keys for which the test is true, at most so many: they begin with the least such key, and end before a key
--- that is none or after so many
-pub record AreFirst (test : ℕ → Bool) (most : ℕ) (s : Interval) : Type 0 where
-  pub some : s.lo < s.hi
-  pub keys : (k : ℕ) → s.lo ≤ k → k < s.hi → test k ≡ true
-  pub least : (k : ℕ) → test k ≡ true → s.lo ≤ k
-  pub few : s.hi ≤ s.lo + most
-  pub whole : (s.hi ≡ s.lo + most) ⊎ (test s.hi ≡ false)
-
 -- the chunk is of the newest course, from the partition to the one to which its keys go in the sub-plan
 pub record IsChunkOf (p : PartValue) (sub : ℕ) (c : ChunkValue) : Type 0 where
   pub number : c.number ≡ (course_of_part p).number
@@ -48,7 +40,7 @@ after_giving p s =
       logs = with_given (course_of_part p).number (insert_span s (given_by p (course_of_part p).number)) p.logs;
     }
 
--- the answer to a demand for at most so many keys
+-- the answer to a demand for at most so many keys; memory is missing only where some key goes out in the sub-plan
 abbrev pub IsGiven : PartValue → ℕ → Result ChunkValue GiveFault → PartValue → Type 0
 IsGiven p most (Ok c) q = (sub : ℕ) × IsCurrent p sub × AreFirst (is_left p sub) most c.span × IsChunkOf p sub c × (q ≡ after_giving p c.span)
 IsGiven p most (Err NotOpen) q = NoneOpen p × (q ≡ p)
@@ -57,9 +49,10 @@ IsGiven p most (Err ZeroMax) q = (sub : ℕ) × IsCurrent p sub × ((k : ℕ) ×
 IsGiven p most (Err NotOutgoing) q = ⊥
 IsGiven p most (Err Given) q = ⊥
 IsGiven p most (Err NotHeld) q = ⊥
-IsGiven p most (Err NoMemory) q = q ≡ p
+IsGiven p most (Err NoMemory) q =
+    (sub : ℕ) × IsCurrent p sub × ((part : ℕ) × (dest_of (course_of_part p).old (course_of_part p).new sub p.id ≡ Some part)) × (q ≡ p)
 
--- the answer to a demand for one key
+-- the answer to a demand for one key; memory is missing only where nothing else is in the way
 abbrev pub IsGivenAt : PartValue → ℕ → Result ChunkValue GiveFault → PartValue → Type 0
 IsGivenAt p k (Ok c) q =
     (sub : ℕ) × IsCurrent p sub × (goes_out p sub k ≡ true) × (has (given_by p (course_of_part p).number) k ≡ false) × (has p.held k ≡ true)
@@ -71,4 +64,5 @@ IsGivenAt p k (Err NotOutgoing) q = (sub : ℕ) × IsCurrent p sub × (goes_out 
 IsGivenAt p k (Err Given) q = (sub : ℕ) × IsCurrent p sub × (goes_out p sub k ≡ true) × (has (given_by p (course_of_part p).number) k ≡ true) × (q ≡ p)
 IsGivenAt p k (Err NotHeld) q =
     (sub : ℕ) × IsCurrent p sub × (goes_out p sub k ≡ true) × (has (given_by p (course_of_part p).number) k ≡ false) × (has p.held k ≡ false) × (q ≡ p)
-IsGivenAt p k (Err NoMemory) q = q ≡ p
+IsGivenAt p k (Err NoMemory) q =
+    (sub : ℕ) × IsCurrent p sub × (goes_out p sub k ≡ true) × (has (given_by p (course_of_part p).number) k ≡ false) × (has p.held k ≡ true) × (q ≡ p)

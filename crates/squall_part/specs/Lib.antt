@@ -9,12 +9,14 @@ pub use Rattle.squall_report.specs.Facts
 pub use Rattle.squall_report.specs.Told
 pub use Rattle.squall_board.specs.Boards
 pub use Rattle.squall_board.specs.CourseRoute
-pub mod Chunks
+pub use Rattle.squall_protocol.specs.Known
+pub use Rattle.squall_protocol.specs.Firsts
+pub use Rattle.squall_protocol.specs.Chunks
+pub use Rattle.squall_protocol.specs.Carried
 pub mod Parts
 pub mod Giving
 pub mod Loading
 pub mod Serving
 pub mod Logs
 pub mod Fresh
-pub mod Carried
 pub mod Steps

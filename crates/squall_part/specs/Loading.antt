@@ -6,7 +6,7 @@ use Rattle.squall_course.specs.Subplans.{moves, sub_of}
 use Rattle.squall_course.specs.Moves.{is_incoming}
 use Rattle.squall_plan.specs.Ranges.{owner_of}
 use Rattle.squall_report.specs.declared.report.ReportKind.{ReportKind}
-use Rattle.squall_report.specs.declared.report.ReportKind.TheVariants.{Loaded as LoadReport, Done as DoneReport}
+use Rattle.squall_report.specs.declared.report.ReportKind.TheVariants.{Done as DoneReport}
 use Rattle.squall_report.specs.Issues.{PlanPair}
 use Rattle.squall_board.specs.Boards.{board_join, report_board}
 use Rattle.squall_part.specs.declared.loading.LoadFault.{LoadFault}
@@ -15,7 +15,8 @@ use Rattle.squall_part.specs.declared.loading.Load.{Load}
 use Rattle.squall_part.specs.declared.loading.Load.TheVariants.{Again, Loaded}
 use Rattle.squall_part.specs.declared.finishing.FinishFault.{FinishFault}
 use Rattle.squall_part.specs.declared.finishing.FinishFault.TheVariants.{NotOpen, NotAll, NothingDue, NoMemory}
-use Rattle.squall_part.specs.Chunks.{ChunkValue}
+use Rattle.squall_protocol.specs.Chunks.{ChunkValue, load_report}
+use Rattle.squall_protocol.specs.Firsts.{IsRun}
 use Rattle.squall_part.specs.Parts.{PartValue, known_to, course_of_part, opened_at, loaded_by, with_loaded}
 
 -- each key of the chunk moves from its source to its destination in its sub-plan, and that is the partition
@@ -38,10 +39,6 @@ AllLoaded p c = (k : ℕ) → span_has c.span k ≡ true → has (loaded_by p c.
 abbrev pub SomeMissing : PartValue → ChunkValue → Type 0
 SomeMissing p c = (k : ℕ) × (span_has c.span k ≡ true) × (has (loaded_by p c.number) k ≡ false)
 
--- the report of the load of the whole chunk
-abbrev pub load_report : ChunkValue → ReportKind PlanPair
-load_report c = LoadReport c.number c.sub c.dest c.span
-
 -- the keys that were not loaded are held now, all are loaded, and the board has the report
 abbrev pub after_load : PartValue → ChunkValue → PartValue
 after_load p c =
@@ -51,13 +48,13 @@ after_load p c =
       logs = with_loaded c.number (insert_span c.span (loaded_by p c.number)) p.logs;
     }
 
--- the answer to a chunk
+-- the answer to a chunk; memory is missing only where the chunk may be loaded, and some key of it was not
 abbrev pub IsLoaded : PartValue → ChunkValue → Result Load LoadFault → PartValue → Type 0
 IsLoaded p c (Ok (Loaded report)) q = MayLoad p c × SomeMissing p c × (report ≡ load_report c) × (q ≡ after_load p c)
 IsLoaded p c (Ok Again) q = MayLoad p c × AllLoaded p c × (q ≡ p)
 IsLoaded p c (Err NotOpenYet) q = ((course : Change) × (known_to p c.number ≡ Some course)) × (opened_at p c.number ≤ c.sub) × (q ≡ p)
 IsLoaded p c (Err Stranger) q = (MayLoad p c → ⊥) × ((course : Change) → known_to p c.number ≡ Some course → c.sub < opened_at p c.number) × (q ≡ p)
-IsLoaded p c (Err NoRoom) q = q ≡ p
+IsLoaded p c (Err NoRoom) q = MayLoad p c × SomeMissing p c × (q ≡ p)
 
 -- ---- the end of a sub-plan
 
@@ -72,13 +69,6 @@ is_missing p sub k = comes_in p sub k && not (has (loaded_by p (course_of_part p
 abbrev pub done_report : PartValue → ℕ → ReportKind PlanPair
 done_report p sub = DoneReport (course_of_part p).number sub p.id
 
--- the span is the longest run of keys for which the test is true that begins at the least of them
-pub record IsRun (test : ℕ → Bool) (s : Interval) : Type 0 where
-  pub some : s.lo < s.hi
-  pub keys : (k : ℕ) → s.lo ≤ k → k < s.hi → test k ≡ true
-  pub least : (k : ℕ) → test k ≡ true → s.lo ≤ k
-  pub longest : test s.hi ≡ false
-
 abbrev pub after_finish : PartValue → ℕ → PartValue
 after_finish p sub = record p { board = board_join p.board (report_board (done_report p sub)) }
 
@@ -86,11 +76,11 @@ after_finish p sub = record p { board = board_join p.board (report_board (done_r
 abbrev pub IsOpen : PartValue → ℕ → Type 0
 IsOpen p sub = sub < opened_at p (course_of_part p).number
 
--- the answer where a sub-plan is to be finished
+-- the answer where a sub-plan is to be finished; memory is missing only where the sub-plan is open
 abbrev pub IsFinished : PartValue → ℕ → Result (ReportKind PlanPair) FinishFault → PartValue → Type 0
 IsFinished p sub (Ok report) q =
     IsOpen p sub × ((k : ℕ) → is_missing p sub k ≡ false) × ((k : ℕ) × (comes_in p sub k ≡ true)) × (report ≡ done_report p sub) × (q ≡ after_finish p sub)
 IsFinished p sub (Err NotOpen) q = (opened_at p (course_of_part p).number ≤ sub) × (q ≡ p)
 IsFinished p sub (Err (NotAll s)) q = IsOpen p sub × IsRun (is_missing p sub) s × (q ≡ p)
 IsFinished p sub (Err NothingDue) q = IsOpen p sub × ((k : ℕ) → comes_in p sub k ≡ false) × (q ≡ p)
-IsFinished p sub (Err NoMemory) q = q ≡ p
+IsFinished p sub (Err NoMemory) q = IsOpen p sub × (q ≡ p)

@@ -3,14 +3,13 @@
 use Rattle.std.specs.Prelude.{◌≡◌, ◌≢◌, ℕ, ◌==◌, ◌⊎◌, List, [], ◌∷◌, map, filter, Option, None, Some, if◌then◌else◌}
 use Rattle.std.specs.Option.{option_map}
 use Rattle.std.specs.List.{find, AllByRecursion}
-use Rattle.squall_join.specs.declared.flat.Flat.{Flat}
-use Rattle.squall_join.specs.declared.flat.Flat.TheVariants.{Unknown, One, Clash}
+use Rattle.squall_join.specs.declared.flat.Flat.TheVariants.{Unknown}
 use Rattle.squall_span.specs.Spans.{Interval, IsSet}
 use Rattle.squall_plan.specs.declared.range.PlanRange.{PlanRange}
 use Rattle.squall_course.specs.Change.{Change, ArePlans}
-use Rattle.squall_report.specs.Issues.{PlanPair}
 use Rattle.squall_board.specs.Boards.{BoardValue, IsBoard, empty_board, issued, opened_count}
 use Rattle.squall_board.specs.CourseRoute.{course_of_board}
+use Rattle.squall_protocol.specs.Known.{course_under}
 
 -- what a partition did under a course: the keys that it gave on, and those that it loaded
 pub record Log : Type 0 where
@@ -30,12 +29,6 @@ pub record PartValue : Type 0 where
   pub logs : List Log
 
 -- ---- which courses it knows
-
--- the course of a number and what is issued under it, where that is one pair of plans
-abbrev pub course_under : ℕ → Flat PlanPair → Option Change
-course_under n Unknown = None
-course_under n (One pair) = Some (record { number = n; old = pair.old; new = pair.new })
-course_under n Clash = None
 
 -- a partition knows its first course, and each other one that its board tells of
 abbrev pub known_course : Change → BoardValue → ℕ → Option Change

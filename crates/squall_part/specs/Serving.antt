@@ -1,18 +1,14 @@
 -- What a partition replies where it is asked for a key (that a partition which gave a key on says where: Squall, SIGMOD 2015; the
 -- numbers that keep replies of several reconfigurations apart are this project's).
-use Rattle.std.specs.Prelude.{◌≡◌, ℕ, ◌<◌, ◌≤◌, ◌⊎◌, true, false, Some}
+use Rattle.std.specs.Prelude.{◌≡◌, ℕ, ◌<◌, ◌≤◌, true, false, Some}
 use Rattle.squall_span.specs.Spans.{has}
 use Rattle.squall_plan.specs.Ranges.{owner_of}
 use Rattle.squall_course.specs.Change.{Change}
 use Rattle.squall_course.specs.Subplans.{moves}
-use Rattle.squall_router.specs.declared.errand.Reply.{Reply}
-use Rattle.squall_router.specs.declared.errand.Reply.TheVariants.{Held, Moved, Pending, Behind, Elsewhere}
+use Rattle.squall_errand.specs.declared.errand.Reply.{Reply}
+use Rattle.squall_errand.specs.declared.errand.Reply.TheVariants.{Held, Moved, Pending, Behind, Elsewhere}
+use Rattle.squall_protocol.specs.Firsts.{IsGreatest}
 use Rattle.squall_part.specs.Parts.{PartValue, known_to, course_of_part, given_by, loaded_by}
-
--- the greatest number for which the relation holds, or 0 where there is none
-pub record IsGreatest (R : ℕ → Type 0) (g : ℕ) : Type 0 where
-  pub top : (n : ℕ) → R n → n ≤ g
-  pub reached : (g ≡ 0) ⊎ R g
 
 -- the partition gave the key under the number, whose course it knows
 abbrev pub GaveUnder : PartValue → ℕ → ℕ → Type 0

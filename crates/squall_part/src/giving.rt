@@ -2,7 +2,7 @@
 
 ghost use Rattle.std.specs.Prelude.{◌≡◌, ◌+◌, ◌≤◌, ◌<◌, OnOk, OnErr};
 ghost use Rattle.squall_key.specs.Keys.{part_limit};
-ghost use Rattle.squall_part.specs.Chunks.{chunk_with};
+ghost use Rattle.squall_protocol.specs.Chunks.{chunk_with};
 ghost use Rattle.squall_part.specs.Parts.{course_of_part};
 ghost use Rattle.squall_part.specs.Logs.{IsLogAt};
 ghost use Rattle.squall_part.specs.Steps.{given_on};
@@ -10,10 +10,10 @@ ghost use Rattle.squall_span.specs.Spans.{interval};
 ghost use Rattle.squall_part.specs.declared.giving.GiveFault.TheVariants.{NoMemory};
 ghost use Rattle.squall_part.specs.Giving.{IsGiven, IsGivenAt, after_giving};
 
-use crate::chunk::Chunk;
 use crate::moving::hand_over;
 use crate::part::Part;
 use squall_key::{Bound, Key, PartId};
+use squall_protocol::Chunk;
 use squall_span::Span;
 use std::alloc::AllocError;
 use thiserror::Error;

@@ -3,7 +3,7 @@
 ghost use Rattle.std.specs.Prelude.{◌≡◌, ◌<◌, ◌≤◌, ℕ, true, false};
 ghost use Rattle.squall_key.specs.Keys.{top};
 ghost use Rattle.squall_span.specs.Spans.{Interval, span_has, has, IsSet};
-ghost use Rattle.squall_router.specs.declared.errand.Reply.{Reply};
+ghost use Rattle.squall_errand.specs.declared.errand.Reply.{Reply};
 ghost use Rattle.squall_part.specs.Parts.{course_of_part, given_by, loaded_by};
 ghost use Rattle.squall_part.specs.Giving.{after_giving};
 ghost use Rattle.squall_part.specs.Serving.{IsLastGiven, IsLastComing, IsReply};

@@ -2,7 +2,6 @@
 #![tactic(auto)]
 
 mod absorbing;
-mod chunk;
 mod finishing;
 mod giving;
 mod knowing;
@@ -13,9 +12,9 @@ mod moving;
 mod part;
 mod serving;
 
-pub use chunk::Chunk;
 pub use finishing::FinishFault;
 pub use giving::GiveFault;
 pub use laws::{given_keys_are_gone, one_last_number, one_reply, partitions_keep_sets};
 pub use loading::{Load, LoadFault};
 pub use part::Part;
+pub use squall_protocol::Chunk;

@@ -4,15 +4,16 @@ ghost use Rattle.std.specs.Prelude.{◌≡◌, ◌↔◌, IsTrue, IfOk, IfErr, O
 ghost use Rattle.std.specs.List.{find};
 ghost use Rattle.std.specs.List.Sorted.{IsNonDecreasingBy};
 ghost use Rattle.squall_part.specs.Steps.{IsLoadPlace};
-ghost use Rattle.squall_part.specs.Carried.{ends_beyond, carries, Carried};
+ghost use Rattle.squall_protocol.specs.Carried.{ends_beyond, carries, Carried};
 ghost use Rattle.squall_part.specs.declared.loading.LoadFault.TheVariants.{NoMemory};
-ghost use Rattle.squall_part.specs.Loading.{IsLoaded, MayLoad, AllLoaded, SomeMissing, load_report, after_load};
+ghost use Rattle.squall_part.specs.Loading.{IsLoaded, MayLoad, AllLoaded, SomeMissing, after_load};
+ghost use Rattle.squall_protocol.specs.Chunks.{load_report};
 
-use crate::chunk::Chunk;
 use crate::moving::load_keys;
 use crate::part::Part;
 use squall_course::{Course, Move, Status};
 use squall_key::Bound;
+use squall_protocol::Chunk;
 use squall_report::Report;
 use std::alloc::AllocError;
 use thiserror::Error;

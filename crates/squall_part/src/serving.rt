@@ -8,8 +8,8 @@ ghost use Rattle.squall_part.specs.Serving.{IsReply};
 
 use crate::log::{Log, above, number_of};
 use crate::part::Part;
+use squall_errand::Reply;
 use squall_key::{Key, PartId};
-use squall_router::Reply;
 
 impl Part {
     /// Whether it gave the key by the log's course, which it knows.

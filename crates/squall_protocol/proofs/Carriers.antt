@@ -5,7 +5,7 @@ use Rattle.std.specs.List.{slice_get}
 use Rattle.std.proofs.lemmas.Bool.{cases_Bool, cases_lt, cases_eq, both_ways}
 use Rattle.squall_key.specs.Keys.{top}
 use Rattle.squall_span.specs.Spans.{span_has}
-use Rattle.squall_part.specs.Chunks.{ChunkValue}
+use Rattle.squall_protocol.specs.Chunks.{ChunkValue}
 use Rattle.squall_protocol.specs.Worlds.{WorldValue, WasBegun, is_part}
 use Rattle.squall_protocol.specs.Promises.{Carrier, Holder, Flight, IsInFlight, Carries, OneCarrier, TrueReports, OneDestination, ChunksHaveNodes}
 use Rattle.squall_protocol.proofs.Courses.{old_owner, new_owner, sub_in, Moves, single_dest, moving_key, is_incoming_so}

@@ -12,8 +12,8 @@ use Rattle.squall_course.specs.Subplans.{sub_of}
 use Rattle.squall_course.specs.Moves.{is_incoming}
 use Rattle.squall_report.specs.Cells.{place_at}
 use Rattle.squall_report.specs.Tests.{Tests, done_tests}
-use Rattle.squall_part.specs.Chunks.{ChunkValue}
-use Rattle.squall_part.specs.Giving.{AreFirst}
+use Rattle.squall_protocol.specs.Chunks.{ChunkValue}
+use Rattle.squall_protocol.specs.Firsts.{AreFirst}
 use Rattle.squall_protocol.specs.declared.event.Node.{Node}
 use Rattle.squall_protocol.specs.declared.event.Node.TheVariants.{Part}
 use Rattle.squall_protocol.specs.Worlds.{WorldValue, course_at}

@@ -4,7 +4,7 @@ use Rattle.std.specs.Prelude.{Some}
 use Rattle.std.specs.List.{slice_get}
 use Rattle.std.proofs.lemmas.Bool.{both_ways, eqb-true, eq-eqb, and_parts, and_from, and_right, or_cases, or_parts, or_from, or_left, or_right, not-true, not_from_false, false_from_ne_true}
 use Rattle.squall_span.specs.Spans.{span_has}
-use Rattle.squall_part.specs.Chunks.{ChunkValue}
+use Rattle.squall_protocol.specs.Chunks.{ChunkValue}
 use Rattle.squall_protocol.specs.declared.event.Node.TheVariants.{Part}
 use Rattle.squall_protocol.specs.Worlds.{WorldValue}
 use Rattle.squall_protocol.specs.Steps.{after_give}
@@ -13,7 +13,7 @@ use Rattle.squall_protocol.proofs.Threes.{three}
 use Rattle.squall_protocol.proofs.Courses.{old_owner, new_owner, sub_in, Moves}
 use Rattle.squall_protocol.proofs.Kept.{Hears, IsNewest, IsGiven, IsLoaded, IsSent, HasChunk, Kept}
 use Rattle.squall_span.specs.Spans.{Interval}
-use Rattle.squall_part.specs.Chunks.{chunk_with}
+use Rattle.squall_protocol.specs.Chunks.{chunk_with}
 use Rattle.squall_protocol.proofs.Later.{Later, true_later, opened_now}
 use Rattle.squall_protocol.proofs.Lists.{at_front, at_end, at_either}
 use Rattle.squall_protocol.proofs.Places.{newest_is_last, not_given}

@@ -9,7 +9,7 @@ use Rattle.squall_plan.specs.Ranges.{owner_of}
 use Rattle.squall_report.specs.Issues.{PlanPair}
 use Rattle.squall_report.specs.Cells.{CellPlace}
 use Rattle.squall_report.specs.Tests.{Tests}
-use Rattle.squall_part.specs.Chunks.{ChunkValue}
+use Rattle.squall_protocol.specs.Chunks.{ChunkValue}
 use Rattle.squall_protocol.specs.declared.event.Node.{Node}
 use Rattle.squall_protocol.specs.declared.event.Node.TheVariants.{Part}
 use Rattle.squall_protocol.specs.Worlds.{WorldValue, WasBegun, pair_at, is_part}

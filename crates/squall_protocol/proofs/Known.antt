@@ -8,7 +8,7 @@ use Rattle.squall_course.specs.Change.{Change}
 use Rattle.squall_report.specs.Issues.{PlanPair}
 use Rattle.squall_report.specs.Tests.{Tests}
 use Rattle.squall_board.specs.CourseRoute.{IsCourseBy}
-use Rattle.squall_part.specs.Parts.{course_under}
+use Rattle.squall_protocol.specs.Known.{course_under}
 use Rattle.squall_protocol.specs.Worlds.{WorldValue, course_at, first_course, WasBegun, pair_at}
 use Rattle.squall_protocol.specs.Knowledge.{known_by}
 use Rattle.squall_protocol.proofs.Kept.{Hears, IsNewest, TrueFacts}

@@ -1,3 +1,4 @@
+pub mod Greatest
 pub mod Courses
 pub mod Kept
 pub mod Later

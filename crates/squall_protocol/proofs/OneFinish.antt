@@ -10,7 +10,7 @@ use Rattle.squall_report.specs.Cells.{place_at}
 use Rattle.squall_report.specs.Tests.{done_tests}
 use Rattle.squall_board.specs.CourseRoute.{IsCourseBy}
 use Rattle.squall_board.specs.CourseRouteLaws.{one_course}
-use Rattle.squall_part.specs.Loading.{IsRun}
+use Rattle.squall_protocol.specs.Firsts.{IsRun}
 use Rattle.squall_protocol.specs.declared.event.Node.TheVariants.{Part}
 use Rattle.squall_protocol.specs.declared.answer.Answer.{Answer}
 use Rattle.squall_protocol.specs.declared.answer.Answer.TheVariants.{Finished, Refused}

@@ -4,8 +4,8 @@ use Rattle.std.proofs.lemmas.Bool.{both_ways}
 use Rattle.squall_span.specs.Spans.{Interval, interval, span_has}
 use Rattle.squall_span.specs.SpanLaws.{inside}
 use Rattle.squall_course.specs.Change.{Change}
-use Rattle.squall_part.specs.Chunks.{ChunkValue}
-use Rattle.squall_part.specs.Giving.{AreFirst}
+use Rattle.squall_protocol.specs.Chunks.{ChunkValue}
+use Rattle.squall_protocol.specs.Firsts.{AreFirst}
 use Rattle.squall_protocol.specs.declared.answer.Answer.{Answer}
 use Rattle.squall_protocol.specs.declared.answer.Answer.TheVariants.{Gave, Refused}
 use Rattle.squall_protocol.specs.declared.answer.Refusal.TheVariants.{NoSuch, NotOpen, NothingLeft, ZeroMax}

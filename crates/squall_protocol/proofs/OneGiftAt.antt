@@ -3,7 +3,7 @@ use Rattle.std.proofs.Common.{◌≡◌, ℕ, ◌+◌, true, false, length, refl
 use Rattle.std.proofs.lemmas.Bool.{both_ways}
 use Rattle.squall_span.specs.Spans.{interval}
 use Rattle.squall_course.specs.Change.{Change}
-use Rattle.squall_part.specs.Chunks.{ChunkValue}
+use Rattle.squall_protocol.specs.Chunks.{ChunkValue}
 use Rattle.squall_protocol.specs.declared.answer.Answer.{Answer}
 use Rattle.squall_protocol.specs.declared.answer.Answer.TheVariants.{Gave, Refused}
 use Rattle.squall_protocol.specs.declared.answer.Refusal.TheVariants.{NoSuch, NotOpen, NotOutgoing, Given, NotHeld}

@@ -5,9 +5,9 @@ use Rattle.squall_plan.specs.Ranges.{owner_of}
 use Rattle.squall_course.specs.Change.{Change}
 use Rattle.squall_board.specs.CourseRoute.{IsCourseBy}
 use Rattle.squall_board.specs.CourseRouteLaws.{one_course}
-use Rattle.squall_router.specs.declared.errand.Reply.{Reply}
-use Rattle.squall_router.specs.declared.errand.Reply.TheVariants.{Held, Moved, Pending, Behind, Elsewhere}
-use Rattle.squall_part.proofs.Replies.{same_greatest}
+use Rattle.squall_errand.specs.declared.errand.Reply.{Reply}
+use Rattle.squall_errand.specs.declared.errand.Reply.TheVariants.{Held, Moved, Pending, Behind, Elsewhere}
+use Rattle.squall_protocol.proofs.Greatest.{same_greatest}
 use Rattle.squall_protocol.specs.Knowledge.{PartTests, Knows, GaveUnder, ComesUnder, IsLastGiven, IsLastComing, Serves}
 
 -- the course of a number is one

@@ -9,8 +9,8 @@ use Rattle.squall_protocol.proofs.Courses.{new_owner, Moves}
 use Rattle.squall_protocol.proofs.Kept.{Hears, IsNewest, IsGiven, Kept}
 use Rattle.squall_course.specs.Change.{Change}
 use Rattle.squall_board.specs.CourseRoute.{IsRoutedBy}
-use Rattle.squall_router.specs.declared.errand.Reply.{Reply}
-use Rattle.squall_router.specs.declared.errand.Reply.TheVariants.{Held, Moved, Pending, Behind, Elsewhere}
+use Rattle.squall_errand.specs.declared.errand.Reply.{Reply}
+use Rattle.squall_errand.specs.declared.errand.Reply.TheVariants.{Held, Moved, Pending, Behind, Elsewhere}
 use Rattle.squall_protocol.specs.declared.event.Event.{Event}
 use Rattle.squall_protocol.specs.declared.answer.Answer.{Answer}
 use Rattle.squall_protocol.specs.declared.answer.Answer.TheVariants.{Served, Refused}

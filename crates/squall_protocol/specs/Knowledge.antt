@@ -6,10 +6,10 @@ use Rattle.squall_course.specs.Subplans.{moves}
 use Rattle.squall_course.specs.Moves.{is_incoming, is_outgoing}
 use Rattle.squall_report.specs.Tests.{Tests}
 use Rattle.squall_board.specs.CourseRoute.{IsCourseBy}
-use Rattle.squall_router.specs.declared.errand.Reply.{Reply}
-use Rattle.squall_router.specs.declared.errand.Reply.TheVariants.{Held, Moved, Pending, Behind, Elsewhere}
-use Rattle.squall_part.specs.Parts.{course_under}
-use Rattle.squall_part.specs.Serving.{IsGreatest}
+use Rattle.squall_errand.specs.declared.errand.Reply.{Reply}
+use Rattle.squall_errand.specs.declared.errand.Reply.TheVariants.{Held, Moved, Pending, Behind, Elsewhere}
+use Rattle.squall_protocol.specs.Firsts.{IsGreatest}
+use Rattle.squall_protocol.specs.Known.{course_under}
 use Rattle.squall_protocol.specs.declared.event.Node.TheVariants.{Part}
 use Rattle.squall_protocol.specs.Worlds.{WorldValue, first_course}
 

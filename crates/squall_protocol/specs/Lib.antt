@@ -8,11 +8,10 @@ pub use Rattle.squall_course.specs.Moves
 pub use Rattle.squall_report.specs.Facts
 pub use Rattle.squall_report.specs.Tests
 pub use Rattle.squall_board.specs.CourseRoute
-pub use Rattle.squall_part.specs.Chunks
-pub use Rattle.squall_part.specs.Carried
-pub use Rattle.squall_part.specs.Giving
-pub use Rattle.squall_part.specs.Loading
-pub use Rattle.squall_part.specs.Serving
+pub mod Known
+pub mod Firsts
+pub mod Chunks
+pub mod Carried
 pub mod Worlds
 pub mod Knowledge
 pub mod Steps

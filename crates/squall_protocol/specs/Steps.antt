@@ -14,11 +14,10 @@ use Rattle.squall_report.specs.Issues.{plan_pair}
 use Rattle.squall_report.specs.Cells.{place_at}
 use Rattle.squall_report.specs.Tests.{Tests, joined_tests, loaded_tests, done_tests, opened_tests, issued_tests}
 use Rattle.squall_board.specs.CourseRoute.{IsCourseBy, IsRoutedBy}
-use Rattle.squall_leader.specs.Leaders.{last_number}
-use Rattle.squall_part.specs.Chunks.{ChunkValue}
-use Rattle.squall_part.specs.Giving.{AreFirst}
-use Rattle.squall_part.specs.Carried.{Carried}
-use Rattle.squall_part.specs.Loading.{IsRun, load_report}
+use Rattle.squall_protocol.specs.Chunks.{ChunkValue, load_report}
+use Rattle.squall_protocol.specs.Carried.{Carried}
+use Rattle.squall_protocol.specs.Firsts.{AreFirst, IsRun}
+use Rattle.squall_protocol.specs.Known.{last_number}
 use Rattle.squall_protocol.specs.declared.event.Node.{Node}
 use Rattle.squall_protocol.specs.declared.event.Node.TheVariants.{Leader, Part, Router}
 use Rattle.squall_protocol.specs.declared.event.Event.{Event}

@@ -9,9 +9,13 @@ use Rattle.squall_plan.specs.Ranges.{owner_of, names}
 use Rattle.squall_course.specs.Change.{Change}
 use Rattle.squall_report.specs.Issues.{PlanPair, plan_pair}
 use Rattle.squall_report.specs.Tests.{Tests, SameTests, no_tests, issued_tests}
-use Rattle.squall_part.specs.Chunks.{ChunkValue}
+use Rattle.squall_protocol.specs.Chunks.{ChunkValue}
 use Rattle.squall_protocol.specs.declared.event.Node.{Node}
 use Rattle.squall_protocol.specs.declared.event.Node.TheVariants.{Leader, Part, Router}
+
+-- the most routers that a world may have
+abbrev pub most_routers : ℕ
+most_routers = 1000
 
 pub record WorldValue : Type 0 where
   -- plan n is the new plan of course n, and the old one of course n + 1

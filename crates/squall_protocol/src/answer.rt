@@ -1,9 +1,9 @@
 //! Answers.
 
+use crate::chunk::Chunk;
+use squall_errand::Reply;
 use squall_key::PartId;
-use squall_part::Chunk;
 use squall_report::Report;
-use squall_router::Reply;
 use squall_span::Span;
 use thiserror::Error;
 

@@ -3,11 +3,13 @@
 #![tactic(auto)]
 
 mod answer;
+mod chunk;
 mod event;
 mod laws;
 mod promise;
 
 pub use answer::{Answer, Refusal};
+pub use chunk::Chunk;
 pub use event::{Event, Node};
 pub use laws::{one_answer, one_run};
 pub use promise::promises;

@@ -1,6 +1,6 @@
 use Rattle.std.proofs.Common.{◌≡◌, ◌<◌, Some, None, rules}
 use Rattle.std.specs.List.{find}
-use Rattle.squall_part.specs.Carried.{ends_beyond}
+use Rattle.squall_protocol.specs.Carried.{ends_beyond}
 use Rattle.squall_part.proofs.Carrying.{moves_rise, carried_some, carried_none}
 use Rattle.squall_part.proofs.loading.fits.Goals as goal
 

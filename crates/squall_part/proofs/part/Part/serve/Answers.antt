@@ -2,7 +2,7 @@ use Rattle.std.proofs.Common.{◌≡◌, ◌≤◌, ◌<◌, false, Some, option
 use Rattle.squall_span.specs.Spans.{has}
 use Rattle.squall_plan.specs.Ranges.{owner_of}
 use Rattle.squall_part.specs.Logs.{number_in}
-use Rattle.squall_router.specs.declared.errand.Reply.TheVariants.{Moved}
+use Rattle.squall_errand.specs.declared.errand.Reply.TheVariants.{Moved}
 use Rattle.squall_part.specs.Serving.{IsReply}
 use Rattle.squall_part.proofs.Served.{pending, moved, behind}
 use Rattle.squall_part.proofs.part.Part.serve.Goals as goal

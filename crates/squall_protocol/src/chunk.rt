@@ -2,7 +2,7 @@
 
 ghost use Rattle.std.specs.Prelude.{◌≡◌, ◌≤◌, ◌<◌, true};
 ghost use Rattle.squall_key.specs.Keys.{part_limit};
-ghost use Rattle.squall_part.specs.Chunks.{chunk_of, is_chunk};
+ghost use Rattle.squall_protocol.specs.Chunks.{chunk_of, is_chunk};
 
 use squall_key::PartId;
 use squall_span::Span;
@@ -21,7 +21,7 @@ pub struct Chunk {
 
 impl Model for Chunk {
     ghost use Rattle.std.specs.Prelude.{◌≡◌, true};
-    ghost use Rattle.squall_part.specs.Chunks.{ChunkValue, chunk_with, is_chunk};
+    ghost use Rattle.squall_protocol.specs.Chunks.{ChunkValue, chunk_with, is_chunk};
 
     ghost Value = { ChunkValue };
 
