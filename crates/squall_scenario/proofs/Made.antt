@@ -1,5 +1,5 @@
 -- How a world is made, and how an event happens in one.
-use Rattle.std.proofs.Common.{◌≡◌, ℕ, ◌<◌, ◌≤◌, nat_lt, true, false, List, [], ◌++◌, Result, Ok, Err, Option, None, Some, sym, subst, refl, ap, arith}
+use Rattle.std.proofs.Common.{◌≡◌, ℕ, ◌<◌, ◌≤◌, nat_lt, true, false, List, [], ◌++◌, Result, Ok, Err, Option, None, Some, sym, subst, refl, ap, ◌∙◌, arith}
 use Rattle.std.specs.Prelude.{IfOk, IsErr}
 use Rattle.std.proofs.lemmas.List.{append-nil}
 use Rattle.std.proofs.lemmas.Bool.{false≢true}
@@ -12,10 +12,12 @@ use Rattle.squall_language.specs.declared.reason.Reason.{Reason}
 use Rattle.squall_language.specs.declared.reason.Reason.TheVariants.{Limit}
 use Rattle.squall_protocol.specs.declared.event.Event.{Event}
 use Rattle.squall_protocol.specs.declared.answer.Answer.{Answer}
-use Rattle.squall_protocol.specs.Worlds.{WorldValue, start}
+use Rattle.squall_protocol.specs.Worlds.{WorldValue, SameWorld, most_routers, start}
 use Rattle.squall_protocol.specs.Steps.{Step}
 use Rattle.squall_event_text.specs.declared.events.Unfit.{Unfit}
 use Rattle.squall_event_text.specs.AnswerText.{answer_line}
+use Rattle.squall_protocol.proofs.Same.{same_world}
+use Rattle.squall_world.specs.declared.steps.WorldFault.{WorldFault}
 use Rattle.squall_world.specs.Nets.{NetValue}
 use Rattle.squall_world.specs.Views.{view}
 use Rattle.squall_scenario.specs.State.{StageOf, StageState, BothPlans, InWorld, ScenarioOf, ScenarioState}
@@ -24,13 +26,14 @@ use Rattle.squall_scenario.specs.Replies.{Reply, limit_where, world_text, world_
 use Rattle.squall_scenario.specs.Answered.{Answers}
 
 -- the plans are known by other names
-pub start_between : (r : Result NetValue AllocError) (old new first second : List PlanRange) (routers : ℕ) → first ≡ old → second ≡ new → IfOk r (λ w. view w ≡ start first second routers) → IfOk r (λ w. view w ≡ start old new routers)
-start_between r old new first second routers e f h = subst (λ n. IfOk r (λ w. view w ≡ start old n routers)) f (subst (λ o. IfOk r (λ w. view w ≡ start o second routers)) e h)
+pub start_between : (r : Result NetValue WorldFault) (old new first second : List PlanRange) (routers : ℕ) → first ≡ old → second ≡ new → IfOk r (λ w. SameWorld (view w) (start first second routers)) → IfOk r (λ w. view w ≡ start old new routers)
+start_between (Ok w) old new first second routers e f h = same_world (view w) (start first second routers) h ∙ (λ i. start (e i) (f i) routers)
+start_between (Err fault) old new first second routers e f h = tt
 
-above : (n : ℕ) → 1000 < n → nat_lt 1000 n ≡ true
+above : (n : ℕ) → most_routers < n → nat_lt most_routers n ≡ true
 above n h = grind (arith, nat_tests)
 
-within : (n : ℕ) → n ≤ 1000 → nat_lt 1000 n ≡ false
+within : (n : ℕ) → n ≤ most_routers → nat_lt most_routers n ≡ false
 within n h = grind (arith, nat_tests)
 
 -- an allocation failed
@@ -39,13 +42,13 @@ not_answered (Ok why) out out' s reply h = absurd (false≢true h)
 not_answered (Err e) out out' s reply h = tt
 
 -- there are too many routers
-pub too_many : (s : ScenarioState) (old new : List PlanRange) (routers : ℕ) (out : List ℕ) → s.stage ≡ BothPlans old new → 1000 < routers → Answers (Ok (Some Limit)) out out s (world_reply s s.stage routers)
+pub too_many : (s : ScenarioState) (old new : List PlanRange) (routers : ℕ) (out : List ℕ) → s.stage ≡ BothPlans old new → most_routers < routers → Answers (Ok (Some Limit)) out out s (world_reply s s.stage routers)
 too_many s old new routers out stage many =
     subst (λ g. Answers (Ok (Some Limit)) out out s (world_reply s g routers)) (sym stage)
     (subst (λ b. Answers (Ok (Some Limit)) out out s (limit_where b (world_of s old new routers))) (sym (above routers many)) ([], sym (append-nil out), (refl, refl)))
 
 -- the world of the plans, and the scenario after it
-made : (l : ℕ) (stage : StageOf NetValue) (board : BoardValue) (feed : FeedValue) (old new : List PlanRange) (routers : ℕ) (w : WorldValue) (out out' : List ℕ) → stage_meant stage ≡ BothPlans old new → routers ≤ 1000 → w ≡ start old new routers
+made : (l : ℕ) (stage : StageOf NetValue) (board : BoardValue) (feed : FeedValue) (old new : List PlanRange) (routers : ℕ) (w : WorldValue) (out out' : List ℕ) → stage_meant stage ≡ BothPlans old new → routers ≤ most_routers → w ≡ start old new routers
     → out' ≡ out ++ world_text w.parts routers
     → Answers (Ok None) out out' (record { line = l; stage = InWorld w; board = empty_board; feed = feed }) (world_reply (meant (record { line = l; stage = stage; board = board; feed = feed })) (stage_meant stage) routers)
 made l stage board feed old new routers w out out' known few is grown =
@@ -56,7 +59,7 @@ made l stage board feed old new routers w out out' known few is grown =
     (world_text w.parts routers, grown, (ap (λ (v : WorldValue). world_text v.parts routers) is, ap (λ v. record { line = l; stage = InWorld v; board = empty_board; feed = feed }) is)))
 
 pub world_made : (l : ℕ) (stage : StageOf NetValue) (board : BoardValue) (feed : FeedValue) (s : ScenarioOf NetValue) (old new : List PlanRange) (routers : ℕ) (w : WorldValue) (out out' : List ℕ)
-    → record { line = l; stage = stage; board = board; feed = feed } ≡ s → stage_meant stage ≡ BothPlans old new → routers ≤ 1000 → w ≡ start old new routers → out' ≡ out ++ world_text w.parts routers
+    → record { line = l; stage = stage; board = board; feed = feed } ≡ s → stage_meant stage ≡ BothPlans old new → routers ≤ most_routers → w ≡ start old new routers → out' ≡ out ++ world_text w.parts routers
     → Answers (Ok None) out out' (record { line = l; stage = InWorld w; board = empty_board; feed = feed }) (world_reply (meant s) (meant s).stage routers)
 world_made l stage board feed s old new routers w out out' view_is known few is grown =
     subst (λ (u : ScenarioOf NetValue). Answers (Ok None) out out' (record { line = l; stage = InWorld w; board = empty_board; feed = feed }) (world_reply (meant u) (meant u).stage routers)) view_is

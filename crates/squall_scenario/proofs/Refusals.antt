@@ -23,7 +23,7 @@ use Rattle.squall_language.specs.Reasons.{text_of_reason, bad_line}
 use Rattle.squall_language.specs.ReportLines.{report_of}
 use Rattle.squall_language.specs.Endings.{EndsInBadLine, EndsInNoBadLine, HasNoBadLine}
 use Rattle.squall_protocol.specs.declared.event.Event.{Event}
-use Rattle.squall_protocol.specs.Worlds.{WorldValue, first_parts}
+use Rattle.squall_protocol.specs.Worlds.{WorldValue, most_routers, first_parts}
 use Rattle.squall_event_text.specs.declared.events.Unfit.{Unfit}
 use Rattle.squall_event_text.specs.declared.events.Unfit.TheVariants.{OverLimit, NoPlan as no_plan}
 use Rattle.squall_event_text.specs.EventLines.{event_of}
@@ -164,7 +164,7 @@ frame_good s (InWorld w) = tt
 world_good : (s : ScenarioState) (stage : StageState) (routers : ℕ) → NotBad (world_reply s stage routers)
 world_good s NoPlan routers = tt
 world_good s (OldPlan old) routers = tt
-world_good s (BothPlans old new) routers = limit_good (nat_lt 1000 routers) (world_of s old new routers) (world_lacks (length (first_parts old new)) routers)
+world_good s (BothPlans old new) routers = limit_good (nat_lt most_routers routers) (world_of s old new routers) (world_lacks (length (first_parts old new)) routers)
 world_good s (InWorld w) routers = tt
 
 event_good : (s : ScenarioState) (w : WorldValue) (event : Result Event Unfit) → NotBad (event_reply s w event)

@@ -25,7 +25,7 @@ use Rattle.squall_language.specs.ReportLines.{report_of}
 use Rattle.squall_language.specs.BoardText.{board_text}
 use Rattle.squall_protocol.specs.declared.event.Event.{Event}
 use Rattle.squall_protocol.specs.declared.answer.Answer.{Answer}
-use Rattle.squall_protocol.specs.Worlds.{WorldValue, first_parts, start}
+use Rattle.squall_protocol.specs.Worlds.{WorldValue, most_routers, first_parts, start}
 use Rattle.squall_protocol.specs.Steps.{Step}
 use Rattle.squall_event_text.specs.declared.events.Unfit.{Unfit}
 use Rattle.squall_event_text.specs.declared.events.Unfit.TheVariants.{OverLimit, NoPlan as no_plan}
@@ -158,14 +158,14 @@ frame_reply s (InWorld w) = Ends Order
 abbrev pub world_text : List ℕ → ℕ → List ℕ
 world_text parts routers = codes "world " ++ (decimal (length parts) ++ (codes " " ++ (decimal routers ++ codes "\n")))
 
--- world R: a world of the course with so many routers, at most 1000
+-- world R: a world of the course with so many routers, if there may be so many
 abbrev pub world_of : ScenarioState → List PlanRange → List PlanRange → ℕ → Reply
 world_of s old new routers = Goes (world_text (first_parts old new) routers) (record s { stage = InWorld (start old new routers); board = empty_board })
 
 abbrev pub world_reply : ScenarioState → StageState → ℕ → Reply
 world_reply s NoPlan routers = Ends Order
 world_reply s (OldPlan old) routers = Ends Order
-world_reply s (BothPlans old new) routers = limit_where (nat_lt 1000 routers) (world_of s old new routers)
+world_reply s (BothPlans old new) routers = limit_where (nat_lt most_routers routers) (world_of s old new routers)
 world_reply s (InWorld w) routers = Ends Order
 
 -- an event of the world, where there is one; else why the line is none

@@ -1,7 +1,8 @@
 //! The lines that make a world, and those of its events.
 
-ghost use Rattle.std.specs.Prelude.{◌≡◌, ◌≤◌, ◌++◌, IfOk, OnOk, string_bytes};
-ghost use Rattle.squall_protocol.specs.Worlds.{start};
+ghost use Rattle.std.specs.Prelude.{◌≡◌, ◌≤◌, ◌<◌, ◌↔◌, ◌++◌, IfOk, IfErr, OnOk, string_bytes};
+ghost use Rattle.squall_protocol.specs.Worlds.{most_routers, start};
+ghost use Rattle.squall_world.specs.declared.steps.WorldFault.TheVariants.{TooManyRouters};
 ghost use Rattle.squall_world.specs.Views.{view};
 ghost use Rattle.squall_scenario.specs.Replies.{world_text, world_reply, happen_reply};
 ghost use Rattle.squall_scenario.specs.Answered.{Answers};
@@ -10,32 +11,18 @@ ghost use Rattle.squall_scenario.specs.Stages.{meant};
 use crate::scenario::{Scenario, Stage};
 use squall_event_text::{Unfit, add_answer};
 use squall_language::Reason;
-use squall_plan::Plan;
 use squall_router::Router;
-use squall_world::{Event, World};
+use squall_world::{Event, World, WorldFault};
 use std::alloc::{AllocError, Global};
 
-/// The most routers of a world.
-const MOST_ROUTERS: u32 = 1000;
-
-/// The world of the course 1 between the plans, with so many routers.
-fn first_world(alloc: Global, old: &Plan, new: &Plan, routers: u32) -> Result<World, AllocError>
-    requires { routers ≤ 1000 }
-    ensures { IfOk result (λ w. view w ≡ start old.now new.now routers) }
-{
-    match World::new(alloc, old, new, routers) {
-        Ok(world) => Ok(world),
-        Err(_) => Err(AllocError),
-    }
-}
-
-/// The world of the router's first course, with so many routers.
-fn world_of(alloc: Global, router: &Router, routers: u32) -> Result<World, AllocError>
-    requires { routers ≤ 1000 }
-    ensures { IfOk result (λ w. view w ≡ start router.now.first.old router.now.first.new routers) }
+/// The world of the router's first course, with so many routers; or why there is none.
+fn world_of(alloc: Global, router: &Router, routers: u32) -> Result<World, WorldFault>
+    ensures ok { IfOk result (λ w. view w ≡ start router.now.first.old router.now.first.new routers) }
+    ensures few { OnOk result (routers ≤ most_routers) }
+    ensures err { IfErr result (λ e. (e ≡ TooManyRouters) ↔ (most_routers < routers)) }
 {
     let course = router.first();
-    first_world(alloc, course.old_plan(), course.new_plan(), routers)
+    World::new(alloc, course.old_plan(), course.new_plan(), routers)
 }
 
 /// Adds how many partitions and routers there are.
@@ -57,10 +44,11 @@ pub(crate) fn make_world(
     let Stage::Running(router) = &scenario.stage else {
         return Ok(Some(Reason::Order));
     };
-    if routers > MOST_ROUTERS {
-        return Ok(Some(Reason::Limit));
-    }
-    let world = world_of(*out.allocator(), router, routers)?;
+    let world = match world_of(*out.allocator(), router, routers) {
+        Ok(world) => world,
+        Err(WorldFault::TooManyRouters) => return Ok(Some(Reason::Limit)),
+        Err(WorldFault::NoMemory) => return Err(AllocError),
+    };
     add_world(&world, routers, out)?;
     scenario.stage = Stage::Happening(world);
     Ok(None)

@@ -7,8 +7,8 @@ use Rattle.squall_board.specs.BoardTests.{tests_of}
 use Rattle.squall_board.specs.CourseRoute.{IsRoutedBy}
 use Rattle.squall_board.specs.CourseRouteLaws.{board_course, board_routes}
 use Rattle.squall_router.specs.Routers.{RouterValue}
-use Rattle.squall_router.specs.declared.errand.Reply.{Reply}
-use Rattle.squall_router.specs.declared.errand.Reply.TheVariants.{Held, Moved, Pending, Behind, Elsewhere}
+use Rattle.squall_errand.specs.declared.errand.Reply.{Reply}
+use Rattle.squall_errand.specs.declared.errand.Reply.TheVariants.{Held, Moved, Pending, Behind, Elsewhere}
 use Rattle.squall_part.specs.Parts.{PartValue, IsPart, course_of_part}
 use Rattle.squall_part.specs.Serving.{IsReply}
 use Rattle.squall_protocol.specs.declared.event.Node.TheVariants.{Part, Router}

@@ -18,7 +18,8 @@ use Rattle.squall_board.specs.Boards.{IsBoard, board_join, report_board}
 use Rattle.squall_board.specs.BoardTests.{tests_of}
 use Rattle.squall_board.specs.BoardLaws.{issue_board_is}
 use Rattle.squall_part.specs.Parts.{PartValue, new_part}
-use Rattle.squall_leader.specs.Leaders.{LeaderValue, IsLeader, IsRunning, IsBegun, IsOver, waited_after, issue_report, last_number}
+use Rattle.squall_leader.specs.Leaders.{LeaderValue, IsLeader, IsRunning, IsBegun, IsOver, waited_after, issue_report}
+use Rattle.squall_protocol.specs.Known.{last_number}
 use Rattle.squall_protocol.specs.declared.event.Node.{Node}
 use Rattle.squall_protocol.specs.declared.event.Node.TheVariants.{Leader, Part}
 use Rattle.squall_protocol.specs.declared.answer.Answer.{Answer}

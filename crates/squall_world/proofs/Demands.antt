@@ -9,7 +9,7 @@ use Rattle.squall_part.specs.declared.giving.GiveFault.{GiveFault}
 use Rattle.squall_part.specs.declared.loading.LoadFault.{LoadFault}
 use Rattle.squall_part.specs.declared.loading.Load.TheVariants.{Again, Loaded}
 use Rattle.squall_part.specs.declared.finishing.FinishFault.{FinishFault}
-use Rattle.squall_part.specs.Chunks.{ChunkValue}
+use Rattle.squall_protocol.specs.Chunks.{ChunkValue}
 use Rattle.squall_part.specs.Parts.{PartValue, IsPart}
 use Rattle.squall_part.specs.Giving.{IsGiven, IsGivenAt}
 use Rattle.squall_protocol.specs.declared.event.Node.TheVariants.{Part}

@@ -12,9 +12,10 @@ use Rattle.squall_board.specs.BoardTests.{tests_of}
 use Rattle.squall_board.specs.CourseRouteLaws.{board_course}
 use Rattle.squall_part.specs.declared.giving.GiveFault.{GiveFault}
 use Rattle.squall_part.specs.declared.giving.GiveFault.TheVariants.{NotOpen as GiveNotOpen, NothingLeft as GiveNothingLeft, ZeroMax as GiveZeroMax, NotOutgoing as GiveNotOutgoing, Given as GiveGiven, NotHeld as GiveNotHeld, NoMemory as GiveNoMemory}
-use Rattle.squall_part.specs.Chunks.{ChunkValue}
+use Rattle.squall_protocol.specs.Chunks.{ChunkValue}
 use Rattle.squall_part.specs.Parts.{PartValue, IsPart, course_of_part}
-use Rattle.squall_part.specs.Giving.{IsChunkOf, IsGiven, IsGivenAt, AreFirst, after_giving, goes_out}
+use Rattle.squall_part.specs.Giving.{IsChunkOf, IsGiven, IsGivenAt, after_giving, goes_out}
+use Rattle.squall_protocol.specs.Firsts.{AreFirst}
 use Rattle.squall_protocol.specs.declared.event.Node.TheVariants.{Part}
 use Rattle.squall_protocol.specs.declared.answer.Answer.{Answer}
 use Rattle.squall_protocol.specs.declared.answer.Answer.TheVariants.{Gave, Refused}

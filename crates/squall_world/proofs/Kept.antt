@@ -4,7 +4,7 @@ use Rattle.std.specs.Prelude.{is_some}
 use Rattle.std.specs.List.{slice_get}
 use Rattle.std.proofs.lemmas.Option.{same_Some}
 use Rattle.squall_key.specs.Keys.{part_limit}
-use Rattle.squall_part.specs.Chunks.{ChunkValue}
+use Rattle.squall_protocol.specs.Chunks.{ChunkValue}
 use Rattle.squall_part.specs.Parts.{PartValue}
 use Rattle.squall_router.specs.Routers.{RouterValue}
 use Rattle.squall_leader.specs.Leaders.{LeaderValue}

@@ -18,9 +18,10 @@ use Rattle.squall_part.specs.declared.loading.LoadFault.{LoadFault}
 use Rattle.squall_part.specs.declared.loading.LoadFault.TheVariants.{NotOpen as LoadNotOpen, Stranger as LoadStranger, NoMemory as LoadNoMemory}
 use Rattle.squall_part.specs.declared.finishing.FinishFault.{FinishFault}
 use Rattle.squall_part.specs.declared.finishing.FinishFault.TheVariants.{NotOpen as FinishNotOpen, NotAll as FinishNotAll, NothingDue as FinishNothingDue, NoMemory as FinishNoMemory}
-use Rattle.squall_part.specs.Chunks.{ChunkValue}
+use Rattle.squall_protocol.specs.Chunks.{ChunkValue, load_report}
 use Rattle.squall_part.specs.Parts.{PartValue, IsPart, known_to, opened_at, course_of_part}
-use Rattle.squall_part.specs.Loading.{IsRun, IsLoaded, IsFinished, MayLoad as MayLoadPart, after_load as part_after_load, load_report, done_report, after_finish}
+use Rattle.squall_part.specs.Loading.{IsLoaded, IsFinished, MayLoad as MayLoadPart, after_load as part_after_load, done_report, after_finish}
+use Rattle.squall_protocol.specs.Firsts.{IsRun}
 use Rattle.squall_protocol.specs.declared.event.Node.TheVariants.{Part}
 use Rattle.squall_protocol.specs.declared.answer.Answer.{Answer}
 use Rattle.squall_protocol.specs.declared.answer.Answer.TheVariants.{Loaded, Again, Finished, Refused}

@@ -3,6 +3,7 @@ use Rattle.std.proofs.Common.{◌≡◌, ◌↔◌, ◌<◌, ◌≤◌, ℕ, Res
 use Rattle.std.specs.declared.alloc.AllocError.{AllocError}
 use Rattle.squall_protocol.specs.declared.event.Event.{Event}
 use Rattle.squall_protocol.specs.declared.answer.Answer.{Answer}
+use Rattle.squall_protocol.specs.Worlds.{most_routers}
 use Rattle.squall_protocol.specs.Steps.{Step}
 use Rattle.squall_protocol.proofs.Reached.{reached_step}
 use Rattle.squall_world.specs.declared.steps.WorldFault.TheVariants.{NoMemory, TooManyRouters}
@@ -27,7 +28,7 @@ same_if R n m k (Ok answer) is same h = tt
 same_if R n m k (Err e) is same h = same e h ∙ is
 
 -- within its limit a world is refused for want of memory alone
-pub no_memory_is : (routers : ℕ) → routers ≤ 1000 → (NoMemory ≡ TooManyRouters) ↔ (1000 < routers)
+pub no_memory_is : (routers : ℕ) → routers ≤ most_routers → (NoMemory ≡ TooManyRouters) ↔ (most_routers < routers)
 no_memory_is routers few = (λ e. absurd (let bad : ⊥ = cc in bad), λ h. absurd (omega (arith, few, h)))
 
 -- what holds holds where the call failed

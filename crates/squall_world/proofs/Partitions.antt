@@ -22,11 +22,12 @@ use Rattle.squall_report.specs.Cells.{place_at}
 use Rattle.squall_board.specs.BoardLaws.{cell_board_is}
 use Rattle.squall_part.proofs.Opened.{opened_few}
 use Rattle.squall_board.specs.Boards.{IsBoard, issued, report_board}
-use Rattle.squall_part.specs.Chunks.{ChunkValue}
-use Rattle.squall_part.specs.Carried.{Carried}
-use Rattle.squall_part.specs.Parts.{PartValue, Log, log_with, log_of, IsPart, IsLog, known_to, course_under, course_of_part, opened_at, given_in, loaded_in, given_by, loaded_by, with_given, with_loaded}
+use Rattle.squall_protocol.specs.Chunks.{ChunkValue, load_report}
+use Rattle.squall_protocol.specs.Carried.{Carried}
+use Rattle.squall_part.specs.Parts.{PartValue, Log, log_with, log_of, IsPart, IsLog, known_to, course_of_part, opened_at, given_in, loaded_in, given_by, loaded_by, with_given, with_loaded}
 use Rattle.squall_part.specs.Giving.{IsChunkOf, after_giving, goes_out}
-use Rattle.squall_part.specs.Loading.{Fits, after_load, load_report, done_report}
+use Rattle.squall_part.specs.Loading.{Fits, after_load, done_report}
+use Rattle.squall_protocol.specs.Known.{course_under}
 use Rattle.squall_part.proofs.Logs.{edit, edit_course}
 use Rattle.squall_part.proofs.Known.{course_known}
 use Rattle.squall_part.proofs.Served.{known_log}

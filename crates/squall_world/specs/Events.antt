@@ -18,14 +18,15 @@ use Rattle.squall_part.specs.declared.loading.LoadFault.TheVariants.{NotOpen as 
 use Rattle.squall_part.specs.declared.loading.Load.TheVariants.{Again as LoadAgain, Loaded as LoadLoaded}
 use Rattle.squall_part.specs.declared.finishing.FinishFault.{FinishFault}
 use Rattle.squall_part.specs.declared.finishing.FinishFault.TheVariants.{NotOpen as FinishNotOpen, NotAll as FinishNotAll, NothingDue as FinishNothingDue, NoMemory as FinishNoMemory}
-use Rattle.squall_part.specs.Chunks.{ChunkValue}
+use Rattle.squall_protocol.specs.Chunks.{ChunkValue}
 use Rattle.squall_part.specs.Parts.{PartValue, IsPart, new_part, given_by, loaded_by}
 use Rattle.squall_part.specs.Giving.{IsGiven, IsGivenAt}
 use Rattle.squall_part.specs.Loading.{IsLoaded, IsFinished}
 use Rattle.squall_part.specs.Serving.{IsReply}
 use Rattle.squall_leader.specs.declared.fault.LeaderFault.{LeaderFault}
 use Rattle.squall_leader.specs.declared.fault.LeaderFault.TheVariants.{Running as LeaderRunning, NoNumber as LeaderNoNumber, Idle as LeaderIdle, NotDone as LeaderNotDone, NoMore as LeaderNoMore, NoMemory as LeaderNoMemory}
-use Rattle.squall_leader.specs.Leaders.{LeaderValue, IsLeader, IsOpened, IsBegun, IsFinished as IsLeaderFinished, open_report, issue_report, new_leader, after_begin, last_number}
+use Rattle.squall_leader.specs.Leaders.{LeaderValue, IsLeader, IsOpened, IsBegun, IsFinished as IsLeaderFinished, open_report, issue_report, new_leader, after_begin}
+use Rattle.squall_protocol.specs.Known.{last_number}
 use Rattle.squall_protocol.specs.declared.event.Node.{Node}
 use Rattle.squall_protocol.specs.declared.event.Node.TheVariants.{Part, Router}
 use Rattle.squall_protocol.specs.declared.answer.Answer.{Answer}

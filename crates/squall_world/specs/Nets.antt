@@ -10,7 +10,7 @@ use Rattle.squall_report.specs.declared.report.ReportKind.TheVariants.{Loaded as
 use Rattle.squall_report.specs.Issues.{PlanPair}
 use Rattle.squall_board.specs.Boards.{BoardValue, IsBoard, empty_board, board_join, report_board}
 use Rattle.squall_router.specs.Routers.{RouterValue}
-use Rattle.squall_part.specs.Chunks.{ChunkValue}
+use Rattle.squall_protocol.specs.Chunks.{ChunkValue}
 use Rattle.squall_part.specs.Parts.{PartValue, IsPart}
 use Rattle.squall_leader.specs.Leaders.{LeaderValue, IsLeader}
 use Rattle.squall_protocol.specs.declared.event.Node.{Node}

@@ -18,5 +18,5 @@ mod steps;
 mod world;
 
 pub use squall_protocol::{Answer, Event, Node, Refusal, promises};
-pub use steps::WorldFault;
+pub use steps::{MOST_ROUTERS, WorldFault};
 pub use world::World;

@@ -2,7 +2,7 @@
 
 ghost use Rattle.std.specs.Prelude.{◌≡◌, ◌<◌, ◌≤◌, ◌↔◌, ℕ, length, take, IfOk, IfErr, OnOk, OnErr};
 ghost use Rattle.squall_world.specs.declared.steps.WorldFault.TheVariants.{NoMemory, TooManyRouters};
-ghost use Rattle.squall_protocol.specs.Worlds.{start, SameWorld};
+ghost use Rattle.squall_protocol.specs.Worlds.{most_routers, start, SameWorld};
 ghost use Rattle.squall_protocol.specs.Steps.{OpenStep, BeginStep, GiveStep, GiveAtStep, LoadStep, FinishStep, SendStep, DeliverStep, RouteStep, ServeStep, Step};
 ghost use Rattle.squall_protocol.specs.Promises.{IsReached};
 ghost use Rattle.squall_world.specs.Runs.{IsRun};
@@ -16,10 +16,13 @@ use squall_protocol::{Answer, Event, Node};
 use std::alloc::{AllocError, Global};
 use thiserror::Error;
 
+/// The most routers that a world may have.
+pub const MOST_ROUTERS: u32 = 1000;
+
 /// Why there is no such world.
 #[derive(Debug, Drop, Error)]
 pub enum WorldFault {
-    /// More than 1000 routers.
+    /// More than [`MOST_ROUTERS`] routers.
     #[error("TooManyRouters")]
     TooManyRouters,
     /// An allocation failed.
@@ -40,14 +43,14 @@ impl World {
     /// lies where the old plan has it: with one partition node for each partition that a plan names,
     /// and so many routers.
     ///
-    /// `TooManyRouters` above 1000, whatever memory there is; or `NoMemory`.
+    /// `TooManyRouters` above [`MOST_ROUTERS`], whatever memory there is; or `NoMemory`.
     pub fn new(alloc: Global, old: &Plan, new: &Plan, routers: u32) -> Result<World, WorldFault>
         ensures ok { IfOk result (λ w. SameWorld (view w) (start old.now new.now routers)) }
         ensures reached { IfOk result (λ w. IsReached (view w)) }
-        ensures routers { OnOk result (routers ≤ 1000) }
-        ensures err { IfErr result (λ e. (e ≡ TooManyRouters) ↔ (1000 < routers)) }
+        ensures routers { OnOk result (routers ≤ most_routers) }
+        ensures err { IfErr result (λ e. (e ≡ TooManyRouters) ↔ (most_routers < routers)) }
     {
-        if routers > 1000 {
+        if routers > MOST_ROUTERS {
             return Err(WorldFault::TooManyRouters);
         }
         let net = Net::new(alloc, old, new, routers)?;

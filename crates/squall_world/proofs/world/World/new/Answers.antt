@@ -16,4 +16,4 @@ returns-clause-reached c = (first_is_world c.args.old.now c.args.new.now c.args.
 pub returns-in_err-net-clause-err : goal.returns-in_err-net-clause-err
 returns-in_err-net-clause-err c =
     let p = err_from_is_err_and c.from_residual.result c.from_residual.ensures.1 in
-    rw (p.1, p.2) (no_memory_is c.args.routers (omega (arith, c.if-routers-gt1000.false)))
+    rw (p.1, p.2) (no_memory_is c.args.routers (omega (arith, c.if-routers-gt-MOST_ROUTERS.false)))
