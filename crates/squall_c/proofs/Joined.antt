@@ -54,6 +54,15 @@ joined_next old new ms i m within is all joins board =
 pub joined_all : (board : BoardValue) (ms : List Message) (i : ℕ) → length ms ≤ i → IsBoard board → board_join board (to_come i ms) ≡ board
 joined_all board ms i past is = ap (λ (xs : List Message). board_join board (joined_boards (deltas_of xs))) (drop_all i ms past) ∙ join_after board is
 
+-- one delta alone is what its message tells
+pub one_delta : (ms : List Message) (m : Message) (b : BoardValue) → length ms ≡ 1 → get_or ms 0 m ≡ m → m ≡ Delta b → 0 < length ms → AllByRecursion IsMessage ms → b ≡ joined_boards (deltas_of ms)
+one_delta [] m b one at is some all = absurd (let bad : ⊥ = cc in bad)
+one_delta (n ∷ []) m b one at is some all = alone n b (at ∙ is) all.0
+  where
+    alone : (n : Message) (b : BoardValue) → n ≡ Delta b → IsMessage n → b ≡ joined_boards (deltas_of (n ∷ []))
+    alone n b e message = subst (λ (x : Message). IsMessage x → b ≡ joined_boards (deltas_of (x ∷ []))) (sym e) (λ (is : IsMessage (Delta b)). sym (join_after b is.content)) message
+one_delta (n ∷ (o ∷ ms)) m b one at is some all = absurd (let bad : ⊥ = cc in bad)
+
 -- ---- the last digest
 
 pub last_delta : (d : Option DigestValue) (ms : List Message) (b : BoardValue) → last_digest d (ms ++ Delta b ∷ []) ≡ last_digest d ms

@@ -2,12 +2,12 @@
 use Rattle.std.specs.Prelude.{ℕ, ◌==◌, nat_lt, Option, None, Some, if◌then◌else◌}
 use Rattle.squall_key.specs.Keys.{top, part_limit}
 use Rattle.squall_plan.specs.Ranges.{owner_of}
-use Rattle.squall_router.specs.declared.errand.Reply.{Reply}
-use Rattle.squall_router.specs.declared.errand.Reply.TheVariants.{Held, Moved, Pending, Behind, Elsewhere}
-use Rattle.squall_router.specs.declared.errand.Next.{Next}
-use Rattle.squall_router.specs.declared.errand.Next.TheVariants.{Ask, Again, Served, Lost}
+use Rattle.squall_errand.specs.declared.errand.Reply.{Reply}
+use Rattle.squall_errand.specs.declared.errand.Reply.TheVariants.{Held, Moved, Pending, Behind, Elsewhere}
+use Rattle.squall_errand.specs.declared.errand.Next.{Next}
+use Rattle.squall_errand.specs.declared.errand.Next.TheVariants.{Ask, Again, Served, Lost}
 use Rattle.squall_router.specs.Routers.{route_of_router}
-use Rattle.squall_router.specs.Errands.{ErrandValue, errand_from, step_of}
+use Rattle.squall_errand.specs.Errands.{ErrandValue, errand_from, step_of}
 use Rattle.squall_c.specs.declared.router.Station.{Station}
 use Rattle.squall_c.specs.declared.views.View.{View}
 use Rattle.squall_c.specs.declared.errands.ErrandSlot.{ErrandSlot}

@@ -12,7 +12,7 @@ pub use Rattle.squall_delta.specs.Hashes
 pub use Rattle.squall_delta.specs.Repairs
 pub use Rattle.squall_table.specs.Tables
 pub use Rattle.squall_router.specs.Routers
-pub use Rattle.squall_router.specs.Errands
+pub use Rattle.squall_errand.specs.Errands
 pub mod Status
 pub mod Opening
 pub mod Reporting

@@ -1,17 +1,20 @@
 //! Frames that are fed to routers behind handles.
 
-ghost use Rattle.std.specs.Prelude.{◌≡◌, ◌≢◌, [], IfOk, OnOk, OnErr, None, Err};
+ghost use Rattle.std.specs.Prelude.{◌≡◌, ◌≢◌, [], IfOk, IfSome, OnOk, OnErr, None, Err};
 ghost use Rattle.std.specs.List.{AllByRecursion};
 ghost use Rattle.squall_wire.specs.declared.feed.FeedFault.TheVariants.{Failed};
 ghost use Rattle.squall_wire.specs.Hearing.{HearsOn};
 ghost use Rattle.squall_wire.specs.Messages.{IsMessage};
+ghost use Rattle.squall_board.specs.Boards.{board_join};
 ghost use Rattle.squall_delta.specs.Pieces.{joined_boards};
+ghost use Rattle.squall_router.specs.Routers.{router_with};
 ghost use Rattle.squall_c.specs.Feeding.{JoinsMessage, deltas_of, last_digest, heard_station, HearsInStation, Feeds};
 
 use crate::router::{RouterSlot, Station};
 use crate::status::{CLOSED, FAILED, NO_MEMORY, heard_status};
 use crate::twin_feed::TwinFeed;
 use squall_board::{Board, Delta};
+use squall_router::Router;
 use squall_wire::{Digest, Feed, FeedFault, Heard, Message, WireFault};
 use std::alloc::{AllocError, Global};
 
@@ -37,6 +40,32 @@ fn joined(alloc: Global, messages: &[Message]) -> Result<Delta, AllocError>
         join_message(&mut board, message)?;
     }
     Ok(board)
+}
+
+/// The delta that the messages are, if they are one delta alone.
+#[tactic(auto, using(crate::proofs::Joined::one_delta))]
+fn alone(messages: &[Message]) -> Option<&Delta>
+    requires { AllByRecursion IsMessage messages.now }
+    ensures { IfSome result (λ delta. delta.now ≡ joined_boards (deltas_of messages.now)) }
+{
+    match messages.first()? {
+        Message::Delta(delta) if messages.len() == 1 => Some(delta),
+        _ => None,
+    }
+}
+
+/// Has the router absorb all that the messages tell, or nothing where it fails. A delta that came
+/// alone is absorbed as it is, since to join several costs a copy of each.
+fn absorb_all(alloc: Global, router: &mut Router, messages: &[Message]) -> Result<(), AllocError>
+    requires { AllByRecursion IsMessage messages.now }
+    ensures ok { OnOk result (router.new ≡ router_with router.old.first (board_join router.old.board (joined_boards (deltas_of messages.now)))) }
+    ensures err { OnErr result (router.new ≡ router.old) }
+{
+    if let Some(delta) = alone(messages) {
+        return router.absorb(delta);
+    }
+    let delta = joined(alloc, messages)?;
+    router.absorb(&delta)
 }
 
 /// The last digest among the messages.
@@ -90,8 +119,7 @@ fn take_messages(
     ensures heard { OnOk result (station.new ≡ heard_station station.old messages.items feed) }
     ensures err { OnErr result (station.new ≡ station.old) }
 {
-    let delta = joined(station.alloc, &messages)?;
-    station.router.absorb(&delta)?;
+    absorb_all(station.alloc, &mut station.router, &messages)?;
     // From here on nothing can fail.
     station.feed = TwinFeed::of(feed);
     keep_digest(&mut station.heard, messages);
