@@ -6,9 +6,9 @@ use Rattle.squall_span.specs.Spans.{text_of_span}
 use Rattle.squall_report.specs.declared.report.ReportKind.{ReportKind}
 use Rattle.squall_report.specs.declared.report.ReportKind.TheVariants as report
 use Rattle.squall_report.specs.Issues.{PlanPair}
-use Rattle.squall_router.specs.declared.errand.Reply.{Reply}
-use Rattle.squall_router.specs.declared.errand.Reply.TheVariants.{Held, Moved, Pending, Behind, Elsewhere}
-use Rattle.squall_part.specs.Chunks.{ChunkValue}
+use Rattle.squall_errand.specs.declared.errand.Reply.{Reply}
+use Rattle.squall_errand.specs.declared.errand.Reply.TheVariants.{Held, Moved, Pending, Behind, Elsewhere}
+use Rattle.squall_protocol.specs.Chunks.{ChunkValue}
 use Rattle.squall_protocol.specs.declared.event.Event.{Event}
 use Rattle.squall_protocol.specs.declared.event.Event.TheVariants as event
 use Rattle.squall_protocol.specs.declared.answer.Answer.{Answer}

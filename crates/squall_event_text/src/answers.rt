@@ -3,11 +3,10 @@
 ghost use Rattle.std.specs.Prelude.{◌≡◌, ◌++◌, OnOk, string_bytes};
 ghost use Rattle.squall_event_text.specs.AnswerText.{text_of_refusal, text_of_reply, text_of_chunk, text_of_report, asked_key, text_of_answer, answer_line};
 
+use squall_errand::Reply;
 use squall_key::Key;
-use squall_part::Chunk;
-use squall_protocol::{Answer, Event, Refusal};
+use squall_protocol::{Answer, Chunk, Event, Refusal};
 use squall_report::{Report, ReportKind};
-use squall_router::Reply;
 use std::alloc::AllocError;
 
 /// Adds why nothing changed.

@@ -6,7 +6,7 @@ use Rattle.squall_wire.specs.declared.message.Message.{Message}
 use Rattle.squall_wire.specs.Messages.{IsMessage, spell_all}
 use Rattle.squall_wire.specs.Hearing.{new_feed}
 use Rattle.squall_wire.specs.HearingLaws.{new_is_feed}
-use Rattle.squall_router.specs.Ways.{Sent, messages_of, ArePacked, AreComing}
+use Rattle.squall_headline.specs.Ways.{Sent, messages_of, ArePacked, AreComing}
 
 -- the frames of what was sent, cut in two
 pub cut_in_two : (ss : List Sent) (ms : List Message) (bytes front back : List ℕ) → ArePacked ss → messages_of ss ≡ ms → AllByRecursion IsMessage ms → bytes ≡ spell_all ms → bytes ≡ front ++ back → AreComing ss new_feed (front ++ back)

@@ -7,8 +7,8 @@ use Rattle.squall_report.specs.Issues.{PlanPair}
 use Rattle.squall_report.specs.Facts.{reports_say}
 use Rattle.squall_report.specs.Told.{SameTold, told_by, both_issued, reports_issue}
 use Rattle.squall_report.specs.ToldLaws.{told_append, issued_assoc, issued_comm}
-use Rattle.squall_router.specs.Ways.{Reports, Sent, reports_sent}
-use Rattle.squall_router.specs.ComingLaws.{reports_append}
+use Rattle.squall_headline.specs.Ways.{Reports, Sent, reports_sent}
+use Rattle.squall_headline.specs.ComingLaws.{reports_append}
 
 or_in_turn : (a b c d : Bool) → (a || (b || (c || d))) ≡ ((a || c) || (b || d))
 or_in_turn true b c d = refl

@@ -5,10 +5,10 @@ mod tolerant;
 
 use crate::example::{NEW, OLD, course, issue};
 use squall_board::Board;
+use squall_errand::Reply;
 use squall_key::{Bound, Key, PartId};
 use squall_part::{Chunk, FinishFault, GiveFault, Load, LoadFault, Part};
 use squall_report::{Report, ReportKind};
-use squall_router::Reply;
 use squall_span::{Span, SpanSet};
 use std::alloc::{AllocError, Global};
 use std::process::Abort;

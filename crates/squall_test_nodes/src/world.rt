@@ -5,11 +5,11 @@ mod calls;
 mod clients;
 mod tolerant;
 
+use squall_errand::Reply;
 use squall_key::{Bound, Key, PartId};
 use squall_part::Chunk;
 use squall_plan::{Plan, PlanRange};
 use squall_report::{Report, ReportKind};
-use squall_router::Reply;
 use squall_span::Span;
 use squall_world::{Answer, Node, Refusal, World};
 use std::alloc::Global;

@@ -1,9 +1,9 @@
 //! Answers as lines. The other answers stand among the cases of the built program.
 
+use squall_errand::Reply;
 use squall_event_text::add_answer;
 use squall_key::{Key, PartId};
 use squall_protocol::{Answer, Event, Refusal};
-use squall_router::Reply;
 use std::alloc::AllocError;
 use std::test::Fail;
 

@@ -1,7 +1,7 @@
 //! What errands answer to replies, row by row.
 
 ghost use Rattle.std.specs.Prelude.{◌≡◌, IfOk};
-ghost use Rattle.squall_router.specs.Errands.{answers_of};
+ghost use Rattle.squall_errand.specs.Errands.{answers_of};
 
 use super::heard;
 use squall_key::{Key, PartId};

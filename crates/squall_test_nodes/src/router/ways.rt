@@ -8,12 +8,13 @@ ghost use Rattle.squall_wire.specs.declared.fault.WireFault.{WireFault};
 ghost use Rattle.squall_wire.specs.declared.message.Message.{Message as MessageValue};
 ghost use Rattle.squall_wire.specs.Messages.{IsMessage, spell_all};
 ghost use Rattle.squall_wire.specs.Hearing.{HearsOn, new_feed};
-ghost use Rattle.squall_router.specs.Ways.{Way, ByTake, ByTakeAll, ByMerge, Packed, Sent, reports_sent, reports_of, messages_of, ArePacked, TakesIn, LeadTo, AreComing, Brings};
+ghost use Rattle.squall_headline.specs.Ways.{Way, ByTake, ByTakeAll, ByMerge, Packed, Sent, reports_sent, reports_of, messages_of, ArePacked, TakesIn, LeadTo, AreComing, Brings};
 
 use squall_board::Board;
 use squall_course::Course;
+use squall_headline::{headline, pieces_bring_messages};
 use squall_report::Report;
-use squall_router::{Router, headline, pieces_bring_messages};
+use squall_router::Router;
 use squall_wire::{Feed, Message, encode};
 use std::alloc::{AllocError, Global};
 use std::sync::Arc;

@@ -1,5 +1,5 @@
 use Rattle.std.proofs.Common.{◌≡◌, ◌++◌, drop}
-use Rattle.squall_router.specs.Errands.{answers_of}
+use Rattle.squall_errand.specs.Errands.{answers_of}
 use Rattle.squall_test_nodes.proofs.router.errands.answers.Given as goal
 
 -- the answers so far and those to come are all

@@ -1,6 +1,6 @@
 use Rattle.std.proofs.Common.{◌≡◌, drop}
 use Rattle.squall_board.specs.Boards.{BoardValue}
-use Rattle.squall_router.specs.Ways.{TakesIn}
+use Rattle.squall_headline.specs.Ways.{TakesIn}
 use Rattle.squall_test_nodes.proofs.router.ways.absorb_all.Given as goal
 
 abbrev pub invariant-loop-message : goal.invariant-loop-message

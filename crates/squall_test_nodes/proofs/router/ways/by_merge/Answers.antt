@@ -2,7 +2,7 @@ use Rattle.std.specs.Prelude.{refl, [], ◌∷◌}
 use Rattle.std.proofs.Common.{subst}
 use Rattle.squall_report.specs.Told.{TellsBoth, told_by_report}
 use Rattle.squall_board.specs.Boards.{BoardValue, told}
-use Rattle.squall_router.specs.Ways.{packed}
+use Rattle.squall_headline.specs.Ways.{packed}
 use Rattle.squall_test_nodes.proofs.router.ways.by_merge.Goals as goal
 
 pub returns : goal.returns

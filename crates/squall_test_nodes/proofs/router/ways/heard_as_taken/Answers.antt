@@ -2,7 +2,7 @@ use Rattle.std.specs.Prelude.{[], ◌∷◌, ◌++◌}
 use Rattle.std.proofs.Common.{sym, subst, ◌∙◌}
 use Rattle.std.proofs.lemmas.List.{append-nil}
 use Rattle.squall_report.specs.Told.{SameTold, told_by}
-use Rattle.squall_router.specs.Ways.{ByTakeAll, LeadTo, reports_of}
+use Rattle.squall_headline.specs.Ways.{ByTakeAll, LeadTo, reports_of}
 use Rattle.squall_test_nodes.proofs.router.ways.heard_as_taken.Goals as goal
 
 pub returns : goal.returns

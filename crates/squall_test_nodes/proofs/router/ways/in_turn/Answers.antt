@@ -3,7 +3,7 @@ use Rattle.std.proofs.Common.{subst, sym}
 use Rattle.std.proofs.lemmas.List.{append-nil}
 use Rattle.squall_wire.specs.Hearing.{FeedValue}
 use Rattle.squall_router.specs.Routers.{RouterValue}
-use Rattle.squall_router.specs.Ways.{ByFrames, Leads, AreComing}
+use Rattle.squall_headline.specs.Ways.{ByFrames, Leads, AreComing}
 use Rattle.squall_test_nodes.proofs.Turns.{told_in_turn}
 use Rattle.squall_test_nodes.proofs.router.ways.in_turn.Goals as goal
 

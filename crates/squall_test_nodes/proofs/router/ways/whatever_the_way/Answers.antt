@@ -1,7 +1,7 @@
 use Rattle.std.specs.Prelude.{[], ◌∷◌, ◌++◌}
 use Rattle.std.proofs.Common.{subst, sym}
 use Rattle.squall_report.specs.Told.{SameTold, told_by}
-use Rattle.squall_router.specs.Ways.{Reports, ByTake, ByMerge}
+use Rattle.squall_headline.specs.Ways.{Reports, ByTake, ByMerge}
 use Rattle.squall_test_nodes.proofs.Swapped.{swapped}
 use Rattle.squall_test_nodes.proofs.router.ways.whatever_the_way.Goals as goal
 
