@@ -1,17 +1,21 @@
 -- What a demand, a chunk and the end of a sub-plan at a partition do to a world.
-use Rattle.std.proofs.Common.{◌≡◌, ℕ, ◌++◌, ◌∷◌, [], List, length, get_or, set, Option, Some, None, Result, Ok, Err, inr, refl, sym, ap, subst, ◌∙◌}
+use Rattle.std.proofs.Common.{◌≡◌, ℕ, ◌++◌, ◌∷◌, [], List, length, get_or, set, Option, Some, None, Result, Ok, Err, ◌⊎◌, inl, inr, refl, sym, ap, subst, ◌∙◌}
 use Rattle.std.specs.List.{slice_get}
 use Rattle.std.specs.declared.alloc.AllocError.{AllocError}
 use Rattle.std.proofs.lemmas.List.{set-get_or}
+use Rattle.std.proofs.lemmas.Option.{none-some}
 use Rattle.squall_report.specs.declared.report.ReportKind.{ReportKind}
 use Rattle.squall_report.specs.Issues.{PlanPair}
 use Rattle.squall_part.specs.declared.giving.GiveFault.{GiveFault}
 use Rattle.squall_part.specs.declared.loading.LoadFault.{LoadFault}
+use Rattle.squall_part.specs.declared.loading.LoadFault.TheVariants.{NoMemory as NoRoomToLoad}
 use Rattle.squall_part.specs.declared.loading.Load.TheVariants.{Again, Loaded}
 use Rattle.squall_part.specs.declared.finishing.FinishFault.{FinishFault}
+use Rattle.squall_part.specs.declared.finishing.FinishFault.TheVariants.{NoMemory as NoRoomToFinish}
 use Rattle.squall_protocol.specs.Chunks.{ChunkValue}
 use Rattle.squall_part.specs.Parts.{PartValue, IsPart}
 use Rattle.squall_part.specs.Giving.{IsGiven, IsGivenAt}
+use Rattle.squall_part.specs.Loading.{IsLoaded, IsFinished}
 use Rattle.squall_protocol.specs.declared.event.Node.TheVariants.{Part}
 use Rattle.squall_protocol.specs.declared.answer.Answer.{Answer}
 use Rattle.squall_protocol.specs.declared.answer.Answer.TheVariants.{Finished, Loaded as LoadedAnswer, Again as AgainAnswer}
@@ -21,6 +25,11 @@ use Rattle.squall_world.specs.Nets.{PeerValue, NetValue, place_of, turned, repor
 use Rattle.squall_world.specs.Acts.{Gives, Loads, Finishes}
 use Rattle.squall_world.specs.Events.{HasPart, with_gift, answer_of, give_refusal, load_refusal, finish_refusal, IsGiveIn, IsGiveAtIn, IsLoadIn, IsFinishIn}
 use Rattle.squall_world.proofs.Standing.{put_is, has_part}
+
+-- a fault that is told as a refusal is no lack of memory, so it is what the node itself answered
+pub refused_by : {F : Type 0} (P : F → Type 0) (refusal : F → Option Refusal) (none f : F) (e : Refusal) → refusal none ≡ None → refusal f ≡ Some e → (f ≡ none) ⊎ P f → P f
+refused_by P refusal none f e silent is (inl same) = absurd (none-some e (sym silent ∙ sym (ap refusal same) ∙ is))
+refused_by P refusal none f e silent is (inr asked) = asked
 
 -- the world with another node at a place, and other chunks
 abbrev pub put_in : NetValue → ℕ → PeerValue → List ChunkValue → NetValue
@@ -70,7 +79,7 @@ module _ (n m : NetValue) (p s at : ℕ) (peer q : PeerValue) (put : m ≡ put_i
   finish_refused_by f None (Ok a) is h g = absurd h
   finish_refused_by f None (Err e) is h g = unchanged n m at peer q n.chunks put read g.3 refl
   finish_refused_by f (Some e) r is h g =
-      subst (λ r. IsFinishIn n p s r m) (sym h) (inr (at, peer, g.0, f, has_part n p at peer place read g.0 g.1, g.2, is, unchanged n m at peer q n.chunks put read g.3 refl))
+      subst (λ r. IsFinishIn n p s r m) (sym h) (inr (at, peer, g.0, f, has_part n p at peer place read g.0 g.1, refused_by (λ f. IsFinished g.0 s (Err f) g.0) finish_refusal NoRoomToFinish f e refl is g.2, is, unchanged n m at peer q n.chunks put read g.3 refl))
 
   pub finish_refused : (f : FinishFault) (r : Result Answer AllocError) → answer_of (finish_refusal f) r → Finishes at peer s (Err f) q → IsFinishIn n p s r m
   finish_refused f r = finish_refused_by f (finish_refusal f) r refl
@@ -90,7 +99,7 @@ module _ (n m : NetValue) (j : ℕ) (x : ChunkValue) (at : ℕ) (peer q : PeerVa
   load_refused_by f None (Err e) is h g = unchanged n m at peer q n.chunks put read g.3 refl
   load_refused_by f (Some e) r is h g =
       subst (λ r. IsLoadIn n j r m) (sym h)
-      (inr (inr (x, at, peer, g.0, f, here, has_part n x.dest at peer place read g.0 g.1, g.2, is, unchanged n m at peer q n.chunks put read g.3 refl)))
+      (inr (inr (x, at, peer, g.0, f, here, has_part n x.dest at peer place read g.0 g.1, refused_by (λ f. IsLoaded g.0 x (Err f) g.0) load_refusal NoRoomToLoad f e refl is g.2, is, unchanged n m at peer q n.chunks put read g.3 refl)))
 
   pub load_refused : (f : LoadFault) (r : Result Answer AllocError) → answer_of (load_refusal f) r → Loads at peer x (Err f) q → IsLoadIn n j r m
   load_refused f r = load_refused_by f (load_refusal f) r refl

@@ -1,18 +1,21 @@
 -- What a node does to itself. Only private functions are told by these definitions.
-use Rattle.std.specs.Prelude.{◌≡◌, ℕ, List, Result, Ok, Err, Some}
+use Rattle.std.specs.Prelude.{◌≡◌, ◌⊎◌, ℕ, List, Result, Ok, Err, Some}
 use Rattle.squall_plan.specs.declared.range.PlanRange.{PlanRange}
 use Rattle.squall_course.specs.Change.{Change}
 use Rattle.squall_report.specs.declared.report.ReportKind.{ReportKind}
 use Rattle.squall_report.specs.Issues.{PlanPair}
 use Rattle.squall_part.specs.declared.giving.GiveFault.{GiveFault}
 use Rattle.squall_part.specs.declared.loading.LoadFault.{LoadFault}
+use Rattle.squall_part.specs.declared.loading.LoadFault.TheVariants.{NoMemory as NoRoomToLoad}
 use Rattle.squall_part.specs.declared.loading.Load.{Load}
 use Rattle.squall_part.specs.declared.loading.Load.TheVariants.{Again, Loaded}
 use Rattle.squall_part.specs.declared.finishing.FinishFault.{FinishFault}
+use Rattle.squall_part.specs.declared.finishing.FinishFault.TheVariants.{NoMemory as NoRoomToFinish}
 use Rattle.squall_protocol.specs.Chunks.{ChunkValue}
 use Rattle.squall_part.specs.Parts.{PartValue, IsPart}
 use Rattle.squall_part.specs.Loading.{IsLoaded, IsFinished}
 use Rattle.squall_leader.specs.declared.fault.LeaderFault.{LeaderFault}
+use Rattle.squall_leader.specs.declared.fault.LeaderFault.TheVariants.{NoMemory as NoRoomToLead}
 use Rattle.squall_leader.specs.Leaders.{LeaderValue, IsLeader, IsOpened, IsBegun, open_report}
 use Rattle.squall_world.specs.declared.peer.Role.TheVariants.{Leader as LeaderRole, Part as PartRole}
 use Rattle.squall_world.specs.Nets.{PeerValue, turned, reported}
@@ -32,26 +35,26 @@ abbrev pub Gives : (PartValue → Result ChunkValue GiveFault → PartValue → 
 Gives Asked p (Ok x) q = (a : PartValue) × (b : PartValue) × (p.role ≡ PartRole a) × Asked a (Ok x) b × IsPart b × (q ≡ turned p (PartRole b))
 Gives Asked p (Err f) q = (a : PartValue) × (p.role ≡ PartRole a) × Asked a (Err f) a × (q ≡ p)
 
--- what came of a chunk at a partition
+-- what came of a chunk at a partition: the node may lack memory for the report before it asks the partition
 abbrev pub Loads : ℕ → PeerValue → ChunkValue → Result Load LoadFault → PeerValue → Type 0
 Loads at p x (Ok (Loaded report)) q = (a : PartValue) × (b : PartValue) × (p.role ≡ PartRole a) × IsLoaded a x (Ok (Loaded report)) b × IsPart b × (q ≡ reported at p (PartRole b) report)
 Loads at p x (Ok Again) q = (a : PartValue) × (p.role ≡ PartRole a) × IsLoaded a x (Ok Again) a × (q ≡ p)
-Loads at p x (Err f) q = (a : PartValue) × (p.role ≡ PartRole a) × IsLoaded a x (Err f) a × (q ≡ p)
+Loads at p x (Err f) q = (a : PartValue) × (p.role ≡ PartRole a) × ((f ≡ NoRoomToLoad) ⊎ IsLoaded a x (Err f) a) × (q ≡ p)
 
 -- what came of the end of a sub-plan at a partition
 abbrev pub Finishes : ℕ → PeerValue → ℕ → Result (ReportKind PlanPair) FinishFault → PeerValue → Type 0
 Finishes at p s (Ok report) q = (a : PartValue) × (b : PartValue) × (p.role ≡ PartRole a) × IsFinished a s (Ok report) b × IsPart b × (q ≡ reported at p (PartRole b) report)
-Finishes at p s (Err f) q = (a : PartValue) × (p.role ≡ PartRole a) × IsFinished a s (Err f) a × (q ≡ p)
+Finishes at p s (Err f) q = (a : PartValue) × (p.role ≡ PartRole a) × ((f ≡ NoRoomToFinish) ⊎ IsFinished a s (Err f) a) × (q ≡ p)
 
 -- the leader opened the sub-plan, or why it did not
 abbrev pub Opens : PeerValue → Result ℕ LeaderFault → PeerValue → Type 0
 Opens p (Ok s) q =
     (a : LeaderValue) × (b : LeaderValue) × (c : Change) × (p.role ≡ LeaderRole a) × (a.course ≡ Some c) × IsOpened a (Ok (open_report c s)) b × IsLeader b
     × (q ≡ reported 0 p (LeaderRole b) (open_report c s))
-Opens p (Err f) q = (a : LeaderValue) × (p.role ≡ LeaderRole a) × IsOpened a (Err f) a × (q ≡ p)
+Opens p (Err f) q = (a : LeaderValue) × (p.role ≡ LeaderRole a) × ((f ≡ NoRoomToLead) ⊎ IsOpened a (Err f) a) × (q ≡ p)
 
 -- the leader began the course, and made this report, or why it did not
 abbrev pub Begins : PeerValue → List PlanRange → ReportKind PlanPair → Result Change LeaderFault → PeerValue → Type 0
 Begins p plan report (Ok c) q =
     (a : LeaderValue) × (b : LeaderValue) × (p.role ≡ LeaderRole a) × IsBegun a plan (Ok c) b × IsLeader b × (q ≡ reported 0 p (LeaderRole b) report)
-Begins p plan report (Err f) q = (a : LeaderValue) × (p.role ≡ LeaderRole a) × IsBegun a plan (Err f) a × (q ≡ p)
+Begins p plan report (Err f) q = (a : LeaderValue) × (p.role ≡ LeaderRole a) × ((f ≡ NoRoomToLead) ⊎ IsBegun a plan (Err f) a) × (q ≡ p)
