@@ -1,0 +1,202 @@
+"""Reads what several tools read: crates.txt, edits, and the functions of a source.
+
+  python3 tools/house.py crates          the crates of crates.txt, a line each
+  python3 tools/house.py threads         those of them whose tests may start threads
+  python3 tools/house.py named NAME      what the crate's line names
+  python3 tools/house.py below NAME      the crates of this repository below it, each after those on which it stands
+
+tools/sources alone reads crates.txt by itself: it has to run without Python.
+"""
+import re
+import sys
+from dataclasses import dataclass
+from pathlib import Path
+
+TOP = Path(__file__).resolve().parent.parent
+EDITS = ("edits", "edits/more", "must-fail")
+EXCUSE = re.compile(r"#\s*(\w+(?:, *\w+)*): (\S.*)")
+BLOCK = re.compile(r"(?:unsafe )?impl\b|(?:pub(?:\(\w+\))? )?trait\b")
+FUNCTION = re.compile(r"( *)((?:pub(?:\(\w+\))? )?(?:final )?(?:const )?(?:unsafe )?(?:extern \S+ )?)fn (\w+)")
+ABOVE = ("#[", "///")
+
+
+@dataclass(frozen=True)
+class Crate:
+    """A line of crates.txt. A comment line above it, `# NAME, NAME: why`, excuses names that no file of the crate has."""
+
+    name: str
+    kinds: tuple[str, ...]
+    uses: tuple[str, ...]
+    excused: dict[str, str]
+
+
+def crates() -> dict[str, Crate]:
+    """The crates of crates.txt by their names, in the order of their lines."""
+    found, excused = {}, {}
+    for line in (TOP / "crates.txt").read_text(encoding="utf-8").splitlines():
+        head, colon, rest = line.partition("#")[0].partition(":")
+        if colon:
+            name, *kinds = head.split()
+            found[name] = Crate(name, tuple(kinds), tuple(rest.split()), excused)
+        excuse = EXCUSE.fullmatch(line.strip())
+        if excuse:
+            excused = {**excused, **{it.strip(): excuse[2] for it in excuse[1].split(",")}}
+        elif not line.startswith("#"):
+            excused = {}
+    return found
+
+
+def below(known: dict[str, Crate], name: str) -> list[str]:
+    """The crates of this repository below the crate, each once and after those on which it stands."""
+    found: list[str] = []
+    for one in known[name].uses:
+        if one in known:
+            found += [it for it in [*below(known, one), one] if it not in found]
+    return found
+
+
+def kit(known: dict[str, Crate]) -> list[str]:
+    """The crates of the toolchain that lines of crates.txt name: those that have no folder here."""
+    return sorted({it for crate in known.values() for it in crate.uses if not (TOP / "crates" / it).is_dir()})
+
+
+def edits(crate: str = "*", edit: str = "*", folders: tuple[str, ...] = EDITS) -> list[Path]:
+    """The files of edits of this name, of this crate and in these folders of it."""
+    return sorted(it for folder in folders for it in TOP.glob(f"crates/{crate}/{folder}/{edit}.edit"))
+
+
+@dataclass(frozen=True)
+class Change:
+    """One place of an edit: the file, what is taken away, and what is put there."""
+
+    file: str
+    old: str
+    new: str
+
+
+def changes(path: Path) -> list[Change]:
+    """What an edit changes, in the order in which it is done."""
+    found, file, old = [], "", ""
+    for line in path.read_text(encoding="utf-8").splitlines():
+        word, _, rest = line.partition(": ")
+        if word == "file":
+            file = rest.strip()
+        elif word == "old":
+            old = rest
+        elif line.startswith("new:"):
+            found.append(Change(file, old, line[len("new:"):].removeprefix(" ")))
+    return found
+
+
+def without_generics(text: str) -> str:
+    """The text without what stands in angle brackets."""
+    plain = re.sub(r"<[^<>]*>", "", text)
+    return plain if plain == text else without_generics(plain)
+
+
+@dataclass(frozen=True)
+class Function:
+    """A function of a source. Places are those of lines, from 0: its first attribute or sentence, its name, its end."""
+
+    name: str
+    mark: str
+    block: str
+    first: int
+    head: int
+    last: int
+    lines: tuple[str, ...]
+
+    @property
+    def text(self) -> str:
+        """The function with its contract."""
+        return "\n".join(self.lines[self.head - self.first:])
+
+    @property
+    def above(self) -> tuple[str, ...]:
+        """Its attributes and the sentences about it."""
+        return self.lines[:self.head - self.first]
+
+    @property
+    def signature(self) -> str:
+        """Its name, parameters and answer."""
+        return re.split(r"\n\s*(?:requires|ensures|ghost|where)\b|\{\n", self.text)[0]
+
+    @property
+    def owner(self) -> str:
+        """The type or trait among whose items it stands, as `Board` of `impl PartialEq for Board {`."""
+        return self._names()[0]
+
+    @property
+    def trait(self) -> str:
+        """The trait that its block implements."""
+        return self._names()[1]
+
+    def _names(self) -> tuple[str, str]:
+        plain = without_generics(self.block.replace("->", ""))
+        found = re.match(r"(?:unsafe )?impl +(?:(?:\w+::)*(\w+) +for +)?\W*(?:\w+::)*(\w+)", plain)
+        if found:
+            return found[2], found[1] or ""
+        found = re.search(r"\btrait (\w+)", plain)
+        return (found[1] if found else ""), ""
+
+    @property
+    def printed_owner(self) -> str:
+        """Its owner as the prover prints it: `Bound`, or `BoundDisplay` for the items of a trait."""
+        head = re.split(r" where\b| \{", self.block)[0]
+        found = re.match(r"impl(?:<(?P<binds>.*?)>)? (?:(?P<trait>[^ ].*) for )?(?P<type>\S.*)", head)
+        if not found:
+            return ""
+        bound = {it.split(":")[0].strip() for it in (found["binds"] or "").split(",")}
+        names = re.findall(r"'?[A-Za-z_]\w*(?!\w|::)", f"{found['type']} {found['trait'] or ''}")
+        return "".join(it[0].upper() + it[1:] for it in names if it not in bound and it[0] != "'")
+
+
+def end_of(lines: list[str], at: int, indent: str) -> int:
+    """The place of the last line of a function whose name stands at this one, as `rt fmt` lays it out."""
+    has_body = False
+    for end in range(at, len(lines)):
+        line = lines[end].rstrip()
+        is_outer = line.startswith(indent) and line[len(indent):len(indent) + 1] not in ("", " ")
+        has_body |= line.endswith("{")
+        if (is_outer and (line.startswith(indent + "}") or line.endswith("{}"))) or (line.endswith(";") and not has_body):
+            return end
+    return len(lines) - 1
+
+
+def functions(text: str) -> list[Function]:
+    """The functions of a source in their order."""
+    lines, block, found = text.splitlines(), "", []
+    for at, line in enumerate(lines):
+        match = FUNCTION.match(line)
+        if BLOCK.match(line):
+            until = next((it for it in range(at, len(lines)) if "{" in lines[it]), at)
+            block = " ".join(it.strip() for it in lines[at:until + 1])
+        elif match:
+            indent, mark, name = match.groups()
+            first, last = at, end_of(lines, at, indent)
+            while first and lines[first - 1].lstrip().startswith(ABOVE):
+                first -= 1
+            found.append(Function(name, mark, block if indent else "", first, at, last, tuple(lines[first:last + 1])))
+    return found
+
+
+def main() -> int:
+    known = crates()
+    match sys.argv[1:]:
+        case ["crates"]:
+            names = list(known)
+        case ["threads"]:
+            names = [it.name for it in known.values() if any(re.match("tests_may=.*Threads", kind) for kind in it.kinds)]
+        case ["named", name] if name in known:
+            names = known[name].uses
+        case ["below", name] if name in known:
+            names = below(known, name)
+        case _:
+            print("usage: tools/house.py crates | threads | named NAME | below NAME", file=sys.stderr)
+            return 2
+    print(*names, sep="\n", end="\n" if names else "")
+    return 0
+
+
+if __name__ == "__main__":
+    sys.exit(main())
