@@ -1,13 +1,15 @@
 """Reads what several tools read: crates.txt, edits, and the functions of a source.
 
-  python3 tools/house.py crates          the crates of crates.txt, a line each
-  python3 tools/house.py threads         those of them whose tests may start threads
-  python3 tools/house.py named NAME      what the crate's line names
-  python3 tools/house.py below NAME      the crates of this repository below it, each after those on which it stands
+  python3 tools/house.py crates            the crates of crates.txt, a line each
+  python3 tools/house.py threads           those of them whose tests may start threads
+  python3 tools/house.py named NAME        what the crate's line names
+  python3 tools/house.py below NAME        the crates of this repository below it, each after those on which it stands
+  python3 tools/house.py changed T E C     what tool T says if it expected E of a private part of the toolchain, and C came
 
 tools/sources alone reads crates.txt by itself: it has to run without Python.
 """
 import re
+import subprocess
 import sys
 from dataclasses import dataclass
 from pathlib import Path
@@ -180,6 +182,27 @@ def functions(text: str) -> list[Function]:
     return found
 
 
+def version() -> str:
+    """The toolchain's line, or why there is none."""
+    try:
+        ran = subprocess.run(["rt", "version"], stdout=subprocess.PIPE, text=True, check=False)
+    except OSError as why:
+        return f"none ({why})"
+    return ran.stdout.strip() or f"none (rt version ended with status {ran.returncode})"
+
+
+def changed(tool: str, expected: str, came: str) -> str:
+    """What a tool says if a private part of the toolchain, on which it leans, is not what the tool was written for."""
+    text = (TOP / "docs/CONTRIBUTING.md").read_text(encoding="utf-8")
+    known = re.search(r"^ {4}(\S+ logic \w+)$", text, re.MULTILINE)
+    return (
+        f"squall: {tool} leans on a private part of the toolchain, which seems to have changed\n"
+        f"    expected: {expected}\n"
+        f"    came: {came}\n"
+        f"    toolchain: {version()}; this tool was written for {known[1] if known else 'another one'}"
+    )
+
+
 def main() -> int:
     known = crates()
     match sys.argv[1:]:
@@ -191,8 +214,10 @@ def main() -> int:
             names = known[name].uses
         case ["below", name] if name in known:
             names = below(known, name)
+        case ["changed", tool, expected, came]:
+            names = [changed(tool, expected, came)]
         case _:
-            print("usage: tools/house.py crates | threads | named NAME | below NAME", file=sys.stderr)
+            print("usage: tools/house.py crates | threads | named NAME | below NAME | changed T E C", file=sys.stderr)
             return 2
     print(*names, sep="\n", end="\n" if names else "")
     return 0
