@@ -124,6 +124,22 @@ class Function:
         return re.split(r"\n\s*(?:requires|ensures|ghost|where)\b|\{\n", self.text)[0]
 
     @property
+    def parameters(self) -> list[str]:
+        """Its parameters, `self` among them."""
+        depth, is_inside, found = 0, False, [""]
+        for it in self.signature.partition("fn ")[2].replace("->", ""):
+            depth -= it in ")]>"
+            if is_inside and depth == 0:
+                break
+            if is_inside and depth == 1 and it == ",":
+                found.append("")
+            elif is_inside:
+                found[-1] += it
+            depth += it in "([<"
+            is_inside |= it == "(" and depth == 1
+        return [it.strip() for it in found if it.strip()]
+
+    @property
     def owner(self) -> str:
         """The type or trait among whose items it stands, as `Board` of `impl PartialEq for Board {`."""
         return self._names()[0]
