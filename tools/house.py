@@ -3,8 +3,8 @@
   python3 tools/house.py crates            the crates of crates.txt, a line each
   python3 tools/house.py threads           those of them whose tests may start threads
   python3 tools/house.py named NAME        what the crate's line names
-  python3 tools/house.py below NAME        the crates of this repository below it, each after those on which it stands
-  python3 tools/house.py changed T E C     what tool T says if it expected E of a private part of the toolchain, and C came
+  python3 tools/house.py below NAME        the crates of this repository below it, each after those it stands on
+  python3 tools/house.py changed T E C     what tool T says if it expected E of the toolchain's private parts and C came
 
 tools/sources alone reads crates.txt by itself: it has to run without Python.
 """
@@ -24,7 +24,7 @@ ABOVE = ("#[", "///")
 
 @dataclass(frozen=True)
 class Crate:
-    """A line of crates.txt. A comment line above it, `# NAME, NAME: why`, excuses names that no file of the crate has."""
+    """A line of crates.txt. A comment line above it, `# NAME, NAME: why`, excuses names that no file has."""
 
     name: str
     kinds: tuple[str, ...]
@@ -59,7 +59,8 @@ def below(known: dict[str, Crate], name: str) -> list[str]:
 
 def kit(known: dict[str, Crate]) -> list[str]:
     """The crates of the toolchain that lines of crates.txt name: those that have no folder here."""
-    return sorted({it for crate in known.values() for it in crate.uses if not (TOP / "crates" / it).is_dir()})
+    named = {it for crate in known.values() for it in crate.uses}
+    return sorted(it for it in named - known.keys() if not (TOP / "crates" / it).is_dir())
 
 
 def edits(crate: str = "*", edit: str = "*", folders: tuple[str, ...] = EDITS) -> list[Path]:
@@ -176,7 +177,8 @@ def end_of(lines: list[str], at: int, indent: str) -> int:
         line = lines[end].rstrip()
         is_outer = line.startswith(indent) and line[len(indent):len(indent) + 1] not in ("", " ")
         has_body |= line.endswith("{")
-        if (is_outer and (line.startswith(indent + "}") or line.endswith("{}"))) or (line.endswith(";") and not has_body):
+        is_closed = is_outer and (line.startswith(indent + "}") or line.endswith("{}"))
+        if is_closed or (line.endswith(";") and not has_body):
             return end
     return len(lines) - 1
 
@@ -225,7 +227,8 @@ def main() -> int:
         case ["crates"]:
             names = list(known)
         case ["threads"]:
-            names = [it.name for it in known.values() if any(re.match("tests_may=.*Threads", kind) for kind in it.kinds)]
+            starts = re.compile(r"tests_may=.*Threads")
+            names = [it.name for it in known.values() if any(map(starts.match, it.kinds))]
         case ["named", name] if name in known:
             names = known[name].uses
         case ["below", name] if name in known:
