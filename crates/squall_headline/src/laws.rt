@@ -11,7 +11,9 @@ ghost use Rattle.squall_headline.specs.Ways.{Sent, TakesIn, AreComing, Brings};
 /// whose frames it ends, and the others stay on their way; once all bytes have come, none is. So
 /// between two pieces there may be pieces for other feeds and any other calls.
 pub fn pieces_bring_messages()
-    ensures piece { (sent : List Sent) (old new : FeedValue) (piece coming : List ℕ) (messages : List Message) (fault : Option WireFault) (before after : BoardValue)
-        → AreComing sent old (piece ++ coming) → HearsOn old piece messages fault new → TakesIn messages before after → Brings sent piece coming before after new }
+    ensures piece { (sent : List Sent) (old new : FeedValue) (piece coming : List ℕ) (messages : List Message)
+        (fault : Option WireFault) (before after : BoardValue)
+        → AreComing sent old (piece ++ coming) → HearsOn old piece messages fault new → TakesIn messages before after
+        → Brings sent piece coming before after new }
     ensures last { (sent : List Sent) (feed : FeedValue) → AreComing sent feed [] → sent ≡ [] }
 {}

@@ -31,8 +31,8 @@ use squall_router::Router;
 ///
 /// A call's own contract says that it leads from the board before it to the board after it: the
 /// clauses `told` of [`Board::take`], [`Board::take_all`], [`Board::merge`], [`Router::take`] and
-/// [`Router::absorb`], and `heard` of `Feed::push`. Which messages a piece of a stream brings, where
-/// other calls come between the pieces, is the law `pieces_bring_messages`. That a merge loses
+/// [`Router::absorb`], and `heard` of `Feed::push`. Which messages a piece of a stream brings, if other
+/// calls come between the pieces, is the law [`pieces_bring_messages`]. That a merge loses
 /// nothing and adds nothing is the clause `told` of [`Board::merge`].
 pub fn headline(a: &Board, b: &Board, one: &Router, other: &Router)
     // Nothing is lost and nothing added: a board tells what the reports tell that came to it.
@@ -43,7 +43,8 @@ pub fn headline(a: &Board, b: &Board, one: &Router, other: &Router)
     ensures frames { (ws vs : List Way) → LeadTo ws a.now → LeadTo vs b.now → BringTheSame ws vs → spell (Delta a.now) ≡ spell (Delta b.now) }
 
     // So are the tables of routers of one first course to which the same came.
-    ensures tables { (ws vs : List Way) (legs entries : List PlanRange) → one.now.first ≡ other.now.first → LeadTo ws one.now.board → LeadTo vs other.now.board → BringTheSame ws vs
+    ensures tables { (ws vs : List Way) (legs entries : List PlanRange)
+        → one.now.first ≡ other.now.first → LeadTo ws one.now.board → LeadTo vs other.now.board → BringTheSame ws vs
         → IsTableOf one.now legs → IsTableOf other.now entries → legs ≡ entries }
 
     // And a router's table, and its answers, send each key where the reports send it.
