@@ -123,7 +123,8 @@ pub fn message<'a>(alloc: Global, words: &'a [&'a str]) -> Result<String, AllocE
     }
 }
 
-/// The text of an error that is no failed allocation.
+/// The text of an error that is no failed allocation: the version, or the help after the title, or
+/// what is wrong after `error: `. In both of these the fault's own text follows.
 fn text_of(alloc: Global, error: &Error) -> Result<String, AllocError>
     ensures memory { IfOk result (λ text. kind_of error.now ≢ ErrorKind.OutOfMemory) }
     ensures help { IfOk result (λ text. IsTrue (shows_help (kind_of error.now)) → StartsWith (string_bytes text) title) }

@@ -1,3 +1,4 @@
 pub mod Outputs
 pub mod Sent
 pub mod TaskLemmas
+pub mod Telling

@@ -1,20 +1,23 @@
 -- What is done for a task where something stops it, and which task words ask for.
-use Rattle.std.proofs.Common.{◌≡◌, ◌≢◌, ◌⊎◌, inl, inr, ℕ, ◌<◌, List, [], Bool, true, false, not, ◌&&◌, Option, None, Err, refl, sym, subst, ap, ◌∙◌, arith}
+use Rattle.std.proofs.Common.{◌≡◌, ◌≢◌, ◌⊎◌, inl, inr, ℕ, ◌<◌, List, [], ◌++◌, Bool, true, false, not, ◌&&◌, Option, Some, None, Result, Err, refl, sym, subst, ap, ◌∙◌, arith}
 use Rattle.std.proofs.KnownBytes.{Appends-nil, Consumes-nil}
 use Rattle.std.proofs.lemmas.Bool.{false≢true}
+use Rattle.std.proofs.lemmas.List.{append-nil}
+use Rattle.std.proofs.lemmas.Option.{none-some, same_Some}
 use Rattle.std.specs.Prelude.{MatchBool}
 use Rattle.std.specs.List.{list_any}
-use Rattle.std.specs.Io.KnownBytes.{Consumes}
+use Rattle.std.specs.Io.KnownBytes.{Appends, Consumes, IsAtEnd}
+use Rattle.squall_lines.specs.declared.Ended.{Ended}
 use Rattle.squall_lines.specs.declared.RunFault.{RunFault}
 use Rattle.squall_lines.specs.declared.RunFault.TheVariants.{Read, Write, NoMemory}
 use Rattle.squall_lines.specs.Script.{silence}
 use Rattle.squall_command.specs.Line.{Job, check, course, run, race, title, Asks, AsksForHelp, IsFaulty, shows_help}
 use Rattle.squall_run.specs.declared.tasks.Purpose.{Purpose}
 use Rattle.squall_run.specs.declared.tasks.Purpose.TheVariants as purpose
-use Rattle.squall_run.specs.Files.{KnownFile, Unknown, Missing, Holds, BeginsFile, is_input}
+use Rattle.squall_run.specs.Files.{KnownFile, Unknown, Missing, Holds, Opens, BeginsFile, IsWholeFile, is_input}
 use Rattle.squall_run.specs.Output.{Output, course_of, IsWritten}
-use Rattle.squall_run.specs.Tasks.{status_of, bytes_of, ReadsFrom, ShowsCourseWith, IsDone, EndsInput, NamesFile, ShowsHelp}
-use Rattle.squall_run.specs.Sources.{IsDoneBy, IsUnread}
+use Rattle.squall_run.specs.Tasks.{status_of, bytes_of, ReadsFrom, ReadsAll, ShowsCourseWith, IsDone, EndsInput, NamesFile, ShowsHelp}
+use Rattle.squall_run.specs.Sources.{IsAnswered, NeedsAll, IsDoneBy, IsUnread}
 
 -- ---- nothing is read
 
@@ -36,6 +39,44 @@ pub unopened : (p : Purpose) (f f' : List ℕ → KnownFile) (i o : Option (List
 unopened purpose.Check f f' i o name status e = (Err Read, [], [], e, Appends-nil o, refl, reads_nothing f f' i o o name, λ l. absurd (omega arith))
 unopened purpose.Run f f' i o name status e = (Err Read, [], [], e, Appends-nil o, (silence, refl, refl), reads_nothing f f' i o o name, λ l. absurd (omega arith))
 unopened purpose.Race f f' i o name status e = (Err Read, [], [], e, Appends-nil o, refl, reads_nothing f f' i o o name, λ l. absurd (omega arith))
+
+-- ---- one file is read
+
+-- it was answered as far as the outcome says
+pub answered : (p : Purpose) (f f' : List ℕ → KnownFile) (i i' o o' : Option (List ℕ)) (name read written : List ℕ) (outcome : Result Ended RunFault) (status : ℕ)
+    → status ≡ status_of outcome → Appends o o' written → IsAnswered p outcome read written → ReadsFrom (bytes_of f i o) (bytes_of f' i' o') name read
+    → (NeedsAll p (status_of outcome) → ReadsAll (bytes_of f i o) (bytes_of f' i' o') name read) → IsDoneBy p (bytes_of f i o) (bytes_of f' i' o') name status
+answered purpose.Check f f' i i' o o' name read written outcome status e a text from all = (outcome, read, written, e, a, text, from, λ l. all (subst (NeedsAll purpose.Check) e l))
+answered purpose.Run f f' i i' o o' name read written outcome status e a text from all = (outcome, read, written, e, a, text, from, λ l. all (subst (NeedsAll purpose.Run) e l))
+answered purpose.Race f f' i i' o o' name read written outcome status e a text from all = (outcome, read, written, e, a, text, from, λ l. all (subst (NeedsAll purpose.Race) e l))
+
+pub matched_true : (t : Bool) (P Q : Type 0) → t ≡ true → P → MatchBool t P Q
+matched_true true P Q e p = p
+matched_true false P Q e p = absurd (false≢true e)
+
+pub matched_false : (t : Bool) (P Q : Type 0) → t ≡ false → Q → MatchBool t P Q
+matched_false true P Q e q = absurd (false≢true (sym e))
+matched_false false P Q e q = q
+
+held : (bytes all : List ℕ) → Some (Some bytes) ≡ Some (Some all) → bytes ≡ all
+held bytes all e = same_Some bytes all (same_Some (Some bytes) (Some all) e)
+
+-- what was read of an opened file, from its start on
+pub opened_begins : (known : KnownFile) (bytes left : Option (List ℕ)) (read : List ℕ) → Opens known (Some bytes) → Consumes bytes left read → BeginsFile known read
+opened_begins Unknown bytes left read opened taken = tt
+opened_begins Missing bytes left read opened taken = absurd (none-some bytes (sym opened))
+opened_begins (Holds all) None left read opened taken = absurd (none-some all (same_Some None (Some all) opened))
+opened_begins (Holds all) (Some bytes) None read opened taken = absurd taken
+opened_begins (Holds all) (Some bytes) (Some left) read opened taken = (left, sym (held bytes all opened) ∙ taken)
+
+pub opened_whole : (known : KnownFile) (bytes left : Option (List ℕ)) (read : List ℕ) → Opens known (Some bytes) → Consumes bytes left read → IsAtEnd left → IsWholeFile known read
+opened_whole Unknown bytes left read opened taken ended = tt
+opened_whole Missing bytes left read opened taken ended = absurd (none-some bytes (sym opened))
+opened_whole (Holds all) None left read opened taken ended = absurd (none-some all (same_Some None (Some all) opened))
+opened_whole (Holds all) (Some bytes) None read opened taken ended = absurd taken
+opened_whole (Holds all) (Some bytes) (Some left) read opened taken ended = sym (append-nil read) ∙ ap (λ w. read ++ w) (sym ended) ∙ sym taken ∙ held bytes all opened
+
+-- ---- nothing is done
 
 -- an allocation failed before the task began
 pub nothing_done : (f : List ℕ → KnownFile) (i o : Option (List ℕ)) (job : Job) (status : ℕ) → status ≡ 4 → IsDone (bytes_of f i o) (bytes_of f i o) job status
@@ -98,18 +139,18 @@ first_unread f f' i i' o old new read status u taken kept = (
   second_none (is_input old) (is_input new) i i' (f new) (status < 2) _ kept (unread_high u.0 status u.2),
 )
 
--- both were read, one after the other, and they are not both standard input
-both_first : (t u : Bool) (i i' i'' : Option (List ℕ)) (known : KnownFile) (read : List ℕ) → (t && u ≡ true → ⊥) → (u ≡ false → i'' ≡ i') → MatchBool t (Consumes i i' read) (BeginsFile known read) → MatchBool t (Consumes i i'' read) (BeginsFile known read)
-both_first true true i i' i'' known read other kept h = absurd (other refl)
-both_first true false i i' i'' known read other kept h = subst (λ j. Consumes i j read) (sym (kept refl)) h
-both_first false u i i' i'' known read other kept h = h
+-- both were read, one after the other, and they are not both standard input: what holds of the first still does
+both_first : (t u : Bool) (i' i'' : Option (List ℕ)) (P : Option (List ℕ) → Type 0) (Q : Type 0) → (t && u ≡ true → ⊥) → (u ≡ false → i'' ≡ i') → MatchBool t (P i') Q → MatchBool t (P i'') Q
+both_first true true i' i'' P Q other kept h = absurd (other refl)
+both_first true false i' i'' P Q other kept h = subst P (sym (kept refl)) h
+both_first false u i' i'' P Q other kept h = h
 
-both_second : (t u : Bool) (i i' i'' : Option (List ℕ)) (known : KnownFile) (read : List ℕ) (P Q : Type 0) → (t && u ≡ true → ⊥) → (t ≡ false → i' ≡ i) → MatchBool u (Consumes i' i'' read) (BeginsFile known read) → (P → ⊥)
+both_second : (t u : Bool) (i i' i'' : Option (List ℕ)) (known : KnownFile) (read : List ℕ) (P Q : Type 0) → (t && u ≡ true → ⊥) → (t ≡ false → i' ≡ i) → MatchBool u (Consumes i' i'' read) (BeginsFile known read) → (P → Q)
     → MatchBool (t && u) (read ≡ []) (MatchBool u (Consumes i i'' read) (BeginsFile known read) × (P → Q))
-both_second true true i i' i'' known read P Q other kept h none = absurd (other refl)
-both_second true false i i' i'' known read P Q other kept h none = (h, λ p. absurd (none p))
-both_second false true i i' i'' known read P Q other kept h none = (subst (λ j. Consumes j i'' read) (kept refl) h, λ p. absurd (none p))
-both_second false false i i' i'' known read P Q other kept h none = (h, λ p. absurd (none p))
+both_second true true i i' i'' known read P Q other kept h all = absurd (other refl)
+both_second true false i i' i'' known read P Q other kept h all = (h, all)
+both_second false true i i' i'' known read P Q other kept h all = (subst (λ j. Consumes j i'' read) (kept refl) h, all)
+both_second false false i i' i'' known read P Q other kept h all = (h, all)
 
 pub second_unread : (f f' f'' : List ℕ → KnownFile) (i i' i'' o : Option (List ℕ)) (old new read more : List ℕ) (status : ℕ) → IsUnread status → (is_input old && is_input new ≡ true → ⊥) → f' ≡ f
     → ReadsFrom (bytes_of f i None) (bytes_of f' i' None) old read → (is_input old ≡ false → i' ≡ i) → ReadsFrom (bytes_of f' i' None) (bytes_of f'' i'' None) new more → (is_input new ≡ false → i'' ≡ i')
@@ -122,9 +163,48 @@ second_unread f f' f'' i i' i'' o old new read more status u other same taken ke
   u.2,
   Appends-nil o,
   unread_written u.0 (course_of read more) u.1,
-  both_first (is_input old) (is_input new) i i' i'' (f old) read other kept' taken,
+  both_first (is_input old) (is_input new) i' i'' (λ j. Consumes i j read) (BeginsFile (f old) read) other kept' taken,
   (λ l. absurd (unread_high u.0 status u.2 l)),
-  both_second (is_input old) (is_input new) i i' i'' (f new) more (status < 2) _ other kept (subst (λ (g : List ℕ → KnownFile). MatchBool (is_input new) (Consumes i' i'' more) (BeginsFile (g new) more)) same taken') (unread_high u.0 status u.2),
+  both_second (is_input old) (is_input new) i i' i'' (f new) more (status < 2) _ other kept (subst (λ (g : List ℕ → KnownFile). MatchBool (is_input new) (Consumes i' i'' more) (BeginsFile (g new) more)) same taken') (λ l. absurd (unread_high u.0 status u.2 l)),
+)
+
+-- ---- courses of which both files were read
+
+-- both are standard input
+pub both_input : (f f' : List ℕ → KnownFile) (i i' o o' : Option (List ℕ)) (old new read text written : List ℕ) (outcome : Result Ended RunFault) (status : ℕ)
+    → status ≡ status_of outcome → Appends o o' written → text ≡ read → IsWritten outcome (course_of text []) written → is_input old && is_input new ≡ true
+    → ReadsFrom (bytes_of f i None) (bytes_of f' i' None) old read → ReadsAll (bytes_of f i None) (bytes_of f' i' None) old read
+    → ShowsCourseWith (bytes_of f i o) (bytes_of f' i' o') old new status
+both_input f f' i i' o o' old new read text written outcome status e a is shown both taken all = (
+  outcome,
+  read,
+  [],
+  written,
+  e,
+  a,
+  subst (λ w. IsWritten outcome (course_of w []) written) is shown,
+  taken,
+  (λ l. all),
+  matched_true (is_input old && is_input new) _ _ both refl,
+)
+
+pub both_read : (f f' f'' : List ℕ → KnownFile) (i i' i'' o o' : Option (List ℕ)) (old new read more text text' written : List ℕ) (outcome : Result Ended RunFault) (status : ℕ)
+    → status ≡ status_of outcome → Appends o o' written → text ≡ read → text' ≡ more → IsWritten outcome (course_of text text') written → (is_input old && is_input new ≡ true → ⊥) → f' ≡ f
+    → ReadsFrom (bytes_of f i None) (bytes_of f' i' None) old read → ReadsAll (bytes_of f i None) (bytes_of f' i' None) old read → (is_input old ≡ false → i' ≡ i)
+    → ReadsFrom (bytes_of f' i' None) (bytes_of f'' i'' None) new more → ReadsAll (bytes_of f' i' None) (bytes_of f'' i'' None) new more → (is_input new ≡ false → i'' ≡ i')
+    → ShowsCourseWith (bytes_of f i o) (bytes_of f'' i'' o') old new status
+both_read f f' f'' i i' i'' o o' old new read more text text' written outcome status e a is is' shown other same taken all kept taken' all' kept' = (
+  outcome,
+  read,
+  more,
+  written,
+  e,
+  a,
+  subst (λ w. IsWritten outcome (course_of read w) written) is' (subst (λ w. IsWritten outcome (course_of w text') written) is shown),
+  both_first (is_input old) (is_input new) i' i'' (λ j. Consumes i j read) (BeginsFile (f old) read) other kept' taken,
+  (λ l. both_first (is_input old) (is_input new) i' i'' IsAtEnd (IsWholeFile (f old) read) other kept' all),
+  both_second (is_input old) (is_input new) i i' i'' (f new) more (status < 2) _ other kept (subst (λ (g : List ℕ → KnownFile). MatchBool (is_input new) (Consumes i' i'' more) (BeginsFile (g new) more)) same taken')
+      (λ l. subst (λ (g : List ℕ → KnownFile). MatchBool (is_input new) (IsAtEnd i'') (IsWholeFile (g new) more)) same all'),
 )
 
 -- ---- what words ask for

@@ -2,6 +2,7 @@
 pub use Rattle.squall_device.specs.Counts
 pub use Rattle.squall_lines.specs.Lines
 pub use Rattle.squall_lines.specs.Script
+pub use Rattle.squall_lines.specs.Faults
 pub use Rattle.squall_language.specs.Endings
 pub use Rattle.squall_scenario.specs.Text
 pub use Rattle.squall_command.specs.Line
@@ -10,4 +11,5 @@ pub mod Output
 pub mod Races
 pub mod Files
 pub mod Tasks
+pub mod Told
 pub mod Sources

@@ -54,12 +54,14 @@ fn check(alloc: Global, plan: &[u8], out: &mut String) -> Result<Ended, AllocErr
     Ok(Ended::Fine)
 }
 
-/// Checks the plan of a text: writes a line `range P [LO,HI)` for each range by rising key,
-/// neighbours of one partition joined, and then `plan N`, N the number of these ranges. Where the
-/// text is no plan it writes `refused FAULT`, and the answer is `Refused`.
+/// Checks the plan of a text. It writes a line `range P [LO,HI)` for each range by rising key,
+/// neighbours of one partition joined. Then it writes `plan N`, the number of these ranges. It
+/// writes `refused FAULT` if the text is no plan, and the answer is then `Refused`.
 ///
-/// `Write` where a write failed or took no byte, after a prefix of the text was written;
-/// `NoMemory` before anything was written. There is no other fault.
+/// - `Write`: a write failed, or took no byte. The writer has a prefix of the text.
+/// - `NoMemory`: an allocation failed. Nothing is written.
+///
+/// There is no other fault. A write that failed is always answered so.
 pub fn check_text<K: Sink>(alloc: Global, plan: &[u8], writer: &mut K) -> Result<Ended, RunFault>
     // What is written is the definition's output for the text.
     ensures text { (written : List ℕ) × Appends (K.contents writer.old) (K.contents writer.new) written
@@ -69,13 +71,17 @@ pub fn check_text<K: Sink>(alloc: Global, plan: &[u8], writer: &mut K) -> Result
     ensures unread { result ≢ Err RunFault.Read }
     ensures unwritten { result ≡ Err RunFault.Write → IsCountedSince (K.faults writer.old) (K.faults writer.new)
         ⊎ IsCountedSince (K.empties writer.old) (K.empties writer.new) }
+
+    // A write that failed or took nothing is not passed over.
+    ensures heeds_writes { result ≢ Err RunFault.Write → (K.faults writer.new ≡ K.faults writer.old)
+        × (K.empties writer.new ≡ K.empties writer.old) }
 {
     let mut out = String::new(alloc);
     let ended = check(alloc, plan, &mut out)?;
     write_output(writer, ended, out.as_str())
 }
 
-/// Checks the plan of what the source gives up to its end. `Read` where [`read_all`] says so,
+/// Checks the plan of what the source gives up to its end. `Read` comes when [`read_all`] says so,
 /// before anything was written.
 pub(crate) fn check_source<S: Source, K: Sink>(
     alloc: Global,
@@ -90,6 +96,9 @@ pub(crate) fn check_source<S: Source, K: Sink>(
     ensures all { IsOk result → IsAtEnd (S.remaining source.new) }
     ensures unread { result ≡ Err RunFault.Read → InputFails (S.faults source.old) (S.faults source.new) (S.reads source.old) (S.reads source.new) }
     ensures unwritten { result ≡ Err RunFault.Write → OutputFails (K.faults writer.old) (K.faults writer.new) (K.empties writer.old) (K.empties writer.new) }
+    ensures heeds_reads { result ≢ Err RunFault.Read → S.faults source.new ≡ S.faults source.old }
+    ensures heeds_writes { result ≢ Err RunFault.Write → (K.faults writer.new ≡ K.faults writer.old)
+        × (K.empties writer.new ≡ K.empties writer.old) }
 {
     match read_all(alloc, source) {
         Ok(plan) => check_text(alloc, &plan, writer),

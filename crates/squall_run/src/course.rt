@@ -65,13 +65,16 @@ fn course(alloc: Global, old: &[u8], new: &[u8], out: &mut String) -> Result<End
     Ok(Ended::Fine)
 }
 
-/// Shows the course between the plans of two texts: writes `moves M` and `sub-plans S`, how many
-/// moves and sub-plans there are, and then a line `move [LO,HI) P to Q sub S` for each move by
-/// rising key: the keys go from partition P to partition Q in sub-plan S. Where a text is no plan
-/// it writes `refused old FAULT`, or else `refused new FAULT`, and the answer is `Refused`.
+/// Shows the course between the plans of two texts. It writes `moves M` and `sub-plans S`, how many
+/// moves and sub-plans there are, and then each move by rising key. The line of a move is
+/// `move [LO,HI) P to Q sub S`. Its keys go from partition P to partition Q in sub-plan S. It
+/// writes `refused old FAULT`, or else `refused new FAULT`, if a text is no plan, and the answer is
+/// then `Refused`.
 ///
-/// `Write` where a write failed or took no byte, after a prefix of the text was written;
-/// `NoMemory` before anything was written. There is no other fault.
+/// - `Write`: a write failed, or took no byte. The writer has a prefix of the text.
+/// - `NoMemory`: an allocation failed. Nothing is written.
+///
+/// There is no other fault. A write that failed is always answered so.
 pub fn course_text<K: Sink>(
     alloc: Global,
     old: &[u8],
@@ -86,6 +89,10 @@ pub fn course_text<K: Sink>(
     ensures unread { result ≢ Err RunFault.Read }
     ensures unwritten { result ≡ Err RunFault.Write → IsCountedSince (K.faults writer.old) (K.faults writer.new)
         ⊎ IsCountedSince (K.empties writer.old) (K.empties writer.new) }
+
+    // A write that failed or took nothing is not passed over.
+    ensures heeds_writes { result ≢ Err RunFault.Write → (K.faults writer.new ≡ K.faults writer.old)
+        × (K.empties writer.new ≡ K.empties writer.old) }
 {
     let mut out = String::new(alloc);
     let ended = course(alloc, old, new, &mut out)?;

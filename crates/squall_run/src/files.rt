@@ -6,7 +6,7 @@ ghost use Rattle.squall_run.specs.Files.{KnownFile, Unknown, Opens};
 
 use squall_device::Source;
 
-/// Where files are found by their names.
+/// Finds files by their names.
 pub trait Files {
     /// An opened file, whose bytes are read from its start on.
     type File: Source + Drop;
@@ -14,7 +14,7 @@ pub trait Files {
     /// What is known of the file of a name. By default nothing is.
     ghost known: { Self → List ℕ → KnownFile } = { λ _ _. Unknown };
 
-    /// Opens the file of that name. None where it can't be opened.
+    /// Opens the file of that name. The answer is None if it can't be opened.
     fn open(&mut self, name: &str) -> Option<Self::File>
         ensures opens { Opens (known self.old name.now) (option_map Self.File.remaining result) }
         ensures files { known self.new ≡ known self.old };

@@ -4,13 +4,13 @@ ghost use Rattle.std.specs.Prelude.{◌≡◌, ℕ, List, true, false};
 ghost use Rattle.squall_language.specs.Endings.{EndsInRefusal, EndsInNoRefusal};
 ghost use Rattle.squall_run.specs.Output.{check_of, course_of};
 
-/// A check is refused exactly where the last line of its output begins with `refused`.
+/// A check is refused exactly when the last line of its output begins with `refused`.
 pub fn refused_check_ends_in_a_refusal()
     ensures refused { (plan : List ℕ) → (check_of plan).refused ≡ true → EndsInRefusal (check_of plan).text }
     ensures fine { (plan : List ℕ) → (check_of plan).refused ≡ false → EndsInNoRefusal (check_of plan).text }
 {}
 
-/// A course is refused exactly where the last line of its output begins with `refused`.
+/// A course is refused exactly when the last line of its output begins with `refused`.
 pub fn refused_course_ends_in_a_refusal()
     ensures refused { (old new : List ℕ) → (course_of old new).refused ≡ true → EndsInRefusal (course_of old new).text }
     ensures fine { (old new : List ℕ) → (course_of old new).refused ≡ false → EndsInNoRefusal (course_of old new).text }

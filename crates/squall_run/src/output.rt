@@ -20,6 +20,8 @@ pub(crate) fn write_output<K: Sink>(
     ensures unread { result ≢ Err RunFault.Read }
     ensures unwritten { result ≡ Err RunFault.Write → IsCountedSince (K.faults writer.old) (K.faults writer.new)
         ⊎ IsCountedSince (K.empties writer.old) (K.empties writer.new) }
+    ensures heeds_writes { result ≢ Err RunFault.Write → (K.faults writer.new ≡ K.faults writer.old)
+        × (K.empties writer.new ≡ K.empties writer.old) }
 {
     match send_text(writer, text) {
         Ok(()) => Ok(ended),

@@ -1,9 +1,10 @@
 //! What the words of a command line bring about.
 
-ghost use Rattle.std.specs.Prelude.{◌≡◌, ◌≢◌, ◌⊎◌, ◌↔◌};
+ghost use Rattle.std.specs.Prelude.{◌≡◌, ◌≢◌, ◌⊎◌, ◌↔◌, ℕ, List};
 ghost use Rattle.squall_device.specs.Counts.{IsCountedSince};
 ghost use Rattle.squall_command.specs.Line.{Job, words_of, Asks, AsksForHelp, IsFaulty};
 ghost use Rattle.squall_run.specs.Tasks.{bytes_of, IsDone, EndsInput, NamesFile, InputFails, OutputFails, ShowsHelp};
+ghost use Rattle.squall_run.specs.Told.{IsTold, NamesIt, Says};
 
 use crate::files::Files;
 use crate::messages::{BAD_WORDS, say, tell_fault, tell_outcome};
@@ -26,6 +27,9 @@ fn show_help<'a, O: Sink, E: Sink>(
     ensures help { AsksForHelp (words_of words.entry.now) → ShowsHelp (O.contents out.old) (O.contents out.new) result }
     ensures device { result ≡ 3 → OutputFails (O.faults out.old) (O.faults out.new) (O.empties out.old) (O.empties out.new) }
     ensures taken { result ≢ 2 }
+    ensures heeds { result ≢ 3 → (O.faults out.new ≡ O.faults out.old) × (O.empties out.new ≡ O.empties out.old) }
+    ensures told { (text : List ℕ) × IsTold (NamesIt (words_of words.entry.now)) result text
+        × Says (E.contents err.old) (E.contents err.new) (E.faults err.old) (E.faults err.new) (E.empties err.old) (E.empties err.new) text }
 {
     let Ok(help) = message(alloc, words) else {
         return tell_fault(RunFault::NoMemory, err);
@@ -37,6 +41,8 @@ fn show_help<'a, O: Sink, E: Sink>(
 fn show_fault<'a, E: Sink>(alloc: Global, words: &'a [&'a str], err: &mut E) -> u8
     ensures bad { result ≢ 4 → result ≡ 2 }
     ensures device { result ≢ 3 }
+    ensures told { IsFaulty (words_of words.entry.now) → (text : List ℕ) × IsTold (NamesIt (words_of words.entry.now)) result text
+        × Says (E.contents err.old) (E.contents err.new) (E.faults err.old) (E.faults err.new) (E.empties err.old) (E.empties err.new) text }
 {
     match message(alloc, words) {
         Ok(text) => {
@@ -47,18 +53,21 @@ fn show_fault<'a, E: Sink>(alloc: Global, words: &'a [&'a str], err: &mut E) -> 
     }
 }
 
-/// Does what the words of a command line ask for, the program's name first, and gives the status
-/// with which the program is to end. A file named `-` is what `input` gives to its end. Files are
-/// opened and read in the order of the words.
+/// Does what the words of a command line ask for, the program's name first. It gives the status with
+/// which the program is to end. A file named `-` is what `input` gives to its end. Files are opened
+/// and read in the order of the words.
 ///
-/// - 0: the task was done, or help or the version was asked for and stands on `out`.
+/// - 0: the task was done, or `out` has the help or the version that was asked for.
 /// - 1: the input was refused; `out` says why.
 /// - 2: the words ask for nothing that there is; `err` says why.
 /// - 3: a file can't be opened, a read failed or found no end, or a write failed or took nothing;
 ///   `err` says which.
 /// - 4: an allocation failed, as `err` says.
 ///
-/// After a fault `out` has what [`run_text`], [`race_text`], [`check_text`] and [`course_text`] say.
+/// Nothing is written to `err` with status 0 or 1. A write to `err` that fails is the last one, and
+/// the status stays what it is.
+///
+/// [`run_text`], [`race_text`], [`check_text`] and [`course_text`] say what `out` has after a fault.
 ///
 /// A race is run in threads, for which the call waits: what is said here holds if it returns.
 ///
@@ -79,18 +88,22 @@ pub fn perform<'a, R: Threads + Wait + Sync, F: Files, S: Source, O: Sink, E: Si
     ensures done { (job : Job) → Asks (words_of words.entry.now) job → IsDone (bytes_of (F.known files.old) (S.remaining input.old) (O.contents out.old))
         (bytes_of (F.known files.new) (S.remaining input.new) (O.contents out.new)) job result }
 
-    // A status that says that standard input was read to its end comes only where a read found that end.
-    ensures ended { (job : Job) → Asks (words_of words.entry.now) job → EndsInput job result
-        → IsCountedSince (S.ends input.old) (S.ends input.new) }
+    // A status that says that standard input was read to its end comes only when a read found that end.
+    ensures ended { (job : Job) → Asks (words_of words.entry.now) job → EndsInput job result → IsCountedSince (S.ends input.old) (S.ends input.new) }
 
-    // Status 3 comes only where a device failed, or the words name a file, which may have failed.
+    // Status 3 comes only when a device failed, or the words name a file, which may have failed.
     ensures device { result ≡ 3 → InputFails (S.faults input.old) (S.faults input.new) (S.reads input.old) (S.reads input.new)
         ⊎ (OutputFails (O.faults out.old) (O.faults out.new) (O.empties out.old) (O.empties out.new)
         ⊎ ((job : Job) × Asks (words_of words.entry.now) job × NamesFile job)) }
 
+    // A read of standard input that failed gives status 3, and so does a write to `out` that failed or took nothing.
+    ensures heeds { result ≢ 3 → (S.faults input.new ≡ S.faults input.old) × (O.faults out.new ≡ O.faults out.old) × (O.empties out.new ≡ O.empties out.old) }
+    // What is added to `err` is the text that goes with the status, whole unless a write to `err` failed or took nothing.
+    ensures told { (text : List ℕ) × IsTold (NamesIt (words_of words.entry.now)) result text
+        × Says (E.contents err.old) (E.contents err.new) (E.faults err.old) (E.faults err.new) (E.empties err.old) (E.empties err.new) text }
+
     // Unless an allocation failed, status 2 comes exactly for bad words,
     ensures bad { result ≢ 4 → (result ≡ 2) ↔ IsFaulty (words_of words.entry.now) }
-
     // and help that is asked for is written, whole at status 0.
     ensures help { AsksForHelp (words_of words.entry.now) → ShowsHelp (O.contents out.old) (O.contents out.new) result }
 {

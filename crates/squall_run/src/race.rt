@@ -25,6 +25,8 @@ fn show_race<R: Threads + Wait + Sync, K: Sink>(
     ensures unread { result ≢ Err RunFault.Read }
     ensures unwritten { result ≡ Err RunFault.Write → IsCountedSince (K.faults writer.old) (K.faults writer.new)
         ⊎ IsCountedSince (K.empties writer.old) (K.empties writer.new) }
+    ensures heeds_writes { result ≢ Err RunFault.Write → (K.faults writer.new ≡ K.faults writer.old)
+        × (K.empties writer.new ≡ K.empties writer.old) }
 {
     let mut out = String::new(alloc);
     let ended = answer_race(rt, alloc, text, &mut out)?;
@@ -34,18 +36,19 @@ fn show_race<R: Threads + Wait + Sync, K: Sink>(
     }
 }
 
-/// Runs the race of a race file: reads the file from `reader` to the end of the input, runs its
-/// senders, its readers and its owner as threads at once, and writes to `writer` the board that
-/// they come to and the routes of its keys by that board. Nothing is written before the end of the
-/// input.
+/// Runs the race of a race file, which it reads from `reader` to the end of the input. The senders,
+/// the readers and the owner run as threads at once. It writes to `writer` the board that they come
+/// to and the routes of its keys by that board. Nothing is written before the end of the input.
 ///
-/// `Fine` says that the race was run. `Refused` says that it was not, and why stands in the text:
-/// `bad line N: REASON`, or `refused NoThread` where a thread was refused and `refused NoPlace`
-/// where a reader got no place. A fault stops it: `Read` where a read failed, or more than
-/// [`MOST_READS`] would be needed, before anything was written; `Write` where a write failed or took
-/// no byte, after a prefix of the text was written; `NoMemory` where an allocation failed, before
-/// anything was written. Where memory is short, `refused NoThread` and `refused NoPlace` may stand
-/// in place of `NoMemory`. What was read stays read.
+/// - `Fine`: the race was run.
+/// - `Refused`: the race was not run, and the text says why. `bad line N: REASON` names a bad line,
+///   `refused NoThread` a refused thread, and `refused NoPlace` a reader without a place.
+/// - `Read`: a read failed, or [`MOST_READS`] reads came to no end. Nothing is written.
+/// - `Write`: a write failed, or took no byte. The writer has a prefix of the text.
+/// - `NoMemory`: an allocation failed. Nothing is written.
+///
+/// A read or a write that failed is always answered so. `refused NoThread` and `refused NoPlace` may
+/// stand in place of `NoMemory` if memory is short. What was read stays read.
 ///
 /// The call waits for its threads. What is said here holds if it returns; all its threads have
 /// ended then.
@@ -63,7 +66,7 @@ pub fn race_text<R: Threads + Wait + Sync, S: Source, K: Sink>(
         × Appends (K.contents writer.old) (K.contents writer.new) written
         × IsRaced result read written }
 
-    // A race is run or refused only where a read found the end, and nothing is left.
+    // A race is run or refused only when a read found the end, and nothing is left.
     ensures ended { IsOk result → IsCountedSince (S.ends reader.old) (S.ends reader.new) }
     ensures all { IsOk result → IsAtEnd (S.remaining reader.new) }
 
@@ -72,6 +75,11 @@ pub fn race_text<R: Threads + Wait + Sync, S: Source, K: Sink>(
         ⊎ (times_more read_limit (S.reads reader.old) ≤ S.reads reader.new) }
     ensures unwritten { result ≡ Err RunFault.Write → IsCountedSince (K.faults writer.old) (K.faults writer.new)
         ⊎ IsCountedSince (K.empties writer.old) (K.empties writer.new) }
+
+    // No read or write that failed is passed over.
+    ensures heeds_reads { result ≢ Err RunFault.Read → S.faults reader.new ≡ S.faults reader.old }
+    ensures heeds_writes { result ≢ Err RunFault.Write → (K.faults writer.new ≡ K.faults writer.old)
+        × (K.empties writer.new ≡ K.empties writer.old) }
 
     // Whatever the reader does, so many reads are made at most.
     ensures reads { S.reads reader.new ≤ S.reads reader.old + read_limit }

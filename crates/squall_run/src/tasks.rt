@@ -6,12 +6,13 @@ ghost use Rattle.squall_device.specs.Counts.{IsCountedSince};
 ghost use Rattle.squall_command.specs.Line.{course, job_seen};
 ghost use Rattle.squall_run.specs.Files.{is_input};
 ghost use Rattle.squall_run.specs.Tasks.{status_of, bytes_of, ReadsFrom, ReadsAll, ShowsCourseWith, IsDone, EndsInput, NamesFile, InputFails, OutputFails};
+ghost use Rattle.squall_run.specs.Told.{IsNamed, IsTold, Says};
 ghost use Rattle.squall_run.specs.Sources.{IsAnswered, NeedsAll, IsDoneBy, IsUnread};
 
 use crate::check::check_source;
 use crate::course::course_text;
 use crate::files::Files;
-use crate::messages::{tell_fault, tell_outcome, tell_unopened};
+use crate::messages::{tell_outcome, tell_read, tell_unopened};
 use crate::race::race_text;
 use crate::run_text;
 use squall_command::Task;
@@ -46,6 +47,8 @@ fn answer_source<R: Threads + Wait + Sync, S: Source, O: Sink>(
     ensures all { NeedsAll purpose (status_of result) → IsAtEnd (S.remaining source.new) }
     ensures device { status_of result ≡ 3 → InputFails (S.faults source.old) (S.faults source.new) (S.reads source.old) (S.reads source.new)
         ⊎ OutputFails (O.faults out.old) (O.faults out.new) (O.empties out.old) (O.empties out.new) }
+    ensures heeds { status_of result ≢ 3 → (S.faults source.new ≡ S.faults source.old)
+        × (O.faults out.new ≡ O.faults out.old) × (O.empties out.new ≡ O.empties out.old) }
 {
     match purpose {
         Purpose::Check => check_source(alloc, source, out),
@@ -54,24 +57,28 @@ fn answer_source<R: Threads + Wait + Sync, S: Source, O: Sink>(
     }
 }
 
-/// Does it with the bytes of a file.
+/// Does it with the bytes of a file, which is given by its purpose and its name.
 fn answer_file<R: Threads + Wait + Sync, F: Files, S: Source, O: Sink, E: Sink>(
     rt: &R,
     alloc: Global,
-    purpose: Purpose,
-    name: &str,
+    file: (Purpose, &str),
     files: &mut F,
     input: &mut S,
     out: &mut O,
     err: &mut E,
 ) -> u8
-    ensures done { IsDoneBy purpose (bytes_of (F.known files.old) (S.remaining input.old) (O.contents out.old))
-        (bytes_of (F.known files.new) (S.remaining input.new) (O.contents out.new)) name.now result }
-    ensures ended { is_input name.now ≡ true → NeedsAll purpose result → IsCountedSince (S.ends input.old) (S.ends input.new) }
+    ensures done { IsDoneBy file.entry.0 (bytes_of (F.known files.old) (S.remaining input.old) (O.contents out.old))
+        (bytes_of (F.known files.new) (S.remaining input.new) (O.contents out.new)) file.entry.1.now result }
+    ensures ended { is_input file.entry.1.now ≡ true → NeedsAll file.entry.0 result → IsCountedSince (S.ends input.old) (S.ends input.new) }
     ensures device { result ≡ 3 → InputFails (S.faults input.old) (S.faults input.new) (S.reads input.old) (S.reads input.new)
-        ⊎ (OutputFails (O.faults out.old) (O.faults out.new) (O.empties out.old) (O.empties out.new) ⊎ (is_input name.now ≡ false)) }
+        ⊎ (OutputFails (O.faults out.old) (O.faults out.new) (O.empties out.old) (O.empties out.new) ⊎ (is_input file.entry.1.now ≡ false)) }
     ensures taken { result ≢ 2 }
+    ensures heeds { result ≢ 3 → (S.faults input.new ≡ S.faults input.old)
+        × (O.faults out.new ≡ O.faults out.old) × (O.empties out.new ≡ O.empties out.old) }
+    ensures told { (text : List ℕ) × IsTold (λ name. name ≡ file.entry.1.now) result text
+        × Says (E.contents err.old) (E.contents err.new) (E.faults err.old) (E.faults err.new) (E.empties err.old) (E.empties err.new) text }
 {
+    let (purpose, name) = file;
     if name == "-" {
         return tell_outcome(answer_source(rt, alloc, purpose, input, out), err);
     }
@@ -81,7 +88,7 @@ fn answer_file<R: Threads + Wait + Sync, F: Files, S: Source, O: Sink, E: Sink>(
     }
 }
 
-/// The bytes of a file. Where they can't be had it says why, and gives the status.
+/// The bytes of a file. If they can't be had, it says why, and gives the status.
 fn read_named<F: Files, S: Source, E: Sink>(
     alloc: Global,
     name: &str,
@@ -89,25 +96,27 @@ fn read_named<F: Files, S: Source, E: Sink>(
     input: &mut S,
     err: &mut E,
 ) -> Result<Vec<u8>, u8>
-    ensures bytes { (read : List ℕ) × ReadsFrom (bytes_of (F.known files.old) (S.remaining input.old) None) (bytes_of (F.known files.new) (S.remaining input.new) None) name.now read
-        × IfOk result (λ bytes. (bytes.items ≡ read) × ReadsAll (bytes_of (F.known files.old) (S.remaining input.old) None) (bytes_of (F.known files.new) (S.remaining input.new) None) name.now read) }
+    ensures bytes { (read : List ℕ)
+        × ReadsFrom (bytes_of (F.known files.old) (S.remaining input.old) None) (bytes_of (F.known files.new) (S.remaining input.new) None) name.now read
+        × IfOk result (λ bytes. (bytes.items ≡ read)
+        × ReadsAll (bytes_of (F.known files.old) (S.remaining input.old) None) (bytes_of (F.known files.new) (S.remaining input.new) None) name.now read) }
     ensures ended { is_input name.now ≡ true → IsOk result → IsCountedSince (S.ends input.old) (S.ends input.new) }
     ensures kept { is_input name.now ≡ false → input.new ≡ input.old }
     ensures files { F.known files.new ≡ F.known files.old }
     ensures fault { IfErr result IsUnread }
-    ensures device { IfErr result (λ status. status ≡ 3 → InputFails (S.faults input.old) (S.faults input.new) (S.reads input.old) (S.reads input.new) ⊎ (is_input name.now ≡ false)) }
+    ensures device { IfErr result (λ status. status ≡ 3
+        → InputFails (S.faults input.old) (S.faults input.new) (S.reads input.old) (S.reads input.new) ⊎ (is_input name.now ≡ false)) }
+    ensures heeds { result ≢ Err 3 → S.faults input.new ≡ S.faults input.old }
+    ensures told { IfErr result (λ status. (text : List ℕ) × IsTold (λ file. file ≡ name.now) status text
+        × Says (E.contents err.old) (E.contents err.new) (E.faults err.old) (E.faults err.new) (E.empties err.old) (E.empties err.new) text) }
+    ensures quiet { IsOk result → err.new ≡ err.old }
 {
-    let read = if name == "-" {
-        read_all(alloc, input)
-    } else {
-        match files.open(name) {
-            Some(mut file) => read_all(alloc, &mut file),
-            None => return Err(tell_unopened(name, err)),
-        }
-    };
-    match read {
-        Ok(bytes) => Ok(bytes),
-        Err(fault) => Err(tell_fault(fault, err)),
+    if name == "-" {
+        return tell_read(read_all(alloc, input), err);
+    }
+    match files.open(name) {
+        Some(mut file) => tell_read(read_all(alloc, &mut file), err),
+        None => Err(tell_unopened(name, err)),
     }
 }
 
@@ -118,8 +127,8 @@ fn are_input(old: &str, new: &str) -> bool
     old == "-" && new == "-"
 }
 
-/// Shows the course between the plans of two files. Where both are standard input, the second one
-/// is empty.
+/// Shows the course between the plans of two files. If both are standard input, the second one is
+/// empty.
 fn course_files<F: Files, S: Source, O: Sink, E: Sink>(
     alloc: Global,
     old: &str,
@@ -135,6 +144,10 @@ fn course_files<F: Files, S: Source, O: Sink, E: Sink>(
     ensures device { result ≡ 3 → InputFails (S.faults input.old) (S.faults input.new) (S.reads input.old) (S.reads input.new)
         ⊎ (OutputFails (O.faults out.old) (O.faults out.new) (O.empties out.old) (O.empties out.new) ⊎ NamesFile (course old.now new.now)) }
     ensures taken { result ≢ 2 }
+    ensures heeds { result ≢ 3 → (S.faults input.new ≡ S.faults input.old)
+        × (O.faults out.new ≡ O.faults out.old) × (O.empties out.new ≡ O.empties out.old) }
+    ensures told { (text : List ℕ) × IsTold (IsNamed (course old.now new.now)) result text
+        × Says (E.contents err.old) (E.contents err.new) (E.faults err.old) (E.faults err.new) (E.empties err.old) (E.empties err.new) text }
 {
     let old_text = match read_named(alloc, old, files, input, err) {
         Ok(text) => text,
@@ -165,8 +178,12 @@ pub(crate) fn do_task<R: Threads + Wait + Sync, F: Files, S: Source, O: Sink, E:
     ensures device { result ≡ 3 → InputFails (S.faults input.old) (S.faults input.new) (S.reads input.old) (S.reads input.new)
         ⊎ (OutputFails (O.faults out.old) (O.faults out.new) (O.empties out.old) (O.empties out.new) ⊎ NamesFile (job_seen task.now)) }
     ensures taken { result ≢ 2 }
+    ensures heeds { result ≢ 3 → (S.faults input.new ≡ S.faults input.old)
+        × (O.faults out.new ≡ O.faults out.old) × (O.empties out.new ≡ O.empties out.old) }
+    ensures told { (text : List ℕ) × IsTold (IsNamed (job_seen task.now)) result text
+        × Says (E.contents err.old) (E.contents err.new) (E.faults err.old) (E.faults err.new) (E.empties err.old) (E.empties err.new) text }
 {
-    let (purpose, name) = match task {
+    let file = match task {
         Task::Check(plan) => (Purpose::Check, plan.as_str()),
         Task::Course(old, new) => {
             let (old, new) = (old.as_str(), new.as_str());
@@ -175,5 +192,5 @@ pub(crate) fn do_task<R: Threads + Wait + Sync, F: Files, S: Source, O: Sink, E:
         Task::Run(file) => (Purpose::Run, file.as_str()),
         Task::Race(file) => (Purpose::Race, file.as_str()),
     };
-    answer_file(rt, alloc, purpose, name, files, input, out, err)
+    answer_file(rt, alloc, file, files, input, out, err)
 }
