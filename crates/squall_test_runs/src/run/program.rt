@@ -2,31 +2,44 @@
 
 use super::{Drip, Drops, GAP, NEW_CHECKED, NEW_PLAN, OLD, RACE, SHOWN};
 use squall_run::{Files, Reader, Source, Writer, perform};
-use std::alloc::Global;
+use std::alloc::{AllocError, Global};
 use std::io;
 use std::io::Read;
 use std::sync::Wait;
 use std::test::Fail;
 use std::thread::Threads;
 
-/// Three files: `new.json`, a plan; `gap.json`, which is none; and `race.txt`, a race.
+/// Four files: `new.json`, a plan; `gap.json`, which is none; `race.txt`, a race; and `broken.json`, of
+/// which a read fails.
 #[derive(Drop)]
-struct ThreeFiles;
+struct FourFiles;
 
-impl Files for ThreeFiles {
-    type File = Reader<&'static [u8]>;
+/// The text of a file of that name, and which read of it fails.
+fn file(name: &str) -> Option<(&'static str, usize)> {
+    if name == "new.json" {
+        return Some((NEW_PLAN, ALL));
+    }
+    if name == "gap.json" {
+        return Some((GAP, ALL));
+    }
+    if name == "race.txt" {
+        return Some((RACE, ALL));
+    }
+    if name == "broken.json" {
+        return Some((NEW_PLAN, 7));
+    }
+    None
+}
 
-    fn open(&mut self, name: &str) -> Option<Reader<&'static [u8]>> {
-        if name == "new.json" {
-            return Some(Reader::new(NEW_PLAN.as_bytes()));
-        }
-        if name == "gap.json" {
-            return Some(Reader::new(GAP.as_bytes()));
-        }
-        if name == "race.txt" {
-            return Some(Reader::new(RACE.as_bytes()));
-        }
-        None
+impl Files for FourFiles {
+    type File = Reader<Drip<'static>>;
+
+    fn open(&mut self, name: &str) -> Option<Reader<Drip<'static>>> {
+        let (text, fails) = file(name)?;
+        Some(Reader::new(Drip {
+            bytes: text.as_bytes(),
+            fails,
+        }))
     }
 }
 
@@ -57,14 +70,14 @@ fn status<R: Threads + Wait + Sync, S: Source + Drop>(
     words: &'static [&'static str],
     mut input: S,
     out: &mut Drops,
-    err: &mut Vec<u8>,
+    err: &mut Drops,
 ) -> u8 {
     let (mut out, mut err) = (Writer::new(out), Writer::new(err));
     perform(
         rt,
         alloc,
         words,
-        &mut ThreeFiles,
+        &mut FourFiles,
         &mut input,
         &mut out,
         &mut err,
@@ -77,6 +90,15 @@ type Wanted = (usize, u8, &'static str, &'static str);
 /// Stands for any output at all.
 const SOME: &str = "some";
 
+/// A writer that stops at that write.
+fn drops(alloc: Global, fails: usize) -> Drops {
+    Drops {
+        taken: Vec::new(alloc),
+        fails,
+        takes_nothing: false,
+    }
+}
+
 /// Whether the words bring that about.
 fn brings<R: Threads + Wait + Sync, S: Source + Drop>(
     rt: &R,
@@ -85,17 +107,13 @@ fn brings<R: Threads + Wait + Sync, S: Source + Drop>(
     input: S,
     wanted: Wanted,
 ) -> bool {
-    let mut out = Drops {
-        taken: Vec::new(alloc),
-        fails: wanted.0,
-        takes_nothing: false,
-    };
-    let mut err = Vec::new(alloc);
+    let mut out = drops(alloc, wanted.0);
+    let mut err = drops(alloc, ALL);
     let status = status(rt, alloc, words, input, &mut out, &mut err);
     status == wanted.1
         && is_shown(out.taken.as_slice(), wanted.2)
-        && err.as_slice().starts_with(wanted.3.as_bytes())
-        && err.is_empty() == wanted.3.is_empty()
+        && err.taken.as_slice().starts_with(wanted.3.as_bytes())
+        && err.taken.is_empty() == wanted.3.is_empty()
 }
 
 /// Whether that is the output, or just some output where that is all that is wanted.
@@ -109,12 +127,16 @@ fn is_shown(output: &[u8], wanted: &str) -> bool {
 
 const ALL: usize = usize::MAX;
 
+const NO_MEMORY: &str = "squall: no memory\n";
+
 const NO_X: &str = "squall: cannot open x\n";
+
+const NO_READ: &str = "squall: read failed\n";
 
 const NO_WRITE: &str = "squall: write failed\n";
 
 /// Words, standard input, and what they bring about. Files are opened in the order of the words.
-static ROWS: [(&[&str], &str, Wanted); 20] = [
+static ROWS: [(&[&str], &str, Wanted); 24] = [
     (
         &["squall", "course", "new.json", "-"],
         NEW_PLAN,
@@ -127,6 +149,22 @@ static ROWS: [(&[&str], &str, Wanted); 20] = [
     ),
     (&["squall", "course", "x", "y"], "", (ALL, 3, "", NO_X)),
     (&["squall", "course", "-", "x"], GAP, (ALL, 3, "", NO_X)),
+    (
+        &["squall", "course", "new.json", "broken.json"],
+        "",
+        (ALL, 3, "", NO_READ),
+    ),
+    (
+        &["squall", "check", "broken.json"],
+        "",
+        (ALL, 3, "", NO_READ),
+    ),
+    (&["squall", "run", "broken.json"], "", (ALL, 3, "", NO_READ)),
+    (
+        &["squall", "race", "broken.json"],
+        "",
+        (ALL, 3, "", NO_READ),
+    ),
     (
         &["squall", "check", "new.json"],
         "",
@@ -206,39 +244,98 @@ fn standard_input_that_fails(rt: HostRuntime) -> Result<(), Fail> {
         bytes: GAP.as_bytes(),
         fails: 7,
     });
-    let wanted = (ALL, 3, "", "squall: read failed\n");
+    let wanted = (ALL, 3, "", NO_READ);
     assert!(rt; brings(&rt, rt.alloc(), &["squall", "check", "-"], broken, wanted));
     Ok(())
 }
 
-/// The status of the check of a plan. What is written and told is left in `out` and `err`.
-fn checks<R: Threads + Wait + Sync>(
+/// Words that bring about a text on standard error, by how many bytes the output takes: the status, the
+/// output, and the first of what is told.
+static TOLD: [(&[&str], Wanted); 5] = [
+    (&["squall", "course", "x", "y"], (ALL, 3, "", NO_X)),
+    (&["squall", "check", "-"], (ALL, 3, "", NO_READ)),
+    (&["squall", "check", "new.json"], (3, 3, "ran", NO_WRITE)),
+    (&["squall", "check"], (ALL, 2, "", "error: ")),
+    (&["squall", "--help"], (0, 3, "", NO_WRITE)),
+];
+
+/// Whether the words bring that about on a standard error of which one write fails, or takes nothing:
+/// the first bytes stand there, and nothing of what follows.
+fn tells_first<R: Threads + Wait + Sync>(
     rt: &R,
     alloc: Global,
-    out: &mut Drops,
-    err: &mut Vec<u8>,
-) -> u8 {
-    let input = Reader::new(b"".as_slice());
-    status(rt, alloc, &["squall", "check", "new.json"], input, out, err)
+    words: &'static [&'static str],
+    wanted: Wanted,
+    err: &mut Drops,
+) -> bool {
+    let told = wanted.3.as_bytes();
+    let first = told.get(..err.fails).unwrap_or(told);
+    let mut out = drops(alloc, wanted.0);
+    let input = Reader::new(Drip {
+        bytes: GAP.as_bytes(),
+        fails: 7,
+    });
+    let status = status(rt, alloc, words, input, &mut out, err);
+    status == wanted.1
+        && out.taken.as_slice() == wanted.2.as_bytes()
+        && err.taken.as_slice() == first
 }
 
-/// A failed allocation has a status and a text of its own.
+/// Whether the words bring that about whichever write to standard error fails or takes nothing.
+fn tells_until<R: Threads + Wait + Sync>(
+    rt: &R,
+    alloc: Global,
+    words: &'static [&'static str],
+    wanted: Wanted,
+) -> bool {
+    for fails in 0..wanted.3.len() {
+        let mut failing = drops(alloc, fails);
+        let mut taking_nothing = Drops {
+            takes_nothing: true,
+            ..drops(alloc, fails)
+        };
+        if !tells_first(rt, alloc, words, wanted, &mut failing)
+            || !tells_first(rt, alloc, words, wanted, &mut taking_nothing)
+        {
+            return false;
+        }
+    }
+    true
+}
+
+#[test]
+fn standard_error_that_stops(rt: HostRuntime) -> Result<(), Fail> {
+    for (words, wanted) in &TOLD {
+        assert!(rt; tells_until(&rt, rt.alloc(), words, *wanted));
+    }
+    Ok(())
+}
+
+/// A writer that has its room from the start.
+fn roomy(alloc: Global, room: usize) -> Result<Drops, AllocError> {
+    Ok(Drops {
+        taken: Vec::with_capacity(alloc, room)?,
+        ..drops(alloc, ALL)
+    })
+}
+
+/// Whether the check of a plan is written whole, or else no memory is told by status and text.
+fn checks<R: Threads + Wait + Sync>(rt: &R, alloc: Global) -> Result<bool, AllocError> {
+    let mut out = roomy(alloc, NEW_CHECKED.len())?;
+    let mut err = roomy(alloc, NO_MEMORY.len())?;
+    let words = &["squall", "check", "new.json"];
+    let input = Reader::new(b"".as_slice());
+    let status = status(rt, alloc, words, input, &mut out, &mut err);
+    let (written, told) = (out.taken.as_slice(), err.taken.as_slice());
+    Ok(match status {
+        0 => written == NEW_CHECKED.as_bytes() && told.is_empty(),
+        4 => written.is_empty() && told == NO_MEMORY.as_bytes(),
+        _ => false,
+    })
+}
+
 #[test]
 fn tolerant_words(rt: HostRuntime) -> Result<(), Fail> {
-    let mut out = Drops {
-        taken: Vec::new(rt.alloc()),
-        fails: ALL,
-        takes_nothing: false,
-    };
-    let mut err = Vec::new(rt.alloc());
-    let status = checks(&rt, rt.alloc(), &mut out, &mut err);
-    // The writer, which grows too, may be the one that was refused: status 3.
-    let right = match status {
-        0 => out.taken.as_slice() == NEW_CHECKED.as_bytes(),
-        3 => err.as_slice() == NO_WRITE.as_bytes(),
-        4 => out.taken.is_empty() && err.as_slice() == b"squall: no memory\n".as_slice(),
-        _ => false,
-    };
-    assert!(rt; right);
+    assert!(rt; checks(&rt, rt.alloc()) != Ok(false));
     Ok(())
 }
