@@ -10,8 +10,8 @@ use Rattle.squall_router.specs.Routers.{RouterValue, router_with}
 use Rattle.squall_inbox.specs.Letters.{Allowance, AreLetters, board_after}
 use Rattle.squall_desk.specs.Track.{Run}
 
--- the router shown has the first course, and the opening board joined with the letters of the published list, which is of this book and of
--- letters that are allowed. What each place knows begins that list
+-- The router shown has the first course, and the opening board joined with the letters of the published list. That list is of this book, and its
+-- letters are allowed. What each place knows begins that list
 abbrev pub Shows : Allowance → Book → Change → BoardValue → RouterValue → Run → List (List BoardValue) → Type 0
 Shows allowed book first opening router published views =
     AreLetters allowed published.log × (published.book ≡ book) × (router ≡ router_with first (board_after opening published.log))
@@ -20,4 +20,5 @@ Shows allowed book first opening router published views =
 -- what is known is the published list. It begins with all that was known
 abbrev pub Looks : Allowance → Book → Change → BoardValue → List BoardValue → RouterValue → Run → List BoardValue → Type 0
 Looks allowed book first opening v router published w =
-    AreLetters allowed published.log × (w ≡ published.log) × IsPrefix v published.log × (published.book ≡ book) × (router ≡ router_with first (board_after opening published.log))
+    AreLetters allowed published.log × (w ≡ published.log) × IsPrefix v published.log × (published.book ≡ book)
+    × (router ≡ router_with first (board_after opening published.log))

@@ -6,6 +6,8 @@ pub use Rattle.squall_board.specs.CourseRoute
 pub use Rattle.squall_router.specs.Routers
 pub use Rattle.squall_inbox.specs.Letters
 pub mod Track
+pub mod Start
 pub mod Desk
 pub mod Hand
+pub mod Writers
 pub mod Seats

@@ -8,14 +8,13 @@ use crate::rule::DeskFactory;
 use crate::seat::Seat;
 use crate::track::Line;
 use squall_inbox::Case;
-use std::alloc::AllocError;
 use std::marker::Model;
 use thiserror::Error;
 
 /// Why there is no seat.
 #[derive(Debug, Drop, Error)]
 pub enum SeatFault {
-    /// Each place was found taken, as may happen too while other threads take places and give them
+    /// Each place was found taken. That may happen too while other threads take places and give them
     /// back.
     #[error("NoPlace")]
     NoPlace,
@@ -41,8 +40,8 @@ impl<K: Case> Model for Places<K> {
 }
 
 impl<K: Case> Places<K> {
-    /// So many places of the desk. A desk has one place at least, which is never handed out if
-    /// `readers` is 0.
+    /// The places of the desk for that many readers. A desk has one place at least, which is never
+    /// handed out if `readers` is 0.
     pub(crate) fn of_parts(factory: DeskFactory<K>, start: Line, readers: usize) -> Places<K>
         requires { (start.book ≡ K.book) × (start.log ≡ []) }
         ensures { result ≡ readers }
@@ -55,8 +54,8 @@ impl<K: Case> Places<K> {
     }
 
     /// A seat that has seen nothing. It answers [`SeatFault::NoPlace`] if each place is taken, and
-    /// always if there is none; [`SeatFault::NoMemory`] if the count of the desk's owners is full. It
-    /// allocates nothing, and after a fault nothing changed.
+    /// always if there are no readers. It answers [`SeatFault::NoMemory`] if the count of the desk's
+    /// owners is full. It allocates nothing, and after a fault nothing changed.
     pub fn seat(&self) -> Result<Seat<K>, SeatFault>
         ensures nothing_seen { IfOk result (λ seat. seat ≡ nothing_seen) }
         ensures places { OnOk result (0 < self.now) }

@@ -1,34 +1,32 @@
 //! The publisher, which brings the desk up to date.
 
-ghost use Rattle.std.specs.Prelude.{◌≡◌, ◌+◌, ◌≤◌, ◌<◌, ◌^◌, ◌++◌, ◌∷◌, [], length, drop, IfOk, OnOk, OnErr, MatchResult, MatchBool, None};
-ghost use Rattle.std.specs.Arc.{arc_value};
-ghost use Rattle.squall_board.specs.Boards.{IsBoard};
+ghost use Rattle.std.specs.Prelude.{◌≡◌, ◌+◌, ◌≤◌, ◌<◌, ◌^◌, ◌++◌, ◌∷◌, [], length, IfOk, OnOk, OnErr, MatchResult, MatchBool, None};
 ghost use Rattle.squall_inbox.specs.Letters.{IsLetter, AreLetters, board_after};
-ghost use Rattle.squall_router.specs.Routers.{router_with};
-ghost use Rattle.squall_desk.specs.Hand.{listed, letters, Follows};
+ghost use Rattle.squall_desk.specs.Start.{IsStartOf};
+ghost use Rattle.squall_desk.specs.Hand.{listed, letters, Follows, Pending, ShowsAll};
+ghost use Rattle.squall_desk.specs.Writers.{shown, unshown, HasShown, StillWaits};
 ghost use Rattle.squall_desk.specs.Seats.{Showing};
 
 use crate::places::Places;
-use crate::rule::{DeskFactory, DeskWriter, Looking};
+use crate::rule::{DeskWriter, Looking};
 use crate::seat::Notice;
-use crate::shown::{Entry, Shown};
+use crate::shown::Entry;
+use crate::start::Start;
 use crate::track::{Line, Track};
 use core::mem::replace_with;
 use squall_board::Board;
-use squall_course::Course;
 use squall_inbox::{Case, Letter};
-use squall_router::Router;
 use std::alloc::{AllocError, Global};
 use std::marker::Model;
-use std::sync::{Arc, Wait};
+use std::sync::Wait;
 
-/// So many letters may be published.
+/// The most letters that may be published.
 const MOST: u64 = 1 << 62;
 
 /// The one end of the desk that publishes. Contracts see the list of letters that is published, and the
-/// letter in hand where there is one.
+/// letter in hand, if there is one.
 ///
-/// Where it is dropped, readers see nothing from then on. It waits for those that are reading.
+/// If it is dropped, readers see nothing from then on. The drop waits for those that are reading.
 pub struct Publisher<K: Case, R: Wait + Drop> {
     track: Track,
     held: Option<Entry>,
@@ -39,18 +37,17 @@ pub struct Publisher<K: Case, R: Wait + Drop> {
 impl<K: Case, R: Wait + Drop> Model for Publisher<K, R> {
     ghost Value = { Showing };
 
-    ghost view = { λ p. record { published = p.writer.desk.shown.value.line.log; hand = letters (drop p.writer.behind p.writer.log.items ++ listed p.held) } };
+    ghost view = { λ p. record { published = (shown p.writer).line.log; hand = letters (unshown p.writer ++ listed p.held) } };
 
     ghost invariant = { λ p.
-        Follows K.allowed K.book p.writer.desk.shown.value.line.log (drop p.writer.behind p.writer.log.items ++ listed p.held)
-        × (length (drop p.writer.behind p.writer.log.items ++ listed p.held) ≤ 1)
-        × (p.writer.desk.shown.value.router ≡ router_with K.first (board_after K.opening p.writer.desk.shown.value.line.log))
-        × (p.writer.desk.shown.value.line.book ≡ K.book) × (p.track ≡ K.book)
-        × AreLetters K.allowed p.writer.desk.shown.value.line.log };
+        Follows K.allowed K.book (shown p.writer).line.log (unshown p.writer ++ listed p.held)
+        × (length (unshown p.writer ++ listed p.held) ≤ 1)
+        × ((shown p.writer).line.book ≡ K.book) × (p.track ≡ K.book)
+        × ShowsAll K.allowed K.first K.opening (shown p.writer) };
 }
 
-/// The list with the letter behind. The list is the publisher's alone to lengthen, so the first attempt
-/// adds it.
+/// The list with the letter behind. The publisher alone lengthens the list, so the first attempt adds
+/// the letter.
 fn lengthened<R: Wait>(rt: &R, track: &Track, before: &Line, letter: &Letter) -> Line
     requires { track.now ≡ before.now.book }
     ensures { (result.book ≡ before.now.book) × (result.log ≡ before.now.log ++ letter.now ∷ []) }
@@ -64,11 +61,11 @@ fn lengthened<R: Wait>(rt: &R, track: &Track, before: &Line, letter: &Letter) ->
     unreachable!()
 }
 
-/// Puts the letter in hand, where it is not there yet, into the writer's log. At `Err` nothing changed.
+/// Puts the letter in hand into the writer's log, unless it is there already. At `Err` nothing changed.
 fn settle<K: Case>(held: &mut Option<Entry>, writer: &mut DeskWriter<K>) -> Result<(), AllocError>
     ensures desk { writer.new.desk ≡ writer.old.desk }
-    ensures ok { OnOk result ((held.new ≡ None) × (drop writer.new.behind writer.new.log.items ≡ drop writer.old.behind writer.old.log.items ++ listed held.old)) }
-    ensures err { OnErr result ((held.new ≡ held.old) × (drop writer.new.behind writer.new.log.items ≡ drop writer.old.behind writer.old.log.items)) }
+    ensures ok { OnOk result ((held.new ≡ None) × (unshown writer.new ≡ unshown writer.old ++ listed held.old)) }
+    ensures err { OnErr result ((held.new ≡ held.old) × (unshown writer.new ≡ unshown writer.old)) }
     ensures tried { OnErr result (length (listed held.old) ≡ 1) }
 {
     if let Some(entry) = held.take() {
@@ -82,61 +79,44 @@ fn settle<K: Case>(held: &mut Option<Entry>, writer: &mut DeskWriter<K>) -> Resu
 
 /// Shows readers the letter that is pending. At `Err` they see what they saw.
 fn show<K: Case, R: Wait>(rt: &R, writer: DeskWriter<K>) -> (DeskWriter<K>, Result<(), AllocError>)
-    requires pending { Follows K.allowed K.book writer.desk.shown.value.line.log (drop writer.behind writer.log.items) × (length (drop writer.behind writer.log.items) ≡ 1) }
-    requires router { writer.desk.shown.value.router ≡ router_with K.first (board_after K.opening writer.desk.shown.value.line.log) }
-    requires letters { AreLetters K.allowed writer.desk.shown.value.line.log }
-    ensures pending { MatchResult result.1 (λ _. drop result.0.behind result.0.log.items ≡ []) (λ _. drop result.0.behind result.0.log.items ≡ drop writer.behind writer.log.items) }
-    ensures shown { MatchResult result.1
-        (λ _. (result.0.desk.shown.value.line.log ≡ writer.desk.shown.value.line.log ++ letters (drop writer.behind writer.log.items)) × (result.0.desk.shown.value.line.book ≡ K.book) × (result.0.desk.shown.value.router ≡ router_with K.first (board_after K.opening result.0.desk.shown.value.line.log)) × AreLetters K.allowed result.0.desk.shown.value.line.log)
-        (λ _. result.0.desk.shown.value ≡ writer.desk.shown.value) }
+    requires pending { Pending K.allowed K.book (shown writer) (unshown writer) }
+    requires all { ShowsAll K.allowed K.first K.opening (shown writer) }
+    ensures { MatchResult result.1 (λ _. HasShown K.allowed K.book K.first K.opening writer result.0) (λ _. StillWaits writer result.0) }
 {
     writer.publish_as::<Looking<K>, R>(rt)
 }
 
-/// A router with that course and that board.
-fn router_of(alloc: Global, first: &Arc<Course>, board: &Board) -> Result<Router, AllocError>
-    ensures { IfOk result (λ r. r ≡ router_with (arc_value first.now) board.now) }
-{
-    board.known();
-    let mut router = Router::new(alloc, first)?;
-    router.absorb(board)?;
-    Ok(router)
-}
-
 impl<K: Case, R: Wait + Drop> Publisher<K, R> {
-    /// The publisher of a new desk, with so many places. It fails where an allocation fails, or where the
-    /// count of the course's owners is full.
+    /// The two ends of a new desk: its publisher, and its places for that many readers. It fails
+    /// (memory).
     pub fn open(
         rt: R,
         alloc: Global,
-        track: Track,
-        line: Line,
-        first: &Arc<Course>,
-        opening: &Board,
-        places: usize,
-    ) -> Result<Publisher<K, R>, AllocError>
-        requires book { (track ≡ K.book) × (line.book ≡ K.book) × (line.log ≡ []) }
-        requires opening { (arc_value first.now ≡ K.first) × (opening.now ≡ K.opening) }
-        requires places { (0 < places) × (places < 2 ^ 32) }
-        ensures { IfOk result (λ p. p ≡ record { published = []; hand = [] }) }
+        start: Start,
+        readers: usize,
+    ) -> Result<(Publisher<K, R>, Places<K>), AllocError>
+        requires start { IsStartOf K.book K.first K.opening start }
+        requires readers { readers < 2 ^ 32 }
+        ensures publisher { IfOk result (λ ends. ends.0 ≡ record { published = []; hand = [] }) }
+        ensures places { IfOk result (λ ends. ends.1 ≡ readers) }
     {
-        let one = router_of(alloc, first, opening)?;
-        let other = router_of(alloc, first, opening)?;
-        let one = Shown {
-            router: one,
-            line: line.again(),
-        };
-        let other = Shown {
-            router: other,
+        let one = start.shown(alloc)?;
+        let other = start.shown(alloc)?;
+        let writer = DeskWriter::new(alloc, one, other, readers.max(1))?;
+        let Start {
+            first: _,
+            opening: _,
+            track,
             line,
-        };
-        let writer = DeskWriter::new(alloc, one, other, places)?;
-        Ok(Publisher {
+        } = start;
+        let publisher = Publisher {
             track,
             held: None,
             writer,
             rt,
-        })
+        };
+        let places = publisher.places(line, readers)?;
+        Ok((publisher, places))
     }
 
     /// Changes nothing: after it a proof knows that each published letter is one that the cluster allows,
@@ -178,8 +158,7 @@ impl<K: Case, R: Wait + Drop> Publisher<K, R> {
     }
 
     /// Publishes the letter in hand, if there is one: the router that readers see takes it, and no board
-    /// and no table is copied. It fails only with a letter in hand, if an allocation fails, and then
-    /// nothing changed.
+    /// and no table is copied. It fails (memory) only with a letter in hand, and then nothing changed.
     ///
     /// It waits for readers that still read the other copy.
     pub fn publish(&mut self) -> Result<(), AllocError>
@@ -196,11 +175,8 @@ impl<K: Case, R: Wait + Drop> Publisher<K, R> {
             &mut self.writer,
             &self.rt,
             |writer: DeskWriter<K>, rt: &R| -> (DeskWriter<K>, Result<(), AllocError>)
-                requires { Follows K.allowed K.book writer.desk.shown.value.line.log (drop writer.behind writer.log.items) × (length (drop writer.behind writer.log.items) ≡ 1) × (writer.desk.shown.value.router ≡ router_with K.first (board_after K.opening writer.desk.shown.value.line.log)) × AreLetters K.allowed writer.desk.shown.value.line.log }
-                ensures pending { MatchResult result.1 (λ _. drop result.0.behind result.0.log.items ≡ []) (λ _. drop result.0.behind result.0.log.items ≡ drop writer.behind writer.log.items) }
-                ensures shown { MatchResult result.1
-                    (λ _. (result.0.desk.shown.value.line.log ≡ writer.desk.shown.value.line.log ++ letters (drop writer.behind writer.log.items)) × (result.0.desk.shown.value.line.book ≡ K.book) × (result.0.desk.shown.value.router ≡ router_with K.first (board_after K.opening result.0.desk.shown.value.line.log)) × AreLetters K.allowed result.0.desk.shown.value.line.log)
-                    (λ _. result.0.desk.shown.value ≡ writer.desk.shown.value) }
+                requires { Pending K.allowed K.book (shown writer) (unshown writer) × ShowsAll K.allowed K.first K.opening (shown writer) }
+                ensures { MatchResult result.1 (λ _. HasShown K.allowed K.book K.first K.opening writer result.0) (λ _. StillWaits writer result.0) }
             { show(rt, writer) },
         )
     }
@@ -212,9 +188,8 @@ impl<K: Case, R: Wait + Drop> Publisher<K, R> {
         Notice::of_line(&self.writer.published().line)
     }
 
-    /// Its places, for so many readers, from an empty list. It fails where the count of the desk's owners is
-    /// full.
-    pub fn places(&self, start: Line, readers: usize) -> Result<Places<K>, AllocError>
+    /// Its places for that many readers, from an empty list. It fails (memory).
+    fn places(&self, start: Line, readers: usize) -> Result<Places<K>, AllocError>
         requires { (start.book ≡ K.book) × (start.log ≡ []) }
         ensures { IfOk result (λ places. places ≡ readers) }
     {

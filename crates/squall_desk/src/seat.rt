@@ -4,7 +4,7 @@ ghost use Rattle.std.specs.Prelude.{◌≡◌, ◌⊎◌, IfSome, OnSome, IfNone
 ghost use mathlib.Core.List.{IsPrefix};
 ghost use Rattle.squall_board.specs.CourseRoute.{route_by_newest};
 ghost use Rattle.squall_inbox.specs.Letters.{AreLetters, board_after};
-ghost use Rattle.squall_desk.specs.Seats.{Seen};
+ghost use Rattle.squall_desk.specs.Seats.{Seen, IsLook};
 ghost use Rattle.squall_desk.specs.Track.{AreOfOneList};
 
 use crate::rule::{DeskReader, Looking};
@@ -59,7 +59,7 @@ impl<K: Case> Notice<K> {
 /// One look at the desk by a reader that is not reading: the partition to ask for the key, and the
 /// list that the router had taken.
 fn look<K: Case>(reader: DeskReader<K>, key: Key) -> (DeskReader<K>, Option<(PartId, Line)>)
-    ensures { IfSome result.1 (λ r. (r.1.book ≡ K.book) × (r.0 ≡ route_by_newest K.first (board_after K.opening r.1.log) key) × AreLetters K.allowed r.1.log) }
+    ensures { IfSome result.1 (IsLook K.allowed K.book K.first K.opening key) }
 {
     match reader.enter_as::<Looking<K>>() {
         Ok(reading) => {
@@ -72,9 +72,9 @@ fn look<K: Case>(reader: DeskReader<K>, key: Key) -> (DeskReader<K>, Option<(Par
     }
 }
 
-/// A seat: a reader of the desk, with a place of its own. Contracts see the list of letters that was
-/// published at its last look, and the list that it knows, from that look and from notices. Both are
-/// beginnings of the published list.
+/// A seat: a reader of the desk, with a place of its own. Contracts see two beginnings of the published
+/// list: the letters that were published at its last look, and those that it knows from that look and
+/// from notices.
 ///
 /// A seat that is dropped gives its place back.
 #[derive(Drop)]
@@ -105,9 +105,9 @@ impl<K: Case> Seat<K> {
         }
     }
 
-    /// The partition to ask for the key, by a look at the desk: that of a router which has taken the
-    /// letters of the list that is then seen. None if the desk gives no look, since its owner is gone,
-    /// or a look at less than the seat knows, which no desk does; then nothing changed.
+    /// The partition to ask for the key, by a look at the desk: a router that has taken the letters then
+    /// seen gives it. `None` if the owner of the desk is gone, and then nothing changed. `None` also for
+    /// a look at less than the seat knows, which no desk gives.
     ///
     /// It waits for nobody and allocates nothing.
     pub fn route(&mut self, key: Key) -> Option<PartId>
@@ -121,7 +121,7 @@ impl<K: Case> Seat<K> {
             &mut self.reader,
             key,
             |reader: DeskReader<K>, key: Key| -> (DeskReader<K>, Option<(PartId, Line)>)
-                ensures { IfSome result.1 (λ r. (r.1.book ≡ K.book) × (r.0 ≡ route_by_newest K.first (board_after K.opening r.1.log) key) × AreLetters K.allowed r.1.log) }
+                ensures { IfSome result.1 (IsLook K.allowed K.book K.first K.opening key) }
             { look(reader, key) },
         );
         let (part, line) = looked?;

@@ -1,4 +1,5 @@
 //! One list of letters that only grows. It exists in the proofs alone: what runs is a count.
+
 ghost use Rattle.std.specs.Prelude.{◌≡◌, ◌^◌, ◌<◌, ◌≤◌, ◌++◌, ◌∷◌, ◌⊎◌, [], length, IsTrue, false};
 ghost use mathlib.Core.List.{IsPrefix};
 ghost use Rattle.logbook.specs.Pages.{Book};
@@ -81,7 +82,7 @@ impl Model for Line {
 }
 
 impl Line {
-    /// A new book, with no letter.
+    /// A new list, with no letter, and the right to add to it.
     pub fn open() -> (Track, Line)
         ensures { (result.0 ≡ result.1.book) × (result.1.log ≡ []) }
     {
@@ -90,12 +91,14 @@ impl Line {
         (Track { head }, Line { count: 0, seen })
     }
 
+    /// How many letters it has.
     pub fn len(&self) -> u64
         ensures { result ≡ length self.now.log }
     {
         self.count
     }
 
+    /// The same beginning once more.
     pub fn again(&self) -> Line
         ensures { result ≡ self.now }
     {
@@ -105,7 +108,7 @@ impl Line {
         }
     }
 
-    /// Whether the other goes as far. If so it begins with this one.
+    /// Whether the other is at least as long. If so it begins with this one.
     pub fn begins(&self, other: &Line) -> bool
         requires { other.now.book ≡ self.now.book }
         ensures begins { IsTrue result → IsPrefix self.now.log other.now.log }
@@ -125,7 +128,8 @@ impl Line {
         let _goes_as_far = self.begins(other);
     }
 
-    /// Adds a letter to all that was seen, and says whether it did. It did not where there are more.
+    /// Adds a letter to all that was seen, and says whether it did. It did not if the list is longer
+    /// than what was seen.
     pub fn add(&mut self, track: &Track, letter: &Letter) -> bool
         requires room { length self.old.log < 2 ^ 62 }
         requires book { track.now ≡ self.old.book }

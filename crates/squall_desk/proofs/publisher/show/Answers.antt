@@ -12,11 +12,11 @@ publish_as-requires g c next is =
     let n = next_is g.K.Case.allowed g.K.Case.book now.router next.router now.line next.line pend c.requires.pending.1 c.requires.pending.0 is in
     rises g.K.Case.allowed g.K.Case.book g.K.Case.first g.K.Case.opening (λ (s : Shown). s.router) (λ (s : Shown). s.line) _ _ now next (letters pend, sym n.1) n.3 (λ h. n.0) (λ h. n.2 g.K.Case.first g.K.Case.opening h)
 
-pub returns-clause-shown : goal.returns-clause-shown
-returns-clause-shown g c =
+pub returns : goal.returns
+returns g c =
     let now = c.args.writer.desk.shown.value in
     let pend = drop c.args.writer.behind c.args.writer.log.items in
     let after = c.publish_as.result.0.desk.shown.value in
     match_map c.publish_as.result.1 _ _ _ _ c.publish_as.ensures.values
-    (λ u h. let n = next_is g.K.Case.allowed g.K.Case.book now.router after.router now.line after.line pend c.requires.pending.1 c.requires.pending.0 h.0 in (n.1, n.0, n.2 g.K.Case.first g.K.Case.opening c.requires.router, n.3 c.requires.letters))
-    (λ u h. h.0)
+    (λ u h. let n = next_is g.K.Case.allowed g.K.Case.book now.router after.router now.line after.line pend c.requires.pending.1 c.requires.pending.0 h.0 in (h.1, n.1, n.0, (n.2 g.K.Case.first g.K.Case.opening c.requires.all.0, n.3 c.requires.all.1)))
+    (λ u h. (h.1, h.0))

@@ -11,12 +11,11 @@ invariant_of-self g c =
     let p = c.published.ensures in
     let pend = drop c.self.inside.writer.behind c.self.inside.writer.log.items in
     let none = idle pend c.self.inside.held (ap (λ (o : Showing). o.hand) c.self.view_is ∙ c.requires.free) in (
-      alone_follows _ _ log pend _ none.0 c.requires.letter (l.0 ∙ ap (λ x. x.line.book) p ∙ i.3) (l.1 ∙ ap (λ x. x.line.log ++ c.args.letter ∷ []) p),
+      alone_follows _ _ log pend _ none.0 c.requires.letter (l.0 ∙ ap (λ x. x.line.book) p ∙ i.2) (l.1 ∙ ap (λ x. x.line.log ++ c.args.letter ∷ []) p),
       alone_one pend _ none.0,
       i.2,
       i.3,
       i.4,
-      i.5,
     )
 
 pub returns-clause-hand : goal.returns-clause-hand

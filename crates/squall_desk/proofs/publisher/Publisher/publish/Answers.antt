@@ -1,4 +1,4 @@
-use Rattle.std.proofs.Common.{◌≡◌, ◌<◌, ap, ◌∙◌, ◌++◌, drop, length, subst, arith, List}
+use Rattle.std.proofs.Common.{◌≡◌, ◌<◌, ap, ◌∙◌, ◌++◌, drop, length, subst, List}
 use Rattle.squall_desk.specs.declared.shown.Entry.{Entry}
 use Rattle.squall_desk.specs.Hand.{listed}
 use Rattle.squall_desk.specs.Seats.{Showing}
