@@ -12,13 +12,14 @@ use Rattle.squall_inbox.specs.Letters.{board_after}
 pub record IsJoinOfAll (opening : BoardValue) (letters : List BoardValue) (board : BoardValue) : Type 0 where
   pub start : Covers board_join board opening
   pub letter : (x : BoardValue) → Contains letters x → Covers board_join board x
-  pub least : (w : BoardValue) → IsBoard w → Covers board_join w opening → ((x : BoardValue) → Contains letters x → Covers board_join w x) → Covers board_join w board
+  pub least : (w : BoardValue) → IsBoard w → Covers board_join w opening → ((x : BoardValue) → Contains letters x → Covers board_join w x)
+      → Covers board_join w board
 
--- each letter of one list stands in the other, in whatever order and number
+-- each letter of one list is in the other too, in whatever order and number
 abbrev pub AreSameLetters : List BoardValue → List BoardValue → Type 0
 AreSameLetters xs ys = (x : BoardValue) → Contains xs x ↔ Contains ys x
 
--- the board has the fact just where the opening board has it, or one of the letters
+-- the board has a fact exactly if the opening board has it, or one of the letters
 abbrev pub HasFactsOf : BoardValue → List BoardValue → BoardValue → Type 0
 HasFactsOf opening letters board = (f : Fact) → (says board f ≡ true) ↔ ((says opening f ≡ true) ⊎ ((x : BoardValue) × Contains letters x × (says x f ≡ true)))
 

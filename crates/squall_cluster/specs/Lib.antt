@@ -8,6 +8,7 @@ pub use Rattle.squall_inbox.specs.Letters
 pub use Rattle.squall_inbox.specs.Inbox
 pub use Rattle.squall_inbox.specs.Ends
 pub use Rattle.squall_desk.specs.Seats
+pub use Rattle.squall_desk.specs.Start
 pub mod Faults
 pub mod Owners
 pub mod Joined

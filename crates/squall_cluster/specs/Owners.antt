@@ -7,7 +7,7 @@ use Rattle.squall_inbox.specs.Letters.{Allowance, AreLetters, letters_of, board_
 use Rattle.squall_inbox.specs.Inbox.{of, posted}
 use Rattle.squall_inbox.specs.Ends.{Posting, Numbered}
 
--- the owner: its inbox, what it took, what is published, the letter in hand, how many senders were made, and what those posted that were joined to it
+-- the owner: its inbox, what it took, what is published, the letter in hand, how many senders were made, and what each sender posted that was joined to it
 pub record Owning : Type 0 where
   pub inbox : TableId
   pub taken : List Parcel
@@ -16,7 +16,7 @@ pub record Owning : Type 0 where
   pub made : ℕ
   pub vouched : List (ℕ × List BoardValue)
 
--- an owner that took nothing, after so many senders were made
+-- an owner that took nothing, after that many senders were made
 abbrev pub owning_with : TableId → ℕ → Owning
 owning_with inbox made = record { inbox = inbox; taken = []; published = []; hand = []; made = made; vouched = [] }
 
@@ -28,6 +28,14 @@ Whole o = length o.vouched ≡ o.made → (p : ℕ) → of p o.taken ≡ posted 
 abbrev pub Fresh : Owning → List Posting → Type 0
 Fresh o senders = (o ≡ owning_with o.inbox (length senders)) × Numbered o.inbox 0 senders
 
+-- the inbox, the number of senders and what the owner vouches for stay
+abbrev pub SameSenders : Owning → Owning → Type 0
+SameSenders before after = (after.inbox ≡ before.inbox) × (after.made ≡ before.made) × (after.vouched ≡ before.vouched)
+
+-- one parcel more is taken, while no letter was in hand
+abbrev pub TookOne : Owning → Owning → Type 0
+TookOne before after = (before.hand ≡ []) × ((x : Parcel) × (after.taken ≡ before.taken ++ x ∷ []))
+
 -- the turn published one letter
 abbrev pub Finished : Owning → Owning → Type 0
 Finished before after = (x : BoardValue) × (after.published ≡ before.published ++ x ∷ [])
@@ -36,8 +44,8 @@ Finished before after = (x : BoardValue) × (after.published ≡ before.publishe
 abbrev pub Idle : Owning → Owning → Type 0
 Idle before after = (after.taken ≡ before.taken) × (after.published ≡ before.published)
 
--- the opening board joined with all letters that were posted, by a list of what each sender posted: each is taken once, and those of each sender in
--- the order of its posts
+-- the opening board joined with all letters that were posted, by a list of what each sender posted. Each letter is taken once, and those of each
+-- sender in the order of its posts
 pub record IsBoardOfPosted (allowed : Allowance) (opening : BoardValue) (lists : List (ℕ × List BoardValue)) (board : BoardValue) : Type 0 where
   pub taken : List Parcel
   pub board_of_taken : board ≡ board_after opening (letters_of taken)

@@ -1,5 +1,5 @@
--- What a fault of a race tells of the numbers that were asked for (this project).
-use Rattle.std.specs.Prelude.{ℕ}
+-- What a fault of a race tells of the sizes that were asked for (this project).
+use Rattle.squall_cluster.specs.declared.cluster.Sizes.{Sizes}
 use Rattle.squall_cluster.specs.declared.cluster.ClusterFault.{ClusterFault}
 use Rattle.squall_cluster.specs.declared.cluster.ClusterFault.TheVariants as Cluster
 use Rattle.squall_desk.specs.declared.places.SeatFault.{SeatFault}
@@ -10,14 +10,14 @@ use Rattle.squall_cluster.specs.declared.halt.RaceFault.{RaceFault}
 use Rattle.squall_cluster.specs.declared.halt.RaceFault.TheVariants.{BadSenders, BadReaders, BadCapacity, NoPlace, NoThread, NoMemory}
 use Rattle.squall_cluster.specs.Faults.{InLimits, FaultOf}
 
--- a number out of its limits is told as by a cluster, and any other fault only within the limits
-abbrev pub RaceFaultOf : ℕ → ℕ → ℕ → RaceFault → Type 0
-RaceFaultOf senders readers capacity BadSenders = FaultOf senders readers capacity Cluster.BadSenders
-RaceFaultOf senders readers capacity BadReaders = FaultOf senders readers capacity Cluster.BadReaders
-RaceFaultOf senders readers capacity BadCapacity = FaultOf senders readers capacity Cluster.BadCapacity
-RaceFaultOf senders readers capacity NoPlace = InLimits senders readers capacity
-RaceFaultOf senders readers capacity NoThread = InLimits senders readers capacity
-RaceFaultOf senders readers capacity NoMemory = InLimits senders readers capacity
+-- a size out of its limits is told as by a cluster, and any other fault only within the limits
+abbrev pub RaceFaultOf : Sizes → RaceFault → Type 0
+RaceFaultOf sizes BadSenders = FaultOf sizes Cluster.BadSenders
+RaceFaultOf sizes BadReaders = FaultOf sizes Cluster.BadReaders
+RaceFaultOf sizes BadCapacity = FaultOf sizes Cluster.BadCapacity
+RaceFaultOf sizes NoPlace = InLimits sizes
+RaceFaultOf sizes NoThread = InLimits sizes
+RaceFaultOf sizes NoMemory = InLimits sizes
 
 -- the fault of the same name
 abbrev pub fault_of_cluster : ClusterFault → RaceFault

@@ -1,10 +1,10 @@
 //! How a cluster ends.
 
-ghost use Rattle.std.specs.Prelude.{◌≡◌, ◌∷◌, [], ℕ, length, All, IfOk, OnOk, OnErr, IfErr};
+ghost use Rattle.std.specs.Prelude.{◌≡◌, [], ℕ, length, All, IfOk, OnOk, OnErr, IfErr};
 ghost use Rattle.squall_inbox.specs.Inbox.{of, posted};
 ghost use Rattle.squall_inbox.specs.Ends.{vouching};
 ghost use Rattle.squall_inbox.specs.Letters.{letters_of};
-ghost use Rattle.squall_cluster.specs.Owners.{IsBoardOfPosted};
+ghost use Rattle.squall_cluster.specs.Owners.{IsBoardOfPosted, SameSenders};
 ghost use Rattle.squall_cluster.specs.CloseFaults.{owner_of, spent_of};
 
 use crate::owner::Owner;
@@ -20,7 +20,7 @@ pub enum CloseFault<K: Case, R: Wait + Drop> {
     NoMemory {
         /// The senders that are not joined to the owner yet.
         spent: Vec<Spent>,
-        /// The owner. What it took so far is published, save one letter that is in its hand.
+        /// The owner. What it took so far is published, but for one letter that is in its hand.
         owner: Owner<K, R>,
     },
 }
@@ -37,11 +37,10 @@ fn join_all<K: Case, R: Wait + Drop>(owner: &mut Owner<K, R>, spent: &mut Vec<Sp
     }
 }
 
-/// Takes and publishes all that the inbox holds. It fails if an allocation fails, with a letter in
-/// hand.
+/// Takes and publishes all that the inbox holds. It fails (memory) with a letter in hand.
 fn drain<K: Case, R: Wait + Drop>(owner: &mut Owner<K, R>) -> Result<(), AllocError>
     requires { length owner.old.vouched ≡ owner.old.made }
-    ensures same { (owner.new.inbox ≡ owner.old.inbox) × (owner.new.made ≡ owner.old.made) × (owner.new.vouched ≡ owner.old.vouched) }
+    ensures same { SameSenders owner.old owner.new }
     ensures published { OnOk result (owner.new.published ≡ letters_of owner.new.taken) }
     ensures whole { OnOk result ((p : ℕ) → of p owner.new.taken ≡ posted p owner.new.vouched) }
     ensures failed { OnErr result (length owner.new.hand ≡ 1) }
@@ -56,13 +55,13 @@ fn drain<K: Case, R: Wait + Drop>(owner: &mut Owner<K, R>) -> Result<(), AllocEr
     }
 }
 
-/// Closes a cluster, whose senders have all ended: the board that it was opened with, joined with all
-/// letters that were posted. Each was taken once, and those of each sender in the order in which it
-/// posted them. Seats see nothing from then on.
+/// Closes a cluster whose senders have all ended. It answers the opening board, joined with all letters
+/// that were posted. Each letter was taken once, and those of each sender in the order of its posts.
+/// Seats see nothing from then on.
 ///
 /// The senders are all that were made with the owner, but for those that an earlier call joined to it.
-/// It fails if an allocation fails, and then a letter is in the owner's hand. What comes back, given to
-/// another call, closes the cluster with the same letters.
+/// The call fails (memory) with a letter in the owner's hand. What comes back, given to another call,
+/// closes the cluster with the same letters.
 ///
 /// It waits for seats that are looking.
 pub fn close<K: Case, R: Wait + Drop>(

@@ -11,8 +11,9 @@ pub enum Actor {
     Reader(usize),
 }
 
-/// What a race calls in the thread of an actor right before and right after each of its steps: a
-/// post of a sender (also one that found the inbox full), a turn of the owner, a route of a reader.
+/// What a race calls in the thread of an actor, right before and right after each of its steps. A step
+/// is a post of a sender (also one that found the inbox full), a turn of the owner, or a route of a
+/// reader.
 ///
 /// The steps of each actor are counted from 1. A count that has reached the greatest `u64` stays.
 pub trait Gate {
@@ -21,6 +22,17 @@ pub trait Gate {
 
     /// The actor has taken that step.
     fn after(&self, actor: Actor, call: u64);
+}
+
+/// A gate that is lent is a gate.
+impl<'a, G: Gate> Gate for &'a G {
+    fn before(&self, actor: Actor, call: u64) {
+        (**self).before(actor, call);
+    }
+
+    fn after(&self, actor: Actor, call: u64) {
+        (**self).after(actor, call);
+    }
 }
 
 /// The steps of one actor, between the calls of its gate.

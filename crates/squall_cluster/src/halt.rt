@@ -27,8 +27,8 @@ pub enum RaceFault {
     /// A thread could not be started.
     #[error("NoThread")]
     NoThread,
-    /// An allocation failed, or the count of the owners of an issue, of the course, of the inbox or of
-    /// the desk is full.
+    /// An allocation failed, or a count of owners is full: of an issue, of the course, of the inbox or
+    /// of the desk.
     #[error("NoMemory")]
     NoMemory,
 }
@@ -36,7 +36,7 @@ pub enum RaceFault {
 impl From<ClusterFault> for RaceFault {
     fn from(fault: ClusterFault) -> RaceFault
         ensures same { result ≡ fault_of_cluster fault }
-        ensures of_numbers { (senders : _) (readers : _) (capacity : _) → FaultOf senders readers capacity fault → RaceFaultOf senders readers capacity result }
+        ensures of_sizes { (sizes : _) → FaultOf sizes fault → RaceFaultOf sizes result }
     {
         match fault {
             ClusterFault::BadSenders => RaceFault::BadSenders,
@@ -69,7 +69,7 @@ impl From<SeatFault> for Stop {
 impl From<Stop> for RaceFault {
     fn from(stop: Stop) -> RaceFault
         ensures same { result ≡ fault_of_stop stop }
-        ensures of_numbers { (senders : _) (readers : _) (capacity : _) → InLimits senders readers capacity → RaceFaultOf senders readers capacity result }
+        ensures of_sizes { (sizes : _) → InLimits sizes → RaceFaultOf sizes result }
     {
         match stop {
             Stop::NoPlace => RaceFault::NoPlace,

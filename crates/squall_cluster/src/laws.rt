@@ -10,20 +10,25 @@ ghost use Rattle.squall_cluster.specs.Joined.{IsJoinOfAll, AreSameLetters, HasFa
 
 use squall_board::Board;
 
-/// The board after letters is the join of the opening board and all of them. It has the facts of
-/// these boards and no other, and their order and number does not matter.
+/// The board after letters is the join of the opening board and all letters. It has the facts of these
+/// boards and no other. The order of the letters, and how often each one comes, do not matter.
 pub fn letters_are_joined(opening: &Board)
-    ensures join { (allowed : Allowance) (letters : List BoardValue) → AreLetters allowed letters → IsJoinOfAll opening.now letters (board_after opening.now letters) }
-    ensures facts { (allowed : Allowance) (letters : List BoardValue) → AreLetters allowed letters → HasFactsOf opening.now letters (board_after opening.now letters) }
-    ensures any_order { (allowed : Allowance) (letters others : List BoardValue) → AreLetters allowed letters → AreLetters allowed others → AreSameLetters letters others → board_after opening.now letters ≡ board_after opening.now others }
+    ensures join { (allowed : Allowance) (letters : List BoardValue) → AreLetters allowed letters
+        → IsJoinOfAll opening.now letters (board_after opening.now letters) }
+    ensures facts { (allowed : Allowance) (letters : List BoardValue) → AreLetters allowed letters
+        → HasFactsOf opening.now letters (board_after opening.now letters) }
+    ensures any_order { (allowed : Allowance) (letters others : List BoardValue) → AreLetters allowed letters → AreLetters allowed others
+        → AreSameLetters letters others → board_after opening.now letters ≡ board_after opening.now others }
 {
     opening.known();
 }
 
-/// To publish a letter is for one router to absorb it, as a message that is delivered to it: the
-/// router that the desk shows afterwards is the one that it showed, with the letter absorbed. And a
-/// look at the desk is that router's route.
+/// Publishing a letter has the effect of one router that absorbs it, as a message delivered to it: the
+/// desk then shows the router that it showed before, with the letter absorbed. A look at the desk is
+/// that router's route.
 pub fn publishing_is_absorbing()
-    ensures absorbed { (first : Change) (opening : BoardValue) (published : List BoardValue) (letter : BoardValue) → HasAbsorbed (shown_router first opening published) letter (shown_router first opening (published ++ letter ∷ [])) }
-    ensures route { (first : Change) (opening : BoardValue) (seen : List BoardValue) (k : ℕ) → route_of_router (shown_router first opening seen) k ≡ route_by_newest first (board_after opening seen) k }
+    ensures absorbed { (first : Change) (opening : BoardValue) (published : List BoardValue) (letter : BoardValue)
+        → HasAbsorbed (shown_router first opening published) letter (shown_router first opening (published ++ letter ∷ [])) }
+    ensures route { (first : Change) (opening : BoardValue) (seen : List BoardValue) (k : ℕ)
+        → route_of_router (shown_router first opening seen) k ≡ route_by_newest first (board_after opening seen) k }
 {}

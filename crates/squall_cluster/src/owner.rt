@@ -1,20 +1,19 @@
 //! The owner of a cluster, which takes letters and publishes them.
 
-ghost use Rattle.std.specs.Prelude.{◌≡◌, ◌⊎◌, ◌+◌, ◌≤◌, ◌<◌, ◌^◌, ◌++◌, ◌∷◌, [], length, IfOk, OnOk, OnErr, MatchBool, IsFalse, ℕ};
-ghost use Rattle.std.specs.Arc.{arc_value};
-ghost use Rattle.squall_board.specs.Boards.{BoardValue};
+ghost use Rattle.std.specs.Prelude.{◌≡◌, ◌⊎◌, ◌+◌, ◌≤◌, ◌<◌, ◌^◌, ◌++◌, ◌∷◌, [], length, IfOk, OnOk, OnErr, MatchBool, IsFalse};
 ghost use Rattle.squall_inbox.specs.declared.letter.Parcel.{Parcel};
 ghost use Rattle.squall_inbox.specs.Ends.{posting_of, room_of};
 ghost use Rattle.squall_inbox.specs.Letters.{AreLetters, letters_of, board_after};
-ghost use Rattle.squall_cluster.specs.Owners.{Owning, Whole, owning_with, Finished, Idle};
+ghost use Rattle.squall_desk.specs.Start.{IsStartOf};
+ghost use Rattle.squall_cluster.specs.Owners.{Owning, Whole, owning_with, SameSenders, TookOne, Finished, Idle};
 
+use crate::cluster::Sizes;
 use squall_board::Board;
-use squall_course::Course;
-use squall_desk::{Line, Notice, Places, Publisher, Track};
+use squall_desk::{Notice, Places, Publisher, Start};
 use squall_inbox::{Case, Sender, Spent, Taker};
 use std::alloc::{AllocError, Global};
 use std::marker::Model;
-use std::sync::{Arc, Wait};
+use std::sync::Wait;
 
 /// What a turn did.
 #[derive(Drop)]
@@ -26,11 +25,11 @@ pub struct Turn<K: Case> {
 }
 
 /// The owner of a cluster: the one that takes letters from the inbox, and publishes them. Contracts see
-/// the inbox, the parcels taken in order, the list of letters published, the letter in hand (taken and
-/// not yet published) where there is one, how many senders were made, and what each of those posted
-/// that were joined to it.
+/// the inbox, the parcels taken in order, the list of letters published, and the letter in hand (taken
+/// and not yet published), if there is one. They also see how many senders were made, and what each
+/// sender posted that was joined to it.
 ///
-/// Where it is dropped, seats see nothing from then on. It waits for those that are looking.
+/// If it is dropped, seats see nothing from then on. The drop waits for those that are looking.
 #[derive(Drop)]
 pub struct Owner<K: Case, R: Wait + Drop> {
     taker: Taker<K>,
@@ -40,33 +39,36 @@ pub struct Owner<K: Case, R: Wait + Drop> {
 impl<K: Case, R: Wait + Drop> Model for Owner<K, R> {
     ghost Value = { Owning };
 
-    ghost view = { λ o. record { inbox = o.taker.inbox; taken = o.taker.taken; published = o.publisher.published; hand = o.publisher.hand; made = o.taker.made; vouched = o.taker.vouched } };
+    ghost view = { λ o. record {
+      inbox = o.taker.inbox;
+      taken = o.taker.taken;
+      published = o.publisher.published;
+      hand = o.publisher.hand;
+      made = o.taker.made;
+      vouched = o.taker.vouched;
+    } };
 
     ghost invariant = { λ o. letters_of o.taker.taken ≡ o.publisher.published ++ o.publisher.hand };
 }
 
 impl<K: Case, R: Wait + Drop> Owner<K, R> {
-    /// The owner of a new cluster, with so many places for seats and room in its inbox for so many
-    /// letters. It fails where an allocation fails, or where the count of the course's owners is full.
+    /// The owner of a new cluster of these sizes, which has no sender yet, and the places for its
+    /// seats. It fails (memory).
     pub(crate) fn open(
         rt: R,
         alloc: Global,
-        track: Track,
-        line: Line,
-        first: &Arc<Course>,
-        opening: &Board,
-        places: usize,
-        capacity: usize,
-    ) -> Result<Owner<K, R>, AllocError>
-        requires book { (track ≡ K.book) × (line.book ≡ K.book) × (line.log ≡ []) }
-        requires opening { (arc_value first.now ≡ K.first) × (opening.now ≡ K.opening) }
-        requires limits { (0 < places) × (places < 2 ^ 32) × (0 < capacity) }
-        ensures new { IfOk result (λ o. o ≡ owning_with o.inbox 0) }
-        ensures room { IfOk result (λ o. room_of o.inbox ≡ capacity) }
+        start: Start,
+        sizes: Sizes,
+    ) -> Result<(Owner<K, R>, Places<K>), AllocError>
+        requires start { IsStartOf K.book K.first K.opening start }
+        requires limits { (sizes.readers < 2 ^ 32) × (0 < sizes.capacity) }
+        ensures new { IfOk result (λ ends. ends.0 ≡ owning_with ends.0.inbox 0) }
+        ensures room { IfOk result (λ ends. room_of ends.0.inbox ≡ sizes.capacity) }
+        ensures places { IfOk result (λ ends. ends.1 ≡ sizes.readers) }
     {
-        let taker = Taker::<K>::open(alloc, capacity)?;
-        let publisher = Publisher::<K, R>::open(rt, alloc, track, line, first, opening, places)?;
-        Ok(Owner { taker, publisher })
+        let taker = Taker::<K>::open(alloc, sizes.capacity)?;
+        let (publisher, places) = Publisher::<K, R>::open(rt, alloc, start, sizes.readers)?;
+        Ok((Owner { taker, publisher }, places))
     }
 
     /// Changes nothing: after it a proof knows what holds of every owner. The letters taken are those
@@ -84,10 +86,11 @@ impl<K: Case, R: Wait + Drop> Owner<K, R> {
 
     /// Takes the letter at the front of the inbox in hand, if none is in hand. It says whether one is.
     fn take(&mut self) -> bool
-        ensures same { (self.new.inbox ≡ self.old.inbox) × (self.new.published ≡ self.old.published) × (self.new.made ≡ self.old.made) × (self.new.vouched ≡ self.old.vouched) }
+        ensures same { (self.new.published ≡ self.old.published) × SameSenders self.old self.new }
         ensures hand { MatchBool result (length self.new.hand ≡ 1) (self.new.hand ≡ []) }
         ensures empty { IsFalse result → Whole self.new }
-        ensures taken { (self.new ≡ self.old) ⊎ ((self.old.hand ≡ []) × ((x : Parcel) × (self.new.taken ≡ self.old.taken ++ x ∷ []) × (self.new.hand ≡ x.letter ∷ []))) }
+        ensures taken { (self.new ≡ self.old)
+            ⊎ ((self.old.hand ≡ []) × ((x : Parcel) × (self.new.taken ≡ self.old.taken ++ x ∷ []) × (self.new.hand ≡ x.letter ∷ []))) }
     {
         if self.publisher.has_letter() {
             return true;
@@ -99,16 +102,14 @@ impl<K: Case, R: Wait + Drop> Owner<K, R> {
         true
     }
 
-    /// Takes at most one letter and publishes it. A letter in hand is published first, and then no other
-    /// is taken.
+    /// Takes at most one letter and publishes it. If a letter is in hand, the turn publishes that one, and
+    /// takes no other.
     ///
-    /// It fails if an allocation fails, and then nothing more is published: the letter stays in hand,
-    /// and the next turn publishes it. Without a letter it does not fail. It waits for seats that are
-    /// looking.
+    /// It fails (memory) only with a letter, and then nothing more is published: the letter stays in
+    /// hand, and the next turn publishes it. It waits for seats that are looking.
     pub fn turn(&mut self) -> Result<Turn<K>, AllocError>
-        ensures inbox { self.new.inbox ≡ self.old.inbox }
-        ensures senders { (self.new.made ≡ self.old.made) × (self.new.vouched ≡ self.old.vouched) }
-        ensures at_most_one { (self.new.taken ≡ self.old.taken) ⊎ ((self.old.hand ≡ []) × ((x : Parcel) × (self.new.taken ≡ self.old.taken ++ x ∷ []))) }
+        ensures senders { SameSenders self.old self.new }
+        ensures at_most_one { (self.new.taken ≡ self.old.taken) ⊎ TookOne self.old self.new }
         ensures published_is_taken { OnOk result (self.new.published ≡ letters_of self.new.taken) }
         ensures nothing_in_hand { OnOk result (self.new.hand ≡ []) }
         ensures took { IfOk result (λ turn. MatchBool turn.took (Finished self.old self.new) (Idle self.old self.new)) }
@@ -133,22 +134,13 @@ impl<K: Case, R: Wait + Drop> Owner<K, R> {
         self.taker.join(spent);
     }
 
-    /// A new sender. It fails where the count of the inbox's owners is full, and then nothing changed.
+    /// A new sender. It fails (memory), and then nothing changed.
     pub(crate) fn hire(&mut self) -> Result<Sender<K>, AllocError>
         ensures sender { IfOk result (λ s. s ≡ posting_of self.old.inbox self.old.made []) }
         ensures made { OnOk result (self.new ≡ record self.old { made = self.old.made + 1 }) }
         ensures err { OnErr result (self.new ≡ self.old) }
     {
         self.taker.hire()
-    }
-
-    /// The places for seats, so many of them, from an empty list. It fails where the count of the desk's
-    /// owners is full.
-    pub(crate) fn places(&self, start: Line, readers: usize) -> Result<Places<K>, AllocError>
-        requires { (start.book ≡ K.book) × (start.log ≡ []) }
-        ensures { IfOk result (λ places. places ≡ readers) }
-    {
-        self.publisher.places(start, readers)
     }
 
     /// Ends the cluster: seats see nothing from then on. It waits for those that are looking.

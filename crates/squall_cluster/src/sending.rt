@@ -1,13 +1,14 @@
 //! The senders of a race: each posts its list, in a thread of its own.
 
-ghost use Rattle.std.specs.Prelude.{◌≡◌, ◌<◌, [], ◌∷◌, ◌++◌, length, OnOk, IfOk, All, map};
+ghost use Rattle.std.specs.Prelude.{◌≡◌, [], ◌∷◌, ◌++◌, OnOk, IfOk};
 ghost use Rattle.std.specs.Thread.{IsSync};
 ghost use Rattle.squall_board.specs.Boards.{HasTaken, IsBoard, report_board};
 ghost use Rattle.squall_inbox.specs.Letters.{IsAllowed};
-ghost use Rattle.squall_cluster.specs.Race.{Bring, SentAll, Within};
+ghost use Rattle.squall_cluster.specs.Race.{Bring, SentAll, Within, Ready, BothReady, lists_of};
 
 use crate::gate::{Actor, Gate, Steps};
-use crate::halt::{Halt, Off, Stop};
+use crate::halt::{Off, Stop};
+use crate::shared::Shared;
 use squall_delta::delta_of;
 use squall_inbox::{Case, Full, Letter, Sender, Spent};
 use squall_report::Report;
@@ -17,7 +18,7 @@ use std::sync::Wait;
 use std::thread;
 use std::thread::{Promise, Threads};
 
-/// The letter that brings one report.
+/// The letter that brings one report. It fails (memory).
 fn letter_of(alloc: Global, report: &Report) -> Result<Letter, AllocError>
     ensures value { IfOk result (λ l. l ≡ report_board report.now) }
     ensures taken { IfOk result (λ l. HasTaken l (report.now ∷ [])) }
@@ -28,9 +29,9 @@ fn letter_of(alloc: Global, report: &Report) -> Result<Letter, AllocError>
     Ok(Letter::new(delta))
 }
 
-/// Leaves the processor to other threads, so many times, and says how many times to do so where the
-/// inbox is full again: twice as many, up to 64. A sender that tried at once would take the inbox's
-/// words in memory from the owner, which is the only one that can make room.
+/// Leaves the processor to other threads that many times. It says how many times to do so if the inbox
+/// is full again: twice as many, up to 64. A sender that tried again at once would take the inbox's
+/// words in memory from the owner, which alone can make room.
 fn pause(times: u32) -> u32 {
     for _ in 0..times {
         thread::yield_now();
@@ -38,10 +39,9 @@ fn pause(times: u32) -> u32 {
     times.saturating_mul(2).min(64)
 }
 
-/// Posts the letter, again where the inbox is full, unless the race is off.
+/// Posts the letter, again while the inbox is full, unless the race is off.
 fn post_one<K: Case, G: Gate, R: Wait>(
-    rt: &R,
-    halt: &Halt,
+    shared: &Shared<G, R>,
     steps: &mut Steps<'_, G>,
     sender: &mut Sender<K>,
     letter: Letter,
@@ -52,10 +52,10 @@ fn post_one<K: Case, G: Gate, R: Wait>(
 {
     let mut letter = letter;
     let mut times = 1;
-    for _ in rt.forever() {
-        halt.check()?;
+    for _ in shared.rt.forever() {
+        shared.halt.check()?;
         steps.begin();
-        let posted = sender.post(rt, letter);
+        let posted = sender.post(&shared.rt, letter);
         steps.end();
         match posted {
             Ok(()) => return Ok(()),
@@ -68,9 +68,7 @@ fn post_one<K: Case, G: Gate, R: Wait>(
 
 /// Posts the whole list, one letter a report, unless the race is off.
 fn post_all<K: Case, G: Gate, R: Wait>(
-    rt: &R,
-    alloc: Global,
-    halt: &Halt,
+    shared: &Shared<G, R>,
     mut steps: Steps<'_, G>,
     sender: &mut Sender<K>,
     list: &[Report],
@@ -80,20 +78,17 @@ fn post_all<K: Case, G: Gate, R: Wait>(
     ensures ok { OnOk result (Bring sender.new.posted list.now) }
 {
     for report in list {
-        let Ok(letter) = letter_of(alloc, report) else {
-            return Err(halt.stop(Stop::NoMemory));
+        let Ok(letter) = letter_of(shared.alloc, report) else {
+            return Err(shared.stop(Stop::NoMemory));
         };
-        post_one(rt, halt, &mut steps, sender, letter)?;
+        post_one(shared, &mut steps, sender, letter)?;
     }
     Ok(())
 }
 
 /// Posts the list, and ends the sender.
 fn send_one<K: Case, G: Gate, R: Wait>(
-    rt: &R,
-    alloc: Global,
-    gate: &G,
-    halt: &Halt,
+    shared: &Shared<G, R>,
     number: usize,
     mut sender: Sender<K>,
     list: &[Report],
@@ -101,16 +96,16 @@ fn send_one<K: Case, G: Gate, R: Wait>(
     requires { (sender.posted ≡ []) × Within K.allowed list.now }
     ensures { IfOk result (λ v. SentAll (sender ∷ []) (list.now ∷ []) v.items) }
 {
-    let steps = Steps::new(gate, Actor::Sender(number));
-    post_all(rt, alloc, halt, steps, &mut sender, list)?;
-    let mut spent = Vec::new(alloc);
+    let steps = Steps::new(&shared.gate, Actor::Sender(number));
+    post_all(shared, steps, &mut sender, list)?;
+    let mut spent = Vec::new(shared.alloc);
     match spent.push(sender.end()) {
         Ok(()) => Ok(spent),
-        Err(_) => Err(halt.stop(Stop::NoMemory)),
+        Err(_) => Err(shared.stop(Stop::NoMemory)),
     }
 }
 
-/// What a thread of senders promises: at Ok each of them has posted its list.
+/// What a thread of senders promises: at `Ok` each of them has posted its list.
 #[derive(Drop)]
 pub(crate) struct Sends<'a, K: Case> {
     pub(crate) senders: Snapshot<Vec<Sender<K>>>,
@@ -131,86 +126,72 @@ impl<'a, K: Case> Sends<'a, K> {
 }
 
 impl<'a, K: Case> Promise<Result<Vec<Spent>, Off>> for Sends<'a, K> {
-    ghost kept_by = { λ p r. IfOk r (λ v. SentAll p.senders.value.items (map (λ l. l.items) p.lists.now) v.items) };
+    ghost kept_by = { λ p r. IfOk r (λ v. SentAll p.senders.value.items (lists_of p.lists.now) v.items) };
 }
 
 /// Each sender posts its list, in a thread of its own. The first of them has this thread.
 #[cycle(sending)]
 pub(crate) fn send_all<K: Case + Send + Sync, G: Gate + Sync, R: Threads + Wait + Sync>(
-    rt: &R,
-    alloc: Global,
-    gate: &G,
-    halt: &Halt,
+    shared: &Shared<G, R>,
     first: usize,
     mut senders: Vec<Sender<K>>,
     lists: &[Vec<Report>],
 ) -> Result<Vec<Spent>, Off>
-    requires { All (λ s. s.posted ≡ []) senders.items × (length lists.now ≡ length senders.items) × All (λ l. Within K.allowed l.items) lists.now }
-    ensures { IfOk result (λ v. SentAll senders.items (map (λ l. l.items) lists.now) v.items) }
+    requires { Ready K.allowed senders.items lists.now }
+    ensures { IfOk result (λ v. SentAll senders.items (lists_of lists.now) v.items) }
 {
     if senders.len() < 2 {
         return match senders.pop() {
-            Some(one) => send_one(rt, alloc, gate, halt, first, one, lists[0].as_slice()),
-            None => Ok(Vec::new(alloc)),
+            Some(one) => send_one(shared, first, one, lists[0].as_slice()),
+            None => Ok(Vec::new(shared.alloc)),
         };
     }
     let half = senders.len() / 2;
     let Ok(back) = senders.split_off(half) else {
-        return Err(halt.stop(Stop::NoMemory));
+        return Err(shared.stop(Stop::NoMemory));
     };
     let (some, others) = lists.split_at(half);
-    send_halves(
-        rt, alloc, gate, halt, first, half, senders, back, some, others,
-    )
+    send_halves(shared, first, senders, back, some, others)
 }
 
 /// The second half of the senders has a thread of its own.
 #[cycle(sending)]
 fn send_halves<K: Case + Send + Sync, G: Gate + Sync, R: Threads + Wait + Sync>(
-    rt: &R,
-    alloc: Global,
-    gate: &G,
-    halt: &Halt,
+    shared: &Shared<G, R>,
     first: usize,
-    half: usize,
     front: Vec<Sender<K>>,
     back: Vec<Sender<K>>,
     some: &[Vec<Report>],
     others: &[Vec<Report>],
 ) -> Result<Vec<Spent>, Off>
-    requires both { (0 < length front.items) × (0 < length back.items) }
-    requires front { All (λ s. s.posted ≡ []) front.items × (length some.now ≡ length front.items) × All (λ l. Within K.allowed l.items) some.now }
-    requires back { All (λ s. s.posted ≡ []) back.items × (length others.now ≡ length back.items) × All (λ l. Within K.allowed l.items) others.now }
-    ensures { IfOk result (λ v. SentAll (front.items ++ back.items) (map (λ l. l.items) some.now ++ map (λ l. l.items) others.now) v.items) }
+    requires { BothReady K.allowed front.items some.now back.items others.now }
+    ensures { IfOk result (λ v. SentAll (front.items ++ back.items) (lists_of some.now ++ lists_of others.now) v.items) }
 {
     thread::scope(
         thread::scope_env(),
-        rt,
+        &shared.rt,
         move |scope| -> Result<Vec<Spent>, Off>
-            requires { IsSync R.row × IsSync G.row × ((0 < length front.items) × (0 < length back.items)) × (All (λ s. s.posted ≡ []) front.items × (length some.now ≡ length front.items) × All (λ l. Within K.allowed l.items) some.now) × (All (λ s. s.posted ≡ []) back.items × (length others.now ≡ length back.items) × All (λ l. Within K.allowed l.items) others.now) }
-            ensures { IfOk result (λ v. SentAll (front.items ++ back.items) (map (λ l. l.items) some.entry.now ++ map (λ l. l.items) others.entry.now) v.items) }
+            requires { IsSync R.row × IsSync G.row × BothReady K.allowed front.items some.now back.items others.now }
+            ensures { IfOk result (λ v. SentAll (front.items ++ back.items) (lists_of some.entry.now ++ lists_of others.entry.now) v.items) }
         {
             let promise = Sends::of(&back, others);
-            let child = scope.spawn_with(
+            let second = first.saturating_add(front.len());
+            let Ok(child) = scope.spawn_with(
                 promise,
                 move || -> Result<Vec<Spent>, Off>
-                    requires { IsSync R.row × IsSync G.row × All (λ s. s.posted ≡ []) back.items × (length others.now ≡ length back.items) × All (λ l. Within K.allowed l.items) others.now }
-                    ensures { IfOk result (λ v. SentAll back.items (map (λ l. l.items) others.entry.now) v.items) }
-                {
-                    let first = first.saturating_add(half);
-                    send_all(rt, alloc, gate, halt, first, back, others)
-                },
-            );
-            let Ok(child) = child else {
-                return Err(halt.stop(Stop::NoThread));
+                    requires { IsSync R.row × IsSync G.row × Ready K.allowed back.items others.now }
+                    ensures { IfOk result (λ v. SentAll back.items (lists_of others.entry.now) v.items) }
+                { send_all(shared, second, back, others) },
+            ) else {
+                return Err(shared.stop(Stop::NoThread));
             };
-            let mine = send_all(rt, alloc, gate, halt, first, front, some);
-            let theirs = child.join(rt);
+            let mine = send_all(shared, first, front, some);
+            let theirs = child.join(&shared.rt);
             let mut all = mine?;
             let mut rest = theirs?;
             match all.append(&mut rest) {
                 Ok(()) => Ok(all),
-                Err(_) => Err(halt.stop(Stop::NoMemory)),
+                Err(_) => Err(shared.stop(Stop::NoMemory)),
             }
         },
     )

@@ -1,6 +1,6 @@
-use Rattle.std.specs.Prelude.{Some, map}
-use Rattle.std.specs.Arc.{arc_value}
+use Rattle.std.specs.Prelude.{Some}
+use Rattle.squall_cluster.specs.Race.{lists_of}
 use Rattle.squall_cluster.proofs.racing.race.Given as goal
 
 abbrev pub ghosts-race_in : goal.ghosts-race_in
-ghosts-race_in g a = record { book = a.track; first = arc_value a.first.now; opening = a.opening.now; allowed = Some (map (λ l. l.items) a.lists.now) }
+ghosts-race_in g a = record { book = a.start.book; first = a.start.first; opening = a.start.board; allowed = Some (lists_of a.tasks.lists.now) }

@@ -1,26 +1,27 @@
-use Rattle.std.proofs.Common.{◌≡◌, ap, sym, ◌∙◌, subst, List, ℕ, map, length, Vec, Global, IfOk, All, Some}
-use Rattle.std.specs.Arc.{arc_value}
+use Rattle.std.proofs.Common.{◌≡◌, ap, sym, ◌∙◌, subst, List, ℕ, Vec, Global, IfOk, Some, length}
 use Rattle.squall_report.specs.declared.report.Report.{Report}
 use Rattle.squall_board.specs.Boards.{BoardValue}
 use Rattle.squall_inbox.specs.Ends.{Posting, vouching}
 use Rattle.squall_inbox.specs.Inbox.{posted}
 use Rattle.squall_inbox.specs.Letters.{letters_of, list_at, board_after}
+use Rattle.squall_cluster.specs.declared.cluster.Sizes.{Sizes}
 use Rattle.squall_cluster.specs.Owners.{Owning}
-use Rattle.squall_cluster.specs.Race.{Reports, Bring, SentAll, Read}
+use Rattle.squall_cluster.specs.RaceFaults.{RaceFaultOf}
+use Rattle.squall_cluster.specs.Race.{Reports, Bring, SentAll, AllRead, lists_of}
 use Rattle.squall_cluster.proofs.Races.{fresh_new, settled, within_all}
 use Rattle.squall_cluster.proofs.racing.race_in.Goals as goal
 
 pub returns-in-Err-clause-fault : goal.returns-in-Err-clause-fault
-returns-in-Err-clause-fault g c = c.from.ensures.of_numbers _ _ _ c.in-Err.ensures.fault
+returns-in-Err-clause-fault g c = subst (λ (z : Sizes). RaceFaultOf z c.from.result) c.sizes.ensures (c.from.ensures.of_sizes _ c.in-Err.ensures.fault)
 
 pub run_all-owner-requires-after_bounds : goal.run_all-owner-requires-after_bounds
 run_all-owner-requires-after_bounds g c κs within =
     let made = c.in-Ok.ensures in
-    (fresh_new c.in-Ok.setup.owner c.in-Ok.setup.senders.items made.fresh, sym made.senders, within_all (λ (l : Vec Report Global). l.items) g.K.Case.allowed c.args.lists.now c.requires.case.5)
+    (fresh_new c.in-Ok.setup.owner c.in-Ok.setup.senders.items made.fresh, sym (made.senders ∙ ap (λ (z : Sizes). z.senders) c.sizes.ensures), within_all (λ (l : Vec Report Global). l.items) g.K.Case.allowed c.args.tasks.lists.now c.requires.allowed)
 
 pub close-requires-clause-inbox : goal.close-requires-clause-inbox
 close-requires-clause-inbox g c =
-    let lists : List Reports = map (λ (l : Vec Report Global). l.items) c.args.lists.now in
+    let lists : List Reports = lists_of c.args.tasks.lists.now in
     let senders : List Posting = c.in-Ok.setup.senders.items in
     let spent : List Posting = c.in-Ok-ran.given.spent.items in
     let before : Owning = c.in-Ok.setup.owner in
@@ -31,7 +32,7 @@ close-requires-clause-inbox g c =
 
 pub close-requires-clause-all_senders : goal.close-requires-clause-all_senders
 close-requires-clause-all_senders g c =
-    let lists : List Reports = map (λ (l : Vec Report Global). l.items) c.args.lists.now in
+    let lists : List Reports = lists_of c.args.tasks.lists.now in
     let senders : List Posting = c.in-Ok.setup.senders.items in
     let spent : List Posting = c.in-Ok-ran.given.spent.items in
     let before : Owning = c.in-Ok.setup.owner in
@@ -42,7 +43,7 @@ close-requires-clause-all_senders g c =
 
 pub returns-in-Ok-close-clause-board : goal.returns-in-Ok-close-clause-board
 returns-in-Ok-close-clause-board g c =
-    let lists : List Reports = map (λ (l : Vec Report Global). l.items) c.args.lists.now in
+    let lists : List Reports = lists_of c.args.tasks.lists.now in
     let senders : List Posting = c.in-Ok.setup.senders.items in
     let spent : List Posting = c.in-Ok-ran.given.spent.items in
     let before : Owning = c.in-Ok.setup.owner in
@@ -51,7 +52,7 @@ returns-in-Ok-close-clause-board g c =
     let sent : SentAll senders lists spent = subst (λ r. IfOk r (λ x. SentAll senders lists x.spent.items)) c.in-Ok-ran.is c.run_all-owner.ensures.sent in
     let end : (p : ℕ) → Bring (posted p (vouching spent after.vouched)) (list_at p lists) = (settled before after senders spent lists c.in-Ok.ensures.fresh o.0 o.1 o.2 sent).2 in
     let closed = c.in-Ok-close.ensures.board_of_posted in
-    let opening : c.args.opening.now ≡ g.K.Case.opening = c.requires.case.4 in (
+    let opening : c.args.start.board ≡ g.K.Case.opening = c.requires.start.2 in (
       closed.taken,
       closed.board_of_taken ∙ ap (λ (b : BoardValue). board_after b (letters_of closed.taken)) (sym opening),
       λ p. subst (λ l. Bring l (list_at p lists)) (sym (closed.each_once_in_order p)) (end p),
@@ -59,12 +60,12 @@ returns-in-Ok-close-clause-board g c =
 
 pub returns-in-Ok-close-clause-routes : goal.returns-in-Ok-close-clause-routes
 returns-in-Ok-close-clause-routes g c =
-    let lists : List Reports = map (λ (l : Vec Report Global). l.items) c.args.lists.now in
-    let keys = c.args.keys.now in
+    let lists : List Reports = lists_of c.args.tasks.lists.now in
+    let keys = c.args.tasks.keys.now in
+    let readers : ℕ = c.args.tasks.readers in
     let all : List (Vec ℕ Global) = c.in-Ok-ran.given.routes.items in
-    let read = subst (λ r. IfOk r (λ x. (length x.routes.items ≡ length c.in-Ok-seats_of.seats.items) × All (λ (one : Vec ℕ Global). Read g.K.Case.allowed g.K.Case.first g.K.Case.opening keys one.items) x.routes.items)) c.in-Ok-ran.is c.run_all-owner.ensures.read in
-    let by_lists = subst (λ a. All (λ (one : Vec ℕ Global). Read a g.K.Case.first g.K.Case.opening keys one.items) all) c.requires.case.5 read.1 in
-    let from_first = subst (λ f. All (λ (one : Vec ℕ Global). Read (Some lists) f g.K.Case.opening keys one.items) all) (sym c.requires.case.3) by_lists in (
-      read.0 ∙ c.in-Ok-seats_of.ensures,
-      subst (λ b. All (λ (one : Vec ℕ Global). Read (Some lists) (arc_value c.args.first.now) b keys one.items) all) (sym c.requires.case.4) from_first,
-    )
+    let read = subst (λ r. IfOk r (λ x. AllRead g.K.Case.allowed g.K.Case.first g.K.Case.opening keys (length c.in-Ok-seats_of.seats.items) x.routes.items)) c.in-Ok-ran.is c.run_all-owner.ensures.read in
+    let by_readers = subst (λ (n : ℕ). AllRead g.K.Case.allowed g.K.Case.first g.K.Case.opening keys n all) c.in-Ok-seats_of.ensures read in
+    let by_lists = subst (λ a. AllRead a g.K.Case.first g.K.Case.opening keys readers all) c.requires.allowed by_readers in
+    let by_first = subst (λ f. AllRead (Some lists) f g.K.Case.opening keys readers all) (sym c.requires.start.1) by_lists in
+    subst (λ b. AllRead (Some lists) c.args.start.first b keys readers all) (sym c.requires.start.2) by_first
