@@ -1,5 +1,6 @@
 -- What the lines of a race file set up, one after another (this project's scenario language).
-use Rattle.std.specs.Prelude.{ℕ, zero, suc, ◌+◌, ◌-◌, ◌^◌, min, Bool, true, false, ◌&&◌, List, [], ◌∷◌, ◌++◌, length, replicate, nat_lt, Option, None, Some, unwrap_or, Result, Ok, Err}
+use Rattle.std.specs.Prelude.{ℕ, zero, suc, ◌+◌, ◌-◌, ◌^◌, min, Bool, true, false, ◌&&◌, nat_lt}
+use Rattle.std.specs.Prelude.{List, [], ◌∷◌, ◌++◌, length, replicate, Option, None, Some, unwrap_or, Result, Ok, Err}
 use Rattle.squall_plan.specs.declared.range.PlanRange.{PlanRange}
 use Rattle.squall_plan.specs.declared.fault.PlanFault.{PlanFault}
 use Rattle.squall_plan.specs.Form.{plan_of_text}
@@ -9,6 +10,7 @@ use Rattle.squall_lines.specs.Words.{without_cr}
 use Rattle.squall_language.specs.declared.reason.Reason.{Reason}
 use Rattle.squall_language.specs.declared.reason.Reason.TheVariants.{Order, Limit, Plan}
 use Rattle.squall_language.specs.ReportLines.{report_of}
+use Rattle.squall_cluster.specs.declared.cluster.Sizes.{Sizes}
 use Rattle.squall_cluster.specs.Race.{Reports}
 use Rattle.squall_race.specs.declared.line.Item.{Item}
 use Rattle.squall_race.specs.declared.line.Item.TheVariants.{Capacity, Readers, Senders, Post, Ask}
@@ -20,9 +22,9 @@ pub data Plans : Type 0 where
   OldPlan : List PlanRange → Plans
   BothPlans : List PlanRange → List PlanRange → Plans
 
--- a race after some lines of its file: how many there were, skipped ones too; the plans; how many letters the inbox holds and
--- how many readers there are, where a line said so; whether the number of senders is settled; what each sender posts, in
--- order; and the keys to route
+-- A race after some lines of its file: how many lines there were, skipped ones too; the plans; for how many letters the inbox has room
+-- and how many readers there are, if a line said so; whether the number of senders is settled; what each sender posts, in order; and
+-- the keys to route
 pub record RaceState : Type 0 where
   pub line : ℕ
   pub plans : Plans
@@ -32,7 +34,7 @@ pub record RaceState : Type 0 where
   pub lists : List Reports
   pub keys : List ℕ
 
--- so many senders that post nothing
+-- that many senders that post nothing
 abbrev pub silent : ℕ → List Reports
 silent n = replicate n []
 
@@ -40,12 +42,16 @@ silent n = replicate n []
 abbrev pub at_start : RaceState
 at_start = record { line = 0; plans = NoPlan; capacity = None; readers = None; settled = false; lists = silent 2; keys = [] }
 
--- without a line that says so there is one reader, and the inbox holds 16 letters
+-- if no line says so there is one reader, and the inbox has room for 16 letters
 abbrev pub readers_of : Option ℕ → ℕ
 readers_of asked = unwrap_or asked 1
 
 abbrev pub capacity_of : Option ℕ → ℕ
 capacity_of asked = unwrap_or asked 16
+
+-- the sizes of the cluster that runs the race
+abbrev pub sizes_of_race : RaceState → Sizes
+sizes_of_race s = record { senders = length s.lists; readers = readers_of s.readers; capacity = capacity_of s.capacity }
 
 abbrev pub with_plans : RaceState → Plans → RaceState
 with_plans s plans = record s { plans = plans }
@@ -104,8 +110,8 @@ with_report p r [] = []
 with_report zero r (l ∷ ls) = (l ++ r ∷ []) ∷ ls
 with_report (suc p) r (l ∷ ls) = l ∷ with_report p r ls
 
--- N REPORT: the sender posts the report after those that it had, where there is such a sender and the report's numbers lie
--- within their limits
+-- N REPORT: the sender posts the report after those that it had, if there is such a sender and the report's numbers are within their
+-- limits
 abbrev pub take_post : RaceState → ℕ → Option (ReportKind PlanPair) → Result RaceState Reason
 take_post s p None = Err Limit
 take_post s p (Some r) = within (nat_lt p (length s.lists)) (record s { settled = true; lists = with_report p r s.lists })

@@ -11,9 +11,9 @@ use Rattle.squall_language.specs.ReportLines.{report_line}
 use Rattle.squall_race.specs.declared.line.Item.{Item}
 use Rattle.squall_race.specs.declared.line.Item.TheVariants.{Capacity, Readers, Senders, Post, Ask}
 
--- what a line says: nothing, where it has no word or is a remark; the old plan or the new one, by its text; an item of the race,
--- which is how many letters the inbox holds, how many readers there are, how many senders, a report that the sender of a number
--- posts, or a key to route; or why the line is bad
+-- What a line says: nothing, if it has no word or is a remark; the old plan or the new one, by its text; an item of the race; or why the
+-- line is bad. An item is the room of the inbox, the number of readers, that of senders, a report that the sender of a number posts, or
+-- a key to route
 pub data RaceLine : Type 0 where
   Skip : RaceLine
   Old : List ℕ → RaceLine

@@ -60,7 +60,7 @@ abbrev pub ShowsFile : Result RaceState (ℕ × Reason) → Ended → List ℕ �
 ShowsFile (Ok s) ended shown = EndsIn s s.plans ended shown
 ShowsFile (Err bad) ended shown = RefusesLine bad.0 bad.1 ended shown
 
--- what a race may show of the text of its file, by how it ended: whatever the schedule of its threads, one text where it is
--- fine; else why a line is bad, or that it was refused what it needs
+-- What a race may show of the text of its file, by how it ended. If it is fine it shows one text, whatever the schedule of its threads.
+-- Else it shows why a line is bad, or that it was refused what it needs
 abbrev pub MayShow : List ℕ → Ended → List ℕ → Type 0
 MayShow text ended shown = ShowsFile (after_lines at_start (lines_of text)) ended shown

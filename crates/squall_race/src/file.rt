@@ -1,7 +1,8 @@
 //! What the lines of a race file have set up.
 
 ghost use Rattle.std.specs.Prelude.{◌≡◌, map, length, IfOk, OnOk, ◌<◌, []};
-ghost use Rattle.squall_race.specs.RaceFiles.{at_start, at_next_line, silent, take_old, take_new, once_planned, take_capacity, take_readers, take_senders, with_report, take_post, take_key, take_item};
+ghost use Rattle.squall_race.specs.RaceFiles.{at_start, at_next_line, silent, take_old, take_new, once_planned};
+ghost use Rattle.squall_race.specs.RaceFiles.{take_capacity, take_readers, take_senders, with_report, take_post, take_key, take_item};
 ghost use Rattle.squall_race.specs.Taken.{Took};
 
 use crate::line::Item;
@@ -39,9 +40,9 @@ pub(crate) struct RaceFile {
     /// How many lines there were, skipped ones too.
     pub(crate) line: u64,
     pub(crate) stage: Stage,
-    /// How many letters the inbox holds, where a line said so.
+    /// For how many letters the inbox has room, if a line said so.
     pub(crate) capacity: Option<u32>,
-    /// How many readers there are, where a line said so.
+    /// How many readers there are, if a line said so.
     pub(crate) readers: Option<u32>,
     /// Whether a line said how many senders there are, or one of them has a report to post.
     pub(crate) settled: bool,
@@ -57,12 +58,20 @@ impl Model for RaceFile {
 
     ghost Value = { RaceState };
 
-    ghost view = { λ s. record { line = s.line; plans = plans_seen s.stage; capacity = s.capacity; readers = s.readers; settled = s.settled; lists = map (λ l. l.items) s.lists.items; keys = s.keys.items } };
+    ghost view = { λ s. record {
+      line = s.line;
+      plans = plans_seen s.stage;
+      capacity = s.capacity;
+      readers = s.readers;
+      settled = s.settled;
+      lists = map (λ l. l.items) s.lists.items;
+      keys = s.keys.items;
+    } };
 
     ghost invariant = { λ s. IsFirstCourse s.stage × FitsCluster s.capacity s.readers (length s.lists.items) };
 }
 
-/// So many lists that have no report.
+/// That many lists that have no report. It fails (memory).
 fn silent(alloc: Global, senders: u32) -> Result<Vec<Vec<Report>>, AllocError>
     ensures { IfOk result (λ lists. map (λ l. l.items) lists.items ≡ silent senders) }
 {
@@ -73,7 +82,7 @@ fn silent(alloc: Global, senders: u32) -> Result<Vec<Vec<Report>>, AllocError>
     Ok(lists)
 }
 
-/// Adds the report at the end of that list.
+/// Adds the report at the end of that list. It fails (memory).
 fn post(lists: &mut [Vec<Report>], sender: usize, report: Report) -> Result<(), AllocError>
     requires there { sender < length lists.old }
     ensures { OnOk result (map (λ l. l.items) lists.new ≡ with_report sender report (map (λ l. l.items) lists.old)) }
@@ -138,7 +147,7 @@ impl RaceFile {
         Ok(None)
     }
 
-    /// Takes how many letters the inbox holds.
+    /// Takes for how many letters the inbox has room.
     fn take_capacity(&mut self, capacity: u32) -> Option<Reason>
         ensures { Took (Ok result) self.new (take_capacity self.old self.old.capacity capacity) }
     {
@@ -181,7 +190,7 @@ impl RaceFile {
         Ok(None)
     }
 
-    /// Takes a report that a sender posts, where there is such a report.
+    /// Takes a report that a sender posts, if its numbers make a report.
     fn take_post(
         &mut self,
         sender: u32,

@@ -5,13 +5,13 @@ ghost use Rattle.squall_lines.specs.declared.Ended.TheVariants.{Fine, Refused};
 ghost use Rattle.squall_language.specs.Endings.{EndsInBadLine, EndsInNoBadLine, EndsInRefusal, EndsInNoRefusal};
 ghost use Rattle.squall_race.specs.RaceText.{MayShow};
 
-/// Of a file's text a race that is fine shows one text, whatever the schedule of its threads.
+/// A race that is fine shows one text for the text of its file, whatever the schedule of its threads.
 pub fn one_race_text()
     ensures { (text shown other : List ℕ) → MayShow text Fine shown → MayShow text Fine other → shown ≡ other }
 {}
 
-/// A race is refused exactly where the last line that it shows says why a line is bad, or begins
-/// with `refused`.
+/// A race is refused exactly if the last line that it shows says why a line is bad, or begins with
+/// `refused`.
 pub fn refused_race_ends_in_a_refusal()
     ensures refused { (text shown : List ℕ) → MayShow text Refused shown → EndsInBadLine shown ⊎ EndsInRefusal shown }
     ensures good { (text shown : List ℕ) → MayShow text Fine shown → EndsInNoBadLine shown }

@@ -1,5 +1,7 @@
-//! Races by the lines of a file: which plans, how many senders and readers, what each sender posts,
-//! which keys are routed; and what is shown of the board that the race comes to.
+//! Races by the lines of a file. The lines say which plans there are, how many senders and readers, what
+//! each sender posts, and which keys are routed. What is shown is the board that the race comes to.
+//!
+//! A call that "fails (memory)" does so only if an allocation fails, or if a count of owners is full.
 #![tactic(auto)]
 
 mod file;

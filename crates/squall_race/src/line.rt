@@ -14,7 +14,7 @@ use squall_lines::words::{after_blanks, next_word, only_word};
 /// What lines say of a race once both plans are read.
 #[derive(Clone, Copy, Debug)]
 pub(crate) enum Item {
-    /// How many letters the inbox holds.
+    /// For how many letters the inbox has room.
     Capacity(u32),
     /// How many readers there are.
     Readers(u32),
@@ -82,7 +82,7 @@ fn item_by(name: &[u8], rest: &[u8]) -> Option<Item>
     post_line(name, rest)
 }
 
-/// What the first word and those after it say, where they have the form of a line.
+/// What the first word and those after it say. `None` if they do not have the form of a line.
 fn line_by<'a>(name: &[u8], rest: &'a [u8]) -> Option<LineWords<'a>>
     ensures { option_map line_seen result ≡ line_by name.now (words_of rest.now) (from_first is_letter rest.now) }
 {

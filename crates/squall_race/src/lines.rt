@@ -14,7 +14,7 @@ use squall_lines::next_line;
 use squall_lines::words::without_cr;
 use std::alloc::{AllocError, Global};
 
-/// Takes a line, which stands here without its LF, or tells why it is bad.
+/// Takes a line without its LF, or tells why it is bad.
 fn take_line(file: &mut RaceFile, line: &[u8]) -> Result<Option<Reason>, AllocError>
     ensures { Took result file.new (take_line file.old (race_line (without_cr line.now))) }
 {

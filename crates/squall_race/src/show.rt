@@ -1,18 +1,17 @@
 //! What a race shows.
 
-ghost use Rattle.std.specs.Prelude.{◌≡◌, ◌++◌, ℕ, List, All, Some, length, IfOk, IfErr, OnOk, string_bytes};
+ghost use Rattle.std.specs.Prelude.{◌≡◌, ◌++◌, ℕ, List, Some, IfOk, IfErr, OnOk, string_bytes};
 ghost use Rattle.std.specs.Arc.{arc_value};
 ghost use Rattle.squall_board.specs.Boards.{empty_board};
-ghost use Rattle.squall_cluster.specs.Race.{Read};
+ghost use Rattle.squall_cluster.specs.Race.{AllRead};
 ghost use Rattle.squall_cluster.specs.RaceFaults.{RaceFaultOf};
-ghost use Rattle.squall_race.specs.RaceFiles.{readers_of, capacity_of};
-ghost use Rattle.squall_language.specs.Reasons.{bad_line};
-ghost use Rattle.squall_race.specs.RaceText.{route_line, route_lines, text_of_race, board_of_lists, MayShow, RefusesLine, ShowsRace, EndsIn, IsRefusal};
+ghost use Rattle.squall_race.specs.RaceFiles.{readers_of, capacity_of, sizes_of_race};
+ghost use Rattle.squall_race.specs.RaceText.{route_lines, board_of_lists, MayShow, RefusesLine, ShowsRace, EndsIn};
 
 use crate::file::{BadLine, RaceFile, Stage};
 use crate::lines::read_file;
 use squall_board::Board;
-use squall_cluster::{Actor, Gate, RaceFault, Raced, race};
+use squall_cluster::{Actor, Gate, RaceFault, Raced, Start, Tasks, race};
 use squall_course::Course;
 use squall_key::Key;
 use squall_language::{Reason, add_bad_line, add_board};
@@ -21,10 +20,10 @@ use std::alloc::{AllocError, Global};
 use std::sync::{Arc, Wait};
 use std::thread::Threads;
 
-/// How many letters an inbox holds where no line says so.
+/// For how many letters an inbox has room if no line says so.
 const CAPACITY: u32 = 16;
 
-/// How many readers there are where no line says so.
+/// How many readers there are if no line says so.
 const READERS: u32 = 1;
 
 /// A gate at which nobody waits.
@@ -36,7 +35,7 @@ impl Gate for Open {
     fn after(&self, _actor: Actor, _call: u64) {}
 }
 
-/// Adds the route of each key by the board.
+/// Adds the route of each key by the board. It fails (memory).
 fn add_routes(
     course: &Course,
     board: &Board,
@@ -67,15 +66,15 @@ fn readers_of(file: &RaceFile) -> usize
     file.readers.unwrap_or(READERS) as usize
 }
 
-/// How many letters the inbox of the race of a file holds.
+/// For how many letters the inbox of the race of a file has room.
 fn capacity_of(file: &RaceFile) -> usize
     ensures { result ≡ capacity_of file.now.capacity }
 {
     file.capacity.unwrap_or(CAPACITY) as usize
 }
 
-/// The race of a file, from the board of no report: as many senders, readers and places in the inbox
-/// as the file says, each sender with its reports and each reader with all keys.
+/// The race of a file, from the board of no report. It has as many senders and readers, and as much room
+/// in its inbox, as the file says. Each sender has its reports, and each reader all keys.
 fn race_of<R: Threads + Wait + Sync>(
     rt: &R,
     alloc: Global,
@@ -83,25 +82,21 @@ fn race_of<R: Threads + Wait + Sync>(
     course: &Arc<Course>,
 ) -> Result<Raced, RaceFault>
     ensures board { IfOk result (λ raced. raced.board ≡ board_of_lists file.now.lists) }
-    ensures readers { IfOk result (λ raced. length raced.routes.items ≡ readers_of file.now.readers) }
-    ensures keys { IfOk result (λ raced. All (λ routes. Read (Some file.now.lists) (arc_value course.now) empty_board file.now.keys routes.items) raced.routes.items) }
-    ensures fault { IfErr result (RaceFaultOf (length file.now.lists) (readers_of file.now.readers) (capacity_of file.now.capacity)) }
+    ensures routes { IfOk result (λ raced.
+        AllRead (Some file.now.lists) (arc_value course.now) empty_board file.now.keys (readers_of file.now.readers) raced.routes.items) }
+    ensures fault { IfErr result (RaceFaultOf (sizes_of_race file.now)) }
 {
     let opening = Board::new(alloc);
-    race(
-        rt,
-        alloc,
-        course,
-        &opening,
-        &file.lists,
-        &file.keys,
-        readers_of(file),
-        capacity_of(file),
-        &Open,
-    )
+    let tasks = Tasks {
+        lists: &file.lists,
+        keys: &file.keys,
+        readers: readers_of(file),
+        capacity: capacity_of(file),
+    };
+    race(rt, alloc, Start::new(course, &opening), tasks, &Open)
 }
 
-/// Runs the race, and adds what it comes to.
+/// Runs the race, and adds what it comes to. It fails (memory).
 fn run_race<R: Threads + Wait + Sync>(
     rt: &R,
     alloc: Global,
@@ -109,7 +104,8 @@ fn run_race<R: Threads + Wait + Sync>(
     course: &Arc<Course>,
     out: &mut String,
 ) -> Result<Ended, AllocError>
-    ensures { IfOk result (λ ended. (shown : List ℕ) × (string_bytes out.new ≡ string_bytes out.old ++ shown) × ShowsRace file.now (arc_value course.now) ended shown) }
+    ensures { IfOk result (λ ended.
+        (shown : List ℕ) × (string_bytes out.new ≡ string_bytes out.old ++ shown) × ShowsRace file.now (arc_value course.now) ended shown) }
 {
     match race_of(rt, alloc, file, course) {
         Ok(raced) => {
@@ -129,7 +125,7 @@ fn run_race<R: Threads + Wait + Sync>(
     }
 }
 
-/// Runs the race that a file has set up, where both plans are read.
+/// Runs the race that a file has set up, if both plans are read. It fails (memory).
 fn run_file<R: Threads + Wait + Sync>(
     rt: &R,
     alloc: Global,
@@ -146,17 +142,18 @@ fn run_file<R: Threads + Wait + Sync>(
     }
 }
 
-/// Runs the race of a file's text, and adds to `out` what it shows: the lines of the board that all
-/// reports come to, as `board` shows it in a scenario, and then `route K P` for each key by that
-/// board. Each sender posts its reports in a thread of its own, each reader routes each key in one,
-/// and the owner of the cluster takes and publishes the reports in the caller's.
+/// Runs the race of a file's text, and adds to `out` what it shows. First come the lines of the board
+/// that all reports come to, as `board` shows it in a scenario. Then comes `route K P` for each key by
+/// that board. Each sender posts its reports in a thread of its own, and each reader routes each key in
+/// one. The owner of the cluster takes and publishes the reports in the caller's thread.
 ///
-/// `Refused` where a line is bad, which `out` says as in a scenario: a file that ends before both
-/// plans are read lacks a line. And where a seat or a look was refused to a reader, or a thread could
-/// not be started: `out` says `refused NoPlace` or `refused NoThread`. No thread is left running.
+/// It answers `Refused` if a line is bad, and `out` says why as in a scenario: a file that ends before
+/// both plans are read lacks a line. It also answers `Refused` if a seat or a look was refused to a
+/// reader, or if a thread could not be started: `out` says `refused NoPlace` or `refused NoThread`. No
+/// thread is left running.
 ///
-/// The error comes where an allocation failed; nothing is known of `out` then. What is promised holds
-/// if the call returns, for it waits for threads.
+/// It fails (memory), and nothing is known of `out` then. What is promised holds if the call returns,
+/// for it waits for threads.
 pub fn answer_race<R: Threads + Wait + Sync>(
     rt: &R,
     alloc: Global,
