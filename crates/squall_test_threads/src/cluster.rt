@@ -3,6 +3,7 @@
 ghost use Rattle.std.specs.Prelude.{◌≡◌, [], ◌∷◌, length, All, IfSome, None};
 ghost use Rattle.std.specs.Arc.{arc_value};
 ghost use Rattle.squall_inbox.specs.Ends.{posting_of, vouching};
+ghost use Rattle.squall_desk.specs.Start.{IsStartOf};
 ghost use Rattle.squall_cluster.specs.Owners.{owning_with, IsBoardOfPosted};
 ghost use Rattle.squall_cluster.specs.CloseFaults.{owner_of, spent_of};
 
@@ -17,7 +18,9 @@ mod steps;
 mod tolerant;
 
 use squall_board::Board;
-use squall_cluster::{Case, CloseFault, Cluster, Letter, Line, Owner, Sender, Setup, Track, close};
+use squall_cluster::{
+    Case, CloseFault, Cluster, Letter, Owner, Sender, Setup, Sizes, Start, close,
+};
 use squall_course::Course;
 use squall_key::{Bound, Key};
 use squall_plan::Plan;
@@ -35,24 +38,24 @@ const OLD: &str =
 const NEW: &str =
     "{\"plan\":[{\"part\":1,\"from\":[0,0],\"to\":[2,0]},{\"part\":2,\"from\":[3,0],\"to\":[5,0]},{\"part\":3,\"from\":[2,0],\"to\":[3,0]},{\"part\":3,\"from\":[5,0],\"to\":[6,0]},{\"part\":4,\"from\":[6,0],\"to\":\"end\"}]}";
 
-/// The plan of the text. None also where an allocation fails.
+/// The plan of the text. None also if an allocation fails.
 fn plan(alloc: Global, text: &str) -> Option<Plan> {
     Plan::read(alloc, text.as_bytes()).ok()
 }
 
-/// Course 1 between the plans. None also where an allocation fails.
+/// Course 1 between the plans. None also if an allocation fails.
 fn course_between(alloc: Global, old: &Plan, new: &Plan) -> Option<Arc<Course>> {
     let course = Course::new(alloc, 1, old, new).ok()?;
     Arc::new(alloc, course).ok()
 }
 
-/// Course 1 from the plan to the new one. None also where an allocation fails.
+/// Course 1 from the plan to the new one. None also if an allocation fails.
 fn course_from(alloc: Global, old: &Plan) -> Option<Arc<Course>> {
     let new = plan(alloc, NEW)?;
     course_between(alloc, old, &new)
 }
 
-/// Course 1 from the old plan to the new one. None also where an allocation fails.
+/// Course 1 from the old plan to the new one. None also if an allocation fails.
 fn course(alloc: Global) -> Option<Arc<Course>> {
     let old = plan(alloc, OLD)?;
     course_from(alloc, &old)
@@ -69,76 +72,86 @@ fn done() -> Option<Report> {
     Report::done(1, 0, 4)
 }
 
-/// The board of these reports. None where an allocation fails.
+/// The board of these reports. None if an allocation fails.
 fn board(alloc: Global, reports: &[Report]) -> Option<Board> {
     let mut board = Board::new(alloc);
     board.take_all(reports).ok()?;
     Some(board)
 }
 
-/// The letter of the report. None where an allocation fails.
+/// The letter of the report. None if an allocation fails.
 fn letter(alloc: Global, report: &Report) -> Option<Letter> {
     let mut board = Board::new(alloc);
     board.take(report).ok()?;
     Some(Letter::new(board))
 }
 
-/// The letter of the load. None where an allocation fails.
+/// The letter of the load. None if an allocation fails.
 fn load_letter(alloc: Global) -> Option<Letter> {
     let report = load()?;
     letter(alloc, &report)
 }
 
-/// The letter of the completion. None where an allocation fails.
+/// The letter of the completion. None if an allocation fails.
 fn done_letter(alloc: Global) -> Option<Letter> {
     let report = done()?;
     letter(alloc, &report)
 }
 
-/// The letter of the load, and that of the completion. None where an allocation fails.
+/// The letter of the load, and that of the completion. None if an allocation fails.
 fn two_letters(alloc: Global) -> Option<(Letter, Letter)> {
     let first = load_letter(alloc)?;
     let second = done_letter(alloc)?;
     Some((first, second))
 }
 
-/// The board takes the report. None where an allocation fails.
+/// The board takes the report. None if an allocation fails.
 fn take(board: &mut Board, report: Option<Report>) -> Option<()> {
     let report = report?;
     board.take(&report).ok()
 }
 
-/// The board takes the load and the completion. None where an allocation fails.
+/// The board takes the load and the completion. None if an allocation fails.
 fn take_both(board: &mut Board) -> Option<()> {
     take(board, load())?;
     take(board, done())
 }
 
-/// The board of the load and the completion. None where an allocation fails.
+/// The board of the load and the completion. None if an allocation fails.
 fn board_of_both(alloc: Global) -> Option<Board> {
     let mut board = Board::new(alloc);
     take_both(&mut board)?;
     Some(board)
 }
 
-/// Whether the board is that of the load and the completion. None where an allocation fails.
+/// Whether the board is that of the load and the completion. None if an allocation fails.
 fn is_board_of_both(alloc: Global, board: &Board) -> Option<bool> {
     let wanted = board_of_both(alloc)?;
     Some(*board == wanted)
 }
 
-/// What a cluster is made with: its course and its opening board.
+/// What a cluster begins with: its course and its opening board.
 #[derive(Drop)]
-struct Start {
+struct Origin {
     first: Arc<Course>,
     opening: Board,
 }
 
-/// The start with course 1 and the board of no report. None where an allocation fails.
-fn empty_start(alloc: Global) -> Option<Start> {
+impl Origin {
+    /// The start of a cluster that begins with this.
+    fn start(&self) -> Start
+        ensures first { result.first ≡ arc_value self.now.first }
+        ensures board { result.board ≡ self.now.opening }
+    {
+        Start::new(&self.first, &self.opening)
+    }
+}
+
+/// Course 1 and the board of no report. None if an allocation fails.
+fn empty_origin(alloc: Global) -> Option<Origin> {
     let first = course(alloc)?;
     let opening = Board::new(alloc);
-    Some(Start { first, opening })
+    Some(Origin { first, opening })
 }
 
 /// A cluster of two senders, as a test has it.
@@ -150,31 +163,24 @@ struct Pair<K: Case, R: Wait + Drop> {
     owner: Owner<K, R>,
 }
 
-/// A cluster of two senders and so many readers, whose inbox has room for so many letters. None where an
-/// allocation fails.
+/// A cluster of two senders and that many readers, whose inbox has room for that many letters. None if
+/// an allocation fails.
 fn opened<K: Case, R: Wait + Drop>(
     rt: R,
     alloc: Global,
-    book: (Track, Line),
-    start: &Start,
+    start: Start,
     readers: usize,
     capacity: usize,
 ) -> Option<Pair<K, R>>
-    requires book { (book.0 ≡ K.book) × (book.1.book ≡ K.book) × (book.1.log ≡ []) }
-    requires start { (arc_value start.now.first ≡ K.first) × (start.now.opening ≡ K.opening) }
+    requires { IsStartOf K.book K.first K.opening start }
     ensures { IfSome result (λ pair. (pair.first ≡ posting_of pair.owner.inbox 0 []) × (pair.second ≡ posting_of pair.owner.inbox 1 []) × (pair.owner ≡ owning_with pair.owner.inbox 2)) }
 {
-    let Ok(setup) = Cluster::<K>::new(
-        rt,
-        alloc,
-        book.0,
-        book.1,
-        &start.first,
-        &start.opening,
-        2,
+    let sizes = Sizes {
+        senders: 2,
         readers,
         capacity,
-    ) else {
+    };
+    let Ok(setup) = Cluster::<K>::new(rt, alloc, start, sizes) else {
         return None;
     };
     let Setup {
@@ -192,7 +198,7 @@ fn opened<K: Case, R: Wait + Drop>(
     })
 }
 
-/// Closes the cluster by what came back of a try without memory. None where there is none again.
+/// Closes the cluster by what came back of a try without memory. None if there is none again.
 fn closed_again<K: Case, R: Wait + Drop>(fault: CloseFault<K, R>) -> Option<Board>
     requires inbox { All (λ s. s.inbox ≡ (owner_of fault).inbox) (spent_of fault) }
     requires all { length (vouching (spent_of fault) (owner_of fault).vouched) ≡ (owner_of fault).made }
@@ -203,7 +209,7 @@ fn closed_again<K: Case, R: Wait + Drop>(fault: CloseFault<K, R>) -> Option<Boar
     }
 }
 
-/// Ends both senders and closes the cluster, at a second try where the first had no memory. None where
+/// Ends both senders and closes the cluster, at a second try if the first had no memory. None if
 /// that has none either.
 fn closed<K: Case, R: Wait + Drop>(
     alloc: Global,

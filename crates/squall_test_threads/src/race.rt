@@ -79,7 +79,7 @@ fn show<R: Threads + Wait + Sync>(
     Ok(ended == Ended::Refused)
 }
 
-/// Each text after the first piece shows what it should, and is refused where that is a bad line.
+/// Each text after the first piece shows what it should, and is refused if that is a bad line.
 fn all_show<R: Threads + Wait + Sync + Abort>(
     rt: &R,
     alloc: Global,

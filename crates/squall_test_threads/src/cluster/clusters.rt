@@ -1,11 +1,10 @@
 //! Clusters of all sizes, and two at once.
 
-ghost use Rattle.std.specs.Prelude.{◌≡◌, []};
-ghost use Rattle.std.specs.Arc.{arc_value};
+ghost use Rattle.squall_desk.specs.Start.{IsStartOf};
 
-use super::{Pair, Start, board, closed, course, empty_start, load, moving_key, opened};
+use super::{Origin, Pair, board, closed, course, empty_origin, load, moving_key, opened};
 use squall_board::Board;
-use squall_cluster::{Case, Cluster, Line, Seat, SeatFault, Track};
+use squall_cluster::{Case, Cluster, Seat, SeatFault, Sizes, Start};
 use squall_key::{Key, PartId};
 use std::alloc::Global;
 use std::marker::Brand;
@@ -13,51 +12,37 @@ use std::process::Abort;
 use std::sync::Wait;
 use std::test::Fail;
 
-/// The text of the fault with these numbers. None where a cluster was made, which it lets go.
+/// The text of the fault with these sizes. None if a cluster was made, which it lets go.
 fn fault_of<K: Case, R: Wait>(
     rt: &R,
     alloc: Global,
-    book: (Track, Line),
-    start: &Start,
-    numbers: (usize, usize, usize),
+    start: Start,
+    sizes: Sizes,
 ) -> Result<Option<String>, Fail>
-    requires book { (book.0 ≡ K.book) × (book.1.book ≡ K.book) × (book.1.log ≡ []) }
-    requires start { (arc_value start.now.first ≡ K.first) × (start.now.opening ≡ K.opening) }
+    requires { IsStartOf K.book K.first K.opening start }
 {
-    let (senders, readers, capacity) = numbers;
-    let made = Cluster::<K>::new(
-        rt,
-        alloc,
-        book.0,
-        book.1,
-        &start.first,
-        &start.opening,
-        senders,
-        readers,
-        capacity,
-    );
-    match made {
+    match Cluster::<K>::new(rt, alloc, start, sizes) {
         Ok(_setup) => Ok(None),
         Err(fault) => Ok(Some(format!(in alloc; "{fault}")?)),
     }
 }
 
-/// Whether the fault with these numbers has that text; where it is empty, whether a cluster was made.
+/// Whether the fault with these sizes has that text; if it is empty, whether a cluster was made.
 fn answers(
     rt: &impl Wait,
     alloc: Global,
-    start: &Start,
-    numbers: (usize, usize, usize),
+    origin: &Origin,
+    sizes: Sizes,
     wanted: &str,
 ) -> Result<bool, Fail> {
-    let fault = fault_of::<Brand, _>(rt, alloc, Line::open(), start, numbers)?;
+    let fault = fault_of::<Brand, _>(rt, alloc, origin.start(), sizes)?;
     Ok(match fault {
         Some(text) => text.as_str() == wanted,
         None => wanted.is_empty(),
     })
 }
 
-/// Numbers of senders, readers and room, and the fault with them; no fault where a cluster is made.
+/// Numbers of senders, readers and room, and the fault with them; no fault if a cluster is made.
 const LIMITS: [((usize, usize, usize), &str); 6] = [
     ((0, 1, 1), "BadSenders"),
     ((65, 65, 1), "BadSenders"),
@@ -68,38 +53,37 @@ const LIMITS: [((usize, usize, usize), &str); 6] = [
 ];
 
 /// Each of these numbers has its fault.
-fn limits_hold<R: Abort + Wait>(rt: &R, alloc: Global, start: &Start) -> Result<(), Fail> {
-    for (numbers, wanted) in LIMITS {
-        assert!(rt; answers(rt, alloc, start, numbers, wanted)?, "{wanted}");
+fn limits_hold<R: Abort + Wait>(rt: &R, alloc: Global, origin: &Origin) -> Result<(), Fail> {
+    for ((senders, readers, capacity), wanted) in LIMITS {
+        let sizes = Sizes {
+            senders,
+            readers,
+            capacity,
+        };
+        assert!(rt; answers(rt, alloc, origin, sizes, wanted)?, "{wanted}");
     }
     Ok(())
 }
 
 #[test]
 fn limits(rt: HostRuntime) -> Result<(), Fail> {
-    let start = empty_start(rt.alloc()).ok_or("a start")?;
-    limits_hold(&rt, rt.alloc(), &start)
+    let origin = empty_origin(rt.alloc()).ok_or("an origin")?;
+    limits_hold(&rt, rt.alloc(), &origin)
 }
 
-/// The start with course 1 and the board of one load. None where an allocation fails.
-fn loaded_start(alloc: Global) -> Option<Start> {
+/// Course 1 and the board of one load. None if an allocation fails.
+fn loaded_origin(alloc: Global) -> Option<Origin> {
     let first = course(alloc)?;
     let opening = board(alloc, &[load()?])?;
-    Some(Start { first, opening })
+    Some(Origin { first, opening })
 }
 
-/// The board of a cluster of no readers whose senders end at once. None where it hands out a seat, or
-/// where an allocation fails.
-fn ended<K: Case, R: Wait>(
-    rt: &R,
-    alloc: Global,
-    book: (Track, Line),
-    start: &Start,
-) -> Option<Board>
-    requires book { (book.0 ≡ K.book) × (book.1.book ≡ K.book) × (book.1.log ≡ []) }
-    requires start { (arc_value start.now.first ≡ K.first) × (start.now.opening ≡ K.opening) }
+/// The board of a cluster of no readers whose senders end at once. None if it hands out a seat, or
+/// if an allocation fails.
+fn ended<K: Case, R: Wait>(rt: &R, alloc: Global, start: Start) -> Option<Board>
+    requires { IsStartOf K.book K.first K.opening start }
 {
-    let pair = opened::<K, &R>(rt, alloc, book, start, 0, 1)?;
+    let pair = opened::<K, &R>(rt, alloc, start, 0, 1)?;
     let none = matches!(pair.cluster.seat(), Err(SeatFault::NoPlace));
     let board = closed(alloc, pair.first, pair.second, pair.owner)?;
     none.then_some(board)
@@ -107,9 +91,9 @@ fn ended<K: Case, R: Wait>(
 
 #[test]
 fn ends_at_once(rt: HostRuntime) -> Result<(), Fail> {
-    let start = loaded_start(rt.alloc()).ok_or("a start")?;
-    let board = ended::<Brand, _>(&rt, rt.alloc(), Line::open(), &start).ok_or("memory")?;
-    assert!(rt; board == start.opening);
+    let origin = loaded_origin(rt.alloc()).ok_or("an origin")?;
+    let board = ended::<Brand, _>(&rt, rt.alloc(), origin.start()).ok_or("memory")?;
+    assert!(rt; board == origin.opening);
     Ok(())
 }
 
@@ -137,50 +121,44 @@ fn let_go<J: Case, K: Case, R: Wait>(
 fn beside<J: Case, K: Case, R: Wait>(
     rt: &R,
     alloc: Global,
-    one: (Track, Line),
-    here: &Start,
+    here: Start,
     other: &Cluster<K>,
 ) -> Option<(Routes, Routes)>
-    requires one { (one.0 ≡ J.book) × (one.1.book ≡ J.book) × (one.1.log ≡ []) }
-    requires here { (arc_value here.now.first ≡ J.first) × (here.now.opening ≡ J.opening) }
+    requires { IsStartOf J.book J.first J.opening here }
 {
     let mut far = other.seat().ok()?;
-    let one = opened::<J, &R>(rt, alloc, one, here, 1, 1)?;
+    let one = opened::<J, &R>(rt, alloc, here, 1, 1)?;
     let_go(one, &mut far)
 }
 
 /// Where two clusters at once send 2:0, each by its own board, and then once the first was let go. None
-/// where an allocation fails.
+/// if an allocation fails.
 fn asked<J: Case, K: Case, R: Wait>(
     rt: &R,
     alloc: Global,
-    one: (Track, Line),
-    here: &Start,
-    other: (Track, Line),
-    there: &Start,
+    here: Start,
+    there: Start,
 ) -> Option<(Routes, Routes)>
-    requires one { (one.0 ≡ J.book) × (one.1.book ≡ J.book) × (one.1.log ≡ []) }
-    requires here { (arc_value here.now.first ≡ J.first) × (here.now.opening ≡ J.opening) }
-    requires other { (other.0 ≡ K.book) × (other.1.book ≡ K.book) × (other.1.log ≡ []) }
-    requires there { (arc_value there.now.first ≡ K.first) × (there.now.opening ≡ K.opening) }
+    requires here { IsStartOf J.book J.first J.opening here }
+    requires there { IsStartOf K.book K.first K.opening there }
 {
-    let other = opened::<K, &R>(rt, alloc, other, there, 1, 1)?;
-    beside::<J, K, R>(rt, alloc, one, here, &other.cluster)
+    let other = opened::<K, &R>(rt, alloc, there, 1, 1)?;
+    beside::<J, K, R>(rt, alloc, here, &other.cluster)
 }
 
 #[test]
 fn two_at_once(rt: HostRuntime) -> Result<(), Fail> {
     let alloc = rt.alloc();
-    let here = empty_start(alloc).ok_or("a start")?;
-    let there = loaded_start(alloc).ok_or("a start")?;
-    let asked = asked::<Brand, Brand, _>(&rt, alloc, Line::open(), &here, Line::open(), &there);
+    let here = empty_origin(alloc).ok_or("an origin")?;
+    let there = loaded_origin(alloc).ok_or("an origin")?;
+    let asked = asked::<Brand, Brand, _>(&rt, alloc, here.start(), there.start());
     let before = (PartId::new(1), PartId::new(3));
     let after = (None, PartId::new(3));
     assert!(rt; asked == Some((before, after)));
     Ok(())
 }
 
-/// Adds 64 seats of the cluster. None where there are not so many, or where an allocation fails.
+/// Adds 64 seats of the cluster. None if there are not so many, or if an allocation fails.
 fn push_seats<K: Case>(cluster: &Cluster<K>, seats: &mut Vec<Seat<K>>) -> Option<()> {
     for _ in 0..64 {
         seats.push(cluster.seat().ok()?).ok()?;
@@ -206,31 +184,25 @@ fn seats_are_right<K: Case>(cluster: &Cluster<K>, seats: &mut Vec<Seat<K>>) -> O
     Some(full && right && again)
 }
 
-/// Whether all 64 seats of the cluster answer as they should. None where an allocation fails.
+/// Whether all 64 seats of the cluster answer as they should. None if an allocation fails.
 fn are_seated<K: Case>(alloc: Global, cluster: &Cluster<K>) -> Option<bool> {
     let mut seats = Vec::new(alloc);
     seats_are_right(cluster, &mut seats)
 }
 
 /// Whether all 64 seats of a cluster answer as they should, and one that is given back is handed out
-/// again. None where an allocation fails.
-fn seated<K: Case, R: Wait>(
-    rt: &R,
-    alloc: Global,
-    book: (Track, Line),
-    start: &Start,
-) -> Option<bool>
-    requires book { (book.0 ≡ K.book) × (book.1.book ≡ K.book) × (book.1.log ≡ []) }
-    requires start { (arc_value start.now.first ≡ K.first) × (start.now.opening ≡ K.opening) }
+/// again. None if an allocation fails.
+fn seated<K: Case, R: Wait>(rt: &R, alloc: Global, start: Start) -> Option<bool>
+    requires { IsStartOf K.book K.first K.opening start }
 {
-    let pair = opened::<K, &R>(rt, alloc, book, start, 64, 1)?;
+    let pair = opened::<K, &R>(rt, alloc, start, 64, 1)?;
     are_seated(alloc, &pair.cluster)
 }
 
 #[test]
 fn all_readers(rt: HostRuntime) -> Result<(), Fail> {
-    let start = empty_start(rt.alloc()).ok_or("a start")?;
-    let seated = seated::<Brand, _>(&rt, rt.alloc(), Line::open(), &start);
+    let origin = empty_origin(rt.alloc()).ok_or("an origin")?;
+    let seated = seated::<Brand, _>(&rt, rt.alloc(), origin.start());
     assert!(rt; seated == Some(true));
     Ok(())
 }

@@ -109,7 +109,7 @@ fn all_run_at_once(rt: HostRuntime) -> Result<(), Fail> {
     Ok(())
 }
 
-/// The owner's first turn waits for the post, and where `routed_first` is set also for the reader's
+/// The owner's first turn waits for the post, and if `routed_first` is set also for the reader's
 /// first route. The reader's route of number `waiting` waits for that turn.
 #[derive(Drop)]
 struct InOrder {
@@ -176,7 +176,7 @@ fn in_order(waiting: u64) -> InOrder {
 /// Two routes, and whether somebody waited for too long.
 type Routed = (Option<(PartId, PartId)>, bool);
 
-/// The reader's routes in the setting, where that one of them waits.
+/// The reader's routes in the setting, if that one of them waits.
 fn setting_routes<R: Threads + Wait + Sync>(
     rt: &R,
     alloc: Global,

@@ -2,7 +2,7 @@
 
 use super::{course, done};
 use squall_board::Board;
-use squall_cluster::{Actor, Gate, RaceFault, Raced, race};
+use squall_cluster::{Actor, Gate, RaceFault, Raced, Start, Tasks, race};
 use squall_course::Course;
 use squall_key::{Bound, Key};
 use squall_report::Report;
@@ -40,7 +40,7 @@ fn report(told: Told) -> Option<Report> {
     }
 }
 
-/// Adds the reports to the list. None where an allocation fails.
+/// Adds the reports to the list. None if an allocation fails.
 fn push_reports(list: &mut Vec<Report>, told: &[Told]) -> Option<()> {
     for each in told {
         list.push(report(*each)?).ok()?;
@@ -48,19 +48,19 @@ fn push_reports(list: &mut Vec<Report>, told: &[Told]) -> Option<()> {
     Some(())
 }
 
-/// The reports as a list. None where an allocation fails.
+/// The reports as a list. None if an allocation fails.
 fn list_of(alloc: Global, told: &[Told]) -> Option<Vec<Report>> {
     let mut list = Vec::new(alloc);
     push_reports(&mut list, told)?;
     Some(list)
 }
 
-/// Adds the list. None where an allocation fails.
+/// Adds the list. None if an allocation fails.
 pub(super) fn push_list(lists: &mut Vec<Vec<Report>>, list: Option<Vec<Report>>) -> Option<()> {
     lists.push(list?).ok()
 }
 
-/// Adds these lists. None where an allocation fails.
+/// Adds these lists. None if an allocation fails.
 fn push_lists(alloc: Global, lists: &mut Vec<Vec<Report>>, told: &[&[Told]]) -> Option<()> {
     for each in told {
         push_list(lists, list_of(alloc, each))?;
@@ -68,7 +68,7 @@ fn push_lists(alloc: Global, lists: &mut Vec<Vec<Report>>, told: &[&[Told]]) -> 
     Some(())
 }
 
-/// These lists of reports. None where an allocation fails.
+/// These lists of reports. None if an allocation fails.
 fn lists_of(alloc: Global, told: &[&[Told]]) -> Option<Vec<Vec<Report>>> {
     let mut lists = Vec::new(alloc);
     push_lists(alloc, &mut lists, told)?;
@@ -99,7 +99,7 @@ pub(super) struct Setting {
     wanted: Board,
 }
 
-/// Course 1 and the empty board, with these lists, whose race has to give that board. None where an
+/// Course 1 and the empty board, with these lists, whose race has to give that board. None if an
 /// allocation fails.
 pub(super) fn setting_of(alloc: Global, lists: Vec<Vec<Report>>, wanted: Board) -> Option<Setting> {
     let first = course(alloc)?;
@@ -111,19 +111,19 @@ pub(super) fn setting_of(alloc: Global, lists: Vec<Vec<Report>>, wanted: Board) 
     })
 }
 
-/// The same for lists and a board of reports that are told. None where an allocation fails.
+/// The same for lists and a board of reports that are told. None if an allocation fails.
 pub(super) fn told_setting(alloc: Global, lists: &[&[Told]], wanted: &[Told]) -> Option<Setting> {
     let lists = lists_of(alloc, lists)?;
     setting_with(alloc, lists, wanted)
 }
 
-/// The same for lists, and a board of reports that are told. None where an allocation fails.
+/// The same for lists, and a board of reports that are told. None if an allocation fails.
 fn setting_with(alloc: Global, lists: Vec<Vec<Report>>, wanted: &[Told]) -> Option<Setting> {
     let wanted = board_of(alloc, wanted)?;
     setting_of(alloc, lists, wanted)
 }
 
-/// The board takes what is told. None where an allocation fails.
+/// The board takes what is told. None if an allocation fails.
 fn take_all(board: &mut Board, told: &[Told]) -> Option<()> {
     for each in told {
         board.take(&report(*each)?).ok()?;
@@ -131,7 +131,7 @@ fn take_all(board: &mut Board, told: &[Told]) -> Option<()> {
     Some(())
 }
 
-/// The board of what is told. None where an allocation fails.
+/// The board of what is told. None if an allocation fails.
 fn board_of(alloc: Global, told: &[Told]) -> Option<Board> {
     let mut board = Board::new(alloc);
     take_all(&mut board, told)?;
@@ -149,17 +149,14 @@ impl Setting {
         capacity: usize,
         gate: &G,
     ) -> Result<Raced, RaceFault> {
-        race(
-            rt,
-            alloc,
-            &self.first,
-            &self.opening,
-            &self.lists,
+        let start = Start::new(&self.first, &self.opening);
+        let tasks = Tasks {
+            lists: &self.lists,
             keys,
             readers,
             capacity,
-            gate,
-        )
+        };
+        race(rt, alloc, start, tasks, gate)
     }
 
     /// Whether the board sends these keys to 3, 4 and 4.
@@ -170,12 +167,12 @@ impl Setting {
             && board.route(course, keys[2]).get() == 4
     }
 
-    /// Whether the race gave the wanted board, and so many lists of routes.
+    /// Whether the race gave the wanted board, and that many lists of routes.
     pub(super) fn gave_wanted(&self, raced: &Raced, readers: usize) -> bool {
         raced.board == self.wanted && raced.routes.len() == readers
     }
 
-    /// Whether a race of the two lists ended as it has to: with so many lists of three routes, and
+    /// Whether a race of the two lists ended as it has to: with that many lists of three routes, and
     /// with the wanted board, which sends the keys on.
     pub(super) fn ended_well(&self, raced: &Raced, keys: &[Key; 3], readers: usize) -> bool {
         self.gave_wanted(raced, readers)
@@ -184,12 +181,12 @@ impl Setting {
     }
 }
 
-/// The setting of the two lists. None where an allocation fails.
+/// The setting of the two lists. None if an allocation fails.
 pub(super) fn two_list_setting(alloc: Global) -> Option<Setting> {
     told_setting(alloc, &TWO_LISTS, &[LOAD, Told::Done])
 }
 
-/// Whether a race with so many readers ends as it has to.
+/// Whether a race with that many readers ends as it has to.
 fn races_well<R: Threads + Wait + Sync>(
     rt: &R,
     alloc: Global,
@@ -233,7 +230,7 @@ fn no_reader_and_many(rt: HostRuntime) -> Result<(), Fail> {
     Ok(())
 }
 
-/// Adds so many lists, each with the load of one key.
+/// Adds that many lists, each with the load of one key.
 fn push_many(alloc: Global, lists: &mut Vec<Vec<Report>>, count: u32) -> Option<()> {
     for at in 0..count {
         let told = [Told::Load((2, at), (2, at.checked_add(1)?))];
@@ -242,14 +239,14 @@ fn push_many(alloc: Global, lists: &mut Vec<Vec<Report>>, count: u32) -> Option<
     Some(())
 }
 
-/// So many lists, each with the load of one key.
+/// That many lists, each with the load of one key.
 fn many_lists(alloc: Global, count: u32) -> Option<Vec<Vec<Report>>> {
     let mut lists = Vec::new(alloc);
     push_many(alloc, &mut lists, count)?;
     Some(lists)
 }
 
-/// The setting of so many lists, and the board of 64. None where an allocation fails.
+/// The setting of that many lists, and the board of 64. None if an allocation fails.
 fn many_list_setting(alloc: Global, count: u32) -> Option<Setting> {
     let lists = many_lists(alloc, count)?;
     setting_with(alloc, lists, &[Told::Load((2, 0), (2, 64))])

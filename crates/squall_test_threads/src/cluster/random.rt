@@ -17,7 +17,7 @@ struct Draw {
 }
 
 impl Draw {
-    /// The next number below n; 0 where there is none.
+    /// The next number below n; 0 if there is none.
     fn below(&mut self, n: u32) -> u32 {
         self.state = self
             .state
@@ -86,13 +86,13 @@ impl Draw {
     }
 }
 
-/// Draws lists, of which the board takes all reports. None where an allocation fails.
+/// Draws lists, of which the board takes all reports. None if an allocation fails.
 fn drawn_into(alloc: Global, draw: &mut Draw, mut wanted: Board) -> Option<Setting> {
     let lists = draw.lists(alloc, &mut wanted)?;
     setting_of(alloc, lists, wanted)
 }
 
-/// Whether a race in the setting gives the board of one thread, and routes of so many readers. None where
+/// Whether a race in the setting gives the board of one thread, and routes of that many readers. None if
 /// an allocation or a thread is refused.
 fn is_as_one_thread<R: Threads + Wait + Sync>(
     rt: &R,

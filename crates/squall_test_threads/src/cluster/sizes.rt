@@ -1,11 +1,11 @@
 //! Clusters of several sizes: as many seats as readers, as many letters as the inbox has room for.
 
-ghost use Rattle.std.specs.Prelude.{◌≡◌, [], None};
-ghost use Rattle.std.specs.Arc.{arc_value};
+ghost use Rattle.std.specs.Prelude.{◌≡◌, None};
+ghost use Rattle.squall_desk.specs.Start.{IsStartOf};
 
-use super::{Start, board, closed, empty_start, load, load_letter, opened};
+use super::{Origin, board, closed, empty_origin, load, load_letter, opened};
 use squall_board::Board;
-use squall_cluster::{Case, Cluster, Line, Owner, Seat, SeatFault, Sender, Track};
+use squall_cluster::{Case, Cluster, Owner, Seat, SeatFault, Sender, Start};
 use std::alloc::Global;
 use std::marker::Brand;
 use std::process::Abort;
@@ -80,19 +80,12 @@ fn has_room<K: Case, R: Wait, W: Wait + Drop>(
 
 /// Whether a cluster of that size has as many seats and as much room as it should, and its board when it
 /// is closed with all these letters. None if an allocation fails.
-fn sized<K: Case, R: Wait>(
-    rt: &R,
-    alloc: Global,
-    book: (Track, Line),
-    start: &Start,
-    size: Size,
-) -> Option<(bool, Board)>
-    requires book { (book.0 ≡ K.book) × (book.1.book ≡ K.book) × (book.1.log ≡ []) }
-    requires start { (arc_value start.now.first ≡ K.first) × (start.now.opening ≡ K.opening) }
+fn sized<K: Case, R: Wait>(rt: &R, alloc: Global, start: Start, size: Size) -> Option<(bool, Board)>
+    requires start { IsStartOf K.book K.first K.opening start }
     requires allowed { K.allowed ≡ None }
 {
     let (readers, capacity) = size;
-    let pair = opened::<K, &R>(rt, alloc, book, start, readers, capacity)?;
+    let pair = opened::<K, &R>(rt, alloc, start, readers, capacity)?;
     let (mut first, second, mut owner) = (pair.first, pair.second, pair.owner);
     let seats = has_seats(alloc, &pair.cluster, readers)?;
     let room = has_room(rt, alloc, &mut first, &mut owner, capacity)?;
@@ -101,16 +94,16 @@ fn sized<K: Case, R: Wait>(
 }
 
 /// Whether a cluster of that size is as it should be. None if an allocation fails.
-fn is_right(rt: &impl Wait, alloc: Global, start: &Start, size: Size) -> Option<bool> {
-    let (right, closed) = sized::<Brand, _>(rt, alloc, Line::open(), start, size)?;
+fn is_right(rt: &impl Wait, alloc: Global, origin: &Origin, size: Size) -> Option<bool> {
+    let (right, closed) = sized::<Brand, _>(rt, alloc, origin.start(), size)?;
     let wanted = board(alloc, &[load()?])?;
     Some(right && closed == wanted)
 }
 
 /// Each of these clusters is as it should be.
-fn all_are_right<R: Abort + Wait>(rt: &R, alloc: Global, start: &Start) -> Result<(), Fail> {
+fn all_are_right<R: Abort + Wait>(rt: &R, alloc: Global, origin: &Origin) -> Result<(), Fail> {
     for (readers, capacity) in SIZES {
-        let right = is_right(rt, alloc, start, (readers, capacity));
+        let right = is_right(rt, alloc, origin, (readers, capacity));
         assert!(rt; right == Some(true), "{capacity}");
     }
     Ok(())
@@ -118,6 +111,6 @@ fn all_are_right<R: Abort + Wait>(rt: &R, alloc: Global, start: &Start) -> Resul
 
 #[test]
 fn sizes(rt: HostRuntime) -> Result<(), Fail> {
-    let start = empty_start(rt.alloc()).ok_or("a start")?;
-    all_are_right(&rt, rt.alloc(), &start)
+    let origin = empty_origin(rt.alloc()).ok_or("an origin")?;
+    all_are_right(&rt, rt.alloc(), &origin)
 }

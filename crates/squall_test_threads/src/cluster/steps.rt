@@ -1,13 +1,11 @@
 //! A cluster step by step.
 
-ghost use Rattle.std.specs.Prelude.{◌≡◌, ◌++◌, ◌∷◌, [], None};
-ghost use Rattle.std.specs.Arc.{arc_value};
+ghost use Rattle.std.specs.Prelude.{◌≡◌, None};
+ghost use Rattle.squall_desk.specs.Start.{IsStartOf};
 
-use super::{Start, closed, empty_start, is_board_of_both, moving_key, opened, two_letters};
+use super::{closed, empty_origin, is_board_of_both, moving_key, opened, two_letters};
 use squall_board::Board;
-use squall_cluster::{
-    Case, Cluster, Full, Letter, Line, Notice, Owner, Seat, SeatFault, Sender, Track,
-};
+use squall_cluster::{Case, Cluster, Full, Letter, Notice, Owner, Seat, SeatFault, Sender, Start};
 use squall_key::PartId;
 use std::alloc::Global;
 use std::marker::Brand;
@@ -103,8 +101,8 @@ fn turn_twice<K: Case, R: Wait + Drop>(cluster: &Cluster<K>, owner: &mut Owner<K
     turn_before(owner, &mut one, &mut other)
 }
 
-/// A cluster in which two letters are posted, where each step answers as it should. None where one does
-/// not, or where an allocation fails.
+/// A cluster in which two letters are posted, if each step answers as it should. None if one does
+/// not, or if an allocation fails.
 fn take_steps<K: Case, R: Wait>(
     rt: &R,
     cluster: &Cluster<K>,
@@ -128,15 +126,13 @@ fn take_steps<K: Case, R: Wait>(
 fn steps<K: Case, R: Wait>(
     rt: &R,
     alloc: Global,
-    book: (Track, Line),
-    start: &Start,
+    start: Start,
     letters: (Letter, Letter),
 ) -> Option<Board>
-    requires book { (book.0 ≡ K.book) × (book.1.book ≡ K.book) × (book.1.log ≡ []) }
-    requires start { (arc_value start.now.first ≡ K.first) × (start.now.opening ≡ K.opening) }
+    requires start { IsStartOf K.book K.first K.opening start }
     requires allowed { K.allowed ≡ None }
 {
-    let pair = opened::<K, &R>(rt, alloc, book, start, 2, 1)?;
+    let pair = opened::<K, &R>(rt, alloc, start, 2, 1)?;
     let (mut first, mut second, mut owner) = (pair.first, pair.second, pair.owner);
     take_steps(
         rt,
@@ -149,27 +145,21 @@ fn steps<K: Case, R: Wait>(
     closed(alloc, first, second, owner)
 }
 
-/// Whether the board after the steps is that of both reports. None where a step does not answer as it
-/// should, or where an allocation fails.
-fn are_right<K: Case, R: Wait>(
-    rt: &R,
-    alloc: Global,
-    book: (Track, Line),
-    start: &Start,
-) -> Option<bool>
-    requires book { (book.0 ≡ K.book) × (book.1.book ≡ K.book) × (book.1.log ≡ []) }
-    requires start { (arc_value start.now.first ≡ K.first) × (start.now.opening ≡ K.opening) }
+/// Whether the board after the steps is that of both reports. None if a step does not answer as it
+/// should, or if an allocation fails.
+fn are_right<K: Case, R: Wait>(rt: &R, alloc: Global, start: Start) -> Option<bool>
+    requires start { IsStartOf K.book K.first K.opening start }
     requires allowed { K.allowed ≡ None }
 {
     let letters = two_letters(alloc)?;
-    let closed = steps::<K, R>(rt, alloc, book, start, letters)?;
+    let closed = steps::<K, R>(rt, alloc, start, letters)?;
     is_board_of_both(alloc, &closed)
 }
 
 #[test]
 fn step_by_step(rt: HostRuntime) -> Result<(), Fail> {
-    let start = empty_start(rt.alloc()).ok_or("a start")?;
-    let right = are_right::<Brand, _>(&rt, rt.alloc(), Line::open(), &start);
+    let origin = empty_origin(rt.alloc()).ok_or("an origin")?;
+    let right = are_right::<Brand, _>(&rt, rt.alloc(), origin.start());
     assert!(rt; right == Some(true));
     Ok(())
 }

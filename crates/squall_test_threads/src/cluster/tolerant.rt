@@ -1,11 +1,11 @@
 //! Where an allocation fails nothing is lost.
 
-ghost use Rattle.std.specs.Prelude.{◌≡◌, [], None};
-ghost use Rattle.std.specs.Arc.{arc_value};
+ghost use Rattle.std.specs.Prelude.{◌≡◌, None};
+ghost use Rattle.squall_desk.specs.Start.{IsStartOf};
 
-use super::{Start, closed, empty_start, is_board_of_both, moving_key, opened, two_letters};
+use super::{closed, empty_origin, is_board_of_both, moving_key, opened, two_letters};
 use squall_board::Board;
-use squall_cluster::{Case, Letter, Line, Owner, Seat, Track};
+use squall_cluster::{Case, Letter, Owner, Seat, Start};
 use squall_key::PartId;
 use std::alloc::Global;
 use std::marker::Brand;
@@ -34,19 +34,17 @@ fn turns<K: Case, R: Wait + Drop>(owner: &mut Owner<K, R>, seat: &mut Seat<K>) -
 }
 
 /// Whether each step of a cluster that takes two letters answers as it should, and its board, closed at a
-/// second try where the first had no memory. None where an allocation fails elsewhere.
+/// second try if the first had no memory. None if an allocation fails elsewhere.
 fn takes_both<K: Case, R: Wait>(
     rt: &R,
     alloc: Global,
-    book: (Track, Line),
-    start: &Start,
+    start: Start,
     letters: (Letter, Letter),
 ) -> Option<(bool, Board)>
-    requires book { (book.0 ≡ K.book) × (book.1.book ≡ K.book) × (book.1.log ≡ []) }
-    requires start { (arc_value start.now.first ≡ K.first) × (start.now.opening ≡ K.opening) }
+    requires start { IsStartOf K.book K.first K.opening start }
     requires allowed { K.allowed ≡ None }
 {
-    let pair = opened::<K, &R>(rt, alloc, book, start, 1, 1)?;
+    let pair = opened::<K, &R>(rt, alloc, start, 1, 1)?;
     let (mut first, mut second, mut owner) = (pair.first, pair.second, pair.owner);
     let mut seat = pair.cluster.seat().ok()?;
     let posted = first.post(rt, letters.0).is_ok();
@@ -56,30 +54,24 @@ fn takes_both<K: Case, R: Wait>(
     Some((posted && turned && posted_too, board))
 }
 
-/// Whether a cluster loses nothing. Also where an allocation fails before there is one.
-fn loses_nothing<K: Case, R: Wait>(
-    rt: &R,
-    alloc: Global,
-    book: (Track, Line),
-    start: &Start,
-) -> Option<bool>
-    requires book { (book.0 ≡ K.book) × (book.1.book ≡ K.book) × (book.1.log ≡ []) }
-    requires start { (arc_value start.now.first ≡ K.first) × (start.now.opening ≡ K.opening) }
+/// Whether a cluster loses nothing. Also if an allocation fails before there is one.
+fn loses_nothing<K: Case, R: Wait>(rt: &R, alloc: Global, start: Start) -> Option<bool>
+    requires start { IsStartOf K.book K.first K.opening start }
     requires allowed { K.allowed ≡ None }
 {
     let letters = two_letters(alloc)?;
-    let (right, closed) = takes_both::<K, R>(rt, alloc, book, start, letters)?;
+    let (right, closed) = takes_both::<K, R>(rt, alloc, start, letters)?;
     let told = is_board_of_both(alloc, &closed)?;
     Some(right && told)
 }
 
 #[test]
 fn tolerant_cluster(rt: HostRuntime) -> Result<(), Fail> {
-    let Some(start) = empty_start(rt.alloc()) else {
+    let Some(origin) = empty_origin(rt.alloc()) else {
         return Ok(());
     };
-    let answer = loses_nothing::<Brand, _>(&rt, rt.alloc(), Line::open(), &start);
+    let answer = loses_nothing::<Brand, _>(&rt, rt.alloc(), origin.start());
     assert!(rt; answer != Some(false));
-    assert!(rt; start.first.number() == 1);
+    assert!(rt; origin.first.number() == 1);
     Ok(())
 }
