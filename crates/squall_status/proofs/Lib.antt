@@ -1,0 +1,4 @@
+pub mod Counts
+pub mod Sharing
+pub mod Progressed
+pub mod Moved

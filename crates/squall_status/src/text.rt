@@ -1,0 +1,153 @@
+//! How far a course has come, as lines.
+
+ghost use Rattle.std.specs.Prelude.{◌≡◌, ◌++◌, OnOk, length, string_bytes};
+ghost use Rattle.squall_status.specs.Texts.{open_text, course_head, course_tail, course_line, subplan_line, subplan_lines};
+ghost use Rattle.squall_status.specs.Texts.{progress_text, move_text, move_line, is_shown, shown_line, move_lines, status_text};
+
+use crate::progress::{MoveStatus, Progress};
+use crate::status::CourseStatus;
+use crate::subplan::SubplanStatus;
+use squall_course::Move;
+use std::alloc::AllocError;
+
+/// Which moves are shown.
+#[derive(Clone, Copy, Debug, PartialEq, Eq)]
+pub enum Shown {
+    /// Each move.
+    EachMove,
+    /// Each move that is not complete.
+    Waiting,
+}
+
+impl Shown {
+    /// Whether the move is shown.
+    fn shows(self, status: &MoveStatus) -> bool
+        ensures { result ≡ is_shown self status.now }
+    {
+        match self {
+            Shown::EachMove => true,
+            Shown::Waiting => !status.progress.is_complete(),
+        }
+    }
+}
+
+/// Adds which sub-plan is open.
+fn add_open(open_sub: Option<u32>, out: &mut String) -> Result<(), AllocError>
+    ensures { OnOk result (string_bytes out.new ≡ string_bytes out.old ++ open_text open_sub) }
+{
+    match open_sub {
+        Some(sub) => write!(out, "{sub}"),
+        None => write!(out, "none"),
+    }
+}
+
+/// Adds how the line of the course begins: its number, and how many moves and sub-plans it has.
+fn add_head(status: &CourseStatus, out: &mut String) -> Result<(), AllocError>
+    ensures { OnOk result (string_bytes out.new ≡ string_bytes out.old
+        ++ course_head status.now.number (length status.now.moves) (length status.now.subplans)) }
+{
+    let number = status.number();
+    let moves = status.moves().len();
+    let subplans = status.subplans().len();
+    write!(
+        out,
+        "course {number} moves {moves} sub-plans {subplans} open "
+    )
+}
+
+/// Adds how it ends: how many of its keys are loaded, and that share in thousandths.
+fn add_tail(status: &CourseStatus, out: &mut String) -> Result<(), AllocError>
+    ensures { OnOk result (string_bytes out.new ≡ string_bytes out.old ++ course_tail status.now.loaded status.now.keys) }
+{
+    let loaded = status.loaded();
+    let keys = status.keys();
+    let share = status.thousandths();
+    write!(out, " loaded {loaded} of {keys} keys {share}/1000\n")
+}
+
+/// Adds the line of the course.
+fn add_course(status: &CourseStatus, out: &mut String) -> Result<(), AllocError>
+    ensures { OnOk result (string_bytes out.new ≡ string_bytes out.old ++ course_line status.now) }
+{
+    add_head(status, out)?;
+    add_open(status.open_subplan(), out)?;
+    add_tail(status, out)
+}
+
+/// Adds the lines of the sub-plans.
+fn add_subplans(subplans: &[SubplanStatus], out: &mut String) -> Result<(), AllocError>
+    ensures { OnOk result (string_bytes out.new ≡ string_bytes out.old ++ subplan_lines subplans.now) }
+{
+    for status in subplans {
+        let sub = status.sub;
+        let receivers = status.receivers;
+        let done = status.done;
+        write!(out, "sub-plan {sub} receivers {done} of {receivers} done\n")?;
+    }
+    Ok(())
+}
+
+/// Adds the progress of a move of so many keys.
+fn add_progress(keys: u64, progress: Progress, out: &mut String) -> Result<(), AllocError>
+    ensures { OnOk result (string_bytes out.new ≡ string_bytes out.old ++ progress_text keys progress) }
+{
+    match progress {
+        Progress::NotStarted => write!(out, "not started"),
+        Progress::Partial { loaded, missing } => {
+            write!(out, "loaded {loaded} of {keys} missing {missing}")
+        }
+        Progress::Complete => write!(out, "complete"),
+    }
+}
+
+/// Adds the keys of a move, where they come from and go to, and its sub-plan.
+fn add_moving(moving: &Move, out: &mut String) -> Result<(), AllocError>
+    ensures { OnOk result (string_bytes out.new ≡ string_bytes out.old ++ move_text moving.now) }
+{
+    let span = moving.span;
+    let source = moving.source;
+    let dest = moving.dest;
+    let sub = moving.sub;
+    write!(out, "move {span} {source} to {dest} sub {sub}")
+}
+
+/// Adds the line of a move.
+fn add_move(status: &MoveStatus, out: &mut String) -> Result<(), AllocError>
+    ensures { OnOk result (string_bytes out.new ≡ string_bytes out.old ++ move_line status.now) }
+{
+    add_moving(&status.moving, out)?;
+    write!(out, " ")?;
+    add_progress(status.keys(), status.progress, out)?;
+    write!(out, "\n")
+}
+
+/// Adds the line of a move if it is shown.
+fn add_shown(shown: Shown, status: &MoveStatus, out: &mut String) -> Result<(), AllocError>
+    ensures { OnOk result (string_bytes out.new ≡ string_bytes out.old ++ shown_line shown status.now) }
+{
+    if shown.shows(status) {
+        add_move(status, out)?;
+    }
+    Ok(())
+}
+
+/// Adds the lines of the moves that are shown.
+fn add_moves(shown: Shown, moves: &[MoveStatus], out: &mut String) -> Result<(), AllocError>
+    ensures { OnOk result (string_bytes out.new ≡ string_bytes out.old ++ move_lines shown moves.now) }
+{
+    for status in moves {
+        add_shown(shown, status, out)?;
+    }
+    Ok(())
+}
+
+/// Adds how far the course has come: a line for the course, one for each of its sub-plans by
+/// rising number, and one for each move that is shown, by rising key. It fails only where an
+/// allocation fails.
+pub fn add_status(status: &CourseStatus, shown: Shown, out: &mut String) -> Result<(), AllocError>
+    ensures { OnOk result (string_bytes out.new ≡ string_bytes out.old ++ status_text shown status.now) }
+{
+    add_course(status, out)?;
+    add_subplans(status.subplans(), out)?;
+    add_moves(shown, status.moves(), out)
+}
