@@ -127,16 +127,16 @@ pub struct MoveStatus {
 
 impl MoveStatus {
     /// How many keys the move has.
-    pub fn keys(self) -> u64
-        ensures value { result ≡ move_keys self }
+    pub fn keys(&self) -> u64
+        ensures value { result ≡ move_keys self.now }
         ensures most { result ≤ top }
     {
         self.moving.span.count()
     }
 
     /// How many keys of the move are loaded.
-    pub fn loaded(self) -> u64
-        ensures { result ≡ move_loaded self }
+    pub fn loaded(&self) -> u64
+        ensures { result ≡ move_loaded self.now }
     {
         self.progress.loaded_of(self.moving.span)
     }

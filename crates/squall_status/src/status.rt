@@ -56,7 +56,7 @@ fn open_of(opened: u32, subplans: u32) -> Option<u32>
 
 impl CourseStatus {
     /// How far the course has come, as the board says. It walks over the moves, and over the spans
-    /// of their cells that touch them. It fails only where an allocation fails.
+    /// of their cells that touch them. It fails only if an allocation fails.
     pub fn of(alloc: Global, course: &Course, board: &Board) -> Result<CourseStatus, AllocError>
         ensures { IfOk result (λ s. IsStatusOf course.now (says board.now) s) }
     {

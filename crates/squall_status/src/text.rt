@@ -142,8 +142,14 @@ fn add_moves(shown: Shown, moves: &[MoveStatus], out: &mut String) -> Result<(),
 }
 
 /// Adds how far the course has come: a line for the course, one for each of its sub-plans by
-/// rising number, and one for each move that is shown, by rising key. It fails only where an
-/// allocation fails.
+/// rising number, and one for each move that is shown, by rising key:
+///
+/// `course N moves M sub-plans S open K loaded L of T keys P/1000`, with `open none` if none is;
+/// `sub-plan K receivers D of R done`;
+/// `move [LO,HI) P to Q sub K`, and then `complete`, `not started` or
+/// `loaded L of T missing [LO,HI)`.
+///
+/// It fails only if an allocation fails.
 pub fn add_status(status: &CourseStatus, shown: Shown, out: &mut String) -> Result<(), AllocError>
     ensures { OnOk result (string_bytes out.new ≡ string_bytes out.old ++ status_text shown status.now) }
 {
