@@ -1,0 +1,5 @@
+//! Tests of how far reconfigurations have come, over public names alone. There is nothing here to call.
+#![tactic(auto)]
+
+#[cfg(test)]
+mod status;

@@ -1,0 +1,86 @@
+//! Each call that allocates, which may answer AllocError.
+
+use super::{NEW, OLD, load};
+use squall_board::Board;
+use squall_course::Course;
+use squall_plan::Plan;
+use squall_report::Report;
+use squall_status::{CourseStatus, Shown, add_status};
+use std::alloc::Global;
+use std::process::Abort;
+
+/// The plan of a text. None where an allocation fails.
+fn plan(alloc: Global, text: &str) -> Option<Plan> {
+    Plan::read(alloc, text.as_bytes()).ok()
+}
+
+fn course_from(alloc: Global, old: &Plan) -> Option<Course> {
+    let new = plan(alloc, NEW)?;
+    Course::new(alloc, 1, old, &new).ok()
+}
+
+/// The course of the example plans. None where an allocation fails.
+fn course(alloc: Global) -> Option<Course> {
+    let old = plan(alloc, OLD)?;
+    course_from(alloc, &old)
+}
+
+/// Takes the report, where there is one. None also where an allocation fails.
+fn take(board: &mut Board, report: Option<Report>) -> Option<()> {
+    let report = report?;
+    board.take(&report).ok()
+}
+
+fn take_two(board: &mut Board) -> Option<()> {
+    take(board, load(0, 3, "2:0", "2:5"))?;
+    take(board, Report::done(1, 0, 4))
+}
+
+/// A board of a load and a completion. None where an allocation fails.
+fn board(alloc: Global) -> Option<Board> {
+    let mut board = Board::new(alloc);
+    take_two(&mut board)?;
+    Some(board)
+}
+
+/// How far the course of the examples has come by the board of a load and a completion.
+fn status_by(alloc: Global, course: &Course) -> Option<CourseStatus> {
+    let board = board(alloc)?;
+    CourseStatus::of(alloc, course, &board).ok()
+}
+
+fn status(alloc: Global) -> Option<CourseStatus> {
+    let course = course(alloc)?;
+    status_by(alloc, &course)
+}
+
+fn is_right(rt: &impl Abort, status: &CourseStatus) {
+    assert!(rt; status.keys() == 17179869184 && status.loaded() == 12884901893);
+    assert!(rt; status.moves().len() == 2 && status.subplans().len() == 1);
+}
+
+#[test]
+fn tolerant_of(rt: HostRuntime) {
+    if let Some(status) = status(rt.alloc()) {
+        is_right(&rt, &status);
+    }
+}
+
+/// Adds the text after a word: the whole text comes, or the answer is an error.
+fn look_at_text(rt: &impl Abort, alloc: Global, status: &CourseStatus) {
+    let mut out = String::new(alloc);
+    if add_status(status, Shown::Waiting, &mut out).is_ok() {
+        assert!(rt;
+            out.as_str()
+                == "course 1 moves 2 sub-plans 1 open none loaded 12884901893 of 17179869184 keys 750/1000\nsub-plan 0 receivers 1 of 2 done\nmove [2:0,3:0) 1 to 3 sub 0 loaded 5 of 4294967296 missing [2:5,3:0)\n"
+        );
+    }
+    is_right(rt, status);
+}
+
+#[test]
+fn tolerant_add_status(rt: HostRuntime) {
+    if let Some(status) = status(rt.alloc()) {
+        look_at_text(&rt, rt.alloc(), &status);
+    }
+}
