@@ -1,4 +1,4 @@
-"""Reads what several tools read: crates.txt, edits, and the functions of a source.
+"""Reads what several tools read: crates.txt, mutants, and the functions of a source.
 
   python3 tools/house.py crates            the crates of crates.txt, a line each
   python3 tools/house.py threads           those of them whose tests may start threads
@@ -15,7 +15,7 @@ from dataclasses import dataclass
 from pathlib import Path
 
 TOP = Path(__file__).resolve().parent.parent
-EDITS = ("edits", "edits/more", "must-fail")
+MUTANTS = ("mutants", "mutants/more", "must-fail")
 EXCUSE = re.compile(r"#\s*(\w+(?:, *\w+)*): (\S.*)")
 BLOCK = re.compile(r"(?:unsafe )?impl\b|(?:pub(?:\(\w+\))? )?trait\b")
 FUNCTION = re.compile(r"( *)((?:pub(?:\(\w+\))? )?(?:final )?(?:const )?(?:unsafe )?(?:extern \S+ )?)fn (\w+)")
@@ -63,14 +63,14 @@ def kit(known: dict[str, Crate]) -> list[str]:
     return sorted(it for it in named - known.keys() if not (TOP / "crates" / it).is_dir())
 
 
-def edits(crate: str = "*", edit: str = "*", folders: tuple[str, ...] = EDITS) -> list[Path]:
-    """The files of edits of this name, of this crate and in these folders of it."""
-    return sorted(it for folder in folders for it in TOP.glob(f"crates/{crate}/{folder}/{edit}.edit"))
+def mutants(crate: str = "*", mutant: str = "*", folders: tuple[str, ...] = MUTANTS) -> list[Path]:
+    """The files of mutants of this name, of this crate and in these folders of it."""
+    return sorted(it for folder in folders for it in TOP.glob(f"crates/{crate}/{folder}/{mutant}.edit"))
 
 
 @dataclass(frozen=True)
 class Change:
-    """One place of an edit: the file, what is taken away, and what is put there."""
+    """One place of a mutant: the file, what is taken away, and what is put there."""
 
     file: str
     old: str
@@ -78,7 +78,7 @@ class Change:
 
 
 def changes(path: Path) -> list[Change]:
-    """What an edit changes, in the order in which it is done."""
+    """What a mutant changes, in the order in which it is done."""
     found, file, old = [], "", ""
     for line in path.read_text(encoding="utf-8").splitlines():
         word, _, rest = line.partition(": ")
