@@ -1,5 +1,6 @@
 //! What the program does with each kind of input, over readers and writers that work, fail or stop.
 
+use jobs::{JOBS, Job, NEW_PLAN, Task};
 use squall_run::{Ended, Reader, RunFault, Writer, check_text, course_text, race_text, run_text};
 use std::alloc::{AllocError, Global};
 use std::io;
@@ -8,205 +9,8 @@ use std::sync::Wait;
 use std::test::Fail;
 use std::thread::Threads;
 
+mod jobs;
 mod program;
-
-const OLD: &str =
-    "old {\"plan\":[{\"part\":1,\"from\":[0,0],\"to\":[3,0]},{\"part\":2,\"from\":[3,0],\"to\":[5,0]},{\"part\":3,\"from\":[5,0],\"to\":[9,0]},{\"part\":4,\"from\":[9,0],\"to\":\"end\"}]}\n";
-
-const NEW: &str =
-    "new {\"plan\":[{\"part\":1,\"from\":[0,0],\"to\":[2,0]},{\"part\":2,\"from\":[3,0],\"to\":[5,0]},{\"part\":3,\"from\":[2,0],\"to\":[3,0]},{\"part\":3,\"from\":[5,0],\"to\":[6,0]},{\"part\":4,\"from\":[6,0],\"to\":\"end\"}]}\n";
-
-const LINES: [&str; 9] = [
-    OLD,
-    NEW,
-    "route 2:0\n",
-    "loaded 1 0 3 2:0 3:0\n",
-    "route 2:0\n",
-    "done 1 0 4\n",
-    "route 6:0\n",
-    "route 8:4294967295\n",
-    "route 3:0\n",
-];
-
-const ANSWERS: [&str; 9] = [
-    "old 4\n",
-    "new 5\n",
-    "route 2:0 1\n",
-    "taken\n",
-    "route 2:0 3\n",
-    "taken\n",
-    "route 6:0 4\n",
-    "route 8:4294967295 4\n",
-    "route 3:0 2\n",
-];
-
-const BOARD_LINES: [&str; 9] = [
-    OLD,
-    NEW,
-    "board\n",
-    "loaded 1 0 4 8:0 end\n",
-    "opened 2 0\n",
-    "loaded 1 0 4 6:0 7:0\n",
-    "opened 1 9999\n",
-    "done 1 0 4\n",
-    "board\n",
-];
-
-const BOARD_ANSWERS: [&str; 11] = [
-    "old 4\n",
-    "new 5\n",
-    "empty\n",
-    "taken\n",
-    "taken\n",
-    "taken\n",
-    "taken\n",
-    "taken\n",
-    "opened 1 10000\n",
-    "opened 2 1\n",
-    "cell 1 0 4 done [6:0,7:0) [8:0,end)\n",
-];
-
-/// Two pieces of the frame of one load, and an empty digest; then a byte that begins no frame.
-const FRAME_LINES: [&str; 9] = [
-    OLD,
-    NEW,
-    "hear 53510101000000290000\n",
-    "hear 000000000001000000010000000000000003000000000100000002000000000000000300000000\n",
-    "hear 53510102000000080000000000000000535101\n",
-    "route 2:0\n",
-    "frame\n",
-    "hear 54\n",
-    "hear 53\n",
-];
-
-const FRAME_ANSWERS: [&str; 9] = [
-    "old 4\n",
-    "new 5\n",
-    "heard nothing\n",
-    "heard delta\n",
-    "heard digest\n",
-    "route 2:0 3\n",
-    "frame 53510101000000290000000000000001000000010000000000000003000000000100000002000000000000000300000000\n",
-    "fault Kind\n",
-    "no Failed\n",
-];
-
-/// Loads and issues, and the legs after each.
-const LEG_LINES: [&str; 10] = [
-    OLD,
-    NEW,
-    "loaded 1 0 3 2:0 2:7\n",
-    "legs 1:0 4:0\n",
-    "issued 2 {\"plan\":[{\"part\":1,\"from\":[0,0],\"to\":[5,0]},{\"part\":4,\"from\":[5,0],\"to\":\"end\"}]}\n",
-    "legs 1:0 6:1\n",
-    "done 2 0 1\n",
-    "legs 1:0 6:1\n",
-    "route 4:0\n",
-    "board\n",
-];
-
-const LEG_ANSWERS: [&str; 10] = [
-    "old 4\n",
-    "new 5\n",
-    "taken\n",
-    "leg [1:0,2:0) 1\nleg [2:0,2:7) 3\nleg [2:7,3:0) 1\nleg [3:0,4:0) 2\n",
-    "taken\n",
-    "leg [1:0,2:0) 1\nleg [2:0,3:0) 3\nleg [3:0,5:0) 2\nleg [5:0,6:0) 3\nleg [6:0,6:1) 4\n",
-    "taken\n",
-    "leg [1:0,5:0) 1\nleg [5:0,6:0) 3\nleg [6:0,6:1) 4\n",
-    "route 4:0 1\n",
-    "issue 2 one\ncell 1 0 3 open [2:0,2:7)\ncell 2 0 1 done\n",
-];
-
-/// Two senders, one of which reports a load that the other one reports too, and an inbox of one
-/// letter.
-const RACE: &str =
-    "old {\"plan\":[{\"part\":1,\"from\":[0,0],\"to\":[3,0]},{\"part\":2,\"from\":[3,0],\"to\":[5,0]},{\"part\":3,\"from\":[5,0],\"to\":[9,0]},{\"part\":4,\"from\":[9,0],\"to\":\"end\"}]}
-new {\"plan\":[{\"part\":1,\"from\":[0,0],\"to\":[2,0]},{\"part\":2,\"from\":[3,0],\"to\":[5,0]},{\"part\":3,\"from\":[2,0],\"to\":[3,0]},{\"part\":3,\"from\":[5,0],\"to\":[6,0]},{\"part\":4,\"from\":[6,0],\"to\":\"end\"}]}
-capacity 1
-0 loaded 1 0 3 2:0 2:7
-0 loaded 1 0 3 2:7 3:0
-1 loaded 1 0 3 2:0 2:7
-1 done 1 0 4
-key 2:0
-key 6:0
-key 9:0
-";
-
-/// What that race shows, whatever its threads do first.
-const SHOWN: &str =
-    "cell 1 0 3 open [2:0,3:0)\ncell 1 0 4 done\nroute 2:0 3\nroute 6:0 4\nroute 9:0 4\n";
-
-const OLD_PLAN: &str =
-    "{\"plan\":[{\"part\":1,\"from\":[0,0],\"to\":[3,0]},{\"part\":2,\"from\":[3,0],\"to\":[5,0]},{\"part\":3,\"from\":[5,0],\"to\":[9,0]},{\"part\":4,\"from\":[9,0],\"to\":\"end\"}]}";
-
-const NEW_PLAN: &str =
-    "{\"plan\":[{\"part\":1,\"from\":[0,0],\"to\":[2,0]},{\"part\":2,\"from\":[3,0],\"to\":[5,0]},{\"part\":3,\"from\":[2,0],\"to\":[3,0]},{\"part\":3,\"from\":[5,0],\"to\":[6,0]},{\"part\":4,\"from\":[6,0],\"to\":\"end\"}]}";
-
-const NEW_CHECKED: &str =
-    "range 1 [0:0,2:0)\nrange 3 [2:0,3:0)\nrange 2 [3:0,5:0)\nrange 3 [5:0,6:0)\nrange 4 [6:0,end)\nplan 5\n";
-
-const GAP: &str =
-    "{\"plan\":[{\"part\":1,\"from\":[0,0],\"to\":[3,5]},{\"part\":2,\"from\":[3,6],\"to\":\"end\"}]}";
-
-/// What is done with an input: its lines are run, it is raced, it is checked as a plan, or it is the old
-/// plan of a course.
-#[derive(Clone, Copy, PartialEq, Eq)]
-enum Task {
-    Run,
-    Race,
-    Check,
-    Course,
-}
-
-/// A task, its input, and its output.
-struct Job {
-    task: Task,
-    input: &'static [&'static str],
-    output: &'static [&'static str],
-}
-
-const MOVES: &str =
-    "moves 2\nsub-plans 1\nmove [2:0,3:0) 1 to 3 sub 0\nmove [6:0,9:0) 3 to 4 sub 0\n";
-
-/// Jobs that end well, the first four by one call each.
-static JOBS: [Job; 7] = [
-    Job {
-        task: Task::Run,
-        input: &LINES,
-        output: &ANSWERS,
-    },
-    Job {
-        task: Task::Race,
-        input: &[RACE],
-        output: &[SHOWN],
-    },
-    Job {
-        task: Task::Check,
-        input: &[NEW_PLAN],
-        output: &[NEW_CHECKED],
-    },
-    Job {
-        task: Task::Course,
-        input: &[OLD_PLAN],
-        output: &[MOVES],
-    },
-    Job {
-        task: Task::Run,
-        input: &BOARD_LINES,
-        output: &BOARD_ANSWERS,
-    },
-    Job {
-        task: Task::Run,
-        input: &FRAME_LINES,
-        output: &FRAME_ANSWERS,
-    },
-    Job {
-        task: Task::Run,
-        input: &LEG_LINES,
-        output: &LEG_ANSWERS,
-    },
-];
 
 /// The texts, one after another.
 fn joined(alloc: Global, texts: &[&str]) -> Result<String, AllocError> {
@@ -393,8 +197,20 @@ fn jobs_are_done(rt: HostRuntime) -> Result<(), Fail> {
 }
 
 #[test]
-fn writers_that_stop(rt: HostRuntime) -> Result<(), Fail> {
-    for job in &JOBS[..4] {
+fn writers_that_stop_a_run(rt: HostRuntime) -> Result<(), Fail> {
+    assert!(rt; is_done(&rt, rt.alloc(), &JOBS[0], usize::MAX)?);
+    Ok(())
+}
+
+#[test]
+fn writers_that_stop_a_race(rt: HostRuntime) -> Result<(), Fail> {
+    assert!(rt; is_done(&rt, rt.alloc(), &JOBS[1], usize::MAX)?);
+    Ok(())
+}
+
+#[test]
+fn writers_that_stop_a_check_or_a_course(rt: HostRuntime) -> Result<(), Fail> {
+    for job in &JOBS[2..4] {
         assert!(rt; is_done(&rt, rt.alloc(), job, usize::MAX)?);
     }
     Ok(())
@@ -446,10 +262,14 @@ fn may_fail<R: Threads + Wait + Sync>(
 }
 
 #[test]
-fn readers_that_fail(rt: HostRuntime) -> Result<(), Fail> {
-    for job in &JOBS[..2] {
-        assert!(rt; may_fail(&rt, rt.alloc(), job)?);
-    }
+fn readers_that_fail_a_run(rt: HostRuntime) -> Result<(), Fail> {
+    assert!(rt; may_fail(&rt, rt.alloc(), &JOBS[0])?);
+    Ok(())
+}
+
+#[test]
+fn readers_that_fail_a_race(rt: HostRuntime) -> Result<(), Fail> {
+    assert!(rt; may_fail(&rt, rt.alloc(), &JOBS[1])?);
     Ok(())
 }
 

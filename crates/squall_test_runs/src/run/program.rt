@@ -1,6 +1,7 @@
 //! The program's words: the tasks that they ask for, the files that they name, statuses and texts.
 
-use super::{Drip, Drops, GAP, NEW_CHECKED, NEW_PLAN, OLD, RACE, SHOWN};
+use super::jobs::{GAP, NEW_CHECKED, NEW_PLAN, OLD, RACE, SHOWN};
+use super::{Drip, Drops};
 use squall_run::{Files, Reader, Source, Writer, perform};
 use std::alloc::{AllocError, Global};
 use std::io;
