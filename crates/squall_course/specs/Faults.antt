@@ -5,5 +5,5 @@ use Rattle.squall_course.specs.declared.fault.CourseFault.TheVariants.{ZeroNumbe
 
 -- the text of a fault
 abbrev pub text_of_fault : CourseFault → List ℕ
-text_of_fault ZeroNumber = codes "the number of a course is 0"
-text_of_fault NoMemory = codes "no memory"
+text_of_fault ZeroNumber = codes "ZeroNumber"
+text_of_fault NoMemory = codes "NoMemory"

@@ -5,8 +5,12 @@ use Rattle.std.specs.List.Sorted.{IsNonDecreasingBy, IsPermutation}
 use Rattle.squall_key.specs.Keys.{part_limit}
 use Rattle.squall_span.specs.Spans.{Interval, has}
 use Rattle.squall_plan.specs.declared.range.PlanRange.{PlanRange}
+use Rattle.squall_course.specs.declared.link.Link.{Link}
 use Rattle.squall_course.specs.declared.moving.Move.{Move}
-use Rattle.squall_course.specs.Moves.{goes_to}
+use Rattle.squall_course.specs.Change.{ArePlans}
+use Rattle.squall_course.specs.Subplans.{subplan_count}
+use Rattle.squall_course.specs.Moves.{goes_to, moves_of}
+use Rattle.squall_course.specs.Links.{IsTable}
 
 -- ranges with keys, each from the end of the one before it on, the first from a given bound on
 abbrev pub Follow : ℕ → List PlanRange → Type 0
@@ -47,6 +51,16 @@ pub record AreByPlace (place_of : Move → ℕ) (xs : List Move) : Type 0 where
 pub record AreFiled (place_of : Move → ℕ) (ms xs : List Move) : Type 0 where
   pub same : IsPermutation ms xs
   pub rises : IsNonDecreasingBy place_of xs
+
+-- what a course keeps: its number from 1 on, both plans, and what these tell of links, moves and sub-plans
+pub record IsKept (number : ℕ) (old new : List PlanRange) (table : List Link) (moves leaving arriving : List Move) (subplans : ℕ) : Type 0 where
+  pub numbered : 1 ≤ number
+  pub plans : ArePlans old new
+  pub linked : IsTable old new table
+  pub listed : moves ≡ moves_of old new
+  pub counted : subplans ≡ subplan_count old new
+  pub left : AreFiled leaving_place (moves_of old new) leaving
+  pub arrived : AreFiled arriving_place (moves_of old new) arriving
 
 -- the partitions to which moves go in the sub-plan, in rising number
 pub record AreReceivers (ms : List Move) (sub : ℕ) (parts : List ℕ) : Type 0 where

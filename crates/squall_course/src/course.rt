@@ -47,19 +47,14 @@ pub struct Course {
 }
 
 impl Model for Course {
-    ghost use Rattle.std.specs.Prelude.{◌≤◌};
-    ghost use Rattle.std.specs.Prelude.{◌≡◌};
-    ghost use Rattle.squall_course.specs.Change.{Change, ArePlans};
-    ghost use Rattle.squall_course.specs.Subplans.{subplan_count};
-    ghost use Rattle.squall_course.specs.Moves.{moves_of};
-    ghost use Rattle.squall_course.specs.Links.{IsTable};
-    ghost use Rattle.squall_course.specs.Steps.{leaving_place, arriving_place, AreFiled};
+    ghost use Rattle.squall_course.specs.Change.{Change};
+    ghost use Rattle.squall_course.specs.Steps.{IsKept};
 
     ghost Value = { Change };
 
     ghost view = { λ c. record { number = c.number; old = c.old; new = c.new } };
 
-    ghost invariant = { λ c. (1 ≤ c.number) × ArePlans c.old c.new × IsTable c.old c.new c.table × (c.moves.items ≡ moves_of c.old c.new) × (c.subplans ≡ subplan_count c.old c.new) × AreFiled leaving_place (moves_of c.old c.new) c.leaving.items × AreFiled arriving_place (moves_of c.old c.new) c.arriving.items };
+    ghost invariant = { λ c. IsKept c.number c.old c.new c.table c.moves.items c.leaving.items c.arriving.items c.subplans };
 }
 
 impl Course {
@@ -92,6 +87,19 @@ impl Course {
             arriving,
             subplans,
         })
+    }
+
+    /// The course of number 1 from the old plan to the new one. The error comes if an allocation
+    /// failed.
+    pub fn first(alloc: Global, old: &Plan, new: &Plan) -> Result<Course, AllocError>
+        ensures course { IfOk result (λ c. c ≡ record { number = 1; old = old.now; new = new.now }) }
+        ensures numbered { IfOk result (λ c. 1 ≤ c.number) }
+    {
+        // The number is not 0, so that only memory can be missing.
+        match Course::new(alloc, 1, old, new) {
+            Ok(course) => Ok(course),
+            Err(_) => Err(AllocError),
+        }
     }
 
     /// The number of the reconfiguration, from 1 on.
@@ -151,7 +159,7 @@ impl Course {
     }
 
     /// The sub-plan in which the key moves: the place of its new partition among the destinations
-    /// of its old one, from 0. None where the key does not move.
+    /// of its old one, from 0. None if the key does not move.
     pub fn subplan_of(&self, key: Key) -> Option<u32>
         ensures { result ≡ subplan_of self.now.old self.now.new key }
     {
@@ -188,7 +196,7 @@ impl Course {
     }
 
     /// The partition to which keys of `part` go in the sub-plan: the destination with that place
-    /// among those of `part`. None where it has no more than `sub` of them.
+    /// among those of `part`. None if it has no more than `sub` of them.
     pub fn dest(&self, sub: u32, part: PartId) -> Option<PartId>
         ensures { result ≡ dest_of self.now.old self.now.new sub part }
     {
@@ -196,21 +204,21 @@ impl Course {
         Some(link.dest)
     }
 
-    /// The keys that move to `part` in the sub-plan. The error comes where an allocation failed.
+    /// The keys that move to `part` in the sub-plan. The error comes if an allocation failed.
     pub fn incoming(&self, alloc: Global, sub: u32, part: PartId) -> Result<SpanSet, AllocError>
         ensures { IfOk result (λ set. (k : ℕ) → has set k ≡ is_incoming self.now.old self.now.new sub part k) }
     {
         gather::incoming(alloc, &self.arriving, sub, part)
     }
 
-    /// The keys that move away from `part` in the sub-plan. The error comes where an allocation failed.
+    /// The keys that move away from `part` in the sub-plan. The error comes if an allocation failed.
     pub fn outgoing(&self, alloc: Global, sub: u32, part: PartId) -> Result<SpanSet, AllocError>
         ensures { IfOk result (λ set. (k : ℕ) → has set k ≡ is_outgoing self.now.old self.now.new sub part k) }
     {
         gather::outgoing(alloc, &self.leaving, sub, part)
     }
 
-    /// The partitions to which keys move in the sub-plan, in rising number. The error comes where
+    /// The partitions to which keys move in the sub-plan, in rising number. The error comes if
     /// an allocation failed.
     pub fn receivers(&self, alloc: Global, sub: u32) -> Result<Vec<PartId>, AllocError>
         ensures { IfOk result (λ v. v.items ≡ receivers_of (moves_of self.now.old self.now.new) sub) }

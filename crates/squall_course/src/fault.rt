@@ -17,14 +17,14 @@ pub enum CourseFault {
     NoMemory,
 }
 
-/// The fault in words.
+/// The name of the fault.
 impl fmt::Display for CourseFault {
     ghost output = { λ e. Some (text_of_fault e) };
 
     fn fmt<W: fmt::Write>(&self, f: &mut fmt::Formatter<W>) -> fmt::Result {
         match self {
-            CourseFault::ZeroNumber => write!(f, "the number of a course is 0"),
-            CourseFault::NoMemory => write!(f, "no memory"),
+            CourseFault::ZeroNumber => write!(f, "ZeroNumber"),
+            CourseFault::NoMemory => write!(f, "NoMemory"),
         }
     }
 }

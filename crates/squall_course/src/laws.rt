@@ -66,7 +66,8 @@ pub fn moves_in_counted_subplans()
 /// as long as there are sub-plans. So numbers that all lie below a bound need a bound that high; and
 /// the sub-plans are such a way.
 pub fn no_fewer_subplans()
-    ensures used { (old new : List PlanRange) (number : ℕ → ℕ) (used : List ℕ) → ArePlans old new → IsSplit old new number used → subplan_count old new ≤ length used }
+    ensures used { (old new : List PlanRange) (number : ℕ → ℕ) (used : List ℕ) → ArePlans old new → IsSplit old new number used
+        → subplan_count old new ≤ length used }
     ensures below { (old new : List PlanRange) (number : ℕ → ℕ) (n : ℕ) → ArePlans old new
         → ((k : ℕ) → k < top → moves old new k ≡ true → number k < n) → IsSingle old new number → subplan_count old new ≤ n }
     ensures reached { (old new : List PlanRange) → ArePlans old new → IsSplit old new (sub_of old new) (range_with_len 0 (subplan_count old new)) }

@@ -1,2 +1,3 @@
 pub mod Digits
 pub mod RoundTrip
+pub mod Searching

@@ -1,22 +1,17 @@
 //! Bounds between keys.
 
-ghost use Rattle.std.specs.Prelude.{◌≡◌, ℕ, ◌+◌, ◌*◌, ◌/◌, ◌%◌, ◌^◌, ◌<◌, ◌≤◌, ◌==◌, Some, SomeIff};
-ghost use Rattle.std.proofs.Common.{rules};
-ghost use Rattle.std.specs.Cmp.{partial_order_from_own_ties};
-ghost use Rattle.std.specs.Cmp.Rules.{comparing};
-ghost use Rattle.std.specs.Ordering.{nat_cmp, as_partial_cmp};
+ghost use Rattle.std.specs.Prelude.{◌≡◌, ℕ, ◌+◌, ◌*◌, ◌/◌, ◌%◌, ◌^◌, ◌<◌, ◌≤◌, Some, SomeIff};
 ghost use Rattle.squall_key.specs.Keys.{top, bound_at, bound_of, text_of_bound};
 
 use crate::key::{Key, TOP};
 use crate::number::read_pair;
-use std::cmp::Ordering;
 use std::fmt;
 use std::marker::Model;
 
 /// A bound of a range of keys: a key, or the top, which lies above all keys.
 ///
 /// Contracts see a bound as its rank, a number up to 18446744069414584320, the rank of the top.
-#[derive(Clone, Copy, Debug)]
+#[derive(Clone, Copy, Debug, PartialEq, Eq, PartialOrd, Ord)]
 pub struct Bound {
     rank: u64,
 }
@@ -104,7 +99,7 @@ impl Bound {
         (self.rank % 4294967296) as u32
     }
 
-    /// `step` where this bound lies beyond the other, else 0: made of the bits of a borrow, so
+    /// `step` if this bound lies beyond the other, else 0: made of the bits of a borrow, so
     /// that a search that steps by it has no branch on what it compares.
     #[inline(always)]
     pub fn step_beyond(self, other: Bound, step: usize) -> usize
@@ -127,43 +122,5 @@ impl fmt::Display for Bound {
         let root = self.root();
         let second = self.second();
         write!(f, "{root}:{second}")
-    }
-}
-
-impl PartialEq for Bound {
-    ghost eq = { ◌==◌ };
-
-    ghost laws = { Prim.search (comparing, rules) };
-
-    fn eq(&self, other: &Bound) -> bool {
-        other.rank == self.rank
-    }
-}
-
-impl Eq for Bound {
-    ghost laws = { Prim.search (comparing, rules) };
-}
-
-impl PartialOrd for Bound {
-    ghost partial_cmp = { as_partial_cmp nat_cmp };
-
-    ghost laws = { partial_order_from_own_ties (Prim.search (comparing, rules)) (Prim.search (comparing, rules)) };
-
-    fn partial_cmp(&self, other: &Bound) -> Option<Ordering> {
-        Some(self.cmp(other))
-    }
-}
-
-impl Ord for Bound {
-    ghost cmp = { nat_cmp };
-
-    ghost total = { Prim.search (comparing, rules) };
-
-    ghost matches_partial_cmp = { Prim.search (comparing, rules) };
-
-    ghost matches_eq = { Prim.search (comparing, rules) };
-
-    fn cmp(&self, other: &Bound) -> Ordering {
-        u64::cmp(&self.rank, &other.rank)
     }
 }

@@ -1,14 +1,9 @@
 //! Keys.
 
-ghost use Rattle.std.specs.Prelude.{◌≡◌, ℕ, ◌+◌, ◌*◌, ◌/◌, ◌%◌, ◌^◌, ◌<◌, ◌==◌, Some, SomeIff};
-ghost use Rattle.std.proofs.Common.{rules};
-ghost use Rattle.std.specs.Cmp.{partial_order_from_own_ties};
-ghost use Rattle.std.specs.Cmp.Rules.{comparing};
-ghost use Rattle.std.specs.Ordering.{nat_cmp, as_partial_cmp};
+ghost use Rattle.std.specs.Prelude.{◌≡◌, ℕ, ◌+◌, ◌*◌, ◌/◌, ◌%◌, ◌^◌, ◌<◌, Some, SomeIff};
 ghost use Rattle.squall_key.specs.Keys.{top, key_at, key_of, text_of_key};
 
 use crate::number::read_pair;
-use std::cmp::Ordering;
 use std::fmt;
 use std::marker::Model;
 
@@ -19,7 +14,7 @@ pub(crate) const TOP: u64 = 18446744069414584320;
 ///
 /// Contracts see a key as its rank, `root * 2^32 + second`, a number below
 /// 18446744069414584320.
-#[derive(Clone, Copy, Debug)]
+#[derive(Clone, Copy, Debug, PartialEq, Eq, PartialOrd, Ord)]
 pub struct Key {
     rank: u64,
 }
@@ -38,7 +33,7 @@ impl Model for Key {
 }
 
 impl Key {
-    /// The key `root:second`. None where root is 4294967295, which no key has.
+    /// The key `root:second`. None if root is 4294967295, which no key has.
     pub fn new(root: u32, second: u32) -> Option<Key>
         ensures { result ≡ key_at root second }
     {
@@ -107,43 +102,5 @@ impl fmt::Display for Key {
         let root = self.root();
         let second = self.second();
         write!(f, "{root}:{second}")
-    }
-}
-
-impl PartialEq for Key {
-    ghost eq = { ◌==◌ };
-
-    ghost laws = { Prim.search (comparing, rules) };
-
-    fn eq(&self, other: &Key) -> bool {
-        other.rank == self.rank
-    }
-}
-
-impl Eq for Key {
-    ghost laws = { Prim.search (comparing, rules) };
-}
-
-impl PartialOrd for Key {
-    ghost partial_cmp = { as_partial_cmp nat_cmp };
-
-    ghost laws = { partial_order_from_own_ties (Prim.search (comparing, rules)) (Prim.search (comparing, rules)) };
-
-    fn partial_cmp(&self, other: &Key) -> Option<Ordering> {
-        Some(self.cmp(other))
-    }
-}
-
-impl Ord for Key {
-    ghost cmp = { nat_cmp };
-
-    ghost total = { Prim.search (comparing, rules) };
-
-    ghost matches_partial_cmp = { Prim.search (comparing, rules) };
-
-    ghost matches_eq = { Prim.search (comparing, rules) };
-
-    fn cmp(&self, other: &Key) -> Ordering {
-        u64::cmp(&self.rank, &other.rank)
     }
 }

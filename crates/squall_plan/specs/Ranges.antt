@@ -3,8 +3,7 @@ use Rattle.std.specs.Prelude.{◌≡◌, ℕ, ◌+◌, ◌<◌, ◌≤◌, ◌==
 use Rattle.std.specs.Option.{option_map_or}
 use Rattle.std.specs.List.{find, list_any, AllByRecursion}
 use Rattle.squall_key.specs.Keys.{top, part_limit}
-use Rattle.squall_key.specs.Search.{IsSought}
-use Rattle.squall_span.specs.Spans.{interval, span_has}
+use Rattle.squall_span.specs.Spans.{span_has}
 use Rattle.squall_plan.specs.declared.range.PlanRange.{PlanRange}
 
 -- the key lies in the range
@@ -86,17 +85,3 @@ pub record IsPlanOf (rs ps : List PlanRange) : Type 0 where
 pub record IsPlace (k : ℕ) (rs : List PlanRange) (i : ℕ) : Type 0 where
   pub within : i < length rs
   pub owner : (d : PlanRange) → owner_of rs k ≡ (slice_index_or rs i d).part
-
--- ---- the search for a key
-
--- a range to stand where there is none
-abbrev pub no_range : PlanRange
-no_range = record { span = interval 0 0; part = 0 }
-
--- where the range at a place ends
-abbrev pub end_at : List PlanRange → ℕ → ℕ
-end_at rs i = (slice_index_or rs i no_range).span.hi
-
--- the ranges before the base end at the bound or before it, those from base + size on beyond it
-abbrev pub IsSoughtEnd : List PlanRange → ℕ → ℕ → ℕ → Type 0
-IsSoughtEnd rs bound base size = IsSought (end_at rs) (length rs) bound base size

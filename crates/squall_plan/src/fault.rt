@@ -28,7 +28,7 @@ pub enum PlanFault {
     TooMany,
     /// The least key that is in two ranges.
     Overlap(Bound),
-    /// The least key that is in no range, where none is in two.
+    /// The least key that is in no range, if none is in two.
     Gap(Bound),
     /// An allocation failed.
     NoMemory,
@@ -49,7 +49,7 @@ impl fmt::Display for PlanFault {
             PlanFault::TooMany => write!(f, "TooMany"),
             PlanFault::Overlap(bound) => write!(f, "Overlap {bound}"),
             PlanFault::Gap(bound) => write!(f, "Gap {bound}"),
-            PlanFault::NoMemory => write!(f, "no memory"),
+            PlanFault::NoMemory => write!(f, "NoMemory"),
         }
     }
 }

@@ -5,7 +5,8 @@ ghost use Rattle.std.specs.List.{filter_map};
 ghost use Rattle.serde_json.specs.View.{view};
 ghost use Rattle.squall_plan.specs.declared.fault.PlanFault.TheVariants.{Json, Shape};
 ghost use Rattle.squall_plan.specs.Arranged.{GivesSeen};
-ghost use Rattle.squall_plan.specs.Form.{pair_of, to_of, entry_of, entries_of, listed_in, part_of, bound_in, bounds_of, range_of, ranges_in, lacking, or_fault, data_of, ranges_of_data, ranges_of_text};
+ghost use Rattle.squall_plan.specs.Form.{pair_of, to_of, entry_of, entries_of, listed_in, part_of, bound_in, bounds_of, range_of, ranges_in, lacking};
+ghost use Rattle.squall_plan.specs.Form.{or_fault, data_of, ranges_of_data, ranges_of_text};
 
 use crate::fault::PlanFault;
 use crate::range::PlanRange;

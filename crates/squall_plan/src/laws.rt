@@ -21,7 +21,7 @@ pub fn equal_lists_equal_plans()
     ensures { (rs ss : List PlanRange) → are_same_ranges rs ss ≡ true ↔ rs ≡ ss }
 {}
 
-/// Ranges that are a plan, and not too many, are refused only where an allocation failed.
+/// Ranges that are a plan, and not too many, are refused only if an allocation failed.
 pub fn one_answer()
     ensures { (rs : List PlanRange) (e : PlanFault) → AreRanges rs → ArePlan rs → length rs ≤ range_limit
         → IsArranged rs (Err e) → e ≡ NoMemory }
@@ -49,7 +49,7 @@ pub fn canonical_is_plan()
     ensures { (ps : List PlanRange) → IsCanonical ps → ArePlan ps }
 {}
 
-/// The owner of a key is a partition that there can be, where those of all ranges are.
+/// The owner of a key is a partition that there can be, if those of all ranges are.
 pub fn owner_is_part()
     ensures parts { (rs : List PlanRange) (k : ℕ) → AreParts rs → owner_of rs k < part_limit }
     ensures ranges { (rs : List PlanRange) → AreRanges rs → AreParts rs }

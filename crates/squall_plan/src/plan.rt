@@ -19,7 +19,7 @@ use std::alloc::{AllocError, Global};
 use std::marker::Model;
 
 /// The most ranges that a plan is made of.
-const RANGE_LIMIT: usize = 4096;
+pub const RANGE_LIMIT: usize = 4096;
 
 /// Which partition has each key.
 ///
@@ -84,7 +84,7 @@ impl Plan {
     /// may also be `"end"`, entries stand in any order, and other members are passed over.
     ///
     /// The first fault of [`PlanFault`] that is present anywhere, with the least index or key, or
-    /// `NoMemory` where an allocation failed.
+    /// `NoMemory` if an allocation failed.
     pub fn read(alloc: Global, text: &[u8]) -> Result<Plan, PlanFault>
         ensures answer { Gives result (plan_of_text text.now) }
         ensures meaning { Follows (ranges_of_text text.now) result }
@@ -137,7 +137,7 @@ impl Plan {
         self.ranges.iter().any(|range| range.part == part)
     }
 
-    /// A copy, with the same ranges. The error comes where an allocation failed.
+    /// A copy, with the same ranges. The error comes if an allocation failed.
     pub fn copied(&self, alloc: Global) -> Result<Plan, AllocError>
         ensures { IfOk result (λ p. p ≡ self.now) }
     {
@@ -146,7 +146,7 @@ impl Plan {
     }
 }
 
-/// Plans are equal where their lists of ranges are, and so where each key has the same owner.
+/// Plans are equal if their lists of ranges are, and so if each key has the same owner.
 impl PartialEq for Plan {
     ghost eq = { are_same_ranges };
 

@@ -3,10 +3,9 @@ use Rattle.std.proofs.Common.{◌≡◌, ℕ, zero, suc, ◌+◌, ◌-◌, ◌<�
 use Rattle.std.specs.List.Sorted.{IsNonDecreasingBy}
 use Rattle.std.proofs.Math.Bool.{or-false}
 use Rattle.std.proofs.lemmas.List.{drop_more, drop_all, get_or_default}
-use Rattle.squall_key.specs.Search.{Rises, IsBack}
-use Rattle.squall_span.specs.Spans.{Interval, interval, span_has, has, Beyond, IsCanonical, EndsBy, EndsBeyond}
+use Rattle.squall_span.specs.Spans.{Interval, span_has, has, Beyond, IsCanonical, EndsBy, EndsBeyond}
 use Rattle.squall_span.specs.SpanLaws.{outside_above, has_below}
-use Rattle.squall_span.specs.Places.{Ended, Apart, Started, IsSoughtEnd, end_at}
+use Rattle.squall_span.specs.Places.{Ended, Apart, Started}
 
 pub starts_above : (h : ℕ) (xs : List Interval) (j : ℕ) (d : Interval) → Beyond h xs → IsCanonical xs → j < length xs → h < (get_or xs j d).lo
 starts_above h [] j d b c lt = absurd (omega arith)
@@ -154,28 +153,4 @@ started_at xs bound i c e fits near = record {
       let far = e.from i d (omega arith) fits in
       let gap = ends_before xs i j d c (omega arith) lt in
       omega (arith, far, gap);
-}
-
--- ---- steps of a search among the ends
-
-pub ends_rise_by_place : (xs : List Interval) → IsCanonical xs → Rises (end_at xs) (length xs)
-ends_rise_by_place xs c i j le lt = ends_rise xs c i j (interval 0 0) le lt
-
--- a step back by the end that was read
-pub back_at : (xs : List Interval) (bound step i : ℕ) (x : Interval) (end r : ℕ) → i < length xs → x ≡ get_or xs i x → end ≡ x.hi → (bound < end → r ≡ step) → (end ≤ bound → r ≡ 0) → IsBack bound step (end_at xs i) r
-back_at xs bound step i x end r lt is reads far near =
-    let same : x.hi ≡ end_at xs i = ap (λ (t : Interval). t.hi) (is ∙ get_or_default xs i x (interval 0 0) lt) in
-    record { beyond = λ b. far (omega (arith, b, same, reads)); not_beyond = λ b. near (omega (arith, b, same, reads)) }
-
-pub sought_is_ended : (xs : List Interval) (bound i : ℕ) → IsSoughtEnd xs bound i 0 → Ended xs bound i
-sought_is_ended xs bound i m = record {
-  within = omega (arith, m.within);
-  before = λ j d lt.
-      let same = ap (λ (t : Interval). t.hi) (get_or_default xs j d (interval 0 0) (omega (arith, m.within))) in
-      let past = m.before j lt in
-      omega (arith, same, past);
-  from = λ j d le lt.
-      let same = ap (λ (t : Interval). t.hi) (get_or_default xs j d (interval 0 0) lt) in
-      let far = m.from j (omega arith) lt in
-      omega (arith, same, far);
 }

@@ -1,21 +1,11 @@
 -- Places in the list of a set's spans (this project).
 use Rattle.std.specs.Prelude.{◌≡◌, ℕ, ◌<◌, ◌≤◌, ◌&&◌, nat_lt, nat_le, List, length, slice_index_or}
-use Rattle.squall_key.specs.Search.{IsSought}
-use Rattle.squall_span.specs.Spans.{Interval, interval, has, IsCanonical}
+use Rattle.squall_key.specs.Search.{EndedBy}
+use Rattle.squall_span.specs.Spans.{Interval, has, IsCanonical}
 
 -- the first so many spans end at the bound or before it, the others beyond it
-pub record Ended (xs : List Interval) (bound place : ℕ) : Type 0 where
-  pub within : place ≤ length xs
-  pub before : (j : ℕ) (d : Interval) → j < place → (slice_index_or xs j d).hi ≤ bound
-  pub from : (j : ℕ) (d : Interval) → place ≤ j → j < length xs → bound < (slice_index_or xs j d).hi
-
--- where the span at a place ends
-abbrev pub end_at : List Interval → ℕ → ℕ
-end_at xs i = (slice_index_or xs i (interval 0 0)).hi
-
--- the spans before the base end at the bound or before it, those from base + size on beyond it
-abbrev pub IsSoughtEnd : List Interval → ℕ → ℕ → ℕ → Type 0
-IsSoughtEnd xs bound base size = IsSought (end_at xs) (length xs) bound base size
+abbrev pub Ended : List Interval → ℕ → ℕ → Type 0
+Ended xs bound place = EndedBy (λ s. s.hi) xs bound place
 
 -- the first so many spans end before the bound, the others at it or beyond it
 pub record Apart (xs : List Interval) (bound place : ℕ) : Type 0 where

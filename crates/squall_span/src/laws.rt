@@ -2,7 +2,8 @@
 
 ghost use Rattle.std.specs.Prelude.{◌≡◌, ◌↔◌, ℕ, ◌<◌, ◌≤◌, ◌||◌, ◌&&◌, not, nat_lt, nat_le, true, Some, List};
 ghost use Rattle.squall_key.specs.Keys.{top};
-ghost use Rattle.squall_span.specs.Spans.{Interval, has, span_has, IsCanonical, EndsBy, IsSet, insert_span, union, minus, meet, keys_below, keys_from, first_span, IsFirstRun, total_length, how_many, spans_eq};
+ghost use Rattle.squall_span.specs.Spans.{Interval, has, span_has, IsCanonical, EndsBy, IsSet, insert_span, union, minus, meet, keys_below};
+ghost use Rattle.squall_span.specs.Spans.{keys_from, first_span, IsFirstRun, total_length, how_many, spans_eq};
 
 /// Sets with the same keys have the same list of spans.
 pub fn same_keys_same_set()

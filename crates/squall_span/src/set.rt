@@ -1,8 +1,10 @@
 //! Sets of keys.
 
-ghost use Rattle.std.specs.Prelude.{◌≡◌, ◌↔◌, ℕ, ◌+◌, ◌-◌, ◌<◌, ◌≤◌, ◌&&◌, ◌||◌, not, min, true, false, nat_lt, nat_le, List, [], ◌∷◌, IsTrue, IfOk, IfErr, IfSome, OnOk, OnErr};
+ghost use Rattle.std.specs.Prelude.{◌≡◌, ◌↔◌, ℕ, ◌+◌, ◌-◌, ◌<◌, ◌≤◌, ◌&&◌, ◌||◌, not, min, true, false, nat_lt, nat_le, List, [], ◌∷◌, IsTrue, IfOk};
+ghost use Rattle.std.specs.Prelude.{IfErr, IfSome, OnOk, OnErr};
 ghost use Rattle.squall_key.specs.Keys.{top};
-ghost use Rattle.squall_span.specs.Spans.{Interval, has, span_has, IsSet, union, minus, meet, keys_below, keys_from, insert_span, without_span, first_keys, total_length, how_many, spans_eq};
+ghost use Rattle.squall_span.specs.Spans.{Interval, has, span_has, IsSet, union, minus, meet, keys_below, keys_from, insert_span, without_span};
+ghost use Rattle.squall_span.specs.Spans.{first_keys, total_length, how_many, spans_eq};
 ghost use Rattle.squall_span.specs.Places.{Ended};
 ghost use Rattle.squall_span.specs.SpanLaws.{spans_eq-laws, spans_eq-equivalence};
 

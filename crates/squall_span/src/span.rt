@@ -4,7 +4,7 @@ ghost use Rattle.std.specs.Prelude.{◌≡◌, ◌+◌, ◌-◌, ◌≤◌, ◌<
 ghost use Rattle.squall_key.specs.Keys.{top};
 ghost use Rattle.squall_span.specs.Spans.{interval, span_at, span_has, text_of_span};
 
-use squall_key::{Bound, Key};
+use squall_key::{Bound, Ends, Key};
 use std::fmt;
 use std::marker::Model;
 
@@ -77,6 +77,14 @@ impl Span {
         ensures { result ≡ span_has self key }
     {
         self.lo.rank() <= key.rank() && key.rank() < self.hi.rank()
+    }
+}
+
+impl Ends for Span {
+    ghost end = { λ s. s.hi };
+
+    fn end(&self) -> Bound {
+        self.hi
     }
 }
 

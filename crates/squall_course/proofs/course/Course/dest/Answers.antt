@@ -10,4 +10,4 @@ pub returns : goal.returns
 returns c =
     let found : slice_get c.row.result.now c.args.sub ≡ Some c.in_ok-link.link.now = grind (arith, common_steps, gets) in
     dest_by_row c.args.self.now c.self.inside.old c.self.inside.new c.self.inside.table c.row.result.now c.args.part c.args.sub _
-    (ap (λ (v : Change). v.old) c.self.view_is) (ap (λ (v : Change). v.new) c.self.view_is) c.self.invariant.2 c.row.ensures.value found
+    (ap (λ (v : Change). v.old) c.self.view_is) (ap (λ (v : Change). v.new) c.self.view_is) c.self.invariant.linked c.row.ensures.value found

@@ -34,4 +34,4 @@ invariant_of-result c =
     let count = (count_is old new c.ranges-4.result.now fs c.most-subplans.result t c.ranges-4.ensures.value c.most-subplans.ensures).0 in
     let leaving = subst (λ ms. AreFiled leaving_place ms c.in_ok-leaving.leaving.items) (c.deref-3.ensures.value ∙ listed) c.in_ok-leaving.ensures in
     let arriving = subst (λ ms. AreFiled arriving_place ms c.in_ok-arriving.arriving.items) (c.deref-4.ensures.value ∙ listed) c.in_ok-arriving.ensures in
-    (omega arith, plans, t, listed, count, leaving, arriving)
+    record { numbered = omega arith; plans = plans; linked = t; listed = listed; counted = count; left = leaving; arrived = arriving }

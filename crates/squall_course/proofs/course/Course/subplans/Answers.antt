@@ -4,7 +4,7 @@ use Rattle.squall_course.proofs.Tabled.{plans_known, count_few}
 use Rattle.squall_course.proofs.course.Course.subplans.Goals as goal
 
 pub returns-clause-most : goal.returns-clause-most
-returns-clause-most c = count_few c.self.inside.old c.self.inside.new _ c.self.invariant.4
+returns-clause-most c = count_few c.self.inside.old c.self.inside.new _ c.self.invariant.counted
 
 pub returns-clause-plans : goal.returns-clause-plans
-returns-clause-plans c = plans_known c.args.self.now c.self.inside.old c.self.inside.new (ap (λ (v : Change). v.old) c.self.view_is) (ap (λ (v : Change). v.new) c.self.view_is) c.self.invariant.1
+returns-clause-plans c = plans_known c.args.self.now c.self.inside.old c.self.inside.new (ap (λ (v : Change). v.old) c.self.view_is) (ap (λ (v : Change). v.new) c.self.view_is) c.self.invariant.plans
