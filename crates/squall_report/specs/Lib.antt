@@ -13,5 +13,5 @@ pub mod Openings
 pub mod OpeningsLaws
 pub mod Newest
 pub mod NewestLaws
-pub mod Tests
-pub mod TestsLaws
+pub mod Queries
+pub mod QueriesLaws

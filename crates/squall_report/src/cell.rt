@@ -1,14 +1,10 @@
 //! Where a cell stands on a board.
 
 ghost use Rattle.std.specs.Prelude.{◌≡◌, true, ◌≤◌, ◌<◌};
-ghost use Rattle.std.proofs.Common.{rules};
-ghost use Rattle.std.specs.Cmp.{partial_order_from_own_ties};
-ghost use Rattle.std.specs.Cmp.Rules.{comparing};
-ghost use Rattle.std.specs.Ordering.{as_partial_cmp};
 ghost use Rattle.squall_key.specs.Keys.{part_limit};
-ghost use Rattle.squall_report.specs.Cells.{place_at, place_of, is_same_cell, is_cell_place, cell_cmp};
+ghost use Rattle.squall_report.specs.Cells.{place_at, place_of, is_cell_place};
 
-use std::cmp::Ordering;
+use squall_key::{PART_LIMIT, PartId};
 use std::marker::Model;
 
 /// A partition in a sub-plan of a reconfiguration: the place of a cell on a board.
@@ -16,11 +12,11 @@ use std::marker::Model;
 /// The number of the reconfiguration is at least 1, sub-plan and partition are at most 9999.
 /// Cells rise by number, then by sub-plan, then by partition. Contracts see a cell's place as
 /// these three numbers.
-#[derive(Clone, Copy, Debug)]
+#[derive(Clone, Copy, Debug, PartialEq, Eq, PartialOrd, Ord)]
 pub struct CellId {
     number: u32,
     sub: u32,
-    part: u32,
+    part: PartId,
 }
 
 impl Model for CellId {
@@ -38,13 +34,14 @@ impl Model for CellId {
 
 impl CellId {
     /// The cell of the partition in that sub-plan of the reconfiguration of that number. None
-    /// where the number is 0, or the sub-plan or the partition above 9999.
+    /// if the number is 0, or the sub-plan or the partition above 9999.
     pub fn new(number: u32, sub: u32, part: u32) -> Option<CellId>
         ensures { result ≡ place_of number sub part }
     {
-        if number == 0 || sub > 9999 || part > 9999 {
+        if number == 0 || sub >= PART_LIMIT {
             return None;
         }
+        let part = PartId::new(part)?;
         Some(CellId { number, sub, part })
     }
 
@@ -53,6 +50,7 @@ impl CellId {
         requires limits { is_cell_place (place_at number sub part) ≡ true }
         ensures { result ≡ place_at number sub part }
     {
+        let part = PartId::of(part);
         CellId { number, sub, part }
     }
 
@@ -72,8 +70,8 @@ impl CellId {
         self.sub
     }
 
-    /// The partition, at most 9999.
-    pub fn part(self) -> u32
+    /// The partition.
+    pub fn part(self) -> PartId
         ensures value { result ≡ self.part }
         ensures limit { result < part_limit }
     {
@@ -85,46 +83,5 @@ impl CellId {
         ensures { is_cell_place self ≡ true }
     {
         let _number = self.number;
-    }
-}
-
-impl PartialEq for CellId {
-    ghost eq = { is_same_cell };
-
-    ghost laws = { Prim.search (comparing, rules) };
-
-    fn eq(&self, other: &CellId) -> bool {
-        self.number == other.number && self.sub == other.sub && self.part == other.part
-    }
-}
-
-impl Eq for CellId {
-    ghost laws = { Prim.search (comparing, rules) };
-}
-
-impl PartialOrd for CellId {
-    ghost partial_cmp = { as_partial_cmp cell_cmp };
-
-    ghost laws = { partial_order_from_own_ties (Prim.search (comparing, rules)) (Prim.search (comparing, rules)) };
-
-    fn partial_cmp(&self, other: &CellId) -> Option<Ordering> {
-        Some(self.cmp(other))
-    }
-}
-
-impl Ord for CellId {
-    ghost cmp = { cell_cmp };
-
-    ghost total = { Prim.search (comparing, rules) };
-
-    ghost matches_partial_cmp = { Prim.search (comparing, rules) };
-
-    ghost matches_eq = { Prim.search (comparing, rules) };
-
-    fn cmp(&self, other: &CellId) -> Ordering {
-        let by_number = self.number.cmp(&other.number);
-        let by_sub = self.sub.cmp(&other.sub);
-        let by_part = self.part.cmp(&other.part);
-        by_number.then(by_sub.then(by_part))
     }
 }

@@ -4,12 +4,21 @@ ghost use Rattle.std.specs.Prelude.{◌≡◌, ◌↔◌, ℕ, nat_lt, List, [],
 ghost use Rattle.squall_join.specs.declared.flat.Flat.{Flat};
 ghost use Rattle.squall_join.specs.Laws.{JoinLaws, Covers};
 ghost use Rattle.squall_report.specs.declared.report.ReportKind.{ReportKind};
+ghost use Rattle.squall_report.specs.Cells.{CellPlace, is_same_cell, cell_cmp};
 ghost use Rattle.squall_report.specs.Issues.{PlanPair};
 ghost use Rattle.squall_report.specs.Facts.{OpenedSub, reports_say};
 ghost use Rattle.squall_report.specs.Told.{IsIssued, reports_issue, told_by_report, told_by, SameTold, TellsBoth, TellsAll, AreSameReports};
 ghost use Rattle.squall_report.specs.Openings.{opened_by};
 ghost use Rattle.squall_report.specs.Newest.{IsNewest, newest_by};
-ghost use Rattle.squall_report.specs.Tests.{Tests, SameTests, no_tests, joined_tests, tests_by, tests_by_report, told_by_tests};
+ghost use Rattle.squall_report.specs.Queries.{Queries, SameQueries, no_queries, joined_queries, queries_by, queries_by_report, told_by_queries};
+
+use crate::CellId;
+
+/// Cells rise by number, then by sub-plan, then by partition, and are equal if all three are.
+pub fn cells_rise()
+    ensures order { (c d : CellPlace) → ⟦<CellId as Ord>⟧.cmp c d ≡ cell_cmp c d }
+    ensures same { (c d : CellPlace) → ⟦<CellId as PartialEq>⟧.eq c d ≡ is_same_cell c d }
+{}
 
 /// What a list of reports issues under a number is nothing where no report issues under it, one
 /// pair of plans where a report issues it and none another, and a clash where two differ.
@@ -42,53 +51,53 @@ pub fn one_newest()
     ensures { (issues : ℕ → Flat PlanPair) (low : ℕ) (x y : Option (ℕ × PlanPair)) → IsNewest issues low x → IsNewest issues low y → x ≡ y }
 {}
 
-/// Tests that give the same answers are equal.
-pub fn same_answers_same_tests()
-    ensures { (a b : Tests) → SameTests a b → a ≡ b }
+/// Queries that give the same answers are equal.
+pub fn same_answers_same_queries()
+    ensures { (a b : Queries) → SameQueries a b → a ≡ b }
 {}
 
-/// Tests joined in any grouping, order and number come to the same tests.
-pub fn tests_form_a_join()
-    ensures { JoinLaws (λ (t : Tests). Unit {0}) no_tests joined_tests }
+/// Answers join in any grouping and order, and any number of times, to the same answers.
+pub fn queries_form_a_join()
+    ensures { JoinLaws (λ (t : Queries). Unit {0}) no_queries joined_queries }
 {}
 
-/// Tests are the same exactly where they tell the same.
-pub fn tests_determine_told()
-    ensures { (a b : Tests) → SameTests a b ↔ SameTold (told_by_tests a) (told_by_tests b) }
+/// Answers are the same exactly if they tell the same.
+pub fn queries_determine_told()
+    ensures { (a b : Queries) → SameQueries a b ↔ SameTold (told_by_queries a) (told_by_queries b) }
 {}
 
-/// Tests are the joined ones of two others exactly where they tell what those two tell, and nothing
-/// else.
-pub fn joined_tests_tell_both()
-    ensures { (t a b : Tests) → SameTests t (joined_tests a b) ↔ TellsBoth (told_by_tests t) (told_by_tests a) (told_by_tests b) }
+/// Answers are the joined answers of two others exactly if they tell what those two tell, and
+/// nothing else.
+pub fn joined_queries_tell_both()
+    ensures { (t a b : Queries) → SameQueries t (joined_queries a b) ↔ TellsBoth (told_by_queries t) (told_by_queries a) (told_by_queries b) }
 {}
 
-/// A join of tests changes nothing exactly where all that comes is told already.
+/// A join of answers changes nothing exactly if all that comes is told already.
 pub fn told_joins_change_nothing()
-    ensures { (a b : Tests) → Covers joined_tests a b ↔ TellsAll (told_by_tests a) (told_by_tests b) }
+    ensures { (a b : Queries) → Covers joined_queries a b ↔ TellsAll (told_by_queries a) (told_by_queries b) }
 {}
 
-/// A list of reports tells what its tests tell.
-pub fn list_tells_its_tests()
-    ensures { (rs : List (ReportKind PlanPair)) → SameTold (told_by rs) (told_by_tests (tests_by rs)) }
+/// The answers of a list of reports say what it tells.
+pub fn list_tells_its_queries()
+    ensures { (rs : List (ReportKind PlanPair)) → SameTold (told_by rs) (told_by_queries (queries_by rs)) }
 {}
 
-/// A report tells what its tests tell.
-pub fn reports_tell_their_tests()
-    ensures { (r : ReportKind PlanPair) → SameTold (told_by_report r) (told_by_tests (tests_by_report r)) }
+/// The answers of a report say what it tells.
+pub fn reports_tell_their_queries()
+    ensures { (r : ReportKind PlanPair) → SameTold (told_by_report r) (told_by_queries (queries_by_report r)) }
 {}
 
-/// Lists of reports have the same tests exactly where they tell the same.
-pub fn equal_tests_equal_told()
-    ensures { (rs qs : List (ReportKind PlanPair)) → SameTests (tests_by rs) (tests_by qs) ↔ SameTold (told_by rs) (told_by qs) }
+/// Lists of reports answer all queries alike exactly if they tell the same.
+pub fn equal_queries_equal_told()
+    ensures { (rs qs : List (ReportKind PlanPair)) → SameQueries (queries_by rs) (queries_by qs) ↔ SameTold (told_by rs) (told_by qs) }
 {}
 
-/// A list after another has the joined tests of both.
-pub fn append_joins_tests()
-    ensures { (rs qs : List (ReportKind PlanPair)) → SameTests (tests_by (rs ++ qs)) (joined_tests (tests_by rs) (tests_by qs)) }
+/// A list after another has the joined answers of both.
+pub fn append_joins_queries()
+    ensures { (rs qs : List (ReportKind PlanPair)) → SameQueries (queries_by (rs ++ qs)) (joined_queries (queries_by rs) (queries_by qs)) }
 {}
 
-/// A list of one report has that report's tests.
-pub fn tests_of_one_report()
-    ensures { (r : ReportKind PlanPair) → SameTests (tests_by (r ∷ [])) (tests_by_report r) }
+/// A list of one report answers as the report does.
+pub fn queries_of_one_report()
+    ensures { (r : ReportKind PlanPair) → SameQueries (queries_by (r ∷ [])) (queries_by_report r) }
 {}

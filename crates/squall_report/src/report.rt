@@ -6,6 +6,7 @@ ghost use Rattle.squall_report.specs.Facts.{is_opening, is_report, loaded_of, do
 
 use crate::{CellId, Issue};
 use squall_join::Shared;
+use squall_key::PART_LIMIT;
 use squall_span::Span;
 use std::alloc::Global;
 use std::marker::Model;
@@ -66,11 +67,11 @@ impl Model for Report {
 fn is_opening(number: u32, sub: u32) -> bool
     ensures { result ≡ is_opening number sub }
 {
-    number >= 1 && sub <= 9999
+    number >= 1 && sub < PART_LIMIT
 }
 
 impl Report {
-    /// The report that the partition has loaded the keys of the span. None where the number is 0,
+    /// The report that the partition has loaded the keys of the span. None if the number is 0,
     /// or the sub-plan or the partition above 9999.
     pub fn loaded(number: u32, sub: u32, part: u32, span: Span) -> Option<Report>
         ensures { result ≡ loaded_of number sub part span }
@@ -87,7 +88,7 @@ impl Report {
         Some(Report { kind })
     }
 
-    /// The report that the partition has all the keys that the sub-plan brings it. None where the
+    /// The report that the partition has all the keys that the sub-plan brings it. None if the
     /// number is 0, or the sub-plan or the partition above 9999.
     pub fn done(number: u32, sub: u32, part: u32) -> Option<Report>
         ensures { result ≡ done_of number sub part }
@@ -97,7 +98,7 @@ impl Report {
         Some(Report { kind })
     }
 
-    /// The report that the sub-plan is opened, and all those before it. None where the number is
+    /// The report that the sub-plan is opened, and all those before it. None if the number is
     /// 0, or the sub-plan above 9999.
     pub fn opened(number: u32, sub: u32) -> Option<Report>
         ensures { result ≡ opened_of number sub }
@@ -110,7 +111,7 @@ impl Report {
     }
 
     /// The report that the reconfiguration of that number leads from the old plan of the issue to
-    /// its new one. None where the number is 0.
+    /// its new one. None if the number is 0.
     pub fn issued(number: u32, issue: Arc<Issue>) -> Option<Report>
         ensures { result ≡ issued_of number (arc_value issue) }
     {

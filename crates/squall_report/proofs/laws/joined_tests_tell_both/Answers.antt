@@ -1,5 +1,0 @@
-use Rattle.squall_report.specs.TestsLaws.{told_by_joined}
-use Rattle.squall_report.proofs.laws.joined_tests_tell_both.Goals as goal
-
-pub returns : goal.returns
-returns c = told_by_joined

@@ -1,5 +1,0 @@
-use Rattle.squall_report.specs.TestsLaws.{told_by_same}
-use Rattle.squall_report.proofs.laws.tests_determine_told.Goals as goal
-
-pub returns : goal.returns
-returns c = told_by_same
