@@ -1,0 +1,8 @@
+mod Zips
+mod Rising
+mod Blocked
+mod Shifted
+mod Replacing
+mod Iterating
+mod Turned
+mod Joining

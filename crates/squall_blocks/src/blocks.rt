@@ -1,0 +1,221 @@
+//! Entries by rising end, in blocks.
+
+ghost use Rattle.std.specs.Prelude.{◌≡◌, ◌↔◌, ◌+◌, ◌-◌, ◌<◌, ◌≤◌, [], ◌++◌, length, slice_get, slice_index, IfOk, IsTrue, OnOk, OnErr};
+ghost use Rattle.squall_blocks.specs.Entries.{RiseFrom, last_from, beyond, up_to, replaced};
+ghost use Rattle.squall_blocks.specs.Blocks.{most};
+
+use crate::edit::{join_around, places_of, replace_at};
+use crate::entries::Entries;
+use crate::iter::Iter;
+use crate::search::{End, ended, near};
+use squall_key::{Bound, Ends};
+use std::alloc::{AllocError, Global};
+use std::marker::Model;
+
+/// So many entries stand in one block at most.
+pub(crate) const MOST: usize = 256;
+
+/// So many entries stand in each of the blocks that are made of more than one block can have.
+const SOME: usize = 192;
+
+/// Entries by rising end, in blocks of at most 256. The bounds at which blocks end are kept beside
+/// them, so that a search looks into one block alone.
+///
+/// Contracts see one list of all entries.
+#[derive(Drop)]
+pub struct Blocks<V: Copy> {
+    pub(crate) lasts: Vec<End>,
+    pub(crate) blocks: Vec<Entries<V>>,
+}
+
+impl<V: Copy> Model for Blocks<V> {
+    ghost use Rattle.std.specs.Prelude.{List, ℕ};
+    ghost use Rattle.squall_blocks.specs.Blocks.{flat, AreBlocks};
+
+    ghost Value = { List (ℕ × V) };
+
+    ghost view = { λ s. flat s.blocks.items };
+
+    ghost invariant = { λ s. AreBlocks s.lasts.items s.blocks.items };
+}
+
+/// How many entries stand in each block that is made of so many.
+fn block_len(len: usize) -> usize
+    ensures some { 0 < result }
+    ensures few { result ≤ most }
+{
+    let blocks = len / SOME + 1;
+    (len / blocks).min(MOST - 1) + 1
+}
+
+/// The bound at which the block in front of a place ends, `least` if there is none.
+fn last_before(lasts: &[End], at: usize, least: Bound) -> Bound
+    requires { at ≤ length lasts.now }
+    ensures none { at ≡ 0 → result ≡ least }
+    ensures some { 0 < at → result ≡ slice_index lasts.now (at - 1) }
+{
+    if at == 0 { least } else { lasts[at - 1].end() }
+}
+
+impl<V: Copy> Blocks<V> {
+    /// No entries. It takes no memory.
+    pub fn new(alloc: Global) -> Blocks<V>
+        ensures { result ≡ [] }
+    {
+        Blocks {
+            lasts: Vec::new(alloc),
+            blocks: Vec::new(alloc),
+        }
+    }
+
+    /// The entries in blocks. An error means that an allocation failed.
+    pub fn of(alloc: Global, entries: Entries<V>) -> Result<Blocks<V>, AllocError>
+        requires { RiseFrom 0 entries }
+        ensures { IfOk result (λ b. b ≡ entries) }
+    {
+        if entries.len() > MOST {
+            return Blocks::cut(alloc, &entries);
+        }
+        let mut blocks = Blocks::new(alloc);
+        if entries.len() > 0 {
+            blocks.append(entries)?;
+        }
+        Ok(blocks)
+    }
+
+    /// The entries in blocks that are about as long as each other.
+    fn cut(alloc: Global, entries: &Entries<V>) -> Result<Blocks<V>, AllocError>
+        requires { RiseFrom 0 entries.now }
+        ensures { IfOk result (λ b. b ≡ entries.now) }
+    {
+        let mut blocks = Blocks::new(alloc);
+        let len = entries.len();
+        let size = block_len(len);
+        let mut at = 0;
+        while at < len {
+            let end = at + size.min(len - at);
+            let block = entries.part(alloc, at, end)?;
+            blocks.append(block)?;
+            at = end;
+        }
+        Ok(blocks)
+    }
+
+    /// Adds a block at the end. An error means that an allocation failed: the entries are then as
+    /// they were.
+    fn append(&mut self, block: Entries<V>) -> Result<(), AllocError>
+        requires some { 0 < length block }
+        requires few { length block ≤ most }
+        requires rise { RiseFrom (last_from 0 self.old) block }
+        ensures ok { OnOk result (self.new ≡ self.old ++ block) }
+        ensures err { OnErr result (self.new ≡ self.old) }
+    {
+        self.lasts.reserve(1)?;
+        self.blocks.reserve(1)?;
+        let last = block.last_end();
+        self.lasts.push_reserved(last);
+        self.blocks.push_reserved(block);
+        Ok(())
+    }
+
+    /// Whether there are no entries.
+    pub fn is_empty(&self) -> bool
+        ensures { IsTrue result ↔ (length self.now ≡ 0) }
+    {
+        let count = self.blocks.len();
+        if count == 0 {
+            return true;
+        }
+        false
+    }
+
+    /// The first entry that ends beyond the key.
+    pub fn above(&self, key: Bound) -> Option<(Bound, V)>
+        ensures { result ≡ slice_get (beyond key self.now) 0 }
+    {
+        let at = ended(&self.lasts, key);
+        if at >= self.blocks.len() {
+            return None;
+        }
+        self.blocks[at].above(key)
+    }
+
+    /// The bound at which the entry above the key begins, if the first begins at `least`: there the
+    /// last of the entries ends that end at the key or before it.
+    pub fn end_before(&self, key: Bound, least: Bound) -> Bound
+        ensures { result ≡ last_from least (up_to key self.now) }
+    {
+        let at = ended(&self.lasts, key);
+        let last = last_before(&self.lasts, at, least);
+        if at >= self.blocks.len() {
+            return last;
+        }
+        self.blocks[at].end_before(key, last)
+    }
+
+    /// The entries, by rising end.
+    pub fn iter(&self) -> Iter<'_, V>
+        ensures { result ≡ self.now }
+    {
+        Iter::over(&[], &[], &self.blocks)
+    }
+
+    /// The entries that end beyond the key, by rising end.
+    pub fn iter_from(&self, key: Bound) -> Iter<'_, V>
+        ensures { result ≡ beyond key self.now }
+    {
+        let at = ended(&self.lasts, key);
+        if at >= self.blocks.len() {
+            return Iter::over(&[], &[], &[]);
+        }
+        let block = &self.blocks[at];
+        let place = block.ended(key);
+        let (ends, values) = block.lists();
+        Iter::over(&ends[place..], &values[place..], &self.blocks[at + 1..])
+    }
+
+    /// Puts the fresh entries in place of those that end beyond `from` and not beyond `to`. An
+    /// error means that an allocation failed: the entries are then as they were.
+    pub fn replace(
+        &mut self,
+        alloc: Global,
+        from: Bound,
+        to: Bound,
+        fresh: &Entries<V>,
+    ) -> Result<(), AllocError>
+        requires rise { RiseFrom from fresh.now }
+        requires last { last_from from fresh.now ≤ to }
+        ensures ok { OnOk result (self.new ≡ replaced from to fresh.now self.old) }
+        ensures err { OnErr result (self.new ≡ self.old) }
+    {
+        if self.blocks.is_empty() {
+            let made = Blocks::cut(alloc, fresh)?;
+            *self = made;
+            return Ok(());
+        }
+        let at = places_of(&self.lasts, &self.blocks, from, to);
+        replace_at(
+            alloc,
+            &mut self.lasts,
+            &mut self.blocks,
+            from,
+            to,
+            at,
+            fresh,
+        )?;
+        self.join_near(alloc, from);
+        Ok(())
+    }
+
+    /// Joins the block that is looked into for a key with its neighbours, if they have few entries
+    /// together.
+    pub(crate) fn join_near(&mut self, alloc: Global, key: Bound)
+        ensures { self.new ≡ self.old }
+    {
+        if self.blocks.is_empty() {
+            return;
+        }
+        let at = near(&self.lasts, key);
+        join_around(alloc, &mut self.lasts, &mut self.blocks, at);
+    }
+}

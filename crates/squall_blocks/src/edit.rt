@@ -1,0 +1,245 @@
+//! Edits of blocks.
+
+ghost use Rattle.std.specs.Prelude.{◌≡◌, ◌+◌, ◌-◌, ◌<◌, ◌≤◌, [], ◌∷◌, ◌++◌, length, take, drop, slice_index_or, IsTrue, IfOk, OnOk, OnErr};
+ghost use Rattle.std.specs.List.{splice};
+ghost use Rattle.squall_blocks.specs.Entries.{RiseFrom, replaced};
+ghost use Rattle.squall_blocks.specs.Blocks.{flat, most, few, joined_at, AreBlocks, IsEdit};
+
+use crate::blocks::{Blocks, MOST};
+use crate::entries::Entries;
+use crate::ready::splice_both;
+use crate::search::{End, near};
+use squall_key::Bound;
+use std::alloc::{AllocError, Global};
+
+/// Two neighbours that have no more entries together are made one block.
+const FEW: usize = 128;
+
+/// The places of an edit: the blocks of the first and the last entry that goes, how many entries of
+/// the one stay, and from where on those of the other stay.
+#[derive(Clone, Copy)]
+pub(crate) struct Places {
+    pub(crate) first: usize,
+    pub(crate) start: usize,
+    pub(crate) end: usize,
+    pub(crate) stop: usize,
+}
+
+/// The places of an edit between two keys.
+pub(crate) fn places_of<V: Copy>(
+    lasts: &Vec<End>,
+    blocks: &Vec<Entries<V>>,
+    from: Bound,
+    to: Bound,
+) -> Places
+    requires blocks { AreBlocks lasts.now.items blocks.now.items }
+    requires some { 0 < length blocks.now.items }
+    requires order { from ≤ to }
+    ensures edit { IsEdit lasts.now.items blocks.now.items from to result.first result.end result.start result.stop }
+    ensures order { result.first ≡ result.end → result.start ≤ result.stop }
+{
+    let first = near(lasts, from);
+    let end = near(lasts, to);
+    let head = &blocks[first];
+    let tail = &blocks[end];
+    let start = head.ended(from);
+    let stop = tail.ended(to);
+    Places {
+        first,
+        start,
+        end,
+        stop,
+    }
+}
+
+/// Whether an edit stays in one block of so many entries: with so many fresh ones it is then
+/// neither empty nor too long.
+fn fits(at: Places, len: usize, more: usize) -> bool
+    requires order { at.first ≡ at.end → at.start ≤ at.stop }
+    requires within { at.first ≡ at.end → at.stop ≤ len }
+    ensures one { IsTrue result → at.first ≡ at.end }
+    ensures some { IsTrue result → 0 < len - (at.stop - at.start) + more }
+    ensures few { IsTrue result → len - (at.stop - at.start) + more ≤ most }
+{
+    if at.first != at.end {
+        return false;
+    }
+    let left = len - (at.stop - at.start);
+    more <= MOST && left <= MOST - more && (left > 0 || more > 0)
+}
+
+/// Makes an edit that stays in one block.
+fn replace_within<V: Copy>(
+    lasts: &mut Vec<End>,
+    blocks: &mut Vec<Entries<V>>,
+    from: Bound,
+    to: Bound,
+    at: Places,
+    fresh: &Entries<V>,
+) -> Result<(), AllocError>
+    requires edit { IsEdit lasts.old.items blocks.old.items from to at.first at.first at.start at.stop }
+    requires order { at.start ≤ at.stop }
+    requires rise { RiseFrom 0 (replaced from to fresh.now (flat blocks.old.items)) }
+    requires some { 0 < length (splice (slice_index_or blocks.old.items at.first []) at.start at.stop fresh.now) }
+    requires few { length (splice (slice_index_or blocks.old.items at.first []) at.start at.stop fresh.now) ≤ most }
+    ensures blocks { AreBlocks lasts.new.items blocks.new.items }
+    ensures ok { OnOk result (flat blocks.new.items ≡ replaced from to fresh.now (flat blocks.old.items)) }
+    ensures err { OnErr result (flat blocks.new.items ≡ flat blocks.old.items) }
+{
+    let block = &mut blocks[at.first];
+    block.replace(at.start, at.stop, fresh)?;
+    let last = block.last_end();
+    lasts[at.first] = last;
+    Ok(())
+}
+
+/// The blocks that come in place of those of an edit, from the first to the last.
+pub(crate) fn pieces<V: Copy>(
+    alloc: Global,
+    lasts: &Vec<End>,
+    blocks: &Vec<Entries<V>>,
+    from: Bound,
+    to: Bound,
+    at: Places,
+    fresh: &Entries<V>,
+) -> Result<Blocks<V>, AllocError>
+    requires edit { IsEdit lasts.now.items blocks.now.items from to at.first at.end at.start at.stop }
+    requires rise { RiseFrom 0 (replaced from to fresh.now (flat blocks.now.items)) }
+    ensures { IfOk result (λ m. m
+        ≡ take at.start (slice_index_or blocks.now.items at.first []) ++ (fresh.now ++ drop at.stop (slice_index_or blocks.now.items at.end []))) }
+{
+    let _count = lasts.len();
+    let head = &blocks[at.first];
+    let tail = &blocks[at.end];
+    let whole = Entries::joined(alloc, head, at.start, fresh, tail, at.stop)?;
+    Blocks::of(alloc, whole)
+}
+
+/// Makes an edit by new blocks.
+fn replace_across<V: Copy>(
+    alloc: Global,
+    lasts: &mut Vec<End>,
+    blocks: &mut Vec<Entries<V>>,
+    from: Bound,
+    to: Bound,
+    at: Places,
+    fresh: &Entries<V>,
+) -> Result<(), AllocError>
+    requires edit { IsEdit lasts.old.items blocks.old.items from to at.first at.end at.start at.stop }
+    requires rise { RiseFrom 0 (replaced from to fresh.now (flat blocks.old.items)) }
+    ensures blocks { AreBlocks lasts.new.items blocks.new.items }
+    ensures ok { OnOk result (flat blocks.new.items ≡ replaced from to fresh.now (flat blocks.old.items)) }
+    ensures err { OnErr result (flat blocks.new.items ≡ flat blocks.old.items) }
+{
+    let middle = pieces(alloc, lasts, blocks, from, to, at, fresh)?;
+    let Blocks {
+        lasts: middle_lasts,
+        blocks: middle_blocks,
+    } = middle;
+    splice_both(
+        lasts,
+        blocks,
+        at.first,
+        at.end + 1,
+        &middle_lasts,
+        middle_blocks,
+    )?;
+    Ok(())
+}
+
+/// Makes an edit. An error means that an allocation failed: the entries are then as they were.
+pub(crate) fn replace_at<V: Copy>(
+    alloc: Global,
+    lasts: &mut Vec<End>,
+    blocks: &mut Vec<Entries<V>>,
+    from: Bound,
+    to: Bound,
+    at: Places,
+    fresh: &Entries<V>,
+) -> Result<(), AllocError>
+    requires edit { IsEdit lasts.old.items blocks.old.items from to at.first at.end at.start at.stop }
+    requires order { at.first ≡ at.end → at.start ≤ at.stop }
+    requires rise { RiseFrom 0 (replaced from to fresh.now (flat blocks.old.items)) }
+    ensures blocks { AreBlocks lasts.new.items blocks.new.items }
+    ensures ok { OnOk result (flat blocks.new.items ≡ replaced from to fresh.now (flat blocks.old.items)) }
+    ensures err { OnErr result (flat blocks.new.items ≡ flat blocks.old.items) }
+{
+    let head = &blocks[at.first];
+    if fits(at, head.len(), fresh.len()) {
+        return replace_within(lasts, blocks, from, to, at, fresh);
+    }
+    replace_across(alloc, lasts, blocks, from, to, at, fresh)
+}
+
+/// Makes one block of the two at a place and behind it.
+fn join<V: Copy>(
+    alloc: Global,
+    lasts: &mut Vec<End>,
+    blocks: &mut Vec<Entries<V>>,
+    at: usize,
+) -> Result<(), AllocError>
+    requires blocks { AreBlocks lasts.old.items blocks.old.items }
+    requires within { at + 1 < length blocks.old.items }
+    requires few { length (slice_index_or blocks.old.items at []) + length (slice_index_or blocks.old.items (at + 1) []) ≤ most }
+    ensures blocks { AreBlocks lasts.new.items blocks.new.items }
+    ensures same { flat blocks.new.items ≡ flat blocks.old.items }
+    ensures one { OnOk result (blocks.new.items
+        ≡ splice blocks.old.items at (at + 2) ((slice_index_or blocks.old.items at [] ++ slice_index_or blocks.old.items (at + 1) []) ∷ [])) }
+    ensures err { OnErr result (blocks.new.items ≡ blocks.old.items) }
+{
+    let head = &blocks[at];
+    let tail = &blocks[at + 1];
+    let none = Entries::new(alloc);
+    let whole = Entries::joined(alloc, head, head.len(), &none, tail, 0)?;
+    let last = whole.last_end();
+    let mut fresh = Vec::with_capacity(alloc, 1)?;
+    fresh.push(whole)?;
+    splice_both(lasts, blocks, at, at + 2, &[last], fresh)?;
+    Ok(())
+}
+
+/// Makes one block of the two at a place and behind it, if both are there and have few entries
+/// together.
+fn join_few<V: Copy>(
+    alloc: Global,
+    lasts: &mut Vec<End>,
+    blocks: &mut Vec<Entries<V>>,
+    at: usize,
+) -> Result<(), AllocError>
+    requires blocks { AreBlocks lasts.old.items blocks.old.items }
+    ensures blocks { AreBlocks lasts.new.items blocks.new.items }
+    ensures same { flat blocks.new.items ≡ flat blocks.old.items }
+    ensures joined { OnOk result (blocks.new.items ≡ joined_at at blocks.old.items) }
+    ensures err { OnErr result (blocks.new.items ≡ blocks.old.items) }
+{
+    let count = blocks.len();
+    let next = at.saturating_add(1);
+    if next >= count {
+        return Ok(());
+    }
+    let head = &blocks[at];
+    let tail = &blocks[next];
+    let len = head.len();
+    let more = tail.len();
+    let both = len.saturating_add(more);
+    if both > FEW {
+        return Ok(());
+    }
+    join(alloc, lasts, blocks, at)
+}
+
+/// Joins a block with the one behind it, then with the one in front of it, if they have few entries
+/// together. An allocation may fail in either: these blocks then stay as they are.
+pub(crate) fn join_around<V: Copy>(
+    alloc: Global,
+    lasts: &mut Vec<End>,
+    blocks: &mut Vec<Entries<V>>,
+    at: usize,
+)
+    requires blocks { AreBlocks lasts.old.items blocks.old.items }
+    ensures blocks { AreBlocks lasts.new.items blocks.new.items }
+    ensures same { flat blocks.new.items ≡ flat blocks.old.items }
+{
+    let _behind = join_few(alloc, lasts, blocks, at);
+    let _front = join_few(alloc, lasts, blocks, at.saturating_sub(1));
+}

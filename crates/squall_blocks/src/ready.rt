@@ -1,0 +1,115 @@
+//! Splices that cannot fail, in room that was reserved, and splices of two lists at once.
+
+ghost use Rattle.std.specs.Prelude.{◌≡◌, ◌+◌, ◌-◌, ◌≤◌, ◌++◌, length, take, drop, vec_len, vec_capacity, OnOk, OnErr};
+ghost use Rattle.std.specs.List.{splice, copy_within};
+
+use std::alloc::AllocError;
+
+/// Moves the items from a place on up by some places, to the end.
+fn move_up_from<T: Copy>(items: &mut [T], first: usize, by: usize)
+    requires { first + by ≤ length items.old }
+    ensures { items.new ≡ copy_within items.old first (length items.old - by) (first + by) }
+{
+    let kept = items.len() - by;
+    items.copy_within(first..kept, first + by);
+}
+
+/// Moves the items from `end` on to the place `at`. Items that have the wrong place until others
+/// are written over them stand before.
+fn move_tail<T: Copy>(items: &mut Vec<T>, end: usize, at: usize, fresh: &[T])
+    requires within { end ≤ length items.old.items }
+    requires fits { at ≤ end + length fresh.now }
+    requires room { vec_len items.old + at ≤ vec_capacity items.old + end }
+    ensures capacity { vec_capacity items.old ≤ vec_capacity items.new }
+    ensures items { items.new.items ≡ take at (items.old.items ++ fresh.now) ++ drop end items.old.items }
+{
+    if at < end {
+        let len = items.len();
+        items.copy_within(end..len, at);
+        items.truncate(len - (end - at));
+    } else {
+        let _done = items.extend_from_slice(&fresh[..at - end]);
+        move_up_from(items, end, at - end);
+    }
+}
+
+/// Writes items over those from a place on.
+fn write_over<T: Copy>(items: &mut Vec<T>, first: usize, fresh: &[T])
+    requires { first + length fresh.now ≤ length items.old.items }
+    ensures capacity { vec_capacity items.old ≤ vec_capacity items.new }
+    ensures items { items.new.items ≡ take first items.old.items ++ (fresh.now ++ drop (first + length fresh.now) items.old.items) }
+{
+    items[first..first + fresh.len()].copy_from_slice(fresh);
+}
+
+/// Puts other items in place of those from `first` to `end`. What follows is moved once.
+pub(crate) fn replace_ready<T: Copy>(items: &mut Vec<T>, first: usize, end: usize, fresh: &[T])
+    requires order { first ≤ end }
+    requires within { end ≤ length items.old.items }
+    requires room { vec_len items.old + length fresh.now ≤ vec_capacity items.old + (end - first) }
+    ensures capacity { vec_capacity items.old ≤ vec_capacity items.new }
+    ensures items { items.new.items ≡ splice items.old.items first end fresh.now }
+{
+    move_tail(items, end, first + fresh.len(), fresh);
+    write_over(items, first, fresh);
+}
+
+/// Turns the items from a place on.
+fn turn_from<U>(items: &mut Vec<U>, from: usize, by: usize)
+    requires within { from + by ≤ length items.old.items }
+    ensures items { items.new.items ≡ take from items.old.items ++ (drop by (drop from items.old.items) ++ take by (drop from items.old.items)) }
+{
+    let tail = &mut items[from..];
+    tail.rotate_left(by);
+}
+
+/// Puts items at the end, and takes some out.
+fn swap_out<U: Drop>(items: &mut Vec<U>, first: usize, end: usize, fresh: Vec<U>)
+    requires order { first ≤ end }
+    requires within { end ≤ length items.old.items }
+    requires room { vec_len items.old + vec_len fresh ≤ vec_capacity items.old }
+    ensures { items.new.items ≡ take first items.old.items ++ (drop end items.old.items ++ fresh.items) }
+{
+    let mut fresh = fresh;
+    let len = items.len();
+    let more = fresh.len();
+    let _done = items.append(&mut fresh);
+    turn_from(items, first, end - first);
+    items.truncate(len - (end - first) + more);
+}
+
+/// Puts other items in place of those from `first` to `end`, in room that was reserved. It
+/// cannot fail, and needs no copies.
+pub(crate) fn exchange_ready<U: Drop>(items: &mut Vec<U>, first: usize, end: usize, fresh: Vec<U>)
+    requires order { first ≤ end }
+    requires within { end ≤ length items.old.items }
+    requires room { vec_len items.old + vec_len fresh ≤ vec_capacity items.old }
+    ensures { items.new.items ≡ splice items.old.items first end fresh.items }
+{
+    let rest = items.len() - end;
+    swap_out(items, first, end, fresh);
+    turn_from(items, first, rest);
+}
+
+/// Puts other items in place of those from `first` to `end`, in both lists or in none.
+pub(crate) fn splice_both<T: Copy, U: Drop>(
+    keys: &mut Vec<T>,
+    items: &mut Vec<U>,
+    first: usize,
+    end: usize,
+    fresh_keys: &[T],
+    fresh_items: Vec<U>,
+) -> Result<(), AllocError>
+    requires order { first ≤ end }
+    requires keys { end ≤ length keys.old.items }
+    requires items { end ≤ length items.old.items }
+    ensures keys { OnOk result (keys.new.items ≡ splice keys.old.items first end fresh_keys.now) }
+    ensures items { OnOk result (items.new.items ≡ splice items.old.items first end fresh_items.items) }
+    ensures keys_err { OnErr result (keys.new.items ≡ keys.old.items) }
+    ensures items_err { OnErr result (items.new.items ≡ items.old.items) }
+{
+    keys.reserve(fresh_keys.len())?;
+    let _gone = items.splice(first..end, fresh_items)?;
+    replace_ready(keys, first, end, fresh_keys);
+    Ok(())
+}
