@@ -1,3 +1,4 @@
 pub mod Places
 pub mod Searching
 pub mod Remains
+pub mod Joining

@@ -1,14 +1,12 @@
 -- What is left of the entries of a map beyond another.
-use Rattle.std.proofs.Common.{◌≡◌, ◌≢◌, ℕ, ◌+◌, ◌<◌, ◌≤◌, Bool, true, false, cond, T, List, [], ◌∷◌, ◌++◌, length, get_or, take, drop, Option, None, Some, refl, sym, ap, subst, ◌∙◌, arith, inl, inr, append-nil}
+use Rattle.std.proofs.Common.{◌≡◌, ℕ, ◌+◌, ◌<◌, ◌≤◌, Bool, T, List, [], ◌∷◌, ◌++◌, length, get_or, take, Option, Some, sym, ap, subst, ◌∙◌, arith}
 use Rattle.std.specs.declared.cmp.Ordering.{Ordering}
 use Rattle.std.specs.declared.cmp.Ordering.TheVariants.{Less}
-use Rattle.std.specs.List.{flat_map}
 use Rattle.std.specs.Cmp.{IsTotalOrder}
 use Rattle.std.specs.FinMap.Entries.{is_sorted, find}
 use Rattle.std.proofs.lemmas.List.{get_or_default, take_more, flat_map_more}
-use Rattle.squall_join.specs.Laws.{JoinLaws}
 use Rattle.squall_join.specs.Entries.{IsPlace, IsFrom}
-use Rattle.squall_join.specs.Rests.{BeyondLaws, found_beyond, entry_of, entry_beyond, map_beyond}
+use Rattle.squall_join.specs.Rests.{found_beyond, entry_of, entry_beyond, map_beyond}
 use Rattle.squall_join.proofs.Places.{sorted_at}
 
 -- one more entry

@@ -5,7 +5,7 @@ use Rattle.std.proofs.lemmas.Bool.Decides.{nat_tests}
 use Rattle.squall_join.specs.declared.flat.Flat.{Flat}
 use Rattle.squall_join.specs.declared.flat.Flat.TheVariants.{Unknown, One, Clash}
 use Rattle.squall_join.specs.Laws.{JoinLaws}
-use Rattle.squall_join.specs.Flats.{IsExactEq, flat_bottom, flat_is, flat_join}
+use Rattle.squall_join.specs.Flats.{IsExactEq, flat_is, flat_join}
 
 pub number_exact : IsExactEq {T = ℕ} (λ _. Unit {0}) ◌==◌
 number_exact = record {

@@ -1,9 +1,9 @@
 -- The laws of what a map has beyond another (this project).
-use Rattle.std.specs.Prelude.{◌≡◌, ◌≢◌, ℕ, Bool, true, false, ◌&&◌, cond, T, List, [], ◌∷◌, ◌++◌, Option, None, Some, ◌↔◌, refl}
+use Rattle.std.specs.Prelude.{◌≡◌, ◌≢◌, Bool, true, false, ◌&&◌, cond, T, List, [], ◌∷◌, ◌++◌, Option, None, Some, ◌↔◌, refl}
 use Rattle.std.proofs.Common.{sym, ap, subst, ◌∙◌}
 use Rattle.std.proofs.Math.Bool.{and-true}
-use Rattle.std.specs.List.{flat_map, list_all, AllByRecursion}
-use Rattle.std.proofs.lemmas.Bool.{true≢false, false≢true, and_parts}
+use Rattle.std.specs.List.{AllByRecursion}
+use Rattle.std.proofs.lemmas.Bool.{true≢false, and_parts}
 use Rattle.std.specs.declared.cmp.Ordering.{Ordering}
 use Rattle.std.specs.Ordering.{is_eq, eq_by_cmp}
 use Rattle.std.specs.Cmp.{IsTotalOrder, tied_itself}
@@ -13,10 +13,10 @@ use Rattle.squall_join.specs.Laws.{JoinLaws, Covers}
 use Rattle.squall_join.specs.Entries.{merged, IsKept, IsMap}
 use Rattle.squall_join.specs.Looked.{looked}
 use Rattle.squall_join.specs.LookedLaws.{looked_merged, same_looked_map}
-use Rattle.squall_join.specs.MapLaws.{both, first, second, equal, find_tied_below, merged_is, map_laws, find_All, Found, values_of_kept}
+use Rattle.squall_join.specs.MapLaws.{both, first, second, equal, find_tied_below, merged_is, find_All, Found, values_of_kept}
 use Rattle.squall_join.specs.Units.{entry_unit}
 use Rattle.squall_join.specs.BeyondLaws.{bottom_covered}
-use Rattle.squall_join.specs.Rests.{BeyondLaws, found_beyond, entry_of, entry_beyond, map_covered, map_beyond}
+use Rattle.squall_join.specs.Rests.{BeyondLaws, found_beyond, entry_of, map_covered, map_beyond}
 
 and_true : (a b : Bool) → a ≡ true → b ≡ true → (a && b) ≡ true
 and_true a b p q = ap (λ x. x && b) p ∙ q

@@ -1,7 +1,6 @@
 -- The laws of pairs (join semilattices: Shapiro et al. 2011).
 use Rattle.std.specs.Prelude.{◌≡◌}
 use Rattle.squall_join.specs.Laws.{JoinLaws}
-use Rattle.squall_join.specs.declared.pair.Pair.{Pair}
 use Rattle.squall_join.specs.Pairs.{pair_of, pair_is, pair_join}
 
 module _ {A B : Type 0} where

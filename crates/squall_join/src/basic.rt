@@ -54,6 +54,10 @@ impl Join for Max {
 
     ghost laws = { max_laws };
 
+    type Ready = ();
+
+    ghost is_ready = { λ _ _ _. Unit {0} };
+
     fn known(&self) {
         let _number = self.number;
     }
@@ -79,8 +83,16 @@ impl Join for Max {
     }
 
     fn join_in(&mut self, _alloc: Global, other: &Max) -> Result<(), AllocError> {
-        self.number = self.number.max(other.number);
+        self.join_ready(other, ());
         Ok(())
+    }
+
+    fn make_ready(&self, _alloc: Global, _other: &Max) -> Result<(), AllocError> {
+        Ok(())
+    }
+
+    fn join_ready(&mut self, other: &Max, _ready: ()) {
+        self.number = self.number.max(other.number);
     }
 }
 
@@ -142,6 +154,10 @@ impl Join for Flag {
 
     ghost laws = { flag_laws };
 
+    type Ready = ();
+
+    ghost is_ready = { λ _ _ _. Unit {0} };
+
     fn known(&self) {}
 
     fn bottom(_alloc: Global) -> Flag {
@@ -165,8 +181,16 @@ impl Join for Flag {
     }
 
     fn join_in(&mut self, _alloc: Global, other: &Flag) -> Result<(), AllocError> {
-        self.is_set = self.is_set | other.is_set;
+        self.join_ready(other, ());
         Ok(())
+    }
+
+    fn make_ready(&self, _alloc: Global, _other: &Flag) -> Result<(), AllocError> {
+        Ok(())
+    }
+
+    fn join_ready(&mut self, other: &Flag, _ready: ()) {
+        self.is_set = self.is_set | other.is_set;
     }
 }
 

@@ -84,6 +84,10 @@ impl<T: Exact> Join for Flat<T> {
 
     ghost laws = { flat_laws T.exact };
 
+    type Ready = Flat<T>;
+
+    ghost is_ready = { λ x y joined. joined ≡ flat_join T.eq x y };
+
     fn known(&self) {
         if let Flat::One(x) = self {
             x.known();
@@ -134,6 +138,14 @@ impl<T: Exact> Join for Flat<T> {
         let joined = self.joined(alloc, other)?;
         *self = joined;
         Ok(())
+    }
+
+    fn make_ready(&self, alloc: Global, other: &Self) -> Result<Self, AllocError> {
+        self.joined(alloc, other)
+    }
+
+    fn join_ready(&mut self, _other: &Self, ready: Self) {
+        *self = ready;
     }
 }
 

@@ -46,6 +46,22 @@ pub trait Join: Drop {
         ensures ok { OnOk result (self.new ≡ join self.old other.now) }
         ensures err { OnErr result (self.new ≡ self.old) };
 
+    /// What a join of two values takes beside them: all that it allocates.
+    type Ready: Drop;
+
+    /// That it was made ready for the join of these two values.
+    ghost is_ready: { Self → Self → Self.Ready → Type 0 };
+
+    /// Makes ready what the join of both takes. It fails only where an allocation fails.
+    fn make_ready(&self, alloc: Global, other: &Self) -> Result<Self::Ready, AllocError>
+        ensures { IfOk result (is_ready self.now other.now) };
+
+    /// Joins the other value into this one, with what was made ready for both. It cannot fail: so
+    /// several values are joined all or not at all, each in place.
+    fn join_ready(&mut self, other: &Self, ready: Self::Ready)
+        requires { is_ready self.old other.now ready }
+        ensures { self.new ≡ join self.old other.now };
+
     /// The laws of the join.
     ghost laws: { JoinLaws is_value bottom join };
 

@@ -2,16 +2,19 @@
 //!
 //! A join of two values is the least value that has all that either has. Joins come in any
 //! order, and any number of times, to the same value.
+//!
+//! Its tests are in `crates/squall_test_values/src/join.rt`.
 #![tactic(auto)]
 
 mod basic;
 mod beyond;
 mod flat;
 mod join;
-mod laws;
+pub mod laws;
 mod map;
 mod merge;
 mod pair;
+mod ready;
 mod rest;
 mod search;
 mod set;
@@ -22,10 +25,6 @@ pub use basic::{Flag, Max};
 pub use beyond::Beyond;
 pub use flat::{Exact, Flat};
 pub use join::Join;
-pub use laws::{
-    beyond_joins_to_the_join, beyond_of_lookups, equal_lookups_equal_maps,
-    join_is_least_upper_bound, join_of_entries, join_of_lookups, maps_lift_facts, pairs_lift_facts,
-};
 pub use map::{JoinMap, MapKey};
 pub use pair::Pair;
 pub use shared::Shared;

@@ -6,13 +6,15 @@ ghost use Rattle.std.proofs.lemmas.Map.Lookups.{CmpEqualImpliesEq, exact_unsigne
 ghost use Rattle.std.specs.declared.cmp.Ordering.TheVariants.{Less};
 ghost use Rattle.squall_join.specs.Entries.{merged, IsMap, IsAt, IsGap};
 ghost use Rattle.squall_join.specs.MapLaws.{map_laws};
+ghost use Rattle.squall_join.specs.InPlace.{IsReadyMap};
 ghost use Rattle.squall_join.specs.Rests.{map_covered, map_beyond};
 ghost use Rattle.squall_join.specs.Units.{entry_unit};
 ghost use Rattle.squall_join.specs.MapBeyondLaws.{map_beyond_laws};
 
 use crate::merge::{merge, push_copies};
+use crate::ready::{ReadyMap, adds_few, join_entries, join_with, make_parts};
 use crate::rest::rests;
-use crate::search::place_of;
+use crate::search::seek;
 use crate::update::Borrowed;
 use crate::{Beyond, Join};
 use std::alloc::{AllocError, Global};
@@ -129,12 +131,7 @@ impl<K: MapKey, V: Join> JoinMap<K, V> {
         ensures found { IfOk result (IsAt K.cmp self.now key) }
         ensures absent { IfErr result (IsGap K.cmp self.now key) }
     {
-        let at = place_of(&self.entries, key);
-        if at < self.entries.len() && self.entries[at].0.cmp(&key).is_eq() {
-            Ok(at)
-        } else {
-            Err(at)
-        }
+        seek(&self.entries, key)
     }
 }
 
@@ -146,6 +143,10 @@ impl<K: MapKey, V: Join> Join for JoinMap<K, V> {
     ghost join = { merged K.cmp V.join };
 
     ghost laws = { map_laws K.total K.exact V.laws };
+
+    type Ready = ReadyMap<K, V, V::Ready>;
+
+    ghost is_ready = { IsReadyMap K.cmp V.is_ready V.join };
 
     fn known(&self) {
         let _ = &self.entries;
@@ -186,17 +187,42 @@ impl<K: MapKey, V: Join> Join for JoinMap<K, V> {
         Ok(JoinMap { entries })
     }
 
-    /// Joins a map of one entry in place: a binary search, and at most one insertion. Of more
-    /// entries it makes the joined map.
+    /// Joins a map of one entry in place: a binary search, and at most one insertion.
+    ///
+    /// Of more entries too it looks at their keys alone, by a search for each, once all is ready
+    /// that their joins take; each new key moves the entries behind it. Only if more than 64 keys
+    /// are new does it make the joined map, which copies each value of both.
     fn join_in(&mut self, alloc: Global, other: &Self) -> Result<(), AllocError> {
         if other.entries.len() == 1 {
             let entry = &other.entries[0];
             let value = &entry.1;
             return self.update_at(alloc, entry.0, &Borrowed { value });
         }
+        if adds_few(&self.entries, &other.entries) {
+            return join_entries(alloc, &mut self.entries, &other.entries);
+        }
         let joined = self.joined(alloc, other)?;
         *self = joined;
         Ok(())
+    }
+
+    /// Makes ready the join at each key of the other map, and room for all entries if keys are new.
+    /// If more than 64 keys are new, it makes the joined map.
+    fn make_ready(&self, alloc: Global, other: &Self) -> Result<Self::Ready, AllocError> {
+        if !adds_few(&self.entries, &other.entries) {
+            let entries = merge(alloc, &self.entries, &other.entries)?;
+            return Ok(ReadyMap::Whole(entries));
+        }
+        let has = self.entries.capacity();
+        let parts = make_parts(alloc, &self.entries, has, &other.entries)?;
+        Ok(ReadyMap::Parts(parts))
+    }
+
+    fn join_ready(&mut self, other: &Self, ready: Self::Ready) {
+        match ready {
+            ReadyMap::Whole(entries) => self.entries = entries,
+            ReadyMap::Parts(parts) => join_with(&mut self.entries, &other.entries, parts),
+        }
     }
 }
 

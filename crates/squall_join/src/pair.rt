@@ -37,6 +37,10 @@ impl<A: Join, B: Join> Join for Pair<A, B> {
 
     ghost laws = { pair_laws A.laws B.laws };
 
+    type Ready = Pair<A::Ready, B::Ready>;
+
+    ghost is_ready = { λ x y ready. A.is_ready x.first y.first ready.first × B.is_ready x.second y.second ready.second };
+
     fn known(&self) {
         self.first.known();
         self.second.known();
@@ -71,8 +75,9 @@ impl<A: Join, B: Join> Join for Pair<A, B> {
         })
     }
 
-    /// Joins one half in place where the other half of the argument is the least value. Else it
-    /// makes the join of the first halves, which takes their place once nothing can fail.
+    /// Joins one half in place if the other half of the argument is the least value. Else it makes
+    /// the join of the first halves ready, and joins them once the second halves are joined: so
+    /// both halves are joined or none.
     fn join_in(&mut self, alloc: Global, other: &Pair<A, B>) -> Result<(), AllocError> {
         if other.second.is_bottom() {
             self.second.known();
@@ -82,10 +87,22 @@ impl<A: Join, B: Join> Join for Pair<A, B> {
             self.first.known();
             return self.second.join_in(alloc, &other.second);
         }
-        let first = self.first.joined(alloc, &other.first)?;
+        let first = self.first.make_ready(alloc, &other.first)?;
         self.second.join_in(alloc, &other.second)?;
-        self.first = first;
+        self.first.join_ready(&other.first, first);
         Ok(())
+    }
+
+    fn make_ready(&self, alloc: Global, other: &Pair<A, B>) -> Result<Self::Ready, AllocError> {
+        Ok(Pair {
+            first: self.first.make_ready(alloc, &other.first)?,
+            second: self.second.make_ready(alloc, &other.second)?,
+        })
+    }
+
+    fn join_ready(&mut self, other: &Pair<A, B>, ready: Self::Ready) {
+        self.first.join_ready(&other.first, ready.first);
+        self.second.join_ready(&other.second, ready.second);
     }
 }
 

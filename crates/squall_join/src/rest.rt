@@ -17,7 +17,8 @@ fn push_rest<K: MapKey, V: Beyond>(
     entry: &(K, V),
     found: Option<&V>,
 ) -> Result<(), AllocError>
-    ensures { OnOk result (out.new.items ≡ out.old.items ++ entry_of entry.now.0 (found_beyond V.covered V.beyond (Some entry.now.1) (option_copied found.entry))) }
+    ensures { OnOk result (out.new.items
+        ≡ out.old.items ++ entry_of entry.now.0 (found_beyond V.covered V.beyond (Some entry.now.1) (option_copied found.entry))) }
 {
     let value = &entry.1;
     let Some(other) = found else {

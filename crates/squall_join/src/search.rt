@@ -1,8 +1,8 @@
 //! Where a key stands among the entries of a map.
 
-ghost use Rattle.std.specs.Prelude.{T, option_copied, ◌≡◌};
+ghost use Rattle.std.specs.Prelude.{T, option_copied, ◌≡◌, IfOk, IfErr};
 ghost use Rattle.std.specs.FinMap.Entries.{is_sorted, find};
-ghost use Rattle.squall_join.specs.Entries.{IsPlace, IsAmong, IsFrom};
+ghost use Rattle.squall_join.specs.Entries.{IsPlace, IsAmong, IsFrom, IsAt, IsGap};
 
 use crate::Join;
 use crate::map::MapKey;
@@ -65,5 +65,19 @@ pub(crate) fn value_at<K: MapKey, V: Join>(entries: &[(K, V)], key: K, at: usize
         Some(&entries[at].1)
     } else {
         None
+    }
+}
+
+/// Where the key is, or where it would go.
+pub(crate) fn seek<K: MapKey, V: Join>(entries: &[(K, V)], key: K) -> Result<usize, usize>
+    requires { T (is_sorted K.cmp entries.now) }
+    ensures found { IfOk result (IsAt K.cmp entries.now key) }
+    ensures absent { IfErr result (IsGap K.cmp entries.now key) }
+{
+    let at = place_of(entries, key);
+    if at < entries.len() && entries[at].0.cmp(&key).is_eq() {
+        Ok(at)
+    } else {
+        Err(at)
     }
 }

@@ -1,4 +1,4 @@
-use Rattle.std.proofs.Common.{Some, is_eq, sym, ap, ◌∙◌, arith}
+use Rattle.std.proofs.Common.{is_eq, sym, ap, ◌∙◌}
 use Rattle.squall_join.proofs.Places.{find_at, find_gap}
 use Rattle.squall_join.proofs.Searching.{found_at_place, gap_at_end, gap_at_place}
 use Rattle.squall_join.proofs.search.value_at.Goals as goal
