@@ -1,7 +1,7 @@
 -- What a merge leaves.
-use Rattle.std.specs.Prelude.{◌≡◌, ℕ, ◌+◌, ◌<◌, ◌==◌, max, length, Bool, true, false, ◌||◌, List, [], ◌∷◌, ◌++◌, Result, Ok, Err, OnOk, OnErr, IsTrue, ◌↔◌, refl}
-use Rattle.std.proofs.Common.{sym, ap, subst, ◌∙◌, take, get_or}
-use Rattle.std.proofs.lemmas.List.{take_more}
+use Rattle.std.specs.Prelude.{◌≡◌, ℕ, ◌+◌, ◌<◌, ◌≤◌, ◌==◌, max, length, Bool, true, false, ◌||◌, List, [], ◌∷◌, ◌++◌, Result, Ok, Err, OnOk, OnErr, IsTrue, ◌↔◌, refl}
+use Rattle.std.proofs.Common.{sym, ap, subst, ◌∙◌, take, drop, get_or}
+use Rattle.std.proofs.lemmas.List.{take_more, drop_more}
 use Rattle.std.proofs.lemmas.Result.{on_ok_weaker}
 use Rattle.std.specs.declared.alloc.AllocError.{AllocError}
 use Rattle.std.specs.Ordering.{nat_cmp}
@@ -18,19 +18,13 @@ use Rattle.squall_join.specs.declared.flat.Flat.{Flat}
 use Rattle.squall_join.specs.declared.flat.Flat.TheVariants.{Unknown}
 use Rattle.squall_report.specs.ToldLaws.{issued_neutral}
 use Rattle.squall_board.specs.Updates.{issuing_value}
-use Rattle.squall_board.specs.BoardLaws.{board_laws, tells_both, tells_as, same_board, join_is, cell_tells, issue_tells, report_tells, has_both, one_tells, or_false, unknown_at}
+use Rattle.squall_board.specs.BoardLaws.{board_laws, tells_both, same_board, join_is, issue_tells, report_tells, has_both, or_false, unknown_at}
+use Rattle.squall_board.specs.Takes.{Takes, TakesReport, TakesReports, TakesBoard, TakesIssue, taking, board_by}
+use Rattle.squall_board.specs.TakesLaws.{took_as, takes_one}
 
 pub merged_is : (r : Result (Unit {0}) AllocError) (new x y : BoardValue) → OnOk r (new ≡ board_join x y) → OnErr r (new ≡ x) → IsBoard x → IsBoard y → IsBoard new
 merged_is (Ok u) new x y ok err a b = subst IsBoard (sym ok) (join_is x y a b)
 merged_is (Err e) new x y ok err a b = subst IsBoard (sym err) a
-
-pub merged_tells : (r : Result (Unit {0}) AllocError) (new x y z w : BoardValue) → x ≡ z → y ≡ w → OnOk r (new ≡ board_join x y) → IsBoard x → IsBoard y → OnOk r (TellsBoth (told new) (told z) (told w))
-merged_tells r new x y z w is too ok a b = on_ok_weaker r (λ (e : new ≡ board_join x y).
-    subst (λ v. TellsBoth (told new) (told z) (told v)) too (subst (λ v. TellsBoth (told new) (told v) (told y)) is (subst (λ v. TellsBoth (told v) (told x) (told y)) (sym e) (tells_both x y a.nested b.nested)))) ok
-
-pub merged_taken : (r : Result (Unit {0}) AllocError) (new x y z w : BoardValue) → x ≡ z → y ≡ w → OnOk r (new ≡ board_join x y) → IsBoard x → IsBoard y
-    → OnOk r ((rs qs : List (ReportKind PlanPair)) → HasTaken z rs → HasTaken w qs → HasTaken new (rs ++ qs))
-merged_taken r new x y z w is too ok a b = on_ok_weaker r (λ (both : TellsBoth (told new) (told z) (told w)) rs qs h g. has_both (told new) (told z) (told w) rs qs both h g) (merged_tells r new x y z w is too ok a b)
 
 -- ---- what is joined into one of the three maps, where the others stay as they are
 
@@ -81,16 +75,6 @@ issue_not_put (Err e) new x err = ap (λ (issues : Issues). board_of (openings_i
 
 -- ---- what was taken
 
--- more may be told in other words
-pub told_instead : (r : Result (Unit {0}) AllocError) (new old c : BoardValue) (t : Told) → SameTold (told c) t → OnOk r (TellsBoth (told new) (told old) (told c)) → OnOk r (TellsBoth (told new) (told old) t)
-told_instead r new old c t same ok = on_ok_weaker r (λ (both : TellsBoth (told new) (told old) (told c)). tells_as new old c t both same) ok
-
-pub cell_tells_as : (c d : CellPlace) (v w : CellValue) → c ≡ d → v ≡ w → SameTold (told (cell_board c v)) (told_by_cell d w)
-cell_tells_as c d v w p q = subst (λ z. SameTold (told (cell_board c v)) (told_by_cell z w)) p (subst (λ z. SameTold (told (cell_board c v)) (told_by_cell c z)) q (cell_tells c v))
-
-pub issue_tells_as : (n : ℕ) (x y : Flat PlanPair) → x ≡ y → SameTold (told (issue_board n x)) (told_by_issue n y)
-issue_tells_as n x y q = subst (λ z. SameTold (told (issue_board n x)) (told_by_issue n z)) q (issue_tells n x)
-
 -- nothing issued is nothing put in
 pub nothing_put : (b : BoardValue) (n : ℕ) (x : Flat PlanPair) → x ≡ Unknown → b ≡ board_join b (issue_board n x)
 nothing_put b n x e = same_pair _ _ _ _
@@ -104,40 +88,21 @@ nothing_told b n x e = subst (λ v. TellsBoth (told b) (told b) (told_by_issue n
   issues = λ m. sym (ap (both_issued (issued b m)) (sym (unknown_at (n == m))) ∙ issued_neutral (issued b m));
 })
 
-pub nothing_taken : (b : BoardValue) (n : ℕ) (x : Flat PlanPair) → x ≡ Unknown → (rs qs : List (ReportKind PlanPair)) → HasTaken b rs → SameTold (told_by_issue n x) (told_by qs) → HasTaken b (rs ++ qs)
-nothing_taken b n x e rs qs h g = has_both (told b) (told b) (told_by_issue n x) rs qs (nothing_told b n x e) h g
-
--- a board that tells what it told and more has taken the reports that tell as much
-pub taken_too : (r : Result (Unit {0}) AllocError) (new old : BoardValue) (more : Told) → OnOk r (TellsBoth (told new) (told old) more)
-    → OnOk r ((rs qs : List (ReportKind PlanPair)) → HasTaken old rs → SameTold more (told_by qs) → HasTaken new (rs ++ qs))
-taken_too r new old more ok = on_ok_weaker r (λ (both : TellsBoth (told new) (told old) more) rs qs h g. has_both (told new) (told old) more rs qs both h g) ok
-
--- the board of a report has taken that report
-report_taken : (r : ReportKind PlanPair) → HasTaken (report_board r) (r ∷ [])
-report_taken r = record {
-  facts = λ f. (report_tells r).facts f ∙ (one_tells r).facts f;
-  issues = λ n. (report_tells r).issues n ∙ (one_tells r).issues n;
+pub nothing_takes : (b : BoardValue) (n : ℕ) (x : Flat PlanPair) → x ≡ Unknown → TakesIssue b n x b
+nothing_takes b n x e = record {
+  joined = nothing_put b n x e;
+  tells = nothing_told b n x e;
+  taken = λ rs qs h g. has_both (told b) (told b) (told_by_issue n x) rs qs (nothing_told b n x e) h g;
 }
 
-pub took : (r : Result (Unit {0}) AllocError) (new old delta : BoardValue) (report : ReportKind PlanPair) → delta ≡ report_board report → OnOk r ((rs qs : List (ReportKind PlanPair)) → HasTaken old rs → HasTaken delta qs → HasTaken new (rs ++ qs))
-    → OnOk r ((rs : List (ReportKind PlanPair)) → HasTaken old rs → HasTaken new (rs ++ report ∷ []))
-took r new old delta report is ok = on_ok_weaker r (λ (f : (rs qs : List (ReportKind PlanPair)) → HasTaken old rs → HasTaken delta qs → HasTaken new (rs ++ qs)) rs h. f rs (report ∷ []) h (subst (λ d. HasTaken d (report ∷ [])) (sym is) (report_taken report))) ok
+pub took_issue : (r : Result (Unit {0}) AllocError) (old new : BoardValue) (n : ℕ) (x y : Flat PlanPair) → x ≡ y → OnOk r (TakesBoard old (issue_board n x) new) → OnOk r (TakesIssue old n y new)
+took_issue r old new n x y e ok = subst (λ v. OnOk r (TakesIssue old n v new)) e (took_as r old (issue_board n x) new (told (issue_board n x)) (told_by_issue n x) ok (issue_tells n x))
 
-pub took_tells : (r : Result (Unit {0}) AllocError) (new old delta : BoardValue) (report : ReportKind PlanPair) → delta ≡ report_board report → OnOk r (TellsBoth (told new) (told old) (told delta)) → OnOk r (TellsBoth (told new) (told old) (told_by_report report))
-took_tells r new old delta report is ok = on_ok_weaker r (λ (both : TellsBoth (told new) (told old) (told delta)). record {
-  facts = λ f. both.facts f ∙ ap (λ b. says old f || says b f) is ∙ ap (λ x. says old f || x) ((report_tells report).facts f);
-  issues = λ n. both.issues n ∙ ap (λ b. both_issued (issued old n) (issued b n)) is ∙ ap (both_issued (issued old n)) ((report_tells report).issues n);
-}) ok
+pub took_report : (r : Result (Unit {0}) AllocError) (old delta new : BoardValue) (report : ReportKind PlanPair) → delta ≡ report_board report → OnOk r (TakesBoard old delta new) → OnOk r (TakesReport old report new)
+took_report r old delta new report is ok = took_as r old (report_board report) new (told (report_board report)) (told_by_report report) (subst (λ d. OnOk r (TakesBoard old d new)) is ok) (report_tells report)
 
-pub took_all : (r : Result (Unit {0}) AllocError) (new old delta : BoardValue) (reports : List (ReportKind PlanPair)) → HasTaken delta reports → OnOk r ((rs qs : List (ReportKind PlanPair)) → HasTaken old rs → HasTaken delta qs → HasTaken new (rs ++ qs))
-    → OnOk r ((rs : List (ReportKind PlanPair)) → HasTaken old rs → HasTaken new (rs ++ reports))
-took_all r new old delta reports has ok = on_ok_weaker r (λ (f : (rs qs : List (ReportKind PlanPair)) → HasTaken old rs → HasTaken delta qs → HasTaken new (rs ++ qs)) rs h. f rs reports h has) ok
-
-pub took_all_tells : (r : Result (Unit {0}) AllocError) (new old delta : BoardValue) (reports : List (ReportKind PlanPair)) → HasTaken delta reports → OnOk r (TellsBoth (told new) (told old) (told delta)) → OnOk r (TellsBoth (told new) (told old) (told_by reports))
-took_all_tells r new old delta reports has ok = on_ok_weaker r (λ (both : TellsBoth (told new) (told old) (told delta)). record {
-  facts = λ f. both.facts f ∙ ap (λ x. says old f || x) (has.facts f);
-  issues = λ n. both.issues n ∙ ap (both_issued (issued old n)) (has.issues n);
-}) ok
+pub took_all : (r : Result (Unit {0}) AllocError) (old delta new : BoardValue) (reports : List (ReportKind PlanPair)) → delta ≡ board_by reports → HasTaken delta reports → OnOk r (TakesBoard old delta new) → OnOk r (TakesReports old reports new)
+took_all r old delta new reports is has ok = subst (λ d. OnOk r (Takes old d (told_by reports) new)) is (took_as r old delta new (told delta) (told_by reports) ok has)
 
 -- ---- the order of what boards tell
 
@@ -173,5 +138,11 @@ covers_tells r x y z w is too a b iff = subst (λ v. IsTrue r ↔ TellsAll (told
     (λ t. covers_all x y a b (iff.0 t), λ t. iff.1 (all_covered x y a b t)))
 
 -- one more report of a list
-pub next_taken : (new old : BoardValue) (rs : List (ReportKind PlanPair)) (i : ℕ) (r : ReportKind PlanPair) → i < length rs → r ≡ get_or rs i r → HasTaken old (take i rs) → ((qs : List (ReportKind PlanPair)) → HasTaken old qs → HasTaken new (qs ++ r ∷ [])) → HasTaken new (take (i + 1) rs)
-next_taken new old rs i r within is before f = subst (λ l. HasTaken new l) (sym (take_more rs i r within ∙ ap (λ x. take i rs ++ x ∷ []) (sym is))) (f (take i rs) before)
+pub next_taken : (new old : BoardValue) (rs : List (ReportKind PlanPair)) (i : ℕ) (r : ReportKind PlanPair) → i < length rs → r ≡ get_or rs i r → HasTaken old (take i rs) → TakesReport old r new → HasTaken new (take (i + 1) rs)
+next_taken new old rs i r within is before k = subst (λ l. HasTaken new l) (sym (take_more rs i r within ∙ ap (λ x. take i rs ++ x ∷ []) (sym is))) (takes_one old (report_board r) new r (take i rs) k before)
+
+pub next_taking : (new old : BoardValue) (rs : List (ReportKind PlanPair)) (i : ℕ) (r : ReportKind PlanPair) → i < length rs → r ≡ get_or rs i r → taking old (drop i rs) ≡ board_by rs → TakesReport old r new → taking new (drop (i + 1) rs) ≡ board_by rs
+next_taking new old rs i r within is before k =
+    ap (λ b. taking b (drop (i + 1) rs)) k.joined
+    ∙ sym (ap (taking old) (drop_more rs i r within ∙ ap (λ x. x ∷ drop (i + 1) rs) (sym is)))
+    ∙ before

@@ -5,7 +5,7 @@ use Rattle.squall_report.specs.declared.report.ReportKind.{ReportKind}
 use Rattle.squall_report.specs.Issues.{PlanPair}
 use Rattle.squall_report.specs.Facts.{reports_say}
 use Rattle.squall_report.specs.Newest.{IsNewest, newest_by}
-use Rattle.squall_report.specs.Tests.{Tests, tests_say}
+use Rattle.squall_report.specs.Queries.{Queries, queries_say}
 use Rattle.squall_board.specs.Boards.{BoardValue, says}
 use Rattle.squall_board.specs.Newest.{newest_of}
 use Rattle.squall_board.specs.Route.{route}
@@ -23,8 +23,8 @@ course_of_board first b = course_by first (newest_of b first.number)
 abbrev pub course_of_reports : Change → List (ReportKind PlanPair) → Change
 course_of_reports first rs = course_by first (newest_by rs first.number)
 
--- by tests that is the course: the newest after the first, or the first where there is none
-abbrev pub IsCourseBy : Change → Tests → Change → Type 0
+-- by queries that is the course: the newest after the first, or the first where there is none
+abbrev pub IsCourseBy : Change → Queries → Change → Type 0
 IsCourseBy first t c = (newest : Option (ℕ × PlanPair)) × IsNewest t.issued first.number newest × (c ≡ course_by first newest)
 
 -- the route of a board by its course
@@ -35,6 +35,6 @@ route_by_newest first b k = route (course_of_board first b) (says b) k
 abbrev pub route_by_reports : Change → List (ReportKind PlanPair) → ℕ → ℕ
 route_by_reports first rs k = route (course_of_reports first rs) (reports_say rs) k
 
--- by tests the key goes to that partition: it is the route of their course
-abbrev pub IsRoutedBy : Change → Tests → ℕ → ℕ → Type 0
-IsRoutedBy first t k part = (c : Change) × IsCourseBy first t c × (part ≡ route c (tests_say t) k)
+-- by queries the key goes to that partition: it is the route of their course
+abbrev pub IsRoutedBy : Change → Queries → ℕ → ℕ → Type 0
+IsRoutedBy first t k part = (c : Change) × IsCourseBy first t c × (part ≡ route c (queries_say t) k)

@@ -10,10 +10,12 @@ pub use Rattle.squall_report.specs.Cells
 pub use Rattle.squall_report.specs.Facts
 pub use Rattle.squall_report.specs.Told
 pub use Rattle.squall_report.specs.Openings
-pub use Rattle.squall_report.specs.Tests
+pub use Rattle.squall_report.specs.Queries
 pub mod Boards
 pub mod Updates
 pub mod BoardLaws
+pub mod Takes
+pub mod TakesLaws
 pub mod Listed
 pub mod ListedLaws
 pub mod OneListLaws
@@ -28,7 +30,7 @@ pub mod CourseRoute
 pub mod CourseRouteLaws
 pub mod MovesRoute
 pub mod MovesRouteLaws
-pub mod BoardTests
-pub mod BoardTestsLaws
+pub mod BoardQueries
+pub mod BoardQueriesLaws
 pub mod BoardBeyond
 pub mod BoardBeyondLaws

@@ -27,7 +27,7 @@ use Rattle.squall_board.specs.Boards.{CellValue, Parts, Subs, Cells, Openings, B
 use Rattle.squall_board.specs.BoardLaws.{same_board}
 use Rattle.squall_board.specs.Listed.{CellEntry, entry_with, cell_entry, IsCell, cells_of_parts, cells_of_subs, cells_of_numbers, cells_of, AreCellsOfParts, AreCellsOfSubs, AreCellsOfNumbers, entry_says, entries_say, ComesBefore, CellsRise, AreCells, openings_of_counts, openings_of, openings_say, IsOpening, OpeningsRise, AreOpenings, issues_of, entries_issue, IssuesRise, AreIssues, told_by_lists}
 
--- ---- tests
+-- ---- queries
 
 pub or_none : (a b : Bool) → b ≡ false → a ≡ (a || b)
 or_none true b e = refl

@@ -10,8 +10,10 @@ ghost use Rattle.squall_report.specs.Issues.{PlanPair};
 ghost use Rattle.squall_report.specs.Cells.{place_at};
 ghost use Rattle.squall_report.specs.Facts.{Fact, LoadedKey, DonePart, OpenedSub, is_fact};
 ghost use Rattle.squall_join.specs.declared.flat.Flat.TheVariants.{Unknown};
-ghost use Rattle.squall_report.specs.Told.{TellsBoth, TellsAll, told_by_report, told_by};
-ghost use Rattle.squall_board.specs.Boards.{IsBoard, is_nested, HasTaken, empty_board, board_join, report_board, cell_board, opening_board, issue_board, cell_bottom, found_in, cell_of, opened_count, issued, says, told};
+ghost use Rattle.squall_report.specs.Told.{TellsAll};
+ghost use Rattle.squall_board.specs.Boards.{IsBoard, is_nested, HasTaken, openings_in, issues_in, empty_board, cell_bottom, found_in, cell_of};
+ghost use Rattle.squall_board.specs.Boards.{opened_count, issued, says, told};
+ghost use Rattle.squall_board.specs.Takes.{board_by, TakesReport, TakesReports, TakesBoard};
 ghost use Rattle.squall_board.specs.Equal.{is_same_board};
 ghost use Rattle.squall_board.specs.EqualLaws.{boards_equal};
 ghost use Rattle.squall_board.specs.Route.{route};
@@ -40,10 +42,10 @@ type Subs = JoinMap<u32, Parts>;
 type Cells = JoinMap<u32, Subs>;
 
 /// How many sub-plans are opened, by number.
-type Openings = JoinMap<u32, Max>;
+pub(crate) type Openings = JoinMap<u32, Max>;
 
 /// What is issued, by number.
-type Issues = JoinMap<u32, Flat<Shared<Issue>>>;
+pub(crate) type Issues = JoinMap<u32, Flat<Shared<Issue>>>;
 
 /// What was reported: the sub-plans opened and the plans issued under each number, and what was
 /// loaded and is complete at each partition.
@@ -71,7 +73,8 @@ impl Model for Board {
 
 /// The board of a list of reports.
 fn reports_board(alloc: Global, reports: &[Report]) -> Result<Board, AllocError>
-    ensures { IfOk result (λ b. HasTaken b reports.now) }
+    ensures taken { IfOk result (λ b. HasTaken b reports.now) }
+    ensures board { IfOk result (λ b. b ≡ board_by reports.now) }
 {
     let mut board = Board::new(alloc);
     for report in reports {
@@ -114,6 +117,20 @@ impl Board {
         self.parts.second.allocator()
     }
 
+    /// How many sub-plans are opened, by number.
+    pub(crate) fn opening_map(&self) -> &Openings
+        ensures { result.now ≡ openings_in self.now }
+    {
+        &self.parts.first.first
+    }
+
+    /// What is issued, by number.
+    pub(crate) fn issue_map(&self) -> &Issues
+        ensures { result.now ≡ issues_in self.now }
+    {
+        &self.parts.first.second
+    }
+
     /// Changes nothing: after it a proof knows what holds of every board. Its three maps are in
     /// order and without empty parts, its facts lie within the limits of facts, and nothing is
     /// issued under the number 0.
@@ -130,9 +147,7 @@ impl Board {
     /// insertion. It fails where an allocation fails, or where the count of an issue's owners is
     /// full, and then the board is as it was.
     pub fn take(&mut self, report: &Report) -> Result<(), AllocError>
-        ensures board { OnOk result (self.new ≡ board_join self.old (report_board report.now)) }
-        ensures told { OnOk result (TellsBoth (told self.new) (told self.old) (told_by_report report.now)) }
-        ensures taken { OnOk result ((rs : List (ReportKind PlanPair)) → HasTaken self.old rs → HasTaken self.new (rs ++ report.now ∷ [])) }
+        ensures takes { OnOk result (TakesReport self.old report.now self.new) }
         ensures err { OnErr result (self.new ≡ self.old) }
     {
         match report.kind() {
@@ -153,8 +168,7 @@ impl Board {
     /// Takes each report of the list, or none of them. It fails where an allocation fails, and
     /// then the board is as it was.
     pub fn take_all(&mut self, reports: &[Report]) -> Result<(), AllocError>
-        ensures told { OnOk result (TellsBoth (told self.new) (told self.old) (told_by reports.now)) }
-        ensures taken { OnOk result ((rs : List (ReportKind PlanPair)) → HasTaken self.old rs → HasTaken self.new (rs ++ reports.now)) }
+        ensures takes { OnOk result (TakesReports self.old reports.now self.new) }
         ensures err { OnErr result (self.new ≡ self.old) }
     {
         let delta = reports_board(self.allocator(), reports)?;
@@ -164,9 +178,7 @@ impl Board {
     /// Takes all that the other board tells. It fails where an allocation fails, and then the
     /// board is as it was.
     pub fn merge(&mut self, other: &Board) -> Result<(), AllocError>
-        ensures board { OnOk result (self.new ≡ board_join self.old other.now) }
-        ensures told { OnOk result (TellsBoth (told self.new) (told self.old) (told other.now)) }
-        ensures taken { OnOk result ((rs qs : List (ReportKind PlanPair)) → HasTaken self.old rs → HasTaken other.now qs → HasTaken self.new (rs ++ qs)) }
+        ensures takes { OnOk result (TakesBoard self.old other.now self.new) }
         ensures err { OnErr result (self.new ≡ self.old) }
     {
         other.known();
@@ -196,7 +208,7 @@ impl Board {
     pub fn cell_at(&self, cell: CellId) -> Option<&CellParts>
         ensures { option_copied result ≡ cell_of self.now cell }
     {
-        self.found_at(cell.number(), cell.sub(), cell.part())
+        self.found_at(cell.number(), cell.sub(), cell.part().get())
     }
 
     /// Whether a report said the key loaded at the partition, in that sub-plan of that number.
@@ -224,7 +236,7 @@ impl Board {
         ensures count { result ≡ opened_count self.now number }
         ensures facts { (sub : ℕ) → says self.now (OpenedSub number sub) ≡ nat_lt sub result }
     {
-        match self.parts.first.first.get(&number) {
+        match self.opening_map().get(&number) {
             Some(count) => count.get(),
             None => 0,
         }
@@ -235,7 +247,7 @@ impl Board {
     pub fn issuing(&self, number: u32) -> Flat<&Arc<Issue>>
         ensures { flat_map (λ issue. arc_value issue.now) result ≡ issued self.now number }
     {
-        match self.parts.first.second.get(&number) {
+        match self.issue_map().get(&number) {
             Some(Flat::One(issue)) => Flat::One(issue.as_arc()),
             Some(Flat::Clash) => Flat::Clash,
             Some(Flat::Unknown) | None => Flat::Unknown,

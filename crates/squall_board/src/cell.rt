@@ -75,7 +75,7 @@ impl Cell {
     pub fn part(&self) -> u32
         ensures { result ≡ self.now.cell.part }
     {
-        self.place.part()
+        self.place.part().get()
     }
 
     /// Whether the partition has all the keys that the sub-plan brings it.

@@ -7,10 +7,10 @@ ghost use Rattle.squall_report.specs.Issues.{PlanPair};
 ghost use Rattle.squall_report.specs.Told.{told_by_report, told_by, SameTold, TellsBoth};
 ghost use Rattle.squall_report.specs.Openings.{opened_by};
 ghost use Rattle.squall_report.specs.Newest.{newest_by};
-ghost use Rattle.squall_report.specs.Tests.{SameTests, joined_tests, tests_by, tests_by_report, told_by_tests};
+ghost use Rattle.squall_report.specs.Queries.{SameQueries, joined_queries, queries_by, queries_by_report, told_by_queries};
 ghost use Rattle.squall_board.specs.Boards.{BoardValue, HasTaken, opened_count, told};
 ghost use Rattle.squall_board.specs.Newest.{newest_of};
-ghost use Rattle.squall_board.specs.BoardTests.{tests_of};
+ghost use Rattle.squall_board.specs.BoardQueries.{queries_of};
 
 use crate::Board;
 
@@ -26,33 +26,36 @@ pub fn newest_of_taken_reports(board: &Board)
     board.known();
 }
 
-/// A board tells what its tests tell.
-pub fn board_tells_its_tests(board: &Board)
-    ensures { SameTold (told board.now) (told_by_tests (tests_of board.now)) }
+/// The answers of a board to all queries say what it tells.
+pub fn board_tells_its_queries(board: &Board)
+    ensures { SameTold (told board.now) (told_by_queries (queries_of board.now)) }
 {}
 
-/// A board has taken a list of reports exactly where it has the list's tests.
-pub fn taken_where_tests_agree(board: &Board)
-    ensures { (rs : List (ReportKind PlanPair)) → HasTaken board.now rs ↔ SameTests (tests_of board.now) (tests_by rs) }
+/// A board has taken a list of reports exactly if it answers each query as the list does.
+pub fn taken_where_queries_agree(board: &Board)
+    ensures { (rs : List (ReportKind PlanPair)) → HasTaken board.now rs ↔ SameQueries (queries_of board.now) (queries_by rs) }
 {}
 
-/// A board tells what two others tell, and nothing else, exactly where it has the joined tests of
-/// both. So a merge leaves the joined tests.
-pub fn merges_join_tests()
-    ensures { (merged x y : BoardValue) → TellsBoth (told merged) (told x) (told y) ↔ SameTests (tests_of merged) (joined_tests (tests_of x) (tests_of y)) }
+/// A board tells what two others tell, and nothing else, exactly if its answers are the joined
+/// answers of both. So a merge joins answers.
+pub fn merges_join_queries()
+    ensures { (merged x y : BoardValue) → TellsBoth (told merged) (told x) (told y)
+        ↔ SameQueries (queries_of merged) (joined_queries (queries_of x) (queries_of y)) }
 {}
 
 /// A board tells what another tells and what a report or a list of reports tells, and nothing
-/// else, exactly where it has the joined tests of both. So a board that takes reports joins in
-/// their tests.
-pub fn taken_reports_join_tests()
-    ensures report { (after before : BoardValue) (r : ReportKind PlanPair) → TellsBoth (told after) (told before) (told_by_report r) ↔ SameTests (tests_of after) (joined_tests (tests_of before) (tests_by_report r)) }
-    ensures list { (after before : BoardValue) (rs : List (ReportKind PlanPair)) → TellsBoth (told after) (told before) (told_by rs) ↔ SameTests (tests_of after) (joined_tests (tests_of before) (tests_by rs)) }
+/// else, exactly if its answers are the joined answers of both. So a board that takes reports joins
+/// in their answers.
+pub fn taken_reports_join_queries()
+    ensures report { (after before : BoardValue) (r : ReportKind PlanPair) → TellsBoth (told after) (told before) (told_by_report r)
+        ↔ SameQueries (queries_of after) (joined_queries (queries_of before) (queries_by_report r)) }
+    ensures list { (after before : BoardValue) (rs : List (ReportKind PlanPair)) → TellsBoth (told after) (told before) (told_by rs)
+        ↔ SameQueries (queries_of after) (joined_queries (queries_of before) (queries_by rs)) }
 {}
 
-/// Boards with the same tests are equal.
-pub fn same_tests_equal_boards(first: &Board, second: &Board)
-    ensures { SameTests (tests_of first.now) (tests_of second.now) → first.now ≡ second.now }
+/// Boards that answer all queries alike are equal.
+pub fn same_queries_equal_boards(first: &Board, second: &Board)
+    ensures { SameQueries (queries_of first.now) (queries_of second.now) → first.now ≡ second.now }
 {
     first.known();
     second.known();

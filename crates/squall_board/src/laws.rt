@@ -9,6 +9,21 @@ ghost use Rattle.squall_report.specs.Told.{told_by, SameTold, AreSameReports};
 ghost use Rattle.squall_board.specs.Boards.{HasTaken, says, issued, told};
 
 use crate::Board;
+pub use crate::beyond::{beyond_covered_is_empty, one_beyond};
+pub use crate::facts_laws::{
+    board_tells_its_queries, merges_join_queries, newest_of_taken_reports,
+    same_queries_equal_boards, taken_openings_count, taken_reports_join_queries,
+    taken_where_queries_agree,
+};
+pub use crate::listed::{
+    cells_at_their_places, lists_determine_the_board, lists_tell_the_board, one_list_of_cells,
+    one_list_of_issues, one_list_of_openings,
+};
+pub use crate::route_laws::{
+    coming_by_the_cell, course_by_board_queries, course_by_report_queries, course_of_taken_reports,
+    moves_give_the_route, one_course, one_route, route_by_board_queries, route_by_report_queries,
+    taken_reports_route,
+};
 
 /// Boards that tell the same are equal.
 pub fn equal_facts_equal_boards(first: &Board, second: &Board)
@@ -21,7 +36,8 @@ pub fn equal_facts_equal_boards(first: &Board, second: &Board)
 /// Boards are equal that say the same of each fact within the limits of facts (so of keys below
 /// the top alone), and issue the same under each number from 1 on.
 pub fn equal_facts_within_limits(first: &Board, second: &Board)
-    ensures { ((fact : Fact) → is_fact fact ≡ true → says first.now fact ≡ says second.now fact) → ((number : ℕ) → 1 ≤ number → issued first.now number ≡ issued second.now number) → first.now ≡ second.now }
+    ensures { ((fact : Fact) → is_fact fact ≡ true → says first.now fact ≡ says second.now fact)
+        → ((number : ℕ) → 1 ≤ number → issued first.now number ≡ issued second.now number) → first.now ≡ second.now }
 {
     first.known();
     second.known();
@@ -42,7 +58,8 @@ pub fn facts_lie_within_the_limits(board: &Board)
 /// That a board has taken a list is ensured by [`Board::new`], [`Board::take`],
 /// [`Board::take_all`] and [`Board::merge`].
 pub fn same_reports_equal_boards(first: &Board, second: &Board)
-    ensures told { (rs qs : List (ReportKind PlanPair)) → HasTaken first.now rs → HasTaken second.now qs → SameTold (told_by rs) (told_by qs) → first.now ≡ second.now }
+    ensures told { (rs qs : List (ReportKind PlanPair)) → HasTaken first.now rs → HasTaken second.now qs
+        → SameTold (told_by rs) (told_by qs) → first.now ≡ second.now }
     ensures reports { (rs qs : List (ReportKind PlanPair)) → HasTaken first.now rs → HasTaken second.now qs → AreSameReports rs qs → first.now ≡ second.now }
 {
     first.known();

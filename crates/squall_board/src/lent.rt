@@ -2,7 +2,8 @@
 
 ghost use Rattle.std.specs.Prelude.{◌≡◌, ◌++◌, map, IfOk, OnOk};
 ghost use Rattle.squall_board.specs.Boards.{cells_in};
-ghost use Rattle.squall_board.specs.Listed.{AreCellsOfParts, AreCellsOfSubs, AreCellsOfNumbers, AreSomeRows, cell_entry, cells_of_parts, cells_of_subs, cells_of_numbers, cells_of};
+ghost use Rattle.squall_board.specs.Listed.{AreCellsOfParts, AreCellsOfSubs, AreCellsOfNumbers, AreSomeRows, cell_entry, cells_of_parts};
+ghost use Rattle.squall_board.specs.Listed.{cells_of_subs, cells_of_numbers, cells_of};
 
 use crate::board::{Board, CellParts};
 use squall_join::JoinMap;
@@ -17,7 +18,8 @@ fn push_parts<'a>(
     parts: &'a [(u32, CellParts)],
 ) -> Result<(), AllocError>
     requires { AreCellsOfParts number sub parts.now }
-    ensures { OnOk result (map (λ c. cell_entry c.0 c.1.now) out.new.items ≡ map (λ c. cell_entry c.0 c.1.now) out.old.items ++ cells_of_parts number sub parts.now) }
+    ensures { OnOk result (map (λ c. cell_entry c.0 c.1.now) out.new.items
+        ≡ map (λ c. cell_entry c.0 c.1.now) out.old.items ++ cells_of_parts number sub parts.now) }
 {
     for entry in parts {
         out.reserve(1)?;

@@ -5,7 +5,8 @@ ghost use Rattle.std.specs.Arc.{arc_value};
 ghost use Rattle.squall_join.specs.Flats.{flat_map};
 ghost use Rattle.squall_join.specs.declared.flat.Flat.TheVariants.{Unknown};
 ghost use Rattle.squall_board.specs.Boards.{issued};
-ghost use Rattle.squall_board.specs.Listed.{AreCellsOfParts, AreCellsOfSubs, AreCellsOfNumbers, AreCells, AreOpenings, AreIssues, cells_of_parts, cells_of_subs, cells_of_numbers, cells_of, openings_of_counts, openings_of, issues_of};
+ghost use Rattle.squall_board.specs.Listed.{AreCellsOfParts, AreCellsOfSubs, AreCellsOfNumbers, AreCells, AreOpenings, AreIssues, cells_of_parts};
+ghost use Rattle.squall_board.specs.Listed.{cells_of_subs, cells_of_numbers, cells_of, openings_of_counts, openings_of, issues_of};
 
 use crate::board::{Board, CellParts};
 use crate::cell::Cell;
@@ -112,7 +113,7 @@ impl Board {
         ensures listed { IfOk result (λ os. AreOpenings self.now os.items) }
     {
         self.known();
-        openings_of(self.allocator(), self.parts.first.first.entries())
+        openings_of(self.allocator(), self.opening_map().entries())
     }
 
     /// What is issued, by rising number, and a clash where different pairs of plans were. Issues
@@ -123,7 +124,7 @@ impl Board {
         ensures listed { IfOk result (λ es. AreIssues self.now (map (λ e. (e.0, flat_map arc_value e.1)) es.items)) }
     {
         self.known();
-        owned_all(self.allocator(), self.parts.first.second.entries())
+        owned_all(self.allocator(), self.issue_map().entries())
     }
 
     /// Whether anything is issued, a clash included. It allocates nothing.
@@ -132,7 +133,7 @@ impl Board {
         ensures none { (result ≡ false) → (n : ℕ) → issued self.now n ≡ Unknown }
     {
         self.known();
-        !self.parts.first.second.is_bottom()
+        !self.issue_map().is_bottom()
     }
 
     /// What was reported of each partition in each sub-plan, by rising number, sub-plan and

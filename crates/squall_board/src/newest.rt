@@ -51,6 +51,6 @@ impl Board {
         ensures meaning { IsNewest (issued self.now) first.now.number (option_map (λ e. (e.0, arc_value e.1.now)) result) }
     {
         self.known();
-        newest_in(self.parts.first.second.entries(), first.number())
+        newest_in(self.issue_map().entries(), first.number())
     }
 }

@@ -4,10 +4,8 @@ ghost use Rattle.std.specs.Prelude.{◌≡◌, ◌≢◌, ◌≤◌, ◌<◌, �
 ghost use Rattle.std.specs.Arc.{arc_value};
 ghost use Rattle.squall_key.specs.Keys.{part_limit};
 ghost use Rattle.squall_join.specs.Flats.{flat_map};
-ghost use Rattle.squall_report.specs.Told.{TellsBoth, SameTold, told_by};
-ghost use Rattle.squall_report.specs.declared.report.ReportKind.{ReportKind};
-ghost use Rattle.squall_report.specs.Issues.{PlanPair};
-ghost use Rattle.squall_board.specs.Boards.{HasTaken, board_join, cell_board, row_board, opening_board, issue_board, told, told_by_cell, told_by_count, told_by_issue};
+ghost use Rattle.squall_board.specs.Boards.{row_board};
+ghost use Rattle.squall_board.specs.Takes.{TakesBoard, TakesCell, TakesCount, TakesIssue};
 ghost use Rattle.squall_board.specs.Listed.{entry_value, AreCellsOfParts};
 
 use crate::board::{Board, CellParts};
@@ -25,9 +23,7 @@ impl Board {
     pub fn put_opening(&mut self, opening: &Opening) -> Result<(), AllocError>
         requires number { 1 ≤ opening.now.number }
         requires count { (0 < opening.now.count) × (opening.now.count ≤ part_limit) }
-        ensures board { OnOk result (self.new ≡ board_join self.old (opening_board opening.now.number opening.now.count)) }
-        ensures told { OnOk result (TellsBoth (told self.new) (told self.old) (told_by_count opening.now.number opening.now.count)) }
-        ensures taken { OnOk result ((rs qs : List (ReportKind PlanPair)) → HasTaken self.old rs → SameTold (told_by_count opening.now.number opening.now.count) (told_by qs) → HasTaken self.new (rs ++ qs)) }
+        ensures takes { OnOk result (TakesCount self.old opening.now.number opening.now.count self.new) }
         ensures err { OnErr result (self.new ≡ self.old) }
     {
         self.update_opening(opening.number, opening.count)
@@ -36,9 +32,7 @@ impl Board {
     /// Takes what the cell says of its partition. It fails where an allocation fails, and then
     /// the board is as it was.
     pub fn put_cell(&mut self, cell: &Cell) -> Result<(), AllocError>
-        ensures board { OnOk result (self.new ≡ board_join self.old (cell_board cell.now.cell (entry_value cell.now))) }
-        ensures told { OnOk result (TellsBoth (told self.new) (told self.old) (told_by_cell cell.now.cell (entry_value cell.now))) }
-        ensures taken { OnOk result ((rs qs : List (ReportKind PlanPair)) → HasTaken self.old rs → SameTold (told_by_cell cell.now.cell (entry_value cell.now)) (told_by qs) → HasTaken self.new (rs ++ qs)) }
+        ensures takes { OnOk result (TakesCell self.old cell.now.cell (entry_value cell.now) self.new) }
         ensures err { OnErr result (self.new ≡ self.old) }
     {
         self.update_cell(cell.place(), WholeCell { cell })
@@ -55,9 +49,7 @@ impl Board {
     ) -> Result<(), AllocError>
         requires cells { AreCellsOfParts number sub row.now }
         requires some { row.now ≢ [] }
-        ensures board { OnOk result (self.new ≡ board_join self.old (row_board number sub row.now)) }
-        ensures told { OnOk result (TellsBoth (told self.new) (told self.old) (told (row_board number sub row.now))) }
-        ensures taken { OnOk result ((rs qs : List (ReportKind PlanPair)) → HasTaken self.old rs → HasTaken (row_board number sub row.now) qs → HasTaken self.new (rs ++ qs)) }
+        ensures takes { OnOk result (TakesBoard self.old (row_board number sub row.now) self.new) }
         ensures err { OnErr result (self.new ≡ self.old) }
     {
         row.known();
@@ -71,9 +63,7 @@ impl Board {
     /// was.
     pub fn put_issue(&mut self, number: u32, issue: &Flat<Arc<Issue>>) -> Result<(), AllocError>
         requires { 1 ≤ number }
-        ensures board { OnOk result (self.new ≡ board_join self.old (issue_board number (flat_map arc_value issue.now))) }
-        ensures told { OnOk result (TellsBoth (told self.new) (told self.old) (told_by_issue number (flat_map arc_value issue.now))) }
-        ensures taken { OnOk result ((rs qs : List (ReportKind PlanPair)) → HasTaken self.old rs → SameTold (told_by_issue number (flat_map arc_value issue.now)) (told_by qs) → HasTaken self.new (rs ++ qs)) }
+        ensures takes { OnOk result (TakesIssue self.old number (flat_map arc_value issue.now) self.new) }
         ensures err { OnErr result (self.new ≡ self.old) }
     {
         match issue {

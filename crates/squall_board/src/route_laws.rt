@@ -9,9 +9,9 @@ ghost use Rattle.squall_report.specs.declared.report.ReportKind.{ReportKind};
 ghost use Rattle.squall_report.specs.Issues.{PlanPair};
 ghost use Rattle.squall_report.specs.Cells.{CellPlace};
 ghost use Rattle.squall_report.specs.Facts.{Fact};
-ghost use Rattle.squall_report.specs.Tests.{Tests, tests_by};
+ghost use Rattle.squall_report.specs.Queries.{Queries, queries_by};
 ghost use Rattle.squall_board.specs.Boards.{HasTaken, says, cell_of};
-ghost use Rattle.squall_board.specs.BoardTests.{tests_of};
+ghost use Rattle.squall_board.specs.BoardQueries.{queries_of};
 ghost use Rattle.squall_board.specs.Route.{route};
 ghost use Rattle.squall_board.specs.CourseRoute.{course_of_board, course_of_reports, IsCourseBy, route_by_newest, route_by_reports, IsRoutedBy};
 ghost use Rattle.squall_board.specs.MovesRoute.{has_come_to, cell_has_come, route_by_moves};
@@ -25,45 +25,46 @@ pub fn course_of_taken_reports(board: &Board)
     board.known();
 }
 
-/// A board has the course of its tests.
-pub fn course_by_board_tests(board: &Board)
-    ensures { (first : Change) → IsCourseBy first (tests_of board.now) (course_of_board first board.now) }
+/// A board has the course that its answers give.
+pub fn course_by_board_queries(board: &Board)
+    ensures { (first : Change) → IsCourseBy first (queries_of board.now) (course_of_board first board.now) }
 {
     board.known();
 }
 
-/// A list of reports has the course of its tests.
-pub fn course_by_report_tests()
-    ensures { (first : Change) (rs : List (ReportKind PlanPair)) → IsCourseBy first (tests_by rs) (course_of_reports first rs) }
+/// A list of reports has the course that its answers give.
+pub fn course_by_report_queries()
+    ensures { (first : Change) (rs : List (ReportKind PlanPair)) → IsCourseBy first (queries_by rs) (course_of_reports first rs) }
 {}
 
-/// After a first course tests have one course.
+/// After a first course the answers give one course.
 pub fn one_course()
-    ensures { (first : Change) (t : Tests) (c d : Change) → IsCourseBy first t c → IsCourseBy first t d → c ≡ d }
+    ensures { (first : Change) (t : Queries) (c d : Change) → IsCourseBy first t c → IsCourseBy first t d → c ≡ d }
 {}
 
 /// A board that has taken reports routes each key as the reports do.
 pub fn taken_reports_route(board: &Board)
-    ensures { (first : Change) (rs : List (ReportKind PlanPair)) (k : ℕ) → HasTaken board.now rs → route_by_newest first board.now k ≡ route_by_reports first rs k }
+    ensures { (first : Change) (rs : List (ReportKind PlanPair)) (k : ℕ) → HasTaken board.now rs
+        → route_by_newest first board.now k ≡ route_by_reports first rs k }
 {
     board.known();
 }
 
-/// A board routes each key as its tests do.
-pub fn route_by_board_tests(board: &Board)
-    ensures { (first : Change) (k : ℕ) → IsRoutedBy first (tests_of board.now) k (route_by_newest first board.now k) }
+/// A board routes each key by its answers.
+pub fn route_by_board_queries(board: &Board)
+    ensures { (first : Change) (k : ℕ) → IsRoutedBy first (queries_of board.now) k (route_by_newest first board.now k) }
 {
     board.known();
 }
 
-/// A list of reports routes each key as its tests do.
-pub fn route_by_report_tests()
-    ensures { (first : Change) (rs : List (ReportKind PlanPair)) (k : ℕ) → IsRoutedBy first (tests_by rs) k (route_by_reports first rs k) }
+/// A list of reports routes each key by its answers.
+pub fn route_by_report_queries()
+    ensures { (first : Change) (rs : List (ReportKind PlanPair)) (k : ℕ) → IsRoutedBy first (queries_by rs) k (route_by_reports first rs k) }
 {}
 
-/// By a first course and tests a key goes to one partition.
+/// By a first course and the answers each key goes to one partition.
 pub fn one_route()
-    ensures { (first : Change) (t : Tests) (k p q : ℕ) → IsRoutedBy first t k p → IsRoutedBy first t k q → p ≡ q }
+    ensures { (first : Change) (t : Queries) (k p q : ℕ) → IsRoutedBy first t k p → IsRoutedBy first t k q → p ≡ q }
 {}
 
 /// The route by the moves of a course is the route by its plans, for each key and whatever is said.

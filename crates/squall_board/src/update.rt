@@ -4,10 +4,8 @@ ghost use Rattle.std.specs.Prelude.{◌≡◌, ◌≢◌, ◌≤◌, ◌<◌, �
 ghost use Rattle.std.specs.Arc.{arc_value};
 ghost use Rattle.squall_key.specs.Keys.{part_limit};
 ghost use Rattle.squall_join.specs.Pairs.{pair_of};
-ghost use Rattle.squall_report.specs.declared.report.ReportKind.{ReportKind};
-ghost use Rattle.squall_report.specs.Issues.{PlanPair};
-ghost use Rattle.squall_report.specs.Told.{TellsBoth};
-ghost use Rattle.squall_board.specs.Boards.{HasTaken, board_join, cell_board, opening_board, issue_board, told};
+ghost use Rattle.squall_board.specs.Boards.{cell_board, opening_board, issue_board};
+ghost use Rattle.squall_board.specs.Takes.{TakesBoard};
 ghost use Rattle.squall_board.specs.Listed.{entry_value};
 ghost use Rattle.squall_board.specs.Updates.{issuing_value};
 
@@ -163,15 +161,13 @@ impl Board {
         cell: CellId,
         update: U,
     ) -> Result<(), AllocError>
-        ensures board { OnOk result (self.new ≡ board_join self.old (cell_board cell (U.value update))) }
-        ensures told { OnOk result (TellsBoth (told self.new) (told self.old) (told (cell_board cell (U.value update)))) }
-        ensures taken { OnOk result ((rs qs : List (ReportKind PlanPair)) → HasTaken self.old rs → HasTaken (cell_board cell (U.value update)) qs → HasTaken self.new (rs ++ qs)) }
+        ensures takes { OnOk result (TakesBoard self.old (cell_board cell (U.value update)) self.new) }
         ensures err { OnErr result (self.new ≡ self.old) }
     {
         update.known();
         cell.known();
         let alloc = self.allocator();
-        let at_sub = UpdateAt::new(cell.sub(), UpdateAt::new(cell.part(), update));
+        let at_sub = UpdateAt::new(cell.sub(), UpdateAt::new(cell.part().get(), update));
         self.parts.second.update_at(alloc, cell.number(), &at_sub)
     }
 
@@ -179,9 +175,7 @@ impl Board {
     pub(crate) fn update_opening(&mut self, number: u32, count: u32) -> Result<(), AllocError>
         requires number { 1 ≤ number }
         requires count { (0 < count) × (count ≤ part_limit) }
-        ensures board { OnOk result (self.new ≡ board_join self.old (opening_board number count)) }
-        ensures told { OnOk result (TellsBoth (told self.new) (told self.old) (told (opening_board number count))) }
-        ensures taken { OnOk result ((rs qs : List (ReportKind PlanPair)) → HasTaken self.old rs → HasTaken (opening_board number count) qs → HasTaken self.new (rs ++ qs)) }
+        ensures takes { OnOk result (TakesBoard self.old (opening_board number count) self.new) }
         ensures err { OnErr result (self.new ≡ self.old) }
     {
         let alloc = self.allocator();
@@ -196,9 +190,7 @@ impl Board {
         issuing: Issuing<'_>,
     ) -> Result<(), AllocError>
         requires { 1 ≤ number }
-        ensures board { OnOk result (self.new ≡ board_join self.old (issue_board number (issuing_value issuing.entry))) }
-        ensures told { OnOk result (TellsBoth (told self.new) (told self.old) (told (issue_board number (issuing_value issuing.entry)))) }
-        ensures taken { OnOk result ((rs qs : List (ReportKind PlanPair)) → HasTaken self.old rs → HasTaken (issue_board number (issuing_value issuing.entry)) qs → HasTaken self.new (rs ++ qs)) }
+        ensures takes { OnOk result (TakesBoard self.old (issue_board number (issuing_value issuing.entry)) self.new) }
         ensures err { OnErr result (self.new ≡ self.old) }
     {
         let alloc = self.allocator();

@@ -1,4 +1,4 @@
-use Rattle.squall_board.specs.BoardTestsLaws.{taken_newest}
+use Rattle.squall_board.specs.BoardQueriesLaws.{taken_newest}
 use Rattle.squall_board.proofs.facts_laws.newest_of_taken_reports.Goals as goal
 
 pub returns : goal.returns

@@ -1,4 +1,4 @@
-use Rattle.squall_board.specs.BoardTestsLaws.{taken_openings}
+use Rattle.squall_board.specs.BoardQueriesLaws.{taken_openings}
 use Rattle.squall_board.proofs.facts_laws.taken_openings_count.Goals as goal
 
 pub returns : goal.returns

@@ -1,8 +1,8 @@
-use Rattle.std.proofs.Common.{◌≡◌, OnOk, refl, subst}
-use Rattle.squall_board.specs.Boards.{BoardValue, board_of, openings_in, cells_in, issue_board, board_join}
+use Rattle.squall_board.specs.Boards.{told, board_of, openings_in, cells_in, issue_board}
 use Rattle.squall_board.specs.Updates.{issuing_value}
 use Rattle.squall_board.specs.BoardLaws.{issue_board_is}
-use Rattle.squall_board.proofs.Merged.{merged_is, merged_tells, merged_taken, issue_put, issue_not_put}
+use Rattle.squall_board.specs.TakesLaws.{took, same_told}
+use Rattle.squall_board.proofs.Merged.{merged_is, issue_put, issue_not_put}
 use Rattle.squall_board.proofs.board.Board.update_issue.Goals as goal
 
 pub invariant_of-self : goal.invariant_of-self
@@ -11,16 +11,7 @@ invariant_of-self c = merged_is c.update_at.result (board_of (openings_in c.self
     (issue_not_put c.update_at.result c.update_at.new.self c.self.inside.parts c.update_at.ensures.err)
     c.self.invariant (issue_board_is c.args.number (issuing_value c.args.issuing) c.requires)
 
-pub returns-clause-board : goal.returns-clause-board
-returns-clause-board c = subst (λ (x : BoardValue). OnOk c.update_at.result (board_of (openings_in c.self.inside.parts) c.update_at.new.self (cells_in c.self.inside.parts) ≡ board_join x (issue_board c.args.number (issuing_value c.args.issuing)))) c.self.view_is
+pub returns-clause-takes : goal.returns-clause-takes
+returns-clause-takes c = took c.update_at.result (board_of (openings_in c.self.inside.parts) c.update_at.new.self (cells_in c.self.inside.parts)) c.self.inside.parts (issue_board c.args.number (issuing_value c.args.issuing)) c.args.self.now (told (issue_board c.args.number (issuing_value c.args.issuing))) c.self.view_is
     (issue_put c.update_at.result c.update_at.new.self c.self.inside.parts c.args.number c.args.issuing c.update_at.ensures.ok)
-
-pub returns-clause-told : goal.returns-clause-told
-returns-clause-told c = merged_tells c.update_at.result (board_of (openings_in c.self.inside.parts) c.update_at.new.self (cells_in c.self.inside.parts)) c.self.inside.parts (issue_board c.args.number (issuing_value c.args.issuing)) c.args.self.now _ c.self.view_is refl
-    (issue_put c.update_at.result c.update_at.new.self c.self.inside.parts c.args.number c.args.issuing c.update_at.ensures.ok)
-    c.self.invariant (issue_board_is c.args.number (issuing_value c.args.issuing) c.requires)
-
-pub returns-clause-taken : goal.returns-clause-taken
-returns-clause-taken c = merged_taken c.update_at.result (board_of (openings_in c.self.inside.parts) c.update_at.new.self (cells_in c.self.inside.parts)) c.self.inside.parts (issue_board c.args.number (issuing_value c.args.issuing)) c.args.self.now _ c.self.view_is refl
-    (issue_put c.update_at.result c.update_at.new.self c.self.inside.parts c.args.number c.args.issuing c.update_at.ensures.ok)
-    c.self.invariant (issue_board_is c.args.number (issuing_value c.args.issuing) c.requires)
+    c.self.invariant (issue_board_is c.args.number (issuing_value c.args.issuing) c.requires) (same_told _)

@@ -1,5 +1,5 @@
 use Rattle.squall_board.specs.CourseRouteLaws.{reports_route}
-use Rattle.squall_board.proofs.route_laws.route_by_report_tests.Goals as goal
+use Rattle.squall_board.proofs.route_laws.route_by_report_queries.Goals as goal
 
 pub returns : goal.returns
 returns c = reports_route
