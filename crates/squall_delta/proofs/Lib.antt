@@ -2,4 +2,4 @@ mod Rows
 mod Digested
 mod Searched
 mod Repaired
-pub mod Reported
+mod Slices

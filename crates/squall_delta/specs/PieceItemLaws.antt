@@ -127,7 +127,7 @@ all_cells : (P : Item → Type 0) → ((c : CellPlace) → P (done c)) → ((c :
 all_cells P x y cs = all_of_cells P cs (all_true (λ c. P (done c.cell) × AllByRecursion (λ s. P (loaded c.cell s)) c.spans) (λ c. (x c.cell, all_true (λ s. P (loaded c.cell s)) (λ s. y c.cell s) c.spans)) cs)
 
 -- the spans after one that begins beyond h begin beyond h
-all_beyond : (h : ℕ) (ss : List Interval) → Beyond h ss → IsCanonical ss → AllByRecursion (λ t. h < t.lo) ss
+pub all_beyond : (h : ℕ) (ss : List Interval) → Beyond h ss → IsCanonical ss → AllByRecursion (λ t. h < t.lo) ss
 all_beyond h [] b is = tt
 all_beyond h (s ∷ ss) b is = (b, all_beyond h ss (further ss is.1) is.2)
   where

@@ -34,7 +34,7 @@ empty_first : (b : BoardValue) → is_nested b → board_join empty_board b ≡ 
 empty_first b nested = board_laws.comm empty_board b board_laws.bottom_is nested ∙ board_laws.neutral b nested
 
 -- items put into a board are joined into it
-with_joined : (b : BoardValue) (is : List Item) → is_nested b → AllByRecursion IsItem is → with_items b is ≡ board_join b (items_board is)
+pub with_joined : (b : BoardValue) (is : List Item) → is_nested b → AllByRecursion IsItem is → with_items b is ≡ board_join b (items_board is)
 with_joined b [] nested within = sym (board_laws.neutral b nested)
 with_joined b (i ∷ is) nested within =
     let one = (item_board_is i within.0).nested in

@@ -62,7 +62,7 @@ le_itself n = omega arith
 le_after : (a b c : ℕ) → a < b → b ≤ c → a ≤ c
 le_after a b c x y = omega (arith, x, y)
 
-grows : (b : BoardValue) (is : List Item) → AreNext b is → body_length b ≤ body_length (with_items b is)
+pub grows : (b : BoardValue) (is : List Item) → AreNext b is → body_length b ≤ body_length (with_items b is)
 grows b [] next = le_itself (body_length b)
 grows b (i ∷ is) next = le_after (body_length b) (body_length (board_join b (item_board i))) (body_length (with_items (board_join b (item_board i)) is)) (longer b i is next) (grows (board_join b (item_board i)) is (next_put b i is next))
 
@@ -98,7 +98,7 @@ within_limit n e = grind (arith, nat_tests)
 is_over : (n : ℕ) → body_limit < n → nat_lt body_limit n ≡ true
 is_over n lt = grind (arith, nat_tests)
 
-is_within : (n : ℕ) → n ≤ body_limit → nat_lt body_limit n ≡ false
+pub is_within : (n : ℕ) → n ≤ body_limit → nat_lt body_limit n ≡ false
 is_within n le = grind (arith, nat_tests)
 
 -- ---- the groups that are cut

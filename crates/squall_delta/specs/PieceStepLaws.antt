@@ -95,7 +95,7 @@ fed_step f0 f1 p0 p1 q i n m room e k next put =
     sum : (n m a b t : ℕ) → n ≡ a → m ≡ b → t ≡ a + b → n + m ≡ t
     sum n m a b t x y z = omega (arith, x, y, z)
 
-short_roomy : (f0 : List BoardValue) (p0 : BoardValue) (i : Item) (n : ℕ) → body_length (board_join p0 (item_board i)) ≡ n → FitsFrame (items_board (i ∷ [])) → body_length (board_join (roomy (cut_with f0 p0) n).piece (item_board i)) ≤ body_limit
+pub short_roomy : (f0 : List BoardValue) (p0 : BoardValue) (i : Item) (n : ℕ) → body_length (board_join p0 (item_board i)) ≡ n → FitsFrame (items_board (i ∷ [])) → body_length (board_join (roomy (cut_with f0 p0) n).piece (item_board i)) ≤ body_limit
 short_roomy f0 p0 i n e alone = elim (nat_lt body_limit n) as (λ b. nat_lt body_limit n ≡ b → body_length (board_join (if b then turned (cut_with f0 p0) else cut_with f0 p0).piece (item_board i)) ≤ body_limit) [
   | true ↦ λ t. alone
   | false ↦ λ t. subst (λ v. v ≤ body_limit) (sym e) (within_limit n t)

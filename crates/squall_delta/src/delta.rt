@@ -11,7 +11,6 @@ use std::alloc::{AllocError, Global};
 
 /// The board that has taken the report alone. It fails where an allocation fails, or where the
 /// count of an issue's owners is full.
-#[tactic(auto, using(crate::proofs::Reported::one_board))]
 pub fn delta_of(alloc: Global, report: &Report) -> Result<Delta, AllocError>
     ensures value { IfOk result (λ d. d ≡ report_board report.now) }
     ensures told { IfOk result (λ d. SameTold (told d) (told_by_report report.now)) }

@@ -3,12 +3,15 @@
 //!
 //! All of these are boards or digests of boards, and whoever merges them in any order, any number
 //! of times, comes to the same board.
+//!
+//! Its tests are in `crates/squall_test_frames/src/delta.rt`.
 #![tactic(auto)]
 
 mod cut;
 mod delta;
 mod digests;
 mod hashing;
+pub mod laws;
 mod piece_laws;
 mod repair_laws;
 mod repairing;
@@ -17,11 +20,4 @@ mod shown;
 pub use cut::pieces;
 pub use delta::{beyond, delta_of};
 pub use digests::digest;
-pub use piece_laws::{
-    no_items_no_pieces, one_list_of_pieces, pieces_fit_frames, pieces_have_frames,
-    pieces_join_to_the_board,
-};
-pub use repair_laws::{
-    digests_list_the_board, one_repair, repair_of_own_digest_is_empty, repairs_complete,
-};
 pub use repairing::repair;

@@ -21,7 +21,8 @@ pub fn one_repair(board: &Board, digest: &Digest, repair: &Board, other: &Board)
 /// A board that takes the repair of another board by its own digest has all that either has, where
 /// no two different rows or issues of both, at one place, have one hash.
 pub fn repairs_complete(board: &Board, other: &Board, repair: &Board)
-    ensures { NoCollisions board.now other.now → IsRepair other.now (digest_of board.now) repair.now → board_join repair.now board.now ≡ board_join board.now other.now }
+    ensures { NoCollisions board.now other.now → IsRepair other.now (digest_of board.now) repair.now
+        → board_join repair.now board.now ≡ board_join board.now other.now }
 {
     board.known();
     other.known();
@@ -38,8 +39,10 @@ pub fn repair_of_own_digest_is_empty(board: &Board, repair: &Board)
 
 /// The digest of a board shows the hash of each issue and of each row of the board, and no other.
 pub fn digests_list_the_board(board: &Board)
-    ensures issues { (number : ℕ) (hash : List ℕ) → shows_issue (digest_of board.now) number hash ≡ issue_is_hashed number hash (find nat_cmp number (issues_in board.now)) }
-    ensures rows { (number sub : ℕ) (hash : List ℕ) → shows_row (digest_of board.now) number sub hash ≡ row_is_hashed number sub hash (found_in sub (find nat_cmp number (cells_in board.now))) }
+    ensures issues { (number : ℕ) (hash : List ℕ)
+        → shows_issue (digest_of board.now) number hash ≡ issue_is_hashed number hash (find nat_cmp number (issues_in board.now)) }
+    ensures rows { (number sub : ℕ) (hash : List ℕ)
+        → shows_row (digest_of board.now) number sub hash ≡ row_is_hashed number sub hash (found_in sub (find nat_cmp number (cells_in board.now))) }
 {
     board.known();
 }

@@ -31,7 +31,8 @@ pub(crate) fn count_in(openings: &[Opening], number: u32) -> u32
 /// The hash that the rows show of what is issued under the number.
 fn issue_shown(rows: &[IssueRow], number: u32) -> Option<[u8; 32]>
     requires { AreListed FitsIssueRow after_issue_row 0 rows.now }
-    ensures some { IfSome result (λ shown. (hash : List ℕ) → list_any (λ r. (r.number == number) && is_same_hash r.hash hash) rows.now ≡ is_same_hash shown hash) }
+    ensures some { IfSome result (λ shown. (hash : List ℕ)
+        → list_any (λ r. (r.number == number) && is_same_hash r.hash hash) rows.now ≡ is_same_hash shown hash) }
     ensures none { IfNone result ((hash : List ℕ) → list_any (λ r. (r.number == number) && is_same_hash r.hash hash) rows.now ≡ false) }
 {
     match rows.binary_search_by_key(&number, |row| row.number) {
@@ -43,7 +44,8 @@ fn issue_shown(rows: &[IssueRow], number: u32) -> Option<[u8; 32]>
 /// The hash that the rows show of the row of the number and sub-plan.
 fn row_shown(rows: &[DigestRow], number: u32, sub: u32) -> Option<[u8; 32]>
     requires { AreListed FitsRow after_row (0, 0) rows.now }
-    ensures some { IfSome result (λ shown. (hash : List ℕ) → list_any (λ r. (r.number == number) && ((r.sub == sub) && is_same_hash r.hash hash)) rows.now ≡ is_same_hash shown hash) }
+    ensures some { IfSome result (λ shown. (hash : List ℕ)
+        → list_any (λ r. (r.number == number) && ((r.sub == sub) && is_same_hash r.hash hash)) rows.now ≡ is_same_hash shown hash) }
     ensures none { IfNone result ((hash : List ℕ) → list_any (λ r. (r.number == number) && ((r.sub == sub) && is_same_hash r.hash hash)) rows.now ≡ false) }
 {
     match rows.binary_search_by_key(&(number, sub), |row| (row.number, row.sub)) {

@@ -19,16 +19,16 @@ text_of_fault Count = codes "Count"
 text_of_fault Range = codes "Range"
 text_of_fault Order = codes "Order"
 text_of_fault Spare = codes "Spare"
-text_of_fault NoMemory = codes "no memory"
+text_of_fault NoMemory = codes "NoMemory"
 
 abbrev pub text_of_encode_fault : EncodeFault → List ℕ
 text_of_encode_fault Encode_too_long = codes "TooLong"
-text_of_encode_fault Encode_no_memory = codes "no memory"
+text_of_encode_fault Encode_no_memory = codes "NoMemory"
 
 abbrev pub text_of_digest_fault : DigestFault → List ℕ
 text_of_digest_fault BadDigest = codes "BadDigest"
-text_of_digest_fault Digest_no_memory = codes "no memory"
+text_of_digest_fault Digest_no_memory = codes "NoMemory"
 
 abbrev pub text_of_feed_fault : FeedFault → List ℕ
 text_of_feed_fault Failed = codes "Failed"
-text_of_feed_fault Feed_no_memory = codes "no memory"
+text_of_feed_fault Feed_no_memory = codes "NoMemory"

@@ -1,6 +1,7 @@
 -- What readers give, seen as the definitions see it (this project's form).
-use Rattle.std.specs.Prelude.{◌≡◌, ℕ, List, Ok}
+use Rattle.std.specs.Prelude.{◌≡◌, ℕ, ◌+◌, ◌*◌, ◌≤◌, List, length, Ok}
 use Rattle.squall_span.specs.Spans.{Interval, interval, insert_span}
+use Rattle.squall_span.specs.Ready.{ReadyValue}
 use Rattle.squall_plan.specs.declared.range.PlanRange.{PlanRange}
 use Rattle.squall_report.specs.Cells.{place_at}
 use Rattle.squall_wire.specs.declared.reading.body.Lists.{Lists}
@@ -15,12 +16,17 @@ use Rattle.squall_wire.specs.Reading.{CellHead as HeadSeen, Frame as FrameSeen, 
 abbrev pub head_seen : CellHead → HeadSeen
 head_seen h = record { place = place_at h.number h.sub h.part; done = h.done; count = h.count }
 
--- the span at the front of the bytes was added to the spans
-pub record HasAdded (floor : ℕ) (bytes : List ℕ) (old new : List Interval) (next : ℕ) (rest : List ℕ) : Type 0 where
+-- there is room for as many spans as are left of a list and as the bytes can hold
+pub record HasRoom (left : ℕ) (bytes : List ℕ) (room : ℕ) : Type 0 where
+  pub enough : (n : ℕ) → n ≤ left → 16 * n ≤ length bytes → n ≤ room
+
+-- the span at the front of the bytes was added to the spans, and took room of one span at most
+pub record HasAdded (floor : ℕ) (bytes : List ℕ) (old new : ReadyValue) (next : ℕ) (rest : List ℕ) : Type 0 where
   pub span : Interval
   pub read : span_at floor bytes ≡ Ok (span, rest)
   pub goes_on : next ≡ after_span floor span
-  pub added : new ≡ insert_span span old
+  pub added : new.set ≡ insert_span span old.set
+  pub room : old.room ≤ new.room + 1
 
 -- the range from a point to a bound, of a partition
 abbrev pub range_of : PlanPoint → ℕ → ℕ → PlanRange

@@ -33,7 +33,7 @@ fn place_bytes(place: CellId) -> [u8; 12]
     let mut bytes = [0; 12];
     bytes[..4].copy_from_slice(&place.number().to_be_bytes());
     bytes[4..8].copy_from_slice(&place.sub().to_be_bytes());
-    bytes[8..].copy_from_slice(&place.part().to_be_bytes());
+    bytes[8..].copy_from_slice(&place.part().get().to_be_bytes());
     bytes
 }
 

@@ -49,7 +49,7 @@ impl fmt::Display for DigestFault {
     fn fmt<W: fmt::Write>(&self, f: &mut fmt::Formatter<W>) -> fmt::Result {
         match self {
             DigestFault::BadDigest => write!(f, "BadDigest"),
-            DigestFault::NoMemory => write!(f, "no memory"),
+            DigestFault::NoMemory => write!(f, "NoMemory"),
         }
     }
 }

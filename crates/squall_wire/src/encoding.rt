@@ -40,7 +40,7 @@ impl fmt::Display for EncodeFault {
     fn fmt<W: fmt::Write>(&self, f: &mut fmt::Formatter<W>) -> fmt::Result {
         match self {
             EncodeFault::TooLong => write!(f, "TooLong"),
-            EncodeFault::NoMemory => write!(f, "no memory"),
+            EncodeFault::NoMemory => write!(f, "NoMemory"),
         }
     }
 }

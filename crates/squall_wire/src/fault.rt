@@ -48,7 +48,7 @@ impl fmt::Display for WireFault {
             WireFault::Range => write!(f, "Range"),
             WireFault::Order => write!(f, "Order"),
             WireFault::Spare => write!(f, "Spare"),
-            WireFault::NoMemory => write!(f, "no memory"),
+            WireFault::NoMemory => write!(f, "NoMemory"),
         }
     }
 }

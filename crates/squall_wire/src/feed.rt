@@ -39,7 +39,7 @@ impl fmt::Display for FeedFault {
     fn fmt<W: fmt::Write>(&self, f: &mut fmt::Formatter<W>) -> fmt::Result {
         match self {
             FeedFault::Failed => write!(f, "Failed"),
-            FeedFault::NoMemory => write!(f, "no memory"),
+            FeedFault::NoMemory => write!(f, "NoMemory"),
         }
     }
 }

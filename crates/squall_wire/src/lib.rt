@@ -2,6 +2,8 @@
 //!
 //! A frame holds one message: a delta, which is a board, or a digest of one. Each message has one
 //! frame, and no frame begins another, so that a stream of frames may be cut anywhere.
+//!
+//! Its tests are in `crates/squall_test_frames/src/wire.rt`.
 #![tactic(auto)]
 
 mod build;
@@ -13,7 +15,7 @@ mod fault;
 mod feed;
 mod issue;
 mod items;
-mod laws;
+pub mod laws;
 mod message;
 mod order;
 mod reading;
@@ -26,9 +28,4 @@ pub use encoding::{EncodeFault, cell_bytes, encode, encode_board};
 pub use fault::WireFault;
 pub use feed::{Feed, FeedFault, Heard};
 pub use items::issue_bytes;
-pub use laws::{
-    cutting_tells_nothing, faults_end_the_stream, faults_stay, heard_frame_by_frame,
-    lists_make_the_board, one_frame, one_hearing, pieces_are_one_stream, pieces_begin_the_stream,
-    pushes_are_one, same_facts_same_frame, spelled_messages_are_heard,
-};
 pub use message::Message;

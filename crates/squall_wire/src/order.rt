@@ -5,6 +5,7 @@ ghost use Rattle.squall_wire.specs.Limits.{AreListed, FitsOpening, after_opening
 
 use crate::digest::{DigestRow, IssueRow};
 use squall_board::Opening;
+use squall_key::PART_LIMIT;
 
 /// A type whose values stand in lists by rising place `P`.
 trait Placed<P> {
@@ -29,7 +30,7 @@ impl Placed<u32> for Opening {
     ghost place = { λ opening. opening.number };
 
     fn follows(&self, last: u32) -> bool {
-        last < self.number && self.count >= 1 && self.count <= 10000
+        last < self.number && self.count >= 1 && self.count <= PART_LIMIT
     }
 
     fn place(&self) -> u32 {
@@ -57,7 +58,7 @@ impl Placed<(u32, u32)> for DigestRow {
     ghost place = { λ row. (row.number, row.sub) };
 
     fn follows(&self, last: (u32, u32)) -> bool {
-        last < (self.number, self.sub) && self.number >= 1 && self.sub <= 9999
+        last < (self.number, self.sub) && self.number >= 1 && self.sub < PART_LIMIT
     }
 
     fn place(&self) -> (u32, u32) {

@@ -1,22 +1,25 @@
 //! What puts items into pieces, one after the other.
 
-ghost use Rattle.std.specs.Prelude.{◌≡◌, ◌≤◌, ◌+◌, ◌++◌, ◌∷◌, [], map, length, IfOk, OnOk, Some};
+ghost use Rattle.std.specs.Prelude.{◌≡◌, ◌<◌, ◌≤◌, ◌+◌, ◌-◌, ◌*◌, ◌++◌, ◌∷◌, [], false, map, length, IfOk, OnOk, Some};
 ghost use Rattle.std.specs.Arc.{arc_value};
 ghost use Rattle.std.specs.List.{flat_map, AllByRecursion};
 ghost use Rattle.squall_join.specs.Flats.{flat_map as flat_with};
-ghost use Rattle.squall_report.specs.declared.report.ReportKind.TheVariants.{Done, Loaded};
-ghost use Rattle.squall_board.specs.Listed.{cell_entry};
+ghost use Rattle.squall_report.specs.declared.report.ReportKind.TheVariants.{Done};
+ghost use Rattle.squall_span.specs.Spans.{IsCanonical};
+ghost use Rattle.squall_board.specs.Listed.{cell_entry, entry_with};
 ghost use Rattle.squall_wire.specs.Limits.{body_limit};
 ghost use Rattle.squall_wire.specs.Spelling.{spell_plan, spell_issued};
-ghost use Rattle.squall_delta.specs.Items.{Item, opening as an_opening, issue as an_issue, done as a_done, loaded as a_load, flag_items, items_of_cell, items_board};
+ghost use Rattle.squall_delta.specs.Items.{Item, opening as an_opening, issue as an_issue, done as a_done, loaded as a_load, flag_items};
+ghost use Rattle.squall_delta.specs.Items.{items_of_cell, items_board};
 ghost use Rattle.squall_delta.specs.Pieces.{FitsFrame};
 ghost use Rattle.squall_delta.specs.Cutting.{AreNext, IsMeasured, cut_with, uncut, turned, roomy, fed, fed_all, pieces_with, issue_cost, span_bytes, is_last};
+ghost use Rattle.squall_delta.specs.PieceStepLaws.{IsFeeding};
 
-use squall_board::{Board, CellParts, Opening};
+use squall_board::{Board, Cell, CellParts, Opening};
 use squall_join::Flat;
 use squall_plan::Plan;
 use squall_report::{CellId, Issue, Report};
-use squall_span::Span;
+use squall_span::{ReadySet, Span, SpanSet};
 use std::alloc::{AllocError, Global};
 use std::mem;
 use std::sync::Arc;
@@ -60,14 +63,41 @@ fn issue_bytes(issue: &Flat<Arc<Issue>>) -> usize
 fn completion(place: CellId) -> Report
     ensures { result ≡ Done place.number place.sub place.part }
 {
-    Report::done(place.number(), place.sub(), place.part()).unwrap()
+    Report::done(place.number(), place.sub(), place.part().get()).unwrap()
 }
 
-/// The report that the keys of the span are loaded in the cell.
-fn load(place: CellId, span: Span) -> Report
-    ensures { result ≡ Loaded place.number place.sub place.part span }
+/// The empty set, with room for so many spans.
+fn ready_for(alloc: Global, count: usize) -> Result<ReadySet, AllocError>
+    ensures empty { IfOk result (λ r. r.set ≡ []) }
+    ensures room { IfOk result (λ r. count ≤ r.room) }
 {
-    Report::loaded(place.number(), place.sub(), place.part(), span).unwrap()
+    match SpanSet::empty(alloc).with_room(count) {
+        Ok(ready) => Ok(ready),
+        Err(_) => Err(AllocError),
+    }
+}
+
+/// The set of spans that stand as those of a set do.
+fn set_of(alloc: Global, spans: &[Span]) -> Result<SpanSet, AllocError>
+    requires { IsCanonical spans.now }
+    ensures { IfOk result (λ set. set ≡ spans.now) }
+{
+    let mut set = ready_for(alloc, spans.len())?;
+    for span in spans {
+        set.insert(*span);
+    }
+    Ok(set.into_set())
+}
+
+/// What is loaded in the cell: the keys of the spans.
+fn cell_of(alloc: Global, place: CellId, spans: &[Span]) -> Result<Cell, AllocError>
+    requires spans { IsCanonical spans.now }
+    requires some { 0 < length spans.now }
+    ensures { IfOk result (λ cell. cell ≡ entry_with place false spans.now) }
+{
+    place.known();
+    let keys = set_of(alloc, spans)?;
+    Ok(Cell::new(place.number(), place.sub(), place.part().get(), false, keys).unwrap())
 }
 
 /// A board that is cut: the pieces that are finished, the piece that takes the next items, and
@@ -120,7 +150,8 @@ impl Cutter {
         requires measured { IsMeasured self.old.piece self.old.length self.old.has_issues self.old.last }
         requires few { bytes ≤ 100000 }
         ensures measured { OnOk result (IsMeasured self.new.piece self.new.length self.new.has_issues self.new.last) }
-        ensures fed { OnOk result (cut_with self.new.finished.items self.new.piece ≡ roomy (cut_with self.old.finished.items self.old.piece) (self.old.length + bytes)) }
+        ensures fed { OnOk result (cut_with self.new.finished.items self.new.piece
+            ≡ roomy (cut_with self.old.finished.items self.old.piece) (self.old.length + bytes)) }
     {
         if self.length + bytes > BODY_LIMIT {
             self.turn()?;
@@ -133,7 +164,8 @@ impl Cutter {
         requires measured { IsMeasured self.old.piece self.old.length self.old.has_issues self.old.last }
         requires next { AreNext self.old.piece (an_opening opening.now ∷ []) }
         ensures measured { OnOk result (IsMeasured self.new.piece self.new.length self.new.has_issues self.new.last) }
-        ensures fed { OnOk result (cut_with self.new.finished.items self.new.piece ≡ fed (cut_with self.old.finished.items self.old.piece) (an_opening opening.now)) }
+        ensures fed { OnOk result (cut_with self.new.finished.items self.new.piece
+            ≡ fed (cut_with self.old.finished.items self.old.piece) (an_opening opening.now)) }
     {
         self.make_room(OPENING_BYTES)?;
         self.piece.put_opening(opening)?;
@@ -155,7 +187,8 @@ impl Cutter {
         requires measured { IsMeasured self.old.piece self.old.length self.old.has_issues self.old.last }
         requires next { AreNext self.old.piece (an_issue (number, flat_with arc_value issue.now) ∷ []) }
         ensures measured { OnOk result (IsMeasured self.new.piece self.new.length self.new.has_issues self.new.last) }
-        ensures fed { OnOk result (cut_with self.new.finished.items self.new.piece ≡ fed (cut_with self.old.finished.items self.old.piece) (an_issue (number, flat_with arc_value issue.now))) }
+        ensures fed { OnOk result (cut_with self.new.finished.items self.new.piece
+            ≡ fed (cut_with self.old.finished.items self.old.piece) (an_issue (number, flat_with arc_value issue.now))) }
         ensures alone { OnOk result (FitsFrame (items_board (an_issue (number, flat_with arc_value issue.now) ∷ []))) }
     {
         let bytes = issue_bytes(issue);
@@ -186,7 +219,8 @@ impl Cutter {
         requires measured { IsMeasured self.old.piece self.old.length self.old.has_issues self.old.last }
         requires next { AreNext self.old.piece (flag_items place complete) }
         ensures measured { OnOk result (IsMeasured self.new.piece self.new.length self.new.has_issues self.new.last) }
-        ensures fed { OnOk result (cut_with self.new.finished.items self.new.piece ≡ fed_all (cut_with self.old.finished.items self.old.piece) (flag_items place complete)) }
+        ensures fed { OnOk result (cut_with self.new.finished.items self.new.piece
+            ≡ fed_all (cut_with self.old.finished.items self.old.piece) (flag_items place complete)) }
     {
         if complete {
             self.put_done(place)?;
@@ -205,19 +239,49 @@ impl Cutter {
         }
     }
 
-    /// Puts a span of a cell into the piece.
-    fn put_span(&mut self, place: CellId, span: Span) -> Result<(), AllocError>
-        requires measured { IsMeasured self.old.piece self.old.length self.old.has_issues self.old.last }
-        requires next { AreNext self.old.piece (a_load place span ∷ []) }
-        ensures measured { OnOk result (IsMeasured self.new.piece self.new.length self.new.has_issues self.new.last) }
-        ensures fed { OnOk result (cut_with self.new.finished.items self.new.piece ≡ fed (cut_with self.old.finished.items self.old.piece) (a_load place span)) }
+    /// How many spans of the cell the piece has room for.
+    fn spans_with_room(&self, place: CellId) -> usize
+        requires { self.now.length + span_bytes (is_last self.now.last place) ≤ body_limit }
+        ensures some { 1 ≤ result }
+        ensures fit { self.now.length + (span_bytes (is_last self.now.last place) + 16 * (result - 1)) ≤ body_limit }
     {
-        self.make_room(self.bytes_with_cell(place))?;
-        let report = load(place, span);
-        self.piece.take(&report)?;
-        self.length += self.bytes_with_cell(place);
+        1 + (BODY_LIMIT - self.length - self.bytes_with_cell(place)) / SPAN_BYTES
+    }
+
+    /// Puts spans of a cell into the piece, which has room for all of them.
+    fn put_run(&mut self, place: CellId, run: &[Span]) -> Result<(), AllocError>
+        requires measured { IsMeasured self.old.piece self.old.length self.old.has_issues self.old.last }
+        requires next { AreNext self.old.piece (map (a_load place) run.now) }
+        requires some { 0 < length run.now }
+        requires fit { self.old.length + (span_bytes (is_last self.old.last place) + 16 * (length run.now - 1)) ≤ body_limit }
+        ensures measured { OnOk result (IsMeasured self.new.piece self.new.length self.new.has_issues self.new.last) }
+        ensures fed { OnOk result (cut_with self.new.finished.items self.new.piece
+            ≡ fed_all (cut_with self.old.finished.items self.old.piece) (map (a_load place) run.now)) }
+    {
+        let bytes = self.bytes_with_cell(place) + SPAN_BYTES * (run.len() - 1);
+        let cell = cell_of(self.alloc, place, run)?;
+        self.piece.put_cell(&cell)?;
+        self.length += bytes;
         self.last = Some(place);
         Ok(())
+    }
+
+    /// Puts as many of the first spans of a cell into a piece as it has room for, at least one, and
+    /// gives the others.
+    fn put_some<'a>(&mut self, place: CellId, spans: &'a [Span]) -> Result<&'a [Span], AllocError>
+        requires measured { IsMeasured self.old.piece self.old.length self.old.has_issues self.old.last }
+        requires next { AreNext self.old.piece (map (a_load place) spans.now) }
+        requires some { 0 < length spans.now }
+        ensures measured { OnOk result (IsMeasured self.new.piece self.new.length self.new.has_issues self.new.last) }
+        ensures feeding { IfOk result (λ rest. IsFeeding (cut_with self.old.finished.items self.old.piece) (cut_with self.new.finished.items self.new.piece)
+            (map (a_load place) spans.now) (map (a_load place) rest.now)) }
+        ensures less { IfOk result (λ rest. length rest.now < length spans.now) }
+    {
+        self.make_room(self.bytes_with_cell(place))?;
+        let count = self.spans_with_room(place).min(spans.len());
+        let (run, rest) = spans.split_at(count);
+        self.put_run(place, run)?;
+        Ok(rest)
     }
 
     /// Puts openings into pieces.
@@ -225,7 +289,8 @@ impl Cutter {
         requires measured { IsMeasured self.old.piece self.old.length self.old.has_issues self.old.last }
         requires next { AreNext self.old.piece (map an_opening openings.now) }
         ensures measured { OnOk result (IsMeasured self.new.piece self.new.length self.new.has_issues self.new.last) }
-        ensures fed { OnOk result (cut_with self.new.finished.items self.new.piece ≡ fed_all (cut_with self.old.finished.items self.old.piece) (map an_opening openings.now)) }
+        ensures fed { OnOk result (cut_with self.new.finished.items self.new.piece
+            ≡ fed_all (cut_with self.old.finished.items self.old.piece) (map an_opening openings.now)) }
     {
         for opening in openings {
             self.put_opening(opening)?;
@@ -241,7 +306,8 @@ impl Cutter {
         requires measured { IsMeasured self.old.piece self.old.length self.old.has_issues self.old.last }
         requires next { AreNext self.old.piece (map (λ e. an_issue (e.0, flat_with arc_value e.1)) issues.now) }
         ensures measured { OnOk result (IsMeasured self.new.piece self.new.length self.new.has_issues self.new.last) }
-        ensures fed { OnOk result (cut_with self.new.finished.items self.new.piece ≡ fed_all (cut_with self.old.finished.items self.old.piece) (map (λ e. an_issue (e.0, flat_with arc_value e.1)) issues.now)) }
+        ensures fed { OnOk result (cut_with self.new.finished.items self.new.piece
+            ≡ fed_all (cut_with self.old.finished.items self.old.piece) (map (λ e. an_issue (e.0, flat_with arc_value e.1)) issues.now)) }
         ensures alone { OnOk result (AllByRecursion (λ e. FitsFrame (items_board (an_issue (e.0, flat_with arc_value e.1) ∷ []))) issues.now) }
     {
         for entry in issues {
@@ -255,10 +321,12 @@ impl Cutter {
         requires measured { IsMeasured self.old.piece self.old.length self.old.has_issues self.old.last }
         requires next { AreNext self.old.piece (map (a_load place) spans.now) }
         ensures measured { OnOk result (IsMeasured self.new.piece self.new.length self.new.has_issues self.new.last) }
-        ensures fed { OnOk result (cut_with self.new.finished.items self.new.piece ≡ fed_all (cut_with self.old.finished.items self.old.piece) (map (a_load place) spans.now)) }
+        ensures fed { OnOk result (cut_with self.new.finished.items self.new.piece
+            ≡ fed_all (cut_with self.old.finished.items self.old.piece) (map (a_load place) spans.now)) }
     {
-        for span in spans {
-            self.put_span(place, *span)?;
+        let mut rest = spans;
+        while !rest.is_empty() {
+            rest = self.put_some(place, rest)?;
         }
         Ok(())
     }
@@ -268,7 +336,8 @@ impl Cutter {
         requires measured { IsMeasured self.old.piece self.old.length self.old.has_issues self.old.last }
         requires next { AreNext self.old.piece (items_of_cell (cell_entry place cell.now)) }
         ensures measured { OnOk result (IsMeasured self.new.piece self.new.length self.new.has_issues self.new.last) }
-        ensures fed { OnOk result (cut_with self.new.finished.items self.new.piece ≡ fed_all (cut_with self.old.finished.items self.old.piece) (items_of_cell (cell_entry place cell.now))) }
+        ensures fed { OnOk result (cut_with self.new.finished.items self.new.piece
+            ≡ fed_all (cut_with self.old.finished.items self.old.piece) (items_of_cell (cell_entry place cell.now))) }
     {
         self.put_flag(place, cell.second.get())?;
         self.put_spans(place, cell.first.spans())
@@ -279,7 +348,8 @@ impl Cutter {
         requires measured { IsMeasured self.old.piece self.old.length self.old.has_issues self.old.last }
         requires next { AreNext self.old.piece (flat_map (λ c. items_of_cell (cell_entry c.0 c.1.now)) cells.now) }
         ensures measured { OnOk result (IsMeasured self.new.piece self.new.length self.new.has_issues self.new.last) }
-        ensures fed { OnOk result (cut_with self.new.finished.items self.new.piece ≡ fed_all (cut_with self.old.finished.items self.old.piece) (flat_map (λ c. items_of_cell (cell_entry c.0 c.1.now)) cells.now)) }
+        ensures fed { OnOk result (cut_with self.new.finished.items self.new.piece
+            ≡ fed_all (cut_with self.old.finished.items self.old.piece) (flat_map (λ c. items_of_cell (cell_entry c.0 c.1.now)) cells.now)) }
     {
         for cell in cells {
             self.put_cell(cell.0, cell.1)?;

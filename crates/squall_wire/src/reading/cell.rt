@@ -11,6 +11,7 @@ use crate::reading::field::{byte_at, word_at};
 use crate::reading::item::Item;
 use crate::reading::span::spans_of;
 use squall_board::Cell;
+use squall_key::PART_LIMIT;
 use std::alloc::Global;
 use std::marker::Model;
 
@@ -74,7 +75,12 @@ fn head_of(last: CellPoint, bytes: &[u8]) -> Result<(CellHead, &[u8]), WireFault
     let (part, rest) = word_at(rest)?;
     let (done, rest) = byte_at(rest)?;
     let (count, rest) = word_at(rest)?;
-    if number < 1 || sub > 9999 || part > 9999 || done > 1 || (done != 1 && count < 1) {
+    if number < 1
+        || sub >= PART_LIMIT
+        || part >= PART_LIMIT
+        || done > 1
+        || (done != 1 && count < 1)
+    {
         return Err(WireFault::Range);
     }
     if !last.is_before(number, sub, part) {

@@ -7,8 +7,12 @@ use crate::reading::field::word_at;
 use crate::reading::item::Item;
 use std::alloc::Global;
 
-/// So many items at the front of the bytes, and the bytes after them. Room is made as items come,
-/// so that a great count before few bytes costs nothing.
+/// Room for one item in so many bytes is made at once, and for others as they come: openings, and
+/// the ranges of plans, have fewer bytes.
+const BYTES_OF_ROOM: usize = 16;
+
+/// So many items at the front of the bytes, and the bytes after them. Room is made at
+/// first for one item in 16 bytes at most, so that a great count before few bytes costs nothing.
 pub(crate) fn many<T: Item>(
     alloc: Global,
     count: u32,
@@ -18,6 +22,7 @@ pub(crate) fn many<T: Item>(
     ensures { Gives (λ x. (x.0.items, x.1.now)) result (many_at T.read_at T.next count start bytes.now) }
 {
     let mut items = Vec::new(alloc);
+    items.reserve((count as usize).min(bytes.len() / BYTES_OF_ROOM))?;
     let mut point = start;
     let mut rest = bytes;
     for _ in 0..count {

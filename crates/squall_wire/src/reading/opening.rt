@@ -7,6 +7,7 @@ use crate::fault::WireFault;
 use crate::reading::field::word_at;
 use crate::reading::item::Item;
 use squall_board::Opening;
+use squall_key::PART_LIMIT;
 use std::alloc::Global;
 
 /// The point is the number of the last opening, 0 before the first.
@@ -21,7 +22,7 @@ impl Item for Opening {
     fn read(_alloc: Global, last: u32, bytes: &[u8]) -> Result<(Opening, &[u8]), WireFault> {
         let (number, rest) = word_at(bytes)?;
         let (count, rest) = word_at(rest)?;
-        if number < 1 || count < 1 || count > 10000 {
+        if number < 1 || count < 1 || count > PART_LIMIT {
             return Err(WireFault::Range);
         }
         if number <= last {

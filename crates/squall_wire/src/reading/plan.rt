@@ -8,11 +8,9 @@ use crate::fault::WireFault;
 use crate::reading::field::word_at;
 use crate::reading::list::many;
 use crate::reading::range::RangePoint;
-use squall_plan::{Plan, PlanRange, one_list};
+use squall_plan::laws::one_list;
+use squall_plan::{Plan, PlanRange, RANGE_LIMIT};
 use std::alloc::Global;
-
-/// The most ranges that a plan has.
-const RANGE_LIMIT: u32 = 4096;
 
 /// The ranges of a plan at the front of the bytes, and the bytes after them.
 #[tactic(auto, unfolding(crate::specs::Reading::plan_at))]
@@ -20,7 +18,7 @@ fn ranges_of(alloc: Global, bytes: &[u8]) -> Result<(Vec<PlanRange>, &[u8]), Wir
     ensures { Gives (λ x. (x.0.items, x.1.now)) result (plan_at bytes.now) }
 {
     let (count, rest) = word_at(bytes)?;
-    if count < 1 || count > RANGE_LIMIT {
+    if count < 1 || count as usize > RANGE_LIMIT {
         return Err(WireFault::Range);
     }
     many(alloc, count, RangePoint::start(count), rest)

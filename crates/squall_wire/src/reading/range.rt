@@ -48,7 +48,8 @@ impl RangePoint {
 
     /// The range from here to a bound, of a partition.
     fn range(self, hi: u64, part: u32) -> Result<PlanRange, WireFault>
-        ensures { Gives (λ r. r) result (checked (range_in_range self (range_of self hi part)) (range_in_order self (range_of self hi part)) (range_of self hi part)) }
+        ensures { Gives (λ r. r) result
+            (checked (range_in_range self (range_of self hi part)) (range_in_order self (range_of self hi part)) (range_of self hi part)) }
     {
         let to = Bound::of_rank(hi).ok_or(WireFault::Range)?;
         let owner = PartId::new(part).ok_or(WireFault::Range)?;

@@ -7,6 +7,7 @@ use crate::digest::{DigestRow, IssueRow};
 use crate::fault::WireFault;
 use crate::reading::field::{hash_at, word_at};
 use crate::reading::item::Item;
+use squall_key::PART_LIMIT;
 use std::alloc::Global;
 
 /// The point is the number of the last row, 0 before the first.
@@ -52,7 +53,7 @@ impl Item for DigestRow {
         let (number, rest) = word_at(bytes)?;
         let (sub, rest) = word_at(rest)?;
         let (hash, rest) = hash_at(rest)?;
-        if number < 1 || sub > 9999 {
+        if number < 1 || sub >= PART_LIMIT {
             return Err(WireFault::Range);
         }
         if number < last.0 || (number == last.0 && sub <= last.1) {

@@ -1,17 +1,20 @@
 //! The spans of a cell.
 
-ghost use Rattle.std.specs.Prelude.{◌≡◌, ◌≢◌, Err, IfOk, IfErr};
+ghost use Rattle.std.specs.Prelude.{◌≡◌, ◌≢◌, [], Err, IfOk, IfErr};
 ghost use Rattle.squall_span.specs.Spans.{interval};
 ghost use Rattle.squall_wire.specs.declared.fault.WireFault.TheVariants.{NoMemory};
 ghost use Rattle.squall_wire.specs.Limits.{span_in_range, span_in_order, after_span};
 ghost use Rattle.squall_wire.specs.Reading.{Gives, checked, many_at, span_at};
-ghost use Rattle.squall_wire.specs.Views.{HasAdded};
+ghost use Rattle.squall_wire.specs.Views.{HasAdded, HasRoom};
 
 use crate::fault::WireFault;
 use crate::reading::field::rank_at;
 use squall_key::Bound;
-use squall_span::{Span, SpanSet};
+use squall_span::{ReadySet, Span, SpanSet};
 use std::alloc::Global;
+
+/// How many bytes a span has.
+const SPAN_LENGTH: usize = 16;
 
 /// The span of two ranks. It begins at the floor or above.
 fn span_of(floor: u64, lo: u64, hi: u64) -> Result<Span, WireFault>
@@ -25,22 +28,37 @@ fn span_of(floor: u64, lo: u64, hi: u64) -> Result<Span, WireFault>
     Span::new(from, to).ok_or(WireFault::Order)
 }
 
-/// Adds the span at the front of the bytes to the set. It gives the floor of the next span, and
-/// the bytes after this one.
+/// Adds the span at the front of the bytes to the set, in room that is there. It gives the floor
+/// of the next span, and the bytes after this one.
 #[tactic(auto, unfolding(crate::specs::Reading::span_at))]
 fn add_span<'a>(
-    spans: &mut SpanSet,
+    spans: &mut ReadySet,
     floor: u64,
     bytes: &'a [u8],
 ) -> Result<(u64, &'a [u8]), WireFault>
+    requires room { HasRoom 1 bytes.now spans.old.room }
     ensures ok { IfOk result (λ x. HasAdded floor bytes.now spans.old spans.new x.0 x.1.now) }
     ensures err { IfErr result (λ e. e ≢ NoMemory → span_at floor bytes.now ≡ Err e) }
 {
     let (lo, rest) = rank_at(bytes)?;
     let (hi, rest) = rank_at(rest)?;
     let span = span_of(floor, lo, hi)?;
-    spans.insert(span)?;
+    spans.insert(span);
     Ok((span.hi().rank() + 1, rest))
+}
+
+/// The empty set, with room for so many spans, but for no more than the bytes can hold. So a great
+/// count before few bytes costs nothing.
+fn room_for(alloc: Global, count: u32, bytes: &[u8]) -> Result<ReadySet, WireFault>
+    ensures empty { IfOk result (λ r. r.set ≡ []) }
+    ensures room { IfOk result (λ r. HasRoom count bytes.now r.room) }
+    ensures err { IfErr result (λ e. e ≡ NoMemory) }
+{
+    let most = (count as usize).min(bytes.len() / SPAN_LENGTH);
+    match SpanSet::empty(alloc).with_room(most) {
+        Ok(ready) => Ok(ready),
+        Err(_) => Err(WireFault::NoMemory),
+    }
 }
 
 /// So many spans at the front of the bytes as a set, and the bytes after them. Each begins above
@@ -52,7 +70,7 @@ pub(crate) fn spans_of(
 ) -> Result<(SpanSet, &[u8]), WireFault>
     ensures { Gives (λ x. (x.0, x.1.now)) result (many_at span_at after_span count 0 bytes.now) }
 {
-    let mut spans = SpanSet::empty(alloc);
+    let mut spans = room_for(alloc, count, bytes)?;
     let mut floor = 0;
     let mut rest = bytes;
     for _ in 0..count {
@@ -60,5 +78,5 @@ pub(crate) fn spans_of(
         floor = next;
         rest = after;
     }
-    Ok((spans, rest))
+    Ok((spans.into_set(), rest))
 }

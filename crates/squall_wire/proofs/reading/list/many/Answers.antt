@@ -6,7 +6,7 @@ use Rattle.squall_wire.proofs.reading.list.many.Goals as goal
 
 pub returns-in_err-item : goal.returns-in_err-item
 returns-in_err-item g c =
-    let p = err_from_is_err_and c.from_residual.result c.from_residual.ensures.1 in
+    let p = err_from_is_err_and c.from_residual-in_err-item.result c.from_residual-in_err-item.ensures.1 in
     rw (p.1, p.2) (ends g.T.Item.read_at g.T.Item.next c.in_err-item.field-0.0 c.loop.items.items c.args.count c.loop.counter c.loop.point c.loop.rest.now (many_at g.T.Item.read_at g.T.Item.next c.args.count c.args.start c.args.bytes.now) c.loop-test.true c.in_err-item.ensures c.loop.invariant)
 
 pub loop-preserved : goal.loop-preserved

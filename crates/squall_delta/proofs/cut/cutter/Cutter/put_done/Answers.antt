@@ -8,7 +8,7 @@ pub returns-clause-measured : goal.returns-clause-measured
 returns-clause-measured c =
     let next = next_room c.args.self.now.finished.items c.make_room.new.self.finished.items c.args.self.now.piece c.make_room.new.self.piece (c.args.self.now.length + 17) (done c.args.place ∷ []) c.in_ok-make_room.ensures.fed c.requires.next in
     measured_step c.args.self.now.finished.items c.make_room.new.self.finished.items c.args.self.now.piece c.make_room.new.self.piece c.take.new.self (done c.args.place) c.args.self.now.length 17 c.make_room.new.self.length 17 c.make_room.new.self.has_issues c.make_room.new.self.has_issues c.make_room.new.self.last (Some c.args.place)
-    c.in_ok-make_room.ensures.fed c.requires.measured.length (done_costs c.args.self.now.piece c.args.place c.requires.next) c.requires.next (c.in_ok-take.ensures.board ∙ ap (λ r. board_join c.make_room.new.self.piece (report_board r)) c.completion-report.ensures) c.in_ok-make_room.ensures.measured (done_costs c.make_room.new.self.piece c.args.place next) (done_alone c.args.place c.requires.next.within.0) c.in_ok-make_room.ensures.measured.issues (done_last c.make_room.new.self.piece c.args.place next)
+    c.in_ok-make_room.ensures.fed c.requires.measured.length (done_costs c.args.self.now.piece c.args.place c.requires.next) c.requires.next (c.in_ok-take.ensures.takes.joined ∙ ap (λ r. board_join c.make_room.new.self.piece (report_board r)) c.completion-report.ensures) c.in_ok-make_room.ensures.measured (done_costs c.make_room.new.self.piece c.args.place next) (done_alone c.args.place c.requires.next.within.0) c.in_ok-make_room.ensures.measured.issues (done_last c.make_room.new.self.piece c.args.place next)
 
 pub returns-clause-fed : goal.returns-clause-fed
-returns-clause-fed c = fed_step c.args.self.now.finished.items c.make_room.new.self.finished.items c.args.self.now.piece c.make_room.new.self.piece c.take.new.self (done c.args.place) c.args.self.now.length 17 c.in_ok-make_room.ensures.fed c.requires.measured.length (done_costs c.args.self.now.piece c.args.place c.requires.next) c.requires.next (c.in_ok-take.ensures.board ∙ ap (λ r. board_join c.make_room.new.self.piece (report_board r)) c.completion-report.ensures)
+returns-clause-fed c = fed_step c.args.self.now.finished.items c.make_room.new.self.finished.items c.args.self.now.piece c.make_room.new.self.piece c.take.new.self (done c.args.place) c.args.self.now.length 17 c.in_ok-make_room.ensures.fed c.requires.measured.length (done_costs c.args.self.now.piece c.args.place c.requires.next) c.requires.next (c.in_ok-take.ensures.takes.joined ∙ ap (λ r. board_join c.make_room.new.self.piece (report_board r)) c.completion-report.ensures)

@@ -12,10 +12,10 @@ pub returns-clause-measured : goal.returns-clause-measured
 returns-clause-measured c =
     let e : ℕ × Flat PlanPair = (c.args.number, flat_map arc_value c.args.issue.now) in
     measured_step c.args.self.now.finished.items c.make_room.new.self.finished.items c.args.self.now.piece c.make_room.new.self.piece c.put_issue.new.self (issue e) c.args.self.now.length c.bytes_with_count.result c.make_room.new.self.length c.bytes_with_count-2.result c.make_room.new.self.has_issues true c.make_room.new.self.last c.make_room.new.self.last
-    c.in_ok-make_room.ensures.fed c.requires.measured.length (c.bytes_with_count.ensures ∙ issue_costs c.args.self.now.piece e c.args.self.now.has_issues c.issue_bytes-bytes.result c.requires.measured.issues c.issue_bytes-bytes.ensures.bytes) c.requires.next c.in_ok-put_issue.ensures.board c.in_ok-make_room.ensures.measured
+    c.in_ok-make_room.ensures.fed c.requires.measured.length (c.bytes_with_count.ensures ∙ issue_costs c.args.self.now.piece e c.args.self.now.has_issues c.issue_bytes-bytes.result c.requires.measured.issues c.issue_bytes-bytes.ensures.bytes) c.requires.next c.in_ok-put_issue.ensures.takes.joined c.in_ok-make_room.ensures.measured
     (c.bytes_with_count-2.ensures ∙ issue_costs c.make_room.new.self.piece e c.make_room.new.self.has_issues c.issue_bytes-bytes.result c.in_ok-make_room.ensures.measured.issues c.issue_bytes-bytes.ensures.bytes) (issue_alone e c.requires.next.within.0 (subst (λ n. n ≤ 98317) c.issue_bytes-bytes.ensures.bytes c.issue_bytes-bytes.ensures.few)) (some_issue (issues_of c.make_room.new.self.piece) e) c.in_ok-make_room.ensures.measured.last
 
 pub returns-clause-fed : goal.returns-clause-fed
 returns-clause-fed c =
     let e : ℕ × Flat PlanPair = (c.args.number, flat_map arc_value c.args.issue.now) in
-    fed_step c.args.self.now.finished.items c.make_room.new.self.finished.items c.args.self.now.piece c.make_room.new.self.piece c.put_issue.new.self (issue e) c.args.self.now.length c.bytes_with_count.result c.in_ok-make_room.ensures.fed c.requires.measured.length (c.bytes_with_count.ensures ∙ issue_costs c.args.self.now.piece e c.args.self.now.has_issues c.issue_bytes-bytes.result c.requires.measured.issues c.issue_bytes-bytes.ensures.bytes) c.requires.next c.in_ok-put_issue.ensures.board
+    fed_step c.args.self.now.finished.items c.make_room.new.self.finished.items c.args.self.now.piece c.make_room.new.self.piece c.put_issue.new.self (issue e) c.args.self.now.length c.bytes_with_count.result c.in_ok-make_room.ensures.fed c.requires.measured.length (c.bytes_with_count.ensures ∙ issue_costs c.args.self.now.piece e c.args.self.now.has_issues c.issue_bytes-bytes.result c.requires.measured.issues c.issue_bytes-bytes.ensures.bytes) c.requires.next c.in_ok-put_issue.ensures.takes.joined
