@@ -6,7 +6,9 @@ use Rattle.squall_plan.specs.declared.range.PlanRange.{PlanRange}
 use Rattle.squall_course.specs.declared.moving.Move.{Move}
 use Rattle.squall_report.specs.Facts.{Fact}
 use Rattle.squall_board.specs.Boards.{says}
+use Rattle.squall_board.specs.MovesRoute.{route_by_moves}
 use Rattle.squall_table.specs.declared.routes.Heard.{Heard}
+use Rattle.squall_table.specs.declared.routes.Routes.{Routes}
 use Rattle.squall_table.specs.declared.routes.Heard.TheVariants.{Board, All}
 
 -- ---- lists that grow
@@ -77,3 +79,7 @@ pub record EndMove (ms : List Move) (bound first i : ℕ) : Type 0 where
 abbrev pub said : Heard → Fact → Bool
 said (Board b) fact = says b.now fact
 said All fact = true
+
+-- the routes by the moves of a course of that number, by what is said, and by the legs for keys of no move
+abbrev pub route_told : Routes → ℕ → ℕ
+route_told r = route_by_moves r.number r.legs.now r.moves.now (said r.heard)

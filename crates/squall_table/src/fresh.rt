@@ -8,42 +8,40 @@ ghost use Rattle.squall_plan.specs.Ranges.{owner_of, IsCanonical};
 ghost use Rattle.squall_course.specs.Change.{ArePlans};
 ghost use Rattle.squall_course.specs.Moves.{moves_of, AreMoves};
 ghost use Rattle.squall_board.specs.MovesRoute.{route_by_moves};
-ghost use Rattle.squall_table.specs.Legs.{Legs, Grows, MovesRise, said};
-ghost use Rattle.squall_table.specs.Patching.{StartsFrom, renewed};
+ghost use Rattle.squall_table.specs.Legs.{Legs, Grows, MovesRise, said, route_told};
+ghost use Rattle.squall_table.specs.Patching.{StartsFrom, IsRenewed, renewed};
 ghost use Rattle.squall_table.specs.Reach.{moves_in};
 
 use crate::legs::copy_legs;
 use crate::near::{near_end, near_start};
-use crate::routes::{Heard, first_move, push_routes};
+use crate::routes::{Heard, Routes, first_move, push_routes};
 use crate::table::Leg;
-use squall_course::{Course, Move};
+use squall_course::Course;
 use squall_key::Bound;
 use squall_span::Span;
 use std::alloc::{AllocError, Global};
 
-/// Legs for the keys from `lo` to `hi`, those of the set by their routes and the others as among
-/// the legs, and how many moves share a key with the set. A move is taken up once, though it may
-/// share keys with more than one span. The first and the last leg are looked for at `near` first.
+/// Legs for the keys from `lo` to `hi`: those of the set by their routes, the others as among the
+/// legs; and how many moves share a key with the set. A move counts once, though it may share keys
+/// with more than one span. The first and the last leg are looked for at `near` first.
 fn fresh_legs(
     alloc: Global,
-    legs: &[Leg],
+    routes: Routes,
     near: (usize, usize),
-    moves: &[Move],
-    number: u32,
-    heard: Heard,
     set: &[Span],
     lo: Bound,
     hi: Bound,
 ) -> Result<(Vec<Leg>, usize), AllocError>
-    requires legs { IsCanonical legs.now }
-    requires rise { MovesRise 0 moves.now }
+    requires legs { IsCanonical routes.legs.now }
+    requires rise { MovesRise 0 routes.moves.now }
     requires set { IsCanonicalSet set.now }
     requires starts { StartsFrom lo set.now }
     requires ends { EndsBy hi set.now }
     requires order { lo ≤ hi }
-    ensures legs { IfOk result (λ made. Grows (renewed set.now (route_by_moves number legs.now moves.now (said heard.entry)) (owner_of legs.now)) lo hi [] made.0.items) }
-    ensures moves { IfOk result (λ made. made.1 ≡ moves_in set.now moves.now) }
+    ensures legs { IfOk result (λ made. Grows (renewed set.now (route_told routes.entry) (owner_of routes.entry.legs.now)) lo hi [] made.0.items) }
+    ensures moves { IfOk result (λ made. made.1 ≡ moves_in set.now routes.entry.moves.now) }
 {
+    let (legs, moves) = (routes.legs, routes.moves);
     let mut out = Vec::new(alloc);
     let mut reach = lo;
     let mut seen = 0;
@@ -52,7 +50,7 @@ fn fresh_legs(
         copy_legs(&mut out, legs, near.0, reach, span.lo())?;
         let first = first_move(moves, span.lo());
         let (from, to) = (span.lo(), span.hi());
-        let end = push_routes(&mut out, legs, moves, number, heard, first, from, to)?;
+        let end = push_routes(&mut out, routes, first, from, to)?;
         taken += end.saturating_sub(first.max(seen));
         seen = seen.max(end);
         reach = span.hi();
@@ -101,26 +99,20 @@ pub(crate) fn renew(
     ensures order { IfOk result (λ r. r.first < r.end) }
     ensures some { IfOk result (λ r. 0 < length r.fresh.items) }
     ensures within { IfOk result (λ r. r.end ≤ length legs.now) }
-    ensures legs { IfOk result (λ r. Legs (renewed set.now (route_by_moves course.now.number legs.now (moves_of course.now.old course.now.new) (said heard.entry)) (owner_of legs.now)) 0 top (splice legs.now r.first r.end r.fresh.items)) }
+    ensures legs { IfOk result (λ r. IsRenewed course.now (said heard.entry) set.now legs.now (splice legs.now r.first r.end r.fresh.items)) }
     ensures moves { IfOk result (λ r. r.moves ≡ moves_in set.now (moves_of course.now.old course.now.new)) }
 {
     let first = near_start(legs, at, set[0].lo());
     let end = near_end(legs, first, set[set.len() - 1].hi());
     let lo = legs[first].span.lo();
     let hi = legs[end - 1].span.hi();
-    let number = course.number();
-    let near = (first, end - 1);
-    let (fresh, moves) = fresh_legs(
-        alloc,
+    let routes = Routes {
         legs,
-        near,
-        course.moves(),
-        number,
+        moves: course.moves(),
+        number: course.number(),
         heard,
-        set,
-        lo,
-        hi,
-    )?;
+    };
+    let (fresh, moves) = fresh_legs(alloc, routes, (first, end - 1), set, lo, hi)?;
     Ok(Renewal {
         first,
         end,

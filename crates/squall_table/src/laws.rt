@@ -26,14 +26,17 @@ pub fn legs_are_key_by_key()
 
 /// Where each moving key has come, the table is the list of the new plan's ranges.
 pub fn all_in_is_the_new_plan()
-    ensures { (c : Change) (b : BoardValue) (ls : List PlanRange) → IsCanonical c.new → ((k : ℕ) → k < top → moves c.old c.new k ≡ true → has_come c (says b) k ≡ true) → IsTable c b ls → ls ≡ c.new }
+    ensures { (c : Change) (b : BoardValue) (ls : List PlanRange) → IsCanonical c.new
+        → ((k : ℕ) → k < top → moves c.old c.new k ≡ true → has_come c (says b) k ≡ true) → IsTable c b ls → ls ≡ c.new }
 {}
 
 /// The table of an older board, whose routes differ at most in a set, has the route of each key
 /// outside the set; and a key that does not move has its one owner.
 pub fn older_tables_stay_outside()
-    ensures outside { (c : Change) (b : BoardValue) (set : List Interval) (ls : List PlanRange) (k : ℕ) → WasTable c b set ls → k < top → has set k ≡ false → owner_of ls k ≡ route c (says b) k }
-    ensures unmoved { (c : Change) (b : BoardValue) (set : List Interval) (ls : List PlanRange) (k : ℕ) → WasTable c b set ls → k < top → moves c.old c.new k ≡ false → owner_of ls k ≡ owner_of c.new k }
+    ensures outside { (c : Change) (b : BoardValue) (set : List Interval) (ls : List PlanRange) (k : ℕ) → WasTable c b set ls → k < top
+        → has set k ≡ false → owner_of ls k ≡ route c (says b) k }
+    ensures unmoved { (c : Change) (b : BoardValue) (set : List Interval) (ls : List PlanRange) (k : ℕ) → WasTable c b set ls → k < top
+        → moves c.old c.new k ≡ false → owner_of ls k ≡ owner_of c.new k }
 {}
 
 /// A key is touched where some cell of the course's number touches it.

@@ -3,11 +3,13 @@
 //!
 //! A table has, by rising key, one leg for each longest run of keys that are asked for at one
 //! partition. So a course and a board have one table, however it came to be.
+//!
+//! Its tests are in `crates/squall_test_tables/src/table.rt`.
 #![tactic(auto)]
 
 mod fresh;
 mod index;
-mod laws;
+pub mod laws;
 mod legs;
 mod meter;
 mod near;
@@ -20,10 +22,6 @@ mod single;
 mod table;
 mod touch;
 
-pub use laws::{
-    all_in_is_the_new_plan, legs_are_key_by_key, older_tables_stay_outside, one_list_of_legs,
-    touched_by_cells,
-};
 pub use meter::Meter;
 pub use table::{Leg, RouteTable};
 pub use touch::touched;

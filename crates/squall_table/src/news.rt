@@ -1,8 +1,7 @@
 //! What a board and its table take.
 
 ghost use Rattle.std.specs.Prelude.{◌≡◌, OnOk, OnErr};
-ghost use Rattle.squall_report.specs.Told.{TellsBoth};
-ghost use Rattle.squall_board.specs.Boards.{board_join, told};
+ghost use Rattle.squall_board.specs.Takes.{TakesBoard};
 ghost use Rattle.squall_table.specs.News.{news_board};
 
 use squall_board::{Board, Delta};
@@ -21,8 +20,7 @@ pub(crate) enum News<'a> {
 /// The board takes the news. It fails where an allocation fails, or where the count of an issue's
 /// owners is full, and then the board is unchanged.
 pub(crate) fn take_news(board: &mut Board, news: News) -> Result<(), AllocError>
-    ensures board { OnOk result (board.new ≡ board_join board.old (news_board news.entry)) }
-    ensures told { OnOk result (TellsBoth (told board.new) (told board.old) (told (news_board news.entry))) }
+    ensures takes { OnOk result (TakesBoard board.old (news_board news.entry) board.new) }
     ensures err { OnErr result (board.new ≡ board.old) }
 {
     match news {

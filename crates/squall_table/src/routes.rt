@@ -7,12 +7,13 @@ ghost use Rattle.squall_span.specs.Places.{Ended};
 ghost use Rattle.squall_plan.specs.Ranges.{owner_of, IsCanonical};
 ghost use Rattle.squall_report.specs.Cells.{place_at};
 ghost use Rattle.squall_board.specs.Boards.{says};
-ghost use Rattle.squall_board.specs.MovesRoute.{has_come_to, cell_has_come, route_in_move, route_by_moves};
-ghost use Rattle.squall_table.specs.Legs.{Grows, pick, MovesRise, FirstMove, EndMove, said};
+ghost use Rattle.squall_board.specs.MovesRoute.{has_come_to, cell_has_come, route_in_move};
+ghost use Rattle.squall_table.specs.Legs.{Grows, pick, MovesRise, FirstMove, EndMove, said, route_told};
 
 use crate::legs::{copy_legs, push_leg};
 use crate::table::Leg;
-use squall_board::{Board, CellParts, coming_by_the_cell};
+use squall_board::laws::coming_by_the_cell;
+use squall_board::{Board, CellParts};
 use squall_course::Move;
 use squall_key::{Bound, PartId};
 use squall_report::CellId;
@@ -124,36 +125,44 @@ pub(crate) fn first_move(moves: &[Move], bound: Bound) -> usize
     moves.partition_point(|moved| moved.span.hi() <= bound)
 }
 
-/// Adds the keys from `lo` to `hi` by their routes in the course of that number, the keys of no move
-/// as among the legs. The first move is the first that ends beyond `lo`; the result is the place
-/// after the last that begins below `hi`. After an error the list may have changed.
+/// What tells the route of each key: the moves of the course of that number and what is heard of
+/// their keys; for keys of no move the legs.
+#[derive(Clone, Copy)]
+pub(crate) struct Routes<'a> {
+    pub(crate) legs: &'a [Leg],
+    pub(crate) moves: &'a [Move],
+    pub(crate) number: u32,
+    pub(crate) heard: Heard<'a>,
+}
+
+/// Adds the keys from `lo` to `hi` by their routes. The first move is the first that ends beyond
+/// `lo`. The result is the index after the last move that begins below `hi`. After an error the list
+/// may have changed.
 pub(crate) fn push_routes(
     out: &mut Vec<Leg>,
-    legs: &[Leg],
-    moves: &[Move],
-    number: u32,
-    heard: Heard,
+    routes: Routes,
     first: usize,
     lo: Bound,
     hi: Bound,
 ) -> Result<usize, AllocError>
-    requires canonical { IsCanonical legs.now }
-    requires rise { MovesRise 0 moves.now }
-    requires first { FirstMove moves.now lo first }
+    requires canonical { IsCanonical routes.legs.now }
+    requires rise { MovesRise 0 routes.moves.now }
+    requires first { FirstMove routes.moves.now lo first }
     requires order { lo ≤ hi }
-    ensures grows { OnOk result (Grows (route_by_moves number legs.now moves.now (said heard.entry)) lo hi out.old.items out.new.items) }
-    ensures end { IfOk result (EndMove moves.now hi first) }
+    ensures grows { OnOk result (Grows (route_told routes.entry) lo hi out.old.items out.new.items) }
+    ensures end { IfOk result (EndMove routes.entry.moves.now hi first) }
 {
+    let moves = routes.moves;
     let mut reach = lo;
     let mut at = first;
     while at < moves.len() && moves[at].span.lo().rank() < hi.rank() {
         let moved = moves[at];
         let start = moved.span.lo().max(reach);
-        copy_legs(out, legs, 0, reach, start)?;
+        copy_legs(out, routes.legs, 0, reach, start)?;
         reach = moved.span.hi().min(hi);
-        push_move(out, &moved, number, heard, start, reach)?;
+        push_move(out, &moved, routes.number, routes.heard, start, reach)?;
         at += 1;
     }
-    copy_legs(out, legs, 0, reach, hi)?;
+    copy_legs(out, routes.legs, 0, reach, hi)?;
     Ok(at)
 }

@@ -7,7 +7,7 @@ ghost use Rattle.squall_table.specs.Tables.{AreLegs, IsTable};
 
 use crate::index::Index;
 use crate::legs::copy_legs;
-use crate::routes::{Heard, first_move, push_routes};
+use crate::routes::{Heard, Routes, first_move, push_routes};
 use squall_board::Board;
 use squall_course::Course;
 use squall_key::{Bound, Key, PartId};
@@ -58,17 +58,13 @@ impl RouteTable {
         let moves = course.moves();
         let old = course.old_plan().ranges();
         let first = first_move(moves, bottom());
-        let heard = Heard::Board(board);
-        push_routes(
-            &mut legs,
-            old,
+        let routes = Routes {
+            legs: old,
             moves,
-            course.number(),
-            heard,
-            first,
-            bottom(),
-            Bound::TOP,
-        )?;
+            number: course.number(),
+            heard: Heard::Board(board),
+        };
+        push_routes(&mut legs, routes, first, bottom(), Bound::TOP)?;
         let index = Index::over(alloc, &legs)?;
         Ok(RouteTable { legs, index })
     }

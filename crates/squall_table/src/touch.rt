@@ -15,7 +15,6 @@ use crate::routes::first_move;
 use squall_board::{CellParts, Delta};
 use squall_course::{Course, Move};
 use squall_join::JoinMap;
-use squall_key::PartId;
 use squall_report::{CellId, Report, ReportKind};
 use squall_span::{Span, SpanSet};
 use std::alloc::{AllocError, Global};
@@ -167,7 +166,8 @@ fn add_subs(
 /// where an allocation fails.
 pub fn touched(alloc: Global, course: &Course, delta: &Delta) -> Result<SpanSet, AllocError>
     ensures keys { IfOk result (λ set. (k : ℕ) → has set k ≡ is_touched course.now (says delta.now) k) }
-    ensures changed { IfOk result (λ set. (before after : BoardValue) → TellsBoth (told after) (told before) (told delta.now) → ChangesWithin course.now before after set) }
+    ensures changed { IfOk result (λ set. (before after : BoardValue) → TellsBoth (told after) (told before) (told delta.now)
+        → ChangesWithin course.now before after set) }
 {
     delta.known();
     let mut set = SpanSet::empty(alloc);
@@ -192,7 +192,13 @@ fn touched_by_load(
     if cell.number() != course.number() {
         return Ok(set);
     }
-    add_span(&mut set, course.moves(), cell.sub(), cell.part(), span)?;
+    add_span(
+        &mut set,
+        course.moves(),
+        cell.sub(),
+        cell.part().get(),
+        span,
+    )?;
     Ok(set)
 }
 
@@ -208,11 +214,7 @@ fn touched_by_completion(
     if cell.number() != course.number() {
         return Ok(SpanSet::empty(alloc));
     }
-    match PartId::new(cell.part()) {
-        Some(part) => course.incoming(alloc, cell.sub(), part),
-        // No place has such a partition.
-        None => Ok(SpanSet::empty(alloc)),
-    }
+    course.incoming(alloc, cell.sub(), cell.part())
 }
 
 /// The keys that the report touches: of a load under the course's number those that its place awaits,

@@ -10,10 +10,10 @@ use Rattle.squall_table.proofs.fresh.fresh_legs.Goals as goal
 pub loop-span-preserved : goal.loop-span-preserved
 loop-span-preserved c =
     let set = c.args.set.now in
-    let ms = c.args.moves.now in
+    let ms = c.args.routes.moves.now in
     let x : Interval = c.span-item.result in
-    let own : ℕ → ℕ = owner_of c.args.legs.now in
-    let r : ℕ → ℕ = route_by_moves c.args.number c.args.legs.now ms (said c.args.heard) in
+    let own : ℕ → ℕ = owner_of c.args.routes.legs.now in
+    let r : ℕ → ℕ = route_by_moves c.args.routes.number c.args.routes.legs.now ms (said c.args.routes.heard) in
     let g : ℕ → ℕ = renewed set r own in
     let before : Grows own c.loop-span.reach x.lo c.loop-span.out.items c.copy_legs.new.out.items = subst (λ b. Grows own c.loop-span.reach b c.loop-span.out.items c.copy_legs.new.out.items) c.lo.ensures.value c.in_ok-copy_legs.ensures in
     let this : Grows r x.lo x.hi c.copy_legs.new.out.items c.push_routes.new.out.items =
@@ -27,8 +27,8 @@ loop-span-preserved c =
     c.requires.set c.requires.ends c.loop-span-test.true c.span-item.is c.loop-span.invariant counted before this)
 
 pub returns-clause-moves : goal.returns-clause-moves
-returns-clause-moves c = counted_done (renewed c.args.set.now (route_by_moves c.args.number c.args.legs.now c.args.moves.now (said c.args.heard)) (owner_of c.args.legs.now)) c.args.set.now c.args.moves.now c.args.lo c.loop-span.reach c.args.hi c.loop-span.span-index c.loop-span.seen c.loop-span.taken c.loop-span.out.items c.loop-span-test.false c.loop-span.invariant
+returns-clause-moves c = counted_done (renewed c.args.set.now (route_by_moves c.args.routes.number c.args.routes.legs.now c.args.routes.moves.now (said c.args.routes.heard)) (owner_of c.args.routes.legs.now)) c.args.set.now c.args.routes.moves.now c.args.lo c.loop-span.reach c.args.hi c.loop-span.span-index c.loop-span.seen c.loop-span.taken c.loop-span.out.items c.loop-span-test.false c.loop-span.invariant
 
 pub returns-clause-legs : goal.returns-clause-legs
-returns-clause-legs c = patching_done (route_by_moves c.args.number c.args.legs.now c.args.moves.now (said c.args.heard)) (owner_of c.args.legs.now) c.args.set.now c.args.moves.now c.args.lo c.loop-span.reach c.args.hi c.loop-span.span-index c.loop-span.seen c.loop-span.taken c.loop-span.out.items c.copy_legs-2.new.out.items
+returns-clause-legs c = patching_done (route_by_moves c.args.routes.number c.args.routes.legs.now c.args.routes.moves.now (said c.args.routes.heard)) (owner_of c.args.routes.legs.now) c.args.set.now c.args.routes.moves.now c.args.lo c.loop-span.reach c.args.hi c.loop-span.span-index c.loop-span.seen c.loop-span.taken c.loop-span.out.items c.copy_legs-2.new.out.items
     c.requires.set c.loop-span-test.false c.loop-span.invariant c.in_ok-copy_legs-2.ensures

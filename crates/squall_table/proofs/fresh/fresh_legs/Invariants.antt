@@ -6,4 +6,4 @@ use Rattle.squall_table.proofs.Patching.{Patching}
 use Rattle.squall_table.proofs.fresh.fresh_legs.Given as goal
 
 abbrev pub invariant-loop-span : goal.invariant-loop-span
-invariant-loop-span l = Patching (renewed l.set (route_by_moves l.number l.legs l.moves (said l.heard)) (owner_of l.legs)) l.set l.moves l.fn.lo l.reach l.hi l.span-index l.seen l.taken l.out.items
+invariant-loop-span l = Patching (renewed l.set (route_by_moves l.routes.number l.routes.legs.now l.moves (said l.routes.heard)) (owner_of l.routes.legs.now)) l.set l.moves l.fn.lo l.reach l.hi l.span-index l.seen l.taken l.out.items

@@ -37,7 +37,7 @@ returns-clause-legs c =
     let hi : c.hi-hi.result ≡ c.index-legs-end.result.span.hi = c.hi-hi.ensures.value ∙ ap (λ (l : PlanRange). l.span.hi) (sym c.index-legs-end.is) in
     let ls = c.args.legs.now in
     let grows : Grows (renewed c.args.set.now (route_by_moves c.args.course.now.number ls c.moves.result.now (said c.args.heard)) (owner_of ls)) c.lo-lo.result c.hi-hi.result [] c.in_ok-fresh.fresh.items =
-    subst (λ n. Grows (renewed c.args.set.now (route_by_moves n ls c.moves.result.now (said c.args.heard)) (owner_of ls)) c.lo-lo.result c.hi-hi.result [] c.in_ok-fresh.fresh.items) c.number-number.ensures.value c.in_ok-fresh.ensures.legs in
+    subst (λ n. Grows (renewed c.args.set.now (route_by_moves n ls c.moves.result.now (said c.args.heard)) (owner_of ls)) c.lo-lo.result c.hi-hi.result [] c.in_ok-fresh.fresh.items) c.number.ensures.value c.in_ok-fresh.ensures.legs in
     renews _ ls c.args.set.now c.lo.result c.hi.result c.near_start-first.result c.near_end-end.result c.lo-lo.result c.hi-hi.result c.index-legs-first.result c.index-legs-end.result c.in_ok-fresh.fresh.items p lo hi
     (subst (λ (ms : List Move). Grows (renewed c.args.set.now (route_by_moves c.args.course.now.number ls ms (said c.args.heard)) (owner_of ls)) c.lo-lo.result c.hi-hi.result [] c.in_ok-fresh.fresh.items) c.moves.ensures.list grows)
 
@@ -46,4 +46,4 @@ returns-clause-some c =
     let p = placed c.args.legs.now c.args.set.now c.lo.result c.hi.result c.near_start-first.result c.near_end-end.result c.index-set-0.result c.index-set-set.result c.index-legs-first.result c.index-legs-end.result c.requires.legs c.requires.set c.requires.some c.index-set-0.is c.index-set-set.is c.lo.ensures.value c.hi.ensures.value c.near_start-first.ensures c.near_end-end.ensures c.index-legs-first.is c.index-legs-end.is in
     let lo : c.lo-lo.result ≡ c.index-legs-first.result.span.lo = c.lo-lo.ensures.value ∙ ap (λ (l : PlanRange). l.span.lo) (sym c.index-legs-first.is) in
     let hi : c.hi-hi.result ≡ c.index-legs-end.result.span.hi = c.hi-hi.ensures.value ∙ ap (λ (l : PlanRange). l.span.hi) (sym c.index-legs-end.is) in
-    some_fresh (renewed c.args.set.now (route_by_moves c.number-number.result c.args.legs.now c.moves.result.now (said c.args.heard)) (owner_of c.args.legs.now)) c.lo-lo.result c.hi-hi.result c.in_ok-fresh.fresh.items c.in_ok-fresh.ensures.legs (omega (arith, p.block.low, p.block.high, p.less, lo, hi))
+    some_fresh (renewed c.args.set.now (route_by_moves c.number.result c.args.legs.now c.moves.result.now (said c.args.heard)) (owner_of c.args.legs.now)) c.lo-lo.result c.hi-hi.result c.in_ok-fresh.fresh.items c.in_ok-fresh.ensures.legs (omega (arith, p.block.low, p.block.high, p.less, lo, hi))
