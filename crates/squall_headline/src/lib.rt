@@ -2,6 +2,8 @@
 //!
 //! [`headline`] is the promise. The definitions that it cites are in `specs/`: `Ways.antt` says by which
 //! calls reports come, and its last lines to which partition a key goes.
+//!
+//! Its tests are in `crates/squall_test_nodes`.
 #![tactic(auto)]
 
 ghost use Rattle.std.specs.Prelude.{◌≡◌, ℕ, ◌<◌, List};
@@ -16,9 +18,8 @@ ghost use Rattle.squall_wire.specs.Messages.{spell};
 ghost use Rattle.squall_router.specs.Routers.{route_of_router, IsTableOf};
 ghost use Rattle.squall_headline.specs.Ways.{Way, reports_of, LeadTo, BringTheSame, IsSent};
 
-mod laws;
+pub mod laws;
 
-pub use laws::pieces_bring_messages;
 use squall_board::Board;
 use squall_router::Router;
 
@@ -30,10 +31,10 @@ use squall_router::Router;
 /// own sub-plan of the newest course's number, and else to its old one.
 ///
 /// A call's own contract says that it leads from the board before it to the board after it: the
-/// clauses `told` of [`Board::take`], [`Board::take_all`], [`Board::merge`], [`Router::take`] and
+/// clauses `takes` of [`Board::take`], [`Board::take_all`], [`Board::merge`], [`Router::take`] and
 /// [`Router::absorb`], and `heard` of `Feed::push`. Which messages a piece of a stream brings, if other
 /// calls come between the pieces, is the law [`pieces_bring_messages`]. That a merge loses
-/// nothing and adds nothing is the clause `told` of [`Board::merge`].
+/// nothing and adds nothing is the clause `takes` of [`Board::merge`].
 pub fn headline(a: &Board, b: &Board, one: &Router, other: &Router)
     // Nothing is lost and nothing added: a board tells what the reports tell that came to it.
     ensures reports { (ws : List Way) → LeadTo ws a.now → HasTaken a.now (reports_of ws) }

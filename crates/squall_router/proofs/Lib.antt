@@ -1,7 +1,7 @@
 pub mod Issued
 pub mod Newer
 pub mod Absorbed
-pub mod Reports
 pub mod Taken
 pub mod Cut
 pub mod Alike
+mod Turned

@@ -1,6 +1,6 @@
 //! What is issued by a report, or by one board or another.
 
-ghost use Rattle.std.specs.Prelude.{◌≡◌, ◌≤◌, ℕ, map, false, IfOk, OnOk};
+ghost use Rattle.std.specs.Prelude.{◌≡◌, ◌≤◌, ℕ, map, true, false, IfOk, OnOk};
 ghost use Rattle.std.specs.List.{AllByRecursion};
 ghost use Rattle.std.specs.Arc.{arc_value};
 ghost use Rattle.squall_join.specs.declared.flat.Flat.TheVariants.{Unknown};
@@ -19,7 +19,8 @@ use std::sync::Arc;
 /// count of an issue's owners is full.
 fn put_entries(board: &mut Board, entries: &[(u32, Flat<Arc<Issue>>)]) -> Result<(), AllocError>
     requires { AllByRecursion (λ e. 1 ≤ e.0) entries.now }
-    ensures { OnOk result ((n : ℕ) → issued board.new n ≡ both_issued (issued board.old n) (entries_issue (map (λ e. (e.0, flat_map arc_value e.1)) entries.now) n)) }
+    ensures { OnOk result ((n : ℕ)
+        → issued board.new n ≡ both_issued (issued board.old n) (entries_issue (map (λ e. (e.0, flat_map arc_value e.1)) entries.now) n)) }
 {
     for entry in entries {
         board.put_issue(entry.0, &entry.1)?;
@@ -36,6 +37,13 @@ fn put_issues(board: &mut Board, from: &Board) -> Result<(), AllocError>
     put_entries(board, &issues)
 }
 
+/// Whether the board issues nothing under the number.
+pub(crate) fn issues_nothing(board: &Board, number: u32) -> bool
+    ensures { result ≡ true → issued board.now number ≡ Unknown }
+{
+    matches!(board.issuing(number), Flat::Unknown)
+}
+
 /// A board that issues what both issue, and says nothing. It fails where an allocation fails, or
 /// where the count of an issue's owners is full.
 pub(crate) fn both_issues(alloc: Global, first: &Board, second: &Board) -> Result<Board, AllocError>
@@ -49,7 +57,6 @@ pub(crate) fn both_issues(alloc: Global, first: &Board, second: &Board) -> Resul
 
 /// The board that has taken the report alone. It fails if an allocation fails, or if the count of an
 /// issue's owners is full.
-#[tactic(auto, using(crate::proofs::Reports::one_board))]
 pub(crate) fn issue_alone(alloc: Global, report: &Report) -> Result<Delta, AllocError>
     ensures { IfOk result (λ d. d ≡ report_board report.now) }
 {

@@ -6,12 +6,13 @@ ghost use Rattle.squall_course.specs.Change.{ArePlans};
 ghost use Rattle.squall_report.specs.declared.report.ReportKind.{ReportKind};
 ghost use Rattle.squall_report.specs.Issues.{PlanPair};
 ghost use Rattle.squall_report.specs.Told.{TellsBoth, told_by_report};
+ghost use Rattle.squall_board.specs.Takes.{TakesBoard, TakesReport};
 ghost use Rattle.squall_board.specs.Boards.{IsBoard, HasTaken, empty_board, board_join, report_board, told};
 ghost use Rattle.squall_board.specs.CourseRoute.{course_by, course_of_board};
 ghost use Rattle.squall_table.specs.Tables.{AreLegs, legs_between};
 ghost use Rattle.squall_router.specs.Routers.{router_with, course_of_router, route_of_router, IsTableOf};
 
-use crate::issues::{both_issues, is_issue, issue_alone};
+use crate::issues::{both_issues, is_issue, issue_alone, issues_nothing};
 use squall_board::{Board, Delta};
 use squall_course::Course;
 use squall_errand::Routes;
@@ -19,7 +20,8 @@ use squall_join::Shared;
 use squall_key::{Key, PartId};
 use squall_report::{Issue, Report};
 use squall_span::Span;
-use squall_table::{Leg, RouteTable, legs_are_key_by_key};
+use squall_table::laws::legs_are_key_by_key;
+use squall_table::{Leg, RouteTable};
 use std::alloc::{AllocError, Global};
 use std::marker::Model;
 use std::sync::Arc;
@@ -137,12 +139,10 @@ impl Router {
     /// its course stays the newest, and builds it where another is. It fails where an allocation
     /// fails, or where a count of owners is full, and then the router is as it was.
     ///
-    /// While its course stays neither its board nor its table is copied.
+    /// Its board is not copied, and while its course stays its table is not either.
     pub fn absorb(&mut self, delta: &Delta) -> Result<(), AllocError>
         ensures first { self.new.first ≡ self.old.first }
-        ensures board { OnOk result (self.new.board ≡ board_join self.old.board delta.now) }
-        ensures told { OnOk result (TellsBoth (told self.new.board) (told self.old.board) (told delta.now)) }
-        ensures taken { OnOk result ((rs qs : List (ReportKind PlanPair)) → HasTaken self.old.board rs → HasTaken delta.now qs → HasTaken self.new.board (rs ++ qs)) }
+        ensures takes { OnOk result (TakesBoard self.old.board delta.now self.new.board) }
         ensures err { OnErr result (self.new ≡ self.old) }
     {
         self.board.known();
@@ -163,9 +163,7 @@ impl Router {
     /// The report goes into board and table in place: a board of it is made only where it is an issue.
     pub fn take(&mut self, report: &Report) -> Result<(), AllocError>
         ensures first { self.new.first ≡ self.old.first }
-        ensures board { OnOk result (self.new.board ≡ board_join self.old.board (report_board report.now)) }
-        ensures told { OnOk result (TellsBoth (told self.new.board) (told self.old.board) (told_by_report report.now)) }
-        ensures taken { OnOk result ((rs : List (ReportKind PlanPair)) → HasTaken self.old.board rs → HasTaken self.new.board (rs ++ report.now ∷ [])) }
+        ensures takes { OnOk result (TakesReport self.old.board report.now self.new.board) }
         ensures err { OnErr result (self.new ≡ self.old) }
     {
         self.known();
@@ -202,7 +200,8 @@ impl Router {
     }
 
     /// The course that the router has to go by once it takes the news, where that is another than it
-    /// goes by. What is issued decides it, so nothing else of the board is looked at.
+    /// goes by. What is issued decides it, so nothing else of the board is looked at; and no more than
+    /// the newest of both, if the other one issues nothing under the number of that.
     fn other_course(&self, news: &Delta) -> Result<Option<Shared<Course>>, AllocError>
         ensures { IfOk result (λ other. unwrap_or other (course_of_router self.now) ≡ course_of_board self.now.first (board_join self.now.board news.now)) }
     {
@@ -211,6 +210,25 @@ impl Router {
         if !news.has_issues() {
             return Ok(None);
         }
+        let newest = news.newest(self.first.as_arc());
+        let number = number_of(self.first.as_arc(), &newest);
+        let current = self.course.as_arc().number();
+        if current < number && issues_nothing(&self.board, number) {
+            return Ok(Some(course_of(self.alloc, &self.first, &newest)?));
+        }
+        if number <= current && issues_nothing(news, current) {
+            return Ok(None);
+        }
+        self.other_by_all(news)
+    }
+
+    /// The same where both may issue under one number, so that plans may clash: by a board of all
+    /// that they issue.
+    fn other_by_all(&self, news: &Delta) -> Result<Option<Shared<Course>>, AllocError>
+        ensures { IfOk result (λ other. unwrap_or other (course_of_router self.now) ≡ course_of_board self.now.first (board_join self.now.board news.now)) }
+    {
+        self.board.known();
+        news.known();
         let issues = both_issues(self.alloc, &self.board, news)?;
         issues.known();
         let newest = issues.newest(self.first.as_arc());
@@ -220,17 +238,16 @@ impl Router {
         Ok(Some(course_of(self.alloc, &self.first, &newest)?))
     }
 
-    /// Takes the news, and goes by the course from then on.
+    /// Takes the news, and goes by the course from then on. The board is not copied: the course's
+    /// table is built of what it has, and both take the news in place.
     fn turn_to(&mut self, course: Shared<Course>, news: &Delta) -> Result<(), AllocError>
         requires { course ≡ course_of_board self.old.first (board_join self.old.board news.now) }
         ensures ok { OnOk result (self.new ≡ router_with self.old.first (board_join self.old.board news.now)) }
         ensures err { OnErr result (self.new ≡ self.old) }
     {
-        let mut board = self.board.copied(self.alloc)?;
-        board.merge(news)?;
-        let table = RouteTable::build(self.alloc, course.as_arc(), &board)?;
+        let mut table = RouteTable::build(self.alloc, course.as_arc(), &self.board)?;
+        table.absorb(course.as_arc(), &mut self.board, news)?;
         self.course = course;
-        self.board = board;
         self.table = table;
         Ok(())
     }
