@@ -5,9 +5,9 @@ ghost use Rattle.std.specs.Result.{result_map_both};
 ghost use Rattle.std.specs.Arc.{arc_value};
 ghost use Rattle.squall_report.specs.declared.report.ReportKind.TheVariants.{Issued};
 ghost use Rattle.squall_report.specs.Issues.{plan_pair};
-ghost use Rattle.squall_report.specs.Told.{TellsBoth};
-ghost use Rattle.squall_board.specs.Boards.{board_join, told};
-ghost use Rattle.squall_leader.specs.Leaders.{IsLeader, IsOver, IsRunning, IsBegun, IsOpened, IsFinished, new_leader};
+ghost use Rattle.squall_board.specs.Takes.{TakesBoard};
+ghost use Rattle.squall_board.specs.Boards.{board_join};
+ghost use Rattle.squall_leader.specs.Leaders.{IsLeader, IsOver, IsRunning, IsBegun, IsOpened, IsFinished, new_leader, after_begin};
 ghost use Rattle.squall_leader.specs.Waiting.{IsWaited, IsOpening};
 
 use crate::fault::LeaderFault;
@@ -92,6 +92,28 @@ impl Leader {
             course: None,
             opened: 0,
             board: Board::new(alloc),
+            alloc,
+        })
+    }
+
+    /// A leader that has begun the course, as [`Leader::begin`] leaves it where the course is the
+    /// first that it begins. The course is shared, and not computed again. It fails only if an
+    /// allocation fails, or if a count of owners is full.
+    pub fn begun(alloc: Global, course: &Arc<Course>) -> Result<Leader, AllocError>
+        ensures { IfOk result (λ l. l ≡ after_begin (new_leader (arc_value course.now).old ((arc_value course.now).number - 1)) (arc_value course.now)) }
+    {
+        let (number, new) = (course.number(), course.new_plan());
+        let issued = issue_report(alloc, number, course.old_plan(), new)?;
+        let mut board = Board::new(alloc);
+        board.take(&issued)?;
+        // The proof learns that what took a report is a board.
+        board.known();
+        Ok(Leader {
+            plan: new.copied(alloc)?,
+            last: number,
+            course: Some(Shared::new(Arc::try_clone(course)?)),
+            opened: 0,
+            board,
             alloc,
         })
     }
@@ -207,7 +229,7 @@ impl Leader {
     /// fails, or where a count of owners is full, and then the leader is as it was.
     pub fn absorb(&mut self, delta: &Delta) -> Result<(), AllocError>
         ensures ok { OnOk result (self.new ≡ record self.old { board = board_join self.old.board delta.now }) }
-        ensures told { OnOk result (TellsBoth (told self.new.board) (told self.old.board) (told delta.now)) }
+        ensures takes { OnOk result (TakesBoard self.old.board delta.now self.new.board) }
         ensures err { OnErr result (self.new ≡ self.old) }
     {
         let merged = self.board.merge(delta);

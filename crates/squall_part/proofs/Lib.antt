@@ -2,6 +2,7 @@ pub mod Logs
 pub mod Known
 pub mod Carrying
 pub mod Held
+pub mod Awaited
 pub mod Opened
 pub mod Served
 pub mod Given

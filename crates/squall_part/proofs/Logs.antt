@@ -1,10 +1,11 @@
 -- Logs: where each is found, and how one is changed in its place.
-use Rattle.std.proofs.Common.{◌≡◌, ◌≢◌, ℕ, zero, suc, ◌<◌, ◌==◌, Bool, true, false, cond, List, [], ◌∷◌, length, get_or, set, map, Some, option_map, refl, sym, ap, subst, ◌∙◌, arith}
-use Rattle.std.specs.List.{AllByRecursion}
+use Rattle.std.proofs.Common.{◌≡◌, ◌≢◌, ℕ, zero, suc, ◌+◌, ◌<◌, ◌==◌, not, nat_lt, Bool, true, false, cond, List, [], ◌∷◌, length, get_or, set, map, position, None, Some, option_map, refl, sym, ap, subst, ◌∙◌, arith}
+use Rattle.std.specs.List.{AllByRecursion, position_or_len}
 use Rattle.std.proofs.lemmas.Bool.Decides.{nat_tests}
 use Rattle.squall_course.specs.Change.{Change}
 use Rattle.squall_board.specs.Boards.{BoardValue}
 use Rattle.squall_part.specs.Parts.{Log, log_of, IsNotIn, AreApart, IsLog, IsHeard}
+use Rattle.squall_part.specs.Logs.{has_number}
 
 pub eq_refl : (n : ℕ) → (n == n) ≡ true
 eq_refl n = grind (arith, nat_tests)
@@ -27,6 +28,19 @@ found_at (l ∷ ls) zero d a lt = ap (λ b. cond b (Some l) (log_of ls l.course.
 found_at (l ∷ ls) (suc at) d a lt =
     let n = (get_or ls at d).course.number in
     ap (λ b. cond b (Some l) (log_of ls n)) (eq_differ l.course.number n (λ e. not_in_at l.course.number ls at d a.0 (omega arith) (sym e))) ∙ found_at ls at d a.1 (omega arith)
+
+-- and so is its place
+pub place_is : (n : ℕ) (logs : List Log) (at : ℕ) (d : Log) → AreApart logs → at < length logs → (get_or logs at d).course.number ≡ n → position_or_len (has_number n) logs ≡ at
+place_is n [] at d a lt e = absurd (omega arith)
+place_is n (l ∷ ls) zero d a lt e = ap (λ b. cond (not b) (1 + position_or_len (has_number n) ls) 0) (subst (λ m. (l.course.number == m) ≡ true) e (eq_refl l.course.number))
+place_is n (l ∷ ls) (suc at) d a lt e =
+    ap (λ b. cond (not b) (1 + position_or_len (has_number n) ls) 0) (eq_differ l.course.number n (λ s. not_in_at l.course.number ls at d a.0 (omega arith) (e ∙ sym s)))
+    ∙ (let rest = place_is n ls at d a.1 (omega arith) e in omega (arith, rest))
+
+pub found_there : (n : ℕ) (logs : List Log) (at : ℕ) (d : Log) → AreApart logs → at < length logs → (get_or logs at d).course.number ≡ n → Some at ≡ position (has_number n) logs
+found_there n logs at d a lt e =
+    let within : nat_lt at (length logs) ≡ true = grind (arith, nat_tests) in
+    sym (ap (λ i. cond (nat_lt i (length logs)) (Some i) None) (place_is n logs at d a lt e) ∙ ap (λ b. cond b (Some at) None) within)
 
 -- the log of the number, changed
 abbrev pub edit : ℕ → (Log → Log) → Log → Log

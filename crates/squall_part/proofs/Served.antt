@@ -2,6 +2,7 @@
 use Rattle.std.proofs.Common.{◌≡◌, ℕ, suc, ◌<◌, ◌≤◌, ◌==◌, ◌&&◌, not, Bool, true, false, cond, nat_lt, List, [], ◌∷◌, length, get_or, Option, None, Some, is_some, option_map, refl, sym, ap, subst, ◌∙◌, arith, inl, inr}
 use Rattle.std.specs.Prelude.{◌⊎◌}
 use Rattle.std.proofs.lemmas.Bool.{and_parts, and_from}
+use Rattle.std.proofs.Math.Bool.{and-false}
 use Rattle.std.proofs.lemmas.Bool.Decides.{nat_tests}
 use Rattle.std.proofs.lemmas.Option.{same_Some}
 use Rattle.squall_span.specs.Spans.{has}
@@ -10,7 +11,7 @@ use Rattle.squall_course.specs.Change.{Change}
 use Rattle.squall_course.specs.Subplans.{moves}
 use Rattle.squall_errand.specs.declared.errand.Reply.TheVariants.{Moved, Pending}
 use Rattle.squall_part.specs.Parts.{PartValue, Log, log_of, IsPart, AreApart, known_to, given_in, loaded_in}
-use Rattle.squall_part.specs.Logs.{number_in, later, last_from, last_of, gave, comes}
+use Rattle.squall_part.specs.Logs.{number_in, later, last_from, last_of, gave, comes, comes_after}
 use Rattle.squall_part.specs.Serving.{GaveUnder, ComesUnder, IsLastGiven, IsLastComing, IsReply}
 use Rattle.squall_protocol.specs.Firsts.{IsGreatest}
 use Rattle.squall_part.proofs.Logs.{eq_refl, eq_same, found_at}
@@ -48,6 +49,62 @@ last_least test found (m ∷ ms) n l e t = by (m.course.number == n) (λ e. last
         let up = later_least test found m (subst (λ x. test x ≡ true) (sym s) t) in
         subst (λ x. x.course.number ≤ number_in (last_from test (later test found m) ms)) s (omega (arith, up, last_up test (later test found m) ms))
     by false rest e = rest e
+
+-- ---- the last log above a number that passes
+
+never : (x u : Bool) → (x && (u && false)) ≡ false
+never x true = and-false x
+never x false = and-false x
+
+-- what was found above the number, and what was found at all
+abbrev Agree : ℕ → Option Log → Option Log → Type 0
+Agree low a b = ((a ≡ None) × (number_in b ≤ low)) ⊎ ((a ≡ b) × (low < number_in b))
+
+abbrev above_test : ℕ → (Log → Bool) → Log → Bool
+above_test low test l = nat_lt low l.course.number && test l
+
+agree_step : (test : Log → Bool) (low : ℕ) (a b : Option Log) (l : Log) → Agree low a b → Agree low (later (above_test low test) a l) (later test b l)
+agree_step test low a b l h = by (nat_lt (number_in a) l.course.number) (nat_lt (number_in b) l.course.number) (nat_lt low l.course.number) (test l) refl refl refl
+  where
+    -- what is found now is above the number, and above what was found there
+    at_once : number_in a < l.course.number → l.course.number ≤ number_in b → low < l.course.number → ⊥
+    at_once up le above = elim h [ inl none ↦ omega (arith, up, le, above, none.1) | inr same ↦ let e = ap number_in same.0 in omega (arith, up, le, e) ]
+
+    found_late : l.course.number ≤ number_in a → number_in b < l.course.number → ⊥
+    found_late le up = elim h [ inl none ↦ let e : number_in a ≡ 0 = ap number_in none.0 in omega (arith, up, le, e) | inr same ↦ let e = ap number_in same.0 in omega (arith, up, le, e) ]
+
+    below : number_in b < l.course.number → l.course.number ≤ low → Agree low a (Some l)
+    below up le = elim h [ inl none ↦ inl (none.0, le) | inr same ↦ absurd (omega (arith, up, le, same.1)) ]
+
+    by : (x y u t : Bool) → nat_lt (number_in a) l.course.number ≡ x → nat_lt (number_in b) l.course.number ≡ y → nat_lt low l.course.number ≡ u → Agree low (cond (x && (u && t)) (Some l) a) (cond (y && t) (Some l) b)
+    by x y u false ex ey eu = subst (λ c. Agree low (cond c (Some l) a) (cond (y && false) (Some l) b)) (sym (never x u)) (subst (λ c. Agree low a (cond c (Some l) b)) (sym (and-false y)) h)
+    by true true true true ex ey eu = inr (refl, grind (arith, nat_tests))
+    by true false true true ex ey eu = absurd (at_once (grind (arith, nat_tests)) (grind (arith, nat_tests)) (grind (arith, nat_tests)))
+    by true true false true ex ey eu = below (grind (arith, nat_tests)) (grind (arith, nat_tests))
+    by true false false true ex ey eu = h
+    by false true u true ex ey eu = absurd (found_late (grind (arith, nat_tests)) (grind (arith, nat_tests)))
+    by false false u true ex ey eu = h
+
+agree_last : (test : Log → Bool) (low : ℕ) (a b : Option Log) (logs : List Log) → Agree low a b → Agree low (last_from (above_test low test) a logs) (last_from test b logs)
+agree_last test low a b [] h = h
+agree_last test low a b (l ∷ ls) h = agree_last test low (later (above_test low test) a l) (later test b l) ls (agree_step test low a b l h)
+
+agree : (p : PartValue) (k low : ℕ) → Agree low (last_of (comes_after p k low) p.logs) (last_of (comes p k) p.logs)
+agree p k low = agree_last (comes p k) low None None p.logs (inl (refl, omega arith))
+
+-- the last course above the number by which a key comes in is the last one by which it comes in
+pub comes_later : (p : PartValue) (k low : ℕ) (coming : Option Log) (l : Log) → coming ≡ last_of (comes_after p k low) p.logs → coming ≡ Some l → (last_of (comes p k) p.logs ≡ Some l) × (low < l.course.number)
+comes_later p k low coming l is some = elim (agree p k low) [
+  | inl none ↦ absurd (let bad : Some l ≡ None = sym some ∙ is ∙ none.0 in let no : ⊥ = cc in no)
+  | inr same ↦ let e : last_of (comes p k) p.logs ≡ Some l = sym same.0 ∙ sym is ∙ some in (e, subst (λ o. low < number_in o) e same.1)
+]
+
+-- where there is none above the number, it comes in by none above it
+pub comes_no_later : (p : PartValue) (k low : ℕ) (coming : Option Log) → coming ≡ last_of (comes_after p k low) p.logs → coming ≡ None → number_in (last_of (comes p k) p.logs) ≤ low
+comes_no_later p k low coming is none = elim (agree p k low) [
+  | inl least ↦ least.1
+  | inr same ↦ absurd (let e : number_in (last_of (comes p k) p.logs) ≡ 0 = ap number_in (sym same.0 ∙ sym is ∙ none) in omega (arith, same.1, e))
+]
 
 -- what was found passes, and stands at its number
 abbrev Was : (Log → Bool) → List Log → Option Log → Type 0

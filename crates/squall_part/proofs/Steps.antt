@@ -100,14 +100,12 @@ same_course p n c d e f = let g : Some c ≡ Some d = sym e ∙ f in cc
 pub stranger : (p : PartValue) (c : ChunkValue) (at : ℕ) (d : Log) (course : Change) (b : Bool) → IsLoadPlace p c at → course ≡ (get_or p.logs at d).course → (IsTrue b ↔ Carried course c) → b ≡ false → MayLoad p c → ⊥
 stranger p c at d course b place e iff refused may =
     let same : may.0 ≡ course = same_course p c.number may.0 place.0 may.1 place.1 ∙ sym (place.2.course d) ∙ sym e in
-    let fits = may.3 in
-    let carried : Carried may.0 c = record { moving = fits.moving; source = fits.source; dest = fits.dest; sub_plan = fits.sub_plan } in
-    false≢true (sym refused ∙ iff.1 (subst (λ x. Carried x c) same carried))
+    false≢true (sym refused ∙ iff.1 (subst (λ x. Carried x c) same may.4))
 
 pub may_load : (p : PartValue) (c : ChunkValue) (at : ℕ) (d : Log) (course : Change) (b : Bool) → IsLoadPlace p c at → course ≡ (get_or p.logs at d).course → (IsTrue b ↔ Carried course c) → b ≡ true → c.dest ≡ p.id → c.sub < opened_at p c.number → MayLoad p c
 may_load p c at d course b place e iff passed here opened =
     let carried = subst (λ x. Carried x c) (e ∙ place.2.course d) (iff.0 passed) in
-    (place.0, place.1, opened, record { here = here; moving = carried.moving; source = carried.source; dest = carried.dest; sub_plan = carried.sub_plan })
+    (place.0, place.1, opened, here, carried)
 
 -- ---- the end of a sub-plan
 

@@ -1,5 +1,5 @@
 -- What a partition gives on (on demand and in chunks, sub-plan after sub-plan: Squall, SIGMOD 2015).
-use Rattle.std.specs.Prelude.{◌≡◌, ℕ, ◌+◌, ◌<◌, ◌≤◌, ◌&&◌, ◌⊎◌, Bool, true, false, Result, Ok, Err, Some}
+use Rattle.std.specs.Prelude.{◌≡◌, ℕ, ◌+◌, ◌&&◌, Bool, true, false, Result, Ok, Err, Some}
 use Rattle.squall_span.specs.Spans.{Interval, interval, has, insert_span, without_span}
 use Rattle.squall_course.specs.Subplans.{dest_of}
 use Rattle.squall_course.specs.Moves.{is_outgoing}

@@ -1,6 +1,6 @@
 -- What a partition loads and finishes (a partition reports what it loaded, and when it has all: Squall, SIGMOD 2015).
 use Rattle.std.specs.Prelude.{◌≡◌, ℕ, ◌<◌, ◌≤◌, ◌&&◌, not, Bool, true, false, [], ◌∷◌, Result, Ok, Err, Some}
-use Rattle.squall_span.specs.Spans.{Interval, span_has, has, insert_span, union, minus}
+use Rattle.squall_span.specs.Spans.{span_has, has, insert_span, union, minus}
 use Rattle.squall_course.specs.Change.{Change}
 use Rattle.squall_course.specs.Subplans.{moves, sub_of}
 use Rattle.squall_course.specs.Moves.{is_incoming}
@@ -16,20 +16,13 @@ use Rattle.squall_part.specs.declared.loading.Load.TheVariants.{Again, Loaded}
 use Rattle.squall_part.specs.declared.finishing.FinishFault.{FinishFault}
 use Rattle.squall_part.specs.declared.finishing.FinishFault.TheVariants.{NotOpen, NotAll, NothingDue, NoMemory}
 use Rattle.squall_protocol.specs.Chunks.{ChunkValue, load_report}
+use Rattle.squall_protocol.specs.Carried.{Carried}
 use Rattle.squall_protocol.specs.Firsts.{IsRun}
 use Rattle.squall_part.specs.Parts.{PartValue, known_to, course_of_part, opened_at, loaded_by, with_loaded}
 
--- each key of the chunk moves from its source to its destination in its sub-plan, and that is the partition
-pub record Fits (p : PartValue) (course : Change) (c : ChunkValue) : Type 0 where
-  pub here : c.dest ≡ p.id
-  pub moving : (k : ℕ) → span_has c.span k ≡ true → moves course.old course.new k ≡ true
-  pub source : (k : ℕ) → span_has c.span k ≡ true → owner_of course.old k ≡ c.source
-  pub dest : (k : ℕ) → span_has c.span k ≡ true → owner_of course.new k ≡ c.dest
-  pub sub_plan : (k : ℕ) → span_has c.span k ≡ true → sub_of course.old course.new k ≡ c.sub
-
--- the chunk's course is known, its sub-plan is opened under it, and the chunk fits it
+-- the chunk's course is known, its sub-plan is opened under it, the chunk goes to the partition, and the course carries it
 abbrev pub MayLoad : PartValue → ChunkValue → Type 0
-MayLoad p c = (course : Change) × (known_to p c.number ≡ Some course) × (c.sub < opened_at p c.number) × Fits p course c
+MayLoad p c = (course : Change) × (known_to p c.number ≡ Some course) × (c.sub < opened_at p c.number) × (c.dest ≡ p.id) × Carried course c
 
 -- every key of the chunk was loaded before
 abbrev pub AllLoaded : PartValue → ChunkValue → Type 0

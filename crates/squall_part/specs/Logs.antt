@@ -1,6 +1,6 @@
 -- Logs of courses: where each stands, and the last one that passes a test (this project).
 use Rattle.std.specs.Prelude.{◌≡◌, ℕ, ◌<◌, ◌==◌, ◌&&◌, not, Bool, nat_lt, List, [], ◌∷◌, length, slice_index_or, Option, None, Some, is_some, if◌then◌else◌}
-use Rattle.squall_span.specs.Spans.{has}
+use Rattle.squall_span.specs.Spans.{Interval, has}
 use Rattle.squall_plan.specs.Ranges.{owner_of}
 use Rattle.squall_course.specs.Change.{Change}
 use Rattle.squall_course.specs.Subplans.{moves}
@@ -38,6 +38,18 @@ is_known p l = is_some (known_to p l.course.number)
 abbrev pub gave : PartValue → ℕ → Log → Bool
 gave p k l = is_known p l && has l.given k
 
+-- by the course the key comes in to the partition, and it is not among the keys that are loaded
+abbrev pub awaits : ℕ → Change → List Interval → ℕ → Bool
+awaits id c loaded k = moves c.old c.new k && ((owner_of c.new k == id) && not (has loaded k))
+
+-- the set has these keys, and no other
+pub record IsAwaited (id : ℕ) (c : Change) (loaded awaited : List Interval) : Type 0 where
+  pub keys : (k : ℕ) → has awaited k ≡ awaits id c loaded k
+
 -- by its course, which is known, the key comes in, and it is not loaded
 abbrev pub comes : PartValue → ℕ → Log → Bool
-comes p k l = is_known p l && (moves l.course.old l.course.new k && ((owner_of l.course.new k == p.id) && not (has l.loaded k)))
+comes p k l = is_known p l && awaits p.id l.course l.loaded k
+
+-- the same, where the course has a number above another
+abbrev pub comes_after : PartValue → ℕ → ℕ → Log → Bool
+comes_after p k after l = nat_lt after l.course.number && comes p k l

@@ -63,7 +63,7 @@ impl Part {
         }
         let alloc = self.allocator();
         let course = made(alloc, number, issue)?;
-        logs.push(Log::new(alloc, course))?;
+        logs.push(Log::new(alloc, self.id, course)?)?;
         Ok(())
     }
 

@@ -29,7 +29,8 @@ pub fn one_reply(part: &Part)
 /// Keys that are given on are held no longer, and are given under the newest course.
 pub fn given_keys_are_gone(part: &Part)
     ensures held { (s : Interval) (k : ℕ) → s.lo < s.hi → s.hi ≤ top → span_has s k ≡ true → has (after_giving part.now s).held k ≡ false }
-    ensures given { (s : Interval) (k : ℕ) → s.lo < s.hi → s.hi ≤ top → span_has s k ≡ true → has (given_by (after_giving part.now s) (course_of_part part.now).number) k ≡ true }
+    ensures given { (s : Interval) (k : ℕ) → s.lo < s.hi → s.hi ≤ top → span_has s k ≡ true
+        → has (given_by (after_giving part.now s) (course_of_part part.now).number) k ≡ true }
 {
     part.known();
 }

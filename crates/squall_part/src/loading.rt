@@ -9,7 +9,6 @@ ghost use Rattle.squall_part.specs.declared.loading.LoadFault.TheVariants.{NoMem
 ghost use Rattle.squall_part.specs.Loading.{IsLoaded, MayLoad, AllLoaded, SomeMissing, after_load};
 ghost use Rattle.squall_protocol.specs.Chunks.{load_report};
 
-use crate::moving::load_keys;
 use crate::part::Part;
 use squall_course::{Course, Move, Status};
 use squall_key::Bound;
@@ -137,15 +136,8 @@ impl Part {
         ensures err { OnErr result (self.new ≡ self.old) }
     {
         let alloc = self.allocator();
-        let loaded = &mut self.logs[at].loaded;
-        load_keys(
-            alloc,
-            &mut self.board,
-            &mut self.held,
-            loaded,
-            chunk.span(),
-            report,
-        )
+        let log = &mut self.logs[at];
+        log.load(alloc, &mut self.board, &mut self.held, chunk.span(), report)
     }
 
     /// Takes a chunk. The keys of it that it had not loaded under the chunk's number it loads and

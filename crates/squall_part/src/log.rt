@@ -1,42 +1,80 @@
 //! What a partition did under one course.
 
-ghost use Rattle.std.specs.Prelude.{◌≡◌, ◌<◌, ◌≤◌, [], Some, IfSome, IfNone, option_copied};
+ghost use Rattle.std.specs.Prelude.{◌≡◌, ◌<◌, ◌≤◌, ◌==◌, ◌&&◌, ℕ, [], ◌∷◌, Some, IfOk, IfSome, IfNone, OnOk, OnErr, option_copied};
 ghost use Rattle.std.specs.List.{position};
-ghost use Rattle.squall_part.specs.Logs.{has_number, number_in};
-ghost use Rattle.squall_part.specs.Parts.{log_with};
+ghost use Rattle.squall_span.specs.Spans.{has, insert_span, union, minus};
+ghost use Rattle.squall_plan.specs.Ranges.{owner_of};
+ghost use Rattle.squall_course.specs.Subplans.{moves};
+ghost use Rattle.squall_board.specs.Boards.{IsBoard};
+ghost use Rattle.squall_board.specs.Takes.{TakesReport};
+ghost use Rattle.squall_part.specs.Logs.{has_number, number_in, awaits};
+ghost use Rattle.squall_part.specs.Parts.{AreApart, log_with};
 
+use crate::moving::load_awaited;
+use squall_board::Board;
 use squall_course::Course;
 use squall_join::Shared;
-use squall_span::SpanSet;
-use std::alloc::Global;
+use squall_key::{Key, PartId};
+use squall_report::Report;
+use squall_span::{Span, SpanSet};
+use std::alloc::{AllocError, Global};
 use std::marker::Model;
 
 /// What a partition did under a course that it knows or knew.
 #[derive(Drop)]
 pub(crate) struct Log {
+    // The partition whose log it is.
+    part: PartId,
     pub(crate) course: Shared<Course>,
     pub(crate) given: SpanSet,
     pub(crate) loaded: SpanSet,
+    // The keys that come in to the partition by the course and are not loaded: none once all are,
+    // so that a course which is finished costs a search almost nothing.
+    awaited: SpanSet,
 }
 
 impl Model for Log {
     ghost use Rattle.squall_part.specs.Parts.{Log, log_with};
+    ghost use Rattle.squall_part.specs.Logs.{IsAwaited};
 
     ghost Value = { Log };
 
     ghost view = { λ l. log_with l.course l.given l.loaded };
+
+    ghost invariant = { λ l. IsAwaited l.part l.course l.loaded l.awaited };
+}
+
+/// The keys that come in to the partition by the course. It fails only if an allocation fails.
+fn incoming_keys(alloc: Global, part: PartId, course: &Course) -> Result<SpanSet, AllocError>
+    ensures { IfOk result (λ set. (k : ℕ) → has set k ≡ (moves course.now.old course.now.new k && (owner_of course.now.new k == part))) }
+{
+    let mut keys = SpanSet::empty(alloc);
+    for one in course.moves() {
+        if one.dest == part {
+            keys.insert(one.span)?;
+        }
+    }
+    Ok(keys)
 }
 
 impl Log {
-    /// The log of a course under which nothing was done.
-    pub(crate) fn new(alloc: Global, course: Shared<Course>) -> Log
-        ensures { result ≡ log_with course [] [] }
+    /// The partition's log of a course under which nothing was done. It fails only if an allocation
+    /// fails.
+    pub(crate) fn new(
+        alloc: Global,
+        part: PartId,
+        course: Shared<Course>,
+    ) -> Result<Log, AllocError>
+        ensures { IfOk result (λ l. l ≡ log_with course [] []) }
     {
-        Log {
+        let awaited = incoming_keys(alloc, part, course.as_arc())?;
+        Ok(Log {
+            part,
             course,
             given: SpanSet::empty(alloc),
             loaded: SpanSet::empty(alloc),
-        }
+            awaited,
+        })
     }
 
     /// Its course.
@@ -52,12 +90,62 @@ impl Log {
     {
         self.course().number()
     }
+
+    /// Whether by its course the key comes in to the partition, and it is not loaded.
+    pub(crate) fn awaits(&self, part: PartId, key: Key) -> bool
+        ensures { result ≡ awaits part self.now.course self.now.loaded key }
+    {
+        if part == self.part {
+            return self.awaited.has(key);
+        }
+        // A partition asks its own logs alone. Of another one the plans tell, so that no caller owes
+        // a proof of whose log it is.
+        let owners = self.course().owners(key);
+        owners.old != owners.new && owners.new == part && !self.loaded.has(key)
+    }
+
+    /// Loads the keys of the span: the partition holds those that were not loaded, all are loaded,
+    /// none is awaited, and the board takes the report. It fails only if an allocation fails, and then
+    /// the log, the board and what is held are as they were.
+    pub(crate) fn load(
+        &mut self,
+        alloc: Global,
+        board: &mut Board,
+        held: &mut SpanSet,
+        span: Span,
+        report: &Report,
+    ) -> Result<(), AllocError>
+        ensures takes { OnOk result (TakesReport board.old report.now board.new) }
+        ensures valid { OnOk result (IsBoard board.new) }
+        ensures held { OnOk result (held.new ≡ union held.old (minus (span ∷ []) self.old.loaded)) }
+        ensures loaded { OnOk result (self.new.loaded ≡ insert_span span self.old.loaded) }
+        ensures same { self.new ≡ log_with self.old.course self.old.given self.new.loaded }
+        ensures err { OnErr result ((board.new ≡ board.old) × (held.new ≡ held.old) × (self.new.loaded ≡ self.old.loaded)) }
+    {
+        // The proof learns that what is loaded is a set.
+        let _spans = self.loaded.spans();
+        load_awaited(
+            alloc,
+            board,
+            held,
+            &mut self.loaded,
+            &mut self.awaited,
+            span,
+            report,
+        )
+    }
 }
 
 /// The place of the log of the number.
 pub(crate) fn place_of(logs: &[Log], number: u32) -> Option<usize>
+    requires { AreApart logs.now }
     ensures { result ≡ position (has_number number) logs.now }
 {
+    // The newest course is asked for most, and mostly its log came last.
+    let count = logs.len();
+    if count > 0 && logs[count - 1].number() == number {
+        return Some(count - 1);
+    }
     logs.iter().position(|log| log.number() == number)
 }
 

@@ -2,8 +2,8 @@
 
 ghost use Rattle.std.specs.Prelude.{◌≡◌, ◌≤◌, [], ◌∷◌, length, IfOk, OnOk, OnErr};
 ghost use Rattle.squall_span.specs.Spans.{insert_span, without_span, union, minus};
-ghost use Rattle.squall_board.specs.Boards.{IsBoard, board_join, report_board, told};
-ghost use Rattle.squall_report.specs.Told.{TellsBoth, told_by_report};
+ghost use Rattle.squall_board.specs.Boards.{IsBoard};
+ghost use Rattle.squall_board.specs.Takes.{TakesReport};
 
 use squall_board::Board;
 use squall_report::Report;
@@ -83,7 +83,7 @@ fn insert_all(set: &mut ReadySet, spans: &[Span])
 
 /// Loads the keys of a span: those that were not loaded are held, all are loaded, and the board
 /// takes the report. It fails where an allocation fails, and then all three are as they were.
-pub(crate) fn load_keys(
+fn load_keys(
     alloc: Global,
     board: &mut Board,
     held: &mut SpanSet,
@@ -91,8 +91,7 @@ pub(crate) fn load_keys(
     span: Span,
     report: &Report,
 ) -> Result<(), AllocError>
-    ensures board { OnOk result (board.new ≡ board_join board.old (report_board report.now)) }
-    ensures told { OnOk result (TellsBoth (told board.new) (told board.old) (told_by_report report.now)) }
+    ensures takes { OnOk result (TakesReport board.old report.now board.new) }
     ensures valid { OnOk result (IsBoard board.new) }
     ensures held { OnOk result (held.new ≡ union held.old (minus (span ∷ []) loaded.old)) }
     ensures loaded { OnOk result (loaded.new ≡ insert_span span loaded.old) }
@@ -110,4 +109,31 @@ pub(crate) fn load_keys(
     *loaded = ready_loaded.into_set();
     board.known();
     taken
+}
+
+/// Loads the keys of a span as [`load_keys`] does, and then none of them is awaited. It fails only if
+/// an allocation fails, and then all four are as they were.
+pub(crate) fn load_awaited(
+    alloc: Global,
+    board: &mut Board,
+    held: &mut SpanSet,
+    loaded: &mut SpanSet,
+    awaited: &mut SpanSet,
+    span: Span,
+    report: &Report,
+) -> Result<(), AllocError>
+    ensures takes { OnOk result (TakesReport board.old report.now board.new) }
+    ensures valid { OnOk result (IsBoard board.new) }
+    ensures held { OnOk result (held.new ≡ union held.old (minus (span ∷ []) loaded.old)) }
+    ensures loaded { OnOk result (loaded.new ≡ insert_span span loaded.old) }
+    ensures awaited { OnOk result (awaited.new ≡ without_span span awaited.old) }
+    ensures err { OnErr result ((board.new ≡ board.old) × (held.new ≡ held.old) × (loaded.new ≡ loaded.old) × (awaited.new ≡ awaited.old)) }
+{
+    let mut ready = made_ready(alloc, awaited, 1)?;
+    let result = load_keys(alloc, board, held, loaded, span, report);
+    if result.is_ok() {
+        ready.remove(span);
+    }
+    *awaited = ready.into_set();
+    result
 }

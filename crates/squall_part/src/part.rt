@@ -3,8 +3,7 @@
 ghost use Rattle.std.specs.Prelude.{◌≡◌, ℕ, ◌+◌, ◌≤◌, ◌++◌, vec_len, vec_capacity, IfOk, OnOk, OnErr};
 ghost use Rattle.std.specs.Arc.{arc_value};
 ghost use Rattle.std.specs.Option.{option_map};
-ghost use Rattle.squall_report.specs.Told.{TellsBoth};
-ghost use Rattle.squall_board.specs.Boards.{board_join, told};
+ghost use Rattle.squall_board.specs.Takes.{TakesBoard};
 ghost use Rattle.squall_span.specs.Spans.{IsSet};
 ghost use Rattle.squall_part.specs.Parts.{IsPart, new_part, ranges_of, known_to, given_by, loaded_by};
 
@@ -84,7 +83,7 @@ impl Part {
         let course = first.again()?;
         let held = ranges_of(alloc, id, first.as_arc().old_plan())?;
         let mut logs = Vec::with_capacity(alloc, 1)?;
-        logs.push(Log::new(alloc, course))?;
+        logs.push(Log::new(alloc, id, course)?)?;
         Ok(Part {
             id,
             first,
@@ -104,8 +103,7 @@ impl Part {
     /// Takes all that the delta tells, and knows the courses that it tells of. It fails where an
     /// allocation fails, or where a count of owners is full, and then the partition is as it was.
     pub fn absorb(&mut self, delta: &Delta) -> Result<(), AllocError>
-        ensures board { OnOk result (self.new.board ≡ board_join self.old.board delta.now) }
-        ensures told { OnOk result (TellsBoth (told self.new.board) (told self.old.board) (told delta.now)) }
+        ensures takes { OnOk result (TakesBoard self.old.board delta.now self.new.board) }
         ensures same { self.new ≡ record self.old { board = self.new.board; logs = self.new.logs } }
         ensures given { (n : ℕ) → given_by self.new n ≡ given_by self.old n }
         ensures loaded { (n : ℕ) → loaded_by self.new n ≡ loaded_by self.old n }

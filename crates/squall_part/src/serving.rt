@@ -3,7 +3,7 @@
 ghost use Rattle.std.specs.Prelude.{◌≡◌, option_copied};
 ghost use Rattle.squall_plan.specs.Ranges.{owner_of};
 ghost use Rattle.squall_part.specs.Parts.{course_of_part};
-ghost use Rattle.squall_part.specs.Logs.{gave, comes, last_of};
+ghost use Rattle.squall_part.specs.Logs.{gave, comes, comes_after, last_of};
 ghost use Rattle.squall_part.specs.Serving.{IsReply};
 
 use crate::log::{Log, above, number_of};
@@ -16,18 +16,15 @@ impl Part {
     fn gave(&self, log: &Log, key: Key) -> bool
         ensures { result ≡ gave self.now key log.now }
     {
-        self.knows(log.number()) && log.given.has(key)
+        // The set comes first: few logs have the key, and the board's search takes longer.
+        log.given.has(key) && self.knows(log.number())
     }
 
     /// Whether by the log's course, which it knows, the key comes in, and it is not loaded.
     fn comes(&self, log: &Log, key: Key) -> bool
         ensures { result ≡ comes self.now key log.now }
     {
-        let owners = log.course().owners(key);
-        self.knows(log.number())
-            && owners.old != owners.new
-            && owners.new == self.id
-            && !log.loaded.has(key)
+        log.awaits(self.id, key) && self.knows(log.number())
     }
 
     /// The log of the last course by which it gave the key.
@@ -43,13 +40,13 @@ impl Part {
         found
     }
 
-    /// The log of the last course by which the key comes in and is not loaded.
-    fn last_coming(&self, key: Key) -> Option<&Log>
-        ensures { option_copied result ≡ last_of (comes self.now key) self.now.logs }
+    /// The log of the last course above the number by which the key comes in and is not loaded.
+    fn last_coming(&self, key: Key, after: u32) -> Option<&Log>
+        ensures { option_copied result ≡ last_of (comes_after self.now key after) self.now.logs }
     {
         let mut found = None;
         for log in &self.logs {
-            if number_of(found) < log.number() && self.comes(log, key) {
+            if number_of(found) < log.number() && after < log.number() && self.comes(log, key) {
                 found = Some(log);
             }
         }
@@ -81,7 +78,7 @@ impl Part {
         }
         self.known();
         let given = self.last_given(key);
-        if let Some(log) = above(self.last_coming(key), number_of(given)) {
+        if let Some(log) = self.last_coming(key, number_of(given)) {
             return Reply::Pending {
                 source: log.course().old_owner(key),
             };

@@ -6,7 +6,7 @@ use Rattle.squall_key.specs.Keys.{top}
 use Rattle.squall_plan.specs.declared.range.PlanRange.{PlanRange}
 use Rattle.squall_plan.specs.Ranges.{owner_of}
 use Rattle.squall_report.specs.Issues.{plan_pair}
-use Rattle.squall_report.specs.Tests.{issued_tests}
+use Rattle.squall_report.specs.Queries.{issued_queries}
 use Rattle.squall_protocol.specs.declared.event.Node.TheVariants.{Leader}
 use Rattle.squall_protocol.specs.Worlds.{WorldValue}
 use Rattle.squall_protocol.specs.Steps.{IsPlan, after_begin, new_parts}
@@ -125,7 +125,7 @@ keeps_begun w plan is kept done all_open =
 
 pub keeps_begin : (w : WorldValue) (plan : List PlanRange) → IsPlan plan → Kept w → AllDone w → count_of w w.last ≤ w.opened → Kept (after_begin w plan)
 keeps_begin w plan is kept done all_open =
-    keeps_told (begun_on w plan) Leader (issued_tests (w.last + 1) (plan_pair (w.plan w.last) plan)) (keeps_begun w plan is kept done all_open)
+    keeps_told (begun_on w plan) Leader (issued_queries (w.last + 1) (plan_pair (w.plan w.last) plan)) (keeps_begun w plan is kept done all_open)
     (issued_true (begun_on w plan) (w.last + 1) (plan_pair (w.plan w.last) plan) (omega arith, le_refl (w.last + 1)) (ap₂ plan_pair
     (sym (ap (begun_on w plan).plan one_less ∙ (later_begun w plan).plan w.last (le_refl w.last)))
     (sym (cond-true (w.last + 1 == w.last + 1) plan (w.plan (w.last + 1)) (eq-eqb (w.last + 1) (w.last + 1) refl)))))

@@ -11,7 +11,7 @@ use Rattle.squall_course.specs.Change.{Change}
 use Rattle.squall_course.specs.Subplans.{sub_of}
 use Rattle.squall_course.specs.Moves.{is_incoming}
 use Rattle.squall_report.specs.Cells.{place_at}
-use Rattle.squall_report.specs.Tests.{Tests, done_tests}
+use Rattle.squall_report.specs.Queries.{Queries, done_queries}
 use Rattle.squall_protocol.specs.Chunks.{ChunkValue}
 use Rattle.squall_protocol.specs.Firsts.{AreFirst}
 use Rattle.squall_protocol.specs.declared.event.Node.{Node}
@@ -42,7 +42,7 @@ pub data WorldChange (w : WorldValue) : WorldValue → Type 0 where
   gives : (x : ChunkValue) (first : ℕ) → IsNewest (w.facts (Part x.source)) x.number → (w.facts (Part x.source)).opened x.number ≡ x.sub + 1 → span_has x.span first ≡ true
       → ((k : ℕ) → span_has x.span k ≡ true → IsLeaving w x k) → WorldChange w (after_give w x)
   loads : (i : ℕ) (x : ChunkValue) → slice_get w.chunks i ≡ Some x → Hears (w.facts (Part x.dest)) x.number → WorldChange w (after_load w x)
-  tells : (node : Node) (more : Tests) → TrueFacts w more → WorldChange w (after_told w node more)
+  tells : (node : Node) (more : Queries) → TrueFacts w more → WorldChange w (after_told w node more)
   sends : (node : Node) → WorldChange w (after_send w node)
 
 -- ---- what follows a change
@@ -118,10 +118,10 @@ load_change w i x kept arriving may =
     let known : KnownCourse w (w.facts (Part x.dest)) x.number may.course = known_course w (w.facts (Part x.dest)) x.number may.course kept.first (kept.facts (Part x.dest)) may.known in
     loads i x arriving.chunk known.hears
 
-pub finish_change : (w : WorldValue) (p s : ℕ) (c : Change) → Kept w → IsOpenAt w p s c → ((k : ℕ) → is_missing (part_in w p) c s k ≡ false) → WorldChange w (after_told w (Part p) (done_tests (place_at c.number s p)))
+pub finish_change : (w : WorldValue) (p s : ℕ) (c : Change) → Kept w → IsOpenAt w p s c → ((k : ℕ) → is_missing (part_in w p) c s k ≡ false) → WorldChange w (after_told w (Part p) (done_queries (place_at c.number s p)))
 finish_change w p s c kept at none =
     let known : NewestCourse w (w.facts (Part p)) c = newest_course w (w.facts (Part p)) c kept.first (kept.facts (Part p)) at.0 in
-    tells (Part p) (done_tests (place_at c.number s p)) (done_true w (place_at c.number s p) known.begun (λ k m dest sub.
+    tells (Part p) (done_queries (place_at c.number s p)) (done_true w (place_at c.number s p) known.begun (λ k m dest sub.
     loaded k (subst (λ (d : Change). is_incoming d.old d.new s p k ≡ true) (sym known.same) (incoming_is (w.plan (c.number - 1)) (w.plan c.number) s p k m sub dest))))
   where
     loaded : (k : ℕ) → comes_in (part_in w p) c s k ≡ true → w.loaded c.number p k ≡ true

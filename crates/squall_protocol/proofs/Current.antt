@@ -2,10 +2,10 @@
 use Rattle.std.proofs.Common.{◌≡◌, ℕ, ◌+◌, sym, ap, ap₂, ◌∙◌, subst, arith}
 use Rattle.squall_course.specs.Change.{Change}
 use Rattle.squall_board.specs.CourseRouteLaws.{one_course}
-use Rattle.squall_protocol.specs.Knowledge.{PartTests, IsCurrent, NoneOpen}
+use Rattle.squall_protocol.specs.Knowledge.{PartQueries, IsCurrent, NoneOpen}
 
 -- the newest course that it knows, and the sub-plan opened last, are one
-pub one_current : (p : PartTests) (c d : Change) (s t : ℕ) → IsCurrent p c s → IsCurrent p d t → (c ≡ d) × (s ≡ t)
+pub one_current : (p : PartQueries) (c d : Change) (s t : ℕ) → IsCurrent p c s → IsCurrent p d t → (c ≡ d) × (s ≡ t)
 one_current p c d s t a b = (course, same s t (sym a.1 ∙ ap (λ (x : Change). p.told.opened x.number) course ∙ b.1))
   where
     course : c ≡ d
@@ -15,14 +15,14 @@ one_current p c d s t a b = (course, same s t (sym a.1 ∙ ap (λ (x : Change). 
     same m n e = omega arith
 
 -- what holds of them in one place holds in the other
-pub at_current : (p : PartTests) (c d : Change) (s t : ℕ) → IsCurrent p c s → IsCurrent p d t → (P : Change → ℕ → Type 0) → P c s → P d t
+pub at_current : (p : PartQueries) (c d : Change) (s t : ℕ) → IsCurrent p c s → IsCurrent p d t → (P : Change → ℕ → Type 0) → P c s → P d t
 at_current p c d s t a b P h = let e : (c ≡ d) × (s ≡ t) = one_current p c d s t a b in subst (λ (y : Change × ℕ). P y.0 y.1) (ap₂ pair e.0 e.1) h
   where
     pair : Change → ℕ → Change × ℕ
     pair x y = (x, y)
 
 -- where no sub-plan is opened there is none that was opened last
-pub none_current : (p : PartTests) (c : Change) (s : ℕ) → NoneOpen p → IsCurrent p c s → ⊥
+pub none_current : (p : PartQueries) (c : Change) (s : ℕ) → NoneOpen p → IsCurrent p c s → ⊥
 none_current p c s none at = apart (p.told.opened c.number) (sym (ap (λ (x : Change). p.told.opened x.number) course) ∙ none.2) at.1
   where
     course : none.0 ≡ c

@@ -8,7 +8,7 @@ use Rattle.squall_join.specs.declared.flat.Flat.TheVariants.{Unknown, One}
 use Rattle.squall_plan.specs.Ranges.{owner_of}
 use Rattle.squall_report.specs.Issues.{PlanPair}
 use Rattle.squall_report.specs.Cells.{CellPlace}
-use Rattle.squall_report.specs.Tests.{Tests}
+use Rattle.squall_report.specs.Queries.{Queries}
 use Rattle.squall_protocol.specs.Chunks.{ChunkValue}
 use Rattle.squall_protocol.specs.declared.event.Node.{Node}
 use Rattle.squall_protocol.specs.declared.event.Node.TheVariants.{Part}
@@ -18,15 +18,15 @@ use Rattle.squall_protocol.specs.Promises.{opened_of}
 use Rattle.squall_protocol.proofs.Courses.{old_owner, new_owner, sub_in, count_of, Moves}
 
 -- the number is the first course's, or one pair of plans is issued under it
-abbrev pub Hears : Tests → ℕ → Type 0
+abbrev pub Hears : Queries → ℕ → Type 0
 Hears f n = (n ≡ 1) ⊎ ((pair : PlanPair) × (f.issued n ≡ One pair))
 
 -- the greatest such number
-abbrev pub IsNewest : Tests → ℕ → Type 0
+abbrev pub IsNewest : Queries → ℕ → Type 0
 IsNewest f n = Hears f n × ((m : ℕ) → Hears f m → m ≤ n)
 
 -- each thing that is told happened
-pub record TrueFacts (w : WorldValue) (f : Tests) : Type 0 where
+pub record TrueFacts (w : WorldValue) (f : Queries) : Type 0 where
   pub loaded : (c : CellPlace) (k : ℕ) → f.loaded c k ≡ true → w.loaded c.number c.part k ≡ true
   pub done_begun : (c : CellPlace) → f.done c ≡ true → WasBegun w c.number
   pub done : (c : CellPlace) → f.done c ≡ true → (k : ℕ) → Moves w c.number k → new_owner w c.number k ≡ c.part → sub_in w c.number k ≡ c.sub → w.loaded c.number c.part k ≡ true
@@ -86,7 +86,7 @@ pub record Kept (w : WorldValue) : Type 0 where
   pub most : w.opened ≤ count_of w w.last
   pub earlier : (k : ℕ) → Moves w w.last k → sub_in w w.last k + 1 < w.opened → w.loaded w.last (new_owner w w.last k) k ≡ true
   pub facts : (node : Node) → TrueFacts w (w.facts node)
-  pub messages : (i : ℕ) (message : Tests) → slice_get w.messages i ≡ Some message → TrueFacts w message
+  pub messages : (i : ℕ) (message : Queries) → slice_get w.messages i ≡ Some message → TrueFacts w message
   -- each chunk has a key, and each given key of a number and source is in exactly one chunk
   pub some : (i : ℕ) (x : ChunkValue) → slice_get w.chunks i ≡ Some x → (k : ℕ) × (span_has x.span k ≡ true)
   pub sent : (i : ℕ) (x : ChunkValue) → slice_get w.chunks i ≡ Some x → (k : ℕ) → span_has x.span k ≡ true → IsSent w x k

@@ -6,7 +6,7 @@ use Rattle.squall_join.specs.declared.flat.Flat.{Flat}
 use Rattle.squall_join.specs.declared.flat.Flat.TheVariants.{Unknown, One}
 use Rattle.squall_course.specs.Change.{Change}
 use Rattle.squall_report.specs.Issues.{PlanPair}
-use Rattle.squall_report.specs.Tests.{Tests}
+use Rattle.squall_report.specs.Queries.{Queries}
 use Rattle.squall_board.specs.CourseRoute.{IsCourseBy}
 use Rattle.squall_protocol.specs.Known.{course_under}
 use Rattle.squall_protocol.specs.Worlds.{WorldValue, course_at, first_course, WasBegun, pair_at}
@@ -23,25 +23,25 @@ some_same : (c d : Change) → Some c ≡ Some d → c ≡ d
 some_same c d h = cc
 
 -- a course that is issued was begun, and the issue is of its plans
-issued_begun : (w : WorldValue) (f : Tests) (n : ℕ) (pair : PlanPair) → TrueFacts w f → f.issued n ≡ One pair → WasBegun w n × (f.issued n ≡ One (pair_at w n))
+issued_begun : (w : WorldValue) (f : Queries) (n : ℕ) (pair : PlanPair) → TrueFacts w f → f.issued n ≡ One pair → WasBegun w n × (f.issued n ≡ One (pair_at w n))
 issued_begun w f n pair t e = ⊎_elim
     (λ (u : f.issued n ≡ Unknown). absurd (one_unknown pair (sym e ∙ u)))
     (λ (u : WasBegun w n × (f.issued n ≡ One (pair_at w n))). u)
     (t.issued n)
 
-pub hears_begun : (w : WorldValue) (f : Tests) (n : ℕ) → 1 ≤ w.last → TrueFacts w f → Hears f n → WasBegun w n
+pub hears_begun : (w : WorldValue) (f : Queries) (n : ℕ) → 1 ≤ w.last → TrueFacts w f → Hears f n → WasBegun w n
 hears_begun w f n first t (inl e) = (omega arith, omega arith)
 hears_begun w f n first t (inr (pair, e)) = (issued_begun w f n pair t e).0
 
 -- ---- the course of a number
 
 -- the course was begun, and it is the world's of that number
-pub record KnownCourse (w : WorldValue) (f : Tests) (n : ℕ) (c : Change) : Type 0 where
+pub record KnownCourse (w : WorldValue) (f : Queries) (n : ℕ) (c : Change) : Type 0 where
   pub hears : Hears f n
   pub begun : WasBegun w n
   pub same : c ≡ course_at w n
 
-pub known_course : (w : WorldValue) (f : Tests) (n : ℕ) (c : Change) → 1 ≤ w.last → TrueFacts w f → known_by (first_course w) f n ≡ Some c → KnownCourse w f n c
+pub known_course : (w : WorldValue) (f : Queries) (n : ℕ) (c : Change) → 1 ≤ w.last → TrueFacts w f → known_by (first_course w) f n ≡ Some c → KnownCourse w f n c
 known_course w f n c first t e = ⊎_elim
     (λ (one : n ≡ 1).
     let same : first_course w ≡ c = some_same (first_course w) c (sym (cond-true (n == 1) (Some (first_course w)) (course_under n (f.issued n)) (eq-eqb n 1 one)) ∙ e) in
@@ -55,7 +55,7 @@ known_course w f n c first t e = ⊎_elim
     (t.issued n))
     (cases_eq n 1)
 
-pub hears_course : (w : WorldValue) (f : Tests) (n : ℕ) → TrueFacts w f → Hears f n → known_by (first_course w) f n ≡ Some (course_at w n)
+pub hears_course : (w : WorldValue) (f : Queries) (n : ℕ) → TrueFacts w f → Hears f n → known_by (first_course w) f n ≡ Some (course_at w n)
 hears_course w f n t heard = ⊎_elim
     (λ (one : n ≡ 1). cond-true (n == 1) (Some (first_course w)) (course_under n (f.issued n)) (eq-eqb n 1 one) ∙ ap (λ m. Some (course_at w m)) (sym one))
     (λ (other : n ≡ 1 → ⊥). cond-false (n == 1) (Some (first_course w)) (course_under n (f.issued n)) (ne_eqb n 1 other) ∙ ap (course_under n) (issue other heard))
@@ -68,16 +68,16 @@ hears_course w f n t heard = ⊎_elim
 -- ---- the newest course
 
 -- it was begun, no greater number is known, and it is the world's of its number
-pub record NewestCourse (w : WorldValue) (f : Tests) (c : Change) : Type 0 where
+pub record NewestCourse (w : WorldValue) (f : Queries) (c : Change) : Type 0 where
   pub begun : WasBegun w c.number
   pub newest : IsNewest f c.number
   pub same : c ≡ course_at w c.number
 
-none_newer : (f : Tests) (low : ℕ) → 1 ≤ low → ((n : ℕ) → low < n → (pair : PlanPair) → f.issued n ≡ One pair → ⊥) → (m : ℕ) → Hears f m → m ≤ low
+none_newer : (f : Queries) (low : ℕ) → 1 ≤ low → ((n : ℕ) → low < n → (pair : PlanPair) → f.issued n ≡ One pair → ⊥) → (m : ℕ) → Hears f m → m ≤ low
 none_newer f low first none m (inl e) = omega arith
 none_newer f low first none m (inr (pair, e)) = ⊎_elim (λ (newer : low < m). absurd (none m newer pair e)) (λ (le : m ≤ low). le) (cases_lt low m)
 
-pub newest_course : (w : WorldValue) (f : Tests) (c : Change) → 1 ≤ w.last → TrueFacts w f → IsCourseBy (first_course w) f c → NewestCourse w f c
+pub newest_course : (w : WorldValue) (f : Queries) (c : Change) → 1 ≤ w.last → TrueFacts w f → IsCourseBy (first_course w) f c → NewestCourse w f c
 newest_course w f c first t (None, is, e) =
     subst (λ d. NewestCourse w f d) (sym e) (record { begun = (omega arith, first); newest = (inl refl, none_newer f 1 (omega arith) is); same = refl })
 newest_course w f c first t (Some x, is, e) =

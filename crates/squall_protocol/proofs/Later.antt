@@ -5,7 +5,7 @@ use Rattle.squall_join.specs.declared.flat.Flat.TheVariants.{Unknown, One}
 use Rattle.squall_plan.specs.Ranges.{owner_of}
 use Rattle.squall_course.specs.Subplans.{sub_of, subplan_count}
 use Rattle.squall_report.specs.Issues.{plan_pair}
-use Rattle.squall_report.specs.Tests.{Tests}
+use Rattle.squall_report.specs.Queries.{Queries}
 use Rattle.squall_protocol.specs.Worlds.{WorldValue, WasBegun, pair_at}
 use Rattle.squall_protocol.specs.Promises.{opened_of}
 use Rattle.squall_protocol.proofs.Courses.{old_owner, new_owner, sub_in, count_of, Moves}
@@ -95,7 +95,7 @@ pair_same w v l n h = ap₂ plan_pair (l.plan (n - 1) (omega arith)) (l.plan n h
 
 -- ---- what was true stays true
 
-pub true_later : (w v : WorldValue) (f : Tests) → Later w v → TrueFacts w f → w.opened ≤ count_of w w.last → TrueFacts v f
+pub true_later : (w v : WorldValue) (f : Queries) → Later w v → TrueFacts w f → w.opened ≤ count_of w w.last → TrueFacts v f
 true_later w v f l t most =
     record {
       loaded = λ c k h. l.loaded c.number c.part k (t.loaded c k h);

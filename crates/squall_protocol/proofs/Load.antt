@@ -5,7 +5,7 @@ use Rattle.std.specs.List.{slice_get}
 use Rattle.std.proofs.lemmas.Bool.{cases_Bool, cases_lt, cases_eq, both_ways, eqb-true, eq-eqb, or_cases, or_left, or_right, not-true, not_from_false}
 use Rattle.squall_span.specs.Spans.{span_has}
 use Rattle.squall_report.specs.Cells.{place_at}
-use Rattle.squall_report.specs.Tests.{loaded_tests}
+use Rattle.squall_report.specs.Queries.{loaded_queries}
 use Rattle.squall_protocol.specs.Chunks.{ChunkValue}
 use Rattle.squall_protocol.specs.declared.event.Node.{Node}
 use Rattle.squall_protocol.specs.declared.event.Node.TheVariants.{Part}
@@ -91,7 +91,7 @@ keeps_load w i chunk kept there hears =
       over = λ n k a b d. later.loaded n (new_owner w n k) k (kept.over n k a b d);
       most = kept.most;
       earlier = λ k a b. later.loaded w.last (new_owner w w.last k) k (kept.earlier k a b);
-      facts = true_told (after_load w chunk) w (Part chunk.dest) (loaded_tests (place_at chunk.number chunk.sub chunk.dest) (span_has chunk.span)) all report_true;
+      facts = true_told (after_load w chunk) w (Part chunk.dest) (loaded_queries (place_at chunk.number chunk.sub chunk.dest) (span_has chunk.span)) all report_true;
       messages = λ j message h. true_later w (after_load w chunk) message later (kept.messages j message h) kept.most;
       some = kept.some;
       sent = λ j a h k x. let y : IsSent w a k = kept.sent j a h k x in record { source = y.source; dest = y.dest; sub = y.sub; given = y.given };
@@ -111,10 +111,10 @@ keeps_load w i chunk kept there hears =
     all : (m : Node) → TrueFacts (after_load w chunk) (w.facts m)
     all m = true_later w (after_load w chunk) (w.facts m) (later_load w chunk) (kept.facts m) kept.most
 
-    report_true : TrueFacts (after_load w chunk) (loaded_tests (place_at chunk.number chunk.sub chunk.dest) (span_has chunk.span))
+    report_true : TrueFacts (after_load w chunk) (loaded_queries (place_at chunk.number chunk.sub chunk.dest) (span_has chunk.span))
     report_true = loaded_true (after_load w chunk) (place_at chunk.number chunk.sub chunk.dest) (span_has chunk.span) (λ k h.
         or_right (w.loaded chunk.number chunk.dest k) ((chunk.number == chunk.number) && ((chunk.dest == chunk.dest) && span_has chunk.span k))
         (three_from (chunk.number == chunk.number) (chunk.dest == chunk.dest) (span_has chunk.span k) (eq-eqb chunk.number chunk.number refl) (eq-eqb chunk.dest chunk.dest refl) h))
 
-    hears_on : (m : Node) (n : ℕ) → Hears (w.facts m) n → Hears (told_to w (Part chunk.dest) (loaded_tests (place_at chunk.number chunk.sub chunk.dest) (span_has chunk.span)) m) n
-    hears_on m n h = hears_told (after_load w chunk) w (Part chunk.dest) (loaded_tests (place_at chunk.number chunk.sub chunk.dest) (span_has chunk.span)) all report_true m n h
+    hears_on : (m : Node) (n : ℕ) → Hears (w.facts m) n → Hears (told_to w (Part chunk.dest) (loaded_queries (place_at chunk.number chunk.sub chunk.dest) (span_has chunk.span)) m) n
+    hears_on m n h = hears_told (after_load w chunk) w (Part chunk.dest) (loaded_queries (place_at chunk.number chunk.sub chunk.dest) (span_has chunk.span)) all report_true m n h

@@ -7,7 +7,7 @@ use Rattle.squall_report.specs.declared.report.ReportKind.{ReportKind}
 use Rattle.squall_report.specs.declared.report.ReportKind.TheVariants.{Done as DoneReport}
 use Rattle.squall_report.specs.Issues.{PlanPair}
 use Rattle.squall_report.specs.Cells.{place_at}
-use Rattle.squall_report.specs.Tests.{done_tests}
+use Rattle.squall_report.specs.Queries.{done_queries}
 use Rattle.squall_board.specs.CourseRoute.{IsCourseBy}
 use Rattle.squall_board.specs.CourseRouteLaws.{one_course}
 use Rattle.squall_protocol.specs.Firsts.{IsRun}
@@ -62,7 +62,7 @@ done_report p s c = DoneReport c.number s p
 
 -- the world after it
 abbrev after_done : WorldValue → ℕ → ℕ → Change → WorldValue
-after_done w p s c = after_told w (Part p) (done_tests (place_at c.number s p))
+after_done w p s c = after_told w (Part p) (done_queries (place_at c.number s p))
 
 -- the answers are one, where the course is
 same_finish : (w v u : WorldValue) (p s : ℕ) (c d : Change) (r q : ReportKind PlanPair) → r ≡ done_report p s c → q ≡ done_report p s d → c ≡ d → SameWorld v (after_done w p s c) → SameWorld u (after_done w p s d)

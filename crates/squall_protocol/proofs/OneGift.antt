@@ -10,7 +10,7 @@ use Rattle.squall_protocol.specs.declared.answer.Answer.{Answer}
 use Rattle.squall_protocol.specs.declared.answer.Answer.TheVariants.{Gave, Refused}
 use Rattle.squall_protocol.specs.declared.answer.Refusal.TheVariants.{NoSuch, NotOpen, NothingLeft, ZeroMax}
 use Rattle.squall_protocol.specs.Worlds.{WorldValue, is_part, SameWorld}
-use Rattle.squall_protocol.specs.Knowledge.{part_in, PartTests, IsCurrent, is_left}
+use Rattle.squall_protocol.specs.Knowledge.{part_in, PartQueries, IsCurrent, is_left}
 use Rattle.squall_protocol.specs.Steps.{IsGift, after_give, GiveStep}
 use Rattle.squall_protocol.proofs.Current.{at_current, none_current}
 use Rattle.squall_protocol.proofs.Firsts.{one_first}
@@ -19,7 +19,7 @@ use Rattle.squall_protocol.proofs.Once.{Once, agree}
 -- ---- the chunk
 
 -- the gift of the same keys, of which there is one at least, is one: its destination is the new owner of the first of them
-pub one_gift : (p : PartTests) (c : Change) (s : ℕ) (x y : ChunkValue) → IsGift p c s x → IsGift p c s y → x.span ≡ y.span → span_has x.span x.span.lo ≡ true → x ≡ y
+pub one_gift : (p : PartQueries) (c : Change) (s : ℕ) (x y : ChunkValue) → IsGift p c s x → IsGift p c s y → x.span ≡ y.span → span_has x.span x.span.lo ≡ true → x ≡ y
 one_gift p c s x y a b span some =
     λ i. record {
       number = (a.number ∙ sym b.number) i;
@@ -30,7 +30,7 @@ one_gift p c s x y a b span some =
     }
 
 -- the same where the courses by which they are given are both current
-pub gift_of_current : (p : PartTests) (c d : Change) (s t : ℕ) (x y : ChunkValue) → IsCurrent p c s → IsCurrent p d t → IsGift p c s x → IsGift p d t y → x.span ≡ y.span → span_has x.span x.span.lo ≡ true → x ≡ y
+pub gift_of_current : (p : PartQueries) (c d : Change) (s t : ℕ) (x y : ChunkValue) → IsCurrent p c s → IsCurrent p d t → IsGift p c s x → IsGift p d t y → x.span ≡ y.span → span_has x.span x.span.lo ≡ true → x ≡ y
 gift_of_current p c d s t x y at now gift other span some = one_gift p d t x y (at_current p c d s t at now (λ e n. IsGift p e n x) gift) other span some
 
 -- the span has its first key
@@ -44,7 +44,7 @@ key_in s k e = subst (λ (t : Interval). span_has t t.lo ≡ true) (sym e) (insi
 -- ---- the first keys
 
 -- the first keys that are left are one chunk
-one_chunk : (p : PartTests) (most : ℕ) (c d : Change) (s t : ℕ) (x y : ChunkValue) → IsCurrent p c s → IsCurrent p d t → AreFirst (is_left p c s) most x.span → AreFirst (is_left p d t) most y.span
+one_chunk : (p : PartQueries) (most : ℕ) (c d : Change) (s t : ℕ) (x y : ChunkValue) → IsCurrent p c s → IsCurrent p d t → AreFirst (is_left p c s) most x.span → AreFirst (is_left p d t) most y.span
     → IsGift p c s x → IsGift p d t y → x ≡ y
 one_chunk p most c d s t x y at now keys others gift other =
     gift_of_current p c d s t x y at now gift other
@@ -52,11 +52,11 @@ one_chunk p most c d s t x y at now keys others gift other =
     (first_in x.span keys.some)
 
 -- where no key is left none is
-none_left : (p : PartTests) (c d : Change) (s t k : ℕ) → IsCurrent p c s → IsCurrent p d t → ((j : ℕ) → is_left p c s j ≡ false) → is_left p d t k ≡ true → ⊥
+none_left : (p : PartQueries) (c d : Change) (s t k : ℕ) → IsCurrent p c s → IsCurrent p d t → ((j : ℕ) → is_left p c s j ≡ false) → is_left p d t k ≡ true → ⊥
 none_left p c d s t k at now none left = both_ways (is_left p d t k) (at_current p c d s t at now (λ e n. is_left p e n k ≡ false) (none k)) left
 
 -- the first key of a chunk is left
-first_left : (p : PartTests) (c : Change) (s most : ℕ) (x : Interval) → AreFirst (is_left p c s) most x → is_left p c s x.lo ≡ true
+first_left : (p : PartQueries) (c : Change) (s most : ℕ) (x : Interval) → AreFirst (is_left p c s) most x → is_left p c s x.lo ≡ true
 first_left p c s most x keys = keys.keys x.lo (le_refl x.lo) keys.some
 
 -- there is no first key where none is asked for

@@ -8,18 +8,18 @@ use Rattle.squall_protocol.specs.declared.answer.Answer.{Answer}
 use Rattle.squall_protocol.specs.declared.answer.Answer.TheVariants.{Gave, Refused}
 use Rattle.squall_protocol.specs.declared.answer.Refusal.TheVariants.{NoSuch, NotOpen, NotOutgoing, Given, NotHeld}
 use Rattle.squall_protocol.specs.Worlds.{WorldValue, is_part}
-use Rattle.squall_protocol.specs.Knowledge.{part_in, PartTests, IsCurrent, goes_out}
+use Rattle.squall_protocol.specs.Knowledge.{part_in, PartQueries, IsCurrent, goes_out}
 use Rattle.squall_protocol.specs.Steps.{IsGift, GiveAtStep}
 use Rattle.squall_protocol.proofs.Current.{at_current, none_current}
 use Rattle.squall_protocol.proofs.Once.{Once, agree}
 use Rattle.squall_protocol.proofs.OneGift.{gift_of_current, key_in, same_gift}
 
 -- the chunk of one key is one
-one_key : (p : PartTests) (c d : Change) (s t k : ℕ) (x y : ChunkValue) → IsCurrent p c s → IsCurrent p d t → x.span ≡ interval k (k + 1) → y.span ≡ interval k (k + 1) → IsGift p c s x → IsGift p d t y → x ≡ y
+one_key : (p : PartQueries) (c d : Change) (s t k : ℕ) (x y : ChunkValue) → IsCurrent p c s → IsCurrent p d t → x.span ≡ interval k (k + 1) → y.span ≡ interval k (k + 1) → IsGift p c s x → IsGift p d t y → x ≡ y
 one_key p c d s t k x y at now span other gift again = gift_of_current p c d s t x y at now gift again (span ∙ sym other) (key_in x.span k span)
 
 -- not both: the key goes out, and it does not
-not_out : (p : PartTests) (c d : Change) (s t k : ℕ) → IsCurrent p c s → IsCurrent p d t → goes_out p c s k ≡ false → goes_out p d t k ≡ true → ⊥
+not_out : (p : PartQueries) (c d : Change) (s t k : ℕ) → IsCurrent p c s → IsCurrent p d t → goes_out p c s k ≡ false → goes_out p d t k ≡ true → ⊥
 not_out p c d s t k at now stays goes = both_ways (goes_out p d t k) (at_current p c d s t at now (λ e n. goes_out p e n k ≡ false) stays) goes
 
 -- not both: the key was given in the course, and it was not

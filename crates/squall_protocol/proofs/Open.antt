@@ -2,7 +2,7 @@
 use Rattle.std.proofs.Common.{◌≡◌, ◌≢◌, ℕ, ◌+◌, ◌-◌, ◌<◌, ◌≤◌, true, refl, ⊎_elim, arith, le_refl}
 use Rattle.std.proofs.lemmas.Bool.{cases_lt, true_from_ne_false}
 use Rattle.squall_report.specs.Cells.{place_at}
-use Rattle.squall_report.specs.Tests.{Tests, opened_tests}
+use Rattle.squall_report.specs.Queries.{Queries, opened_queries}
 use Rattle.squall_protocol.specs.declared.event.Node.TheVariants.{Leader}
 use Rattle.squall_protocol.specs.Worlds.{WorldValue}
 use Rattle.squall_protocol.specs.Steps.{after_open, NoneWanting}
@@ -54,8 +54,8 @@ keeps_opened w kept done more =
       somewhere = λ n m k h. let g : HasChunk w n m k = kept.somewhere n m k h in record { index = g.index; chunk = g.chunk; there = g.there; number = g.number; source = g.source; keys = g.keys };
     }
   where
-    still : (f : Tests) → TrueFacts w f → TrueFacts (opened_on w) f
+    still : (f : Queries) → TrueFacts w f → TrueFacts (opened_on w) f
     still f t = true_later w (opened_on w) f (record { plan = λ m h. refl; last = le_refl w.last; opened = λ e. omega arith; given = λ m r k h. h; loaded = λ m r k h. h }) t kept.most
 
 pub keeps_open : (w : WorldValue) → Kept w → AllDone w → w.opened ≢ count_of w w.last → Kept (after_open w)
-keeps_open w kept done more = keeps_told (opened_on w) Leader (opened_tests w.last w.opened) (keeps_opened w kept done more) (opened_true (opened_on w) w.opened kept.first (omega arith))
+keeps_open w kept done more = keeps_told (opened_on w) Leader (opened_queries w.last w.opened) (keeps_opened w kept done more) (opened_true (opened_on w) w.opened kept.first (omega arith))

@@ -2,7 +2,7 @@
 use Rattle.std.proofs.Common.{ℕ, List, [], ◌∷◌, refl, sym, subst, le_refl}
 use Rattle.squall_plan.specs.declared.range.PlanRange.{PlanRange}
 use Rattle.squall_report.specs.Cells.{place_at}
-use Rattle.squall_report.specs.Tests.{done_tests}
+use Rattle.squall_report.specs.Queries.{done_queries}
 use Rattle.squall_protocol.specs.declared.event.Node.{Node}
 use Rattle.squall_protocol.specs.declared.event.Node.TheVariants.{Part}
 use Rattle.squall_protocol.specs.declared.event.Event.{Event}
@@ -66,7 +66,7 @@ load_became w v i (Refused Stranger) kept h = still w v h.1
 load_became w v i _ kept h = absurd h
 
 finish_became : (w v : WorldValue) (p s : ℕ) (r : Answer) → Kept w → FinishStep w p s r v → Became w v
-finish_became w v p s (Finished report) kept h = record { next = after_told w (Part p) (done_tests (place_at h.1.0.number s p)); change = finish_change w p s h.1.0 kept h.1.1 h.1.2; same = h.1.5 }
+finish_became w v p s (Finished report) kept h = record { next = after_told w (Part p) (done_queries (place_at h.1.0.number s p)); change = finish_change w p s h.1.0 kept h.1.1 h.1.2; same = h.1.5 }
 finish_became w v p s (Refused NoSuch) kept h = still w v h.1
 finish_became w v p s (Refused NotOpen) kept h = still w v h.2
 finish_became w v p s (Refused (NotAll span)) kept h = still w v h.2

@@ -1,6 +1,6 @@
 -- Worlds that agree in each part are one.
 use Rattle.std.proofs.Common.{◌≡◌, refl}
-use Rattle.squall_report.specs.TestsLaws.{same_tests}
+use Rattle.squall_report.specs.QueriesLaws.{same_queries}
 use Rattle.squall_protocol.specs.Worlds.{WorldValue, SameWorld}
 
 pub same_world : (w v : WorldValue) → SameWorld w v → w ≡ v
@@ -14,7 +14,7 @@ same_world w v s =
       held = λ p k. s.held p k i;
       given = λ n p k. s.given n p k i;
       loaded = λ n p k. s.loaded n p k i;
-      facts = λ node. same_tests (w.facts node) (v.facts node) (s.facts node) i;
+      facts = λ node. same_queries (w.facts node) (v.facts node) (s.facts node) i;
       messages = s.messages i;
       chunks = s.chunks i;
     }

@@ -4,12 +4,12 @@ use Rattle.std.proofs.lemmas.Bool.{cases_Bool, eqb-true, and_parts, cond-true, c
 use Rattle.squall_join.specs.declared.flat.Flat.TheVariants.{Unknown, One}
 use Rattle.squall_report.specs.Issues.{PlanPair}
 use Rattle.squall_report.specs.Cells.{CellPlace, place_at, is_same_cell}
-use Rattle.squall_report.specs.Tests.{loaded_tests, done_tests, opened_tests, issued_tests}
+use Rattle.squall_report.specs.Queries.{loaded_queries, done_queries, opened_queries, issued_queries}
 use Rattle.squall_protocol.specs.Worlds.{WorldValue, WasBegun, pair_at}
 use Rattle.squall_protocol.specs.Promises.{opened_of}
 use Rattle.squall_protocol.proofs.Courses.{new_owner, sub_in, Moves}
 use Rattle.squall_protocol.proofs.Kept.{TrueFacts}
-use Rattle.squall_report.specs.Tests.{no_tests}
+use Rattle.squall_report.specs.Queries.{no_queries}
 use Rattle.squall_protocol.proofs.Later.{opened_now}
 
 -- both are one cell
@@ -28,7 +28,7 @@ false_is_true h = absurd (true≢false (sym h))
 none_below : {A : Type 0} (t : ℕ) → t < 0 → A
 none_below t h = absurd (omega arith)
 
-pub no_true : (w : WorldValue) → TrueFacts w no_tests
+pub no_true : (w : WorldValue) → TrueFacts w no_queries
 no_true w =
     record {
       loaded = λ c k h. false_is_true h;
@@ -39,7 +39,7 @@ no_true w =
       issued = λ m. inl refl;
     }
 
-pub loaded_true : (w : WorldValue) (cell : CellPlace) (keys : ℕ → Bool) → ((k : ℕ) → keys k ≡ true → w.loaded cell.number cell.part k ≡ true) → TrueFacts w (loaded_tests cell keys)
+pub loaded_true : (w : WorldValue) (cell : CellPlace) (keys : ℕ → Bool) → ((k : ℕ) → keys k ≡ true → w.loaded cell.number cell.part k ≡ true) → TrueFacts w (loaded_queries cell keys)
 loaded_true w cell keys all =
     record {
       loaded = λ c k h. let a = and_parts (is_same_cell cell c) (keys k) h in subst (λ (d : CellPlace). w.loaded d.number d.part k ≡ true) (same_cell cell c a.0) (all k a.1);
@@ -51,7 +51,7 @@ loaded_true w cell keys all =
     }
 
 pub done_true : (w : WorldValue) (cell : CellPlace) → WasBegun w cell.number
-    → ((k : ℕ) → Moves w cell.number k → new_owner w cell.number k ≡ cell.part → sub_in w cell.number k ≡ cell.sub → w.loaded cell.number cell.part k ≡ true) → TrueFacts w (done_tests cell)
+    → ((k : ℕ) → Moves w cell.number k → new_owner w cell.number k ≡ cell.part → sub_in w cell.number k ≡ cell.sub → w.loaded cell.number cell.part k ≡ true) → TrueFacts w (done_queries cell)
 done_true w cell begun all =
     record {
       loaded = λ c k h. false_is_true h;
@@ -62,7 +62,7 @@ done_true w cell begun all =
       issued = λ m. inl refl;
     }
 
-pub opened_true : (w : WorldValue) (s : ℕ) → 1 ≤ w.last → s < w.opened → TrueFacts w (opened_tests w.last s)
+pub opened_true : (w : WorldValue) (s : ℕ) → 1 ≤ w.last → s < w.opened → TrueFacts w (opened_queries w.last s)
 opened_true w s first below =
     record {
       loaded = λ c k h. false_is_true h;
@@ -79,7 +79,7 @@ opened_true w s first below =
         (λ (e : (w.last == m) ≡ false). none_below t (subst (λ x. t < x) (cond-false (w.last == m) (s + 1) 0 e) h))
         (cases_Bool (w.last == m))
 
-pub issued_true : (w : WorldValue) (n : ℕ) (pair : PlanPair) → WasBegun w n → pair ≡ pair_at w n → TrueFacts w (issued_tests n pair)
+pub issued_true : (w : WorldValue) (n : ℕ) (pair : PlanPair) → WasBegun w n → pair ≡ pair_at w n → TrueFacts w (issued_queries n pair)
 issued_true w n pair begun is =
     record {
       loaded = λ c k h. false_is_true h;

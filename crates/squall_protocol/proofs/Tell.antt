@@ -2,7 +2,7 @@
 use Rattle.std.proofs.Common.{◌≡◌, ℕ, [], ◌∷◌, ◌++◌, length, refl, subst, ⊎_elim, le_refl}
 use Rattle.std.specs.Prelude.{Some}
 use Rattle.std.specs.List.{slice_get}
-use Rattle.squall_report.specs.Tests.{Tests}
+use Rattle.squall_report.specs.Queries.{Queries}
 use Rattle.squall_protocol.specs.declared.event.Node.{Node}
 use Rattle.squall_protocol.specs.declared.event.Node.TheVariants.{Part}
 use Rattle.squall_protocol.specs.Worlds.{WorldValue}
@@ -12,7 +12,7 @@ use Rattle.squall_protocol.proofs.Later.{true_later}
 use Rattle.squall_protocol.proofs.Told.{true_told, hears_told}
 use Rattle.squall_protocol.proofs.Lists.{at_either}
 
-pub keeps_told : (w : WorldValue) (node : Node) (more : Tests) → Kept w → TrueFacts w more → Kept (after_told w node more)
+pub keeps_told : (w : WorldValue) (node : Node) (more : Queries) → Kept w → TrueFacts w more → Kept (after_told w node more)
 keeps_told w node more kept true_more =
     record {
       first = kept.first;
@@ -33,7 +33,7 @@ keeps_told w node more kept true_more =
       somewhere = λ n m k h. let g : HasChunk w n m k = kept.somewhere n m k h in record { index = g.index; chunk = g.chunk; there = g.there; number = g.number; source = g.source; keys = g.keys };
     }
   where
-    still : (f : Tests) → TrueFacts w f → TrueFacts (after_told w node more) f
+    still : (f : Queries) → TrueFacts w f → TrueFacts (after_told w node more) f
     still f t = true_later w (after_told w node more) f (record { plan = λ m h. refl; last = le_refl w.last; opened = λ e. le_refl w.opened; given = λ m r k h. h; loaded = λ m r k h. h }) t kept.most
 
     hears_on : (m : Node) (n : ℕ) → Hears (w.facts m) n → Hears (told_to w node more m) n
@@ -63,5 +63,5 @@ keeps_sent w node kept =
       somewhere = λ n m k h. let g : HasChunk w n m k = kept.somewhere n m k h in record { index = g.index; chunk = g.chunk; there = g.there; number = g.number; source = g.source; keys = g.keys };
     }
   where
-    still : (f : Tests) → TrueFacts w f → TrueFacts (record w { messages = w.messages ++ w.facts node ∷ [] }) f
+    still : (f : Queries) → TrueFacts w f → TrueFacts (record w { messages = w.messages ++ w.facts node ∷ [] }) f
     still f t = true_later w (record w { messages = w.messages ++ w.facts node ∷ [] }) f (record { plan = λ m h. refl; last = le_refl w.last; opened = λ e. le_refl w.opened; given = λ m r k h. h; loaded = λ m r k h. h }) t kept.most

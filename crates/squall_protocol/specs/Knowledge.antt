@@ -4,7 +4,7 @@ use Rattle.squall_plan.specs.Ranges.{owner_of}
 use Rattle.squall_course.specs.Change.{Change}
 use Rattle.squall_course.specs.Subplans.{moves}
 use Rattle.squall_course.specs.Moves.{is_incoming, is_outgoing}
-use Rattle.squall_report.specs.Tests.{Tests}
+use Rattle.squall_report.specs.Queries.{Queries}
 use Rattle.squall_board.specs.CourseRoute.{IsCourseBy}
 use Rattle.squall_errand.specs.declared.errand.Reply.{Reply}
 use Rattle.squall_errand.specs.declared.errand.Reply.TheVariants.{Held, Moved, Pending, Behind, Elsewhere}
@@ -15,80 +15,80 @@ use Rattle.squall_protocol.specs.Worlds.{WorldValue, first_course}
 
 -- what a partition answers by: its number, the first course, what it was told and told itself, and whether it holds a key, gave it, and
 -- loaded it in the course of a number
-pub record PartTests : Type 0 where
+pub record PartQueries : Type 0 where
   pub id : ℕ
   pub first : Change
-  pub told : Tests
+  pub told : Queries
   pub held : ℕ → Bool
   pub given : ℕ → ℕ → Bool
   pub loaded : ℕ → ℕ → Bool
 
 -- a partition of the world
-abbrev pub part_in : WorldValue → ℕ → PartTests
+abbrev pub part_in : WorldValue → ℕ → PartQueries
 part_in w p = record { id = p; first = first_course w; told = w.facts (Part p); held = w.held p; given = λ n k. w.given n p k; loaded = λ n k. w.loaded n p k }
 
 -- ---- courses
 
 -- the course of a number, as far as a node knows: all know the first, and a later one by what is issued under its number
-abbrev pub known_by : Change → Tests → ℕ → Option Change
+abbrev pub known_by : Change → Queries → ℕ → Option Change
 known_by first t n = if n == first.number then Some first else course_under n (t.issued n)
 
 -- the partition knows the course of the number
-abbrev pub Knows : PartTests → ℕ → Change → Type 0
+abbrev pub Knows : PartQueries → ℕ → Change → Type 0
 Knows p n c = known_by p.first p.told n ≡ Some c
 
 -- the course is the newest that the partition knows, and the sub-plan the one opened last under it there
-abbrev pub IsCurrent : PartTests → Change → ℕ → Type 0
+abbrev pub IsCurrent : PartQueries → Change → ℕ → Type 0
 IsCurrent p c s = IsCourseBy p.first p.told c × (p.told.opened c.number ≡ s + 1)
 
 -- no sub-plan is opened there under the newest course that it knows
-abbrev pub NoneOpen : PartTests → Type 0
+abbrev pub NoneOpen : PartQueries → Type 0
 NoneOpen p = (c : Change) × IsCourseBy p.first p.told c × (p.told.opened c.number ≡ 0)
 
 -- ---- keys
 
 -- the key goes out from the partition in the sub-plan of the course
-abbrev pub goes_out : PartTests → Change → ℕ → ℕ → Bool
+abbrev pub goes_out : PartQueries → Change → ℕ → ℕ → Bool
 goes_out p c s k = is_outgoing c.old c.new s p.id k
 
 -- it goes out, and is still held
-abbrev pub is_left : PartTests → Change → ℕ → ℕ → Bool
+abbrev pub is_left : PartQueries → Change → ℕ → ℕ → Bool
 is_left p c s k = goes_out p c s k && p.held k
 
 -- the key comes in to the partition in the sub-plan of the course
-abbrev pub comes_in : PartTests → Change → ℕ → ℕ → Bool
+abbrev pub comes_in : PartQueries → Change → ℕ → ℕ → Bool
 comes_in p c s k = is_incoming c.old c.new s p.id k
 
 -- it comes in, and is not loaded
-abbrev pub is_missing : PartTests → Change → ℕ → ℕ → Bool
+abbrev pub is_missing : PartQueries → Change → ℕ → ℕ → Bool
 is_missing p c s k = comes_in p c s k && not (p.loaded c.number k)
 
 -- ---- replies
 
 -- the partition knows the course of the number, and gave the key in it
-abbrev pub GaveUnder : PartTests → ℕ → ℕ → Type 0
+abbrev pub GaveUnder : PartQueries → ℕ → ℕ → Type 0
 GaveUnder p k n = ((c : Change) × Knows p n c) × (p.given n k ≡ true)
 
 -- the partition knows the course of the number, by which the key comes in, and it is not loaded
-abbrev pub ComesUnder : PartTests → ℕ → ℕ → Type 0
+abbrev pub ComesUnder : PartQueries → ℕ → ℕ → Type 0
 ComesUnder p k n = (c : Change) × Knows p n c × (moves c.old c.new k ≡ true) × (owner_of c.new k ≡ p.id) × (p.loaded n k ≡ false)
 
 -- the last number under which it gave the key, and the last by which the key comes in and is not loaded, 0 for none
-abbrev pub IsLastGiven : PartTests → ℕ → ℕ → Type 0
+abbrev pub IsLastGiven : PartQueries → ℕ → ℕ → Type 0
 IsLastGiven p k g = IsGreatest (GaveUnder p k) g
 
-abbrev pub IsLastComing : PartTests → ℕ → ℕ → Type 0
+abbrev pub IsLastComing : PartQueries → ℕ → ℕ → Type 0
 IsLastComing p k c = IsGreatest (ComesUnder p k) c
 
 -- the old, or the new, partition of the key by the course of the number
-abbrev pub OldOwnerUnder : PartTests → ℕ → ℕ → ℕ → Type 0
+abbrev pub OldOwnerUnder : PartQueries → ℕ → ℕ → ℕ → Type 0
 OldOwnerUnder p k n part = (c : Change) × Knows p n c × (part ≡ owner_of c.old k)
 
-abbrev pub NewOwnerUnder : PartTests → ℕ → ℕ → ℕ → Type 0
+abbrev pub NewOwnerUnder : PartQueries → ℕ → ℕ → ℕ → Type 0
 NewOwnerUnder p k n part = (c : Change) × Knows p n c × (part ≡ owner_of c.new k)
 
 -- the reply of a partition that is asked for a key with the number of the last move that was followed
-abbrev pub Serves : PartTests → ℕ → ℕ → Reply → Type 0
+abbrev pub Serves : PartQueries → ℕ → ℕ → Reply → Type 0
 Serves p k after Held = p.held k ≡ true
 Serves p k after (Pending source) = (p.held k ≡ false) × ((g : ℕ) × (c : ℕ) × IsLastGiven p k g × IsLastComing p k c × (g < c) × OldOwnerUnder p k c source)
 Serves p k after (Moved dest g) = (p.held k ≡ false) × IsLastGiven p k g × ((c : ℕ) × IsLastComing p k c × (c ≤ g)) × (after < g) × NewOwnerUnder p k g dest

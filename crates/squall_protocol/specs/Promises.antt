@@ -10,7 +10,7 @@ use Rattle.squall_course.specs.Change.{Change}
 use Rattle.squall_course.specs.Subplans.{subplan_count}
 use Rattle.squall_course.specs.Moves.{is_incoming}
 use Rattle.squall_report.specs.Cells.{CellPlace}
-use Rattle.squall_report.specs.Tests.{Tests}
+use Rattle.squall_report.specs.Queries.{Queries}
 use Rattle.squall_board.specs.CourseRoute.{IsCourseBy, IsRoutedBy}
 use Rattle.squall_errand.specs.declared.errand.Reply.{Reply}
 use Rattle.squall_errand.specs.declared.errand.Reply.TheVariants.{Held, Moved, Pending, Behind, Elsewhere}
@@ -64,7 +64,7 @@ opened_of w n = if n == w.last then w.opened else subplan_count (course_at w n).
 -- what is told happened: a key that is told loaded is loaded; if a partition is told to have all keys of a sub-plan, each of them is loaded
 -- there; a sub-plan that is told to be opened is; the numbers of all these were begun; and under a number either nothing is issued, or the
 -- number was begun and both plans of its course are issued, so that nothing clashes
-pub record Happened (w : WorldValue) (f : Tests) : Type 0 where
+pub record Happened (w : WorldValue) (f : Queries) : Type 0 where
   pub loaded_begun : (c : CellPlace) (k : ℕ) → f.loaded c k ≡ true → WasBegun w c.number
   pub loaded : (c : CellPlace) (k : ℕ) → f.loaded c k ≡ true → w.loaded c.number c.part k ≡ true
   pub done_begun : (c : CellPlace) → f.done c ≡ true → WasBegun w c.number

@@ -12,7 +12,7 @@ use Rattle.squall_course.specs.Moves.{is_incoming}
 use Rattle.squall_report.specs.declared.report.ReportKind.TheVariants.{Done as DoneReport}
 use Rattle.squall_report.specs.Issues.{plan_pair}
 use Rattle.squall_report.specs.Cells.{place_at}
-use Rattle.squall_report.specs.Tests.{Tests, joined_tests, loaded_tests, done_tests, opened_tests, issued_tests}
+use Rattle.squall_report.specs.Queries.{Queries, joined_queries, loaded_queries, done_queries, opened_queries, issued_queries}
 use Rattle.squall_board.specs.CourseRoute.{IsCourseBy, IsRoutedBy}
 use Rattle.squall_protocol.specs.Chunks.{ChunkValue, load_report}
 use Rattle.squall_protocol.specs.Carried.{Carried}
@@ -26,15 +26,15 @@ use Rattle.squall_protocol.specs.declared.answer.Answer.{Answer}
 use Rattle.squall_protocol.specs.declared.answer.Answer.TheVariants.{Opened, Begun, Gave, Loaded, Again, Finished, Sent, Delivered, Routed, Served, Refused}
 use Rattle.squall_protocol.specs.declared.answer.Refusal.TheVariants.{NoSuch, NotDone, NoMore, Running, NoNumber, NotOpen, NothingLeft, ZeroMax, NotOutgoing, Given, NotHeld, Stranger, NotAll, NothingDue}
 use Rattle.squall_protocol.specs.Worlds.{WorldValue, first_course, last_course, same_node, is_part, is_node, SameWorld}
-use Rattle.squall_protocol.specs.Knowledge.{part_in, PartTests, Knows, IsCurrent, NoneOpen, goes_out, is_left, comes_in, is_missing, Serves}
+use Rattle.squall_protocol.specs.Knowledge.{part_in, PartQueries, Knows, IsCurrent, NoneOpen, goes_out, is_left, comes_in, is_missing, Serves}
 
 -- ---- what a node is told
 
 -- the node was told more, and no other was
-abbrev pub told_to : WorldValue → Node → Tests → Node → Tests
-told_to w node more m = if same_node m node then joined_tests (w.facts m) more else w.facts m
+abbrev pub told_to : WorldValue → Node → Queries → Node → Queries
+told_to w node more m = if same_node m node then joined_queries (w.facts m) more else w.facts m
 
-abbrev pub after_told : WorldValue → Node → Tests → WorldValue
+abbrev pub after_told : WorldValue → Node → Queries → WorldValue
 after_told w node more = record w { facts = told_to w node more }
 
 -- ---- the leader
@@ -58,7 +58,7 @@ abbrev pub IsOver : WorldValue → Type 0
 IsOver w = (w.opened ≡ last_count w) × NoneWanting w
 
 abbrev pub after_open : WorldValue → WorldValue
-after_open w = record w { opened = w.opened + 1; facts = told_to w Leader (opened_tests w.last w.opened) }
+after_open w = record w { opened = w.opened + 1; facts = told_to w Leader (opened_queries w.last w.opened) }
 
 -- it opens the next sub-plan of the course begun last, once all partitions that receive keys in the one before have reported
 abbrev pub OpenStep : WorldValue → Answer → WorldValue → Type 0
@@ -83,7 +83,7 @@ after_begin w plan =
       last = w.last + 1;
       opened = 0;
       parts = w.parts ++ new_parts w plan;
-      facts = told_to w Leader (issued_tests (w.last + 1) (plan_pair (w.plan w.last) plan));
+      facts = told_to w Leader (issued_queries (w.last + 1) (plan_pair (w.plan w.last) plan));
     }
 
 -- it begins a course from the newest plan to another, once the one before is over; partitions come with the plans that first name them
@@ -96,7 +96,7 @@ BeginStep w plan _ v = ⊥
 -- ---- gifts
 
 -- the chunk is of the course, in its sub-plan, from the partition, to which each of its keys goes
-pub record IsGift (p : PartTests) (c : Change) (s : ℕ) (x : ChunkValue) : Type 0 where
+pub record IsGift (p : PartQueries) (c : Change) (s : ℕ) (x : ChunkValue) : Type 0 where
   pub number : x.number ≡ c.number
   pub sub_plan : x.sub ≡ s
   pub source : x.source ≡ p.id
@@ -162,7 +162,7 @@ after_load w x =
     record w {
       held = λ p k. w.held p k || ((p == x.dest) && (span_has x.span k && not (w.loaded x.number x.dest k)));
       loaded = λ n p k. w.loaded n p k || ((n == x.number) && ((p == x.dest) && span_has x.span k));
-      facts = told_to w (Part x.dest) (loaded_tests (place_at x.number x.sub x.dest) (span_has x.span));
+      facts = told_to w (Part x.dest) (loaded_queries (place_at x.number x.sub x.dest) (span_has x.span));
     }
 
 -- a chunk comes to its destination
@@ -188,7 +188,7 @@ abbrev pub FinishStep : WorldValue → ℕ → ℕ → Answer → WorldValue →
 FinishStep w p s (Finished report) v =
     (is_part w p ≡ true)
     × ((c : Change) × IsOpenAt w p s c × ((k : ℕ) → is_missing (part_in w p) c s k ≡ false) × ((k : ℕ) × (comes_in (part_in w p) c s k ≡ true))
-    × (report ≡ DoneReport c.number s p) × SameWorld v (after_told w (Part p) (done_tests (place_at c.number s p))))
+    × (report ≡ DoneReport c.number s p) × SameWorld v (after_told w (Part p) (done_queries (place_at c.number s p))))
 FinishStep w p s (Refused NoSuch) v = (is_part w p ≡ false) × SameWorld v w
 FinishStep w p s (Refused NotOpen) v =
     (is_part w p ≡ true) × ((c : Change) × IsCourseBy (first_course w) (w.facts (Part p)) c × ((w.facts (Part p)).opened c.number ≤ s)) × SameWorld v w
@@ -206,7 +206,7 @@ SendStep w node _ v = ⊥
 
 -- a message comes to a node: any number of times, to any node, or never
 abbrev pub DeliverStep : WorldValue → ℕ → Node → Answer → WorldValue → Type 0
-DeliverStep w i node Delivered v = (is_node w node ≡ true) × ((message : Tests) × (slice_get w.messages i ≡ Some message) × SameWorld v (after_told w node message))
+DeliverStep w i node Delivered v = (is_node w node ≡ true) × ((message : Queries) × (slice_get w.messages i ≡ Some message) × SameWorld v (after_told w node message))
 DeliverStep w i node (Refused NoSuch) v = ((is_node w node ≡ false) ⊎ (slice_get w.messages i ≡ None)) × SameWorld v w
 DeliverStep w i node _ v = ⊥
 

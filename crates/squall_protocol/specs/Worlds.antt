@@ -8,7 +8,7 @@ use Rattle.squall_plan.specs.declared.range.PlanRange.{PlanRange}
 use Rattle.squall_plan.specs.Ranges.{owner_of, names}
 use Rattle.squall_course.specs.Change.{Change}
 use Rattle.squall_report.specs.Issues.{PlanPair, plan_pair}
-use Rattle.squall_report.specs.Tests.{Tests, SameTests, no_tests, issued_tests}
+use Rattle.squall_report.specs.Queries.{Queries, SameQueries, no_queries, issued_queries}
 use Rattle.squall_protocol.specs.Chunks.{ChunkValue}
 use Rattle.squall_protocol.specs.declared.event.Node.{Node}
 use Rattle.squall_protocol.specs.declared.event.Node.TheVariants.{Leader, Part, Router}
@@ -32,9 +32,9 @@ pub record WorldValue : Type 0 where
   pub given : ℕ → ℕ → ℕ → Bool
   pub loaded : ℕ → ℕ → ℕ → Bool
   -- what each node was told, and told itself
-  pub facts : Node → Tests
+  pub facts : Node → Queries
   -- what each message tells, and which keys each chunk carries
-  pub messages : List Tests
+  pub messages : List Queries
   pub chunks : List ChunkValue
 
 -- ---- its courses
@@ -88,10 +88,10 @@ abbrev pub first_parts : List PlanRange → List PlanRange → List ℕ
 first_parts old new = filter (λ p. names old p || names new p) (range_with_len 0 part_limit)
 
 -- the leader has issued the first course, and no other node was told anything
-abbrev pub first_facts : List PlanRange → List PlanRange → Node → Tests
-first_facts old new Leader = issued_tests 1 (plan_pair old new)
-first_facts old new (Part p) = no_tests
-first_facts old new (Router r) = no_tests
+abbrev pub first_facts : List PlanRange → List PlanRange → Node → Queries
+first_facts old new Leader = issued_queries 1 (plan_pair old new)
+first_facts old new (Part p) = no_queries
+first_facts old new (Router r) = no_queries
 
 -- the world as it begins: each key lies where the old plan has it, and the course to the new plan is begun
 abbrev pub start : List PlanRange → List PlanRange → ℕ → WorldValue
@@ -122,6 +122,6 @@ pub record SameWorld (w v : WorldValue) : Type 0 where
   pub held : (p k : ℕ) → w.held p k ≡ v.held p k
   pub given : (n p k : ℕ) → w.given n p k ≡ v.given n p k
   pub loaded : (n p k : ℕ) → w.loaded n p k ≡ v.loaded n p k
-  pub facts : (node : Node) → SameTests (w.facts node) (v.facts node)
+  pub facts : (node : Node) → SameQueries (w.facts node) (v.facts node)
   pub messages : w.messages ≡ v.messages
   pub chunks : w.chunks ≡ v.chunks

@@ -1,7 +1,8 @@
 //! What holds in every run.
 
 ghost use Rattle.squall_protocol.specs.Worlds.{WorldValue};
-ghost use Rattle.squall_protocol.specs.Promises.{IsReached, OneCarrier, TrueReports, RoutedIsLoaded, OneDestination, ChunksHaveNodes, RoutesAreServed, MovesAreServed, FirstRoutesAreHome, FirstMovesAreDue};
+ghost use Rattle.squall_protocol.specs.Promises.{IsReached, OneCarrier, TrueReports, RoutedIsLoaded, OneDestination, ChunksHaveNodes};
+ghost use Rattle.squall_protocol.specs.Promises.{RoutesAreServed, MovesAreServed, FirstRoutesAreHome, FirstMovesAreDue};
 
 /// What holds at every moment of every run, whatever is lost, repeated or reordered.
 ///

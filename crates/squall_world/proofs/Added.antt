@@ -4,7 +4,7 @@ use Rattle.std.specs.List.{slice_get, flat_map, list_any, AllByRecursion}
 use Rattle.std.proofs.lemmas.List.{length-append}
 use Rattle.std.proofs.lemmas.Option.{same_Some}
 use Rattle.squall_course.specs.Change.{Change}
-use Rattle.squall_board.specs.BoardTests.{tests_of}
+use Rattle.squall_board.specs.BoardQueries.{queries_of}
 use Rattle.squall_protocol.specs.declared.event.Node.{Node}
 use Rattle.squall_protocol.specs.declared.event.Node.TheVariants.{Leader, Part, Router}
 use Rattle.squall_world.specs.Nets.{PeerValue, NetValue, AreWithin, told_from, IsNet, place_of, peer_of, at_place, is_part_peer}
@@ -47,7 +47,7 @@ added_node f n m first ids is none (Part p) = ap (λ ps. f (at_place ps (positio
 pub added_messages : (n m : NetValue) (first : Change) (ids : List ℕ) → IsAdded n m first ids → (ms : List (List ℕ)) → AllByRecursion (AreWithin n.peers) ms → map (told_by_message m) ms ≡ map (told_by_message n) ms
 added_messages n m first ids is [] all = refl
 added_messages n m first ids is (x ∷ ms) all =
-    let one : told_by_message m x ≡ told_by_message n x = ap (λ ps. tests_of (told_from ps x)) is.peers ∙ ap tests_of (told_new n.peers (part_peers first ids) x all.0) in
+    let one : told_by_message m x ≡ told_by_message n x = ap (λ ps. queries_of (told_from ps x)) is.peers ∙ ap queries_of (told_new n.peers (part_peers first ids) x all.0) in
     λ i. one i ∷ added_messages n m first ids is ms all.1 i
 
 -- ---- how many there are

@@ -3,7 +3,7 @@ use Rattle.std.proofs.Common.{◌≡◌, ℕ, Some, sym, ap, subst, ◌∙◌, a
 use Rattle.std.specs.List.{slice_get}
 use Rattle.std.proofs.lemmas.Option.{same_Some}
 use Rattle.squall_board.specs.Boards.{IsBoard}
-use Rattle.squall_board.specs.BoardTests.{tests_of}
+use Rattle.squall_board.specs.BoardQueries.{queries_of}
 use Rattle.squall_board.specs.CourseRoute.{IsRoutedBy}
 use Rattle.squall_board.specs.CourseRouteLaws.{board_course, board_routes}
 use Rattle.squall_router.specs.Routers.{RouterValue}
@@ -24,7 +24,7 @@ use Rattle.squall_world.specs.Views.{view, facts_of}
 use Rattle.squall_world.specs.Events.{IsRouteIn, IsServeIn}
 use Rattle.squall_world.proofs.Lists.{all_at}
 use Rattle.squall_world.proofs.Nodes.{node_there, no_node, router_place, router_same, first_seen}
-use Rattle.squall_world.proofs.Seen.{tests_of_part, part_seen, peer_there}
+use Rattle.squall_world.proofs.Seen.{queries_of_part, part_seen, peer_there}
 use Rattle.squall_world.proofs.Gifts.{part_valid, there_seen}
 
 -- ---- routers
@@ -40,9 +40,9 @@ route_steps n r k (Routed p) net (at, peer, a, place, there, role, e) =
     let lt = stands.0 in
     let eq = stands.1 in
     let first : a.first ≡ first_course (view n) = router_first n at peer a (net.routers at (omega (arith, eq)) (omega (arith, eq, lt))) there role ∙ sym (first_seen n net) in
-    let facts : tests_of a.board ≡ (view n).facts (Router r) = sym (ap facts_of (peer_there n (Router r) at peer place there) ∙ ap (λ v. tests_of (role_board v)) role) in (
+    let facts : queries_of a.board ≡ (view n).facts (Router r) = sym (ap facts_of (peer_there n (Router r) at peer place there) ∙ ap (λ v. queries_of (role_board v)) role) in (
       node_there n (Router r) at place,
-      subst (λ c. IsRoutedBy c ((view n).facts (Router r)) k p) first (subst (λ t. IsRoutedBy a.first t k p) facts (subst (IsRoutedBy a.first (tests_of a.board) k) (sym e) (board_routes a.first a.board k board))),
+      subst (λ c. IsRoutedBy c ((view n).facts (Router r)) k p) first (subst (λ t. IsRoutedBy a.first t k p) facts (subst (IsRoutedBy a.first (queries_of a.board) k) (sym e) (board_routes a.first a.board k board))),
       same_as_itself (view n),
     )
 route_steps n r k (Refused e) net (none, s) = subst (λ v. RouteStep (view n) r k (Refused v) (view n)) (sym s) (no_node n (Router r) none, same_as_itself (view n))
@@ -50,7 +50,7 @@ route_steps n r k answer net is = absurd is
 
 -- ---- partitions
 
-serves : (a : PartValue) (k after : ℕ) (reply : Reply) → IsPart a → IsReply a k after reply → Serves (tests_of_part a) k after reply
+serves : (a : PartValue) (k after : ℕ) (reply : Reply) → IsPart a → IsReply a k after reply → Serves (queries_of_part a) k after reply
 serves a k after Held is r = r
 serves a k after (Pending source) is r = r
 serves a k after (Moved dest g) is r = r

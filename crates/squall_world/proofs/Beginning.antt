@@ -13,9 +13,9 @@ use Rattle.squall_course.specs.Change.{Change, ArePlans}
 use Rattle.squall_course.specs.Subplans.{subplan_count}
 use Rattle.squall_course.proofs.Rising.{filter_up, in_filter_yes}
 use Rattle.squall_report.specs.Issues.{plan_pair}
-use Rattle.squall_report.specs.Tests.{SameTests, joined_tests, issued_tests}
+use Rattle.squall_report.specs.Queries.{SameQueries, joined_queries, issued_queries}
 use Rattle.squall_board.specs.Boards.{IsBoard, board_join, report_board}
-use Rattle.squall_board.specs.BoardTests.{tests_of}
+use Rattle.squall_board.specs.BoardQueries.{queries_of}
 use Rattle.squall_board.specs.BoardLaws.{issue_board_is}
 use Rattle.squall_part.specs.Parts.{PartValue, new_part}
 use Rattle.squall_leader.specs.Leaders.{LeaderValue, IsLeader, IsRunning, IsBegun, IsOver, waited_after, issue_report}
@@ -32,7 +32,7 @@ use Rattle.squall_world.specs.Views.{view, id_of, ids_in, opened_in, part_of, he
 use Rattle.squall_world.specs.Events.{HasLeader, IsBeginIn, IsBegunNet, named_first, part_peers}
 use Rattle.squall_world.proofs.Lists.{length_put, put_here, put_there, place_put, place_left, flat_append, get_left}
 use Rattle.squall_world.proofs.Nodes.{IsChanged, part_seen_there}
-use Rattle.squall_world.proofs.Boards.{tests_report}
+use Rattle.squall_world.proofs.Boards.{queries_report}
 use Rattle.squall_world.proofs.History.{IsHistory, history_of, history_more, history_new}
 use Rattle.squall_world.proofs.Seen.{ids_kept, facts_told, parts_kept, messages_kept, still}
 use Rattle.squall_world.proofs.Courses.{last_seen, before_end, chain_more, first_stays, newest_begun, plan_begun}
@@ -215,18 +215,18 @@ module _ (n : NetValue) (peer : PeerValue) (a b : LeaderValue) (c : Change) (pla
       ∙ ap (λ l. ids_in n ++ l) (ids_come (first_of n) (named_first n plan))
       ∙ (λ i. ids_in n ++ filter (λ p. names plan p && not (sym (part_seen_there n p) i)) (range_with_len 0 part_limit))
 
-  facts_are : (y : Node) → SameTests (facts_of (peer_of (begun_net n peer b c plan places) y)) (told_to (view n) Leader (issued_tests (length n.courses + 1) (plan_pair ((view n).plan (view n).last) plan)) y)
-  facts_are y = subst (λ t. SameTests t (told_to (view n) Leader (issued_tests (length n.courses + 1) (plan_pair ((view n).plan (view n).last) plan)) y))
+  facts_are : (y : Node) → SameQueries (facts_of (peer_of (begun_net n peer b c plan places) y)) (told_to (view n) Leader (issued_queries (length n.courses + 1) (plan_pair ((view n).plan (view n).last) plan)) y)
+  facts_are y = subst (λ t. SameQueries t (told_to (view n) Leader (issued_queries (length n.courses + 1) (plan_pair ((view n).plan (view n).last) plan)) y))
       (sym (added_node facts_of (with_peer n 0 (leader_reports peer b (issue_report c))) (begun_net n peer b c plan places) (first_of n) (named_first n plan) is_added (λ p e. refl) y))
-      (facts_told n Leader 0 peer (leader_reports peer b (issue_report c)) net is_changed (issued_tests (length n.courses + 1) (plan_pair ((view n).plan (view n).last) plan)) issued y)
+      (facts_told n Leader 0 peer (leader_reports peer b (issue_report c)) net is_changed (issued_queries (length n.courses + 1) (plan_pair ((view n).plan (view n).last) plan)) issued y)
     where
       last_new : (newest_of n).new ≡ (view n).plan (view n).last
       last_new = sym (ap (λ (d : Change). d.new) (last_seen n net))
 
-      issued : tests_of b.board ≡ joined_tests (tests_of (role_board peer.role)) (issued_tests (length n.courses + 1) (plan_pair ((view n).plan (view n).last) plan))
+      issued : queries_of b.board ≡ joined_queries (queries_of (role_board peer.role)) (issued_queries (length n.courses + 1) (plan_pair ((view n).plan (view n).last) plan))
       issued =
-          ap tests_of o.board ∙ tests_report a.board (issue_report c) (leader_is n peer a net has).board issue_is
-          ∙ (λ i. joined_tests (tests_of (role_board (sym has.role i))) (issued_tests (o.number i) (plan_pair ((o.old ∙ last_new) i) (o.new i))))
+          ap queries_of o.board ∙ queries_report a.board (issue_report c) (leader_is n peer a net has).board issue_is
+          ∙ (λ i. joined_queries (queries_of (role_board (sym has.role i))) (issued_queries (o.number i) (plan_pair ((o.old ∙ last_new) i) (o.new i))))
 
   begun_world : SameWorld (view (begun_net n peer b c plan places)) (after_begin (view n) plan)
   begun_world = record {

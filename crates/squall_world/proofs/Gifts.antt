@@ -8,7 +8,7 @@ use Rattle.squall_span.specs.Spans.{Interval, has, span_has, interval}
 use Rattle.squall_course.specs.Change.{Change}
 use Rattle.squall_course.proofs.Moved.{within as within_span}
 use Rattle.squall_board.specs.Boards.{IsBoard}
-use Rattle.squall_board.specs.BoardTests.{tests_of}
+use Rattle.squall_board.specs.BoardQueries.{queries_of}
 use Rattle.squall_board.specs.CourseRouteLaws.{board_course}
 use Rattle.squall_part.specs.declared.giving.GiveFault.{GiveFault}
 use Rattle.squall_part.specs.declared.giving.GiveFault.TheVariants.{NotOpen as GiveNotOpen, NothingLeft as GiveNothingLeft, ZeroMax as GiveZeroMax, NotOutgoing as GiveNotOutgoing, Given as GiveGiven, NotHeld as GiveNotHeld, NoMemory as GiveNoMemory}
@@ -22,7 +22,7 @@ use Rattle.squall_protocol.specs.declared.answer.Answer.TheVariants.{Gave, Refus
 use Rattle.squall_protocol.specs.declared.answer.Refusal.{Refusal}
 use Rattle.squall_protocol.specs.declared.answer.Refusal.TheVariants.{NotOpen, NothingLeft, ZeroMax, NotOutgoing, Given, NotHeld}
 use Rattle.squall_protocol.specs.Worlds.{SameWorld, is_part}
-use Rattle.squall_protocol.specs.Knowledge.{PartTests, part_in as part_tests, IsCurrent, NoneOpen, goes_out as tests_out, is_left as tests_left}
+use Rattle.squall_protocol.specs.Knowledge.{PartQueries, part_in as part_queries, IsCurrent, NoneOpen, goes_out as queries_out, is_left as queries_left}
 use Rattle.squall_protocol.specs.Steps.{IsGift, after_give, GiveStep, GiveAtStep}
 use Rattle.squall_world.specs.declared.peer.Role.TheVariants.{Part as PartRole}
 use Rattle.squall_world.specs.Nets.{PeerValue, NetValue, IsNet, IsPeer, IsRole, turned, with_peer, peer_of, role_board, part_in, leader_in}
@@ -32,7 +32,7 @@ use Rattle.squall_world.proofs.Lists.{eq_refl, all_at}
 use Rattle.squall_world.proofs.Nodes.{IsChanged, each_part, node_there, no_node}
 use Rattle.squall_world.proofs.History.{IsMore, history_of, history_more, more_turned}
 use Rattle.squall_world.proofs.Kept.{SameKind, changed, changed_net, rest_net}
-use Rattle.squall_world.proofs.Seen.{tests_of_part, part_seen, part_found, ids_kept, opened_kept, facts_kept, parts_kept, messages_kept, still}
+use Rattle.squall_world.proofs.Seen.{queries_of_part, part_seen, part_found, ids_kept, opened_kept, facts_kept, parts_kept, messages_kept, still}
 use Rattle.squall_world.proofs.Partitions.{held_after_giving, given_after_giving, loaded_after_giving, gift_carried}
 
 and_true : (b : Bool) → b ≡ (b && true)
@@ -94,12 +94,12 @@ module _ (n : NetValue) (p at : ℕ) (peer : PeerValue) (a : PartValue) (x : Chu
     held = held;
     given = given;
     loaded = λ m q k. parts_kept n (Part p) at peer giver net ch (λ o. loaded_under o m k) (ap (λ v. has v k) (loaded_after_giving a x.span m) ∙ ap (λ r. loaded_under (part_in r) m k) (sym h.role)) q;
-    facts = λ y. facts_kept n (Part p) at peer giver net ch (ap (λ r. tests_of (role_board r)) (sym h.role)) y;
+    facts = λ y. facts_kept n (Part p) at peer giver net ch (ap (λ r. queries_of (role_board r)) (sym h.role)) y;
     messages = messages_kept n (Part p) at peer giver net ch [] (sym (append-nil peer.reports)) n.messages net.messages;
     chunks = refl;
   }
 
-  pub gift_is : ((k : ℕ) → span_has x.span k ≡ true → goes_out a s k ≡ true) → IsGift (tests_of_part a) (course_of_part a) s x
+  pub gift_is : ((k : ℕ) → span_has x.span k ≡ true → goes_out a s k ≡ true) → IsGift (queries_of_part a) (course_of_part a) s x
   gift_is out = record { number = chunk.number; sub_plan = chunk.sub_plan; source = chunk.source; carried = gift_carried a s x is_a chunk out }
 
 -- ---- refusals
@@ -110,7 +110,7 @@ there_seen n p at peer a h = node_there n (Part p) at h.place
 give_refused : (n m : NetValue) (p most at : ℕ) (peer : PeerValue) (a : PartValue) (f : GiveFault) (e : Refusal) → IsNet n → HasPart n p at peer a → IsGiven a most (Err f) a → give_refusal f ≡ Some e → m ≡ n → GiveStep (view n) p most (Refused e) (view m)
 give_refused n m p most at peer a f e net h is refusal same = by f is refusal
   where
-    t : part_tests (view n) p ≡ tests_of_part a
+    t : part_queries (view n) p ≡ queries_of_part a
     t = part_seen n p at peer a net h
 
     board : IsBoard a.board
@@ -120,9 +120,9 @@ give_refused n m p most at peer a f e net h is refusal same = by f is refusal
     by GiveNotOpen is r = subst (λ v. GiveStep (view n) p most (Refused v) (view m)) (same_Some NotOpen e r)
         (there_seen n p at peer a h, subst NoneOpen (sym t) (course_of_part a, board_course a.first a.board board, is.0), still n m same)
     by GiveNothingLeft (sub, current, none, u) r = subst (λ v. GiveStep (view n) p most (Refused v) (view m)) (same_Some NothingLeft e r)
-        (there_seen n p at peer a h, subst (λ v. (c : Change) × (s : ℕ) × IsCurrent v c s × ((k : ℕ) → tests_left v c s k ≡ false)) (sym t) (course_of_part a, sub, (board_course a.first a.board board, current), none), still n m same)
+        (there_seen n p at peer a h, subst (λ v. (c : Change) × (s : ℕ) × IsCurrent v c s × ((k : ℕ) → queries_left v c s k ≡ false)) (sym t) (course_of_part a, sub, (board_course a.first a.board board, current), none), still n m same)
     by GiveZeroMax (sub, current, some, none, u) r = subst (λ v. GiveStep (view n) p most (Refused v) (view m)) (same_Some ZeroMax e r)
-        (there_seen n p at peer a h, subst (λ v. (c : Change) × (s : ℕ) × IsCurrent v c s × ((k : ℕ) × (tests_left v c s k ≡ true))) (sym t) (course_of_part a, sub, (board_course a.first a.board board, current), some), none, still n m same)
+        (there_seen n p at peer a h, subst (λ v. (c : Change) × (s : ℕ) × IsCurrent v c s × ((k : ℕ) × (queries_left v c s k ≡ true))) (sym t) (course_of_part a, sub, (board_course a.first a.board board, current), some), none, still n m same)
     by GiveNotOutgoing is r = absurd is
     by GiveGiven is r = absurd is
     by GiveNotHeld is r = absurd is
@@ -131,7 +131,7 @@ give_refused n m p most at peer a f e net h is refusal same = by f is refusal
 give_at_refused : (n m : NetValue) (p k at : ℕ) (peer : PeerValue) (a : PartValue) (f : GiveFault) (e : Refusal) → IsNet n → HasPart n p at peer a → IsGivenAt a k (Err f) a → give_refusal f ≡ Some e → m ≡ n → GiveAtStep (view n) p k (Refused e) (view m)
 give_at_refused n m p k at peer a f e net h is refusal same = by f is refusal
   where
-    t : part_tests (view n) p ≡ tests_of_part a
+    t : part_queries (view n) p ≡ queries_of_part a
     t = part_seen n p at peer a net h
 
     board : IsBoard a.board
@@ -143,11 +143,11 @@ give_at_refused n m p k at peer a f e net h is refusal same = by f is refusal
     by GiveNothingLeft is r = absurd is
     by GiveZeroMax is r = absurd is
     by GiveNotOutgoing (sub, current, none, u) r = subst (λ v. GiveAtStep (view n) p k (Refused v) (view m)) (same_Some NotOutgoing e r)
-        (there_seen n p at peer a h, subst (λ v. (c : Change) × (s : ℕ) × IsCurrent v c s × (tests_out v c s k ≡ false)) (sym t) (course_of_part a, sub, (board_course a.first a.board board, current), none), still n m same)
+        (there_seen n p at peer a h, subst (λ v. (c : Change) × (s : ℕ) × IsCurrent v c s × (queries_out v c s k ≡ false)) (sym t) (course_of_part a, sub, (board_course a.first a.board board, current), none), still n m same)
     by GiveGiven (sub, current, out, gone, u) r = subst (λ v. GiveAtStep (view n) p k (Refused v) (view m)) (same_Some Given e r)
-        (there_seen n p at peer a h, subst (λ (v : PartTests). (c : Change) × (s : ℕ) × IsCurrent v c s × (tests_out v c s k ≡ true) × (v.given c.number k ≡ true)) (sym t) (course_of_part a, sub, (board_course a.first a.board board, current), out, gone), still n m same)
+        (there_seen n p at peer a h, subst (λ (v : PartQueries). (c : Change) × (s : ℕ) × IsCurrent v c s × (queries_out v c s k ≡ true) × (v.given c.number k ≡ true)) (sym t) (course_of_part a, sub, (board_course a.first a.board board, current), out, gone), still n m same)
     by GiveNotHeld (sub, current, out, kept, none, u) r = subst (λ v. GiveAtStep (view n) p k (Refused v) (view m)) (same_Some NotHeld e r)
-        (there_seen n p at peer a h, subst (λ (v : PartTests). (c : Change) × (s : ℕ) × IsCurrent v c s × (tests_out v c s k ≡ true) × (v.given c.number k ≡ false) × (v.held k ≡ false)) (sym t) (course_of_part a, sub, (board_course a.first a.board board, current), out, kept, none), still n m same)
+        (there_seen n p at peer a h, subst (λ (v : PartQueries). (c : Change) × (s : ℕ) × IsCurrent v c s × (queries_out v c s k ≡ true) × (v.given c.number k ≡ false) × (v.held k ≡ false)) (sym t) (course_of_part a, sub, (board_course a.first a.board board, current), out, kept, none), still n m same)
     by GiveNoMemory is r = absurd (none-some e r)
 
 -- ---- the steps
@@ -166,7 +166,7 @@ give_steps n m p most (Gave i x) net (at, peer, a, b, h, (sub, current, first, c
     let board = (part_valid n p at peer a net h).1.board in (
       there_seen n p at peer a h,
       index,
-      subst (λ v. (c : Change) × (s : ℕ) × IsCurrent v c s × AreFirst (tests_left v c s) most x.span × IsGift v c s x) (sym t) (
+      subst (λ v. (c : Change) × (s : ℕ) × IsCurrent v c s × AreFirst (queries_left v c s) most x.span × IsGift v c s x) (sym t) (
         course_of_part a,
         sub,
         (board_course a.first a.board board, current),
@@ -200,7 +200,7 @@ give_at_steps n m p k (Gave i x) net (at, peer, a, b, h, (sub, current, out, kep
     let board = (part_valid n p at peer a net h).1.board in (
       there_seen n p at peer a h,
       index,
-      subst (λ (v : PartTests). (c : Change) × (s : ℕ) × IsCurrent v c s × (tests_out v c s k ≡ true) × (v.given c.number k ≡ false) × (v.held k ≡ true) × (x.span ≡ interval k (k + 1)) × IsGift v c s x) (sym t)
+      subst (λ (v : PartQueries). (c : Change) × (s : ℕ) × IsCurrent v c s × (queries_out v c s k ≡ true) × (v.given c.number k ≡ false) × (v.held k ≡ true) × (x.span ≡ interval k (k + 1)) × IsGift v c s x) (sym t)
           (course_of_part a, sub, (board_course a.first a.board board, current), out, kept, held, span, gift_is n p at peer a x sub net h new chunk lt (λ j has. ap (goes_out a sub) (only_key x.span k j span has) ∙ out)),
       subst (λ v. SameWorld (view v) (after_give (view n) x)) (sym (is ∙ ap (λ v. with_gift n at peer v x) e)) (gift_seen n p at peer a x sub net h new chunk lt),
     )

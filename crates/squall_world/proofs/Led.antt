@@ -7,9 +7,9 @@ use Rattle.squall_course.specs.Moves.{is_incoming}
 use Rattle.squall_report.specs.declared.report.ReportKind.{ReportKind}
 use Rattle.squall_report.specs.Issues.{PlanPair}
 use Rattle.squall_report.specs.Cells.{place_at}
-use Rattle.squall_report.specs.Tests.{Tests}
+use Rattle.squall_report.specs.Queries.{Queries}
 use Rattle.squall_board.specs.Boards.{IsBoard, board_join, report_board}
-use Rattle.squall_board.specs.BoardTests.{tests_of}
+use Rattle.squall_board.specs.BoardQueries.{queries_of}
 use Rattle.squall_leader.specs.Leaders.{LeaderValue, IsLeader, IsOver, waited_after}
 use Rattle.squall_protocol.specs.declared.event.Node.TheVariants.{Leader}
 use Rattle.squall_protocol.specs.Worlds.{last_course}
@@ -35,7 +35,7 @@ leads_last n peer a net has =
 pub record IsSeen (n : NetValue) (a : LeaderValue) (c : Change) : Type 0 where
   pub last : last_course (view n) ≡ c
   pub opened : (view n).opened ≡ a.opened
-  pub facts : (view n).facts Leader ≡ tests_of a.board
+  pub facts : (view n).facts Leader ≡ queries_of a.board
   pub plans : ArePlans c.old c.new
 
 pub leader_seen : (n : NetValue) (peer : PeerValue) (a : LeaderValue) (c : Change) → IsNet n → HasLeader n peer a → a.course ≡ Some c → IsSeen n a c
@@ -44,7 +44,7 @@ leader_seen n peer a c net has course =
     record {
       last = last_seen n net ∙ newest;
       opened = ap opened_in has.there ∙ ap (λ r. opened_by (leader_in r)) has.role;
-      facts = ap facts_of has.there ∙ ap (λ r. tests_of (role_board r)) has.role;
+      facts = ap facts_of has.there ∙ ap (λ r. queries_of (role_board r)) has.role;
       plans = subst (λ (d : Change). ArePlans d.old d.new) newest (last_plans n net);
     }
 
@@ -60,14 +60,14 @@ pub awaited_seen : (n : NetValue) (a : LeaderValue) (c : Change) (s q : ℕ) →
 awaited_seen n a c s q seen is = record {
   last = is.last ∙ sym seen.opened;
   due = subst (λ (d : Change). (k : ℕ) × (is_incoming d.old d.new s q k ≡ true)) (sym seen.last) is.due;
-  waiting = ap (λ (t : Tests). t.done (place_at (view n).last s q)) seen.facts ∙ ap (λ v. (tests_of a.board).done (place_at v s q)) (sym (number_seen n a c seen)) ∙ is.waiting;
+  waiting = ap (λ (t : Queries). t.done (place_at (view n).last s q)) seen.facts ∙ ap (λ v. (queries_of a.board).done (place_at v s q)) (sym (number_seen n a c seen)) ∙ is.waiting;
 }
 
 pub wanting_awaited : (n : NetValue) (a : LeaderValue) (c : Change) (s q : ℕ) → IsSeen n a c → IsWanting (view n) s q → IsAwaited c a.board a.opened s q
 wanting_awaited n a c s q seen is = record {
   last = is.last ∙ seen.opened;
   due = subst (λ (d : Change). (k : ℕ) × (is_incoming d.old d.new s q k ≡ true)) seen.last is.due;
-  waiting = ap (λ v. (tests_of a.board).done (place_at v s q)) (number_seen n a c seen) ∙ ap (λ (t : Tests). t.done (place_at (view n).last s q)) (sym seen.facts) ∙ is.waiting;
+  waiting = ap (λ v. (queries_of a.board).done (place_at v s q)) (number_seen n a c seen) ∙ ap (λ (t : Queries). t.done (place_at (view n).last s q)) (sym seen.facts) ∙ is.waiting;
 }
 
 pub none_seen : (n : NetValue) (a : LeaderValue) (c : Change) → IsSeen n a c → waited_after c a.board a.opened ≡ None → NoneWanting (view n)

@@ -5,14 +5,14 @@ use Rattle.std.specs.List.{slice_get}
 use Rattle.std.proofs.lemmas.Option.{same_Some, none-some}
 use Rattle.squall_span.specs.Spans.{has, span_has}
 use Rattle.squall_course.specs.Change.{Change}
-use Rattle.squall_report.specs.Tests.{Tests, joined_tests, tests_by_report, done_tests}
+use Rattle.squall_report.specs.Queries.{Queries, joined_queries, queries_by_report, done_queries}
 use Rattle.squall_report.specs.declared.report.ReportKind.{ReportKind}
 use Rattle.squall_report.specs.Issues.{PlanPair}
 use Rattle.squall_report.specs.Cells.{place_at}
 use Rattle.squall_report.specs.declared.report.ReportKind.TheVariants.{Done as DoneReport}
 use Rattle.squall_board.specs.CourseRoute.{IsCourseBy}
 use Rattle.squall_board.specs.Boards.{IsBoard, board_join, report_board}
-use Rattle.squall_board.specs.BoardTests.{tests_of}
+use Rattle.squall_board.specs.BoardQueries.{queries_of}
 use Rattle.squall_board.specs.CourseRouteLaws.{board_course}
 use Rattle.squall_part.specs.declared.loading.LoadFault.{LoadFault}
 use Rattle.squall_part.specs.declared.loading.LoadFault.TheVariants.{NotOpen as LoadNotOpen, Stranger as LoadStranger, NoMemory as LoadNoMemory}
@@ -28,7 +28,7 @@ use Rattle.squall_protocol.specs.declared.answer.Answer.TheVariants.{Loaded, Aga
 use Rattle.squall_protocol.specs.declared.answer.Refusal.{Refusal}
 use Rattle.squall_protocol.specs.declared.answer.Refusal.TheVariants.{NotOpen, Stranger, NotAll, NothingDue}
 use Rattle.squall_protocol.specs.Worlds.{SameWorld}
-use Rattle.squall_protocol.specs.Knowledge.{PartTests, part_in as part_tests, Knows, comes_in as tests_in, is_missing as tests_missing}
+use Rattle.squall_protocol.specs.Knowledge.{PartQueries, part_in as part_queries, Knows, comes_in as queries_in, is_missing as queries_missing}
 use Rattle.squall_protocol.specs.Steps.{IsArriving, MayLoad, after_load, after_told, LoadStep, FinishStep}
 use Rattle.squall_world.specs.declared.peer.Role.TheVariants.{Part as PartRole}
 use Rattle.squall_world.specs.Nets.{PeerValue, NetValue, IsNet, reported, with_peer, peer_of, role_board, part_in, leader_in}
@@ -36,11 +36,11 @@ use Rattle.squall_world.specs.Views.{view, part_of, held_by, given_under, loaded
 use Rattle.squall_world.specs.Events.{HasPart, IsLoadIn, IsFinishIn, with_report, load_refusal, finish_refusal}
 use Rattle.squall_world.proofs.Lists.{eq_refl}
 use Rattle.squall_world.proofs.Nodes.{IsChanged, each_part, no_node, first_number}
-use Rattle.squall_world.proofs.Boards.{tests_report}
+use Rattle.squall_world.proofs.Boards.{queries_report}
 use Rattle.squall_world.proofs.History.{IsMore, history_of, more_reported}
 use Rattle.squall_world.proofs.Kept.{SameKind, changed, changed_net}
-use Rattle.squall_world.proofs.Seen.{tests_of_part, part_seen, part_found, part_is_there, ids_kept, opened_kept, facts_told, facts_found, parts_kept, messages_kept, still}
-use Rattle.squall_world.proofs.Partitions.{held_after_load, loaded_after_load, given_after_load, fits_carried, carried_fits, span_some, load_board, done_board}
+use Rattle.squall_world.proofs.Seen.{queries_of_part, part_seen, part_found, part_is_there, ids_kept, opened_kept, facts_told, facts_found, parts_kept, messages_kept, still}
+use Rattle.squall_world.proofs.Partitions.{held_after_load, loaded_after_load, given_after_load, span_some, load_board, done_board}
 use Rattle.squall_world.proofs.Gifts.{part_valid, there_seen}
 
 or_none : (b c : Bool) → b ≡ (b || (c && false))
@@ -73,8 +73,8 @@ module _ (n : NetValue) (p at : ℕ) (peer : PeerValue) (a b : PartValue) (repor
   pub report_keeps : IsNet (with_report n at peer (PartRole b) report)
   report_keeps = changed_net n (Part p) at peer reporter net report_changed report_kind more
 
-  pub report_facts : tests_of b.board ≡ joined_tests (tests_of (role_board peer.role)) (tests_by_report report)
-  report_facts = ap tests_of board ∙ tests_report a.board report is_a.board valid_report ∙ ap (λ r. joined_tests (tests_of (role_board r)) (tests_by_report report)) (sym h.role)
+  pub report_facts : queries_of b.board ≡ joined_queries (queries_of (role_board peer.role)) (queries_by_report report)
+  report_facts = ap queries_of board ∙ queries_report a.board report is_a.board valid_report ∙ ap (λ r. joined_queries (queries_of (role_board r)) (queries_by_report report)) (sym h.role)
 
   pub report_opened : opened_by (leader_in (PartRole b)) ≡ opened_by (leader_in peer.role)
   report_opened = ap (λ r. opened_by (leader_in r)) (sym h.role)
@@ -92,7 +92,7 @@ module _ (n : NetValue) (i at : ℕ) (x : ChunkValue) (peer : PeerValue) (a : Pa
   first_one = ap (λ v. v.number) (part_is_there n x.dest at peer a net h).0 ∙ first_number n net
 
   board_of_load : IsBoard (report_board (load_report x))
-  board_of_load = load_board a may.0 x is_l first_one (part_is_there n x.dest at peer a net h).1 may.1 may.2 may.3 lt
+  board_of_load = load_board a may.0 x is_l first_one (part_is_there n x.dest at peer a net h).1 may.1 may.2 (may.3, may.4) lt
 
   pub load_net : IsNet (with_report n at peer (PartRole (part_after_load a x)) (load_report x))
   load_net = report_keeps n x.dest at peer a (part_after_load a x) (load_report x) net h new refl refl refl board_of_load
@@ -125,7 +125,7 @@ module _ (n : NetValue) (i at : ℕ) (x : ChunkValue) (peer : PeerValue) (a : Pa
     held = held;
     given = λ m q k. parts_kept n (Part x.dest) at peer loader net ch (λ o. given_under o m k) (ap (λ v. has v k) (given_after_load a x m) ∙ ap (λ r. given_under (part_in r) m k) (sym h.role)) q;
     loaded = loaded;
-    facts = λ y. facts_told n (Part x.dest) at peer loader net ch (tests_by_report (load_report x)) (report_facts n x.dest at peer a (part_after_load a x) (load_report x) net h new refl refl refl board_of_load) y;
+    facts = λ y. facts_told n (Part x.dest) at peer loader net ch (queries_by_report (load_report x)) (report_facts n x.dest at peer a (part_after_load a x) (load_report x) net h new refl refl refl board_of_load) y;
     messages = messages_kept n (Part x.dest) at peer loader net ch (load_report x ∷ []) refl n.messages net.messages;
     chunks = refl;
   }
@@ -134,26 +134,26 @@ module _ (n : NetValue) (i at : ℕ) (x : ChunkValue) (peer : PeerValue) (a : Pa
   pub arriving : slice_get n.chunks i ≡ Some x → IsArriving (view n) i x
   arriving e = record { chunk = e; dest = there_seen n x.dest at peer a h }
 
-  knows : (c : Change) → known_to a x.number ≡ Some c → Knows (part_tests (view n) x.dest) x.number c
+  knows : (c : Change) → known_to a x.number ≡ Some c → Knows (part_queries (view n) x.dest) x.number c
   knows c e = subst (λ v. Knows v x.number c) (sym (part_seen n x.dest at peer a net h)) e
 
-  known : (c : Change) → Knows (part_tests (view n) x.dest) x.number c → known_to a x.number ≡ Some c
+  known : (c : Change) → Knows (part_queries (view n) x.dest) x.number c → known_to a x.number ≡ Some c
   known c e = subst (λ v. Knows v x.number c) (part_seen n x.dest at peer a net h) e
 
-  count : (view n).facts (Part x.dest) ≡ tests_of a.board
+  count : (view n).facts (Part x.dest) ≡ queries_of a.board
   count = facts_found n x.dest at peer a h
 
   pub may_seen : MayLoadPart a x → MayLoad (view n) x
-  may_seen (c, k, o, f) = record { course = c; known = knows c k; opened = subst (λ (t : Tests). x.sub < t.opened x.number) (sym count) o; fits = fits_carried a c x f }
+  may_seen (c, k, o, here, f) = record { course = c; known = knows c k; opened = subst (λ (t : Queries). x.sub < t.opened x.number) (sym count) o; fits = f }
 
   may_part : MayLoad (view n) x → MayLoadPart a x
-  may_part m = (m.course, known m.course m.known, subst (λ (t : Tests). x.sub < t.opened x.number) count m.opened, carried_fits a m.course x (sym h.id) m.fits)
+  may_part m = (m.course, known m.course m.known, subst (λ (t : Queries). x.sub < t.opened x.number) count m.opened, sym h.id, m.fits)
 
   pub load_refused : (m : NetValue) (f : LoadFault) (e : Refusal) → slice_get n.chunks i ≡ Some x → IsLoaded a x (Err f) a → load_refusal f ≡ Some e → m ≡ n → LoadStep (view n) i (Refused e) (view m)
   load_refused m LoadNotOpen e chunk (k, o, u) r same = subst (λ v. LoadStep (view n) i (Refused v) (view m)) (same_Some NotOpen e r)
-      ((x, arriving chunk, (k.0, knows k.0 k.1), subst (λ (t : Tests). t.opened x.number ≤ x.sub) (sym count) o), still n m same)
+      ((x, arriving chunk, (k.0, knows k.0 k.1), subst (λ (t : Queries). t.opened x.number ≤ x.sub) (sym count) o), still n m same)
   load_refused m LoadStranger e chunk (none, o, u) r same = subst (λ v. LoadStep (view n) i (Refused v) (view m)) (same_Some Stranger e r)
-      ((x, arriving chunk, (λ may. none (may_part may)), (λ c k. subst (λ (t : Tests). x.sub < t.opened x.number) (sym count) (o c (known c k)))), still n m same)
+      ((x, arriving chunk, (λ may. none (may_part may)), (λ c k. subst (λ (t : Queries). x.sub < t.opened x.number) (sym count) (o c (known c k)))), still n m same)
   load_refused m LoadNoMemory e chunk is r same = absurd (none-some e r)
 
 pub load_keeps : (n m : NetValue) (i : ℕ) (answer : Answer) → IsNet n → IsLoadIn n i (Ok answer) m → IsNet m
@@ -187,19 +187,19 @@ module _ (n : NetValue) (p s at : ℕ) (peer : PeerValue) (a : PartValue) (net :
   is_f : IsPart a
   is_f = (part_valid n p at peer a net h).1
 
-  t : part_tests (view n) p ≡ tests_of_part a
+  t : part_queries (view n) p ≡ queries_of_part a
   t = part_seen n p at peer a net h
 
-  course : IsCourseBy a.first (tests_of a.board) (course_of_part a)
+  course : IsCourseBy a.first (queries_of a.board) (course_of_part a)
   course = board_course a.first a.board is_f.board
 
   pub finish_refused : (m : NetValue) (f : FinishFault) (e : Refusal) → IsFinished a s (Err f) a → finish_refusal f ≡ Some e → m ≡ n → FinishStep (view n) p s (Refused e) (view m)
   finish_refused m FinishNotOpen e (few, u) r same = subst (λ v. FinishStep (view n) p s (Refused v) (view m)) (same_Some NotOpen e r)
-      (there_seen n p at peer a h, subst (λ (v : PartTests). (c : Change) × IsCourseBy v.first v.told c × (v.told.opened c.number ≤ s)) (sym t) (course_of_part a, course, few), still n m same)
+      (there_seen n p at peer a h, subst (λ (v : PartQueries). (c : Change) × IsCourseBy v.first v.told c × (v.told.opened c.number ≤ s)) (sym t) (course_of_part a, course, few), still n m same)
   finish_refused m (FinishNotAll span) e (many, run, u) r same = subst (λ v. FinishStep (view n) p s (Refused v) (view m)) (same_Some (NotAll span) e r)
-      (there_seen n p at peer a h, subst (λ (v : PartTests). (c : Change) × (IsCourseBy v.first v.told c × (s < v.told.opened c.number)) × IsRun (tests_missing v c s) span) (sym t) (course_of_part a, (course, many), run), still n m same)
+      (there_seen n p at peer a h, subst (λ (v : PartQueries). (c : Change) × (IsCourseBy v.first v.told c × (s < v.told.opened c.number)) × IsRun (queries_missing v c s) span) (sym t) (course_of_part a, (course, many), run), still n m same)
   finish_refused m FinishNothingDue e (many, none, u) r same = subst (λ v. FinishStep (view n) p s (Refused v) (view m)) (same_Some NothingDue e r)
-      (there_seen n p at peer a h, subst (λ (v : PartTests). (c : Change) × (IsCourseBy v.first v.told c × (s < v.told.opened c.number)) × ((k : ℕ) → tests_in v c s k ≡ false)) (sym t) (course_of_part a, (course, many), none), still n m same)
+      (there_seen n p at peer a h, subst (λ (v : PartQueries). (c : Change) × (IsCourseBy v.first v.told c × (s < v.told.opened c.number)) × ((k : ℕ) → queries_in v c s k ≡ false)) (sym t) (course_of_part a, (course, many), none), still n m same)
   finish_refused m FinishNoMemory e is r same = absurd (none-some e r)
 
   abbrev finisher : PeerValue
@@ -218,7 +218,7 @@ module _ (n : NetValue) (p s at : ℕ) (peer : PeerValue) (a : PartValue) (net :
     ch_f : IsChanged n (Part p) at peer finisher
     ch_f = report_changed n p at peer a (after_finish a s) (done_report a s) net h new refl refl refl board_of_done
 
-    pub finish_seen : SameWorld (view (with_report n at peer (PartRole (after_finish a s)) (done_report a s))) (after_told (view n) (Part p) (tests_by_report (done_report a s)))
+    pub finish_seen : SameWorld (view (with_report n at peer (PartRole (after_finish a s)) (done_report a s))) (after_told (view n) (Part p) (queries_by_report (done_report a s)))
     finish_seen = record {
       plan = λ m. refl;
       last = refl;
@@ -228,7 +228,7 @@ module _ (n : NetValue) (p s at : ℕ) (peer : PeerValue) (a : PartValue) (net :
       held = λ q k. parts_kept n (Part p) at peer finisher net ch_f (λ o. held_by o k) (ap (λ r. held_by (part_in r) k) (sym h.role)) q;
       given = λ m q k. parts_kept n (Part p) at peer finisher net ch_f (λ o. given_under o m k) (ap (λ r. given_under (part_in r) m k) (sym h.role)) q;
       loaded = λ m q k. parts_kept n (Part p) at peer finisher net ch_f (λ o. loaded_under o m k) (ap (λ r. loaded_under (part_in r) m k) (sym h.role)) q;
-      facts = λ y. facts_told n (Part p) at peer finisher net ch_f (tests_by_report (done_report a s)) (report_facts n p at peer a (after_finish a s) (done_report a s) net h new refl refl refl board_of_done) y;
+      facts = λ y. facts_told n (Part p) at peer finisher net ch_f (queries_by_report (done_report a s)) (report_facts n p at peer a (after_finish a s) (done_report a s) net h new refl refl refl board_of_done) y;
       messages = messages_kept n (Part p) at peer finisher net ch_f (done_report a s ∷ []) refl n.messages net.messages;
       chunks = refl;
     }
@@ -246,12 +246,12 @@ finish_steps n m p s (Finished report) net (at, peer, a, b, h, (many, none, some
       there_seen n p at peer a h,
       (
         c,
-        (subst (λ (v : PartTests). IsCourseBy v.first v.told c × (s < v.told.opened c.number)) (sym (part_seen n p at peer a net h)) (board_course a.first a.board (part_valid n p at peer a net h).1.board, many)),
-        (subst (λ (v : PartTests). (k : ℕ) → tests_missing v c s k ≡ false) (sym (part_seen n p at peer a net h)) none),
-        (subst (λ (v : PartTests). (k : ℕ) × (tests_in v c s k ≡ true)) (sym (part_seen n p at peer a net h)) some),
+        (subst (λ (v : PartQueries). IsCourseBy v.first v.told c × (s < v.told.opened c.number)) (sym (part_seen n p at peer a net h)) (board_course a.first a.board (part_valid n p at peer a net h).1.board, many)),
+        (subst (λ (v : PartQueries). (k : ℕ) → queries_missing v c s k ≡ false) (sym (part_seen n p at peer a net h)) none),
+        (subst (λ (v : PartQueries). (k : ℕ) × (queries_in v c s k ≡ true)) (sym (part_seen n p at peer a net h)) some),
         r ∙ ap (DoneReport c.number s) h.id,
-        (subst (λ v. SameWorld (view v) (after_told (view n) (Part p) (done_tests (place_at c.number s p)))) (sym (is ∙ (λ j. with_report n at peer (PartRole (e j)) (r j))))
-            (subst (λ q. SameWorld (view (with_report n at peer (PartRole (after_finish a s)) (done_report a s))) (after_told (view n) (Part p) (done_tests (place_at c.number s q)))) h.id (finish_seen n p s at peer a net h (subst IsPart e part) many))),
+        (subst (λ v. SameWorld (view v) (after_told (view n) (Part p) (done_queries (place_at c.number s p)))) (sym (is ∙ (λ j. with_report n at peer (PartRole (e j)) (r j))))
+            (subst (λ q. SameWorld (view (with_report n at peer (PartRole (after_finish a s)) (done_report a s))) (after_told (view n) (Part p) (done_queries (place_at c.number s q)))) h.id (finish_seen n p s at peer a net h (subst IsPart e part) many))),
       ),
     )
 finish_steps n m p s (Refused e) net (inl (none, r, same)) = subst (λ v. FinishStep (view n) p s (Refused v) (view m)) (sym r) (no_node n (Part p) none, still n m same)

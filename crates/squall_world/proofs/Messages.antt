@@ -6,9 +6,9 @@ use Rattle.std.proofs.lemmas.Option.{slice_get-map}
 use Rattle.squall_span.specs.Spans.{has}
 use Rattle.squall_report.specs.declared.report.ReportKind.{ReportKind}
 use Rattle.squall_report.specs.Issues.{PlanPair}
-use Rattle.squall_report.specs.Tests.{joined_tests}
+use Rattle.squall_report.specs.Queries.{joined_queries}
 use Rattle.squall_board.specs.Boards.{BoardValue, IsBoard, board_join, empty_board}
-use Rattle.squall_board.specs.BoardTests.{tests_of}
+use Rattle.squall_board.specs.BoardQueries.{queries_of}
 use Rattle.squall_protocol.specs.declared.event.Node.{Node}
 use Rattle.squall_protocol.specs.declared.answer.Answer.{Answer}
 use Rattle.squall_protocol.specs.declared.answer.Answer.TheVariants.{Sent, Delivered, Refused}
@@ -21,7 +21,7 @@ use Rattle.squall_world.specs.Views.{view, held_by, given_under, loaded_under, o
 use Rattle.squall_world.specs.Events.{IsTold, IsHearing, IsSendIn, IsDeliverIn}
 use Rattle.squall_world.proofs.Lists.{all_at, all_append, map_append}
 use Rattle.squall_world.proofs.Nodes.{IsChanged, node_there, no_node, same_is}
-use Rattle.squall_world.proofs.Boards.{AreBoards, tests_join, same_self, same_by}
+use Rattle.squall_world.proofs.Boards.{AreBoards, queries_join, same_self, same_by}
 use Rattle.squall_world.proofs.Told.{AreMade, told_is, told_more, told_news, told_raised, told_behind, within_more, within_raised, raised_own}
 use Rattle.squall_world.proofs.History.{IsMore, history_of, made_of, board_is, no_fewer}
 use Rattle.squall_world.proofs.Kept.{SameKind, changed, changed_net, rest_net}
@@ -31,7 +31,7 @@ use Rattle.squall_world.proofs.Seen.{peer_there, ids_kept, opened_kept, facts_to
 
 message_tells : (n : NetValue) (node : Node) (from : ℕ) (peer : PeerValue) → IsNet n → place_of n node ≡ Some from → slice_get n.peers from ≡ Some peer → told_by_message n peer.known ≡ facts_of (peer_of n node)
 message_tells n node from peer net place there =
-    ap tests_of (sym (net.knowing from peer there).board) ∙ ap facts_of (sym (peer_there n node from peer place there))
+    ap queries_of (sym (net.knowing from peer there).board) ∙ ap facts_of (sym (peer_there n node from peer place there))
 
 pub send_keeps : (n m : NetValue) (node : Node) (answer : Answer) → IsNet n → IsSendIn n node (Ok answer) m → IsNet m
 send_keeps n m node (Sent i) net (from, peer, place, there, index, is) =
@@ -137,11 +137,11 @@ module _ (n : NetValue) (node : Node) (at : ℕ) (x : List ℕ) (a : PeerValue) 
     chunks = refl;
   }
     where
-      at_node : (y : Node) (t : Bool) → same_node y node ≡ t → facts_of (peer_of n y) ≡ cond t (joined_tests (facts_of (peer_of n y)) (told_by_message n x)) (facts_of (peer_of n y))
+      at_node : (y : Node) (t : Bool) → same_node y node ≡ t → facts_of (peer_of n y) ≡ cond t (joined_queries (facts_of (peer_of n y)) (told_by_message n x)) (facts_of (peer_of n y))
       at_node y true e =
-          let f : facts_of (peer_of n y) ≡ tests_of (role_board a.role) = ap (λ z. facts_of (peer_of n z)) (same_is y node e) ∙ ap facts_of (peer_there n node at a place there) in
-          f ∙ ap tests_of (sym (nothing_new old)) ∙ tests_join (role_board a.role) (told_from n.peers x) board_a told_board
-          ∙ (λ i. joined_tests (sym f i) (told_by_message n x))
+          let f : facts_of (peer_of n y) ≡ queries_of (role_board a.role) = ap (λ z. facts_of (peer_of n z)) (same_is y node e) ∙ ap facts_of (peer_there n node at a place there) in
+          f ∙ ap queries_of (sym (nothing_new old)) ∙ queries_join (role_board a.role) (told_from n.peers x) board_a told_board
+          ∙ (λ i. joined_queries (sym f i) (told_by_message n x))
       at_node y false e = refl
 
   module _ (c : PeerValue) (hears : IsHearing a (news_to empty_board n.peers a.known x) x c) where
@@ -199,7 +199,7 @@ module _ (n : NetValue) (node : Node) (at : ℕ) (x : List ℕ) (a : PeerValue) 
       held = λ q k. parts_kept n node at a c net ch (λ o. held_by o k) (kept.held k) q;
       given = λ m q k. parts_kept n node at a c net ch (λ o. given_under o m k) (kept.given m k) q;
       loaded = λ m q k. parts_kept n node at a c net ch (λ o. loaded_under o m k) (kept.loaded m k) q;
-      facts = λ y. facts_told n node at a c net ch (told_by_message n x) (ap tests_of by_message ∙ tests_join (role_board a.role) (told_from n.peers x) board_a told_board) y;
+      facts = λ y. facts_told n node at a c net ch (told_by_message n x) (ap queries_of by_message ∙ queries_join (role_board a.role) (told_from n.peers x) board_a told_board) y;
       messages = messages_kept n node at a c net ch [] no_more n.messages net.messages;
       chunks = refl;
     }

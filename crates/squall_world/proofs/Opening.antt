@@ -7,9 +7,9 @@ use Rattle.squall_course.proofs.Tabled.{most_few}
 use Rattle.squall_report.specs.declared.report.ReportKind.{ReportKind}
 use Rattle.squall_report.specs.declared.report.ReportKind.TheVariants.{Loaded as LoadedReport, Done as DoneReport, Opened as OpenedReport, Issued as IssuedReport}
 use Rattle.squall_report.specs.Issues.{PlanPair}
-use Rattle.squall_report.specs.Tests.{joined_tests, opened_tests}
+use Rattle.squall_report.specs.Queries.{joined_queries, opened_queries}
 use Rattle.squall_board.specs.Boards.{IsBoard, board_join, report_board}
-use Rattle.squall_board.specs.BoardTests.{tests_of}
+use Rattle.squall_board.specs.BoardQueries.{queries_of}
 use Rattle.squall_board.specs.BoardLaws.{opening_board_is}
 use Rattle.squall_leader.specs.declared.fault.LeaderFault.{LeaderFault}
 use Rattle.squall_leader.specs.declared.fault.LeaderFault.TheVariants.{Running as LeaderRunning, NoNumber as LeaderNoNumber, Idle as LeaderIdle, NotDone as LeaderNotDone, NoMore as LeaderNoMore, NoMemory as LeaderNoMemory}
@@ -27,7 +27,7 @@ use Rattle.squall_world.specs.Views.{view, opened_in, held_by, given_under, load
 use Rattle.squall_world.specs.Events.{HasLeader, IsOpenIn, open_refusal, with_report}
 use Rattle.squall_world.proofs.Lists.{put_here}
 use Rattle.squall_world.proofs.Nodes.{IsChanged}
-use Rattle.squall_world.proofs.Boards.{tests_report}
+use Rattle.squall_world.proofs.Boards.{queries_report}
 use Rattle.squall_world.proofs.Kept.{SameKind, changed, changed_net}
 use Rattle.squall_world.proofs.Seen.{ids_kept, facts_told, parts_kept, messages_kept, still}
 use Rattle.squall_world.proofs.Led.{IsSeen, leader_seen, number_seen, count_seen, awaited_seen, wanting_awaited, none_seen, leader_reports, leader_more, leader_is}
@@ -96,9 +96,9 @@ module _ (n : NetValue) (peer : PeerValue) (a b : LeaderValue) (c : Change) (s :
         held = λ p k. parts_kept n Leader 0 peer new net is_changed (λ x. held_by x k) (ap (λ x. held_by x k) (sym no_part)) p;
         given = λ m p k. parts_kept n Leader 0 peer new net is_changed (λ x. given_under x m k) (ap (λ x. given_under x m k) (sym no_part)) p;
         loaded = λ m p k. parts_kept n Leader 0 peer new net is_changed (λ x. loaded_under x m k) (ap (λ x. loaded_under x m k) (sym no_part)) p;
-        facts = facts_told n Leader 0 peer new net is_changed (opened_tests (view n).last (view n).opened)
-            (ap tests_of o.board ∙ tests_report a.board (open_report c s) (leader_is n peer a net has).board is_board
-            ∙ (λ i. joined_tests (tests_of (role_board (sym has.role i))) (opened_tests (number_seen n a c seen i) ((o.sub ∙ sym seen.opened) i))));
+        facts = facts_told n Leader 0 peer new net is_changed (opened_queries (view n).last (view n).opened)
+            (ap queries_of o.board ∙ queries_report a.board (open_report c s) (leader_is n peer a net has).board is_board
+            ∙ (λ i. joined_queries (queries_of (role_board (sym has.role i))) (opened_queries (number_seen n a c seen i) ((o.sub ∙ sym seen.opened) i))));
         messages = messages_kept n Leader 0 peer new net is_changed (open_report c s ∷ []) refl n.messages net.messages;
         chunks = refl;
       }

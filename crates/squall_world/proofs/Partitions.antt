@@ -26,7 +26,7 @@ use Rattle.squall_protocol.specs.Chunks.{ChunkValue, load_report}
 use Rattle.squall_protocol.specs.Carried.{Carried}
 use Rattle.squall_part.specs.Parts.{PartValue, Log, log_with, log_of, IsPart, IsLog, known_to, course_of_part, opened_at, given_in, loaded_in, given_by, loaded_by, with_given, with_loaded}
 use Rattle.squall_part.specs.Giving.{IsChunkOf, after_giving, goes_out}
-use Rattle.squall_part.specs.Loading.{Fits, after_load, done_report}
+use Rattle.squall_part.specs.Loading.{after_load, done_report}
 use Rattle.squall_protocol.specs.Known.{course_under}
 use Rattle.squall_part.proofs.Logs.{edit, edit_course}
 use Rattle.squall_part.proofs.Known.{course_known}
@@ -214,24 +214,18 @@ gift_carried a s x is chunk out = record {
     source : (k : ℕ) → span_has x.span k ≡ true → owner_of (course_of_part a).old k ≡ a.id
     source k h = eq_same (owner_of (course_of_part a).old k) a.id (and_parts (sub_of (course_of_part a).old (course_of_part a).new k == s) (owner_of (course_of_part a).old k == a.id) (rest k h)).1
 
-pub fits_carried : (a : PartValue) (c : Change) (x : ChunkValue) → Fits a c x → Carried c x
-fits_carried a c x f = record { moving = f.moving; source = f.source; dest = f.dest; sub_plan = f.sub_plan }
-
-pub carried_fits : (a : PartValue) (c : Change) (x : ChunkValue) → x.dest ≡ a.id → Carried c x → Fits a c x
-carried_fits a c x here f = record { here = here; moving = f.moving; source = f.source; dest = f.dest; sub_plan = f.sub_plan }
-
 -- a span with a key
 pub span_some : (s : Interval) (k : ℕ) → span_has s k ≡ true → s.lo < s.hi
 span_some s k h = let w = within_span s k h in omega (arith, w)
 
 -- ---- boards of reports
 
-pub load_board : (a : PartValue) (c : Change) (x : ChunkValue) → IsPart a → a.first.number ≡ 1 → a.id < part_limit → known_to a x.number ≡ Some c → x.sub < opened_at a x.number → Fits a c x → x.span.lo < x.span.hi → IsBoard (report_board (load_report x))
+pub load_board : (a : PartValue) (c : Change) (x : ChunkValue) → IsPart a → a.first.number ≡ 1 → a.id < part_limit → known_to a x.number ≡ Some c → x.sub < opened_at a x.number → (x.dest ≡ a.id) × Carried c x → x.span.lo < x.span.hi → IsBoard (report_board (load_report x))
 load_board a c x is one low known started fits lt =
     let few : opened_at a x.number ≤ part_limit = opened_few a.board x.number is.board in
     let number : 1 ≤ x.number = known_low a x.number c is one known in
-    let last : x.span.hi - 1 < top = moving_low c.old c.new (x.span.hi - 1) (known_plans a x.number c is known) (fits.moving (x.span.hi - 1) (inside x.span (x.span.hi - 1) (omega (arith, lt)) (omega (arith, lt)))) in
-    let dest : x.dest < part_limit = subst (λ v. v < part_limit) (sym fits.here) low in
+    let last : x.span.hi - 1 < top = moving_low c.old c.new (x.span.hi - 1) (known_plans a x.number c is known) (fits.1.moving (x.span.hi - 1) (inside x.span (x.span.hi - 1) (omega (arith, lt)) (omega (arith, lt)))) in
+    let dest : x.dest < part_limit = subst (λ v. v < part_limit) (sym fits.0) low in
     let sub : x.sub < part_limit = omega (arith, few, started) in
     cell_board_is (place_at x.number x.sub x.dest) (pair_of (x.span ∷ []) false) (grind (arith, nat_tests, number, sub, dest)) (((lt, tt, tt), (omega (arith, last, lt), tt)), tt) (λ e. let bad : x.span ∷ [] ≡ [] = ap (λ v. v.first) e in cc)
 

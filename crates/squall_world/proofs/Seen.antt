@@ -4,13 +4,13 @@ use Rattle.std.specs.List.{slice_get, AllByRecursion}
 use Rattle.std.proofs.lemmas.Option.{same_Some}
 use Rattle.squall_key.specs.Keys.{part_limit}
 use Rattle.squall_span.specs.Spans.{has}
-use Rattle.squall_report.specs.Tests.{Tests, SameTests, joined_tests}
-use Rattle.squall_board.specs.BoardTests.{tests_of}
+use Rattle.squall_report.specs.Queries.{Queries, SameQueries, joined_queries}
+use Rattle.squall_board.specs.BoardQueries.{queries_of}
 use Rattle.squall_part.specs.Parts.{PartValue, given_by, loaded_by}
 use Rattle.squall_protocol.specs.declared.event.Node.{Node}
 use Rattle.squall_protocol.specs.declared.event.Node.TheVariants.{Leader, Part, Router}
 use Rattle.squall_protocol.specs.Worlds.{SameWorld, same_node, first_course}
-use Rattle.squall_protocol.specs.Knowledge.{PartTests, part_in as part_tests}
+use Rattle.squall_protocol.specs.Knowledge.{PartQueries, part_in as part_queries}
 use Rattle.squall_protocol.specs.Steps.{told_to}
 use Rattle.squall_protocol.proofs.Same.{same_as_itself}
 use Rattle.squall_world.specs.Nets.{PeerValue, NetValue, IsNet, place_of, peer_of, at_place, put_at, role_board, first_of, leader_in, part_in, AreWithin, with_peer}
@@ -25,8 +25,8 @@ use Rattle.squall_report.specs.Issues.{PlanPair}
 
 -- ---- a partition, as it is seen
 
-abbrev pub tests_of_part : PartValue → PartTests
-tests_of_part a = record { id = a.id; first = a.first; told = tests_of a.board; held = λ k. has a.held k; given = λ n k. has (given_by a n) k; loaded = λ n k. has (loaded_by a n) k }
+abbrev pub queries_of_part : PartValue → PartQueries
+queries_of_part a = record { id = a.id; first = a.first; told = queries_of a.board; held = λ k. has a.held k; given = λ n k. has (given_by a n) k; loaded = λ n k. has (loaded_by a n) k }
 
 pub peer_there : (n : NetValue) (x : Node) (at : ℕ) (peer : PeerValue) → place_of n x ≡ Some at → slice_get n.peers at ≡ Some peer → peer_of n x ≡ Some peer
 peer_there n x at peer place there = ap (at_place n.peers) place ∙ there
@@ -34,8 +34,8 @@ peer_there n x at peer place there = ap (at_place n.peers) place ∙ there
 pub part_found : (n : NetValue) (p at : ℕ) (peer : PeerValue) (a : PartValue) → HasPart n p at peer a → part_of (peer_of n (Part p)) ≡ Some a
 part_found n p at peer a h = ap part_of (peer_there n (Part p) at peer h.place h.there) ∙ ap part_in h.role
 
-pub facts_found : (n : NetValue) (p at : ℕ) (peer : PeerValue) (a : PartValue) → HasPart n p at peer a → facts_of (peer_of n (Part p)) ≡ tests_of a.board
-facts_found n p at peer a h = ap facts_of (peer_there n (Part p) at peer h.place h.there) ∙ ap (λ r. tests_of (role_board r)) h.role
+pub facts_found : (n : NetValue) (p at : ℕ) (peer : PeerValue) (a : PartValue) → HasPart n p at peer a → facts_of (peer_of n (Part p)) ≡ queries_of a.board
+facts_found n p at peer a h = ap facts_of (peer_there n (Part p) at peer h.place h.there) ∙ ap (λ r. queries_of (role_board r)) h.role
 
 -- what always holds of it
 pub part_is_there : (n : NetValue) (p at : ℕ) (peer : PeerValue) (a : PartValue) → IsNet n → HasPart n p at peer a → (a.first ≡ first_of n) × (a.id < part_limit) × (n.routers < at)
@@ -44,7 +44,7 @@ part_is_there n p at peer a net h =
     let e : t.part ≡ a = part_same t.part a (sym t.role ∙ ap (λ v. v.role) (same_Some t.peer peer (sym t.there ∙ h.there)) ∙ h.role) in
     (ap (λ v. v.first) (sym e) ∙ t.first, subst (λ v. v.id < part_limit) e t.limit, t.after)
 
-pub part_seen : (n : NetValue) (p at : ℕ) (peer : PeerValue) (a : PartValue) → IsNet n → HasPart n p at peer a → part_tests (view n) p ≡ tests_of_part a
+pub part_seen : (n : NetValue) (p at : ℕ) (peer : PeerValue) (a : PartValue) → IsNet n → HasPart n p at peer a → part_queries (view n) p ≡ queries_of_part a
 part_seen n p at peer a net h =
     let o = part_found n p at peer a h in
     let first : first_course (view n) ≡ a.first = first_seen n net ∙ sym (part_is_there n p at peer a net h).0 in
@@ -70,17 +70,17 @@ module _ (n : NetValue) (x : Node) (at : ℕ) (a c : PeerValue) (net : IsNet n) 
   here_was = peer_there n x at a ch.place ch.there
 
   -- it was told more, and no other was
-  pub facts_told : (more : Tests) → tests_of (role_board c.role) ≡ joined_tests (tests_of (role_board a.role)) more → (y : Node) → SameTests (facts_of (peer_of (with_peer n at c) y)) (told_to (view n) x more y)
+  pub facts_told : (more : Queries) → queries_of (role_board c.role) ≡ joined_queries (queries_of (role_board a.role)) more → (y : Node) → SameQueries (facts_of (peer_of (with_peer n at c) y)) (told_to (view n) x more y)
   facts_told more e y = same_by _ _ (each_node n x at a c net ch (λ z o. facts_of o ≡ told_to (view n) x more z) here other y)
     where
       here : facts_of (Some c) ≡ told_to (view n) x more x
-      here = e ∙ ap (λ o. joined_tests (facts_of o) more) (sym here_was) ∙ ap (λ b. cond b (joined_tests (facts_of (peer_of n x)) more) (facts_of (peer_of n x))) (sym (same_refl x))
+      here = e ∙ ap (λ o. joined_queries (facts_of o) more) (sym here_was) ∙ ap (λ b. cond b (joined_queries (facts_of (peer_of n x)) more) (facts_of (peer_of n x))) (sym (same_refl x))
 
       other : (z : Node) → same_node z x ≡ false → facts_of (peer_of n z) ≡ told_to (view n) x more z
-      other z f = ap (λ b. cond b (joined_tests (facts_of (peer_of n z)) more) (facts_of (peer_of n z))) (sym f)
+      other z f = ap (λ b. cond b (joined_queries (facts_of (peer_of n z)) more) (facts_of (peer_of n z))) (sym f)
 
   -- all know what they knew
-  pub facts_kept : tests_of (role_board c.role) ≡ tests_of (role_board a.role) → (y : Node) → SameTests (facts_of (peer_of (with_peer n at c) y)) (facts_of (peer_of n y))
+  pub facts_kept : queries_of (role_board c.role) ≡ queries_of (role_board a.role) → (y : Node) → SameQueries (facts_of (peer_of (with_peer n at c) y)) (facts_of (peer_of n y))
   facts_kept e y = same_by _ _ (each_node n x at a c net ch (λ z o. facts_of o ≡ facts_of (peer_of n z)) (e ∙ ap facts_of (sym here_was)) (λ z f. refl) y)
 
   -- what partitions answer is kept where the changed node's answers are
@@ -100,7 +100,7 @@ module _ (n : NetValue) (x : Node) (at : ℕ) (a c : PeerValue) (net : IsNet n) 
   -- messages tell what they told where the node made more reports
   pub messages_kept : (more : List (ReportKind PlanPair)) → c.reports ≡ a.reports ++ more → (ms : List (List ℕ)) → AllByRecursion (AreWithin n.peers) ms → map (told_by_message (with_peer n at c)) ms ≡ map (told_by_message n) ms
   messages_kept more e [] all = refl
-  messages_kept more e (m ∷ ms) all = λ i. tests_of (told_more at n.peers m a c more ch.there e all.0 i) ∷ messages_kept more e ms all.1 i
+  messages_kept more e (m ∷ ms) all = λ i. queries_of (told_more at n.peers m a c more ch.there e all.0 i) ∷ messages_kept more e ms all.1 i
 
 -- ---- nothing changed
 

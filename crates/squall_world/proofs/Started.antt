@@ -17,9 +17,9 @@ use Rattle.squall_course.specs.Change.{Change, ArePlans}
 use Rattle.squall_course.proofs.Rising.{filter_up, in_filter}
 use Rattle.squall_join.specs.declared.flat.Flat.TheVariants.{One}
 use Rattle.squall_report.specs.Issues.{plan_pair}
-use Rattle.squall_report.specs.Tests.{Tests, SameTests, no_tests, joined_tests, issued_tests}
+use Rattle.squall_report.specs.Queries.{Queries, SameQueries, no_queries, joined_queries, issued_queries}
 use Rattle.squall_board.specs.Boards.{IsBoard, empty_board, report_board}
-use Rattle.squall_board.specs.BoardTests.{tests_of}
+use Rattle.squall_board.specs.BoardQueries.{queries_of}
 use Rattle.squall_board.specs.BoardLaws.{empty_is, issue_board_is}
 use Rattle.squall_part.specs.Parts.{new_part, log_with, given_in, loaded_in, given_by, loaded_by}
 use Rattle.squall_router.specs.Routers.{router_with}
@@ -34,7 +34,7 @@ use Rattle.squall_world.specs.Views.{view, id_of, ids_in, part_of, facts_of, hel
 use Rattle.squall_world.specs.Runs.{IsWorld}
 use Rattle.squall_world.specs.Events.{IsFirstNet, first_course_of, first_leader, leader_peer, router_peers, part_peers}
 use Rattle.squall_world.proofs.Lists.{eq_same, flat_append, get_left, place_is}
-use Rattle.squall_world.proofs.Boards.{tests_report, same_by}
+use Rattle.squall_world.proofs.Boards.{queries_report, same_by}
 use Rattle.squall_world.proofs.History.{IsHistory, IsNew, history_new, history_more, more_reported}
 use Rattle.squall_world.proofs.Owned.{owned}
 use Rattle.squall_world.proofs.Coming.{comer, any_comer, ids_come, comes, comer_stands, comers_new}
@@ -121,7 +121,7 @@ none_loaded first p m k = by (first.number == m)
     by true = refl
     by false = refl
 
-pub none_told : tests_of empty_board ≡ no_tests
+pub none_told : queries_of empty_board ≡ no_queries
 none_told = refl
 
 -- ---- the first net
@@ -263,17 +263,17 @@ module _ (old new : List PlanRange) (count : ℕ) (places : List (Option ℕ)) (
       by true = none_loaded (first_course_of old new) p m k
       by false = refl
 
-  told_none : (p : ℕ) → SameTests (facts_of (peer_of (net_with old new count places) (Part p))) no_tests
+  told_none : (p : ℕ) → SameQueries (facts_of (peer_of (net_with old new count places) (Part p))) no_queries
   told_none p = same_by _ _ (ap facts_of (peer_is p) ∙ by (list_any (λ q. q == p) (first_parts old new)))
     where
-      by : (b : Bool) → facts_of (cond b (Some (comer (first_course_of old new) p)) None) ≡ no_tests
+      by : (b : Bool) → facts_of (cond b (Some (comer (first_course_of old new) p)) None) ≡ no_queries
       by true = none_told
       by false = refl
 
-  told_router : (r : ℕ) → SameTests (facts_of (peer_of (net_with old new count places) (Router r))) no_tests
+  told_router : (r : ℕ) → SameQueries (facts_of (peer_of (net_with old new count places) (Router r))) no_queries
   told_router r = same_by _ _ (by (nat_lt r count) refl)
     where
-      by : (b : Bool) → nat_lt r count ≡ b → facts_of (at_place (net_with old new count places).peers (cond b (Some (r + 1)) None)) ≡ no_tests
+      by : (b : Bool) → nat_lt r count ≡ b → facts_of (at_place (net_with old new count places).peers (cond b (Some (r + 1)) None)) ≡ no_queries
       by false e = refl
       by true e =
           let lt : r < count = below r count e in
@@ -282,17 +282,17 @@ module _ (old new : List PlanRange) (count : ℕ) (places : List (Option ℕ)) (
           ∙ ap facts_of (get_left (router_peers (first_course_of old new) count) (part_peers (first_course_of old new) (first_parts old new)) r (let k = front_count in omega (arith, lt, k)) ∙ router_at (first_course_of old new) (range_with_len 0 count) r (let k = length-range_with_len 0 count in omega (arith, lt, k)))
           ∙ none_told
 
-  told_issue : SameTests (tests_of (first_leader old new).board) (issued_tests 1 (plan_pair old new))
+  told_issue : SameQueries (queries_of (first_leader old new).board) (issued_queries 1 (plan_pair old new))
   told_issue =
-      let e : tests_of (first_leader old new).board ≡ joined_tests (tests_of empty_board) (issued_tests 1 (plan_pair old new)) = tests_report empty_board (issue_report (first_course_of old new)) empty_is issue_is in
+      let e : queries_of (first_leader old new).board ≡ joined_queries (queries_of empty_board) (issued_queries 1 (plan_pair old new)) = queries_report empty_board (issue_report (first_course_of old new)) empty_is issue_is in
       record {
-        loaded = λ c k. ap (λ (t : Tests). t.loaded c k) e;
-        done = λ c. ap (λ (t : Tests). t.done c) e;
-        opened = λ n. ap (λ (t : Tests). t.opened n) e;
-        issued = λ n. ap (λ (t : Tests). t.issued n) e;
+        loaded = λ c k. ap (λ (t : Queries). t.loaded c k) e;
+        done = λ c. ap (λ (t : Queries). t.done c) e;
+        opened = λ n. ap (λ (t : Queries). t.opened n) e;
+        issued = λ n. ap (λ (t : Queries). t.issued n) e;
       }
 
-  told_first : (node : Node) → SameTests (facts_of (peer_of (net_with old new count places) node)) (first_facts old new node)
+  told_first : (node : Node) → SameQueries (facts_of (peer_of (net_with old new count places) node)) (first_facts old new node)
   told_first Leader = told_issue
   told_first (Part p) = told_none p
   told_first (Router r) = told_router r

@@ -27,6 +27,7 @@ use Rattle.squall_leader.specs.declared.fault.LeaderFault.{LeaderFault}
 use Rattle.squall_leader.specs.declared.fault.LeaderFault.TheVariants.{Running as LeaderRunning, NoNumber as LeaderNoNumber, Idle as LeaderIdle, NotDone as LeaderNotDone, NoMore as LeaderNoMore, NoMemory as LeaderNoMemory}
 use Rattle.squall_leader.specs.Leaders.{LeaderValue, IsLeader, IsOpened, IsBegun, IsFinished as IsLeaderFinished, open_report, issue_report, new_leader, after_begin}
 use Rattle.squall_protocol.specs.Known.{last_number}
+use Rattle.squall_protocol.specs.Worlds.{first_parts}
 use Rattle.squall_protocol.specs.declared.event.Node.{Node}
 use Rattle.squall_protocol.specs.declared.event.Node.TheVariants.{Part, Router}
 use Rattle.squall_protocol.specs.declared.answer.Answer.{Answer}
@@ -251,3 +252,7 @@ pub record IsFirstNet (old new : List PlanRange) (count : ℕ) (ids : List ℕ) 
   pub routers : m.routers ≡ count
   pub messages : m.messages ≡ []
   pub chunks : m.chunks ≡ []
+
+-- a net in which the course is begun, which is the first one, with a node for each partition that one of its plans names
+abbrev pub IsFirst : Change → ℕ → NetValue → Type 0
+IsFirst c count m = IsFirstNet c.old c.new count (first_parts c.old c.new) m

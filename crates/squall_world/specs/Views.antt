@@ -3,8 +3,8 @@ use Rattle.std.specs.Prelude.{ℕ, zero, suc, Bool, false, List, [], ◌∷◌, 
 use Rattle.std.specs.List.{flat_map, slice_get}
 use Rattle.squall_span.specs.Spans.{has}
 use Rattle.squall_plan.specs.declared.range.PlanRange.{PlanRange}
-use Rattle.squall_report.specs.Tests.{Tests, no_tests}
-use Rattle.squall_board.specs.BoardTests.{tests_of}
+use Rattle.squall_report.specs.Queries.{Queries, no_queries}
+use Rattle.squall_board.specs.BoardQueries.{queries_of}
 use Rattle.squall_part.specs.Parts.{PartValue, given_by, loaded_by}
 use Rattle.squall_leader.specs.Leaders.{LeaderValue}
 use Rattle.squall_protocol.specs.declared.event.Node.TheVariants.{Part}
@@ -54,13 +54,13 @@ loaded_under None n k = false
 loaded_under (Some p) n k = has (loaded_by p n) k
 
 -- what a node was told and told itself, nothing where it is not there
-abbrev pub facts_of : Option PeerValue → Tests
-facts_of None = no_tests
-facts_of (Some p) = tests_of (role_board p.role)
+abbrev pub facts_of : Option PeerValue → Queries
+facts_of None = no_queries
+facts_of (Some p) = queries_of (role_board p.role)
 
 -- what a message tells
-abbrev pub told_by_message : NetValue → List ℕ → Tests
-told_by_message n counts = tests_of (told_from n.peers counts)
+abbrev pub told_by_message : NetValue → List ℕ → Queries
+told_by_message n counts = queries_of (told_from n.peers counts)
 
 abbrev pub view : NetValue → WorldValue
 view n =

@@ -1,5 +1,7 @@
 //! A world: a leader, partitions and routers that take events one by one, with messages lost,
 //! repeated and in any order.
+//!
+//! Its tests are in `crates/squall_test_nodes/src/world.rt`.
 #![tactic(auto)]
 
 mod acting;

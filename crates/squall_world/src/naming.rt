@@ -12,14 +12,14 @@ ghost use Rattle.squall_world.specs.Naming.{AreNoted, AreRoles, is_missing, miss
 
 use crate::peer::{Peer, Role};
 use squall_course::Course;
-use squall_key::PartId;
+use squall_key::{PART_LIMIT, PartId};
 use squall_part::Part as Partition;
 use squall_plan::Plan;
 use std::alloc::{AllocError, Global};
 use std::sync::Arc;
 
 /// How many partitions there can be.
-pub(crate) const PARTS: usize = 10000;
+pub(crate) const PARTS: usize = PART_LIMIT as usize;
 
 /// So many of the same.
 pub(crate) fn repeated<T: Copy + Drop>(

@@ -47,7 +47,14 @@ impl Model for Net {
 
     ghost Value = { NetValue };
 
-    ghost view = { λ n. record { courses = n.courses.items; peers = n.peers.items; routers = n.routers; places = n.places.items; messages = n.messages.items; chunks = n.chunks.items } };
+    ghost view = { λ n. record {
+      courses = n.courses.items;
+      peers = n.peers.items;
+      routers = n.routers;
+      places = n.places.items;
+      messages = n.messages.items;
+      chunks = n.chunks.items;
+    } };
 }
 
 impl Net {

@@ -1,6 +1,7 @@
 //! What holds in every world.
 
-ghost use Rattle.squall_protocol.specs.Promises.{IsReached, OneCarrier, TrueReports, RoutedIsLoaded, OneDestination, ChunksHaveNodes, RoutesAreServed, MovesAreServed, FirstRoutesAreHome, FirstMovesAreDue};
+ghost use Rattle.squall_protocol.specs.Promises.{IsReached, OneCarrier, TrueReports, RoutedIsLoaded, OneDestination, ChunksHaveNodes};
+ghost use Rattle.squall_protocol.specs.Promises.{RoutesAreServed, MovesAreServed, FirstRoutesAreHome, FirstMovesAreDue};
 ghost use Rattle.squall_world.specs.Views.{view};
 
 use crate::world::World;

@@ -7,7 +7,7 @@ ghost use Rattle.squall_router.specs.Routers.{router_with};
 ghost use Rattle.squall_protocol.specs.Worlds.{first_parts as parts_named};
 ghost use Rattle.squall_world.specs.declared.peer.Role.TheVariants.{Router as RouterRole};
 ghost use Rattle.squall_world.specs.Nets.{IsRole, new_peer};
-ghost use Rattle.squall_world.specs.Events.{IsFirstNet, leader_peer, router_peers, part_peers, first_course_of};
+ghost use Rattle.squall_world.specs.Events.{IsFirst, leader_peer, router_peers, part_peers};
 ghost use Rattle.squall_world.specs.Naming.{AreNoted, AreRoles};
 
 use crate::leading::issue;
@@ -17,25 +17,28 @@ use crate::peer::{Peer, Role};
 use squall_course::Course;
 use squall_join::Shared;
 use squall_leader::Leader;
-use squall_plan::Plan;
 use squall_router::Router;
 use std::alloc::{AllocError, Global};
 use std::sync::Arc;
 
-/// The node of a leader that has begun a course from the old plan to the new one, and that course.
-fn leader(alloc: Global, old: &Plan, new: &Plan) -> Result<(Peer, Arc<Course>), AllocError>
-    ensures node { IfOk result (λ r. r.0 ≡ leader_peer old.now new.now) }
-    ensures course { IfOk result (λ r. arc_value r.1 ≡ first_course_of old.now new.now) }
-    ensures valid { IfOk result (λ r. IsRole r.0.role) }
+/// The node of a leader that has begun the first course.
+fn leader(alloc: Global, first: &Arc<Course>) -> Result<Peer, AllocError>
+    requires { (arc_value first.now).number ≡ 1 }
+    ensures node { IfOk result (λ p. p ≡ leader_peer (arc_value first.now).old (arc_value first.now).new) }
+    ensures valid { IfOk result (λ p. IsRole p.role) }
 {
-    let leader = Leader::new(alloc, old)?;
-    let report = issue(alloc, 1, old, new)?;
-    let mut peer = Peer::new(alloc, Role::Leader(leader));
-    match peer.begin(new, report) {
-        Ok(first) => Ok((peer, first)),
-        // A leader that has begun nothing refuses nothing.
-        Err(_) => Err(AllocError),
-    }
+    let leader = Leader::begun(alloc, first)?;
+    // The proof learns that it is a leader.
+    leader.known();
+    let mut reports = Vec::new(alloc);
+    reports.push(issue(alloc, 1, first.old_plan(), first.new_plan())?)?;
+    let mut known = Vec::new(alloc);
+    known.push(1)?;
+    Ok(Peer {
+        role: Role::Leader(leader),
+        reports,
+        known,
+    })
 }
 
 /// The node of a router that knows the first course.
@@ -101,7 +104,8 @@ fn first_nodes(
 ) -> Result<Vec<Peer>, AllocError>
     requires leader { IsRole leader.role }
     requires places { AreNoted [] places.now }
-    ensures nodes { IfOk result (λ peers. peers.items ≡ leader ∷ router_peers (arc_value first.now) count ++ part_peers (arc_value first.now) (parts_named (arc_value first.now).old (arc_value first.now).new)) }
+    ensures nodes { IfOk result (λ peers. peers.items ≡ leader ∷ router_peers (arc_value first.now) count
+        ++ part_peers (arc_value first.now) (parts_named (arc_value first.now).old (arc_value first.now).new)) }
     ensures valid { IfOk result (λ peers. AreRoles peers.items) }
 {
     let routers = routers(alloc, first, count)?;
@@ -114,22 +118,17 @@ fn first_nodes(
 }
 
 impl Net {
-    /// The course from the old plan to the new one is begun, and each key lies where the old plan
-    /// has it.
-    pub(crate) fn new(
-        alloc: Global,
-        old: &Plan,
-        new: &Plan,
-        routers: u32,
-    ) -> Result<Net, AllocError>
-        ensures { IfOk result (λ net. IsFirstNet old.now new.now routers (parts_named old.now new.now) net) }
+    /// The first course is begun, and each key lies where its old plan has it.
+    pub(crate) fn new(alloc: Global, first: &Arc<Course>, routers: u32) -> Result<Net, AllocError>
+        requires { (arc_value first.now).number ≡ 1 }
+        ensures { IfOk result (λ net. IsFirst (arc_value first.now) routers net) }
     {
-        let (leader, first) = leader(alloc, old, new)?;
+        let leader = leader(alloc, first)?;
         let mut places = no_places(alloc)?;
-        let peers = first_nodes(alloc, leader, &first, routers, &places)?;
+        let peers = first_nodes(alloc, leader, first, routers, &places)?;
         note_places(&peers, 0, &mut places);
         let mut courses = Vec::new(alloc);
-        courses.push(Shared::new(first))?;
+        courses.push(Shared::new(Arc::try_clone(first)?))?;
         Ok(Net {
             alloc,
             courses,

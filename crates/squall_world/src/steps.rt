@@ -1,19 +1,23 @@
 //! What a world is asked, and what may happen in it.
 
 ghost use Rattle.std.specs.Prelude.{◌≡◌, ◌<◌, ◌≤◌, ◌↔◌, ℕ, length, take, IfOk, IfErr, OnOk, OnErr};
+ghost use Rattle.std.specs.Arc.{arc_value};
 ghost use Rattle.squall_world.specs.declared.steps.WorldFault.TheVariants.{NoMemory, TooManyRouters};
 ghost use Rattle.squall_protocol.specs.Worlds.{most_routers, start, SameWorld};
-ghost use Rattle.squall_protocol.specs.Steps.{OpenStep, BeginStep, GiveStep, GiveAtStep, LoadStep, FinishStep, SendStep, DeliverStep, RouteStep, ServeStep, Step};
+ghost use Rattle.squall_protocol.specs.Steps.{OpenStep, BeginStep, GiveStep, GiveAtStep, LoadStep, FinishStep, SendStep, DeliverStep, RouteStep};
+ghost use Rattle.squall_protocol.specs.Steps.{ServeStep, Step};
 ghost use Rattle.squall_protocol.specs.Promises.{IsReached};
 ghost use Rattle.squall_world.specs.Runs.{IsRun};
 ghost use Rattle.squall_world.specs.Views.{view};
 
 use crate::net::Net;
 use crate::world::World;
+use squall_course::Course;
 use squall_key::{Key, PartId};
 use squall_plan::Plan;
 use squall_protocol::{Answer, Event, Node};
 use std::alloc::{AllocError, Global};
+use std::sync::Arc;
 use thiserror::Error;
 
 /// The most routers that a world may have.
@@ -38,6 +42,25 @@ impl From<AllocError> for WorldFault {
     }
 }
 
+/// That a world may have so many routers.
+fn may_have(routers: u32) -> Result<(), WorldFault>
+    ensures few { OnOk result (routers ≤ most_routers) }
+    ensures err { IfErr result (λ e. (e ≡ TooManyRouters) × (most_routers < routers)) }
+{
+    if routers > MOST_ROUTERS {
+        return Err(WorldFault::TooManyRouters);
+    }
+    Ok(())
+}
+
+/// The course of number 1 between the plans, to be shared.
+fn first_course(alloc: Global, old: &Plan, new: &Plan) -> Result<Arc<Course>, AllocError>
+    ensures { IfOk result (λ course. arc_value course ≡ record { number = 1; old = old.now; new = new.now }) }
+{
+    let course = Course::first(alloc, old, new)?;
+    Ok(Arc::new(alloc, course)?)
+}
+
 impl World {
     /// The world in which the course 1, from the old plan to the new one, is begun, and each key
     /// lies where the old plan has it: with one partition node for each partition that a plan names,
@@ -50,10 +73,21 @@ impl World {
         ensures routers { OnOk result (routers ≤ most_routers) }
         ensures err { IfErr result (λ e. (e ≡ TooManyRouters) ↔ (most_routers < routers)) }
     {
-        if routers > MOST_ROUTERS {
-            return Err(WorldFault::TooManyRouters);
-        }
-        let net = Net::new(alloc, old, new, routers)?;
+        may_have(routers)?;
+        let first = first_course(alloc, old, new)?;
+        World::over(alloc, &first, routers)
+    }
+
+    /// [`World::new`] of the plans of a course of number 1, which is shared and not computed again.
+    pub fn over(alloc: Global, first: &Arc<Course>, routers: u32) -> Result<World, WorldFault>
+        requires { (arc_value first.now).number ≡ 1 }
+        ensures ok { IfOk result (λ w. SameWorld (view w) (start (arc_value first.now).old (arc_value first.now).new routers)) }
+        ensures reached { IfOk result (λ w. IsReached (view w)) }
+        ensures routers { OnOk result (routers ≤ most_routers) }
+        ensures err { IfErr result (λ e. (e ≡ TooManyRouters) ↔ (most_routers < routers)) }
+    {
+        may_have(routers)?;
+        let net = Net::new(alloc, first, routers)?;
         Ok(World { net })
     }
 
@@ -186,7 +220,8 @@ impl World {
     /// fails, the events whose answers were added took effect, and no others.
     pub fn run(&mut self, events: &[Event], answers: &mut Vec<Answer>) -> Result<(), AllocError>
         ensures ok { OnOk result (IsRun (view self.old) events.now answers.old.items (view self.new) answers.new.items) }
-        ensures err { OnErr result ((n : ℕ) × (n < length events.now) × IsRun (view self.old) (take n events.now) answers.old.items (view self.new) answers.new.items) }
+        ensures err { OnErr result ((n : ℕ) × (n < length events.now)
+            × IsRun (view self.old) (take n events.now) answers.old.items (view self.new) answers.new.items) }
         ensures reached { IsReached (view self.new) }
     {
         self.promised();

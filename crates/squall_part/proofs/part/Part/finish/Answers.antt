@@ -23,7 +23,7 @@ returns-in-Some c =
 
 pub invariant_of-self-2 : goal.invariant_of-self-2
 invariant_of-self-2 c =
-    finished_part _ c.take.new.self c.done_report-report.result c.number-2.result c.args.sub c.self.inside.id c.self.invariant c.known-2.ensures.board c.in_ok-take.ensures.told c.done_report-report.ensures
+    finished_part _ c.take.new.self c.done_report-report.result c.number-2.result c.args.sub c.self.inside.id c.self.invariant c.known-2.ensures.board c.in_ok-take.ensures.takes.tells c.done_report-report.ensures
 
 pub returns : goal.returns
 returns c =
@@ -39,5 +39,5 @@ returns c =
     let set = subst IsSet c.incoming-2.view_is c.incoming-2.invariant in
     let due = some_key (comes_in p c.args.sub) c.in_ok-incoming.incoming set some (incoming_keys p c.args.sub c.newest_place.result c.index-log.result.now c.in_ok-incoming.incoming c.course-course.result.now c.newest_place.ensures course comes) in
     let report : c.done_report-report.result ≡ done_report p c.args.sub = search rules in
-    let after = finish_after _ c.args.self.now c.take.new.self c.done_report-report.result c.args.sub c.self.view_is c.in_ok-take.ensures.board report in
+    let after = finish_after _ c.args.self.now c.take.new.self c.done_report-report.result c.args.sub c.self.view_is c.in_ok-take.ensures.takes.joined report in
     record { answer = (opened, none_missing (is_missing p c.args.sub) c.in_ok-missing.missing empty keys, due, report, after) }
