@@ -2,10 +2,10 @@
 use Rattle.std.proofs.Common.{◌≡◌, ℕ, ◌+◌, List, [], ◌∷◌, ◌++◌, length, Bool, true, false, suc, refl, sym, ap, ◌∙◌, subst, arith, append-nil, length-append, MatchBool}
 use Rattle.atomic_table.specs.Seated.{TableId}
 use Rattle.squall_board.specs.Boards.{BoardValue}
-use Rattle.squall_inbox.specs.declared.letter.Parcel.{Parcel}
-use Rattle.squall_inbox.specs.Letters.{letters_of}
-use Rattle.squall_inbox.specs.Ends.{Posting, posting_of, Numbered, vouching}
-use Rattle.squall_inbox.proofs.Lists.{letters_of-snoc}
+use Rattle.squall_cluster_inbox.specs.declared.letter.Parcel.{Parcel}
+use Rattle.squall_cluster_inbox.specs.Letters.{letters_of}
+use Rattle.squall_cluster_inbox.specs.Ends.{Posting, posting_of, Numbered, vouching}
+use Rattle.squall_cluster_inbox.proofs.Lists.{letters_of-snoc}
 use Rattle.squall_cluster.specs.Owners.{Owning, owning_with, Fresh}
 
 -- a letter that is taken while none is in hand

@@ -6,8 +6,8 @@ use Rattle.squall_join.specs.Laws.{Covers}
 use Rattle.squall_course.specs.Change.{Change}
 use Rattle.squall_board.specs.Boards.{BoardValue, IsBoard, board_join, says}
 use Rattle.squall_board.specs.BoardLaws.{board_laws, join_is, tells_both}
-use Rattle.squall_inbox.specs.Letters.{Allowance, AreLetters, board_after}
-use Rattle.squall_desk.proofs.Desks.{board_after-snoc}
+use Rattle.squall_cluster_inbox.specs.Letters.{Allowance, AreLetters, board_after}
+use Rattle.squall_cluster_desk.proofs.Desks.{board_after-snoc}
 use Rattle.squall_cluster.specs.Joined.{IsJoinOfAll, AreSameLetters, HasFactsOf, HasAbsorbed, shown_router}
 
 -- ---- covering

@@ -10,9 +10,9 @@ use Rattle.squall_board.specs.Boards.{BoardValue, IsBoard, report_board}
 use Rattle.squall_board.specs.CourseRoute.{route_by_newest}
 use Rattle.squall_report.specs.declared.report.ReportKind.{ReportKind}
 use Rattle.squall_report.specs.Issues.{PlanPair}
-use Rattle.squall_inbox.specs.Letters.{Allowance, IsAllowed, AreLetters, list_at, board_after}
-use Rattle.squall_inbox.specs.Inbox.{posted}
-use Rattle.squall_inbox.specs.Ends.{Posting, Numbered, vouching}
+use Rattle.squall_cluster_inbox.specs.Letters.{Allowance, IsAllowed, AreLetters, list_at, board_after}
+use Rattle.squall_cluster_inbox.specs.Inbox.{posted}
+use Rattle.squall_cluster_inbox.specs.Ends.{Posting, Numbered, vouching}
 use Rattle.squall_cluster.specs.Owners.{Owning, Fresh}
 use Rattle.squall_cluster.specs.Race.{Reports, boards_of, Bring, Within, Grown, GrownTo, Read, end_of, AllBring, SentAll}
 

@@ -8,9 +8,9 @@ use Rattle.squall_report.specs.Told.{report_issues, reports_issue, both_issued, 
 use Rattle.squall_report.specs.ToldLaws.{in_either, issued_assoc, issued_neutral}
 use Rattle.squall_board.specs.Boards.{BoardValue, IsBoard, board_join, report_board, says, issued, told, HasTaken}
 use Rattle.squall_board.specs.BoardLaws.{join_is, or_false, joined_tells, report_tells, has_both}
-use Rattle.squall_inbox.specs.declared.letter.Parcel.{Parcel}
-use Rattle.squall_inbox.specs.Letters.{AreLetters, letters_of, list_at, board_after}
-use Rattle.squall_inbox.specs.Inbox.{of}
+use Rattle.squall_cluster_inbox.specs.declared.letter.Parcel.{Parcel}
+use Rattle.squall_cluster_inbox.specs.Letters.{AreLetters, letters_of, list_at, board_after}
+use Rattle.squall_cluster_inbox.specs.Inbox.{of}
 use Rattle.squall_cluster.specs.Race.{Reports, boards_of, all_of, Ran}
 use Rattle.squall_cluster.proofs.Joined.{any_order}
 

@@ -1,6 +1,6 @@
 -- What comes back of a cluster that is not closed (this project).
 use Rattle.std.specs.Prelude.{List}
-use Rattle.squall_inbox.specs.Ends.{Posting}
+use Rattle.squall_cluster_inbox.specs.Ends.{Posting}
 use Rattle.squall_cluster.specs.Owners.{Owning}
 use Rattle.squall_cluster.specs.declared.closing.CloseFault.{CloseFault}
 use Rattle.squall_cluster.specs.declared.closing.CloseFault.TheVariants.{NoMemory}

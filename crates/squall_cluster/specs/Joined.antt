@@ -6,7 +6,7 @@ use Rattle.squall_course.specs.Change.{Change}
 use Rattle.squall_report.specs.Facts.{Fact}
 use Rattle.squall_board.specs.Boards.{BoardValue, IsBoard, board_join, says}
 use Rattle.squall_router.specs.Routers.{RouterValue, router_with}
-use Rattle.squall_inbox.specs.Letters.{board_after}
+use Rattle.squall_cluster_inbox.specs.Letters.{board_after}
 
 -- the join of all of them: it covers the opening board and each of the letters, and each board that covers those covers it
 pub record IsJoinOfAll (opening : BoardValue) (letters : List BoardValue) (board : BoardValue) : Type 0 where

@@ -4,11 +4,11 @@ pub use Rattle.squall_report.specs.Told
 pub use Rattle.squall_board.specs.Boards
 pub use Rattle.squall_board.specs.CourseRoute
 pub use Rattle.squall_router.specs.Routers
-pub use Rattle.squall_inbox.specs.Letters
-pub use Rattle.squall_inbox.specs.Inbox
-pub use Rattle.squall_inbox.specs.Ends
-pub use Rattle.squall_desk.specs.Seats
-pub use Rattle.squall_desk.specs.Start
+pub use Rattle.squall_cluster_inbox.specs.Letters
+pub use Rattle.squall_cluster_inbox.specs.Inbox
+pub use Rattle.squall_cluster_inbox.specs.Ends
+pub use Rattle.squall_cluster_desk.specs.Seats
+pub use Rattle.squall_cluster_desk.specs.Start
 pub mod Faults
 pub mod Owners
 pub mod Joined

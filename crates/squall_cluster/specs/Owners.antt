@@ -2,10 +2,10 @@
 use Rattle.std.specs.Prelude.{◌≡◌, ℕ, List, [], ◌∷◌, ◌++◌, length}
 use Rattle.atomic_table.specs.Seated.{TableId}
 use Rattle.squall_board.specs.Boards.{BoardValue}
-use Rattle.squall_inbox.specs.declared.letter.Parcel.{Parcel}
-use Rattle.squall_inbox.specs.Letters.{Allowance, AreLetters, letters_of, board_after}
-use Rattle.squall_inbox.specs.Inbox.{of, posted}
-use Rattle.squall_inbox.specs.Ends.{Posting, Numbered}
+use Rattle.squall_cluster_inbox.specs.declared.letter.Parcel.{Parcel}
+use Rattle.squall_cluster_inbox.specs.Letters.{Allowance, AreLetters, letters_of, board_after}
+use Rattle.squall_cluster_inbox.specs.Inbox.{of, posted}
+use Rattle.squall_cluster_inbox.specs.Ends.{Posting, Numbered}
 
 -- the owner: its inbox, what it took, what is published, the letter in hand, how many senders were made, and what each sender posted that was joined to it
 pub record Owning : Type 0 where

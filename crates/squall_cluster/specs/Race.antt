@@ -11,11 +11,11 @@ use Rattle.squall_report.specs.Issues.{PlanPair}
 use Rattle.squall_report.specs.Told.{TellsBoth, told_by}
 use Rattle.squall_board.specs.Boards.{BoardValue, IsBoard, HasTaken, report_board, told}
 use Rattle.squall_board.specs.CourseRoute.{route_by_newest}
-use Rattle.squall_inbox.specs.declared.letter.Parcel.{Parcel}
-use Rattle.squall_inbox.specs.Letters.{Allowance, IsAllowed, AreLetters, letters_of, list_at, board_after}
-use Rattle.squall_inbox.specs.Inbox.{of}
-use Rattle.squall_inbox.specs.Ends.{Posting}
-use Rattle.squall_desk.specs.Start.{Opening}
+use Rattle.squall_cluster_inbox.specs.declared.letter.Parcel.{Parcel}
+use Rattle.squall_cluster_inbox.specs.Letters.{Allowance, IsAllowed, AreLetters, letters_of, list_at, board_after}
+use Rattle.squall_cluster_inbox.specs.Inbox.{of}
+use Rattle.squall_cluster_inbox.specs.Ends.{Posting}
+use Rattle.squall_cluster_desk.specs.Start.{Opening}
 use Rattle.squall_cluster.specs.declared.cluster.Sizes.{Sizes}
 use Rattle.squall_cluster.specs.declared.tasks.Tasks.{Tasks}
 

@@ -2,8 +2,8 @@
 use Rattle.squall_cluster.specs.declared.cluster.Sizes.{Sizes}
 use Rattle.squall_cluster.specs.declared.cluster.ClusterFault.{ClusterFault}
 use Rattle.squall_cluster.specs.declared.cluster.ClusterFault.TheVariants as Cluster
-use Rattle.squall_desk.specs.declared.places.SeatFault.{SeatFault}
-use Rattle.squall_desk.specs.declared.places.SeatFault.TheVariants as Seat
+use Rattle.squall_cluster_desk.specs.declared.places.SeatFault.{SeatFault}
+use Rattle.squall_cluster_desk.specs.declared.places.SeatFault.TheVariants as Seat
 use Rattle.squall_cluster.specs.declared.halt.Stop.{Stop}
 use Rattle.squall_cluster.specs.declared.halt.Stop.TheVariants as Stopped
 use Rattle.squall_cluster.specs.declared.halt.RaceFault.{RaceFault}

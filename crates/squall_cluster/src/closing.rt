@@ -1,21 +1,21 @@
 //! How a cluster ends.
 
 ghost use Rattle.std.specs.Prelude.{◌≡◌, [], ℕ, length, All, IfOk, OnOk, OnErr, IfErr};
-ghost use Rattle.squall_inbox.specs.Inbox.{of, posted};
-ghost use Rattle.squall_inbox.specs.Ends.{vouching};
-ghost use Rattle.squall_inbox.specs.Letters.{letters_of};
+ghost use Rattle.squall_cluster_inbox.specs.Inbox.{of, posted};
+ghost use Rattle.squall_cluster_inbox.specs.Ends.{vouching};
+ghost use Rattle.squall_cluster_inbox.specs.Letters.{letters_of};
 ghost use Rattle.squall_cluster.specs.Owners.{IsBoardOfPosted, SameSenders};
 ghost use Rattle.squall_cluster.specs.CloseFaults.{owner_of, spent_of};
 
 use crate::owner::Owner;
 use squall_board::Board;
-use squall_inbox::{Case, Spent};
+use squall_cluster_inbox::{Constants, Spent};
 use std::alloc::AllocError;
 use std::sync::Wait;
 
 /// Why a cluster is not closed. What comes back closes it at another try.
 #[derive(Drop)]
-pub enum CloseFault<K: Case, R: Wait + Drop> {
+pub enum CloseFault<K: Constants, R: Wait + Drop> {
     /// An allocation failed.
     NoMemory {
         /// The senders that are not joined to the owner yet.
@@ -26,7 +26,7 @@ pub enum CloseFault<K: Case, R: Wait + Drop> {
 }
 
 /// Joins each of them to the owner.
-fn join_all<K: Case, R: Wait + Drop>(owner: &mut Owner<K, R>, spent: &mut Vec<Spent>)
+fn join_all<K: Constants, R: Wait + Drop>(owner: &mut Owner<K, R>, spent: &mut Vec<Spent>)
     requires { All (λ s. s.inbox ≡ owner.old.inbox) spent.old.items }
     ensures owner { owner.new ≡ record owner.old { vouched = vouching spent.old.items owner.old.vouched } }
     ensures spent { spent.new.items ≡ [] }
@@ -38,7 +38,7 @@ fn join_all<K: Case, R: Wait + Drop>(owner: &mut Owner<K, R>, spent: &mut Vec<Sp
 }
 
 /// Takes and publishes all that the inbox holds. It fails (memory) with a letter in hand.
-fn drain<K: Case, R: Wait + Drop>(owner: &mut Owner<K, R>) -> Result<(), AllocError>
+fn drain<K: Constants, R: Wait + Drop>(owner: &mut Owner<K, R>) -> Result<(), AllocError>
     requires { length owner.old.vouched ≡ owner.old.made }
     ensures same { SameSenders owner.old owner.new }
     ensures published { OnOk result (owner.new.published ≡ letters_of owner.new.taken) }
@@ -64,7 +64,7 @@ fn drain<K: Case, R: Wait + Drop>(owner: &mut Owner<K, R>) -> Result<(), AllocEr
 /// closes the cluster with the same letters.
 ///
 /// It waits for seats that are looking.
-pub fn close<K: Case, R: Wait + Drop>(
+pub fn close<K: Constants, R: Wait + Drop>(
     mut spent: Vec<Spent>,
     mut owner: Owner<K, R>,
 ) -> Result<Board, CloseFault<K, R>>

@@ -1,16 +1,16 @@
 //! What makes a cluster, and its seats.
 
 ghost use Rattle.std.specs.Prelude.{◌≡◌, ◌<◌, length, Err, IfOk, IfErr, OnOk};
-ghost use Rattle.squall_inbox.specs.Ends.{room_of};
-ghost use Rattle.squall_desk.specs.Seats.{nothing_seen};
-ghost use Rattle.squall_desk.specs.Start.{IsStartOf};
-ghost use Rattle.squall_desk.specs.declared.places.SeatFault.TheVariants.{NoPlace};
+ghost use Rattle.squall_cluster_inbox.specs.Ends.{room_of};
+ghost use Rattle.squall_cluster_desk.specs.Seats.{nothing_seen};
+ghost use Rattle.squall_cluster_desk.specs.Start.{IsStartOf};
+ghost use Rattle.squall_cluster_desk.specs.declared.places.SeatFault.TheVariants.{NoPlace};
 ghost use Rattle.squall_cluster.specs.Faults.{InLimits, FaultOf};
 ghost use Rattle.squall_cluster.specs.Owners.{Fresh, owning_with};
 
 use crate::owner::Owner;
-use squall_desk::{Places, Seat, SeatFault, Start};
-use squall_inbox::{Case, Sender};
+use squall_cluster_desk::{Places, Seat, SeatFault, Start};
+use squall_cluster_inbox::{Constants, Sender};
 use std::alloc::{AllocError, Global};
 use std::marker::Model;
 use std::sync::Wait;
@@ -47,11 +47,11 @@ pub struct Sizes {
 /// What makes the seats of a cluster. Threads may share it. Contracts see for how many readers it has
 /// places.
 #[derive(Drop)]
-pub struct Cluster<K: Case> {
+pub struct Cluster<K: Constants> {
     places: Places<K>,
 }
 
-impl<K: Case> Model for Cluster<K> {
+impl<K: Constants> Model for Cluster<K> {
     ghost use Rattle.std.specs.Prelude.{ℕ};
 
     ghost Value = { ℕ };
@@ -61,7 +61,7 @@ impl<K: Case> Model for Cluster<K> {
 
 /// A new cluster, in parts that go to their threads.
 #[derive(Drop)]
-pub struct Setup<K: Case, R: Wait + Drop> {
+pub struct Setup<K: Constants, R: Wait + Drop> {
     /// What makes its seats.
     pub cluster: Cluster<K>,
     /// Its senders, by rising number.
@@ -88,7 +88,7 @@ fn check_limits(sizes: Sizes) -> Result<(), ClusterFault>
 }
 
 /// That many new senders of the owner. It fails (memory).
-fn hire_all<K: Case, R: Wait + Drop>(
+fn hire_all<K: Constants, R: Wait + Drop>(
     alloc: Global,
     owner: &mut Owner<K, R>,
     count: usize,
@@ -105,7 +105,7 @@ fn hire_all<K: Case, R: Wait + Drop>(
     Ok(senders)
 }
 
-impl<K: Case> Cluster<K> {
+impl<K: Constants> Cluster<K> {
     /// A new cluster, with that start and these sizes.
     ///
     /// It answers the first of the faults that is there, in their order. With 0 readers it keeps one

@@ -5,7 +5,7 @@ ghost use Rattle.squall_cluster.specs.Faults.{InLimits, FaultOf};
 ghost use Rattle.squall_cluster.specs.RaceFaults.{RaceFaultOf, fault_of_cluster, fault_of_stop, stop_of_seat};
 
 use crate::cluster::ClusterFault;
-use squall_desk::SeatFault;
+use squall_cluster_desk::SeatFault;
 use std::sync::OnceLock;
 use thiserror::Error;
 

@@ -5,10 +5,11 @@ ghost use Rattle.squall_course.specs.Change.{Change};
 ghost use Rattle.squall_board.specs.Boards.{BoardValue};
 ghost use Rattle.squall_board.specs.CourseRoute.{route_by_newest};
 ghost use Rattle.squall_router.specs.Routers.{route_of_router};
-ghost use Rattle.squall_inbox.specs.Letters.{Allowance, AreLetters, board_after};
+ghost use Rattle.squall_cluster_inbox.specs.Letters.{Allowance, AreLetters, board_after};
 ghost use Rattle.squall_cluster.specs.Joined.{IsJoinOfAll, AreSameLetters, HasFactsOf, HasAbsorbed, shown_router};
 
 use squall_board::Board;
+pub use squall_cluster_desk::laws::{one_list, one_list_of_notice};
 
 /// The board after letters is the join of the opening board and all letters. It has the facts of these
 /// boards and no other. The order of the letters, and how often each one comes, do not matter.

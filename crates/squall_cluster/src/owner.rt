@@ -1,23 +1,23 @@
 //! The owner of a cluster, which takes letters and publishes them.
 
 ghost use Rattle.std.specs.Prelude.{◌≡◌, ◌⊎◌, ◌+◌, ◌≤◌, ◌<◌, ◌^◌, ◌++◌, ◌∷◌, [], length, IfOk, OnOk, OnErr, MatchBool, IsFalse};
-ghost use Rattle.squall_inbox.specs.declared.letter.Parcel.{Parcel};
-ghost use Rattle.squall_inbox.specs.Ends.{posting_of, room_of};
-ghost use Rattle.squall_inbox.specs.Letters.{AreLetters, letters_of, board_after};
-ghost use Rattle.squall_desk.specs.Start.{IsStartOf};
+ghost use Rattle.squall_cluster_inbox.specs.declared.letter.Parcel.{Parcel};
+ghost use Rattle.squall_cluster_inbox.specs.Ends.{posting_of, room_of};
+ghost use Rattle.squall_cluster_inbox.specs.Letters.{AreLetters, letters_of, board_after};
+ghost use Rattle.squall_cluster_desk.specs.Start.{IsStartOf};
 ghost use Rattle.squall_cluster.specs.Owners.{Owning, Whole, owning_with, SameSenders, TookOne, Finished, Idle};
 
 use crate::cluster::Sizes;
 use squall_board::Board;
-use squall_desk::{Notice, Places, Publisher, Start};
-use squall_inbox::{Case, Sender, Spent, Taker};
+use squall_cluster_desk::{Notice, Places, Publisher, Start};
+use squall_cluster_inbox::{Constants, Sender, Spent, Taker};
 use std::alloc::{AllocError, Global};
 use std::marker::Model;
 use std::sync::Wait;
 
 /// What a turn did.
 #[derive(Drop)]
-pub struct Turn<K: Case> {
+pub struct Turn<K: Constants> {
     /// Whether it published a letter: one that it took, or one that an earlier turn left in hand.
     pub took: bool,
     /// The list of letters that is published when the turn ends.
@@ -31,12 +31,12 @@ pub struct Turn<K: Case> {
 ///
 /// If it is dropped, seats see nothing from then on. The drop waits for those that are looking.
 #[derive(Drop)]
-pub struct Owner<K: Case, R: Wait + Drop> {
+pub struct Owner<K: Constants, R: Wait + Drop> {
     taker: Taker<K>,
     publisher: Publisher<K, R>,
 }
 
-impl<K: Case, R: Wait + Drop> Model for Owner<K, R> {
+impl<K: Constants, R: Wait + Drop> Model for Owner<K, R> {
     ghost Value = { Owning };
 
     ghost view = { λ o. record {
@@ -51,7 +51,7 @@ impl<K: Case, R: Wait + Drop> Model for Owner<K, R> {
     ghost invariant = { λ o. letters_of o.taker.taken ≡ o.publisher.published ++ o.publisher.hand };
 }
 
-impl<K: Case, R: Wait + Drop> Owner<K, R> {
+impl<K: Constants, R: Wait + Drop> Owner<K, R> {
     /// The owner of a new cluster of these sizes, which has no sender yet, and the places for its
     /// seats. It fails (memory).
     pub(crate) fn open(

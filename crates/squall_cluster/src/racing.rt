@@ -2,7 +2,7 @@
 
 ghost use Rattle.std.specs.Prelude.{◌≡◌, Some, length, IfOk, IfErr};
 ghost use Rattle.std.specs.Thread.{IsSync};
-ghost use Rattle.squall_desk.specs.Start.{IsStartOf};
+ghost use Rattle.squall_cluster_desk.specs.Start.{IsStartOf};
 ghost use Rattle.squall_cluster.specs.Owners.{SameSenders};
 ghost use Rattle.squall_cluster.specs.RaceFaults.{RaceFaultOf};
 ghost use Rattle.squall_cluster.specs.Race.{Ready, SentAll, AllRead, AreRoutesOf, Ran, IsBoardOfReports, lists_of, sizes_of};
@@ -17,8 +17,8 @@ use crate::sending::{Sends, send_all};
 use crate::shared::Shared;
 use crate::tasks::Tasks;
 use squall_board::Board;
-use squall_desk::{Seat, Start};
-use squall_inbox::{Case, Sender, Spent};
+use squall_cluster_desk::{Seat, Start};
+use squall_cluster_inbox::{Constants, Sender, Spent};
 use squall_key::{Key, PartId};
 use squall_report::Report;
 use std::alloc::Global;
@@ -28,7 +28,7 @@ use std::thread;
 use std::thread::Threads;
 
 /// Turns until that many letters are published, or the race is off.
-fn turn_all<K: Case, G: Gate, R: Wait, W: Wait + Drop>(
+fn turn_all<K: Constants, G: Gate, R: Wait, W: Wait + Drop>(
     shared: &Shared<G, R>,
     owner: &mut Owner<K, W>,
     total: u64,
@@ -56,7 +56,12 @@ fn turn_all<K: Case, G: Gate, R: Wait, W: Wait + Drop>(
 
 /// The owner turns in this thread, until that many letters are published. Each reader has a thread of
 /// its own beside it. All have ended when it returns.
-fn turn_and_read<K: Case + Send + Sync, G: Gate + Sync, R: Threads + Wait + Sync, W: Wait + Drop>(
+fn turn_and_read<
+    K: Constants + Send + Sync,
+    G: Gate + Sync,
+    R: Threads + Wait + Sync,
+    W: Wait + Drop,
+>(
     shared: &Shared<G, R>,
     owner: Owner<K, W>,
     total: u64,
@@ -111,7 +116,7 @@ fn both(spent: Result<Vec<Spent>, Off>, routes: Result<Vec<Vec<PartId>>, Off>) -
 
 /// All of them at once: the owner in this thread, each sender and each reader in one of its own. All
 /// have ended when it returns.
-fn run_all<K: Case + Send + Sync, G: Gate + Sync, R: Threads + Wait + Sync, W: Wait + Drop>(
+fn run_all<K: Constants + Send + Sync, G: Gate + Sync, R: Threads + Wait + Sync, W: Wait + Drop>(
     shared: &Shared<G, R>,
     senders: Vec<Sender<K>>,
     lists: &[Vec<Report>],
@@ -169,7 +174,7 @@ fn total_of(lists: &[Vec<Report>]) -> u64 {
 }
 
 /// That many seats, or the first refusal.
-fn seats_of<K: Case>(
+fn seats_of<K: Constants>(
     alloc: Global,
     cluster: &Cluster<K>,
     readers: usize,
@@ -191,7 +196,7 @@ fn seats_of<K: Case>(
 
 /// A race in a cluster whose constants are known. A refused turn of the owner calls it off too, even if
 /// all others have ended well.
-fn race_in<K: Case + Send + Sync, G: Gate + Sync, R: Threads + Wait + Sync>(
+fn race_in<K: Constants + Send + Sync, G: Gate + Sync, R: Threads + Wait + Sync>(
     rt: &R,
     alloc: Global,
     start: Start,

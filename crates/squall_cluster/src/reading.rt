@@ -7,8 +7,8 @@ ghost use Rattle.squall_cluster.specs.Race.{Read, AllRead};
 use crate::gate::{Actor, Gate, Steps};
 use crate::halt::{Off, Stop};
 use crate::shared::Shared;
-use squall_desk::Seat;
-use squall_inbox::Case;
+use squall_cluster_desk::Seat;
+use squall_cluster_inbox::Constants;
 use squall_key::{Key, PartId};
 use std::marker::PhantomData;
 use std::sync::Wait;
@@ -16,7 +16,7 @@ use std::thread;
 use std::thread::{Promise, Threads};
 
 /// Routes each key once. The routes are by letters that only grow.
-fn route_all<K: Case, G: Gate, R>(
+fn route_all<K: Constants, G: Gate, R>(
     shared: &Shared<G, R>,
     mut steps: Steps<'_, G>,
     mut seat: Seat<K>,
@@ -41,7 +41,7 @@ fn route_all<K: Case, G: Gate, R>(
 }
 
 /// The routes of one reader, as a list of one.
-fn read_one<K: Case, G: Gate, R>(
+fn read_one<K: Constants, G: Gate, R>(
     shared: &Shared<G, R>,
     number: usize,
     seat: Seat<K>,
@@ -66,7 +66,7 @@ pub(crate) struct Reads<'a, K> {
     pub(crate) of: PhantomData<K>,
 }
 
-impl<'a, K: Case> Reads<'a, K> {
+impl<'a, K: Constants> Reads<'a, K> {
     /// The promise of that many readers, each for all of the keys.
     pub(crate) fn of(count: usize, keys: &'a [Key]) -> Reads<'a, K>
         ensures count { result.count ≡ count }
@@ -80,13 +80,13 @@ impl<'a, K: Case> Reads<'a, K> {
     }
 }
 
-impl<'a, K: Case> Promise<Result<Vec<Vec<PartId>>, Off>> for Reads<'a, K> {
+impl<'a, K: Constants> Promise<Result<Vec<Vec<PartId>>, Off>> for Reads<'a, K> {
     ghost kept_by = { λ p r. IfOk r (λ v. AllRead K.allowed K.first K.opening p.keys.now p.count v.items) };
 }
 
 /// Each seat has a thread of its own. The first of them has this thread.
 #[cycle(reading)]
-pub(crate) fn read_all<K: Case + Send + Sync, G: Gate + Sync, R: Threads + Wait + Sync>(
+pub(crate) fn read_all<K: Constants + Send + Sync, G: Gate + Sync, R: Threads + Wait + Sync>(
     shared: &Shared<G, R>,
     first: usize,
     mut seats: Vec<Seat<K>>,
@@ -109,7 +109,7 @@ pub(crate) fn read_all<K: Case + Send + Sync, G: Gate + Sync, R: Threads + Wait 
 
 /// The second half of the seats has a thread of its own.
 #[cycle(reading)]
-fn read_halves<K: Case + Send + Sync, G: Gate + Sync, R: Threads + Wait + Sync>(
+fn read_halves<K: Constants + Send + Sync, G: Gate + Sync, R: Threads + Wait + Sync>(
     shared: &Shared<G, R>,
     first: usize,
     front: Vec<Seat<K>>,

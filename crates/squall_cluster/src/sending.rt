@@ -3,14 +3,14 @@
 ghost use Rattle.std.specs.Prelude.{◌≡◌, [], ◌∷◌, ◌++◌, OnOk, IfOk};
 ghost use Rattle.std.specs.Thread.{IsSync};
 ghost use Rattle.squall_board.specs.Boards.{HasTaken, IsBoard, report_board};
-ghost use Rattle.squall_inbox.specs.Letters.{IsAllowed};
+ghost use Rattle.squall_cluster_inbox.specs.Letters.{IsAllowed};
 ghost use Rattle.squall_cluster.specs.Race.{Bring, SentAll, Within, Ready, BothReady, lists_of};
 
 use crate::gate::{Actor, Gate, Steps};
 use crate::halt::{Off, Stop};
 use crate::shared::Shared;
+use squall_cluster_inbox::{Constants, Full, Letter, Sender, Spent};
 use squall_delta::delta_of;
-use squall_inbox::{Case, Full, Letter, Sender, Spent};
 use squall_report::Report;
 use std::alloc::{AllocError, Global};
 use std::snapshot::Snapshot;
@@ -40,7 +40,7 @@ fn pause(times: u32) -> u32 {
 }
 
 /// Posts the letter, again while the inbox is full, unless the race is off.
-fn post_one<K: Case, G: Gate, R: Wait>(
+fn post_one<K: Constants, G: Gate, R: Wait>(
     shared: &Shared<G, R>,
     steps: &mut Steps<'_, G>,
     sender: &mut Sender<K>,
@@ -67,7 +67,7 @@ fn post_one<K: Case, G: Gate, R: Wait>(
 }
 
 /// Posts the whole list, one letter a report, unless the race is off.
-fn post_all<K: Case, G: Gate, R: Wait>(
+fn post_all<K: Constants, G: Gate, R: Wait>(
     shared: &Shared<G, R>,
     mut steps: Steps<'_, G>,
     sender: &mut Sender<K>,
@@ -87,7 +87,7 @@ fn post_all<K: Case, G: Gate, R: Wait>(
 }
 
 /// Posts the list, and ends the sender.
-fn send_one<K: Case, G: Gate, R: Wait>(
+fn send_one<K: Constants, G: Gate, R: Wait>(
     shared: &Shared<G, R>,
     number: usize,
     mut sender: Sender<K>,
@@ -107,12 +107,12 @@ fn send_one<K: Case, G: Gate, R: Wait>(
 
 /// What a thread of senders promises: at `Ok` each of them has posted its list.
 #[derive(Drop)]
-pub(crate) struct Sends<'a, K: Case> {
+pub(crate) struct Sends<'a, K: Constants> {
     pub(crate) senders: Snapshot<Vec<Sender<K>>>,
     pub(crate) lists: &'a [Vec<Report>],
 }
 
-impl<'a, K: Case> Sends<'a, K> {
+impl<'a, K: Constants> Sends<'a, K> {
     /// The promise of these senders, each for its list.
     pub(crate) fn of(senders: &Vec<Sender<K>>, lists: &'a [Vec<Report>]) -> Sends<'a, K>
         ensures senders { result.senders.value ≡ senders.now }
@@ -125,13 +125,13 @@ impl<'a, K: Case> Sends<'a, K> {
     }
 }
 
-impl<'a, K: Case> Promise<Result<Vec<Spent>, Off>> for Sends<'a, K> {
+impl<'a, K: Constants> Promise<Result<Vec<Spent>, Off>> for Sends<'a, K> {
     ghost kept_by = { λ p r. IfOk r (λ v. SentAll p.senders.value.items (lists_of p.lists.now) v.items) };
 }
 
 /// Each sender posts its list, in a thread of its own. The first of them has this thread.
 #[cycle(sending)]
-pub(crate) fn send_all<K: Case + Send + Sync, G: Gate + Sync, R: Threads + Wait + Sync>(
+pub(crate) fn send_all<K: Constants + Send + Sync, G: Gate + Sync, R: Threads + Wait + Sync>(
     shared: &Shared<G, R>,
     first: usize,
     mut senders: Vec<Sender<K>>,
@@ -156,7 +156,7 @@ pub(crate) fn send_all<K: Case + Send + Sync, G: Gate + Sync, R: Threads + Wait 
 
 /// The second half of the senders has a thread of its own.
 #[cycle(sending)]
-fn send_halves<K: Case + Send + Sync, G: Gate + Sync, R: Threads + Wait + Sync>(
+fn send_halves<K: Constants + Send + Sync, G: Gate + Sync, R: Threads + Wait + Sync>(
     shared: &Shared<G, R>,
     first: usize,
     front: Vec<Sender<K>>,

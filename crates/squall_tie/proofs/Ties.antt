@@ -3,16 +3,16 @@ use Rattle.std.proofs.Common.{◌≡◌, ℕ, true, List, [], ◌∷◌, ◌++�
 use Rattle.std.specs.List.{slice_get}
 use Rattle.std.proofs.lemmas.Option.{same_Some}
 use Rattle.squall_course.specs.Change.{Change}
-use Rattle.squall_report.specs.Tests.{Tests, SameTests, joined_tests}
-use Rattle.squall_report.specs.TestsLaws.{same_tests}
+use Rattle.squall_report.specs.Queries.{Queries, SameQueries, joined_queries}
+use Rattle.squall_report.specs.QueriesLaws.{same_queries}
 use Rattle.squall_board.specs.Boards.{BoardValue, IsBoard, board_join}
 use Rattle.squall_board.specs.BoardLaws.{tells_both}
-use Rattle.squall_board.specs.BoardTests.{tests_of}
-use Rattle.squall_board.specs.BoardTestsLaws.{merged_tests}
+use Rattle.squall_board.specs.BoardQueries.{queries_of}
+use Rattle.squall_board.specs.BoardQueriesLaws.{merged_queries}
 use Rattle.squall_board.specs.CourseRoute.{IsRoutedBy, route_by_newest}
 use Rattle.squall_board.specs.CourseRouteLaws.{board_routes, one_route}
-use Rattle.squall_inbox.specs.Letters.{board_after}
-use Rattle.squall_desk.proofs.Desks.{board_after-snoc}
+use Rattle.squall_cluster_inbox.specs.Letters.{board_after}
+use Rattle.squall_cluster_desk.proofs.Desks.{board_after-snoc}
 use Rattle.squall_cluster.proofs.Joined.{after_is}
 use Rattle.squall_protocol.specs.declared.event.Node.{Node}
 use Rattle.squall_protocol.specs.declared.event.Node.TheVariants.{Router}
@@ -22,12 +22,12 @@ use Rattle.squall_protocol.specs.Steps.{told_to, after_told, DeliverStep, RouteS
 use Rattle.squall_protocol.proofs.Same.{same_world}
 use Rattle.squall_tie.specs.Desks.{StandsFor, IsMessageOf, PublishesByDelivery, LooksByRoute}
 
-same_of : (a b : Tests) → a ≡ b → SameTests a b
+same_of : (a b : Queries) → a ≡ b → SameQueries a b
 same_of a b e = record {
-  loaded = λ c k. ap (λ (t : Tests). t.loaded c k) e;
-  done = λ c. ap (λ (t : Tests). t.done c) e;
-  opened = λ n. ap (λ (t : Tests). t.opened n) e;
-  issued = λ n. ap (λ (t : Tests). t.issued n) e;
+  loaded = λ c k. ap (λ (t : Queries). t.loaded c k) e;
+  done = λ c. ap (λ (t : Queries). t.done c) e;
+  opened = λ n. ap (λ (t : Queries). t.opened n) e;
+  issued = λ n. ap (λ (t : Queries). t.issued n) e;
 }
 
 unchanged : (w : WorldValue) → SameWorld w w
@@ -46,26 +46,26 @@ unchanged w = record {
 }
 
 -- what a router is told, it was told
-told_itself : (w : WorldValue) (r : ℕ) (more : Tests) → told_to w (Router r) more (Router r) ≡ joined_tests (w.facts (Router r)) more
-told_itself w r more = ap (λ b. if b then joined_tests (w.facts (Router r)) more else w.facts (Router r)) (eq-eqb r r refl)
+told_itself : (w : WorldValue) (r : ℕ) (more : Queries) → told_to w (Router r) more (Router r) ≡ joined_queries (w.facts (Router r)) more
+told_itself w r more = ap (λ b. if b then joined_queries (w.facts (Router r)) more else w.facts (Router r)) (eq-eqb r r refl)
 
--- the tests of a join
-tests_join : (x y : BoardValue) → IsBoard x → IsBoard y → tests_of (board_join x y) ≡ joined_tests (tests_of x) (tests_of y)
-tests_join x y a b = same_tests (tests_of (board_join x y)) (joined_tests (tests_of x) (tests_of y)) ((merged_tests (board_join x y) x y).0 (tells_both x y a.nested b.nested))
+-- the queries of a join
+queries_join : (x y : BoardValue) → IsBoard x → IsBoard y → queries_of (board_join x y) ≡ joined_queries (queries_of x) (queries_of y)
+queries_join x y a b = same_queries (queries_of (board_join x y)) (joined_queries (queries_of x) (queries_of y)) ((merged_queries (board_join x y) x y).0 (tells_both x y a.nested b.nested))
 
 -- the router that was told the letter stands for one more
-delivered : (w : WorldValue) (r : ℕ) (first : Change) (opening : BoardValue) (published : List BoardValue) (letter : BoardValue) (message : Tests)
-    → IsBoard (board_after opening published) → IsBoard letter → StandsFor w r first opening published → SameTests message (tests_of letter)
+delivered : (w : WorldValue) (r : ℕ) (first : Change) (opening : BoardValue) (published : List BoardValue) (letter : BoardValue) (message : Queries)
+    → IsBoard (board_after opening published) → IsBoard letter → StandsFor w r first opening published → SameQueries message (queries_of letter)
     → StandsFor (after_told w (Router r) message) r first opening (published ++ letter ∷ [])
 delivered w r first opening published letter message board is stands same =
     let before : BoardValue = board_after opening published in
-    let old : w.facts (Router r) ≡ tests_of before = same_tests _ _ stands.told in
-    let more : message ≡ tests_of letter = same_tests _ _ same in
-    let both : joined_tests (w.facts (Router r)) message ≡ joined_tests (tests_of before) (tests_of letter) = ap (λ t. joined_tests t message) old ∙ ap (joined_tests (tests_of before)) more in
-    let after : tests_of (board_join before letter) ≡ tests_of (board_after opening (published ++ letter ∷ [])) = ap tests_of (sym (board_after-snoc opening published letter)) in record {
+    let old : w.facts (Router r) ≡ queries_of before = same_queries _ _ stands.told in
+    let more : message ≡ queries_of letter = same_queries _ _ same in
+    let both : joined_queries (w.facts (Router r)) message ≡ joined_queries (queries_of before) (queries_of letter) = ap (λ t. joined_queries t message) old ∙ ap (joined_queries (queries_of before)) more in
+    let after : queries_of (board_join before letter) ≡ queries_of (board_after opening (published ++ letter ∷ [])) = ap queries_of (sym (board_after-snoc opening published letter)) in record {
       there = stands.there;
       first_is = stands.first_is;
-      told = same_of _ _ (told_itself w r message ∙ both ∙ sym (tests_join before letter board is) ∙ after);
+      told = same_of _ _ (told_itself w r message ∙ both ∙ sym (queries_join before letter board is) ∙ after);
     }
 
 pub publishes : (opening : BoardValue) → IsBoard opening → PublishesByDelivery opening
@@ -73,8 +73,8 @@ publishes opening is allowed first published letter letters one w r i stands has
     let board : IsBoard (board_after opening published) = after_is allowed opening published is letters in (
       (after_told w (Router r) has.0, (stands.there, (has.0, has.1, unchanged (after_told w (Router r) has.0)))),
       λ v step.
-          let message : Tests = step.1.0 in
-          let same : SameTests message (tests_of letter) = subst (λ t. SameTests t (tests_of letter)) (same_Some has.0 message (sym has.1 ∙ step.1.1)) has.2 in
+          let message : Queries = step.1.0 in
+          let same : SameQueries message (queries_of letter) = subst (λ t. SameQueries t (queries_of letter)) (same_Some has.0 message (sym has.1 ∙ step.1.1)) has.2 in
           subst (λ u. StandsFor u r first opening (published ++ letter ∷ [])) (sym (same_world v (after_told w (Router r) message) step.1.2)) (delivered w r first opening published letter message board one.0 stands same),
     )
 
@@ -82,12 +82,12 @@ pub looks : (opening : BoardValue) → IsBoard opening → LooksByRoute opening
 looks opening is allowed first seen letters w v r k part stands =
     let b : BoardValue = board_after opening seen in
     let board : IsBoard b = after_is allowed opening seen is letters in
-    let routed : IsRoutedBy first (tests_of b) k (route_by_newest first b k) = board_routes first b k board in
-    let facts : w.facts (Router r) ≡ tests_of b = same_tests _ _ stands.told in (
+    let routed : IsRoutedBy first (queries_of b) k (route_by_newest first b k) = board_routes first b k board in
+    let facts : w.facts (Router r) ≡ queries_of b = same_queries _ _ stands.told in (
       (λ step.
-          let by : IsRoutedBy first (tests_of b) k part = subst (λ c. IsRoutedBy c (tests_of b) k part) stands.first_is (subst (λ t. IsRoutedBy (first_course w) t k part) facts step.1) in
-          (one_route first (tests_of b) k part (route_by_newest first b k) by routed, step.2)),
+          let by : IsRoutedBy first (queries_of b) k part = subst (λ c. IsRoutedBy c (queries_of b) k part) stands.first_is (subst (λ t. IsRoutedBy (first_course w) t k part) facts step.1) in
+          (one_route first (queries_of b) k part (route_by_newest first b k) by routed, step.2)),
       (λ look.
-          let by : IsRoutedBy first (tests_of b) k part = subst (IsRoutedBy first (tests_of b) k) (sym look.0) routed in
-          (stands.there, subst (λ t. IsRoutedBy (first_course w) t k part) (sym facts) (subst (λ c. IsRoutedBy c (tests_of b) k part) (sym stands.first_is) by), look.1)),
+          let by : IsRoutedBy first (queries_of b) k part = subst (IsRoutedBy first (queries_of b) k) (sym look.0) routed in
+          (stands.there, subst (λ t. IsRoutedBy (first_course w) t k part) (sym facts) (subst (λ c. IsRoutedBy c (queries_of b) k part) (sym stands.first_is) by), look.1)),
     )

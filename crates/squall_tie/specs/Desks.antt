@@ -2,11 +2,11 @@
 use Rattle.std.specs.Prelude.{◌≡◌, ◌↔◌, ℕ, true, List, [], ◌∷◌, ◌++◌, Some}
 use Rattle.std.specs.List.{slice_get}
 use Rattle.squall_course.specs.Change.{Change}
-use Rattle.squall_report.specs.Tests.{Tests, SameTests}
+use Rattle.squall_report.specs.Queries.{Queries, SameQueries}
 use Rattle.squall_board.specs.Boards.{BoardValue}
-use Rattle.squall_board.specs.BoardTests.{tests_of}
+use Rattle.squall_board.specs.BoardQueries.{queries_of}
 use Rattle.squall_router.specs.Routers.{route_of_router}
-use Rattle.squall_inbox.specs.Letters.{Allowance, IsLetter, AreLetters, board_after}
+use Rattle.squall_cluster_inbox.specs.Letters.{Allowance, IsLetter, AreLetters, board_after}
 use Rattle.squall_cluster.specs.Joined.{shown_router}
 use Rattle.squall_protocol.specs.declared.event.Node.TheVariants.{Router}
 use Rattle.squall_protocol.specs.declared.answer.Answer.TheVariants.{Delivered, Routed}
@@ -18,11 +18,11 @@ use Rattle.squall_protocol.specs.Steps.{DeliverStep, RouteStep}
 pub record StandsFor (w : WorldValue) (r : ℕ) (first : Change) (opening : BoardValue) (letters : List BoardValue) : Type 0 where
   pub there : is_node w (Router r) ≡ true
   pub first_is : first_course w ≡ first
-  pub told : SameTests (w.facts (Router r)) (tests_of (board_after opening letters))
+  pub told : SameQueries (w.facts (Router r)) (queries_of (board_after opening letters))
 
 -- the message of that number tells what the letter tells
 abbrev pub IsMessageOf : WorldValue → ℕ → BoardValue → Type 0
-IsMessageOf w i letter = (message : Tests) × (slice_get w.messages i ≡ Some message) × SameTests message (tests_of letter)
+IsMessageOf w i letter = (message : Queries) × (slice_get w.messages i ≡ Some message) × SameQueries message (queries_of letter)
 
 -- to publish is to deliver: in each world in which a router stands for what is published, and a message for the letter, the message may be delivered
 -- to that router; once it is, the router stands for what is published with the letter behind

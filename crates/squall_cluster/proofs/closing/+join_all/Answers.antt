@@ -1,6 +1,6 @@
 use Rattle.std.proofs.Common.{◌≡◌, ap, sym, ◌∙◌, List, ℕ, ◌∷◌}
 use Rattle.squall_board.specs.Boards.{BoardValue}
-use Rattle.squall_inbox.specs.Ends.{Posting, vouching}
+use Rattle.squall_cluster_inbox.specs.Ends.{Posting, vouching}
 use Rattle.squall_cluster.specs.Owners.{Owning}
 use Rattle.squall_cluster.proofs.Ends.{vouching-snoc}
 use Rattle.squall_cluster.proofs.closing.+join_all.Goals as goal

@@ -1,5 +1,5 @@
 use Rattle.std.proofs.Common.{◌≡◌, sym, subst, List, length, ◌+◌, arith, length-append, ◌∷◌, [], ◌++◌, ap, ◌∙◌}
-use Rattle.squall_inbox.specs.Ends.{Posting}
+use Rattle.squall_cluster_inbox.specs.Ends.{Posting}
 use Rattle.squall_cluster.specs.Owners.{Owning, Fresh}
 use Rattle.squall_cluster.proofs.Ends.{fresh_more}
 use Rattle.squall_cluster.proofs.cluster.hire_all.Goals as goal

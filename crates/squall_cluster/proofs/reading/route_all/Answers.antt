@@ -2,7 +2,7 @@ use Rattle.std.proofs.Common.{◌≡◌, ap, sym, ◌∙◌, subst, take, List, 
 use Rattle.std.proofs.lemmas.List.{take_more, take_all}
 use Rattle.squall_course.specs.Change.{Change}
 use Rattle.squall_board.specs.Boards.{BoardValue}
-use Rattle.squall_inbox.specs.Letters.{Allowance}
+use Rattle.squall_cluster_inbox.specs.Letters.{Allowance}
 use Rattle.squall_cluster.specs.Race.{GrownTo, Read}
 use Rattle.squall_cluster.proofs.Races.{grown_more, read_end}
 use Rattle.squall_cluster.proofs.reading.route_all.Goals as goal
@@ -10,9 +10,9 @@ use Rattle.squall_cluster.proofs.reading.route_all.Goals as goal
 pub loop-key-preserved : goal.loop-key-preserved
 loop-key-preserved g c =
     let a = c.in-Some.ensures in
-    let allowed : Allowance = g.K.Case.allowed in
-    let first : Change = g.K.Case.first in
-    let opening : BoardValue = g.K.Case.opening in
+    let allowed : Allowance = g.K.Constants.allowed in
+    let first : Change = g.K.Constants.first in
+    let opening : BoardValue = g.K.Constants.opening in
     let keys : List ℕ = c.args.keys.now in
     let n : ℕ = c.loop-key.key-index in
     let k : ℕ = c.key-item.result in
@@ -32,4 +32,4 @@ returns g c =
     let keys : List ℕ = c.args.keys.now in
     let n : ℕ = c.loop-key.key-index in
     let whole : take n keys ≡ keys = take_all n keys c.loop-key-test.false in
-    subst (λ (l : List ℕ). Read g.K.Case.allowed g.K.Case.first g.K.Case.opening l c.loop-key.routes.items) whole (read_end g.K.Case.allowed g.K.Case.first g.K.Case.opening c.args.seat.known (take n keys) c.loop-key.routes.items c.loop-key.seat.known c.loop-key.invariant)
+    subst (λ (l : List ℕ). Read g.K.Constants.allowed g.K.Constants.first g.K.Constants.opening l c.loop-key.routes.items) whole (read_end g.K.Constants.allowed g.K.Constants.first g.K.Constants.opening c.args.seat.known (take n keys) c.loop-key.routes.items c.loop-key.seat.known c.loop-key.invariant)

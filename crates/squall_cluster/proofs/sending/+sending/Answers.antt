@@ -1,7 +1,7 @@
 use Rattle.std.proofs.Common.{◌++◌, sym, subst, List, map, Vec, Global}
 use Rattle.squall_report.specs.declared.report.Report.{Report}
-use Rattle.squall_inbox.specs.Ends.{Posting}
-use Rattle.squall_inbox.specs.declared.sender.Sender.{Sender}
+use Rattle.squall_cluster_inbox.specs.Ends.{Posting}
+use Rattle.squall_cluster_inbox.specs.declared.sender.Sender.{Sender}
 use Rattle.squall_cluster.specs.Race.{Reports, SentAll}
 use Rattle.squall_cluster.proofs.Races.{sent_append}
 use Rattle.squall_cluster.proofs.sending.+sending.Goals as goal

@@ -1,5 +1,5 @@
 use Rattle.std.proofs.Common.{ap, ◌∙◌, ◌++◌, sym}
-use Rattle.squall_inbox.specs.Ends.{Taking}
+use Rattle.squall_cluster_inbox.specs.Ends.{Taking}
 use Rattle.squall_cluster.proofs.Ends.{took_keeps}
 use Rattle.squall_cluster.proofs.owner.Owner.take.Goals as goal
 

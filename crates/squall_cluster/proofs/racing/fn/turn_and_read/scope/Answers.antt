@@ -8,5 +8,5 @@ returns g c =
     let count : c.of-reads.result.count ≡ length c.captures.seats.items = c.of-reads.ensures.count ∙ c.len.ensures ∙ omega (arith, c.captures.seats.ok) in
     record {
       owner = c.turn_all.ensures;
-      read = subst (λ (n : ℕ). IfOk c.join-routes.result (λ v. AllRead g.K.Case.allowed g.K.Case.first g.K.Case.opening c.captures.keys.now n v.items)) count (subst (λ k. IfOk c.join-routes.result (λ v. AllRead g.K.Case.allowed g.K.Case.first g.K.Case.opening k.now c.of-reads.result.count v.items)) c.of-reads.ensures.keys (subst (λ p. IfOk c.join-routes.result (λ v. AllRead g.K.Case.allowed g.K.Case.first g.K.Case.opening p.keys.now p.count v.items)) e c.join-routes.ensures));
+      read = subst (λ (n : ℕ). IfOk c.join-routes.result (λ v. AllRead g.K.Constants.allowed g.K.Constants.first g.K.Constants.opening c.captures.keys.now n v.items)) count (subst (λ k. IfOk c.join-routes.result (λ v. AllRead g.K.Constants.allowed g.K.Constants.first g.K.Constants.opening k.now c.of-reads.result.count v.items)) c.of-reads.ensures.keys (subst (λ p. IfOk c.join-routes.result (λ v. AllRead g.K.Constants.allowed g.K.Constants.first g.K.Constants.opening p.keys.now p.count v.items)) e c.join-routes.ensures));
     }
