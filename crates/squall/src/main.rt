@@ -7,9 +7,9 @@
 
 ghost use Rattle.std.specs.Prelude.{◌≡◌, ◌≢◌, IfErr, IfOk, map, string_bytes};
 ghost use Rattle.std.specs.IoError.{error_kind};
-ghost use Rattle.squall_run.specs.Line.{words_of};
+ghost use Rattle.squall_cli_run.specs.Line.{words_of};
 
-use squall_run::{Files, Reader, Writer, perform};
+use squall_cli_run::{Files, Reader, Writer, perform};
 use std::alloc::{AllocError, Global};
 use std::fs::File;
 use std::io::ErrorKind;

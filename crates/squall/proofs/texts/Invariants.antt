@@ -1,6 +1,6 @@
 use Rattle.std.specs.Prelude.{string_bytes}
 use Rattle.std.proofs.Common.{◌≡◌, ◌++◌, map, drop}
-use Rattle.squall_run.specs.Line.{words_of}
+use Rattle.squall_cli_run.specs.Line.{words_of}
 use Rattle.squall.proofs.texts.Given as goal
 
 abbrev pub invariant-loop-word : goal.invariant-loop-word

@@ -1,0 +1,107 @@
+-- The command line, as `clap` defines simple commands.
+use Rattle.std.specs.Prelude.{◌≡◌, ℕ, Bool, true, false, not, IsTrue, List, [], ◌∷◌, ◌++◌}
+use Rattle.std.specs.Prelude.{Option, Some, None, unwrap_or, codes, map, string_bytes, if◌then◌else◌}
+use Rattle.std.specs.List.{list_any}
+use Rattle.std.specs.Str.{bytes_eq}
+use Rattle.std.specs.Borrow.{Bor}
+use Rattle.clap.specs.Words.{App, Shape, Rule, Row, Text, Kinds, new_app, new_rule, with_rule, with_subcommand, subcommand_of, first_of, fault_of}
+use Rattle.clap.specs.Simple.{on_top}
+use Rattle.clap.specs.declared.builder.ArgAction.TheVariants.{Set}
+use Rattle.clap.specs.declared.error.kind.ErrorKind.{ErrorKind}
+use Rattle.clap.specs.declared.error.kind.ErrorKind.TheVariants.{DisplayHelp, DisplayVersion}
+use Rattle.squall_cli_command.specs.declared.task.Task.{Task}
+use Rattle.squall_cli_command.specs.declared.task.Task.TheVariants.{Check, Course, Run, Race}
+
+-- a file's name, which has to be there
+abbrev pub file_rule : Text → Rule
+file_rule id = record (new_rule id) { required = true; action = Some Set }
+
+abbrev pub check_shape : Shape
+check_shape = (with_rule (new_app (codes "check")) (file_rule (codes "PLAN"))).top
+
+abbrev pub course_shape : Shape
+course_shape = (with_rule (with_rule (new_app (codes "course")) (file_rule (codes "OLD"))) (file_rule (codes "NEW"))).top
+
+abbrev pub run_shape : Shape
+run_shape = (with_rule (new_app (codes "run")) (file_rule (codes "FILE"))).top
+
+abbrev pub race_shape : Shape
+race_shape = (with_rule (new_app (codes "race")) (file_rule (codes "FILE"))).top
+
+-- the program without its commands: it has a version, and no command `help` of `clap`'s
+abbrev pub program_app : App
+program_app = on_top (λ s. record s { has_version = true; disable_help_subcommand = true }) (new_app (codes "squall"))
+
+-- the commands about plans: `check PLAN` and `course OLD NEW`
+abbrev pub plans_app : App
+plans_app = with_subcommand (with_subcommand program_app check_shape) course_shape
+
+-- all commands: those about plans, `run FILE` and `race FILE`
+abbrev pub squall_app : App
+squall_app = with_subcommand (with_subcommand plans_app run_shape) race_shape
+
+-- `help` and what follows it are read as what follows it and `--help`: `help run` as `run --help`
+abbrev pub plain_words : List Text → List Text
+plain_words [] = []
+plain_words (name ∷ []) = name ∷ []
+plain_words (name ∷ word ∷ rest) =
+    if bytes_eq word (codes "help") then name ∷ (rest ++ codes "--help" ∷ []) else name ∷ word ∷ rest
+
+-- a task without where its names lie in memory
+pub data Job : Type 0 where
+  check : List ℕ → Job
+  course : List ℕ → List ℕ → Job
+  run : List ℕ → Job
+  race : List ℕ → Job
+
+abbrev pub job_seen : Task → Job
+job_seen (Check plan) = check (string_bytes plan)
+job_seen (Course old new) = course (string_bytes old) (string_bytes new)
+job_seen (Run file) = run (string_bytes file)
+job_seen (Race file) = race (string_bytes file)
+
+-- the file that stands for an argument: words without one that has to be there have a fault
+abbrev pub file_in : Text → List Row → List ℕ
+file_in id rows = unwrap_or (first_of id rows) []
+
+-- the job of a command's name and entries
+abbrev pub job_in : Text → List Row → Job
+job_in name rows =
+    if bytes_eq name (codes "check") then check (file_in (codes "PLAN") rows)
+    else (if bytes_eq name (codes "course") then course (file_in (codes "OLD") rows) (file_in (codes "NEW") rows)
+    else (if bytes_eq name (codes "race") then race (file_in (codes "FILE") rows)
+    else run (file_in (codes "FILE") rows)))
+
+-- without a command it is to run standard input
+abbrev pub job_of : Option (Text × List Row) → Job
+job_of None = run (codes "-")
+job_of (Some p) = job_in p.0 p.1
+
+abbrev pub words_of : List (Bor (List ℕ)) → List Text
+words_of words = map (λ w. w.now) words
+
+-- the kinds of the first fault that `clap` finds in the words
+abbrev pub faults_in : List Text → Kinds
+faults_in words = fault_of squall_app (plain_words words)
+
+-- the kind of fault that asks for help or for the version
+abbrev pub shows_help : ErrorKind → Bool
+shows_help DisplayHelp = true
+shows_help DisplayVersion = true
+shows_help _ = false
+
+-- the words have no fault, and ask for the job
+abbrev pub Asks : List Text → Job → Type 0
+Asks words job = (faults_in words ≡ []) × (job_of (subcommand_of squall_app (plain_words words)) ≡ job)
+
+-- the words ask for help or for the version, before any other fault
+abbrev pub AsksForHelp : List Text → Type 0
+AsksForHelp words = IsTrue (list_any shows_help (faults_in words))
+
+-- the words have a fault, and it is no request for help
+abbrev pub IsFaulty : List Text → Type 0
+IsFaulty words = IsTrue (list_any (λ kind. not (shows_help kind)) (faults_in words))
+
+-- the program's name and version on a line: `--version` shows it, and help begins with it
+abbrev pub title : List ℕ
+title = codes "squall 0.1.0\n"

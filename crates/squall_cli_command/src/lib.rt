@@ -1,0 +1,13 @@
+//! The words of the command line: what they ask for, and what is shown where they ask for help or
+//! for nothing that there is.
+//!
+//! Its tests are in `crates/squall_test_lines/src/command.rt`.
+#![tactic(auto)]
+
+pub mod laws;
+mod line;
+mod parser;
+mod task;
+
+pub use line::{command, message};
+pub use task::{LineFault, Task};

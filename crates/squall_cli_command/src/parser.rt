@@ -1,0 +1,143 @@
+//! The commands of the program, with their help, as `clap` reads them.
+
+ghost use Rattle.std.specs.Prelude.{◌≡◌, IfOk, false};
+ghost use Rattle.clap.specs.Words.{app_of, shape_of, rule_of};
+ghost use Rattle.clap.specs.declared.builder.command.Command.TheViews.{out-Command as fields_of};
+ghost use Rattle.squall_cli_command.specs.Line.{squall_app, plans_app, program_app, check_shape, course_shape, run_shape, race_shape, file_rule};
+
+use clap::{Arg, ArgAction, Command};
+use std::alloc::{AllocError, Global};
+
+const VERSION: &str = "0.1.0";
+
+/// The program's name and version on a line.
+pub(crate) const TITLE: &str = "squall 0.1.0\n";
+
+const ABOUT: &str =
+    "Says where each key is while a database moves from one partition plan to another.";
+
+const AFTER_HELP: &str =
+    "Without a command the scenario on standard input is run. A file named - is standard input.
+
+Example:
+  squall check new.json
+  squall course old.json new.json
+  squall run scenario.txt
+  squall race race.txt
+
+squall help COMMAND shows the help of a command: squall help run the lines of a scenario, and
+squall help race those of a race.";
+
+const SCENARIO: &str = "Lines of a scenario, one question or report each:
+  old JSON            the old plan, first: {\"plan\":[{\"part\":1,\"from\":[0,0],\"to\":\"end\"}]}
+  new JSON            the new plan, right after the old one
+  loaded N S P LO HI  partition P has loaded [LO,HI) in sub-plan S of reconfiguration N
+  done N S P          partition P has all that sub-plan S of reconfiguration N brings it
+  opened N S          sub-plan S of reconfiguration N is opened, and all those before it
+  issued N JSON       reconfiguration N leads from the new plan to this one
+  route K             asks which partition has key K
+  legs LO HI          asks which partitions have the keys of [LO,HI)
+  board               asks what was reported
+  hear HEX            hears the next bytes of a stream of frames, and takes their reports
+  frame               asks for the frame of the board
+  # REMARK            is skipped, as is a line without words";
+
+const RACE: &str = "Lines of a race, which is run once all of them are read:
+  old JSON    the old plan, first: {\"plan\":[{\"part\":1,\"from\":[0,0],\"to\":\"end\"}]}
+  new JSON    the new plan, before all lines below
+  capacity C  how many letters the inbox holds, 1 to 65536; 16 without this line
+  readers N   how many threads route each key once, at most 64; 1 without this line
+  senders N   how many threads post reports, 1 to 64, before the first report; 2 without this line
+  N REPORT    sender N, counted from 0, posts this report: a line loaded, done or opened
+              of a scenario
+  key K       the board at the end shows the route of key K
+  # REMARK    is skipped, as is a line without words";
+
+/// A file's name, which has to be there.
+fn file<'a>(alloc: Global, name: &'a str, help: &'a str) -> Arg<'a>
+    ensures rule { rule_of result ≡ file_rule name.entry.now }
+    ensures global { result.global ≡ false }
+{
+    Arg::new(alloc, name)
+        .required(true)
+        .action(ArgAction::Set)
+        .help(help)
+}
+
+/// `check PLAN`
+fn check_command<'a>(alloc: Global) -> Result<Command<'a>, AllocError>
+    ensures shape { IfOk result (λ c. shape_of c ≡ check_shape) }
+    ensures globals { IfOk result (λ c. (fields_of c).has_globals ≡ false) }
+{
+    Command::new(alloc, "check")
+        .about("Checks a plan: shows its ranges by rising key, or the fault that makes it no plan")
+        .arg(file(alloc, "PLAN", "The file of the plan, or -"))
+}
+
+/// `course OLD NEW`
+fn course_command<'a>(alloc: Global) -> Result<Command<'a>, AllocError>
+    ensures shape { IfOk result (λ c. shape_of c ≡ course_shape) }
+    ensures globals { IfOk result (λ c. (fields_of c).has_globals ≡ false) }
+{
+    Command::new(alloc, "course")
+        .about(
+            "Shows which ranges move between two plans, from and to which partition, and in which sub-plan",
+        )
+        .arg(file(alloc, "OLD", "The file of the old plan, or -"))?
+        .arg(file(alloc, "NEW", "The file of the new plan, or -"))
+}
+
+/// `run FILE`
+fn run_command<'a>(alloc: Global) -> Result<Command<'a>, AllocError>
+    ensures shape { IfOk result (λ c. shape_of c ≡ run_shape) }
+    ensures globals { IfOk result (λ c. (fields_of c).has_globals ≡ false) }
+{
+    Command::new(alloc, "run")
+        .about(
+            "Answers the lines of a scenario: plans, reports of what was loaded, and questions for routes",
+        )
+        .after_help(SCENARIO)
+        .arg(file(alloc, "FILE", "The file of the scenario, or -"))
+}
+
+/// `race FILE`
+fn race_command<'a>(alloc: Global) -> Result<Command<'a>, AllocError>
+    ensures shape { IfOk result (λ c. shape_of c ≡ race_shape) }
+    ensures globals { IfOk result (λ c. (fields_of c).has_globals ≡ false) }
+{
+    Command::new(alloc, "race")
+        .about(
+            "Runs senders, readers and an owner as threads at once, and shows the board they come to",
+        )
+        .after_help(RACE)
+        .arg(file(alloc, "FILE", "The file of the race, or -"))
+}
+
+/// The program without its commands. `help` is no command of its own: it is read as `--help`.
+fn program<'a>(alloc: Global) -> Command<'a>
+    ensures { app_of result ≡ program_app }
+{
+    Command::new(alloc, "squall")
+        .version(VERSION)
+        .disable_help_subcommand(true)
+        .about(ABOUT)
+        .after_help(AFTER_HELP)
+}
+
+/// The program with its commands about plans.
+fn with_plans<'a>(alloc: Global) -> Result<Command<'a>, AllocError>
+    ensures { IfOk result (λ c. app_of c ≡ plans_app) }
+{
+    program(alloc)
+        .subcommand(check_command(alloc)?)?
+        .subcommand(course_command(alloc)?)
+}
+
+/// The program's command line.
+pub(crate) fn parser<'a>(alloc: Global) -> Result<Command<'a>, AllocError>
+    ensures { IfOk result (λ c. app_of c ≡ squall_app) }
+{
+    with_plans(alloc)?
+        .subcommand(run_command(alloc)?)?
+        .subcommand(race_command(alloc)?)
+}

@@ -1,0 +1,14 @@
+//! Events of a world as lines, and their answers as texts.
+//!
+//! Its tests are in `crates/squall_test_lines/src/event_text.rt`.
+#![tactic(auto)]
+
+mod answers;
+mod events;
+mod most;
+mod nodes;
+mod words;
+
+pub use answers::add_answer;
+pub use events::{Unfit, event_of};
+pub use words::{EventWords, NodeWords, event_line};

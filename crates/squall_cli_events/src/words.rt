@@ -1,0 +1,202 @@
+//! Events as lines write them.
+
+ghost use Rattle.std.specs.Prelude.{◌≡◌};
+ghost use Rattle.std.specs.Option.{option_map};
+ghost use Rattle.squall_cli_lines.specs.Words.{words_of, is_letter, from_first};
+ghost use Rattle.squall_cli_events.specs.EventLines.{line_seen, after_of, give_line, give_at_line, load_line, finish_line};
+ghost use Rattle.squall_cli_events.specs.EventLines.{send_line, deliver_line, route_line, serve_line, event_line};
+
+use crate::most::read_most;
+use crate::nodes::read_node;
+use squall_cli_lines::words::{after_blanks, next_word, only_word};
+use squall_cli_words::words::{no_word, number_first};
+use squall_key::{Key, read_number};
+
+/// A node as a line writes it, whatever its number is.
+#[derive(Clone, Copy, Debug)]
+pub enum NodeWords {
+    /// `l`
+    Leader,
+    /// `p3`
+    Part(u32),
+    /// `r0`
+    Router(u32),
+}
+
+/// An event as a line writes it, whatever its numbers are.
+#[derive(Clone, Copy, Debug)]
+pub enum EventWords<'a> {
+    /// `open`
+    Open,
+    /// `begin JSON`: the text of the plan.
+    Begin(&'a [u8]),
+    /// `give P MAX`
+    Give {
+        /// The partition.
+        part: u32,
+        /// How many keys at most.
+        most: u64,
+    },
+    /// `giveat P K`
+    GiveAt {
+        /// The partition.
+        part: u32,
+        /// The key.
+        key: Key,
+    },
+    /// `load I`: the index of a chunk.
+    Load(u32),
+    /// `finish P S`
+    Finish {
+        /// The partition.
+        part: u32,
+        /// The sub-plan.
+        sub: u32,
+    },
+    /// `send NODE`
+    Send(NodeWords),
+    /// `deliver I NODE`
+    Deliver {
+        /// The index of a message.
+        message: u32,
+        /// The node to which it comes.
+        node: NodeWords,
+    },
+    /// `route R K`
+    Route {
+        /// The router.
+        router: u32,
+        /// The key.
+        key: Key,
+    },
+    /// `serve P K`, or `serve P K N`
+    Serve {
+        /// The partition.
+        part: u32,
+        /// The key.
+        key: Key,
+        /// The number of the last move that was followed, 0 where none was.
+        after: u32,
+    },
+}
+
+/// `give P MAX`
+fn give_line(rest: &[u8]) -> Option<EventWords<'static>>
+    ensures { option_map line_seen result ≡ give_line (words_of rest.now) }
+{
+    let (part, rest) = number_first(rest)?;
+    let most = read_most(only_word(rest)?)?;
+    Some(EventWords::Give { part, most })
+}
+
+/// `giveat P K`
+fn give_at_line(rest: &[u8]) -> Option<EventWords<'static>>
+    ensures { option_map line_seen result ≡ give_at_line (words_of rest.now) }
+{
+    let (part, rest) = number_first(rest)?;
+    let key = Key::read_bytes(only_word(rest)?)?;
+    Some(EventWords::GiveAt { part, key })
+}
+
+/// `load I`
+fn load_line(rest: &[u8]) -> Option<EventWords<'static>>
+    ensures { option_map line_seen result ≡ load_line (words_of rest.now) }
+{
+    let chunk = read_number(only_word(rest)?)?;
+    Some(EventWords::Load(chunk))
+}
+
+/// `finish P S`
+fn finish_line(rest: &[u8]) -> Option<EventWords<'static>>
+    ensures { option_map line_seen result ≡ finish_line (words_of rest.now) }
+{
+    let (part, rest) = number_first(rest)?;
+    let sub = read_number(only_word(rest)?)?;
+    Some(EventWords::Finish { part, sub })
+}
+
+/// `send NODE`
+fn send_line(rest: &[u8]) -> Option<EventWords<'static>>
+    ensures { option_map line_seen result ≡ send_line (words_of rest.now) }
+{
+    let node = read_node(only_word(rest)?)?;
+    Some(EventWords::Send(node))
+}
+
+/// `deliver I NODE`
+fn deliver_line(rest: &[u8]) -> Option<EventWords<'static>>
+    ensures { option_map line_seen result ≡ deliver_line (words_of rest.now) }
+{
+    let (message, rest) = number_first(rest)?;
+    let node = read_node(only_word(rest)?)?;
+    Some(EventWords::Deliver { message, node })
+}
+
+/// `route R K`
+fn route_line(rest: &[u8]) -> Option<EventWords<'static>>
+    ensures { option_map line_seen result ≡ route_line (words_of rest.now) }
+{
+    let (router, rest) = number_first(rest)?;
+    let key = Key::read_bytes(only_word(rest)?)?;
+    Some(EventWords::Route { router, key })
+}
+
+/// The number of the last move that was followed: the one word, or 0 where no word is left.
+fn after_first(rest: &[u8]) -> Option<u32>
+    ensures { result ≡ after_of (words_of rest.now) }
+{
+    if no_word(rest).is_some() {
+        return Some(0);
+    }
+    read_number(only_word(rest)?)
+}
+
+/// `serve P K`, or `serve P K N`
+fn serve_line(rest: &[u8]) -> Option<EventWords<'static>>
+    ensures { option_map line_seen result ≡ serve_line (words_of rest.now) }
+{
+    let (part, rest) = number_first(rest)?;
+    let (word, rest) = next_word(rest)?;
+    let key = Key::read_bytes(word)?;
+    let after = after_first(rest)?;
+    Some(EventWords::Serve { part, key, after })
+}
+
+/// The event that a line writes whose first word is the name: None where the name is that of no
+/// event, or what stands after it has not that event's form.
+pub fn event_line<'a>(name: &[u8], rest: &'a [u8]) -> Option<EventWords<'a>>
+    ensures { option_map line_seen result ≡ event_line name.now (words_of rest.now) (from_first is_letter rest.now) }
+{
+    if name == b"open".as_slice() {
+        no_word(rest)?;
+        return Some(EventWords::Open);
+    }
+    if name == b"begin".as_slice() {
+        return Some(EventWords::Begin(after_blanks(rest)));
+    }
+    if name == b"give".as_slice() {
+        return give_line(rest);
+    }
+    if name == b"giveat".as_slice() {
+        return give_at_line(rest);
+    }
+    if name == b"load".as_slice() {
+        return load_line(rest);
+    }
+    if name == b"finish".as_slice() {
+        return finish_line(rest);
+    }
+    if name == b"send".as_slice() {
+        return send_line(rest);
+    }
+    if name == b"deliver".as_slice() {
+        return deliver_line(rest);
+    }
+    if name == b"route".as_slice() {
+        return route_line(rest);
+    }
+    if name == b"serve".as_slice() {
+        return serve_line(rest);
+    }
+    None
+}

@@ -1,0 +1,30 @@
+use Rattle.std.proofs.Common.{inl, inr, Err, refl}
+use Rattle.squall_cli_lines.specs.declared.RunFault.TheVariants.{NoMemory}
+use Rattle.squall_cli_run.specs.Told.{fault_told, IsNamed, NamesIt}
+use Rattle.squall_cli_run.proofs.TaskLemmas.{nothing_done, device_of_words, help_unwritten}
+use Rattle.squall_cli_run.proofs.Telling.{told_of}
+use Rattle.squall_cli_command.specs.Line.{words_of, job_seen}
+use Rattle.squall_cli_run.proofs.program.perform.Goals as goal
+
+pub returns-in-Ok-clause-device : goal.returns-in-Ok-clause-device
+returns-in-Ok-clause-device g c = λ e. device_of_words _ _ (words_of c.args.words.now) (job_seen c.in-Ok.task) c.in-Ok.ensures.task (c.do_task.ensures.device e)
+
+pub returns-in-Ok-clause-told : goal.returns-in-Ok-clause-told
+returns-in-Ok-clause-told g c =
+    let t = c.do_task.ensures.told in
+    (t.0, told_of (IsNamed (job_seen c.in-Ok.task)) (NamesIt (words_of c.args.words.now)) c.do_task.result t.0 (λ name named. (job_seen c.in-Ok.task, c.in-Ok.ensures.task, named)) t.1, t.2)
+
+pub returns-in-Err-Help-clause-device : goal.returns-in-Err-Help-clause-device
+returns-in-Err-Help-clause-device g c = λ e. inr (inl (c.show_help.ensures.device e))
+
+pub returns-in-Err-Bad-clause-device : goal.returns-in-Err-Bad-clause-device
+returns-in-Err-Bad-clause-device g c = λ e. absurd (c.show_fault.ensures.device e)
+
+pub returns-in-Err-NoMemory-clause-done : goal.returns-in-Err-NoMemory-clause-done
+returns-in-Err-NoMemory-clause-done g c = λ job asks. nothing_done (g.F.Files.known c.args.files.now) (g.S.Source.state c.args.input.now).remaining (g.O.Sink.state c.args.out.now).contents job c.tell_fault.result c.tell_fault.ensures.status
+
+pub returns-in-Err-NoMemory-clause-help : goal.returns-in-Err-NoMemory-clause-help
+returns-in-Err-NoMemory-clause-help g c = λ _. help_unwritten (g.O.Sink.state c.args.out.now) c.tell_fault.result c.tell_fault.ensures.status
+
+pub returns-in-Err-NoMemory-clause-told : goal.returns-in-Err-NoMemory-clause-told
+returns-in-Err-NoMemory-clause-told g c = (fault_told NoMemory, inl (Err NoMemory, c.tell_fault.ensures.status, refl), c.tell_fault.ensures.told)

@@ -1,0 +1,17 @@
+use Rattle.std.proofs.Common.{false, inl, Err, refl}
+use Rattle.std.specs.Prelude.{string_bytes}
+use Rattle.squall_cli_lines.specs.declared.RunFault.TheVariants.{NoMemory}
+use Rattle.squall_cli_run.specs.Told.{fault_told}
+use Rattle.squall_cli_run.proofs.TaskLemmas.{help_unwritten}
+use Rattle.squall_cli_run.proofs.program.show_help.Goals as goal
+
+pub returns-in_default-clause-help : goal.returns-in_default-clause-help
+returns-in_default-clause-help g c = λ _. help_unwritten (g.O.Sink.state c.args.out.now) c.tell_fault.result c.tell_fault.ensures.status
+
+pub returns-in_default-clause-told : goal.returns-in_default-clause-told
+returns-in_default-clause-told g c = (fault_told NoMemory, inl (Err NoMemory, c.tell_fault.ensures.status, refl), c.tell_fault.ensures.told)
+
+pub returns-clause-help : goal.returns-clause-help
+returns-clause-help g c = λ asks.
+    let w = c.write_output.ensures.written (record { text = string_bytes c.in-Ok.help; refused = false }) (c.as_str.ensures.value, refl) in
+    (c.write_output.result, string_bytes c.in-Ok.help, w.0, c.tell_outcome.ensures.status, c.in-Ok.ensures.help asks, w.1, w.2)

@@ -1,0 +1,27 @@
+use Rattle.std.proofs.Common.{◌≡◌, List, ℕ, ap, ◌∙◌}
+use Rattle.std.specs.Borrow.{Bor}
+use Rattle.squall_cli_command.specs.Line.{course, job_seen}
+use Rattle.squall_cli_run.specs.declared.tasks.Purpose.{Purpose}
+use Rattle.squall_cli_run.specs.Told.{IsNamed}
+use Rattle.squall_cli_run.proofs.Telling.{told_of, named_check, named_course, named_run, named_race}
+use Rattle.squall_cli_run.proofs.tasks.do_task.Goals.{in-Check, in-Run, in-Race}
+use Rattle.squall_cli_run.proofs.tasks.do_task.Goals as goal
+
+pub returns-in-Course-clause-told : goal.returns-in-Course-clause-told
+returns-in-Course-clause-told g c =
+    let t = c.course_files.ensures.told in
+    (t.0, told_of (IsNamed (course c.as_str-old.result.now c.as_str-new.result.now)) (IsNamed (job_seen c.args.task.now)) c.course_files.result t.0 (named_course (job_seen c.args.task.now) _ _ _ _ (ap job_seen c.in-Course.is) c.as_str-old.ensures.value c.as_str-new.ensures.value) t.1, t.2)
+
+abbrev file_name : Purpose × Bor (List ℕ) → List ℕ
+file_name file = file.1.now
+
+pub returns-clause-told : goal.returns-clause-told
+returns-clause-told g c =
+    let t = c.answer_file.ensures.told in
+    let job = job_seen c.args.task.now in
+    let named : (name : List ℕ) → name ≡ c.match-task.file.1.now → IsNamed job name = elim c.match-task.branch [
+      | in-Check w ↦ named_check job _ _ (ap job_seen w.in-Check.is) (ap file_name w.file-is ∙ w.as_str.ensures.value)
+      | in-Run w ↦ named_run job _ _ (ap job_seen w.in-Run.is) (ap file_name w.file-is ∙ w.as_str-in-Run.ensures.value)
+      | in-Race w ↦ named_race job _ _ (ap job_seen w.in-Race.is) (ap file_name w.file-is ∙ w.as_str-in-Race.ensures.value)
+    ] in
+    (t.0, told_of (λ name. name ≡ c.match-task.file.1.now) (IsNamed job) c.answer_file.result t.0 named t.1, t.2)

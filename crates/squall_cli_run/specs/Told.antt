@@ -1,0 +1,51 @@
+-- What is told on standard error, beside the status (this project's command line).
+use Rattle.std.specs.Prelude.{◌≡◌, ◌⊎◌, ℕ, List, [], ◌++◌, Result, Ok, Err, codes}
+use Rattle.std.specs.Io.{StartsWith}
+use Rattle.squall_cli_device.specs.States.{SinkState, TookBytes, OutputFails}
+use Rattle.squall_cli_lines.specs.Script.{IsPrefix}
+use Rattle.squall_cli_lines.specs.Faults.{text_of_run_fault}
+use Rattle.squall_cli_lines.specs.declared.Ended.{Ended}
+use Rattle.squall_cli_lines.specs.declared.RunFault.{RunFault}
+use Rattle.squall_cli_command.specs.Line.{Job, check, course, run, race, Asks}
+use Rattle.squall_cli_run.specs.Tasks.{status_of}
+
+-- ---- texts
+
+-- what is told of the fault that stopped a task: its own text after the program's name, on a line
+abbrev pub fault_told : RunFault → List ℕ
+fault_told fault = codes "squall: " ++ (text_of_run_fault fault ++ codes "\n")
+
+-- what is told of how a task ended: its fault, or nothing if it had none
+abbrev pub outcome_told : Result Ended RunFault → List ℕ
+outcome_told (Ok ended) = []
+outcome_told (Err fault) = fault_told fault
+
+-- what is told of a file that can't be opened: its name, on a line
+abbrev pub unopened_told : List ℕ → List ℕ
+unopened_told name = codes "squall: cannot open " ++ (name ++ codes "\n")
+
+-- ---- what was told
+
+-- a text was told: standard error took a prefix of it, and all of it unless a write there failed or took no byte
+abbrev pub Says : SinkState → SinkState → List ℕ → Type 0
+Says old new text = (said : List ℕ) × TookBytes old new said × IsPrefix said text × ((said ≡ text) ⊎ OutputFails old new)
+
+-- The text goes with the status: it is that of an outcome with this status; or, with status 3, that of a file that can't be opened
+-- and has one of these names; or, with status 2, it says what is wrong with the words.
+abbrev pub IsTold : (List ℕ → Type 0) → ℕ → List ℕ → Type 0
+IsTold named status text =
+    ((outcome : Result Ended RunFault) × (status ≡ status_of outcome) × (text ≡ outcome_told outcome))
+    ⊎ (((name : List ℕ) × named name × (status ≡ 3) × (text ≡ unopened_told name)) ⊎ ((status ≡ 2) × StartsWith text (codes "error: ")))
+
+-- ---- names
+
+-- the name is that of a file of the task
+abbrev pub IsNamed : Job → List ℕ → Type 0
+IsNamed (check plan) name = name ≡ plan
+IsNamed (course old new) name = (name ≡ old) ⊎ (name ≡ new)
+IsNamed (run file) name = name ≡ file
+IsNamed (race file) name = name ≡ file
+
+-- the words ask for a task that has a file of this name
+abbrev pub NamesIt : List (List ℕ) → List ℕ → Type 0
+NamesIt words name = (job : Job) × Asks words job × IsNamed job name

@@ -1,0 +1,185 @@
+//! What the program does for a task.
+
+ghost use Rattle.std.specs.Prelude.{◌≡◌, ◌≢◌, ◌⊎◌, ◌&&◌, ℕ, List, true, false, IfErr, IfOk, IsOk, Err};
+ghost use Rattle.squall_cli_device.specs.States.{FoundEnd, GaveAll, NoReadFails, OutputFails, NoWriteFails, ReadAndWrote};
+ghost use Rattle.squall_cli_lines.specs.Heeding.{InputFails};
+ghost use Rattle.squall_cli_command.specs.Line.{course, job_seen};
+ghost use Rattle.squall_cli_run.specs.Files.{is_input};
+ghost use Rattle.squall_cli_run.specs.Tasks.{status_of, bytes_at, inputs_at, ReadsFrom, ReadsAll, ShowsCourseWith, IsDone, EndsInput, NamesFile};
+ghost use Rattle.squall_cli_run.specs.Told.{IsNamed, IsTold, Says};
+ghost use Rattle.squall_cli_run.specs.Sources.{IsAnswered, NeedsAll, IsDoneBy, IsUnread};
+
+use crate::check::check_source;
+use crate::course::course_text;
+use crate::files::Files;
+use crate::messages::{tell_outcome, tell_read, tell_unopened};
+use crate::race::race_text;
+use crate::run_text;
+use squall_cli_command::Task;
+use squall_cli_device::{Sink, Source};
+use squall_cli_lines::{Ended, RunFault, read_all};
+use std::alloc::Global;
+use std::sync::Wait;
+use std::thread::Threads;
+
+/// What is done with the bytes of one file.
+#[derive(Clone, Copy)]
+pub(crate) enum Purpose {
+    /// Its plan is checked.
+    Check,
+    /// Its scenario is run.
+    Run,
+    /// Its race is run.
+    Race,
+}
+
+/// Does it with what the source gives.
+fn answer_source<R: Threads + Wait + Sync, S: Source, O: Sink>(
+    rt: &R,
+    alloc: Global,
+    purpose: Purpose,
+    source: &mut S,
+    out: &mut O,
+) -> Result<Ended, RunFault>
+    ensures text { ReadAndWrote (S.state source.old) (S.state source.new) (O.state out.old) (O.state out.new) (IsAnswered purpose result) }
+    ensures all { NeedsAll purpose (status_of result) → GaveAll (S.state source.old) (S.state source.new) }
+    ensures device { status_of result ≡ 3 → InputFails (S.state source.old) (S.state source.new) ⊎ OutputFails (O.state out.old) (O.state out.new) }
+    ensures heeds { status_of result ≢ 3 → NoReadFails (S.state source.old) (S.state source.new) × NoWriteFails (O.state out.old) (O.state out.new) }
+{
+    match purpose {
+        Purpose::Check => check_source(alloc, source, out),
+        Purpose::Run => run_text(alloc, source, out),
+        Purpose::Race => race_text(rt, alloc, source, out),
+    }
+}
+
+/// Does it with the bytes of a file, which is given by its purpose and its name.
+fn answer_file<R: Threads + Wait + Sync, F: Files, S: Source, O: Sink, E: Sink>(
+    rt: &R,
+    alloc: Global,
+    file: (Purpose, &str),
+    files: &mut F,
+    input: &mut S,
+    out: &mut O,
+    err: &mut E,
+) -> u8
+    ensures done { IsDoneBy file.entry.0 (bytes_at (F.known files.old) (S.state input.old) (O.state out.old))
+        (bytes_at (F.known files.new) (S.state input.new) (O.state out.new)) file.entry.1.now result }
+    ensures ended { is_input file.entry.1.now ≡ true → NeedsAll file.entry.0 result → FoundEnd (S.state input.old) (S.state input.new) }
+    ensures device { result ≡ 3 → InputFails (S.state input.old) (S.state input.new)
+        ⊎ (OutputFails (O.state out.old) (O.state out.new) ⊎ (is_input file.entry.1.now ≡ false)) }
+    ensures taken { result ≢ 2 }
+    ensures heeds { result ≢ 3 → NoReadFails (S.state input.old) (S.state input.new) × NoWriteFails (O.state out.old) (O.state out.new) }
+    ensures told { (text : List ℕ) × IsTold (λ name. name ≡ file.entry.1.now) result text × Says (E.state err.old) (E.state err.new) text }
+{
+    let (purpose, name) = file;
+    if name == "-" {
+        return tell_outcome(answer_source(rt, alloc, purpose, input, out), err);
+    }
+    match files.open(name) {
+        Some(mut file) => tell_outcome(answer_source(rt, alloc, purpose, &mut file, out), err),
+        None => tell_unopened(name, err),
+    }
+}
+
+/// The bytes of a file. If they can't be had, it says why, and gives the status.
+fn read_named<F: Files, S: Source, E: Sink>(
+    alloc: Global,
+    name: &str,
+    files: &mut F,
+    input: &mut S,
+    err: &mut E,
+) -> Result<Vec<u8>, u8>
+    ensures bytes { (read : List ℕ)
+        × ReadsFrom (inputs_at (F.known files.old) (S.state input.old)) (inputs_at (F.known files.new) (S.state input.new)) name.now read
+        × IfOk result (λ bytes. (bytes.items ≡ read)
+        × ReadsAll (inputs_at (F.known files.old) (S.state input.old)) (inputs_at (F.known files.new) (S.state input.new)) name.now read) }
+    ensures ended { is_input name.now ≡ true → IsOk result → FoundEnd (S.state input.old) (S.state input.new) }
+    ensures kept { is_input name.now ≡ false → input.new ≡ input.old }
+    ensures files { F.known files.new ≡ F.known files.old }
+    ensures fault { IfErr result IsUnread }
+    ensures device { IfErr result (λ status. status ≡ 3
+        → InputFails (S.state input.old) (S.state input.new) ⊎ (is_input name.now ≡ false)) }
+    ensures heeds { result ≢ Err 3 → NoReadFails (S.state input.old) (S.state input.new) }
+    ensures told { IfErr result (λ status. (text : List ℕ) × IsTold (λ file. file ≡ name.now) status text × Says (E.state err.old) (E.state err.new) text) }
+    ensures quiet { IsOk result → err.new ≡ err.old }
+{
+    if name == "-" {
+        return tell_read(read_all(alloc, input), err);
+    }
+    match files.open(name) {
+        Some(mut file) => tell_read(read_all(alloc, &mut file), err),
+        None => Err(tell_unopened(name, err)),
+    }
+}
+
+/// Whether both names are that of standard input.
+fn are_input(old: &str, new: &str) -> bool
+    ensures { result ≡ (is_input old.now && is_input new.now) }
+{
+    old == "-" && new == "-"
+}
+
+/// Shows the course between the plans of two files. If both are standard input, the second one is
+/// empty.
+fn course_files<F: Files, S: Source, O: Sink, E: Sink>(
+    alloc: Global,
+    old: &str,
+    new: &str,
+    files: &mut F,
+    input: &mut S,
+    out: &mut O,
+    err: &mut E,
+) -> u8
+    ensures done { ShowsCourseWith (bytes_at (F.known files.old) (S.state input.old) (O.state out.old))
+        (bytes_at (F.known files.new) (S.state input.new) (O.state out.new)) old.now new.now result }
+    ensures ended { EndsInput (course old.now new.now) result → FoundEnd (S.state input.old) (S.state input.new) }
+    ensures device { result ≡ 3 → InputFails (S.state input.old) (S.state input.new)
+        ⊎ (OutputFails (O.state out.old) (O.state out.new) ⊎ NamesFile (course old.now new.now)) }
+    ensures taken { result ≢ 2 }
+    ensures heeds { result ≢ 3 → NoReadFails (S.state input.old) (S.state input.new) × NoWriteFails (O.state out.old) (O.state out.new) }
+    ensures told { (text : List ℕ) × IsTold (IsNamed (course old.now new.now)) result text × Says (E.state err.old) (E.state err.new) text }
+{
+    let old_text = match read_named(alloc, old, files, input, err) {
+        Ok(text) => text,
+        Err(status) => return status,
+    };
+    if are_input(old, new) {
+        return tell_outcome(course_text(alloc, &old_text, &[], out), err);
+    }
+    match read_named(alloc, new, files, input, err) {
+        Ok(new_text) => tell_outcome(course_text(alloc, &old_text, &new_text, out), err),
+        Err(status) => status,
+    }
+}
+
+/// Does the task.
+pub(crate) fn do_task<R: Threads + Wait + Sync, F: Files, S: Source, O: Sink, E: Sink>(
+    rt: &R,
+    alloc: Global,
+    task: &Task,
+    files: &mut F,
+    input: &mut S,
+    out: &mut O,
+    err: &mut E,
+) -> u8
+    ensures done { IsDone (bytes_at (F.known files.old) (S.state input.old) (O.state out.old))
+        (bytes_at (F.known files.new) (S.state input.new) (O.state out.new)) (job_seen task.now) result }
+    ensures ended { EndsInput (job_seen task.now) result → FoundEnd (S.state input.old) (S.state input.new) }
+    ensures device { result ≡ 3 → InputFails (S.state input.old) (S.state input.new)
+        ⊎ (OutputFails (O.state out.old) (O.state out.new) ⊎ NamesFile (job_seen task.now)) }
+    ensures taken { result ≢ 2 }
+    ensures heeds { result ≢ 3 → NoReadFails (S.state input.old) (S.state input.new) × NoWriteFails (O.state out.old) (O.state out.new) }
+    ensures told { (text : List ℕ) × IsTold (IsNamed (job_seen task.now)) result text × Says (E.state err.old) (E.state err.new) text }
+{
+    let file = match task {
+        Task::Check(plan) => (Purpose::Check, plan.as_str()),
+        Task::Course(old, new) => {
+            let (old, new) = (old.as_str(), new.as_str());
+            return course_files(alloc, old, new, files, input, out, err);
+        }
+        Task::Run(file) => (Purpose::Run, file.as_str()),
+        Task::Race(file) => (Purpose::Race, file.as_str()),
+    };
+    answer_file(rt, alloc, file, files, input, out, err)
+}

@@ -1,0 +1,15 @@
+//! Scenarios: lines that set up plans, bring reports, let events happen in a world, and ask, and what
+//! answers them.
+//!
+//! Its tests are in `crates/squall_test_runs/src/scenario.rt`.
+#![tactic(auto)]
+
+mod command;
+mod frames;
+pub mod laws;
+mod legs;
+mod replies;
+mod scenario;
+mod worlds;
+
+pub use scenario::Scenario;

@@ -1,0 +1,78 @@
+//! The lines that make a world, and those of its events.
+
+ghost use Rattle.std.specs.Prelude.{◌≡◌, ◌≤◌, ◌<◌, ◌↔◌, ◌++◌, IfOk, IfErr, OnOk, string_bytes};
+ghost use Rattle.squall_protocol.specs.Worlds.{most_routers, start};
+ghost use Rattle.squall_world.specs.declared.steps.WorldFault.TheVariants.{TooManyRouters};
+ghost use Rattle.squall_world.specs.Views.{view};
+ghost use Rattle.squall_cli_scenario.specs.Replies.{world_text, world_reply, happen_reply};
+ghost use Rattle.squall_cli_scenario.specs.Answered.{Answers};
+ghost use Rattle.squall_cli_scenario.specs.Stages.{meant};
+
+use crate::scenario::{Scenario, Stage};
+use squall_cli_events::{Unfit, add_answer};
+use squall_cli_words::Reason;
+use squall_router::Router;
+use squall_world::{Event, World, WorldFault};
+use std::alloc::{AllocError, Global};
+
+/// The world of the router's first course, with so many routers; or why there is none.
+fn world_of(alloc: Global, router: &Router, routers: u32) -> Result<World, WorldFault>
+    requires { router.now.first.number ≡ 1 }
+    ensures ok { IfOk result (λ w. view w ≡ start router.now.first.old router.now.first.new routers) }
+    ensures few { OnOk result (routers ≤ most_routers) }
+    ensures err { IfErr result (λ e. (e ≡ TooManyRouters) ↔ (most_routers < routers)) }
+{
+    World::over(alloc, router.first(), routers)
+}
+
+/// Adds how many partitions and routers there are.
+fn add_world(world: &World, routers: u32, out: &mut String) -> Result<(), AllocError>
+    ensures { OnOk result (string_bytes out.new ≡ string_bytes out.old ++ world_text (view world.now).parts routers) }
+{
+    let parts = world.parts();
+    write!(out, "world {parts} {routers}\n")
+}
+
+/// Makes a world, once both plans are read.
+pub(crate) fn make_world(
+    scenario: &mut Scenario,
+    routers: u32,
+    out: &mut String,
+) -> Result<Option<Reason>, AllocError>
+    ensures { Answers result (string_bytes out.old) (string_bytes out.new) (meant scenario.new)
+        (world_reply (meant scenario.old) (meant scenario.old).stage routers) }
+{
+    let Stage::Running(router) = &scenario.stage else {
+        return Ok(Some(Reason::Order));
+    };
+    let world = match world_of(*out.allocator(), router, routers) {
+        Ok(world) => world,
+        Err(WorldFault::TooManyRouters) => return Ok(Some(Reason::Limit)),
+        Err(WorldFault::NoMemory) => return Err(AllocError),
+    };
+    add_world(&world, routers, out)?;
+    scenario.stage = Stage::Happening(world);
+    Ok(None)
+}
+
+/// Lets the event happen, once there is a world, or tells why the line is none.
+pub(crate) fn happen(
+    scenario: &mut Scenario,
+    event: Result<Event, Unfit>,
+    out: &mut String,
+) -> Result<Option<Reason>, AllocError>
+    ensures { Answers result (string_bytes out.old) (string_bytes out.new) (meant scenario.new)
+        (happen_reply (meant scenario.old) (meant scenario.old).stage event) }
+{
+    let Stage::Happening(world) = &mut scenario.stage else {
+        return Ok(Some(Reason::Order));
+    };
+    let event = match event {
+        Ok(event) => event,
+        Err(Unfit::OverLimit) => return Ok(Some(Reason::Limit)),
+        Err(Unfit::NoPlan(fault)) => return Ok(Some(Reason::Plan(fault))),
+    };
+    let answer = world.step(&event)?;
+    add_answer(&event, &answer, out)?;
+    Ok(None)
+}

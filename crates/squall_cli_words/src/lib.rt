@@ -1,0 +1,16 @@
+//! What scenarios and races are written in: the words of their lines, reports as lines, why a line is
+//! bad, and how a board is shown.
+//!
+//! Its tests are in `crates/squall_test_lines/src/language.rt`.
+#![tactic(auto)]
+
+mod board_text;
+mod plans;
+mod reason;
+mod reports;
+pub mod words;
+
+pub use board_text::add_board;
+pub use plans::read_plan;
+pub use reason::{Reason, add_bad_line};
+pub use reports::{ReportWords, report_line};

@@ -1,6 +1,0 @@
-use Rattle.std.proofs.Common.{◌≡◌, map}
-use Rattle.squall_race.specs.RaceFiles.{silent}
-use Rattle.squall_race.proofs.file.silent.Given as goal
-
-abbrev pub invariant-loop : goal.invariant-loop
-invariant-loop l = map (λ r. r.items) l.lists.items ≡ silent l.counter

@@ -1,5 +1,0 @@
-use Rattle.squall_race.proofs.Endings.{one_text}
-use Rattle.squall_race.proofs.laws.one_race_text.Goals as goal
-
-pub returns : goal.returns
-returns c = one_text

@@ -1,9 +1,0 @@
-use Rattle.std.proofs.Common.{◌≡◌}
-use Rattle.squall_run.proofs.Telling.{read_told}
-use Rattle.squall_run.proofs.tasks.read_named.Goals as goal
-
-pub returns-then-eq-clause-told : goal.returns-then-eq-clause-told
-returns-then-eq-clause-told g c = read_told c.read_all.result c.tell_read.result (λ file. file ≡ c.args.name.now) _ _ _ _ _ _ c.tell_read.ensures.fault
-
-pub returns-in-Some-clause-told : goal.returns-in-Some-clause-told
-returns-in-Some-clause-told g c = read_told c.read_all-in-Some.result c.tell_read-in-Some.result (λ file. file ≡ c.args.name.now) _ _ _ _ _ _ c.tell_read-in-Some.ensures.fault

@@ -1,5 +1,0 @@
-use Rattle.squall_scenario.proofs.OneScript.{one_script}
-use Rattle.squall_scenario.proofs.laws.one_script.Goals as goal
-
-pub returns : goal.returns
-returns c = one_script

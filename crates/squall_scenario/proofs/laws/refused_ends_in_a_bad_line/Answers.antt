@@ -1,5 +1,0 @@
-use Rattle.squall_scenario.proofs.Refusals.{refused_ends}
-use Rattle.squall_scenario.proofs.laws.refused_ends_in_a_bad_line.Goals as goal
-
-pub returns : goal.returns
-returns c = refused_ends
