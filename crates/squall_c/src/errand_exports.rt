@@ -96,7 +96,8 @@ pub unsafe extern "C" fn squall_errand_heed(
 ) -> u32
     ghost s: { ErrandSlot }
     requires* { sem 𝓛 (errand_at errand s) }
-    ensures* { sem 𝓛 (errand_such errand (λ now. (result ≡ (heeded s (reply_of reply part number)).answer) × (now ≡ (heeded s (reply_of reply part number)).slot))) }
+    ensures* { sem 𝓛 (errand_such errand (λ now. (result ≡ (heeded s (reply_of reply part number)).answer)
+        × (now ≡ (heeded s (reply_of reply part number)).slot))) }
 {
     heed(&mut *(errand as *mut ErrandSlot), reply, part, number)
 }

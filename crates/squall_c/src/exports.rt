@@ -161,7 +161,8 @@ pub unsafe extern "C" fn squall_router_legs(
     ghost s: { RouterSlot }
     requires* { sem 𝓛 (router_at router s) }
     ensures* { sem 𝓛 (router_at router s)
-        ∗ ⌜ (room.new ≡ over (that_fit (legs_of_station s.station lo hi) room.old) room.old) × (result ≡ length (that_fit (legs_of_station s.station lo hi) room.old)) ⌝ }
+        ∗ ⌜ (room.new ≡ over (that_fit (legs_of_station s.station lo hi) room.old) room.old)
+        × (result ≡ length (that_fit (legs_of_station s.station lo hi) room.old)) ⌝ }
 {
     legs(&*(router as *const RouterSlot), lo, hi, room)
 }
@@ -218,7 +219,8 @@ pub unsafe extern "C" fn squall_router_gather_repair(router: *mut CRouter) -> u3
 pub unsafe extern "C" fn squall_router_frame(router: *mut CRouter, room: &mut [u8]) -> usize
     ghost s: { RouterSlot }
     requires* { sem 𝓛 (router_at router s) }
-    ensures* { sem 𝓛 (router_such router (λ now. (room.new ≡ room_after (waiting_frames s.station) room.old) × (now ≡ slot_after s room.old) × (result ≡ first_length (waiting_frames s.station)))) }
+    ensures* { sem 𝓛 (router_such router (λ now. (room.new ≡ room_after (waiting_frames s.station) room.old) × (now ≡ slot_after s room.old)
+        × (result ≡ first_length (waiting_frames s.station)))) }
 {
     next_frame(&mut *(router as *mut RouterSlot), room)
 }

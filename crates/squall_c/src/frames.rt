@@ -3,7 +3,9 @@
 ghost use Rattle.std.specs.Prelude.{◌≡◌, [], ◌∷◌, ◌++◌, IfOk, OnOk, OnErr};
 ghost use Rattle.squall_wire.specs.declared.message.Message.TheVariants.{Delta as DeltaMessage};
 ghost use Rattle.squall_wire.specs.Messages.{spell};
-ghost use Rattle.squall_c.specs.Frames.{frames_of, ArePieceFrames, IsDigestFrame, AreRepairFrames, KeepsFrames, KeepsRepair, KeepsDigest, GathersBoard, GathersDigest, GathersRepair, waiting_frames, frames_after, room_after, first_length, slot_after};
+ghost use Rattle.squall_c.specs.Frames.{frames_of, ArePieceFrames, IsDigestFrame, AreRepairFrames, KeepsFrames, KeepsRepair, KeepsDigest};
+ghost use Rattle.squall_c.specs.Frames.{GathersBoard, GathersDigest, GathersRepair, waiting_frames, frames_after, room_after, first_length};
+ghost use Rattle.squall_c.specs.Frames.{slot_after};
 
 use crate::router::{RouterSlot, Station};
 use crate::status::{CLOSED, NO_DIGEST, NO_MEMORY, OK, TOO_LONG, memory_status};
