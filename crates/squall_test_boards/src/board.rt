@@ -1,4 +1,4 @@
-//! Tests of boards.
+//! Queries of boards.
 
 mod clients;
 mod listed;
@@ -8,40 +8,13 @@ mod tolerant;
 
 use squall_board::*;
 use squall_course::Course;
+use squall_example::{NEW, OLD, course, issue, load};
 use squall_join::Flat;
-use squall_key::{Bound, Key, PartId};
-use squall_plan::Plan;
-use squall_report::{Issue, Report};
-use squall_span::Span;
+use squall_key::{Key, PartId};
+use squall_report::Report;
 use std::alloc::{AllocError, Global};
 use std::process::Abort;
 use std::test::Fail;
-
-pub(crate) const OLD: &str =
-    "{\"plan\":[{\"part\":1,\"from\":[0,0],\"to\":[3,0]},{\"part\":2,\"from\":[3,0],\"to\":[5,0]},{\"part\":3,\"from\":[5,0],\"to\":[9,0]},{\"part\":4,\"from\":[9,0],\"to\":\"end\"}]}";
-
-pub(crate) const NEW: &str =
-    "{\"plan\":[{\"part\":1,\"from\":[0,0],\"to\":[2,0]},{\"part\":2,\"from\":[3,0],\"to\":[5,0]},{\"part\":3,\"from\":[2,0],\"to\":[3,0]},{\"part\":3,\"from\":[5,0],\"to\":[6,0]},{\"part\":4,\"from\":[6,0],\"to\":\"end\"}]}";
-
-/// The plan of a text.
-pub(crate) fn plan(alloc: Global, text: &str) -> Result<Plan, Fail> {
-    let plan = Plan::read(alloc, text.as_bytes()).ok().ok_or("plan")?;
-    Ok(plan)
-}
-
-/// Course 1 of the example plans.
-fn course(alloc: Global) -> Result<Course, Fail> {
-    let old = plan(alloc, OLD)?;
-    let new = plan(alloc, NEW)?;
-    let course = Course::new(alloc, 1, &old, &new).ok().ok_or("course")?;
-    Ok(course)
-}
-
-/// The report of a load at partition 3, in sub-plan 0 of number 1.
-pub(crate) fn load(lo: &str, hi: &str) -> Option<Report> {
-    let span = Span::new(Bound::read(lo)?, Bound::read(hi)?)?;
-    Report::loaded(1, 0, 3, span)
-}
 
 /// The board of these reports.
 pub(crate) fn board_of(alloc: Global, reports: &[Report]) -> Result<Board, AllocError> {
@@ -73,7 +46,7 @@ pub(crate) fn take(board: &mut Board, report: Option<Report>) -> Result<(), Fail
 
 /// Whether the board sends the key to the partition, by course 1 of the example plans.
 fn sends(alloc: Global, board: &Board, key: Key, part: u32) -> Result<bool, Fail> {
-    let course = course(alloc)?;
+    let course = course(alloc).ok_or("a course")?;
     Ok(Some(board.route(&course, key)) == PartId::new(part))
 }
 
@@ -234,10 +207,8 @@ fn copies_and_cuts(rt: HostRuntime) -> Result<(), Fail> {
 }
 
 /// The report that the plan of a text follows that of another under the number.
-pub(crate) fn issue(alloc: Global, number: u32, old: &str, new: &str) -> Result<Report, Fail> {
-    let issue = Issue::new(alloc, &plan(alloc, old)?, &plan(alloc, new)?)?;
-    let report = Report::issued(number, issue).ok_or("issue")?;
-    Ok(report)
+pub(crate) fn issued(alloc: Global, number: u32, old: &str, new: &str) -> Option<Report> {
+    Report::issued(number, issue(alloc, old, new)?)
 }
 
 /// Takes that one plan follows the other under the number.
@@ -248,9 +219,7 @@ fn take_issue(
     old: &str,
     new: &str,
 ) -> Result<(), Fail> {
-    let report = issue(alloc, number, old, new)?;
-    board.take(&report)?;
-    Ok(())
+    take(board, issued(alloc, number, old, new))
 }
 
 /// Whether one issue of the number is known.
@@ -285,7 +254,7 @@ fn newest_after(board: &Board, course: &Course) -> Option<u32> {
 
 /// The number of the newest course after course 1.
 fn newest_number(alloc: Global, board: &Board) -> Result<Option<u32>, Fail> {
-    let course = course(alloc)?;
+    let course = course(alloc).ok_or("a course")?;
     Ok(newest_after(board, &course))
 }
 

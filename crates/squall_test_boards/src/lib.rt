@@ -1,4 +1,4 @@
-//! Tests of boards, over public names alone. There is nothing here to call.
+//! Queries of boards, over public names alone. There is nothing here to call.
 #![tactic(auto)]
 
 #[cfg(test)]

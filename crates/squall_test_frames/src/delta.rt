@@ -1,4 +1,4 @@
-//! Tests of what boards send each other.
+//! Queries of what boards send each other.
 
 mod pieces;
 mod repairs;

@@ -1,4 +1,4 @@
-//! Tests of frames and of what boards send each other, over public names alone. There is nothing here to call.
+//! Queries of frames and of what boards send each other, over public names alone. There is nothing here to call.
 #![tactic(auto)]
 
 #[cfg(test)]

@@ -1,4 +1,4 @@
-//! Tests of frames.
+//! Queries of frames.
 
 mod clients;
 mod digests;

@@ -1,5 +1,5 @@
 // Words of command lines, what they ask for, and what is shown for them.
-use squall_command::*;
+use squall_cli_command::*;
 use std::alloc::{AllocError, Global};
 use std::test::Fail;
 

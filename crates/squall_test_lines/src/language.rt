@@ -1,7 +1,7 @@
 // Words, reports as lines, plans, and what is written of boards and bad lines.
 use squall_board::Board;
-use squall_language::words::{cell_first, no_word, number_first, two_bounds, two_words};
-use squall_language::{Reason, add_bad_line, add_board, read_plan, report_line};
+use squall_cli_words::words::{cell_first, no_word, number_first, two_bounds, two_words};
+use squall_cli_words::{Reason, add_bad_line, add_board, read_plan, report_line};
 use squall_plan::PlanFault;
 use std::alloc::{AllocError, Global};
 use std::test::Fail;

@@ -1,8 +1,8 @@
 // Runs over readers and writers that give and take one byte, or fail, and the words of lines.
-use squall_device::{Reader, Writer};
-use squall_lines::machine::Machine;
-use squall_lines::words::{after_blanks, next_word, only_word, without_cr};
-use squall_lines::{Ended, Flow, LONGEST_PIECE, RunFault, next_line, read_all, run};
+use squall_cli_device::{Reader, Writer};
+use squall_cli_lines::machine::Machine;
+use squall_cli_lines::words::{after_blanks, next_word, only_word, without_cr};
+use squall_cli_lines::{Ended, Flow, LONGEST_PIECE, RunFault, next_line, read_all, run};
 use std::alloc::{AllocError, Global};
 use std::io;
 use std::io::{ErrorKind, Read, Write};
@@ -13,8 +13,8 @@ use std::test::Fail;
 struct Sample;
 
 impl Machine for Sample {
-    ghost use Rattle.squall_lines.specs.Sample.{sample_script};
-    ghost use Rattle.squall_lines.specs.Script.{PlaysOnly};
+    ghost use Rattle.squall_cli_lines.specs.Sample.{sample_script};
+    ghost use Rattle.squall_cli_lines.specs.Script.{PlaysOnly};
     ghost use Rattle.std.specs.Prelude.{refl};
 
     ghost plays = { λ s. PlaysOnly sample_script };
@@ -48,7 +48,7 @@ struct Numbers {
 }
 
 impl Machine for Numbers {
-    ghost use Rattle.squall_lines.specs.Sample.{AnswersEach};
+    ghost use Rattle.squall_cli_lines.specs.Sample.{AnswersEach};
     ghost use Rattle.std.specs.Prelude.{refl};
 
     ghost plays = { λ s. AnswersEach };

@@ -3,9 +3,9 @@
 mod clients;
 mod tolerant;
 
-use crate::example::{NEW, OLD, plan};
 use squall_board::Board;
 use squall_course::Course;
+use squall_example::{NEW, OLD, plan};
 use squall_join::Flat;
 use squall_leader::{Leader, LeaderFault};
 use squall_plan::{Plan, PlanRange};

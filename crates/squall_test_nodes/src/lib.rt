@@ -1,4 +1,4 @@
-//! Tests of routers, partitions, leaders and worlds, over public names alone. There is nothing here to call.
+//! Queries of routers, partitions, leaders and worlds, over public names alone. There is nothing here to call.
 #![tactic(auto)]
 
 #[cfg(test)]

@@ -3,13 +3,14 @@
 
 mod tolerant;
 
-use crate::example::{NEW, OLD, course, issue};
+use crate::example::{course, issued};
 use squall_board::Board;
 use squall_errand::Reply;
-use squall_key::{Bound, Key, PartId};
+use squall_example::{NEW, OLD, span};
+use squall_key::{Key, PartId};
 use squall_part::{Chunk, FinishFault, GiveFault, Load, LoadFault, Part};
 use squall_report::{Report, ReportKind};
-use squall_span::{Span, SpanSet};
+use squall_span::SpanSet;
 use std::alloc::{AllocError, Global};
 use std::process::Abort;
 use std::test::Fail;
@@ -35,13 +36,13 @@ fn hears_opening(alloc: Global, part: &mut Part, number: u32) -> Option<bool> {
 
 /// Whether the partition has heard of the way back. None where an allocation failed before.
 fn hears_of_way_back(alloc: Global, part: &mut Part) -> Option<bool> {
-    let report = issue(alloc, 2, NEW, OLD)?;
+    let report = issued(alloc, 2, NEW, OLD)?;
     Some(hears(alloc, part, &report))
 }
 
 /// A chunk of the keys from 2:0 on, below the bound, for partition 3.
 fn chunk(number: u32, sub: u32, source: u32, hi: &str) -> Option<Chunk> {
-    let span = Span::new(Bound::read("2:0")?, Bound::read(hi)?)?;
+    let span = span("2:0", hi)?;
     Chunk::new(number, sub, PartId::new(source)?, PartId::new(3)?, span)
 }
 

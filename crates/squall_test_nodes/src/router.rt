@@ -1,4 +1,4 @@
-//! Tests of routers and errands. The plans, reports and partitions were worked out by hand.
+//! Queries of routers and errands. The plans, reports and partitions were worked out by hand.
 
 mod clients;
 mod errands;
@@ -7,12 +7,11 @@ mod takes;
 mod tolerant;
 mod ways;
 
-use crate::example::{NEW, OLD, course, issue};
+use crate::example::{course, issued};
 use squall_board::Board;
-use squall_key::Bound;
+use squall_example::{NEW, OLD, span};
 use squall_report::Report;
 use squall_router::Router;
-use squall_span::Span;
 use std::alloc::Global;
 
 /// What a message tells.
@@ -38,8 +37,7 @@ pub(crate) enum Said {
 
 /// The report of a load from 2:0 on at partition 3, in a sub-plan of number 1.
 fn load(sub: u32, hi: &str) -> Option<Report> {
-    let span = Span::new(Bound::read("2:0")?, Bound::read(hi)?)?;
-    Report::loaded(1, sub, 3, span)
+    Report::loaded(1, sub, 3, span("2:0", hi)?)
 }
 
 /// The report of what is said.
@@ -51,8 +49,8 @@ pub(crate) fn report(alloc: Global, said: Said) -> Option<Report> {
         Said::Astray => load(1, "3:0"),
         Said::Opened => Report::opened(1, 0),
         Said::Done => Report::done(1, 0, 4),
-        Said::There(number) => issue(alloc, number, OLD, NEW),
-        Said::Back(number) => issue(alloc, number, NEW, OLD),
+        Said::There(number) => issued(alloc, number, OLD, NEW),
+        Said::Back(number) => issued(alloc, number, NEW, OLD),
     }
 }
 

@@ -3,6 +3,7 @@
 
 mod calls;
 mod clients;
+mod over;
 mod tolerant;
 
 use squall_errand::Reply;

@@ -1,4 +1,4 @@
-//! Tests of plans, courses and reports, over public names alone. There is nothing here to call.
+//! Queries of plans, courses and reports, over public names alone. There is nothing here to call.
 #![tactic(auto)]
 
 #[cfg(test)]

@@ -1,21 +1,16 @@
-//! Tests of plans.
+//! Queries of plans.
 
 mod clients;
 mod tolerant;
 
 use crate::course::step;
+use squall_example::{NEW, OLD};
 use squall_key::{Bound, Key, PartId};
 use squall_plan::{Plan, PlanFault, PlanRange};
 use squall_span::Span;
 use std::alloc::{AllocError, Global};
 use std::process::Abort;
 use std::test::Fail;
-
-const OLD: &str =
-    "{\"plan\":[{\"part\":1,\"from\":[0,0],\"to\":[3,0]},{\"part\":2,\"from\":[3,0],\"to\":[5,0]},{\"part\":3,\"from\":[5,0],\"to\":[9,0]},{\"part\":4,\"from\":[9,0],\"to\":\"end\"}]}";
-
-const NEW: &str =
-    "{\"plan\":[{\"part\":1,\"from\":[0,0],\"to\":[2,0]},{\"part\":2,\"from\":[3,0],\"to\":[5,0]},{\"part\":3,\"from\":[2,0],\"to\":[3,0]},{\"part\":3,\"from\":[5,0],\"to\":[6,0]},{\"part\":4,\"from\":[6,0],\"to\":\"end\"}]}";
 
 /// Writes the range, and a semicolon after it.
 fn write_range(out: &mut String, range: &PlanRange) -> Result<(), AllocError> {
@@ -57,9 +52,9 @@ fn shows(rt: &impl Abort, alloc: Global, text: &[u8], wanted: &str) -> Result<()
     Ok(())
 }
 
-/// A text with this entry alone is shown so.
-fn one_shows(rt: &impl Abort, alloc: Global, entry: &str, wanted: &str) -> Result<(), Fail> {
-    let text = format!(in alloc; "{{\"plan\":[{entry}]}}")?;
+/// A text with these entries alone is shown so.
+fn entries_show(rt: &impl Abort, alloc: Global, entries: &str, wanted: &str) -> Result<(), Fail> {
+    let text = format!(in alloc; "{{\"plan\":[{entries}]}}")?;
     shows(rt, alloc, text.as_bytes(), wanted)
 }
 
@@ -85,21 +80,20 @@ fn range(rt: &impl Abort, number: u32, lo: &str, hi: &str) -> PlanRange {
 fn texts(rt: HostRuntime) -> Result<(), Fail> {
     let old = "1 [0:0,3:0);2 [3:0,5:0);3 [5:0,9:0);4 [9:0,end);";
     let new = "1 [0:0,2:0);3 [2:0,3:0);2 [3:0,5:0);3 [5:0,6:0);4 [6:0,end);";
-    let one =
-        "{\"plan\":[{\"part\":9999,\"from\":[0,0],\"to\":[4294967295,0],\"note\":\"x\"}],\"v\":1}";
+    let one = r#"{"plan":[{"part":9999,"from":[0,0],"to":[4294967295,0],"note":"x"}],"v":1}"#;
     shows(&rt, rt.alloc(), &[255], "Json")?;
     for (text, wanted) in [
         (OLD, old),
         (NEW, new),
         (one, "9999 [0:0,end);"),
         ("", "Json"),
-        ("{\"plan\":[", "Json"),
+        (r#"{"plan":["#, "Json"),
         ("[]", "Shape"),
-        ("{\"plan\":{}}", "Shape"),
+        (r#"{"plan":{}}"#, "Shape"),
         ("{}", "Shape"),
-        ("{\"plan\":[]}", "Gap 0:0"),
-        ("{\"plan\":[],\"plan\":{}}", "Shape"),
-        ("{\"plan\":{},\"plan\":[]}", "Gap 0:0"),
+        (r#"{"plan":[]}"#, "Gap 0:0"),
+        (r#"{"plan":[],"plan":{}}"#, "Shape"),
+        (r#"{"plan":{},"plan":[]}"#, "Gap 0:0"),
     ] {
         shows(&rt, rt.alloc(), text.as_bytes(), wanted)?;
     }
@@ -109,51 +103,65 @@ fn texts(rt: HostRuntime) -> Result<(), Fail> {
 #[test]
 fn entries_that_are_no_ranges(rt: HostRuntime) -> Result<(), Fail> {
     for (entry, wanted) in [
-        ("{\"part\":1,\"from\":[0,0]}", "Shape 0"),
-        ("{\"part\":-1,\"from\":[0,0],\"to\":\"end\"}", "Shape 0"),
-        ("{\"part\":1,\"from\":[0,0],\"to\":\"END\"}", "Shape 0"),
-        ("{\"part\":1.0,\"from\":[0,0],\"to\":\"end\"}", "Shape 0"),
-        ("{\"part\":1e0,\"from\":[0,0],\"to\":\"end\"}", "Shape 0"),
-        ("{\"part\":-0,\"from\":[0,0],\"to\":\"end\"}", "Shape 0"),
+        (r#"{"part":1,"from":[0,0]}"#, "Shape 0"),
+        (r#"{"part":-1,"from":[0,0],"to":"end"}"#, "Shape 0"),
+        (r#"{"part":1,"from":[0,0],"to":"END"}"#, "Shape 0"),
+        (r#"{"part":1.0,"from":[0,0],"to":"end"}"#, "Shape 0"),
+        (r#"{"part":1e0,"from":[0,0],"to":"end"}"#, "Shape 0"),
+        (r#"{"part":-0,"from":[0,0],"to":"end"}"#, "Shape 0"),
         (
-            "{\"part\":18446744073709551616,\"from\":[0,0],\"to\":\"end\"}",
+            r#"{"part":18446744073709551616,"from":[0,0],"to":"end"}"#,
             "Shape 0",
         ),
-        ("{\"part\":1e999,\"from\":[0,0],\"to\":\"end\"}", "Json"),
+        (r#"{"part":1e999,"from":[0,0],"to":"end"}"#, "Json"),
         (
-            "{\"part\":18446744073709551615,\"from\":[0,0],\"to\":\"end\"}",
+            r#"{"part":18446744073709551615,"from":[0,0],"to":"end"}"#,
             "BadPart 0",
         ),
+        (r#"{"part":10000,"from":[0,0],"to":"end"}"#, "BadPart 0"),
         (
-            "{\"part\":10000,\"from\":[0,0],\"to\":\"end\"}",
-            "BadPart 0",
-        ),
-        (
-            "{\"part\":1,\"from\":[4294967295,1],\"to\":\"end\"}",
+            r#"{"part":1,"from":[4294967295,1],"to":"end"}"#,
             "BadBound 0",
         ),
         (
-            "{\"part\":1,\"from\":[0,4294967296],\"to\":\"end\"}",
+            r#"{"part":1,"from":[0,4294967296],"to":"end"}"#,
             "BadBound 0",
         ),
         (
-            "{\"part\":1,\"from\":[4294967295,0],\"to\":\"end\"}",
+            r#"{"part":1,"from":[4294967295,0],"to":"end"}"#,
             "EmptyRange 0",
         ),
+    ] {
+        entries_show(&rt, rt.alloc(), entry, wanted)?;
+    }
+    Ok(())
+}
+
+#[test]
+fn entries_that_are_no_plan(rt: HostRuntime) -> Result<(), Fail> {
+    for (entries, wanted) in [
         (
-            "{\"part\":1,\"from\":[0,4294967296],\"to\":\"end\"},{\"part\":10000,\"from\":[0,0],\"to\":\"end\"}",
+            r#"{"part":1,"from":[0,4294967296],"to":"end"},{"part":10000,"from":[0,0],"to":"end"}"#,
             "BadPart 1",
         ),
         (
-            "{\"part\":1,\"from\":[0,0],\"to\":[3,5]},{\"part\":2,\"from\":[3,0],\"to\":\"end\"}",
+            r#"{"part":1,"from":[0,0],"to":[3,5]},{"part":2,"from":[3,0],"to":"end"}"#,
             "Overlap 3:0",
         ),
         (
-            "{\"part\":1,\"from\":[0,0],\"to\":[3,5]},{\"part\":2,\"from\":[3,6],\"to\":\"end\"}",
+            r#"{"part":1,"from":[0,0],"to":[3,5]},{"part":2,"from":[3,6],"to":"end"}"#,
             "Gap 3:5",
         ),
     ] {
-        one_shows(&rt, rt.alloc(), entry, wanted)?;
+        entries_show(&rt, rt.alloc(), entries, wanted)?;
+    }
+    Ok(())
+}
+
+/// Adds the bracket so many times.
+fn push_brackets(text: &mut String, bracket: &str, times: u32) -> Result<(), AllocError> {
+    for _ in 0..times {
+        text.push_str(bracket)?;
     }
     Ok(())
 }
@@ -161,13 +169,9 @@ fn entries_that_are_no_ranges(rt: HostRuntime) -> Result<(), Fail> {
 /// A plan beside a member of that many arrays, one in another.
 fn nested(alloc: Global, depth: u32) -> Result<String, AllocError> {
     let mut text = String::new(alloc);
-    text.push_str("{\"plan\":[{\"part\":1,\"from\":[0,0],\"to\":\"end\"}],\"x\":")?;
-    for _ in 0..depth {
-        text.push_str("[")?;
-    }
-    for _ in 0..depth {
-        text.push_str("]")?;
-    }
+    text.push_str(r#"{"plan":[{"part":1,"from":[0,0],"to":"end"}],"x":"#)?;
+    push_brackets(&mut text, "[", depth)?;
+    push_brackets(&mut text, "]", depth)?;
     text.push_str("}")?;
     Ok(text)
 }

@@ -1,7 +1,7 @@
 mod worked;
 
+use squall_example::{NEW, OLD, issue, plan, span};
 use squall_join::Exact;
-use squall_key::Bound;
 use squall_plan::Plan;
 use squall_report::*;
 use squall_span::Span;
@@ -10,40 +10,10 @@ use std::process::Abort;
 use std::sync::Arc;
 use std::test::Fail;
 
-const OLD: &str =
-    "{\"plan\":[{\"part\":1,\"from\":[0,0],\"to\":[3,0]},{\"part\":2,\"from\":[3,0],\"to\":[5,0]},{\"part\":3,\"from\":[5,0],\"to\":[9,0]},{\"part\":4,\"from\":[9,0],\"to\":\"end\"}]}";
-
-const NEW: &str =
-    "{\"plan\":[{\"part\":1,\"from\":[0,0],\"to\":[2,0]},{\"part\":2,\"from\":[3,0],\"to\":[5,0]},{\"part\":3,\"from\":[2,0],\"to\":[3,0]},{\"part\":3,\"from\":[5,0],\"to\":[6,0]},{\"part\":4,\"from\":[6,0],\"to\":\"end\"}]}";
-
-fn span(lo: &str, hi: &str) -> Result<Span, Fail> {
-    let lo = Bound::read(lo).ok_or("a low bound")?;
-    let hi = Bound::read(hi).ok_or("a high bound")?;
-    let span = Span::new(lo, hi).ok_or("a span")?;
-    Ok(span)
-}
-
-fn plan(alloc: Global, text: &str) -> Option<Plan> {
-    Plan::read(alloc, text.as_bytes()).ok()
-}
-
-/// The issue of the plan and that of a text.
-fn issue_from(alloc: Global, old: &Plan, new: &str) -> Result<Arc<Issue>, Fail> {
-    let new = plan(alloc, new).ok_or("a new plan")?;
-    let issue = Issue::new(alloc, old, &new)?;
-    Ok(issue)
-}
-
-/// The issue of the plans of two texts.
-fn issue(alloc: Global, old: &str, new: &str) -> Result<Arc<Issue>, Fail> {
-    let old = plan(alloc, old).ok_or("an old plan")?;
-    issue_from(alloc, &old, new)
-}
-
 /// The three numbers of the cell that is made of these.
 fn cell(number: u32, sub: u32, part: u32) -> Option<(u32, u32, u32)> {
     let cell = CellId::new(number, sub, part)?;
-    Some((cell.number(), cell.sub(), cell.part()))
+    Some((cell.number(), cell.sub(), cell.part().get()))
 }
 
 #[test]
@@ -97,13 +67,13 @@ fn is_opening(number: u32, sub: u32) -> bool {
 
 /// Whether a plan can be issued under the number.
 fn is_issue(alloc: Global, number: u32) -> Result<bool, Fail> {
-    let issue = issue(alloc, OLD, NEW)?;
+    let issue = issue(alloc, OLD, NEW).ok_or("an issue")?;
     Ok(Report::issued(number, issue).is_some())
 }
 
 #[test]
 fn reports_outside_the_limits(rt: HostRuntime) -> Result<(), Fail> {
-    let span = span("2:0", "3:0")?;
+    let span = span("2:0", "3:0").ok_or("a span")?;
     for (number, sub, part) in [(0, 0, 3), (1, 10000, 3), (1, 0, 10000)] {
         assert!(rt; !is_of_a_cell(number, sub, part, span));
     }
@@ -130,7 +100,7 @@ fn look_at_load(rt: &impl Abort, load: &Report, wanted: Span) -> Result<(), Fail
 
 #[test]
 fn kind_of_a_load(rt: HostRuntime) -> Result<(), Fail> {
-    let span = span("2:0", "3:0")?;
+    let span = span("2:0", "3:0").ok_or("a span")?;
     let load = Report::loaded(4294967295, 9999, 9999, span).ok_or("load")?;
     look_at_load(&rt, &load, span)
 }
@@ -171,9 +141,9 @@ fn kinds_of_completions_and_openings(rt: HostRuntime) {
 }
 
 /// Whether the plan is that of the text.
-fn is_of_text(alloc: Global, plan: &Plan, text: &str) -> bool {
-    match self::plan(alloc, text) {
-        Some(wanted) => *plan == wanted,
+fn is_of_text(alloc: Global, told: &Plan, text: &str) -> bool {
+    match plan(alloc, text) {
+        Some(wanted) => *told == wanted,
         None => false,
     }
 }
@@ -190,9 +160,9 @@ fn look_at_issue(rt: &impl Abort, alloc: Global, issued: &Report) -> Result<(), 
 }
 
 /// Whether the issue is that of the plans of two texts.
-fn is_issue_of(alloc: Global, issue: &Issue, old: &str, new: &str) -> Result<bool, Fail> {
-    let other = self::issue(alloc, old, new)?;
-    Ok(*issue == *other)
+fn is_issue_of(alloc: Global, one: &Issue, old: &str, new: &str) -> Result<bool, Fail> {
+    let other = issue(alloc, old, new).ok_or("an issue")?;
+    Ok(*one == *other)
 }
 
 /// The issue is equal to that of the same plans, and to no other.
@@ -218,14 +188,14 @@ fn copies<T: Exact>(
 
 /// A copy of the issue is the issue, and not that of the same plans the other way round.
 fn copies_one_way(rt: &impl Abort, alloc: Global, forth: &Issue) -> Result<(), Fail> {
-    let back = issue(alloc, NEW, OLD)?;
+    let back = issue(alloc, NEW, OLD).ok_or("an issue")?;
     copies::<Issue>(rt, alloc, forth, &back)?;
     Ok(())
 }
 
 #[test]
 fn issues(rt: HostRuntime) -> Result<(), Fail> {
-    let forth = issue(rt.alloc(), OLD, NEW)?;
+    let forth = issue(rt.alloc(), OLD, NEW).ok_or("an issue")?;
     look_at_equal(&rt, rt.alloc(), &forth)?;
     copies_one_way(&rt, rt.alloc(), &forth)?;
     let issued = Report::issued(2, forth).ok_or("issue")?;

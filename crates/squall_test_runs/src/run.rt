@@ -1,7 +1,10 @@
 //! What the program does with each kind of input, over readers and writers that work, fail or stop.
 
-use jobs::{JOBS, Job, NEW_PLAN, Task};
-use squall_run::{Ended, Reader, RunFault, Writer, check_text, course_text, race_text, run_text};
+use jobs::{JOBS, Job, Task};
+use squall_cli_run::{
+    Ended, Reader, RunFault, Writer, check_text, course_text, race_text, run_text,
+};
+use squall_example::NEW as NEW_PLAN;
 use std::alloc::{AllocError, Global};
 use std::io;
 use std::io::{ErrorKind, Read, Write};

@@ -1,16 +1,21 @@
 // Scenarios line by line: each kind of line, worlds to their end, refusals, and bad lines.
-use squall_lines::Flow;
-use squall_lines::machine::Machine;
-use squall_scenario::Scenario;
+use squall_cli_lines::Flow;
+use squall_cli_lines::machine::Machine;
+use squall_cli_scenario::Scenario;
 use std::alloc::{AllocError, Global};
 use std::process::Abort;
 use std::test::Fail;
 
-const OLD: &str =
-    "old {\"plan\":[{\"part\":1,\"from\":[0,0],\"to\":[3,0]},{\"part\":2,\"from\":[3,0],\"to\":[5,0]},{\"part\":3,\"from\":[5,0],\"to\":[9,0]},{\"part\":4,\"from\":[9,0],\"to\":\"end\"}]}";
+const OLD: &str = concat!(
+    r#"old {"plan":[{"part":1,"from":[0,0],"to":[3,0]},{"part":2,"from":[3,0],"to":[5,0]},"#,
+    r#"{"part":3,"from":[5,0],"to":[9,0]},{"part":4,"from":[9,0],"to":"end"}]}"#,
+);
 
-const NEW: &str =
-    "new {\"plan\":[{\"part\":1,\"from\":[0,0],\"to\":[2,0]},{\"part\":2,\"from\":[3,0],\"to\":[5,0]},{\"part\":3,\"from\":[2,0],\"to\":[3,0]},{\"part\":3,\"from\":[5,0],\"to\":[6,0]},{\"part\":4,\"from\":[6,0],\"to\":\"end\"}]}";
+const NEW: &str = concat!(
+    r#"new {"plan":[{"part":1,"from":[0,0],"to":[2,0]},{"part":2,"from":[3,0],"to":[5,0]},"#,
+    r#"{"part":3,"from":[2,0],"to":[3,0]},{"part":3,"from":[5,0],"to":[6,0]},"#,
+    r#"{"part":4,"from":[6,0],"to":"end"}]}"#,
+);
 
 /// Lines that ask for nothing, loads, and the legs after them.
 const LEGS: [(&str, &str); 7] = [
@@ -38,7 +43,11 @@ const ISSUES: [(&str, &str); 10] = [
     ("loaded 2 0 5 2:0 2:1", "taken\n"),
     ("route 2:0", "route 2:0 5\n"),
     (
-        "issued 2 {\"plan\":[{\"part\":1,\"from\":[0,0],\"to\":[3,0]},{\"part\":2,\"from\":[3,0],\"to\":[5,0]},{\"part\":3,\"from\":[5,0],\"to\":[9,0]},{\"part\":4,\"from\":[9,0],\"to\":\"end\"}]}",
+        concat!(
+            r#"issued 2 {"plan":[{"part":1,"from":[0,0],"to":[3,0]},"#,
+            r#"{"part":2,"from":[3,0],"to":[5,0]},{"part":3,"from":[5,0],"to":[9,0]},"#,
+            r#"{"part":4,"from":[9,0],"to":"end"}]}"#,
+        ),
         "taken\n",
     ),
     ("route 2:0", "route 2:0 1\n"),
@@ -103,11 +112,18 @@ const WORLD: [(&str, &str); 54] = [
     ("open", "no NoMore\n"),
     ("give 1 1", "no NothingLeft\n"),
     (
-        "begin {\"plan\":[{\"part\":1,\"from\":[0,0],\"to\":[3,0]},{\"part\":2,\"from\":[3,0],\"to\":[5,0]},{\"part\":3,\"from\":[5,0],\"to\":[9,0]},{\"part\":4,\"from\":[9,0],\"to\":\"end\"}]}",
+        concat!(
+            r#"begin {"plan":[{"part":1,"from":[0,0],"to":[3,0]},{"part":2,"from":[3,0],"to":[5,0]},"#,
+            r#"{"part":3,"from":[5,0],"to":[9,0]},{"part":4,"from":[9,0],"to":"end"}]}"#,
+        ),
         "begun 2 4\n",
     ),
     (
-        "begin {\"plan\":[{\"part\":1,\"from\":[0,0],\"to\":[2,0]},{\"part\":2,\"from\":[3,0],\"to\":[5,0]},{\"part\":3,\"from\":[2,0],\"to\":[3,0]},{\"part\":3,\"from\":[5,0],\"to\":[6,0]},{\"part\":4,\"from\":[6,0],\"to\":\"end\"}]}",
+        concat!(
+            r#"begin {"plan":[{"part":1,"from":[0,0],"to":[2,0]},{"part":2,"from":[3,0],"to":[5,0]},"#,
+            r#"{"part":3,"from":[2,0],"to":[3,0]},{"part":3,"from":[5,0],"to":[6,0]},"#,
+            r#"{"part":4,"from":[6,0],"to":"end"}]}"#,
+        ),
         "no Running\n",
     ),
     ("open", "opened 0\n"),

@@ -4,48 +4,24 @@ mod tolerant;
 
 use squall_board::Board;
 use squall_course::Course;
-use squall_key::Bound;
-use squall_plan::Plan;
+use squall_example::{OLD, course, course_between, span};
 use squall_report::Report;
-use squall_span::Span;
 use squall_status::{CourseStatus, MoveStatus, Progress, Shown, SubplanStatus, add_status};
 use std::alloc::{AllocError, Global};
 use std::process::Abort;
 use std::test::Fail;
 
-const OLD: &str =
-    "{\"plan\":[{\"part\":1,\"from\":[0,0],\"to\":[3,0]},{\"part\":2,\"from\":[3,0],\"to\":[5,0]},{\"part\":3,\"from\":[5,0],\"to\":[9,0]},{\"part\":4,\"from\":[9,0],\"to\":\"end\"}]}";
-
-const NEW: &str =
-    "{\"plan\":[{\"part\":1,\"from\":[0,0],\"to\":[2,0]},{\"part\":2,\"from\":[3,0],\"to\":[5,0]},{\"part\":3,\"from\":[2,0],\"to\":[3,0]},{\"part\":3,\"from\":[5,0],\"to\":[6,0]},{\"part\":4,\"from\":[6,0],\"to\":\"end\"}]}";
-
 /// Partition 1 keeps the roots below 1, and sends those from 1 to 2 and from 2 on.
-const SPREAD: &str =
-    "{\"plan\":[{\"part\":1,\"from\":[0,0],\"to\":[1,0]},{\"part\":2,\"from\":[1,0],\"to\":[2,0]},{\"part\":3,\"from\":[2,0],\"to\":\"end\"}]}";
+const SPREAD: &str = concat!(
+    r#"{"plan":[{"part":1,"from":[0,0],"to":[1,0]},{"part":2,"from":[1,0],"to":[2,0]},"#,
+    r#"{"part":3,"from":[2,0],"to":"end"}]}"#,
+);
 
-const WHOLE: &str = "{\"plan\":[{\"part\":1,\"from\":[0,0],\"to\":\"end\"}]}";
-
-/// The plan of a text.
-fn plan(alloc: Global, text: &str) -> Result<Plan, Fail> {
-    let plan = Plan::read(alloc, text.as_bytes()).ok().ok_or("plan")?;
-    Ok(plan)
-}
-
-fn course_from(alloc: Global, old: &Plan, new: &str) -> Result<Course, Fail> {
-    let new = plan(alloc, new)?;
-    Ok(Course::new(alloc, 1, old, &new).ok().ok_or("course")?)
-}
-
-/// Course 1 between the plans of two texts.
-fn course(alloc: Global, old: &str, new: &str) -> Result<Course, Fail> {
-    let old = plan(alloc, old)?;
-    course_from(alloc, &old, new)
-}
+const WHOLE: &str = r#"{"plan":[{"part":1,"from":[0,0],"to":"end"}]}"#;
 
 /// The report of a load in course 1.
 fn load(sub: u32, part: u32, lo: &str, hi: &str) -> Option<Report> {
-    let span = Span::new(Bound::read(lo)?, Bound::read(hi)?)?;
-    Report::loaded(1, sub, part, span)
+    Report::loaded(1, sub, part, span(lo, hi)?)
 }
 
 /// Takes the report, where there is one.
@@ -88,14 +64,18 @@ fn shows(
     wanted: &str,
     waiting: &str,
 ) -> Result<(), Fail> {
-    let course = course(alloc, OLD, NEW)?;
+    let course = course(alloc).ok_or("a course")?;
     assert!(rt; has_text(alloc, &course, board, Shown::EachMove, wanted)?);
     assert!(rt; has_text(alloc, &course, board, Shown::Waiting, waiting)?);
     Ok(())
 }
 
-const NOTHING: &str =
-    "course 1 moves 2 sub-plans 1 open none loaded 0 of 17179869184 keys 0/1000\nsub-plan 0 receivers 0 of 2 done\nmove [2:0,3:0) 1 to 3 sub 0 not started\nmove [6:0,9:0) 3 to 4 sub 0 not started\n";
+const NOTHING: &str = concat!(
+    "course 1 moves 2 sub-plans 1 open none loaded 0 of 17179869184 keys 0/1000\n",
+    "sub-plan 0 receivers 0 of 2 done\n",
+    "move [2:0,3:0) 1 to 3 sub 0 not started\n",
+    "move [6:0,9:0) 3 to 4 sub 0 not started\n",
+);
 
 #[test]
 fn no_report(rt: HostRuntime) -> Result<(), Fail> {
@@ -120,8 +100,12 @@ fn reports_of_others(rt: HostRuntime) -> Result<(), Fail> {
     shows(&rt, rt.alloc(), &board, NOTHING, NOTHING)
 }
 
-const HALF: &str =
-    "course 1 moves 2 sub-plans 1 open 0 loaded 2147483648 of 17179869184 keys 125/1000\nsub-plan 0 receivers 0 of 2 done\nmove [2:0,3:0) 1 to 3 sub 0 loaded 2147483648 of 4294967296 missing [2:2147483648,3:0)\nmove [6:0,9:0) 3 to 4 sub 0 not started\n";
+const HALF: &str = concat!(
+    "course 1 moves 2 sub-plans 1 open 0 loaded 2147483648 of 17179869184 keys 125/1000\n",
+    "sub-plan 0 receivers 0 of 2 done\n",
+    "move [2:0,3:0) 1 to 3 sub 0 loaded 2147483648 of 4294967296 missing [2:2147483648,3:0)\n",
+    "move [6:0,9:0) 3 to 4 sub 0 not started\n",
+);
 
 /// Takes the load of the first half of a move, and the opening of its sub-plan.
 fn take_half(board: &mut Board) -> Result<(), Fail> {
@@ -136,11 +120,18 @@ fn half_a_load(rt: HostRuntime) -> Result<(), Fail> {
     shows(&rt, rt.alloc(), &board, HALF, HALF)
 }
 
-const PIECES: &str =
-    "course 1 moves 2 sub-plans 1 open none loaded 4294967298 of 17179869184 keys 250/1000\nsub-plan 0 receivers 1 of 2 done\nmove [2:0,3:0) 1 to 3 sub 0 complete\nmove [6:0,9:0) 3 to 4 sub 0 loaded 2 of 12884901888 missing [6:1,6:5)\n";
+const PIECES: &str = concat!(
+    "course 1 moves 2 sub-plans 1 open none loaded 4294967298 of 17179869184 keys 250/1000\n",
+    "sub-plan 0 receivers 1 of 2 done\n",
+    "move [2:0,3:0) 1 to 3 sub 0 complete\n",
+    "move [6:0,9:0) 3 to 4 sub 0 loaded 2 of 12884901888 missing [6:1,6:5)\n",
+);
 
-const WAITING_PIECES: &str =
-    "course 1 moves 2 sub-plans 1 open none loaded 4294967298 of 17179869184 keys 250/1000\nsub-plan 0 receivers 1 of 2 done\nmove [6:0,9:0) 3 to 4 sub 0 loaded 2 of 12884901888 missing [6:1,6:5)\n";
+const WAITING_PIECES: &str = concat!(
+    "course 1 moves 2 sub-plans 1 open none loaded 4294967298 of 17179869184 keys 250/1000\n",
+    "sub-plan 0 receivers 1 of 2 done\n",
+    "move [6:0,9:0) 3 to 4 sub 0 loaded 2 of 12884901888 missing [6:1,6:5)\n",
+);
 
 /// Takes a completion, the loads of two single keys, and of keys before the move and behind it.
 fn take_pieces(board: &mut Board) -> Result<(), Fail> {
@@ -157,11 +148,18 @@ fn pieces_of_a_move(rt: HostRuntime) -> Result<(), Fail> {
     shows(&rt, rt.alloc(), &board, PIECES, WAITING_PIECES)
 }
 
-const ONE_DONE: &str =
-    "course 1 moves 2 sub-plans 1 open none loaded 12884901888 of 17179869184 keys 750/1000\nsub-plan 0 receivers 1 of 2 done\nmove [2:0,3:0) 1 to 3 sub 0 not started\nmove [6:0,9:0) 3 to 4 sub 0 complete\n";
+const ONE_DONE: &str = concat!(
+    "course 1 moves 2 sub-plans 1 open none loaded 12884901888 of 17179869184 keys 750/1000\n",
+    "sub-plan 0 receivers 1 of 2 done\n",
+    "move [2:0,3:0) 1 to 3 sub 0 not started\n",
+    "move [6:0,9:0) 3 to 4 sub 0 complete\n",
+);
 
-const WAITING_FOR_ONE: &str =
-    "course 1 moves 2 sub-plans 1 open none loaded 12884901888 of 17179869184 keys 750/1000\nsub-plan 0 receivers 1 of 2 done\nmove [2:0,3:0) 1 to 3 sub 0 not started\n";
+const WAITING_FOR_ONE: &str = concat!(
+    "course 1 moves 2 sub-plans 1 open none loaded 12884901888 of 17179869184 keys 750/1000\n",
+    "sub-plan 0 receivers 1 of 2 done\n",
+    "move [2:0,3:0) 1 to 3 sub 0 not started\n",
+);
 
 #[test]
 fn completion_without_loads(rt: HostRuntime) -> Result<(), Fail> {
@@ -170,8 +168,12 @@ fn completion_without_loads(rt: HostRuntime) -> Result<(), Fail> {
     shows(&rt, rt.alloc(), &board, ONE_DONE, WAITING_FOR_ONE)
 }
 
-const ALL: &str =
-    "course 1 moves 2 sub-plans 1 open 0 loaded 17179869184 of 17179869184 keys 1000/1000\nsub-plan 0 receivers 2 of 2 done\nmove [2:0,3:0) 1 to 3 sub 0 complete\nmove [6:0,9:0) 3 to 4 sub 0 complete\n";
+const ALL: &str = concat!(
+    "course 1 moves 2 sub-plans 1 open 0 loaded 17179869184 of 17179869184 keys 1000/1000\n",
+    "sub-plan 0 receivers 2 of 2 done\n",
+    "move [2:0,3:0) 1 to 3 sub 0 complete\n",
+    "move [6:0,9:0) 3 to 4 sub 0 complete\n",
+);
 
 const WAITING_FOR_NONE: &str =
     "course 1 moves 2 sub-plans 1 open 0 loaded 17179869184 of 17179869184 keys 1000/1000\nsub-plan 0 receivers 2 of 2 done\n";
@@ -194,7 +196,7 @@ const STILL: &str = "course 1 moves 0 sub-plans 0 open none loaded 0 of 0 keys 1
 
 /// A course without moves shows these lines.
 fn look_at_still(rt: &impl Abort, alloc: Global, board: &Board) -> Result<(), Fail> {
-    let course = course(alloc, OLD, OLD)?;
+    let course = course_between(alloc, OLD, OLD).ok_or("a course")?;
     assert!(rt; has_text(alloc, &course, board, Shown::EachMove, STILL)?);
     Ok(())
 }
@@ -206,8 +208,15 @@ fn no_moves(rt: HostRuntime) -> Result<(), Fail> {
     look_at_still(&rt, rt.alloc(), &board)
 }
 
-const TWO_SUBPLANS: &str =
-    "course 1 moves 2 sub-plans 2 open 1 loaded 18446744065119617023 of 18446744065119617024 keys 999/1000\nsub-plan 0 receivers 1 of 1 done\nsub-plan 1 receivers 0 of 1 done\nmove [1:0,2:0) 1 to 2 sub 0 complete\nmove [2:0,end) 1 to 3 sub 1 loaded 18446744060824649727 of 18446744060824649728 missing [4294967294:4294967295,end)\n";
+const TWO_SUBPLANS: &str = concat!(
+    "course 1 moves 2 sub-plans 2 open 1 loaded 18446744065119617023 of 18446744065119617024 ",
+    "keys 999/1000\n",
+    "sub-plan 0 receivers 1 of 1 done\n",
+    "sub-plan 1 receivers 0 of 1 done\n",
+    "move [1:0,2:0) 1 to 2 sub 0 complete\n",
+    "move [2:0,end) 1 to 3 sub 1 loaded 18446744060824649727 of 18446744060824649728 missing ",
+    "[4294967294:4294967295,end)\n",
+);
 
 /// Takes the loads of all keys but the last one.
 fn take_all_but_one(board: &mut Board) -> Result<(), Fail> {
@@ -254,7 +263,7 @@ fn look_at_status(rt: &impl Abort, status: &CourseStatus) {
 
 /// Makes the status of the course with two sub-plans, and looks at it and its text.
 fn look_at_spread(rt: &impl Abort, alloc: Global, board: &Board) -> Result<(), Fail> {
-    let course = course(alloc, WHOLE, SPREAD)?;
+    let course = course_between(alloc, WHOLE, SPREAD).ok_or("a course")?;
     look_at_status(rt, &CourseStatus::of(alloc, &course, board)?);
     assert!(rt; has_text(alloc, &course, board, Shown::EachMove, TWO_SUBPLANS)?);
     Ok(())

@@ -1,4 +1,4 @@
-//! Tests of route tables, over public names alone. There is nothing here to call.
+//! Queries of route tables, over public names alone. There is nothing here to call.
 #![tactic(auto)]
 
 #[cfg(test)]

@@ -1,5 +1,6 @@
-//! Tests of route tables: their rows were worked out by hand.
+//! Queries of route tables: their rows were worked out by hand.
 
+mod absorbs;
 mod patches;
 mod searches;
 mod takes;
@@ -8,51 +9,11 @@ mod unchanged;
 
 use squall_board::{Board, Delta};
 use squall_course::Course;
-use squall_key::Bound;
-use squall_plan::Plan;
+use squall_example::{course, load, span};
 use squall_report::Report;
-use squall_span::Span;
 use squall_table::{Leg, RouteTable};
 use std::alloc::Global;
 use std::test::Fail;
-
-pub(crate) const OLD: &str =
-    "{\"plan\":[{\"part\":1,\"from\":[0,0],\"to\":[3,0]},{\"part\":2,\"from\":[3,0],\"to\":[5,0]},{\"part\":3,\"from\":[5,0],\"to\":[9,0]},{\"part\":4,\"from\":[9,0],\"to\":\"end\"}]}";
-
-pub(crate) const NEW: &str =
-    "{\"plan\":[{\"part\":1,\"from\":[0,0],\"to\":[2,0]},{\"part\":2,\"from\":[3,0],\"to\":[5,0]},{\"part\":3,\"from\":[2,0],\"to\":[3,0]},{\"part\":3,\"from\":[5,0],\"to\":[6,0]},{\"part\":4,\"from\":[6,0],\"to\":\"end\"}]}";
-
-/// The plan of a text.
-fn plan(alloc: Global, text: &str) -> Result<Plan, Fail> {
-    Ok(Plan::read(alloc, text.as_bytes()).ok().ok_or("plan")?)
-}
-
-/// Course 1 from the plan to that of a text.
-fn course_to(alloc: Global, old: &Plan, new: &str) -> Result<Course, Fail> {
-    let new = plan(alloc, new)?;
-    Ok(Course::new(alloc, 1, old, &new).ok().ok_or("course")?)
-}
-
-/// Course 1 between the plans of two texts.
-pub(crate) fn course_of(alloc: Global, old: &str, new: &str) -> Result<Course, Fail> {
-    let old = plan(alloc, old)?;
-    course_to(alloc, &old, new)
-}
-
-/// Course 1 of the example plans: 2:0 to 3:0 goes from 1 to 3, and 6:0 to 9:0 from 3 to 4.
-pub(crate) fn course(alloc: Global) -> Result<Course, Fail> {
-    course_of(alloc, OLD, NEW)
-}
-
-/// The span of two bounds.
-pub(crate) fn span(lo: &str, hi: &str) -> Option<Span> {
-    Span::new(Bound::read(lo)?, Bound::read(hi)?)
-}
-
-/// The report of a load at partition 3, in sub-plan 0 of number 1.
-pub(crate) fn load(lo: &str, hi: &str) -> Option<Report> {
-    Report::loaded(1, 0, 3, span(lo, hi)?)
-}
 
 /// What a report says, in sub-plan 0 of number 1 where it says no other.
 #[derive(Clone, Copy)]
@@ -128,7 +89,7 @@ fn is_built_after(alloc: Global, course: &Course, said: &[Said], rows: &str) -> 
 
 /// Whether the table of the example course has the rows after what is said.
 fn is_built_of(alloc: Global, said: &[Said], rows: &str) -> Result<bool, Fail> {
-    let course = course(alloc)?;
+    let course = course(alloc).ok_or("a course")?;
     is_built_after(alloc, &course, said, rows)
 }
 
@@ -187,7 +148,7 @@ fn table_after_a_load(alloc: Global, course: &Course) -> Result<RouteTable, Fail
 
 /// The table of the example course after one load.
 fn table_of_a_load(alloc: Global) -> Result<RouteTable, Fail> {
-    let course = course(alloc)?;
+    let course = course(alloc).ok_or("a course")?;
     table_after_a_load(alloc, &course)
 }
 

@@ -1,9 +1,9 @@
-//! Tests of running clusters. The plans, reports and partitions were worked out by hand.
+//! Queries of running clusters. The plans, reports and partitions were worked out by hand.
 
 ghost use Rattle.std.specs.Prelude.{◌≡◌, [], ◌∷◌, length, All, IfSome, None};
 ghost use Rattle.std.specs.Arc.{arc_value};
-ghost use Rattle.squall_inbox.specs.Ends.{posting_of, vouching};
-ghost use Rattle.squall_desk.specs.Start.{IsStartOf};
+ghost use Rattle.squall_cluster_inbox.specs.Ends.{posting_of, vouching};
+ghost use Rattle.squall_cluster_desk.specs.Start.{IsStartOf};
 ghost use Rattle.squall_cluster.specs.Owners.{owning_with, IsBoardOfPosted};
 ghost use Rattle.squall_cluster.specs.CloseFaults.{owner_of, spent_of};
 
@@ -19,52 +19,23 @@ mod tolerant;
 
 use squall_board::Board;
 use squall_cluster::{
-    Case, CloseFault, Cluster, Letter, Owner, Sender, Setup, Sizes, Start, close,
+    CloseFault, Cluster, Constants, Letter, Owner, Sender, Setup, Sizes, Start, close,
 };
 use squall_course::Course;
-use squall_key::{Bound, Key};
-use squall_plan::Plan;
+use squall_key::Key;
 use squall_report::Report;
-use squall_span::Span;
 use std::alloc::Global;
 use std::sync::{Arc, Wait};
 
-/// Partition 1 below 3:0, then 2 below 5:0, then 3 below 9:0, then 4.
-const OLD: &str =
-    "{\"plan\":[{\"part\":1,\"from\":[0,0],\"to\":[3,0]},{\"part\":2,\"from\":[3,0],\"to\":[5,0]},{\"part\":3,\"from\":[5,0],\"to\":[9,0]},{\"part\":4,\"from\":[9,0],\"to\":\"end\"}]}";
-
-/// From 2:0 to 3:0 the keys of partition 1 go to 3, and from 6:0 to 9:0 those of 3 go to 4, all in
-/// sub-plan 0.
-const NEW: &str =
-    "{\"plan\":[{\"part\":1,\"from\":[0,0],\"to\":[2,0]},{\"part\":2,\"from\":[3,0],\"to\":[5,0]},{\"part\":3,\"from\":[2,0],\"to\":[3,0]},{\"part\":3,\"from\":[5,0],\"to\":[6,0]},{\"part\":4,\"from\":[6,0],\"to\":\"end\"}]}";
-
-/// The plan of the text. None also if an allocation fails.
-fn plan(alloc: Global, text: &str) -> Option<Plan> {
-    Plan::read(alloc, text.as_bytes()).ok()
-}
-
-/// Course 1 between the plans. None also if an allocation fails.
-fn course_between(alloc: Global, old: &Plan, new: &Plan) -> Option<Arc<Course>> {
-    let course = Course::new(alloc, 1, old, new).ok()?;
-    Arc::new(alloc, course).ok()
-}
-
-/// Course 1 from the plan to the new one. None also if an allocation fails.
-fn course_from(alloc: Global, old: &Plan) -> Option<Arc<Course>> {
-    let new = plan(alloc, NEW)?;
-    course_between(alloc, old, &new)
-}
-
-/// Course 1 from the old plan to the new one. None also if an allocation fails.
+/// Course 1 of the example plans. None if an allocation fails.
 fn course(alloc: Global) -> Option<Arc<Course>> {
-    let old = plan(alloc, OLD)?;
-    course_from(alloc, &old)
+    let course = squall_example::course(alloc)?;
+    Arc::new(alloc, course).ok()
 }
 
 /// From 2:0 to 3:0 the keys are loaded at partition 3.
 fn load() -> Option<Report> {
-    let span = Span::new(Bound::new(2, 0)?, Bound::new(3, 0)?)?;
-    Report::loaded(1, 0, 3, span)
+    squall_example::load("2:0", "3:0")
 }
 
 /// Partition 4 is done.
@@ -156,7 +127,7 @@ fn empty_origin(alloc: Global) -> Option<Origin> {
 
 /// A cluster of two senders, as a test has it.
 #[derive(Drop)]
-struct Pair<K: Case, R: Wait + Drop> {
+struct Pair<K: Constants, R: Wait + Drop> {
     cluster: Cluster<K>,
     first: Sender<K>,
     second: Sender<K>,
@@ -165,7 +136,7 @@ struct Pair<K: Case, R: Wait + Drop> {
 
 /// A cluster of two senders and that many readers, whose inbox has room for that many letters. None if
 /// an allocation fails.
-fn opened<K: Case, R: Wait + Drop>(
+fn opened<K: Constants, R: Wait + Drop>(
     rt: R,
     alloc: Global,
     start: Start,
@@ -173,7 +144,8 @@ fn opened<K: Case, R: Wait + Drop>(
     capacity: usize,
 ) -> Option<Pair<K, R>>
     requires { IsStartOf K.book K.first K.opening start }
-    ensures { IfSome result (λ pair. (pair.first ≡ posting_of pair.owner.inbox 0 []) × (pair.second ≡ posting_of pair.owner.inbox 1 []) × (pair.owner ≡ owning_with pair.owner.inbox 2)) }
+    ensures { IfSome result (λ pair. (pair.first ≡ posting_of pair.owner.inbox 0 []) × (pair.second ≡ posting_of pair.owner.inbox 1 [])
+        × (pair.owner ≡ owning_with pair.owner.inbox 2)) }
 {
     let sizes = Sizes {
         senders: 2,
@@ -199,7 +171,7 @@ fn opened<K: Case, R: Wait + Drop>(
 }
 
 /// Closes the cluster by what came back of a try without memory. None if there is none again.
-fn closed_again<K: Case, R: Wait + Drop>(fault: CloseFault<K, R>) -> Option<Board>
+fn closed_again<K: Constants, R: Wait + Drop>(fault: CloseFault<K, R>) -> Option<Board>
     requires inbox { All (λ s. s.inbox ≡ (owner_of fault).inbox) (spent_of fault) }
     requires all { length (vouching (spent_of fault) (owner_of fault).vouched) ≡ (owner_of fault).made }
     ensures { IfSome result (IsBoardOfPosted K.allowed K.opening (vouching (spent_of fault) (owner_of fault).vouched)) }
@@ -211,7 +183,7 @@ fn closed_again<K: Case, R: Wait + Drop>(fault: CloseFault<K, R>) -> Option<Boar
 
 /// Ends both senders and closes the cluster, at a second try if the first had no memory. None if
 /// that has none either.
-fn closed<K: Case, R: Wait + Drop>(
+fn closed<K: Constants, R: Wait + Drop>(
     alloc: Global,
     first: Sender<K>,
     second: Sender<K>,

@@ -1,6 +1,6 @@
 // Races by the lines of their files: what they show, and which lines are bad.
-use squall_lines::Ended;
-use squall_race::answer_race;
+use squall_cli_lines::Ended;
+use squall_cli_race::answer_race;
 use std::alloc::{AllocError, Global};
 use std::process::Abort;
 use std::sync::Wait;
@@ -8,8 +8,15 @@ use std::test::Fail;
 use std::thread::Threads;
 
 /// Both plans, a line each.
-const PLANS: &str =
-    "old {\"plan\":[{\"part\":1,\"from\":[0,0],\"to\":[3,0]},{\"part\":2,\"from\":[3,0],\"to\":[5,0]},{\"part\":3,\"from\":[5,0],\"to\":[9,0]},{\"part\":4,\"from\":[9,0],\"to\":\"end\"}]}\nnew {\"plan\":[{\"part\":1,\"from\":[0,0],\"to\":[2,0]},{\"part\":2,\"from\":[3,0],\"to\":[5,0]},{\"part\":3,\"from\":[2,0],\"to\":[3,0]},{\"part\":3,\"from\":[5,0],\"to\":[6,0]},{\"part\":4,\"from\":[6,0],\"to\":\"end\"}]}\n";
+const PLANS: &str = concat!(
+    r#"old {"plan":[{"part":1,"from":[0,0],"to":[3,0]},{"part":2,"from":[3,0],"to":[5,0]},"#,
+    r#"{"part":3,"from":[5,0],"to":[9,0]},{"part":4,"from":[9,0],"to":"end"}]}"#,
+    "\n",
+    r#"new {"plan":[{"part":1,"from":[0,0],"to":[2,0]},{"part":2,"from":[3,0],"to":[5,0]},"#,
+    r#"{"part":3,"from":[2,0],"to":[3,0]},{"part":3,"from":[5,0],"to":[6,0]},"#,
+    r#"{"part":4,"from":[6,0],"to":"end"}]}"#,
+    "\n",
+);
 
 /// What follows the plans, and what is shown: the board and routes, or why a line is bad.
 static RACES: [(&str, &str); 23] = [

@@ -1,6 +1,7 @@
 //! Tests of joins.
 
 mod clients;
+mod in_place;
 mod shared;
 mod tolerant;
 mod updates;
@@ -72,10 +73,15 @@ fn flags(alloc: Global, one: bool, other: bool) -> Result<(bool, bool), AllocErr
 }
 
 #[test]
-fn numbers_and_flags(rt: HostRuntime) -> Result<(), AllocError> {
+fn two_numbers(rt: HostRuntime) -> Result<(), AllocError> {
     for (one, other, both, rest) in [(5, 3, 5, 5), (3, 5, 5, 0), (4, 4, 4, 0)] {
         assert!(rt; numbers(rt.alloc(), one, other)? == (both, rest));
     }
+    Ok(())
+}
+
+#[test]
+fn two_flags(rt: HostRuntime) -> Result<(), AllocError> {
     for (one, other, both, rest) in [
         (true, false, true, true),
         (false, true, true, false),

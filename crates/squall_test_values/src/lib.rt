@@ -1,6 +1,8 @@
-//! Tests of keys, spans and values with a join, over public names alone. There is nothing here to call.
+//! Tests of keys, spans, lists in blocks and values with a join, over public names alone. There is nothing here to call.
 #![tactic(auto)]
 
+#[cfg(test)]
+mod blocks;
 #[cfg(test)]
 mod join;
 #[cfg(test)]

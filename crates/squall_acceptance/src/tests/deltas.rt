@@ -59,6 +59,27 @@ fn says_without(
     }
 }
 
+/// The board says of a row what the list says and the other does not.
+fn row_without(
+    rt: &impl Abort,
+    board: &Board,
+    number: u32,
+    sub: u32,
+    list: &[Report],
+    other: &[Report],
+) {
+    for part in 0..4u32 {
+        says_without(rt, board, (number, sub, part), list, other);
+    }
+}
+
+/// The board says of the rows of the number what the list says and the other does not.
+fn rows_without(rt: &impl Abort, board: &Board, number: u32, list: &[Report], other: &[Report]) {
+    for sub in 0..2u32 {
+        row_without(rt, board, number, sub, list, other);
+    }
+}
+
 /// Whether both lists say the same of a key at a place.
 fn same_key(a: &[Report], b: &[Report], place: (u32, u32, u32), key: Key) -> bool {
     let (number, sub, part) = place;
@@ -105,11 +126,7 @@ fn greater_openings(rt: &impl Abort, board: &Board, a: &[Report], b: &[Report], 
 /// The board tells what the list a tells beyond the list b.
 fn tells_beyond(rt: &impl Abort, board: &Board, a: &[Report], b: &[Report]) {
     for number in 1..4u32 {
-        for sub in 0..2u32 {
-            for part in 0..4u32 {
-                says_without(rt, board, (number, sub, part), a, b);
-            }
-        }
+        rows_without(rt, board, number, a, b);
         greater_openings(rt, board, a, b, number);
         let wanted = issue_beyond(plain::issuing(a, number), &plain::issuing(b, number));
         assert!(rt; same_issue(&board.issuing(number), &wanted));
@@ -126,20 +143,24 @@ fn issue_sent<'a>(a: &'a [Report], b: &'a [Report], number: u32) -> Flat<&'a Arc
     }
 }
 
+/// The board tells whole the rows of the number in the list b in which the list a tells anything
+/// else.
+fn repairs_rows(rt: &impl Abort, board: &Board, a: &[Report], b: &[Report], number: u32) {
+    for sub in 0..2u32 {
+        let sent = if same_row(a, b, number, sub) {
+            &b[..0]
+        } else {
+            b
+        };
+        row_without(rt, board, number, sub, sent, &b[..0]);
+    }
+}
+
 /// The board tells the openings, the issues and whole the rows of the list b in which the list a
 /// tells anything else.
 fn repairs(rt: &impl Abort, board: &Board, a: &[Report], b: &[Report]) {
     for number in 1..4u32 {
-        for sub in 0..2u32 {
-            let sent = if same_row(a, b, number, sub) {
-                &b[..0]
-            } else {
-                b
-            };
-            for part in 0..4u32 {
-                says_without(rt, board, (number, sub, part), sent, &b[..0]);
-            }
-        }
+        repairs_rows(rt, board, a, b, number);
         greater_openings(rt, board, b, a, number);
         assert!(rt; same_issue(&board.issuing(number), &issue_sent(a, b, number)));
     }
@@ -302,6 +323,6 @@ fn try_lists(
 #[test]
 fn boards_that_send_each_other_what_they_lack(rt: HostRuntime) -> Result<(), Fail> {
     let alloc = rt.alloc();
-    let issues = two_issues(alloc)?;
+    let issues = two_issues(alloc).ok_or("issues")?;
     try_lists(&rt, alloc, &mut Random::new(20221123), &issues, 200)
 }

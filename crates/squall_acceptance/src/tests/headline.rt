@@ -5,12 +5,11 @@ ghost use Rattle.squall_report.specs.Facts.{reports_say};
 ghost use Rattle.squall_board.specs.Route.{route};
 
 use crate::tests::random::one_by_one;
-use crate::tests::{NEW, OLD, load, plan};
 use squall_board::Board;
 use squall_course::Course;
 use squall_delta::delta_of;
+use squall_example::{course, load};
 use squall_key::{Key, PartId};
-use squall_plan::Plan;
 use squall_report::Report;
 use std::alloc::{AllocError, Global};
 use std::process::Abort;
@@ -41,19 +40,6 @@ fn same_boards(alloc: Global, first: &[Report], second: &[Report]) -> Result<boo
     let mut board = Board::new(alloc);
     board.take_all(first)?;
     is_board_of(alloc, &board, second)
-}
-
-/// The course from a plan to the new one.
-fn course_from(alloc: Global, old: &Plan) -> Result<Course, Fail> {
-    let new = plan(alloc, NEW)?;
-    let course = Course::new(alloc, 1, old, &new).ok().ok_or("course")?;
-    Ok(course)
-}
-
-/// The course from the old plan to the new one.
-fn course(alloc: Global) -> Result<Course, Fail> {
-    let old = plan(alloc, OLD)?;
-    course_from(alloc, &old)
 }
 
 /// The completion of partition 4.
@@ -118,7 +104,7 @@ fn only_reports_count(rt: &impl Abort, alloc: Global, reports: &[Report]) -> Res
 /// The worked reconfiguration of two moves.
 #[test]
 fn reports_route_keys(rt: HostRuntime) -> Result<(), Fail> {
-    let course = course(rt.alloc())?;
+    let course = course(rt.alloc()).ok_or("a course")?;
     reports_route(&rt, rt.alloc(), &course)
 }
 

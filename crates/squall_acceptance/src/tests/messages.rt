@@ -2,8 +2,8 @@
 
 ghost use Rattle.std.specs.Prelude.{◌≡◌, Some, IfOk};
 
-use crate::tests::load;
 use squall_board::Board;
+use squall_example::load;
 use squall_wire::{Message, decode, encode_board};
 use std::alloc::Global;
 use std::test::Fail;

@@ -2,11 +2,11 @@
 
 ghost use Rattle.std.specs.Prelude.{◌<◌};
 
-use crate::tests::{NEW, OLD, plain, plan};
+use crate::tests::plain;
 use squall_board::Board;
+use squall_example::{NEW, OLD, issue};
 use squall_join::Flat;
 use squall_key::{Bound, Key};
-use squall_plan::Plan;
 use squall_report::{Issue, Report};
 use squall_span::Span;
 use std::alloc::{AllocError, Global};
@@ -147,20 +147,33 @@ fn in_groups(alloc: Global, list: &[Report], first: usize) -> Result<Board, Allo
     Ok(board)
 }
 
+/// The board says of each key at a place what the list says.
+fn same_keys(rt: &impl Abort, board: &Board, list: &[Report], place: (u32, u32, u32)) {
+    let (number, sub, part) = place;
+    for rank in 0..31u64 {
+        if let Some(key) = Key::of_rank(rank) {
+            assert!(rt;
+                board.says_loaded(number, sub, part, key)
+                    == plain::says_loaded(list, number, sub, part, key)
+            );
+        }
+    }
+}
+
 /// The board says of loads and completions in the sub-plan what the list says, at each key.
 fn same_cells(rt: &impl Abort, board: &Board, list: &[Report], number: u32, sub: u32) {
     for part in 0..4u32 {
         assert!(rt;
             board.says_done(number, sub, part) == plain::says_done(list, number, sub, part)
         );
-        for rank in 0..31u64 {
-            if let Some(key) = Key::of_rank(rank) {
-                assert!(rt;
-                    board.says_loaded(number, sub, part, key)
-                        == plain::says_loaded(list, number, sub, part, key)
-                );
-            }
-        }
+        same_keys(rt, board, list, (number, sub, part));
+    }
+}
+
+/// The board says of loads and completions under the number what the list says.
+fn same_rows(rt: &impl Abort, board: &Board, list: &[Report], number: u32) {
+    for sub in 0..3u32 {
+        same_cells(rt, board, list, number, sub);
     }
 }
 
@@ -184,9 +197,7 @@ pub(crate) fn same_issue(first: &Flat<&Arc<Issue>>, second: &Flat<&Arc<Issue>>) 
 /// The board tells what the list tells.
 fn tells_the_list(rt: &impl Abort, board: &Board, list: &[Report]) {
     for number in 1..5u32 {
-        for sub in 0..3u32 {
-            same_cells(rt, board, list, number, sub);
-        }
+        same_rows(rt, board, list, number);
         same_openings(rt, board, list, number);
         assert!(rt; same_issue(&board.issuing(number), &plain::issuing(list, number)));
     }
@@ -261,27 +272,15 @@ fn try_lists(
     Ok(())
 }
 
-/// From one plan to the other, and back.
-fn there_and_back(alloc: Global, old: &Plan, new: &Plan) -> Result<[Arc<Issue>; 2], AllocError> {
-    Ok([Issue::new(alloc, old, new)?, Issue::new(alloc, new, old)?])
-}
-
-/// From the plan to the new one of the example, and back.
-fn issues_from(alloc: Global, old: &Plan) -> Result<[Arc<Issue>; 2], Fail> {
-    let new = plan(alloc, NEW)?;
-    Ok(there_and_back(alloc, old, &new)?)
-}
-
 /// Both issues: of the example plans, and back.
-pub(crate) fn two_issues(alloc: Global) -> Result<[Arc<Issue>; 2], Fail> {
-    let old = plan(alloc, OLD)?;
-    issues_from(alloc, &old)
+pub(crate) fn two_issues(alloc: Global) -> Option<[Arc<Issue>; 2]> {
+    Some([issue(alloc, OLD, NEW)?, issue(alloc, NEW, OLD)?])
 }
 
 #[test]
 fn any_order_grouping_and_repetition(rt: HostRuntime) -> Result<(), Fail> {
     let alloc = rt.alloc();
-    let issues = two_issues(alloc)?;
+    let issues = two_issues(alloc).ok_or("issues")?;
     try_lists(&rt, alloc, &mut Random::new(20221122), &issues, 200)?;
     Ok(())
 }

@@ -6,7 +6,8 @@ ghost use Rattle.squall_report.specs.Facts.{Fact, is_fact};
 ghost use Rattle.squall_board.specs.Boards.{says};
 ghost use Rattle.squall_board.specs.Listed.{CellEntry, AreCells};
 
-use squall_board::{Board, Cell, facts_lie_within_the_limits, one_list_of_cells};
+use squall_board::laws::{facts_lie_within_the_limits, one_list_of_cells};
+use squall_board::{Board, Cell};
 use squall_span::SpanSet;
 use std::alloc::Global;
 use std::process::Abort;

@@ -1,4 +1,4 @@
-//! Tests of the lists of a board.
+//! Queries of the lists of a board.
 
 ghost use Rattle.std.specs.Prelude.{◌≡◌, ◌≢◌, ◌≤◌, [], map, IfOk, OnOk};
 ghost use Rattle.std.specs.List.{AllByRecursion};
@@ -8,12 +8,16 @@ ghost use Rattle.squall_report.specs.Told.{TellsBoth};
 ghost use Rattle.squall_board.specs.Boards.{told};
 ghost use Rattle.squall_board.specs.Listed.{IsOpening, AreCellsOfSubs, AreCellsOfNumbers, AreSomeRows, told_by_lists};
 
+mod tolerant;
+
 use super::*;
+use squall_board::laws::lists_determine_the_board;
+use squall_example::span;
 use squall_join::{Flat, JoinMap};
-use squall_key::{Bound, PartId};
+use squall_key::PartId;
 use squall_plan::{Plan, PlanRange};
 use squall_report::{CellId, Issue, Report};
-use squall_span::{Span, SpanSet};
+use squall_span::SpanSet;
 use std::alloc::{AllocError, Global};
 use std::process::Abort;
 use std::sync::Arc;
@@ -96,12 +100,8 @@ fn put_again(alloc: Global, board: &Board) -> Result<Board, AllocError>
     Ok(again)
 }
 
-fn span(lo: &str, hi: &str) -> Option<Span> {
-    Span::new(Bound::read(lo)?, Bound::read(hi)?)
-}
-
 /// An issue that leads from a plan to the same plan.
-pub(crate) fn issue(alloc: Global) -> Option<Arc<Issue>> {
+pub(crate) fn still_issue(alloc: Global) -> Option<Arc<Issue>> {
     let range = PlanRange {
         span: span("0:0", "end")?,
         part: PartId::new(1)?,
@@ -113,7 +113,7 @@ pub(crate) fn issue(alloc: Global) -> Option<Arc<Issue>> {
 /// Takes an opening and an issue.
 fn take_more(alloc: Global, board: &mut Board) -> Option<()> {
     board.take(&Report::opened(1, 1)?).ok()?;
-    board.take(&Report::issued(2, issue(alloc)?)?).ok()
+    board.take(&Report::issued(2, still_issue(alloc)?)?).ok()
 }
 
 /// The board of the two reports, of an opening and of an issue. None where an allocation fails.
@@ -195,7 +195,11 @@ fn lent_are_of_two(cells: &[(CellId, &CellParts)]) -> bool {
         return false;
     }
     for (index, cell) in cells.iter().enumerate() {
-        let told = (cell.0.part(), cell.1.second.get(), cell.1.first.count());
+        let told = (
+            cell.0.part().get(),
+            cell.1.second.get(),
+            cell.1.first.count(),
+        );
         if told != wanted[index] {
             return false;
         }
@@ -291,127 +295,4 @@ fn cells_within_their_limits(rt: HostRuntime) -> Result<(), Fail> {
     assert!(rt; complete(alloc, 1, 10000, 3).is_none() && complete(alloc, 1, 9999, 3).is_some());
     assert!(rt; complete(alloc, 1, 0, 10000).is_none() && complete(alloc, 1, 0, 9999).is_some());
     Ok(())
-}
-
-/// Lists the cells, where no allocation fails.
-fn count_cells(rt: &impl Abort, board: &Board) {
-    if let Ok(cells) = board.cells() {
-        assert!(rt; cells.len() == 2);
-    }
-}
-
-/// Lists the cells that the board lends, where no allocation fails.
-fn look_at_lent(rt: &impl Abort, board: &Board) {
-    if let Ok(are_wanted) = lends_cells_of_two(board) {
-        assert!(rt; are_wanted);
-    }
-}
-
-/// Lists the openings, where no allocation fails.
-fn count_openings(rt: &impl Abort, board: &Board) {
-    if let Ok(openings) = board.openings() {
-        assert!(rt; openings.len() == 1);
-    }
-}
-
-/// Lists the issues, where no allocation fails.
-fn count_issues(rt: &impl Abort, board: &Board) {
-    if let Ok(issues) = board.issues() {
-        assert!(rt; issues.len() == 1);
-    }
-}
-
-/// The board is still the full one, where no allocation fails.
-fn is_full(rt: &impl Abort, alloc: Global, board: &Board) {
-    if let Some(full) = full(alloc) {
-        assert!(rt; *board == full);
-    }
-}
-
-/// What a board makes a list of.
-#[derive(Clone, Copy)]
-enum Kind {
-    Cells,
-    Lent,
-    Openings,
-    Issues,
-}
-
-/// Makes a list of the board, which stays the full one.
-fn look_at_list(rt: &impl Abort, alloc: Global, board: &Board, kind: Kind) {
-    match kind {
-        Kind::Cells => count_cells(rt, board),
-        Kind::Lent => look_at_lent(rt, board),
-        Kind::Openings => count_openings(rt, board),
-        Kind::Issues => count_issues(rt, board),
-    }
-    is_full(rt, alloc, board);
-}
-
-/// Makes a list of the full board, where no allocation fails.
-fn list_tolerantly(rt: &impl Abort, alloc: Global, kind: Kind) {
-    if let Some(board) = full(alloc) {
-        look_at_list(rt, alloc, &board, kind);
-    }
-}
-
-#[test]
-fn tolerant_cells(rt: HostRuntime) -> Result<(), Fail> {
-    list_tolerantly(&rt, rt.alloc(), Kind::Cells);
-    Ok(())
-}
-
-#[test]
-fn tolerant_lent_cells(rt: HostRuntime) {
-    list_tolerantly(&rt, rt.alloc(), Kind::Lent);
-}
-
-#[test]
-fn tolerant_openings(rt: HostRuntime) -> Result<(), Fail> {
-    list_tolerantly(&rt, rt.alloc(), Kind::Openings);
-    Ok(())
-}
-
-#[test]
-fn tolerant_issues(rt: HostRuntime) -> Result<(), Fail> {
-    list_tolerantly(&rt, rt.alloc(), Kind::Issues);
-    Ok(())
-}
-
-/// Whether the board has the completion beside what it had before, or is as it was.
-fn is_put_or_as_before(board: &Board, before: &Board, put: bool) -> bool {
-    if put {
-        board.says_done(2, 1, 3) && board.covers(before)
-    } else {
-        *board == *before
-    }
-}
-
-/// Puts the completion of partition 3 in sub-plan 1 of number 2 into the board, of which the other is a copy.
-fn put_completion(
-    rt: &impl Abort,
-    cell: &Cell,
-    board: &mut Board,
-    before: &Board,
-) -> Result<(), Fail> {
-    let put = board.put_cell(cell).is_ok();
-    assert!(rt; is_put_or_as_before(board, before, put));
-    Ok(())
-}
-
-/// Puts a completion into the board, where a copy of it can be made.
-fn put_beside_copy(rt: &impl Abort, alloc: Global, board: &mut Board) -> Result<(), Fail> {
-    let cell = complete(alloc, 2, 1, 3).ok_or("a cell")?;
-    match board.copied(alloc) {
-        Ok(before) => put_completion(rt, &cell, board, &before),
-        Err(_) => Ok(()),
-    }
-}
-
-#[test]
-fn tolerant_put_cell(rt: HostRuntime) -> Result<(), Fail> {
-    match full(rt.alloc()) {
-        Some(mut board) => put_beside_copy(&rt, rt.alloc(), &mut board),
-        None => Ok(()),
-    }
 }

@@ -1,7 +1,8 @@
 //! What boards tell beyond others.
 
-use crate::board::{NEW, OLD, board_of, is_of, issue, load};
+use crate::board::{board_of, is_of, issued};
 use squall_board::Board;
+use squall_example::{NEW, OLD, load};
 use squall_report::Report;
 use std::alloc::{AllocError, Global};
 use std::process::Abort;
@@ -80,6 +81,11 @@ fn completions_beyond(rt: HostRuntime) -> Result<(), Fail> {
     Ok(())
 }
 
+/// Two issues that clash.
+fn clashing_issues(alloc: Global) -> Option<[Report; 2]> {
+    Some([issued(alloc, 2, OLD, NEW)?, issued(alloc, 2, NEW, OLD)?])
+}
+
 /// What is left of each of two issues that clash, and of both.
 fn look_at_issues(rt: &impl Abort, alloc: Global, reports: &[Report; 2]) -> Result<(), Fail> {
     let list = &reports[..];
@@ -92,6 +98,6 @@ fn look_at_issues(rt: &impl Abort, alloc: Global, reports: &[Report; 2]) -> Resu
 #[test]
 fn issues_beyond(rt: HostRuntime) -> Result<(), Fail> {
     let alloc = rt.alloc();
-    let reports = [issue(alloc, 2, OLD, NEW)?, issue(alloc, 2, NEW, OLD)?];
+    let reports = clashing_issues(alloc).ok_or("issues")?;
     look_at_issues(&rt, alloc, &reports)
 }

@@ -7,9 +7,11 @@ ghost use Rattle.squall_report.specs.Openings.{opened_by};
 ghost use Rattle.squall_board.specs.Boards.{HasTaken};
 ghost use Rattle.squall_board.specs.CourseRoute.{route_by_newest, route_by_reports};
 
-use super::{NEW, OLD, course, take, take_issue};
-use squall_board::{Board, taken_openings_count, taken_reports_route};
+use super::{take, take_issue};
+use squall_board::Board;
+use squall_board::laws::{taken_openings_count, taken_reports_route};
 use squall_course::{Course, CourseFault};
+use squall_example::{NEW, OLD, course};
 use squall_key::{Key, PartId};
 use squall_report::Report;
 use std::alloc::Global;
@@ -52,7 +54,7 @@ fn take_change(alloc: Global, board: &mut Board) -> Result<(), Fail> {
 
 /// Whether the board sends the key to the partition by its newest course after course 1.
 fn sends_by_newest(alloc: Global, board: &Board, key: Key, part: u32) -> Result<bool, Fail> {
-    let first = course(alloc)?;
+    let first = course(alloc).ok_or("a course")?;
     Ok(newest_route(alloc, &first, board, key).ok() == PartId::new(part))
 }
 

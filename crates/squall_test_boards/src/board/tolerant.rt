@@ -1,8 +1,9 @@
 //! Where an allocation fails a board is as it was.
 
-use crate::board::listed::{issue, put_rows_of};
-use crate::board::{board_of_two, has_one_issue, is_empty, load, two_reports};
+use crate::board::listed::{put_rows_of, still_issue};
+use crate::board::{board_of_two, has_one_issue, is_empty, two_reports};
 use squall_board::{Board, Opening};
+use squall_example::load;
 use squall_join::Flat;
 use squall_key::Key;
 use squall_report::Report;
@@ -80,14 +81,17 @@ fn takes_two(board: &mut Board) -> Result<(bool, bool), Fail> {
 
 /// Whether the board took an issue, and whether it tells of it. None where no issue could be made.
 fn takes_issue(alloc: Global, board: &mut Board) -> Option<(bool, bool)> {
-    let report = Report::issued(2, issue(alloc)?)?;
+    let report = Report::issued(2, still_issue(alloc)?)?;
     let taken = board.take(&report).is_ok();
     Some((taken, has_one_issue(board, 2)))
 }
 
 /// Whether the board took a completion and an issue, and whether it tells of both. None where no issue could be made.
 fn takes_two_with_issue(alloc: Global, board: &mut Board) -> Option<(bool, bool)> {
-    let reports = [Report::done(1, 0, 4)?, Report::issued(2, issue(alloc)?)?];
+    let reports = [
+        Report::done(1, 0, 4)?,
+        Report::issued(2, still_issue(alloc)?)?,
+    ];
     let taken = board.take_all(&reports).is_ok();
     let tells = board.says_done(1, 0, 4) && has_one_issue(board, 2);
     Some((taken, tells))
@@ -111,7 +115,7 @@ fn puts_clash(board: &mut Board) -> (bool, bool) {
 
 /// Whether one issue was put into the board, and whether the board tells of it. None where no issue could be made.
 fn puts_one(alloc: Global, board: &mut Board) -> Option<(bool, bool)> {
-    let issue = Flat::One(issue(alloc)?);
+    let issue = Flat::One(still_issue(alloc)?);
     let put = board.put_issue(3, &issue).is_ok();
     Some((put, has_one_issue(board, 3)))
 }

@@ -5,7 +5,8 @@ ghost use Rattle.squall_wire.specs.declared.encoding.EncodeFault.TheVariants.{To
 
 use crate::wire::{LOAD, board_of, hears, is_framed_as, is_still};
 use squall_board::Board;
-use squall_delta::{pieces, pieces_have_frames};
+use squall_delta::laws::pieces_have_frames;
+use squall_delta::pieces;
 use squall_join::Flat;
 use squall_key::Bound;
 use squall_report::Report;

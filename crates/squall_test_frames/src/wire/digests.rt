@@ -31,8 +31,11 @@ fn opened(count: u32) -> Opening {
 
 #[test]
 fn the_frame_of_a_digest(rt: HostRuntime) -> Result<(), Fail> {
-    let text =
-        "53510202 00000060 00000001 00000001 00002710 00000001 00000001 0000000000000000000000000000000000000000000000000000000000000000 00000001 00000001 0000270f 0000000000000000000000000000000000000000000000000000000000000000";
+    let text = concat!(
+        "53510202 00000060 00000001 00000001 00002710 00000001 00000001 ",
+        "0000000000000000000000000000000000000000000000000000000000000000 00000001 00000001 0000270f ",
+        "0000000000000000000000000000000000000000000000000000000000000000",
+    );
     let digest = Digest::of(rt.alloc(), &[opened(10000)], &[ISSUE_ROW], &[row(1, 9999)])?;
     assert!(rt; digest_is_framed_as(rt.alloc(), digest, text)?);
     Ok(())
@@ -136,6 +139,6 @@ fn printed_faults(rt: HostRuntime) -> Result<(), Fail> {
     let (wire, encoding) = (WireFault::NoMemory, EncodeFault::NoMemory);
     let (digest, feed) = (DigestFault::NoMemory, FeedFault::NoMemory);
     let second = format!(in rt.alloc(); "{wire}, {encoding}, {digest}, {feed}")?;
-    assert!(rt; second.as_str() == "no memory, no memory, no memory, no memory");
+    assert!(rt; second.as_str() == "NoMemory, NoMemory, NoMemory, NoMemory");
     Ok(())
 }

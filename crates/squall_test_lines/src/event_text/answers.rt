@@ -1,7 +1,7 @@
 //! Answers as lines. The other answers stand among the cases of the built program.
 
+use squall_cli_events::add_answer;
 use squall_errand::Reply;
-use squall_event_text::add_answer;
 use squall_key::{Key, PartId};
 use squall_protocol::{Answer, Event, Refusal};
 use std::alloc::AllocError;

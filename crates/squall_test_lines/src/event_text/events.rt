@@ -1,6 +1,6 @@
 //! Events of lines, limits, and lines that are none.
 
-use squall_event_text::{Unfit, event_line, event_of};
+use squall_cli_events::{Unfit, event_line, event_of};
 use squall_plan::{Plan, PlanFault, PlanRange};
 use squall_protocol::{Event, Node};
 use std::alloc::{AllocError, Global};

@@ -1,6 +1,6 @@
 //! Where an allocation fails, that is what is told.
 
-use squall_event_text::{add_answer, event_line, event_of};
+use squall_cli_events::{add_answer, event_line, event_of};
 use squall_protocol::{Answer, Event};
 use std::alloc::Global;
 use std::test::Fail;

@@ -9,7 +9,7 @@ ghost use Rattle.squall_report.specs.Facts.{DonePart};
 ghost use Rattle.squall_board.specs.Boards.{says};
 ghost use Rattle.squall_leader.specs.Leaders.{waited_for};
 
-use squall_course::receivers_have_keys;
+use squall_course::laws::receivers_have_keys;
 use squall_leader::Leader;
 
 /// The number of the course begun last is one that a report may have.
@@ -23,7 +23,8 @@ pub fn numbers_fit(leader: &Leader)
 /// waits for none, the board says each partition done to which keys go.
 pub fn waits_for_keys(leader: &Leader)
     ensures some { (c : Change) (sub part : ℕ) → leader.now.course ≡ Some c → waited_for c leader.now.board sub ≡ Some part
-        → (says leader.now.board (DonePart (place_at c.number sub part)) ≡ false) × ((k : ℕ) × (k < top) × (is_incoming c.old c.new sub part k ≡ true)) }
+        → (says leader.now.board (DonePart (place_at c.number sub part)) ≡ false)
+        × ((k : ℕ) × (k < top) × (is_incoming c.old c.new sub part k ≡ true)) }
     ensures none { (c : Change) (sub part k : ℕ) → leader.now.course ≡ Some c → waited_for c leader.now.board sub ≡ None
         → k < top → is_incoming c.old c.new sub part k ≡ true → says leader.now.board (DonePart (place_at c.number sub part)) ≡ true }
 {

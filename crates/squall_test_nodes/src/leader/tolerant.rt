@@ -1,13 +1,15 @@
 //! Where an allocation fails the answer is NoMemory, and leader and arguments are what they were.
 
-use crate::example::{NEW, OLD, plan};
 use crate::leader::{Step, leader, write_answers};
 use squall_board::Board;
+use squall_course::Course;
+use squall_example::{NEW, OLD, course, plan};
 use squall_leader::{Leader, LeaderFault};
 use squall_plan::Plan;
-use squall_report::Report;
+use squall_report::{Report, ReportKind};
 use std::alloc::{AllocError, Global};
 use std::process::Abort;
+use std::sync::Arc;
 
 /// What is tried with a leader.
 #[derive(Clone, Copy)]
@@ -232,4 +234,29 @@ fn tolerant_new(rt: HostRuntime) {
 #[test]
 fn leaders_are_made(rt: HostRuntime) {
     assert!(rt; try_new(&rt, rt.alloc()) == Some(true));
+}
+
+/// Whether a leader that begins with the course opens sub-plan 0 of number 1. None if an allocation
+/// fails.
+fn opens_first(alloc: Global, course: &Arc<Course>) -> Option<bool> {
+    let mut leader = Leader::begun(alloc, course).ok()?;
+    let report = leader.open_next().ok()?;
+    Some(matches!(report.kind(), ReportKind::Opened { number: 1, sub: 0 }))
+}
+
+/// The same of the example's course.
+fn begins_with_a_course(alloc: Global) -> Option<bool> {
+    let course = course(alloc)?;
+    let shared = Arc::new(alloc, course).ok()?;
+    opens_first(alloc, &shared)
+}
+
+#[test]
+fn tolerant_begun(rt: HostRuntime) {
+    let _opened = begins_with_a_course(rt.alloc());
+}
+
+#[test]
+fn leaders_begin_with_a_course(rt: HostRuntime) {
+    assert!(rt; begins_with_a_course(rt.alloc()) == Some(true));
 }

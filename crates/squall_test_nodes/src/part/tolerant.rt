@@ -1,9 +1,10 @@
 //! Where an allocation fails the answer is NoMemory, and partition and arguments are what they were.
 
-use crate::example::{NEW, OLD, course, issue, plan};
+use crate::example::{course, issued};
 use crate::part::chunk;
 use squall_board::Board;
 use squall_course::Course;
+use squall_example::{NEW, OLD, plan};
 use squall_key::{Key, PartId};
 use squall_part::{Chunk, FinishFault, GiveFault, Load, LoadFault, Part};
 use squall_plan::Plan;
@@ -98,7 +99,7 @@ fn is_answered(rt: &impl Abort, alloc: Global, part: &mut Part, call: Call) -> O
             absorbs(rt, alloc, part, &opening)
         }
         Call::Turn => {
-            let issued = issue(alloc, 2, NEW, OLD)?;
+            let issued = issued(alloc, 2, NEW, OLD)?;
             absorbs(rt, alloc, part, &issued)
         }
         Call::Give => Some(gave(rt, part.give(u64::MAX))),

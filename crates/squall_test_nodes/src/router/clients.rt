@@ -15,9 +15,8 @@ ghost use Rattle.squall_router.specs.Routers.{course_of_router};
 use super::heard;
 use squall_course::Course;
 use squall_key::{Key, PartId};
-use squall_router::{
-    Router, all_in_is_the_new_plan, routers_follow_reports, same_told_same_routers,
-};
+use squall_router::Router;
+use squall_router::laws::{all_in_is_the_new_plan, routers_follow_reports, same_told_same_routers};
 use squall_table::Leg;
 use std::process::Abort;
 use std::sync::Arc;
@@ -57,7 +56,8 @@ fn both_parts(one: &Router, other: &Router, key: Key) -> (PartId, PartId)
 
 /// The entries of the table: the ranges of the new plan, once all has come.
 fn entries_once_all_is_in(router: &Router) -> &[Leg]
-    ensures { ((k : ℕ) → k < top → moves (course_of_router router.now).old (course_of_router router.now).new k ≡ true → has_come (course_of_router router.now) (says router.now.board) k ≡ true) → result.now ≡ (course_of_router router.now).new }
+    ensures { ((k : ℕ) → k < top → moves (course_of_router router.now).old (course_of_router router.now).new k ≡ true
+        → has_come (course_of_router router.now) (says router.now.board) k ≡ true) → result.now ≡ (course_of_router router.now).new }
 {
     all_in_is_the_new_plan(router);
     router.table().entries()

@@ -2,9 +2,9 @@
 
 use super::takes::taken;
 use super::{Said, heard};
-use crate::example::{NEW, OLD, plan};
 use squall_board::Board;
-use squall_key::{Bound, Key};
+use squall_example::{NEW, OLD, plan, span};
+use squall_key::Key;
 use squall_router::{Errand, Router};
 use squall_span::Span;
 use std::alloc::Global;
@@ -213,11 +213,6 @@ fn any_order_and_number(rt: HostRuntime) -> Result<(), Fail> {
         assert!(rt; end_alike(rt.alloc(), one, other) == Some(wanted));
     }
     Ok(())
-}
-
-/// The span between two bounds.
-fn span(lo: &str, hi: &str) -> Option<Span> {
-    Span::new(Bound::read(lo)?, Bound::read(hi)?)
 }
 
 /// Writes the legs of the span.

@@ -4,7 +4,7 @@ use super::{Said, delta, heard, report};
 use crate::example::course;
 use squall_board::Board;
 use squall_course::Course;
-use squall_key::Bound;
+use squall_example::span;
 use squall_report::Report;
 use squall_router::Router;
 use squall_span::Span;
@@ -167,14 +167,9 @@ fn cuts_or_not(rt: &impl Abort, alloc: Global, router: &Router, seen: &Seen, spa
     assert!(rt; is_as_seen(router, seen));
 }
 
-/// The span from 1:0 to 5:0.
-fn some_span() -> Option<Span> {
-    Span::new(Bound::read("1:0")?, Bound::read("5:0")?)
-}
-
 #[test]
 fn tolerant_route_span(rt: HostRuntime) -> Result<(), Fail> {
-    let span = some_span().ok_or("a span")?;
+    let span = span("1:0", "5:0").ok_or("a span")?;
     if let Some(router) = heard(rt.alloc(), &[Said::Load]) {
         if let Ok(seen) = look(rt.alloc(), &router) {
             cuts_or_not(&rt, rt.alloc(), &router, &seen, &span);

@@ -8,11 +8,13 @@ ghost use Rattle.squall_wire.specs.declared.fault.WireFault.{WireFault};
 ghost use Rattle.squall_wire.specs.declared.message.Message.{Message as MessageValue};
 ghost use Rattle.squall_wire.specs.Messages.{IsMessage, spell_all};
 ghost use Rattle.squall_wire.specs.Hearing.{HearsOn, new_feed};
-ghost use Rattle.squall_headline.specs.Ways.{Way, ByTake, ByTakeAll, ByMerge, Packed, Sent, reports_sent, reports_of, messages_of, ArePacked, TakesIn, LeadTo, AreComing, Brings};
+ghost use Rattle.squall_headline.specs.Ways.{Way, ByTake, ByTakeAll, ByMerge, Packed, Sent, reports_sent, reports_of, messages_of, ArePacked};
+ghost use Rattle.squall_headline.specs.Ways.{TakesIn, LeadTo, AreComing, Brings};
 
 use squall_board::Board;
 use squall_course::Course;
-use squall_headline::{headline, pieces_bring_messages};
+use squall_headline::headline;
+use squall_headline::laws::pieces_bring_messages;
 use squall_report::Report;
 use squall_router::Router;
 use squall_wire::{Feed, Message, encode};
@@ -66,7 +68,8 @@ fn absorb_all(router: &mut Router, messages: &[Message]) -> Result<(), AllocErro
 /// Pushes a piece of a stream, and absorbs what is heard.
 fn hear(feed: &mut Feed, router: &mut Router, piece: &[u8]) -> Result<(), AllocError>
     ensures first { router.new.first ≡ router.old.first }
-    ensures heard { OnOk result ((messages : List MessageValue) × (fault : Option WireFault) × HearsOn feed.old piece.now messages fault feed.new × TakesIn messages router.old.board router.new.board) }
+    ensures heard { OnOk result ((messages : List MessageValue) × (fault : Option WireFault)
+        × HearsOn feed.old piece.now messages fault feed.new × TakesIn messages router.old.board router.new.board) }
 {
     match feed.push(piece) {
         Ok(heard) => absorb_all(router, &heard.messages),
@@ -77,7 +80,8 @@ fn hear(feed: &mut Feed, router: &mut Router, piece: &[u8]) -> Result<(), AllocE
 /// Pushes the next piece of a stream, and absorbs what is heard.
 fn hear_next(feed: &mut Feed, router: &mut Router, piece: &[u8]) -> Result<(), AllocError>
     ensures first { router.new.first ≡ router.old.first }
-    ensures brings { OnOk result ((sent : List Sent) (coming : List ℕ) → AreComing sent feed.old (piece.now ++ coming) → Brings sent piece.now coming router.old.board router.new.board feed.new) }
+    ensures brings { OnOk result ((sent : List Sent) (coming : List ℕ) → AreComing sent feed.old (piece.now ++ coming)
+        → Brings sent piece.now coming router.old.board router.new.board feed.new) }
 {
     pieces_bring_messages();
     hear(feed, router, piece)
@@ -91,7 +95,8 @@ fn in_turn(
     other: (&[u8], &[u8]),
 ) -> Result<Router, AllocError>
     ensures first { IfOk result (λ r. r.first ≡ arc_value course.now) }
-    ensures ways { IfOk result (λ r. (ss qs : List Sent) → AreComing ss new_feed (one.entry.0.now ++ one.entry.1.now) → AreComing qs new_feed (other.entry.0.now ++ other.entry.1.now)
+    ensures ways { IfOk result (λ r. (ss qs : List Sent) → AreComing ss new_feed (one.entry.0.now ++ one.entry.1.now)
+        → AreComing qs new_feed (other.entry.0.now ++ other.entry.1.now)
         → (ws : List Way) × LeadTo ws r.board × SameTold (told_by (reports_of ws)) (told_by (reports_sent ss ++ reports_sent qs))) }
 {
     let mut feed = Feed::new(alloc);

@@ -35,6 +35,14 @@ fn look_at_new(rt: &impl Abort, alloc: Global, old: &Plan, new: &Plan) {
     }
 }
 
+/// Makes the course of number 1 between the plans.
+fn look_at_first(rt: &impl Abort, alloc: Global, old: &Plan, new: &Plan) {
+    if let Ok(course) = Course::first(alloc, old, new) {
+        assert!(rt; course.number() == 1);
+        assert!(rt; course.moves().len() == 1);
+    }
+}
+
 /// The plan is still that of its roots. It looks only where no allocation fails.
 fn is_as_before(rt: &impl Abort, alloc: Global, plan: &Plan, middle: u32) {
     if let Some(before) = self::plan(rt, alloc, middle) {
@@ -46,6 +54,7 @@ fn is_as_before(rt: &impl Abort, alloc: Global, plan: &Plan, middle: u32) {
 fn look_at_plans(rt: &impl Abort, alloc: Global, old: &Plan) {
     if let Some(new) = plan(rt, alloc, 2) {
         look_at_new(rt, alloc, old, &new);
+        look_at_first(rt, alloc, old, &new);
         is_as_before(rt, alloc, old, 3);
         is_as_before(rt, alloc, &new, 2);
     }

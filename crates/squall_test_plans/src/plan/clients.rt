@@ -6,7 +6,8 @@ ghost use Rattle.squall_plan.specs.Ranges.{names};
 ghost use Rattle.squall_plan.specs.Arranged.{range_limit};
 
 use squall_key::{Key, PartId};
-use squall_plan::{Plan, named_part_is_part, owner_is_named};
+use squall_plan::Plan;
+use squall_plan::laws::{named_part_is_part, owner_is_named};
 
 /// There are at most 4096 ranges in any plan.
 pub fn count(plan: &Plan) -> usize

@@ -17,7 +17,10 @@ fn openings_of_a_list()
 /// under which pairs differ is passed over, and so are the first number and those below it.
 fn newest_of_a_list()
     ensures greatest { (p q : PlanPair) → newest_by (Issued 1 p ∷ Issued 3 q ∷ Issued 2 p ∷ []) 1 ≡ Some (3, q) }
-    ensures clash { newest_by (Issued 3 (plan_pair [] []) ∷ Issued 2 (plan_pair [] []) ∷ Issued 3 (plan_pair (record { span = interval 0 1; part = 1 } ∷ []) []) ∷ []) 1 ≡ Some (2, plan_pair [] []) }
+    ensures clash { newest_by (Issued 3 (plan_pair [] []) ∷ Issued 2 (plan_pair [] []) ∷ Issued 3 (plan_pair (record {
+      span = interval 0 1;
+      part = 1;
+    } ∷ []) []) ∷ []) 1 ≡ Some (2, plan_pair [] []) }
     ensures none { (p q : PlanPair) → newest_by (Issued 1 p ∷ Issued 3 q ∷ Issued 2 p ∷ []) 3 ≡ None }
 {}
 

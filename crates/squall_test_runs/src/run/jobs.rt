@@ -1,10 +1,19 @@
 //! Tasks with their inputs and outputs.
 
-pub(super) const OLD: &str =
-    "old {\"plan\":[{\"part\":1,\"from\":[0,0],\"to\":[3,0]},{\"part\":2,\"from\":[3,0],\"to\":[5,0]},{\"part\":3,\"from\":[5,0],\"to\":[9,0]},{\"part\":4,\"from\":[9,0],\"to\":\"end\"}]}\n";
+use squall_example::{NEW as NEW_PLAN, OLD as OLD_PLAN};
 
-pub(super) const NEW: &str =
-    "new {\"plan\":[{\"part\":1,\"from\":[0,0],\"to\":[2,0]},{\"part\":2,\"from\":[3,0],\"to\":[5,0]},{\"part\":3,\"from\":[2,0],\"to\":[3,0]},{\"part\":3,\"from\":[5,0],\"to\":[6,0]},{\"part\":4,\"from\":[6,0],\"to\":\"end\"}]}\n";
+pub(super) const OLD: &str = concat!(
+    r#"old {"plan":[{"part":1,"from":[0,0],"to":[3,0]},{"part":2,"from":[3,0],"to":[5,0]},"#,
+    r#"{"part":3,"from":[5,0],"to":[9,0]},{"part":4,"from":[9,0],"to":"end"}]}"#,
+    "\n",
+);
+
+pub(super) const NEW: &str = concat!(
+    r#"new {"plan":[{"part":1,"from":[0,0],"to":[2,0]},{"part":2,"from":[3,0],"to":[5,0]},"#,
+    r#"{"part":3,"from":[2,0],"to":[3,0]},{"part":3,"from":[5,0],"to":[6,0]},"#,
+    r#"{"part":4,"from":[6,0],"to":"end"}]}"#,
+    "\n",
+);
 
 pub(super) const LINES: [&str; 9] = [
     OLD,
@@ -110,34 +119,33 @@ pub(super) const LEG_ANSWERS: [&str; 10] = [
 
 /// Two senders, one of which reports a load that the other one reports too, and an inbox of one
 /// letter.
-pub(super) const RACE: &str =
-    "old {\"plan\":[{\"part\":1,\"from\":[0,0],\"to\":[3,0]},{\"part\":2,\"from\":[3,0],\"to\":[5,0]},{\"part\":3,\"from\":[5,0],\"to\":[9,0]},{\"part\":4,\"from\":[9,0],\"to\":\"end\"}]}
-new {\"plan\":[{\"part\":1,\"from\":[0,0],\"to\":[2,0]},{\"part\":2,\"from\":[3,0],\"to\":[5,0]},{\"part\":3,\"from\":[2,0],\"to\":[3,0]},{\"part\":3,\"from\":[5,0],\"to\":[6,0]},{\"part\":4,\"from\":[6,0],\"to\":\"end\"}]}
-capacity 1
-0 loaded 1 0 3 2:0 2:7
-0 loaded 1 0 3 2:7 3:0
-1 loaded 1 0 3 2:0 2:7
-1 done 1 0 4
-key 2:0
-key 6:0
-key 9:0
-";
+pub(super) const RACE: &str = concat!(
+    r#"old {"plan":[{"part":1,"from":[0,0],"to":[3,0]},{"part":2,"from":[3,0],"to":[5,0]},"#,
+    r#"{"part":3,"from":[5,0],"to":[9,0]},{"part":4,"from":[9,0],"to":"end"}]}"#,
+    "\n",
+    r#"new {"plan":[{"part":1,"from":[0,0],"to":[2,0]},{"part":2,"from":[3,0],"to":[5,0]},"#,
+    r#"{"part":3,"from":[2,0],"to":[3,0]},{"part":3,"from":[5,0],"to":[6,0]},"#,
+    r#"{"part":4,"from":[6,0],"to":"end"}]}"#,
+    "\n",
+    "capacity 1\n",
+    "0 loaded 1 0 3 2:0 2:7\n",
+    "0 loaded 1 0 3 2:7 3:0\n",
+    "1 loaded 1 0 3 2:0 2:7\n",
+    "1 done 1 0 4\n",
+    "key 2:0\n",
+    "key 6:0\n",
+    "key 9:0\n",
+);
 
 /// What that race shows, whatever its threads do first.
 pub(super) const SHOWN: &str =
     "cell 1 0 3 open [2:0,3:0)\ncell 1 0 4 done\nroute 2:0 3\nroute 6:0 4\nroute 9:0 4\n";
 
-pub(super) const OLD_PLAN: &str =
-    "{\"plan\":[{\"part\":1,\"from\":[0,0],\"to\":[3,0]},{\"part\":2,\"from\":[3,0],\"to\":[5,0]},{\"part\":3,\"from\":[5,0],\"to\":[9,0]},{\"part\":4,\"from\":[9,0],\"to\":\"end\"}]}";
-
-pub(super) const NEW_PLAN: &str =
-    "{\"plan\":[{\"part\":1,\"from\":[0,0],\"to\":[2,0]},{\"part\":2,\"from\":[3,0],\"to\":[5,0]},{\"part\":3,\"from\":[2,0],\"to\":[3,0]},{\"part\":3,\"from\":[5,0],\"to\":[6,0]},{\"part\":4,\"from\":[6,0],\"to\":\"end\"}]}";
-
 pub(super) const NEW_CHECKED: &str =
     "range 1 [0:0,2:0)\nrange 3 [2:0,3:0)\nrange 2 [3:0,5:0)\nrange 3 [5:0,6:0)\nrange 4 [6:0,end)\nplan 5\n";
 
 pub(super) const GAP: &str =
-    "{\"plan\":[{\"part\":1,\"from\":[0,0],\"to\":[3,5]},{\"part\":2,\"from\":[3,6],\"to\":\"end\"}]}";
+    r#"{"plan":[{"part":1,"from":[0,0],"to":[3,5]},{"part":2,"from":[3,6],"to":"end"}]}"#;
 
 /// What is done with an input: its lines are run, it is raced, it is checked as a plan, or it is the old
 /// plan of a course.

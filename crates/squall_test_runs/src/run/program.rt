@@ -1,8 +1,9 @@
 //! The program's words: the tasks that they ask for, the files that they name, statuses and texts.
 
-use super::jobs::{GAP, NEW_CHECKED, NEW_PLAN, OLD, RACE, SHOWN};
+use super::jobs::{GAP, NEW_CHECKED, OLD, RACE, SHOWN};
 use super::{Drip, Drops};
-use squall_run::{Files, Reader, Source, Writer, perform};
+use squall_cli_run::{Files, Reader, Source, Writer, perform};
+use squall_example::NEW as NEW_PLAN;
 use std::alloc::{AllocError, Global};
 use std::io;
 use std::io::Read;

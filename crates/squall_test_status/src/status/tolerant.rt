@@ -1,29 +1,13 @@
 //! Each call that allocates, which may answer AllocError.
 
-use super::{NEW, OLD, load};
+use super::load;
 use squall_board::Board;
 use squall_course::Course;
-use squall_plan::Plan;
+use squall_example::course;
 use squall_report::Report;
 use squall_status::{CourseStatus, Shown, add_status};
 use std::alloc::Global;
 use std::process::Abort;
-
-/// The plan of a text. None where an allocation fails.
-fn plan(alloc: Global, text: &str) -> Option<Plan> {
-    Plan::read(alloc, text.as_bytes()).ok()
-}
-
-fn course_from(alloc: Global, old: &Plan) -> Option<Course> {
-    let new = plan(alloc, NEW)?;
-    Course::new(alloc, 1, old, &new).ok()
-}
-
-/// The course of the example plans. None where an allocation fails.
-fn course(alloc: Global) -> Option<Course> {
-    let old = plan(alloc, OLD)?;
-    course_from(alloc, &old)
-}
 
 /// Takes the report, where there is one. None also where an allocation fails.
 fn take(board: &mut Board, report: Option<Report>) -> Option<()> {
@@ -66,14 +50,18 @@ fn tolerant_of(rt: HostRuntime) {
     }
 }
 
+/// How far the course has come, and its move that waits.
+const WAITING: &str = concat!(
+    "course 1 moves 2 sub-plans 1 open none loaded 12884901893 of 17179869184 keys 750/1000\n",
+    "sub-plan 0 receivers 1 of 2 done\n",
+    "move [2:0,3:0) 1 to 3 sub 0 loaded 5 of 4294967296 missing [2:5,3:0)\n",
+);
+
 /// Adds the text after a word: the whole text comes, or the answer is an error.
 fn look_at_text(rt: &impl Abort, alloc: Global, status: &CourseStatus) {
     let mut out = String::new(alloc);
     if add_status(status, Shown::Waiting, &mut out).is_ok() {
-        assert!(rt;
-            out.as_str()
-                == "course 1 moves 2 sub-plans 1 open none loaded 12884901893 of 17179869184 keys 750/1000\nsub-plan 0 receivers 1 of 2 done\nmove [2:0,3:0) 1 to 3 sub 0 loaded 5 of 4294967296 missing [2:5,3:0)\n"
-        );
+        assert!(rt; out.as_str() == WAITING);
     }
     is_right(rt, status);
 }

@@ -4,16 +4,17 @@ ghost use Rattle.std.specs.Prelude.{◌<◌, ◌^◌, OnOk};
 ghost use Rattle.squall_table.specs.Tables.{IsTable};
 ghost use Rattle.squall_table.specs.Touched.{WasTable};
 
-use crate::table::{NEW, OLD, Said, course, course_of, delta, has_rows, is_built};
+use crate::table::{Said, delta, has_rows, is_built};
 use squall_board::{Board, Delta};
 use squall_course::Course;
+use squall_example::course;
 use squall_span::SpanSet;
 use squall_table::{Meter, RouteTable, touched};
 use std::alloc::{AllocError, Global};
 use std::test::Fail;
 
 /// Partition 4 is done.
-const DONE: Said = Said::Done {
+pub(crate) const DONE: Said = Said::Done {
     number: 1,
     sub: 0,
     part: 4,
@@ -47,7 +48,7 @@ fn touches(alloc: Global, course: &Course, said: &[Said], wanted: &str) -> Resul
 
 #[test]
 fn touched_keys(rt: HostRuntime) -> Result<(), Fail> {
-    let course = course(rt.alloc())?;
+    let course = course(rt.alloc()).ok_or("a course")?;
     let rows: [(&[Said], &str); 5] = [
         (&[Said::Opened { sub: 0 }], ""),
         (&[Said::Load("1:0", "2:5")], "[2:0,2:5);"),
@@ -141,7 +142,7 @@ fn is_patched(
 
 /// Whether the table of the example course is patched so for the delta.
 fn is_patched_by(alloc: Global, delta: &Delta, rows: &str, count: u64) -> Result<bool, Fail> {
-    let course = course(alloc)?;
+    let course = course(alloc).ok_or("a course")?;
     is_patched(alloc, &course, delta, rows, count)
 }
 
@@ -262,147 +263,10 @@ fn patched_twice_for(
 
 #[test]
 fn one_meter_counts_on(rt: HostRuntime) -> Result<(), Fail> {
-    let course = course(rt.alloc())?;
+    let course = course(rt.alloc()).ok_or("a course")?;
     let first = delta(rt.alloc(), &[Said::Load("2:0", "3:0")])?;
     let rows = "1 [0:0,2:0);3 [2:0,3:0);2 [3:0,5:0);3 [5:0,6:0);4 [6:0,end);";
     let patched = patched_twice_for(rt.alloc(), &course, &first, DONE, rows)?;
     assert!(rt; patched == (true, (3, 6)));
-    Ok(())
-}
-
-const ALONE: &str = "{\"plan\":[{\"part\":1,\"from\":[0,0],\"to\":\"end\"}]}";
-
-const ENDS: &str =
-    "{\"plan\":[{\"part\":3,\"from\":[0,0],\"to\":[1,0]},{\"part\":1,\"from\":[1,0],\"to\":[8,0]},{\"part\":3,\"from\":[8,0],\"to\":\"end\"}]}";
-
-/// The board, and its table, after both deltas, one after the other.
-fn absorb(
-    course: &Course,
-    board: &mut Board,
-    table: &mut RouteTable,
-    first: &Delta,
-    second: &Delta,
-) -> Result<(), Fail>
-    requires { IsTable course.now board.old table.old }
-{
-    table.absorb(course, board, first)?;
-    table.absorb(course, board, second)?;
-    Ok(())
-}
-
-/// Whether the table has the rows, and that which is built of the board too.
-fn has_both(
-    alloc: Global,
-    course: &Course,
-    board: &Board,
-    table: &RouteTable,
-    rows: &str,
-) -> Result<bool, Fail> {
-    Ok(has_rows(alloc, table, rows)? && is_built(alloc, course, board, rows)?)
-}
-
-/// Whether the table that has absorbed both deltas, and that which is built, has the rows.
-fn absorbed(
-    alloc: Global,
-    course: &Course,
-    first: &Delta,
-    second: &Delta,
-    rows: &str,
-) -> Result<bool, Fail> {
-    let mut board = Board::new(alloc);
-    let mut table = RouteTable::build(alloc, course, &board)?;
-    absorb(course, &mut board, &mut table, first, second)?;
-    has_both(alloc, course, &board, &table, rows)
-}
-
-/// Whether the table has the rows after the delta and then the list of reports.
-fn is_absorbed_after(
-    alloc: Global,
-    course: &Course,
-    first: &Delta,
-    second: &[Said],
-    rows: &str,
-) -> Result<bool, Fail> {
-    let second = delta(alloc, second)?;
-    absorbed(alloc, course, first, &second, rows)
-}
-
-/// Whether the course's table has the rows after the one list of reports and then the other.
-fn is_absorbed_by(
-    alloc: Global,
-    course: &Course,
-    first: &[Said],
-    second: &[Said],
-    rows: &str,
-) -> Result<bool, Fail> {
-    let first = delta(alloc, first)?;
-    is_absorbed_after(alloc, course, &first, second, rows)
-}
-
-/// Whether the table of the course between the two plans has the rows after the one list of reports
-/// and then the other.
-fn is_absorbed(
-    alloc: Global,
-    plans: (&str, &str),
-    first: &[Said],
-    second: &[Said],
-    rows: &str,
-) -> Result<bool, Fail> {
-    let course = course_of(alloc, plans.0, plans.1)?;
-    is_absorbed_by(alloc, &course, first, second, rows)
-}
-
-#[test]
-fn absorbs_at_both_ends(rt: HostRuntime) -> Result<(), Fail> {
-    // The first keys and the last go from 1 to 3.
-    let plans = (ALONE, ENDS);
-    let cases: [(Said, Said, &str); 2] = [
-        (
-            Said::Load("0:0", "0:4"),
-            Said::Load("8:5", "end"),
-            "3 [0:0,0:4);1 [0:4,8:5);3 [8:5,end);",
-        ),
-        (
-            Said::Load("0:4", "0:7"),
-            Said::Done {
-                number: 1,
-                sub: 0,
-                part: 3,
-            },
-            "3 [0:0,1:0);1 [1:0,8:0);3 [8:0,end);",
-        ),
-    ];
-    for (first, second, rows) in cases {
-        assert!(rt;
-            is_absorbed(rt.alloc(), plans, &[first], &[second], rows)?,
-            "{rows}"
-        );
-    }
-    Ok(())
-}
-
-#[test]
-fn absorbs(rt: HostRuntime) -> Result<(), Fail> {
-    let two = [Said::Load("2:1", "2:2"), DONE];
-    let cases: [(&[Said], &[Said], &str); 2] = [
-        // Legs of two loads are joined.
-        (
-            &[Said::Load("2:7", "3:0")],
-            &[Said::Load("2:0", "2:7")],
-            "1 [0:0,2:0);3 [2:0,3:0);2 [3:0,5:0);3 [5:0,9:0);4 [9:0,end);",
-        ),
-        // The same a second time changes nothing.
-        (
-            &two,
-            &two,
-            "1 [0:0,2:1);3 [2:1,2:2);1 [2:2,3:0);2 [3:0,5:0);3 [5:0,6:0);4 [6:0,end);",
-        ),
-    ];
-    for (first, second, rows) in cases {
-        assert!(rt;
-            is_absorbed(rt.alloc(), (OLD, NEW), first, second, rows)?,
-            "{rows}"
-        );
-    }
     Ok(())
 }

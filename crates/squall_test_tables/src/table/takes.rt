@@ -3,9 +3,10 @@
 ghost use Rattle.std.specs.Prelude.{OnOk};
 ghost use Rattle.squall_table.specs.Tables.{IsTable};
 
-use crate::table::{Said, course, has_rows, is_built, is_cut, report};
+use crate::table::{Said, has_rows, is_built, is_cut, report};
 use squall_board::Board;
 use squall_course::Course;
+use squall_example::course;
 use squall_table::RouteTable;
 use std::alloc::Global;
 use std::process::Abort;
@@ -123,7 +124,7 @@ fn look_at_takes(
 
 #[test]
 fn reports_taken(rt: HostRuntime) -> Result<(), Fail> {
-    let course = course(rt.alloc())?;
+    let course = course(rt.alloc()).ok_or("a course")?;
     look_at_takes(&rt, rt.alloc(), &course, &TAKES)
 }
 
@@ -137,7 +138,7 @@ fn is_cut_after_a_load(alloc: Global, course: &Course, rows: &str) -> Result<boo
 
 #[test]
 fn cut_after_a_load(rt: HostRuntime) -> Result<(), Fail> {
-    let course = course(rt.alloc())?;
+    let course = course(rt.alloc()).ok_or("a course")?;
     assert!(rt; is_cut_after_a_load(rt.alloc(), &course, "3 [2:0,3:0);2 [3:0,4:0);")?);
     Ok(())
 }

@@ -3,22 +3,14 @@
 ghost use Rattle.squall_table.specs.Tables.{IsTable};
 
 use crate::table::patches::patch;
-use crate::table::{NEW, OLD, load, span};
 use squall_board::{Board, Delta};
 use squall_course::Course;
-use squall_plan::Plan;
+use squall_example::{course, load, span};
 use squall_span::Span;
 use squall_table::{RouteTable, touched};
 use std::alloc::{AllocError, Global};
 use std::process::Abort;
 use std::test::Fail;
-
-/// The example course. None where an allocation fails.
-pub(crate) fn small_course(alloc: Global) -> Option<Course> {
-    let old = Plan::read(alloc, OLD.as_bytes()).ok()?;
-    let new = Plan::read(alloc, NEW.as_bytes()).ok()?;
-    Course::new(alloc, 1, &old, &new).ok()
-}
 
 /// Takes the load. None where an allocation fails.
 fn take_load(delta: &mut Delta) -> Option<()> {
@@ -41,7 +33,7 @@ fn first_table(alloc: Global, course: &Course) -> Option<RouteTable> {
 
 /// The table of the example course before any report. None where an allocation fails.
 fn small_table(alloc: Global) -> Option<RouteTable> {
-    let course = small_course(alloc)?;
+    let course = course(alloc)?;
     first_table(alloc, &course)
 }
 
@@ -172,7 +164,7 @@ fn takes_with(rt: &impl Abort, alloc: Global, course: &Course, step: Step) {
 
 /// The step is taken, where the course and the delta can be made.
 fn takes(rt: &impl Abort, alloc: Global, step: Step) {
-    if let Some(course) = small_course(alloc) {
+    if let Some(course) = course(alloc) {
         takes_with(rt, alloc, &course, step);
     }
 }

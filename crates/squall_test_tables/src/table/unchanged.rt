@@ -2,10 +2,10 @@
 
 ghost use Rattle.squall_table.specs.Tables.{IsTable};
 
-use crate::table::tolerant::small_course;
 use crate::table::{Said, report};
 use squall_board::Board;
 use squall_course::Course;
+use squall_example::course;
 use squall_report::Report;
 use squall_table::{Leg, RouteTable};
 use std::alloc::{AllocError, Global};
@@ -69,7 +69,7 @@ fn tolerant_take(rt: HostRuntime) -> Result<(), Fail> {
         done,
         Said::Opened { sub: 0 },
     ];
-    if let Some(course) = small_course(rt.alloc()) {
+    if let Some(course) = course(rt.alloc()) {
         each_or_not(&rt, rt.alloc(), &course, &said);
     }
     Ok(())
@@ -94,7 +94,7 @@ fn new_copies_or_not(rt: &impl Abort, alloc: Global, course: &Course) {
 
 #[test]
 fn tolerant_copied(rt: HostRuntime) -> Result<(), Fail> {
-    if let Some(course) = small_course(rt.alloc()) {
+    if let Some(course) = course(rt.alloc()) {
         new_copies_or_not(&rt, rt.alloc(), &course);
     }
     Ok(())

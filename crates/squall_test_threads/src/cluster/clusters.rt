@@ -1,10 +1,10 @@
 //! Clusters of all sizes, and two at once.
 
-ghost use Rattle.squall_desk.specs.Start.{IsStartOf};
+ghost use Rattle.squall_cluster_desk.specs.Start.{IsStartOf};
 
 use super::{Origin, Pair, board, closed, course, empty_origin, load, moving_key, opened};
 use squall_board::Board;
-use squall_cluster::{Case, Cluster, Seat, SeatFault, Sizes, Start};
+use squall_cluster::{Cluster, Constants, Seat, SeatFault, Sizes, Start};
 use squall_key::{Key, PartId};
 use std::alloc::Global;
 use std::marker::Brand;
@@ -13,7 +13,7 @@ use std::sync::Wait;
 use std::test::Fail;
 
 /// The text of the fault with these sizes. None if a cluster was made, which it lets go.
-fn fault_of<K: Case, R: Wait>(
+fn fault_of<K: Constants, R: Wait>(
     rt: &R,
     alloc: Global,
     start: Start,
@@ -80,7 +80,7 @@ fn loaded_origin(alloc: Global) -> Option<Origin> {
 
 /// The board of a cluster of no readers whose senders end at once. None if it hands out a seat, or
 /// if an allocation fails.
-fn ended<K: Case, R: Wait>(rt: &R, alloc: Global, start: Start) -> Option<Board>
+fn ended<K: Constants, R: Wait>(rt: &R, alloc: Global, start: Start) -> Option<Board>
     requires { IsStartOf K.book K.first K.opening start }
 {
     let pair = opened::<K, &R>(rt, alloc, start, 0, 1)?;
@@ -101,12 +101,12 @@ fn ends_at_once(rt: HostRuntime) -> Result<(), Fail> {
 type Routes = (Option<PartId>, Option<PartId>);
 
 /// Where both seats send the key.
-fn routes<J: Case, K: Case>(near: &mut Seat<J>, far: &mut Seat<K>, key: Key) -> Routes {
+fn routes<J: Constants, K: Constants>(near: &mut Seat<J>, far: &mut Seat<K>, key: Key) -> Routes {
     (near.route(key), far.route(key))
 }
 
 /// Where a seat of the cluster, which is let go, and another seat send 2:0, before that and after.
-fn let_go<J: Case, K: Case, R: Wait>(
+fn let_go<J: Constants, K: Constants, R: Wait>(
     one: Pair<J, &R>,
     far: &mut Seat<K>,
 ) -> Option<(Routes, Routes)> {
@@ -118,7 +118,7 @@ fn let_go<J: Case, K: Case, R: Wait>(
 }
 
 /// Where a seat of a cluster that is let go, and another seat send 2:0, before that and after.
-fn beside<J: Case, K: Case, R: Wait>(
+fn beside<J: Constants, K: Constants, R: Wait>(
     rt: &R,
     alloc: Global,
     here: Start,
@@ -133,7 +133,7 @@ fn beside<J: Case, K: Case, R: Wait>(
 
 /// Where two clusters at once send 2:0, each by its own board, and then once the first was let go. None
 /// if an allocation fails.
-fn asked<J: Case, K: Case, R: Wait>(
+fn asked<J: Constants, K: Constants, R: Wait>(
     rt: &R,
     alloc: Global,
     here: Start,
@@ -159,7 +159,7 @@ fn two_at_once(rt: HostRuntime) -> Result<(), Fail> {
 }
 
 /// Adds 64 seats of the cluster. None if there are not so many, or if an allocation fails.
-fn push_seats<K: Case>(cluster: &Cluster<K>, seats: &mut Vec<Seat<K>>) -> Option<()> {
+fn push_seats<K: Constants>(cluster: &Cluster<K>, seats: &mut Vec<Seat<K>>) -> Option<()> {
     for _ in 0..64 {
         seats.push(cluster.seat().ok()?).ok()?;
     }
@@ -167,7 +167,7 @@ fn push_seats<K: Case>(cluster: &Cluster<K>, seats: &mut Vec<Seat<K>>) -> Option
 }
 
 /// Whether all seats send the key to partition 1.
-fn all_send<K: Case>(seats: &mut [Seat<K>], key: Key) -> bool {
+fn all_send<K: Constants>(seats: &mut [Seat<K>], key: Key) -> bool {
     seats
         .iter_mut()
         .all(|seat| seat.route(key) == PartId::new(1))
@@ -175,7 +175,7 @@ fn all_send<K: Case>(seats: &mut [Seat<K>], key: Key) -> bool {
 
 /// Whether there is no further seat once all are out, all answer as they should, and one that is given
 /// back is handed out again.
-fn seats_are_right<K: Case>(cluster: &Cluster<K>, seats: &mut Vec<Seat<K>>) -> Option<bool> {
+fn seats_are_right<K: Constants>(cluster: &Cluster<K>, seats: &mut Vec<Seat<K>>) -> Option<bool> {
     push_seats(cluster, seats)?;
     let full = cluster.seat().is_err();
     let right = all_send(seats, moving_key()?);
@@ -185,14 +185,14 @@ fn seats_are_right<K: Case>(cluster: &Cluster<K>, seats: &mut Vec<Seat<K>>) -> O
 }
 
 /// Whether all 64 seats of the cluster answer as they should. None if an allocation fails.
-fn are_seated<K: Case>(alloc: Global, cluster: &Cluster<K>) -> Option<bool> {
+fn are_seated<K: Constants>(alloc: Global, cluster: &Cluster<K>) -> Option<bool> {
     let mut seats = Vec::new(alloc);
     seats_are_right(cluster, &mut seats)
 }
 
 /// Whether all 64 seats of a cluster answer as they should, and one that is given back is handed out
 /// again. None if an allocation fails.
-fn seated<K: Case, R: Wait>(rt: &R, alloc: Global, start: Start) -> Option<bool>
+fn seated<K: Constants, R: Wait>(rt: &R, alloc: Global, start: Start) -> Option<bool>
     requires { IsStartOf K.book K.first K.opening start }
 {
     let pair = opened::<K, &R>(rt, alloc, start, 64, 1)?;

@@ -1,10 +1,10 @@
 //! A cluster that is made while an allocation fails.
 
-ghost use Rattle.squall_desk.specs.Start.{IsStartOf};
+ghost use Rattle.squall_cluster_desk.specs.Start.{IsStartOf};
 
 use super::{Origin, board, course, load};
 use squall_board::Board;
-use squall_cluster::{Case, Cluster, ClusterFault, Sizes, Start};
+use squall_cluster::{Cluster, ClusterFault, Constants, Sizes, Start};
 use std::alloc::Global;
 use std::marker::Brand;
 use std::sync::Wait;
@@ -30,7 +30,7 @@ fn origin_and_copy(alloc: Global) -> Option<Kept> {
 
 /// Whether a cluster of two senders and two readers is made, which hands out a seat, or is refused as
 /// NoMemory.
-fn made_or_refused<K: Case, R: Wait>(rt: &R, alloc: Global, start: Start) -> bool
+fn made_or_refused<K: Constants, R: Wait>(rt: &R, alloc: Global, start: Start) -> bool
     requires { IsStartOf K.book K.first K.opening start }
 {
     let sizes = Sizes {

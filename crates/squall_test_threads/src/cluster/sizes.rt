@@ -1,11 +1,11 @@
 //! Clusters of several sizes: as many seats as readers, as many letters as the inbox has room for.
 
 ghost use Rattle.std.specs.Prelude.{◌≡◌, None};
-ghost use Rattle.squall_desk.specs.Start.{IsStartOf};
+ghost use Rattle.squall_cluster_desk.specs.Start.{IsStartOf};
 
 use super::{Origin, board, closed, empty_origin, load, load_letter, opened};
 use squall_board::Board;
-use squall_cluster::{Case, Cluster, Owner, Seat, SeatFault, Sender, Start};
+use squall_cluster::{Cluster, Constants, Owner, Seat, SeatFault, Sender, Start};
 use std::alloc::Global;
 use std::marker::Brand;
 use std::process::Abort;
@@ -19,7 +19,11 @@ type Size = (usize, usize);
 const SIZES: [Size; 4] = [(0, 1), (1, 2), (2, 3), (5, 16)];
 
 /// Adds that many seats of the cluster. None if it has fewer.
-fn push_seats<K: Case>(cluster: &Cluster<K>, count: usize, seats: &mut Vec<Seat<K>>) -> Option<()> {
+fn push_seats<K: Constants>(
+    cluster: &Cluster<K>,
+    count: usize,
+    seats: &mut Vec<Seat<K>>,
+) -> Option<()> {
     for _ in 0..count {
         seats.push(cluster.seat().ok()?).ok()?;
     }
@@ -27,14 +31,14 @@ fn push_seats<K: Case>(cluster: &Cluster<K>, count: usize, seats: &mut Vec<Seat<
 }
 
 /// Whether the cluster hands out that many seats at once, and then has no place.
-fn has_seats<K: Case>(alloc: Global, cluster: &Cluster<K>, count: usize) -> Option<bool> {
+fn has_seats<K: Constants>(alloc: Global, cluster: &Cluster<K>, count: usize) -> Option<bool> {
     let mut seats = Vec::new(alloc);
     push_seats(cluster, count, &mut seats)?;
     Some(matches!(cluster.seat(), Err(SeatFault::NoPlace)))
 }
 
 /// Posts the load. None if the inbox is full, or if an allocation fails.
-fn post_load<K: Case, R: Wait>(rt: &R, alloc: Global, sender: &mut Sender<K>) -> Option<()>
+fn post_load<K: Constants, R: Wait>(rt: &R, alloc: Global, sender: &mut Sender<K>) -> Option<()>
     requires { K.allowed ≡ None }
     ensures inbox { sender.new.inbox ≡ sender.old.inbox }
 {
@@ -43,7 +47,7 @@ fn post_load<K: Case, R: Wait>(rt: &R, alloc: Global, sender: &mut Sender<K>) ->
 }
 
 /// Posts that many letters. None if the inbox is full before, or if an allocation fails.
-fn post_loads<K: Case, R: Wait>(
+fn post_loads<K: Constants, R: Wait>(
     rt: &R,
     alloc: Global,
     sender: &mut Sender<K>,
@@ -59,7 +63,7 @@ fn post_loads<K: Case, R: Wait>(
 }
 
 /// Whether the inbox takes that many letters and no more, and one more after a turn.
-fn has_room<K: Case, R: Wait, W: Wait + Drop>(
+fn has_room<K: Constants, R: Wait, W: Wait + Drop>(
     rt: &R,
     alloc: Global,
     sender: &mut Sender<K>,
@@ -80,7 +84,12 @@ fn has_room<K: Case, R: Wait, W: Wait + Drop>(
 
 /// Whether a cluster of that size has as many seats and as much room as it should, and its board when it
 /// is closed with all these letters. None if an allocation fails.
-fn sized<K: Case, R: Wait>(rt: &R, alloc: Global, start: Start, size: Size) -> Option<(bool, Board)>
+fn sized<K: Constants, R: Wait>(
+    rt: &R,
+    alloc: Global,
+    start: Start,
+    size: Size,
+) -> Option<(bool, Board)>
     requires start { IsStartOf K.book K.first K.opening start }
     requires allowed { K.allowed ≡ None }
 {

@@ -1,11 +1,13 @@
 //! A cluster step by step.
 
 ghost use Rattle.std.specs.Prelude.{◌≡◌, None};
-ghost use Rattle.squall_desk.specs.Start.{IsStartOf};
+ghost use Rattle.squall_cluster_desk.specs.Start.{IsStartOf};
 
 use super::{closed, empty_origin, is_board_of_both, moving_key, opened, two_letters};
 use squall_board::Board;
-use squall_cluster::{Case, Cluster, Full, Letter, Notice, Owner, Seat, SeatFault, Sender, Start};
+use squall_cluster::{
+    Cluster, Constants, Full, Letter, Notice, Owner, Seat, SeatFault, Sender, Start,
+};
 use squall_key::PartId;
 use std::alloc::Global;
 use std::marker::Brand;
@@ -13,7 +15,7 @@ use std::sync::Wait;
 use std::test::Fail;
 
 /// Two seats, after which there is no place.
-fn two_seats<K: Case>(cluster: &Cluster<K>) -> Option<(Seat<K>, Seat<K>)> {
+fn two_seats<K: Constants>(cluster: &Cluster<K>) -> Option<(Seat<K>, Seat<K>)> {
     let one = cluster.seat().ok()?;
     let other = cluster.seat().ok()?;
     match cluster.seat() {
@@ -23,7 +25,7 @@ fn two_seats<K: Case>(cluster: &Cluster<K>) -> Option<(Seat<K>, Seat<K>)> {
 }
 
 /// Posts a letter that fills the inbox, and another that comes back.
-fn post_and_get_back<K: Case, R: Wait>(
+fn post_and_get_back<K: Constants, R: Wait>(
     rt: &R,
     first: &mut Sender<K>,
     second: &mut Sender<K>,
@@ -41,14 +43,14 @@ fn post_and_get_back<K: Case, R: Wait>(
 }
 
 /// Whether the seat sends 2:0 where it moves to, once it learns.
-fn sees_new<K: Case>(seat: &mut Seat<K>, notice: &Notice<K>) -> Option<()> {
+fn sees_new<K: Constants>(seat: &mut Seat<K>, notice: &Notice<K>) -> Option<()> {
     seat.learn(notice);
     let sees = seat.route(moving_key()?) == PartId::new(3);
     sees.then_some(())
 }
 
 /// A turn that takes the letter, which the seat that learns of it sees.
-fn turn_and_learn<K: Case, R: Wait + Drop>(
+fn turn_and_learn<K: Constants, R: Wait + Drop>(
     owner: &mut Owner<K, R>,
     seat: &mut Seat<K>,
 ) -> Option<()>
@@ -64,7 +66,7 @@ fn turn_and_learn<K: Case, R: Wait + Drop>(
 }
 
 /// A turn that finds no letter.
-fn turn_for_nothing<K: Case, R: Wait + Drop>(owner: &mut Owner<K, R>) -> Option<()>
+fn turn_for_nothing<K: Constants, R: Wait + Drop>(owner: &mut Owner<K, R>) -> Option<()>
     ensures inbox { owner.new.inbox ≡ owner.old.inbox }
     ensures senders { (owner.new.made ≡ owner.old.made) × (owner.new.vouched ≡ owner.old.vouched) }
 {
@@ -73,13 +75,13 @@ fn turn_for_nothing<K: Case, R: Wait + Drop>(owner: &mut Owner<K, R>) -> Option<
 }
 
 /// Whether the seat sends 2:0 where it moves from or to.
-fn sees_either<K: Case>(seat: &mut Seat<K>) -> Option<()> {
+fn sees_either<K: Constants>(seat: &mut Seat<K>) -> Option<()> {
     let part = seat.route(moving_key()?)?;
     (part.get() == 1 || part.get() == 3).then_some(())
 }
 
 /// Two turns, of which the first takes a letter, as both seats see, and the second takes none.
-fn turn_before<K: Case, R: Wait + Drop>(
+fn turn_before<K: Constants, R: Wait + Drop>(
     owner: &mut Owner<K, R>,
     one: &mut Seat<K>,
     other: &mut Seat<K>,
@@ -93,7 +95,10 @@ fn turn_before<K: Case, R: Wait + Drop>(
 }
 
 /// Two turns, of which the first takes a letter, as two seats see, and the second takes none.
-fn turn_twice<K: Case, R: Wait + Drop>(cluster: &Cluster<K>, owner: &mut Owner<K, R>) -> Option<()>
+fn turn_twice<K: Constants, R: Wait + Drop>(
+    cluster: &Cluster<K>,
+    owner: &mut Owner<K, R>,
+) -> Option<()>
     ensures inbox { owner.new.inbox ≡ owner.old.inbox }
     ensures senders { (owner.new.made ≡ owner.old.made) × (owner.new.vouched ≡ owner.old.vouched) }
 {
@@ -103,7 +108,7 @@ fn turn_twice<K: Case, R: Wait + Drop>(cluster: &Cluster<K>, owner: &mut Owner<K
 
 /// A cluster in which two letters are posted, if each step answers as it should. None if one does
 /// not, or if an allocation fails.
-fn take_steps<K: Case, R: Wait>(
+fn take_steps<K: Constants, R: Wait>(
     rt: &R,
     cluster: &Cluster<K>,
     first: &mut Sender<K>,
@@ -123,7 +128,7 @@ fn take_steps<K: Case, R: Wait>(
 }
 
 /// The board of a cluster after these steps.
-fn steps<K: Case, R: Wait>(
+fn steps<K: Constants, R: Wait>(
     rt: &R,
     alloc: Global,
     start: Start,
@@ -147,7 +152,7 @@ fn steps<K: Case, R: Wait>(
 
 /// Whether the board after the steps is that of both reports. None if a step does not answer as it
 /// should, or if an allocation fails.
-fn are_right<K: Case, R: Wait>(rt: &R, alloc: Global, start: Start) -> Option<bool>
+fn are_right<K: Constants, R: Wait>(rt: &R, alloc: Global, start: Start) -> Option<bool>
     requires start { IsStartOf K.book K.first K.opening start }
     requires allowed { K.allowed ≡ None }
 {

@@ -1,11 +1,11 @@
 //! Where an allocation fails nothing is lost.
 
 ghost use Rattle.std.specs.Prelude.{◌≡◌, None};
-ghost use Rattle.squall_desk.specs.Start.{IsStartOf};
+ghost use Rattle.squall_cluster_desk.specs.Start.{IsStartOf};
 
 use super::{closed, empty_origin, is_board_of_both, moving_key, opened, two_letters};
 use squall_board::Board;
-use squall_cluster::{Case, Letter, Owner, Seat, Start};
+use squall_cluster::{Constants, Letter, Owner, Seat, Start};
 use squall_key::PartId;
 use std::alloc::Global;
 use std::marker::Brand;
@@ -13,7 +13,7 @@ use std::sync::Wait;
 use std::test::Fail;
 
 /// Whether the seat sends 2:0 to the partition.
-fn sends_to<K: Case>(seat: &mut Seat<K>, part: u32) -> bool {
+fn sends_to<K: Constants>(seat: &mut Seat<K>, part: u32) -> bool {
     match moving_key() {
         Some(key) => seat.route(key) == PartId::new(part),
         None => false,
@@ -22,7 +22,7 @@ fn sends_to<K: Case>(seat: &mut Seat<K>, part: u32) -> bool {
 
 /// Whether a turn takes the letter that was posted, at the first or at the second try, and the seat then
 /// sees it, but not after a first try that failed.
-fn turns<K: Case, R: Wait + Drop>(owner: &mut Owner<K, R>, seat: &mut Seat<K>) -> bool
+fn turns<K: Constants, R: Wait + Drop>(owner: &mut Owner<K, R>, seat: &mut Seat<K>) -> bool
     ensures inbox { owner.new.inbox ≡ owner.old.inbox }
     ensures senders { (owner.new.made ≡ owner.old.made) × (owner.new.vouched ≡ owner.old.vouched) }
 {
@@ -35,7 +35,7 @@ fn turns<K: Case, R: Wait + Drop>(owner: &mut Owner<K, R>, seat: &mut Seat<K>) -
 
 /// Whether each step of a cluster that takes two letters answers as it should, and its board, closed at a
 /// second try if the first had no memory. None if an allocation fails elsewhere.
-fn takes_both<K: Case, R: Wait>(
+fn takes_both<K: Constants, R: Wait>(
     rt: &R,
     alloc: Global,
     start: Start,
@@ -55,7 +55,7 @@ fn takes_both<K: Case, R: Wait>(
 }
 
 /// Whether a cluster loses nothing. Also if an allocation fails before there is one.
-fn loses_nothing<K: Case, R: Wait>(rt: &R, alloc: Global, start: Start) -> Option<bool>
+fn loses_nothing<K: Constants, R: Wait>(rt: &R, alloc: Global, start: Start) -> Option<bool>
     requires start { IsStartOf K.book K.first K.opening start }
     requires allowed { K.allowed ≡ None }
 {

@@ -5,7 +5,8 @@ ghost use Rattle.squall_key.specs.Keys.{top};
 ghost use Rattle.squall_span.specs.Spans.{has, IsSet};
 
 use super::{TWO, set};
-use squall_span::{SpanSet, same_keys_same_set};
+use squall_span::SpanSet;
+use squall_span::laws::same_keys_same_set;
 use std::test::Fail;
 
 /// Its spans are in order, and end by the top.

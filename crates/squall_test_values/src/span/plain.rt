@@ -106,16 +106,21 @@ fn compare(
     Ok(())
 }
 
+/// How many of the spans end at the bound or before.
+fn count_ended(spans: &[Span], at: Bound) -> usize {
+    let mut count = 0usize;
+    for span in spans {
+        count = count.wrapping_add(usize::from(span.hi() <= at));
+    }
+    count
+}
+
 /// Whether the set says of each bound how many of its spans end at it or before.
 fn counts_ends(rt: &impl Abort, set: &SpanSet) -> bool {
     let mut right = true;
     for rank in 0..26u32 {
         let at = bound(rt, rank);
-        let mut count = 0usize;
-        for span in set.spans() {
-            count = count.wrapping_add(usize::from(span.hi() <= at));
-        }
-        right &= set.ended(at) == count;
+        right &= set.ended(at) == count_ended(set.spans(), at);
     }
     right
 }

@@ -6,5 +6,5 @@ use Rattle.squall_test_nodes.proofs.router.ways.by_takes.Goals as goal
 
 pub returns : goal.returns
 returns c =
-    let first = subst (λ (b : BoardValue). TellsBoth (told c.take.new.self) (told b) (told_by_report c.args.first.now)) c.new-board.ensures.empty c.in_ok-take.ensures.told in
-    (c.take.new.self, first, (c.take-2.new.self, c.in_ok-take-2.ensures.told, refl))
+    let first = subst (λ (b : BoardValue). TellsBoth (told c.take.new.self) (told b) (told_by_report c.args.first.now)) c.new-board.ensures.empty c.in_ok-take.ensures.takes.tells in
+    (c.take.new.self, first, (c.take-2.new.self, c.in_ok-take-2.ensures.takes.tells, refl))

@@ -1,0 +1,183 @@
+//! Tests of lists in blocks.
+
+mod plain;
+mod tolerant;
+
+use squall_blocks::{Blocks, Entries, Prepared};
+use squall_key::Bound;
+use std::alloc::{AllocError, Global};
+use std::process::Abort;
+use std::test::Fail;
+
+fn bound(rt: &impl Abort, rank: u64) -> Bound {
+    Bound::of_rank(rank).expect(rt, "a bound")
+}
+
+/// Entries of one value, so many, that end at every so manieth key beyond a key.
+fn row(
+    rt: &impl Abort,
+    alloc: Global,
+    from: u64,
+    step: u64,
+    count: u64,
+    value: u16,
+) -> Result<Entries<u16>, AllocError> {
+    let mut entries = Entries::new(alloc);
+    for place in 0..count {
+        let way = step.saturating_mul(place.saturating_add(1));
+        entries.push(bound(rt, from.saturating_add(way)), value)?;
+    }
+    Ok(entries)
+}
+
+/// Puts the fresh entries in place of those between two keys, if they lie between them.
+fn put(
+    rt: &impl Abort,
+    alloc: Global,
+    blocks: &mut Blocks<u16>,
+    from: u64,
+    to: u64,
+    fresh: &Entries<u16>,
+) -> Result<(), AllocError> {
+    let (low, high) = (bound(rt, from), bound(rt, to));
+    assert!(rt; fresh.is_between(low, high));
+    blocks.replace(alloc, low, high, fresh)
+}
+
+/// The end and the value of an entry, zeros if there is none.
+fn told(entry: Option<(Bound, u16)>) -> (u64, u16) {
+    match entry {
+        Some((end, value)) => (end.rank(), value),
+        None => (0, 0),
+    }
+}
+
+/// How many entries there are, and the sum of their values.
+fn counted(blocks: &Blocks<u16>) -> (usize, u16) {
+    let mut count = 0usize;
+    let mut sum = 0u16;
+    for (_, value) in blocks.iter() {
+        count = count.wrapping_add(1);
+        sum = sum.wrapping_add(value);
+    }
+    (count, sum)
+}
+
+/// Whether the entries beyond a key are so many, and the first of them is this one.
+fn begins(
+    rt: &impl Abort,
+    blocks: &Blocks<u16>,
+    key: u64,
+    count: usize,
+    first: (u64, u16),
+) -> bool {
+    let mut seen = 0usize;
+    let mut right = told(blocks.above(bound(rt, key))) == first;
+    for (end, value) in blocks.iter_from(bound(rt, key)) {
+        right &= seen > 0 || (end.rank(), value) == first;
+        seen = seen.wrapping_add(1);
+    }
+    right && seen == count
+}
+
+#[test]
+fn entries_of_a_row(rt: HostRuntime) -> Result<(), Fail> {
+    let entries = row(&rt, rt.alloc(), 5, 10, 3, 7)?;
+    assert!(rt; entries.len() == 3 && told(entries.get(0)) == (15, 7));
+    assert!(rt; told(entries.get(2)) == (35, 7) && entries.get(3).is_none());
+    assert!(rt; entries.is_between(bound(&rt, 14), bound(&rt, 35)));
+    assert!(rt; !entries.is_between(bound(&rt, 15), bound(&rt, 35)));
+    assert!(rt; !entries.is_between(bound(&rt, 14), bound(&rt, 34)));
+    Ok(())
+}
+
+#[test]
+fn no_entries(rt: HostRuntime) -> Result<(), Fail> {
+    let mut blocks: Blocks<u16> = Blocks::new(rt.alloc());
+    assert!(rt; blocks.is_empty() && begins(&rt, &blocks, 0, 0, (0, 0)));
+    assert!(rt; blocks.end_before(bound(&rt, 9), bound(&rt, 4)) == bound(&rt, 4));
+    put(
+        &rt,
+        rt.alloc(),
+        &mut blocks,
+        0,
+        9,
+        &Entries::new(rt.alloc()),
+    )?;
+    assert!(rt; blocks.is_empty());
+    put(
+        &rt,
+        rt.alloc(),
+        &mut blocks,
+        0,
+        9,
+        &row(&rt, rt.alloc(), 0, 3, 3, 2)?,
+    )?;
+    assert!(rt; !blocks.is_empty() && counted(&blocks) == (3, 6));
+    Ok(())
+}
+
+/// A thousand entries, at every tenth key.
+fn thousand(rt: &impl Abort, alloc: Global) -> Result<Blocks<u16>, AllocError> {
+    let Some(least) = Bound::of_rank(0) else {
+        return Ok(Blocks::new(alloc));
+    };
+    let entries = row(rt, alloc, 0, 10, 1000, 1)?;
+    assert!(rt; entries.is_between(least, Bound::TOP));
+    Blocks::of(alloc, entries)
+}
+
+#[test]
+fn look_ups(rt: HostRuntime) -> Result<(), Fail> {
+    let blocks = thousand(&rt, rt.alloc())?;
+    assert!(rt; counted(&blocks) == (1000, 1000));
+    assert!(rt; begins(&rt, &blocks, 0, 1000, (10, 1)) && begins(&rt, &blocks, 9, 1000, (10, 1)));
+    assert!(rt;
+        begins(&rt, &blocks, 10, 999, (20, 1)) && begins(&rt, &blocks, 5004, 500, (5010, 1))
+    );
+    assert!(rt;
+        begins(&rt, &blocks, 9999, 1, (10000, 1)) && begins(&rt, &blocks, 10000, 0, (0, 0))
+    );
+    let least = bound(&rt, 3);
+    assert!(rt; blocks.end_before(bound(&rt, 9), least).rank() == 3);
+    assert!(rt; blocks.end_before(bound(&rt, 10), least).rank() == 10);
+    assert!(rt; blocks.end_before(bound(&rt, 5004), least).rank() == 5000);
+    assert!(rt; blocks.end_before(bound(&rt, 20000), least).rank() == 10000);
+    Ok(())
+}
+
+/// Prepares to put one entry of the value 5 in place of those that end beyond 400 and by 4000.
+fn prepare(
+    rt: &impl Abort,
+    alloc: Global,
+    blocks: Blocks<u16>,
+) -> Result<Prepared<u16>, Blocks<u16>> {
+    let (from, to) = (bound(rt, 400), bound(rt, 4000));
+    let Ok(fresh) = row(rt, alloc, 400, 1, 1, 5) else {
+        return Err(blocks);
+    };
+    assert!(rt; !blocks.is_empty() && fresh.is_between(from, to));
+    Prepared::of(alloc, blocks, from, to, &fresh)
+}
+
+#[test]
+fn edit_that_is_made(rt: HostRuntime) -> Result<(), Fail> {
+    let blocks = thousand(&rt, rt.alloc())?;
+    if let Ok(ready) = prepare(&rt, rt.alloc(), blocks) {
+        let blocks = ready.apply();
+        assert!(rt; counted(&blocks) == (641, 645));
+        assert!(rt;
+            begins(&rt, &blocks, 400, 601, (401, 5)) && begins(&rt, &blocks, 401, 600, (4010, 1))
+        );
+    }
+    Ok(())
+}
+
+#[test]
+fn edit_that_is_left_out(rt: HostRuntime) -> Result<(), Fail> {
+    let blocks = thousand(&rt, rt.alloc())?;
+    if let Ok(ready) = prepare(&rt, rt.alloc(), blocks) {
+        assert!(rt; counted(&ready.cancel()) == (1000, 1000));
+    }
+    Ok(())
+}

@@ -1,0 +1,113 @@
+//! Replacements in no order beside a plain list: blocks are split, joined and dropped.
+
+use super::{bound, put, row};
+use squall_blocks::{Blocks, Entries};
+use std::alloc::{AllocError, Global};
+use std::process::Abort;
+use std::test::Fail;
+
+/// The next pseudo-random number.
+fn next(state: u64) -> u64 {
+    state
+        .wrapping_mul(6364136223846793005)
+        .wrapping_add(1442695040888963407)
+}
+
+/// Adds those entries of a plain list that end beyond a key and not beyond another.
+fn push_some(
+    all: &mut Vec<(u64, u16)>,
+    plain: &[(u64, u16)],
+    from: u64,
+    to: u64,
+) -> Result<(), AllocError> {
+    for entry in plain {
+        if from < entry.0 && entry.0 <= to {
+            all.push(*entry)?;
+        }
+    }
+    Ok(())
+}
+
+fn push_fresh(all: &mut Vec<(u64, u16)>, fresh: &Entries<u16>) -> Result<(), AllocError> {
+    for place in 0..fresh.len() {
+        if let Some((end, value)) = fresh.get(place) {
+            all.push((end.rank(), value))?;
+        }
+    }
+    Ok(())
+}
+
+/// The plain list with the fresh entries in place of those between two keys.
+fn replaced(
+    alloc: Global,
+    plain: &[(u64, u16)],
+    from: u64,
+    to: u64,
+    fresh: &Entries<u16>,
+) -> Result<Vec<(u64, u16)>, AllocError> {
+    let mut all = Vec::new(alloc);
+    push_some(&mut all, plain, 0, from)?;
+    push_fresh(&mut all, fresh)?;
+    push_some(&mut all, plain, to, u64::MAX)?;
+    Ok(all)
+}
+
+/// Whether the entries are those of the plain list.
+fn is_plain(blocks: &Blocks<u16>, plain: &[(u64, u16)]) -> bool {
+    let mut at = 0usize;
+    let mut right = true;
+    for (end, value) in blocks.iter() {
+        right &= plain.get(at) == Some(&(end.rank(), value));
+        at = at.wrapping_add(1);
+    }
+    right && at == plain.len()
+}
+
+/// Whether a key is found as in the plain list.
+fn finds(rt: &impl Abort, blocks: &Blocks<u16>, plain: &[(u64, u16)], key: u64) -> bool {
+    let mut before = 0u64;
+    let mut above = (0u64, 0u16);
+    for entry in plain {
+        if entry.0 <= key {
+            before = entry.0;
+        } else if above.0 == 0 {
+            above = *entry;
+        }
+    }
+    let found = super::told(blocks.above(bound(rt, key)));
+    found == above && blocks.end_before(bound(rt, key), bound(rt, 0)).rank() == before
+}
+
+/// One replacement between keys below 100,000: of few entries or many, by few or many.
+fn turn(
+    rt: &impl Abort,
+    alloc: Global,
+    blocks: &mut Blocks<u16>,
+    plain: &[(u64, u16)],
+    state: u64,
+) -> Result<Vec<(u64, u16)>, AllocError> {
+    let from = (state >> 33) % 90000;
+    let wide = if (state >> 20) % 4 == 0 { 20000 } else { 60 };
+    let to = from.saturating_add((state >> 40) % wide);
+    let few = (state >> 24) % 5;
+    let count = if (state >> 28) % 6 == 0 { 700 } else { few };
+    let fits = count.min(to.saturating_sub(from));
+    let fresh = row(rt, alloc, from, 1, fits, (state >> 50) as u16)?;
+    let after = replaced(alloc, plain, from, to, &fresh)?;
+    put(rt, alloc, blocks, from, to, &fresh)?;
+    assert!(rt; is_plain(blocks, &after));
+    assert!(rt; finds(rt, blocks, &after, from) && finds(rt, blocks, &after, to));
+    Ok(after)
+}
+
+#[test]
+fn replacements_in_no_order(rt: HostRuntime) -> Result<(), Fail> {
+    let mut blocks = Blocks::new(rt.alloc());
+    let mut plain = Vec::new(rt.alloc());
+    let mut state = 1u64;
+    for _ in 0..400u32 {
+        state = next(state);
+        plain = turn(&rt, rt.alloc(), &mut blocks, &plain, state)?;
+    }
+    Ok(())
+}

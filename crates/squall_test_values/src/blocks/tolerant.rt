@@ -1,0 +1,90 @@
+//! Each call that allocates, any one of whose allocations may fail: then nothing has changed.
+
+use super::{begins, bound, counted, prepare, put, row, thousand};
+use squall_blocks::{Blocks, Entries};
+use squall_key::Bound;
+use std::alloc::{AllocError, Global};
+use std::process::Abort;
+
+#[test]
+fn tolerant_push(rt: HostRuntime) {
+    let mut entries = Entries::new(rt.alloc());
+    for place in 0..20u16 {
+        let before = entries.len();
+        if entries.push(bound(&rt, 7), place).is_err() {
+            assert!(rt; entries.len() == before);
+        }
+    }
+}
+
+#[test]
+fn tolerant_of(rt: HostRuntime) {
+    if let Ok(blocks) = thousand(&rt, rt.alloc()) {
+        assert!(rt; counted(&blocks) == (1000, 1000));
+    }
+}
+
+/// Whether a replacement is made whole, or leaves the thousand entries as they are.
+fn is_whole(rt: &impl Abort, blocks: &Blocks<u16>, made: bool, count: usize) -> bool {
+    let right = if made { count } else { 1000 };
+    counted(blocks).0 == right && begins(rt, blocks, 9990, 1, (10000, 1))
+}
+
+/// A replacement within one block. It fails if an allocation fails before.
+fn replace_within(rt: &impl Abort, alloc: Global) -> Result<(), AllocError> {
+    let mut blocks = thousand(rt, alloc)?;
+    let fresh = row(rt, alloc, 400, 2, 5, 3)?;
+    let made = put(rt, alloc, &mut blocks, 400, 410, &fresh).is_ok();
+    assert!(rt; is_whole(rt, &blocks, made, 1004));
+    Ok(())
+}
+
+#[test]
+fn tolerant_replace_within_a_block(rt: HostRuntime) {
+    let _tried = replace_within(&rt, rt.alloc());
+}
+
+/// A replacement across blocks. It fails if an allocation fails before.
+fn replace_across(rt: &impl Abort, alloc: Global) -> Result<(), AllocError> {
+    let mut blocks = thousand(rt, alloc)?;
+    let fresh = row(rt, alloc, 400, 2, 600, 3)?;
+    let made = put(rt, alloc, &mut blocks, 400, 8000, &fresh).is_ok();
+    assert!(rt; is_whole(rt, &blocks, made, 840));
+    Ok(())
+}
+
+#[test]
+fn tolerant_replace_across_blocks(rt: HostRuntime) {
+    let _tried = replace_across(&rt, rt.alloc());
+}
+
+/// A replacement that joins short neighbours. It fails if an allocation fails before.
+fn replace_and_join(rt: &impl Abort, alloc: Global) -> Result<(), AllocError> {
+    let mut blocks = thousand(rt, alloc)?;
+    let made = put(rt, alloc, &mut blocks, 30, 1900, &Entries::new(alloc)).is_ok();
+    assert!(rt; is_whole(rt, &blocks, made, 813));
+    Ok(())
+}
+
+#[test]
+fn tolerant_replace_that_joins(rt: HostRuntime) {
+    let _tried = replace_and_join(&rt, rt.alloc());
+}
+
+/// A prepared edit. It fails if an allocation fails before.
+fn prepare_and_apply(rt: &impl Abort, alloc: Global) -> Result<(), AllocError> {
+    let blocks = thousand(rt, alloc)?;
+    match prepare(rt, alloc, blocks) {
+        Ok(ready) => {
+            let blocks = ready.apply();
+            assert!(rt; counted(&blocks) == (641, 645));
+        }
+        Err(blocks) => assert!(rt; counted(&blocks) == (1000, 1000)),
+    }
+    Ok(())
+}
+
+#[test]
+fn tolerant_prepared(rt: HostRuntime) {
+    let _tried = prepare_and_apply(&rt, rt.alloc());
+}
