@@ -20,6 +20,8 @@ EXCUSE = re.compile(r"#\s*(\w+(?:, *\w+)*): (\S.*)")
 BLOCK = re.compile(r"(?:unsafe )?impl\b|(?:pub(?:\(\w+\))? )?trait\b")
 FUNCTION = re.compile(r"( *)((?:pub(?:\(\w+\))? )?(?:final )?(?:const )?(?:unsafe )?(?:extern \S+ )?)fn (\w+)")
 ABOVE = ("#[", "///")
+IMPORT = re.compile(r"^ *(?:ghost |pub )*use Rattle\.([\w.]+)\.\{([^}]*)\}", re.MULTILINE)
+CLAUSE = re.compile(r"\b(?:ensures\*?|ghost) (\w*) ?(?:= )?\{")
 
 
 @dataclass(frozen=True)
@@ -120,6 +122,18 @@ class Function:
         return self.lines[:self.head - self.first]
 
     @property
+    def clauses(self) -> dict[str, str]:
+        """What its contract ensures, by the names of the clauses; a clause without a name has an empty one."""
+        found = {}
+        for it in CLAUSE.finditer(self.text):
+            rest, depth, end = self.text[it.end():], 1, 0
+            while depth and end < len(rest):
+                depth += {"{": 1, "}": -1}.get(rest[end], 0)
+                end += 1
+            found[it[1]] = rest[:end - 1].strip()
+        return found
+
+    @property
     def signature(self) -> str:
         """Its name, parameters and answer."""
         return re.split(r"\n\s*(?:requires|ensures|ghost|where)\b|\{\n", self.text)[0]
@@ -198,6 +212,26 @@ def functions(text: str) -> list[Function]:
                 first -= 1
             found.append(Function(name, mark, block if indent else "", first, at, last, tuple(lines[first:last + 1])))
     return found
+
+
+def imports(text: str) -> dict[str, str]:
+    """Where each name comes from that a `use` line of specs or contracts brings."""
+    found = {}
+    for module, names in IMPORT.findall(text):
+        for name in re.split(r",\s*", names.strip()):
+            found[name.strip("◌")] = module
+    return found
+
+
+def defined_in(module: str, name: str) -> tuple[Path | None, str]:
+    """The file of a name that a `use` line brings, and the name there; no file for a word of the toolchain."""
+    crate, *parts = module.split(".")
+    if not (TOP / "crates" / crate).is_dir():
+        return None, name
+    if "declared" in parts:
+        parts = [it for it in parts[parts.index("declared") + 1:] if it != "TheVariants"]
+        return (TOP / "crates" / crate / "src" / "/".join(parts[:-1])).with_suffix(".rt"), parts[-1]
+    return (TOP / "crates" / crate / "/".join(parts)).with_suffix(".antt"), name
 
 
 def version() -> str:
