@@ -6,8 +6,8 @@ use Rattle.squall_blocks.specs.Entries.{RiseFrom, last_from, beyond, up_to}
 use Rattle.squall_blocks.specs.Blocks.{most, flat, lasts_of, AreFull, AreBlocks}
 use Rattle.std.proofs.Common.{inl, inr}
 use Rattle.std.proofs.lemmas.Bool.{cases_lt}
-use Rattle.std.proofs.lemmas.List.{get_or_read, get_or_past, drop_all}
-use Rattle.squall_blocks.proofs.Rising.{beyond_first, beyond_next, rise_front, rise_back, rise_append, rise_weaker, last_above, last_any, last_append, beyond_none, beyond_some, up_to_all, up_to_some}
+use Rattle.std.proofs.lemmas.List.{get_or_read, get_or_past, drop_all, take_all}
+use Rattle.squall_blocks.specs.EntriesLaws.{beyond_first, beyond_next, rise_front, rise_back, rise_append, rise_weaker, last_above, last_any, last_append, beyond_none, beyond_some, up_to_all, up_to_some}
 
 pub flat-append : {V : Type 0} (bs cs : List (List (ℕ × V))) → flat (bs ++ cs) ≡ flat bs ++ flat cs
 flat-append [] cs = refl
@@ -163,3 +163,30 @@ ends_before ls ms bs x k i l r b a e m none some xe q =
     let front = front_ends ls ms bs i l b a e (omega (arith, m.within, n)) none some in
     q ∙ (λ j. last_from (sym front j) (up_to k (xe j)))
     ∙ sym (ap (last_from b) (up_to_blocks 0 k bs i a.full a.rise m) ∙ last_append b (flat (take i bs)) (up_to k (get_or bs i [])))
+
+-- a block at a place, behind those in front of it
+pub record BlockAt {V : Type 0} (b : ℕ) (bs : List (List (ℕ × V))) (i : ℕ) (x : List (ℕ × V)) : Type 0 where
+  pub some : 0 < length x
+  pub few : length x ≤ most
+  pub rise : RiseFrom (last_from b (flat (take i bs))) x
+  pub more : flat (take (suc i) bs) ≡ flat (take i bs) ++ x
+
+pub block_at : {V : Type 0} (b : ℕ) (bs : List (List (ℕ × V))) (i : ℕ) → AreFull bs → RiseFrom b (flat bs) → i < length bs → BlockAt b bs i (get_or bs i [])
+block_at b [] i f r lt = absurd (omega arith)
+block_at b (x ∷ bs) zero f r lt = record { some = f.0; few = f.1; rise = rise_front b x (flat bs) r; more = append-nil x }
+block_at b (x ∷ bs) (suc i) f r lt =
+    let at = block_at (last_from b x) bs i f.2 (rise_back b x (flat bs) r) (omega arith) in
+    record {
+      some = at.some;
+      few = at.few;
+      rise = subst (λ n. RiseFrom n (get_or bs i [])) (sym (last_append b x (flat (take i bs)))) at.rise;
+      more = ap (λ l. x ++ l) at.more ∙ sym (append_assoc x (flat (take i bs)) (get_or bs i []));
+    }
+
+-- the same of a copy of a block that was read
+pub copy_at : {V : Type 0} (ls : List ℕ) (bs cs : List (List (ℕ × V))) (i n : ℕ) (x y : List (ℕ × V)) → AreBlocks ls bs → cs ≡ bs → i < length cs → x ≡ get_or cs i x → n ≡ length x → y ≡ take n (drop 0 x) → BlockAt 0 cs i y
+copy_at ls bs cs i n x y a same lt is len part =
+    let full = subst AreFull (sym same) a.full in
+    let rise = subst (λ l. RiseFrom 0 (flat l)) (sym same) a.rise in
+    let whole : y ≡ get_or cs i [] = part ∙ (λ j. take (len j) x) ∙ take_all (length x) x (omega arith) ∙ get_or_read cs i x lt is [] in
+    subst (BlockAt 0 cs i) (sym whole) (block_at 0 cs i full rise lt)

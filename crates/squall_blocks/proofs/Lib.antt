@@ -1,5 +1,4 @@
 mod Zips
-mod Rising
 mod Blocked
 mod Shifted
 mod Replacing

@@ -7,7 +7,7 @@ use Rattle.std.proofs.lemmas.List.{get_or_read, nil_from_length, set_split, drop
 use Rattle.squall_key.specs.Search.{Rises, IsSought}
 use Rattle.squall_blocks.specs.Entries.{RiseFrom, last_from, beyond, up_to, replaced}
 use Rattle.squall_blocks.specs.Blocks.{most, flat, lasts_of, AreFull, AreBlocks, IsNear, IsEdit, IsReady}
-use Rattle.squall_blocks.proofs.Rising.{up_to_first, up_to_next, rise_front, rise_back, rise_weaker, last_any, beyond_none, beyond_some, up_to_all, up_to_some}
+use Rattle.squall_blocks.specs.EntriesLaws.{up_to_first, up_to_next, rise_front, rise_back, rise_weaker, last_any, beyond_none, beyond_some, up_to_all, up_to_some}
 use Rattle.squall_blocks.proofs.Blocked.{flat-append, lasts_of-append, full-append, length-lasts_of, lasts_rise}
 
 -- ---- the block near a key

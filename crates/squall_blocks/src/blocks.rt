@@ -7,7 +7,7 @@ ghost use Rattle.squall_blocks.specs.Blocks.{most};
 use crate::edit::{join_around, places_of, replace_at};
 use crate::entries::Entries;
 use crate::iter::Iter;
-use crate::search::{End, ended, near};
+use crate::search::{End, ended};
 use squall_key::{Bound, Ends};
 use std::alloc::{AllocError, Global};
 use std::marker::Model;
@@ -118,6 +118,23 @@ impl<V: Copy> Blocks<V> {
         Ok(())
     }
 
+    /// The same entries, in blocks of their own. An error means that an allocation failed.
+    pub fn copied(&self, alloc: Global) -> Result<Blocks<V>, AllocError>
+        ensures { IfOk result (λ b. b ≡ self.now) }
+    {
+        let mut all = Blocks::new(alloc);
+        for block in &self.blocks {
+            let copy = block.part(alloc, 0, block.len())?;
+            all.append(copy)?;
+        }
+        Ok(all)
+    }
+
+    /// The allocator that the blocks were made with.
+    pub fn allocator(&self) -> Global {
+        *self.lasts.allocator()
+    }
+
     /// Whether there are no entries.
     pub fn is_empty(&self) -> bool
         ensures { IsTrue result ↔ (length self.now ≡ 0) }
@@ -174,8 +191,9 @@ impl<V: Copy> Blocks<V> {
         Iter::over(&ends[place..], &values[place..], &self.blocks[at + 1..])
     }
 
-    /// Puts the fresh entries in place of those that end beyond `from` and not beyond `to`. An
-    /// error means that an allocation failed: the entries are then as they were.
+    /// Puts the fresh entries in place of those that end beyond `from` and not beyond `to`. The
+    /// first block that changed is then joined with its neighbours, if they have few entries
+    /// together. An error means that an allocation failed: the entries are then as they were.
     pub fn replace(
         &mut self,
         alloc: Global,
@@ -203,19 +221,7 @@ impl<V: Copy> Blocks<V> {
             at,
             fresh,
         )?;
-        self.join_near(alloc, from);
+        join_around(alloc, &mut self.lasts, &mut self.blocks, at.first);
         Ok(())
-    }
-
-    /// Joins the block that is looked into for a key with its neighbours, if they have few entries
-    /// together.
-    pub(crate) fn join_near(&mut self, alloc: Global, key: Bound)
-        ensures { self.new ≡ self.old }
-    {
-        if self.blocks.is_empty() {
-            return;
-        }
-        let at = near(&self.lasts, key);
-        join_around(alloc, &mut self.lasts, &mut self.blocks, at);
     }
 }

@@ -4,7 +4,7 @@ ghost use Rattle.std.specs.Prelude.{◌≡◌, ◌+◌, ◌<◌, ◌≤◌, leng
 ghost use Rattle.squall_blocks.specs.Entries.{RiseFrom, last_from, replaced};
 
 use crate::blocks::Blocks;
-use crate::edit::{pieces, places_of};
+use crate::edit::{join_around, pieces, places_of};
 use crate::entries::Entries;
 use crate::ready::{exchange_ready, replace_ready};
 use crate::search::End;
@@ -98,7 +98,8 @@ impl<V: Copy> Prepared<V> {
         }
     }
 
-    /// Makes the edit.
+    /// Makes the edit. The first of the blocks that came in is then joined with its neighbours, if
+    /// they have few entries together and no allocation fails.
     pub fn apply(self) -> Blocks<V>
         ensures { result ≡ self.1 }
     {
@@ -114,6 +115,8 @@ impl<V: Copy> Prepared<V> {
         let mut blocks = blocks;
         replace_ready(&mut lasts, first, end, &fresh_lasts);
         exchange_ready(&mut blocks, first, end, fresh_blocks);
+        let alloc = *lasts.allocator();
+        join_around(alloc, &mut lasts, &mut blocks, first);
         Blocks { lasts, blocks }
     }
 

@@ -78,8 +78,18 @@ fn swap_out<U: Drop>(items: &mut Vec<U>, first: usize, end: usize, fresh: Vec<U>
     items.truncate(len - (end - first) + more);
 }
 
+/// Puts other items in place of as many from `first` on.
+fn swap_in<U: Drop>(items: &mut Vec<U>, first: usize, fresh: Vec<U>)
+    requires within { first + vec_len fresh ≤ length items.old.items }
+    ensures { items.new.items ≡ splice items.old.items first (first + vec_len fresh) fresh.items }
+{
+    let mut fresh = fresh;
+    let end = first + fresh.len();
+    items[first..end].swap_with_slice(&mut fresh);
+}
+
 /// Puts other items in place of those from `first` to `end`, in room that was reserved. It
-/// cannot fail, and needs no copies.
+/// cannot fail, and needs no copies. What follows is moved only if they are not as many.
 pub(crate) fn exchange_ready<U: Drop>(items: &mut Vec<U>, first: usize, end: usize, fresh: Vec<U>)
     requires order { first ≤ end }
     requires within { end ≤ length items.old.items }
@@ -87,6 +97,9 @@ pub(crate) fn exchange_ready<U: Drop>(items: &mut Vec<U>, first: usize, end: usi
     ensures { items.new.items ≡ splice items.old.items first end fresh.items }
 {
     let rest = items.len() - end;
+    if fresh.len() == end - first {
+        return swap_in(items, first, fresh);
+    }
     swap_out(items, first, end, fresh);
     turn_from(items, first, rest);
 }

@@ -146,6 +146,55 @@ fn look_ups(rt: HostRuntime) -> Result<(), Fail> {
     Ok(())
 }
 
+/// Whether both have the same entries.
+fn are_same(one: &Blocks<u16>, other: &Blocks<u16>) -> bool {
+    let mut others = other.iter();
+    let mut right = true;
+    for entry in one.iter() {
+        right &= others.next() == Some(entry);
+    }
+    right && others.next().is_none()
+}
+
+/// Puts two entries of the value 5 in place of those that end beyond 400 and by 4000.
+fn put_two(rt: &impl Abort, alloc: Global, blocks: &mut Blocks<u16>) -> Result<(), AllocError> {
+    let fresh = row(rt, alloc, 400, 1, 2, 5)?;
+    put(rt, alloc, blocks, 400, 4000, &fresh)
+}
+
+/// A copy has the thousand entries, and is edited.
+fn look_at_copy(rt: &impl Abort, alloc: Global, blocks: &Blocks<u16>) -> Result<(), AllocError> {
+    let mut copy = blocks.copied(alloc)?;
+    assert!(rt; are_same(&copy, blocks) && begins(rt, &copy, 5004, 500, (5010, 1)));
+    put_two(rt, alloc, &mut copy)?;
+    assert!(rt; counted(&copy) == (642, 650));
+    Ok(())
+}
+
+#[test]
+fn copy_of_its_own(rt: HostRuntime) -> Result<(), Fail> {
+    let blocks = thousand(&rt, rt.alloc())?;
+    look_at_copy(&rt, rt.alloc(), &blocks)?;
+    assert!(rt; counted(&blocks) == (1000, 1000));
+    Ok(())
+}
+
+#[test]
+fn copy_of_no_entries(rt: HostRuntime) -> Result<(), Fail> {
+    let none: Blocks<u16> = Blocks::new(rt.alloc());
+    let copy = none.copied(rt.alloc())?;
+    assert!(rt; copy.is_empty() && are_same(&copy, &none));
+    Ok(())
+}
+
+#[test]
+fn allocator_of_blocks(rt: HostRuntime) -> Result<(), Fail> {
+    let blocks = thousand(&rt, rt.alloc())?;
+    let copy = blocks.copied(blocks.allocator())?;
+    assert!(rt; are_same(&copy, &blocks));
+    Ok(())
+}
+
 /// Prepares to put one entry of the value 5 in place of those that end beyond 400 and by 4000.
 fn prepare(
     rt: &impl Abort,
@@ -178,6 +227,47 @@ fn edit_that_is_left_out(rt: HostRuntime) -> Result<(), Fail> {
     let blocks = thousand(&rt, rt.alloc())?;
     if let Ok(ready) = prepare(&rt, rt.alloc(), blocks) {
         assert!(rt; counted(&ready.cancel()) == (1000, 1000));
+    }
+    Ok(())
+}
+
+/// The thousand entries without those that end beyond 30 and by 1670: their first block has few.
+fn with_a_short_block(rt: &impl Abort, alloc: Global) -> Result<Blocks<u16>, AllocError> {
+    let mut blocks = thousand(rt, alloc)?;
+    put(rt, alloc, &mut blocks, 30, 1670, &Entries::new(alloc))?;
+    Ok(blocks)
+}
+
+/// Prepares to put two entries of the value 5 in place of those that end beyond 1700 and by 3340: the
+/// second block then has few too, and is joined with the first.
+fn prepare_to_join(
+    rt: &impl Abort,
+    alloc: Global,
+    blocks: Blocks<u16>,
+) -> Result<Prepared<u16>, Blocks<u16>> {
+    let (from, to) = (bound(rt, 1700), bound(rt, 3340));
+    let Ok(fresh) = row(rt, alloc, 1700, 3, 2, 5) else {
+        return Err(blocks);
+    };
+    assert!(rt; !blocks.is_empty() && fresh.is_between(from, to));
+    Prepared::of(alloc, blocks, from, to, &fresh)
+}
+
+/// Whether the blocks are those after this edit: three entries and four, and those behind.
+fn is_edited(rt: &impl Abort, blocks: &Blocks<u16>) -> bool {
+    counted(blocks) == (674, 682)
+        && begins(rt, blocks, 30, 671, (1680, 1))
+        && begins(rt, blocks, 1700, 668, (1703, 5))
+        && begins(rt, blocks, 1706, 666, (3350, 1))
+        && blocks.end_before(bound(rt, 3349), bound(rt, 0)).rank() == 1706
+}
+
+#[test]
+fn edit_that_joins(rt: HostRuntime) -> Result<(), Fail> {
+    let blocks = with_a_short_block(&rt, rt.alloc())?;
+    assert!(rt; counted(&blocks) == (836, 836));
+    if let Ok(ready) = prepare_to_join(&rt, rt.alloc(), blocks) {
+        assert!(rt; is_edited(&rt, &ready.apply()));
     }
     Ok(())
 }

@@ -1,6 +1,9 @@
 //! Each call that allocates, any one of whose allocations may fail: then nothing has changed.
 
-use super::{begins, bound, counted, prepare, put, row, thousand};
+use super::{
+    are_same, begins, bound, counted, is_edited, prepare, prepare_to_join, put, row, thousand,
+    with_a_short_block,
+};
 use squall_blocks::{Blocks, Entries};
 use squall_key::Bound;
 use std::alloc::{AllocError, Global};
@@ -58,11 +61,26 @@ fn tolerant_replace_across_blocks(rt: HostRuntime) {
     let _tried = replace_across(&rt, rt.alloc());
 }
 
-/// A replacement that joins short neighbours. It fails if an allocation fails before.
-fn replace_and_join(rt: &impl Abort, alloc: Global) -> Result<(), AllocError> {
+/// A replacement by no entries, across blocks. It fails if an allocation fails before.
+fn replace_by_none(rt: &impl Abort, alloc: Global) -> Result<(), AllocError> {
     let mut blocks = thousand(rt, alloc)?;
     let made = put(rt, alloc, &mut blocks, 30, 1900, &Entries::new(alloc)).is_ok();
     assert!(rt; is_whole(rt, &blocks, made, 813));
+    Ok(())
+}
+
+#[test]
+fn tolerant_replace_by_none(rt: HostRuntime) {
+    let _tried = replace_by_none(&rt, rt.alloc());
+}
+
+/// A replacement after which two short neighbours are joined, which may fail unseen. It fails if an
+/// allocation fails before.
+fn replace_and_join(rt: &impl Abort, alloc: Global) -> Result<(), AllocError> {
+    let mut blocks = with_a_short_block(rt, alloc)?;
+    let made = put(rt, alloc, &mut blocks, 1670, 3310, &Entries::new(alloc)).is_ok();
+    assert!(rt; counted(&blocks).0 == if made { 672 } else { 836 });
+    assert!(rt; begins(rt, &blocks, 9990, 1, (10000, 1)));
     Ok(())
 }
 
@@ -87,4 +105,36 @@ fn prepare_and_apply(rt: &impl Abort, alloc: Global) -> Result<(), AllocError> {
 #[test]
 fn tolerant_prepared(rt: HostRuntime) {
     let _tried = prepare_and_apply(&rt, rt.alloc());
+}
+
+/// The entries are copied, or the answer is a failed allocation; and they stay as they are.
+fn copies_or_not(rt: &impl Abort, alloc: Global, blocks: &Blocks<u16>) {
+    match blocks.copied(alloc) {
+        Ok(copy) => assert!(rt; are_same(&copy, blocks)),
+        Err(AllocError) => {}
+    }
+    assert!(rt; counted(blocks) == (1000, 1000));
+}
+
+#[test]
+fn tolerant_copied(rt: HostRuntime) {
+    if let Ok(blocks) = thousand(&rt, rt.alloc()) {
+        copies_or_not(&rt, rt.alloc(), &blocks);
+    }
+}
+
+/// A prepared edit after which short neighbours are joined, which may fail unseen. It fails if an
+/// allocation fails before.
+fn apply_and_join(rt: &impl Abort, alloc: Global) -> Result<(), AllocError> {
+    let blocks = with_a_short_block(rt, alloc)?;
+    match prepare_to_join(rt, alloc, blocks) {
+        Ok(ready) => assert!(rt; is_edited(rt, &ready.apply())),
+        Err(blocks) => assert!(rt; counted(&blocks) == (836, 836)),
+    }
+    Ok(())
+}
+
+#[test]
+fn tolerant_prepared_that_joins(rt: HostRuntime) {
+    let _tried = apply_and_join(&rt, rt.alloc());
 }

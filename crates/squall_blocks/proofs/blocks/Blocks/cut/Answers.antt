@@ -1,5 +1,5 @@
 use Rattle.std.proofs.Common.{◌+◌, ◌-◌, arith}
-use Rattle.squall_blocks.proofs.Rising.{rise_part, part_added}
+use Rattle.squall_blocks.specs.EntriesLaws.{rise_part, part_added}
 use Rattle.squall_blocks.proofs.blocks.Blocks.cut.Goals as goal
 
 pub append-requires-clause-rise : goal.append-requires-clause-rise

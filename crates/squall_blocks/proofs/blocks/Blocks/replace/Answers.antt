@@ -1,7 +1,7 @@
 use Rattle.std.proofs.Common.{◌<◌, length, arith}
 use Rattle.std.proofs.lemmas.Bool.Decides.{nat_tests}
 use Rattle.squall_blocks.specs.Blocks.{flat}
-use Rattle.squall_blocks.proofs.Rising.{last_above, replaced_rises, rise_weaker}
+use Rattle.squall_blocks.specs.EntriesLaws.{last_above, replaced_rises, rise_weaker}
 use Rattle.squall_blocks.proofs.blocks.Blocks.replace.Goals as goal
 
 pub cut-requires : goal.cut-requires

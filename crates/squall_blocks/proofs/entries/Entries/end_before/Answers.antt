@@ -1,4 +1,4 @@
-use Rattle.squall_blocks.proofs.Rising.{before_is, before_none}
+use Rattle.squall_blocks.specs.EntriesLaws.{before_is, before_none}
 use Rattle.std.proofs.Common.{arith}
 use Rattle.squall_blocks.proofs.entries.Entries.end_before.Goals as goal
 

@@ -2,7 +2,7 @@ use Rattle.std.proofs.Common.{ℕ, sym, subst, length, List, arith}
 use Rattle.std.specs.Prelude.{slice_index}
 use Rattle.squall_key.specs.Search.{Rises, IsSought}
 use Rattle.squall_blocks.proofs.Zips.{ends_of-lists}
-use Rattle.squall_blocks.proofs.Rising.{ends_rise, sought_beyond, sought_up_to}
+use Rattle.squall_blocks.specs.EntriesLaws.{ends_rise, sought_beyond, sought_up_to}
 use Rattle.squall_blocks.proofs.entries.Entries.ended.Goals as goal
 
 pub ended-requires : goal.ended-requires

@@ -1,5 +1,5 @@
 use Rattle.std.proofs.Common.{arith}
-use Rattle.squall_blocks.proofs.Rising.{rise_more, no_more}
+use Rattle.squall_blocks.specs.EntriesLaws.{rise_more, no_more}
 use Rattle.squall_blocks.proofs.entries.Entries.is_between.Goals as goal
 
 pub returns-then-rank : goal.returns-then-rank

@@ -1,5 +1,5 @@
 use Rattle.std.proofs.Common.{arith}
-use Rattle.squall_blocks.proofs.Rising.{last_at}
+use Rattle.squall_blocks.specs.EntriesLaws.{last_at}
 use Rattle.squall_blocks.proofs.entries.Entries.last_end.Goals as goal
 
 pub returns : goal.returns

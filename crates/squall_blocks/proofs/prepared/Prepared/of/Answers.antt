@@ -2,7 +2,7 @@ use Rattle.std.specs.List.{splice}
 use Rattle.std.proofs.Common.{◌+◌, ◌∙◌, refl, length, arith, ap}
 use Rattle.squall_blocks.specs.Entries.{replaced}
 use Rattle.squall_blocks.specs.Blocks.{flat}
-use Rattle.squall_blocks.proofs.Rising.{last_above, replaced_rises}
+use Rattle.squall_blocks.specs.EntriesLaws.{last_above, replaced_rises}
 use Rattle.squall_blocks.proofs.Replacing.{some_blocks, edit_made, ready_by}
 use Rattle.squall_blocks.proofs.prepared.Prepared.of.Goals as goal
 
