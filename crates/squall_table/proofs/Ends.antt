@@ -5,7 +5,6 @@ use Rattle.squall_key.specs.Keys.{top}
 use Rattle.squall_plan.specs.declared.range.PlanRange.{PlanRange}
 use Rattle.squall_table.specs.Legs.{Legs, IsAt, EndsAt}
 use Rattle.squall_table.specs.LegLaws.{legs_at}
-use Rattle.squall_table.specs.Patching.{NearStart, NearEnd}
 use Rattle.squall_table.proofs.Kept.{legs_next, ends_rise, starts_rise}
 use Rattle.squall_table.proofs.Among.{last_ends}
 
@@ -43,42 +42,3 @@ ends_before f k (suc j) ls x t at pos is ge =
 pub some_legs : (f : ℕ → ℕ) (ls : List PlanRange) → Legs f 0 top ls → 0 < length ls
 some_legs f [] t = absurd (omega (arith, t))
 some_legs f (x ∷ xs) t = omega arith
-
--- ---- the legs near a bound
-
-pub start_is : (f : ℕ → ℕ) (k i : ℕ) (ls : List PlanRange) → Legs f 0 top ls → EndsAt ls k i → NearStart ls k i
-start_is f k i ls t at = record {
-  within = at.within;
-  from = λ d. omega (arith, at.from d);
-  first = λ d lt. at.from d;
-  near = λ j d le lt. let up = ends_rise f 0 top ls t i j d le lt in omega (arith, up, at.below d);
-}
-
-pub start_first : (f : ℕ → ℕ) (k : ℕ) (ls : List PlanRange) → Legs f 0 top ls → k ≡ 0 → NearStart ls k 0
-start_first f k [] t e = absurd (omega (arith, t))
-start_first f k (x ∷ xs) t e = record {
-  within = omega arith;
-  from = λ d. omega (arith, t.0);
-  first = λ d lt. absurd (omega arith);
-  near = λ j d le lt. omega (arith, e);
-}
-
-pub end_is : (f : ℕ → ℕ) (k i : ℕ) (ls : List PlanRange) → Legs f 0 top ls → IsAt ls k i → NearEnd ls k (i + 1)
-end_is f k i ls t at = record {
-  some = omega arith;
-  within = omega (arith, at.within);
-  near = λ j d lt. let up = starts_rise f 0 top ls t j i d (omega arith) at.within in omega (arith, up, at.from d);
-  after = λ j d le lt.
-      let up = starts_rise f 0 top ls t (suc i) j d (omega arith) lt in
-      let next = legs_next f 0 top ls i (suc i) d t refl (omega arith) in
-      omega (arith, up, next, at.below d);
-}
-
-pub end_last : (f : ℕ → ℕ) (k : ℕ) (ls : List PlanRange) → Legs f 0 top ls → k ≡ top → NearEnd ls k (length ls)
-end_last f k [] t e = absurd (omega (arith, t))
-end_last f k (x ∷ xs) t e = record {
-  some = omega arith;
-  within = omega arith;
-  near = λ j d lt. let at = legs_at f 0 top (x ∷ xs) j d t lt in omega (arith, at.full, at.to, e);
-  after = λ j d le lt. absurd (omega arith);
-}

@@ -1,8 +1,7 @@
 -- The routes of a table that was renewed for a set of keys.
-use Rattle.std.proofs.Common.{◌≡◌, ℕ, ◌*◌, ◌<◌, ◌≤◌, Bool, true, false, cond, nat_eq, List, [], ◌∷◌, length, refl, sym, ap, subst, ◌∙◌, arith, inl, inr, length-append}
+use Rattle.std.proofs.Common.{◌≡◌, ℕ, ◌*◌, ◌<◌, ◌≤◌, Bool, true, false, cond, nat_eq, List, [], ◌∷◌, length, refl, sym, ap, subst, ◌∙◌, arith, length-append}
 use Rattle.std.specs.Prelude.{◌==◌, ◌||◌, ◌&&◌, not, None, Some}
-use Rattle.std.specs.List.{splice}
-use Rattle.std.proofs.lemmas.Bool.{cases_Bool, and_parts}
+use Rattle.std.proofs.lemmas.Bool.{and_parts}
 use Rattle.std.proofs.lemmas.Bool.Decides.{nat_tests}
 use Rattle.std.proofs.lemmas.List.{length-map, take_all}
 use Rattle.std.proofs.lemmas.List.Sums.{count_by-le-length}
@@ -10,22 +9,22 @@ use Rattle.squall_key.specs.Keys.{top}
 use Rattle.squall_span.specs.Spans.{Interval, has}
 use Rattle.squall_plan.specs.declared.range.PlanRange.{PlanRange}
 use Rattle.squall_plan.specs.Ranges.{owner_of}
-use Rattle.squall_plan.specs.Ranges.{IsCanonical as IsCanonicalTable}
 use Rattle.squall_course.specs.declared.moving.Move.{Move}
 use Rattle.squall_course.specs.Change.{Change}
 use Rattle.squall_course.specs.Subplans.{moves, shares}
-use Rattle.squall_course.specs.Moves.{overlap, transfer, listed, row, transfers, numbered, moves_of, move_has, AreMoves}
+use Rattle.squall_course.specs.Moves.{overlap, transfer, listed, row, transfers, numbered, moves_of, AreMoves}
 use Rattle.squall_report.specs.Facts.{Fact, LoadedKey, DonePart}
 use Rattle.squall_report.specs.Told.{TellsBoth}
 use Rattle.squall_board.specs.Boards.{BoardValue, says, told}
 use Rattle.squall_board.specs.Route.{has_come, route, place_of_key}
-use Rattle.squall_board.specs.MovesRoute.{route_in_move, route_by_moves}
+use Rattle.squall_board.specs.MovesRoute.{route_by_moves}
 use Rattle.squall_board.specs.MovesRouteLaws.{route_by_moves_is}
 use Rattle.squall_table.specs.Tables.{IsTable}
 use Rattle.squall_table.specs.Legs.{Legs}
-use Rattle.squall_table.specs.LegLaws.{legs_as, owner_is, canonical_of_legs}
+use Rattle.squall_table.specs.LegLaws.{legs_as, owner_is}
 use Rattle.squall_table.specs.Touched.{is_touched, ChangesWithin, WasTable}
-use Rattle.squall_table.specs.Patching.{renewed}
+use Rattle.squall_table.specs.LegEntries.{legs_from}
+use Rattle.squall_table.specs.Patching.{renewed, IsRenewed}
 use Rattle.squall_table.specs.Reach.{is_shared, moves_in}
 use Rattle.squall_table.proofs.Moving.{no_move}
 use Rattle.squall_table.proofs.Counting.{count_none}
@@ -67,29 +66,15 @@ empty_is (x ∷ xs) r e t = absurd (grind (arith, nat_tests))
 
 -- ---- routes
 
--- a table serves as the old plan where it has its routes by whatever else is said
-route_same : (number : ℕ) (old ls : List PlanRange) (ms : List Move) (older said : Fact → Bool) (k : ℕ) → owner_of ls k ≡ route_by_moves number old ms older k → route_by_moves number ls ms said k ≡ route_by_moves number old ms said k
-route_same number old ls [] older said k e = e
-route_same number old ls (m ∷ ms) older said k e = elim (cases_Bool (move_has k m)) [
-  | inl is ↦ rw is refl
-  | inr is ↦ rw is (route_same number old ls ms older said k (e ∙ ap (λ b. cond b (route_in_move number older m k) (route_by_moves number old ms older k)) is))
-]
-
--- the route by a table and moves is the route by the plans
-by_table : (c : Change) (older : BoardValue) (ls : List PlanRange) (ms : List Move) (said : Fact → Bool) (k : ℕ) → AreMoves c.old c.new ms → IsTable c older ls → k < top → route_by_moves c.number ls ms said k ≡ route c said k
-by_table c older ls ms said k are is lt =
-    let own : owner_of ls k ≡ route c (says older) k = is.routes k (omega arith) lt in
-    route_same c.number c.old ls ms (says older) said k (own ∙ sym (route_by_moves_is c (says older) ms k are)) ∙ route_by_moves_is c said ms k are
-
 -- one of two routes that are the same as a third
 chosen : (b : Bool) (p q r : ℕ) → (b ≡ true → p ≡ r) → (b ≡ false → q ≡ r) → cond b p q ≡ r
 chosen true p q r f g = f refl
 chosen false p q r f g = g refl
 
 pub patched_legs : (c : Change) (b : BoardValue) (set : List Interval) (ls new : List PlanRange) (ms : List Move) → AreMoves c.old c.new ms → WasTable c b set ls
-    → Legs (renewed set (route_by_moves c.number ls ms (says b)) (owner_of ls)) 0 top new → Legs (route c (says b)) 0 top new
+    → Legs (renewed set (route_by_moves c.number c.old ms (says b)) (owner_of ls)) 0 top new → Legs (route c (says b)) 0 top new
 patched_legs c b set ls new ms are was l = legs_as _ (route c (says b)) 0 top new (λ k from lt. sym (chosen (has set k) _ _ _
-    (λ in_it. by_table c was.0 ls ms (says b) k are was.1 lt)
+    (λ in_it. route_by_moves_is c (says b) ms k are)
     (λ out. was.1.routes k (omega arith) lt ∙ was.2 k lt out))) l
 
 -- a key outside the set keeps its owner
@@ -106,11 +91,11 @@ all_come c said k e = ap (λ t. cond (not (moves c.old c.new k) || t) (owner_of 
 
 pub absorbed_legs : (c : Change) (before after d : BoardValue) (set : List Interval) (ls new : List PlanRange) (ms : List Move) (said : Fact → Bool) → AreMoves c.old c.new ms → ((f : Fact) → said f ≡ true) → IsTable c before ls
     → ((k : ℕ) → has set k ≡ is_touched c (says d) k) → TellsBoth (told after) (told before) (told d) → ChangesWithin c before after set
-    → Legs (renewed set (route_by_moves c.number ls ms said) (owner_of ls)) 0 top new → Legs (route c (says after)) 0 top new
+    → Legs (renewed set (route_by_moves c.number c.old ms said) (owner_of ls)) 0 top new → Legs (route c (says after)) 0 top new
 absorbed_legs c before after d set ls new ms said are all is touched both changes l = legs_as _ (route c (says after)) 0 top new (λ k from lt. sym (chosen (has set k) _ _ _
     (λ in_it.
     let come : has_come c (says d) k ≡ true = (and_parts (moves c.old c.new k) (has_come c (says d) k) (sym (touched k) ∙ in_it)).1 in
-    by_table c before ls ms said k are is lt
+    route_by_moves_is c said ms k are
     ∙ all_come c said k (ap (λ t. t || said (DonePart (place_of_key c k))) (all (LoadedKey (place_of_key c k) k)))
     ∙ sym (all_come c (says after) k ((λ i. both.facts (LoadedKey (place_of_key c k) k) i || both.facts (DonePart (place_of_key c k)) i) ∙ either (says before (LoadedKey (place_of_key c k) k)) (says d (LoadedKey (place_of_key c k) k)) (says before (DonePart (place_of_key c k))) (says d (DonePart (place_of_key c k))) come)))
     (λ out. is.routes k (omega arith) lt ∙ changes k lt out))) l
@@ -121,19 +106,6 @@ absorbed_legs c before after d set ls new ms said are all is touched both change
     either false false true d e = refl
     either false false false d e = e
 
--- ---- what was put into a table
-
--- the legs of a renewal, put into the table
-pub renewed_legs : (c : Change) (set spans : List Interval) (now inside given ready new fresh : List PlanRange) (ms : List Move) (said : Fact → Bool) (first end : ℕ)
-    → spans ≡ set → inside ≡ now → given ≡ inside → ready ≡ inside → new ≡ splice ready first end fresh
-    → Legs (renewed spans (route_by_moves c.number given ms said) (owner_of given)) 0 top (splice given first end fresh)
-    → Legs (renewed set (route_by_moves c.number now ms said) (owner_of now)) 0 top new
-renewed_legs c set spans now inside given ready new fresh ms said first end s v g r p l =
-    let same : new ≡ splice given first end fresh = p ∙ ap (λ (x : List PlanRange). splice x first end fresh) (r ∙ sym g) in
-    subst (λ n. Legs (renewed set (route_by_moves c.number now ms said) (owner_of now)) 0 top n) (sym same)
-    (subst (λ x. Legs (renewed x (route_by_moves c.number now ms said) (owner_of now)) 0 top (splice given first end fresh)) s
-    (subst (λ x. Legs (renewed spans (route_by_moves c.number x ms said) (owner_of x)) 0 top (splice given first end fresh)) (g ∙ v) l))
-
 -- where a delta touches no key, the table stays
 pub absorbed_none : (c : Change) (before after : BoardValue) (set : List Interval) (ls : List PlanRange) → set ≡ [] → ChangesWithin c before after set → IsTable c before ls → IsTable c after ls
 absorbed_none c before after set ls e changes is = record {
@@ -142,6 +114,11 @@ absorbed_none c before after set ls e changes is = record {
   routes = λ k from lt. is.routes k from lt ∙ changes k lt (ap (λ s. has s k) e);
 }
 
--- the legs with the fresh ones in their place are a table, before they are put there
-pub ready_canonical : (g : ℕ → ℕ) (inside given ready fresh : List PlanRange) (first end : ℕ) → given ≡ inside → ready ≡ inside → Legs g 0 top (splice given first end fresh) → IsCanonicalTable (splice ready first end fresh)
-ready_canonical g inside given ready fresh first end e e' l = subst (λ (ls : List PlanRange). IsCanonicalTable (splice ls first end fresh)) (e ∙ sym e') (canonical_of_legs g _ l)
+-- ---- what was put into a table
+
+-- the legs of a renewal, put into the table
+pub renewed_legs : (c : Change) (said : Fact → Bool) (set spans : List Interval) (now : List PlanRange) (inside new made : List (ℕ × ℕ)) → spans ≡ set → legs_from 0 inside ≡ now → new ≡ made → IsRenewed c said spans (legs_from 0 inside) (legs_from 0 made)
+    → IsRenewed c said set now (legs_from 0 new)
+renewed_legs c said set spans now inside new made s v p l =
+    subst (λ (es : List (ℕ × ℕ)). IsRenewed c said set now (legs_from 0 es)) (sym p)
+    (subst (λ x. IsRenewed c said x now (legs_from 0 made)) s (subst (λ (ls : List PlanRange). IsRenewed c said spans ls (legs_from 0 made)) v l))

@@ -9,10 +9,11 @@ pub use Rattle.squall_report.specs.Told
 pub use Rattle.squall_board.specs.Boards
 pub use Rattle.squall_board.specs.Route
 pub use Rattle.squall_board.specs.MovesRoute
+pub use Rattle.squall_blocks.specs.Entries
 pub mod Tables
 pub mod Legs
-pub mod Strips
 pub mod LegLaws
+pub mod LegEntries
 pub mod Touched
 pub mod Reach
 pub mod Touching

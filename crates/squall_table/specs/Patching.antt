@@ -1,5 +1,5 @@
 -- What a patch of a table does: the legs about a set of keys, and what goes in their place (this project).
-use Rattle.std.specs.Prelude.{ℕ, Bool, ◌<◌, ◌≤◌, List, [], ◌∷◌, if◌then◌else◌, length, slice_index_or}
+use Rattle.std.specs.Prelude.{◌≡◌, ℕ, Bool, ◌<◌, ◌≤◌, List, [], ◌∷◌, if◌then◌else◌}
 use Rattle.squall_span.specs.Spans.{Interval, has}
 use Rattle.squall_key.specs.Keys.{top}
 use Rattle.squall_plan.specs.declared.range.PlanRange.{PlanRange}
@@ -8,21 +8,18 @@ use Rattle.squall_course.specs.Change.{Change}
 use Rattle.squall_course.specs.Moves.{moves_of}
 use Rattle.squall_report.specs.Facts.{Fact}
 use Rattle.squall_board.specs.MovesRoute.{route_by_moves}
+use Rattle.squall_blocks.specs.Entries.{last_from, up_to}
 use Rattle.squall_table.specs.Legs.{Legs}
 
--- the first leg that ends at the bound or later
-pub record NearStart (ls : List PlanRange) (bound i : ℕ) : Type 0 where
-  pub within : i < length ls
-  pub from : (d : PlanRange) → (slice_index_or ls i d).span.lo ≤ bound
-  pub first : (d : PlanRange) → 0 < i → (slice_index_or ls i d).span.lo < bound
-  pub near : (j : ℕ) (d : PlanRange) → i ≤ j → j < length ls → bound ≤ (slice_index_or ls j d).span.hi
-
--- the end of the legs that begin at the bound or before
-pub record NearEnd (ls : List PlanRange) (bound i : ℕ) : Type 0 where
-  pub some : 0 < i
-  pub within : i ≤ length ls
-  pub near : (j : ℕ) (d : PlanRange) → j < i → (slice_index_or ls j d).span.lo ≤ bound
-  pub after : (j : ℕ) (d : PlanRange) → i ≤ j → j < length ls → bound < (slice_index_or ls j d).span.lo
+-- what goes when the keys from a to b are renewed begins and ends at a bound at which an entry ends, or at the least; the keys beside them lie between, too
+pub record IsReach (es : List (ℕ × ℕ)) (a b lo hi : ℕ) : Type 0 where
+  pub begins : last_from 0 (up_to lo es) ≡ lo
+  pub ends : last_from 0 (up_to hi es) ≡ hi
+  pub low : lo ≤ a
+  pub before : 0 < a → lo < a
+  pub high : b ≤ hi
+  pub after : b < top → b < hi
+  pub within : hi ≤ top
 
 -- the first span, if any, begins at the bound or later
 abbrev pub StartsFrom : ℕ → List Interval → Type 0
@@ -33,6 +30,6 @@ StartsFrom bound (s ∷ ss) = bound ≤ s.lo
 abbrev pub renewed : List Interval → (ℕ → ℕ) → (ℕ → ℕ) → ℕ → ℕ
 renewed set inside outside k = if has set k then inside k else outside k
 
--- the legs of all keys once those of a set are renewed: they go by the moves of the course and what is said of them, the others as among the old legs
+-- the legs of all keys once those of a set are renewed: their routes are by the moves of the course and what is said of them, the routes of the others as among the old legs
 abbrev pub IsRenewed : Change → (Fact → Bool) → List Interval → List PlanRange → List PlanRange → Type 0
-IsRenewed c heard set old new = Legs (renewed set (route_by_moves c.number old (moves_of c.old c.new) heard) (owner_of old)) 0 top new
+IsRenewed c heard set old new = Legs (renewed set (route_by_moves c.number c.old (moves_of c.old c.new) heard) (owner_of old)) 0 top new

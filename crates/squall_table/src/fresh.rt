@@ -1,53 +1,55 @@
 //! Legs to be put in the place of others.
 
 ghost use Rattle.std.specs.Prelude.{◌≡◌, ◌<◌, ◌≤◌, ◌^◌, [], length, IfOk};
-ghost use Rattle.std.specs.List.{splice};
 ghost use Rattle.squall_key.specs.Keys.{top};
 ghost use Rattle.squall_span.specs.Spans.{IsCanonical as IsCanonicalSet, IsSet, EndsBy};
 ghost use Rattle.squall_plan.specs.Ranges.{owner_of, IsCanonical};
 ghost use Rattle.squall_course.specs.Change.{ArePlans};
 ghost use Rattle.squall_course.specs.Moves.{moves_of, AreMoves};
 ghost use Rattle.squall_board.specs.MovesRoute.{route_by_moves};
+ghost use Rattle.squall_blocks.specs.Entries.{RiseFrom, last_from, up_to, replaced};
+ghost use Rattle.squall_table.specs.LegEntries.{legs_from};
 ghost use Rattle.squall_table.specs.Legs.{Legs, Grows, MovesRise, said, route_told};
 ghost use Rattle.squall_table.specs.Patching.{StartsFrom, IsRenewed, renewed};
 ghost use Rattle.squall_table.specs.Reach.{moves_in};
 
-use crate::legs::copy_legs;
-use crate::near::{near_end, near_start};
+use crate::entries::{copy_entries, entries_of, reach_of};
 use crate::routes::{Heard, Routes, first_move, push_routes};
 use crate::table::Leg;
+use squall_blocks::{Blocks, Entries};
 use squall_course::Course;
-use squall_key::Bound;
+use squall_key::{Bound, PartId};
 use squall_span::Span;
 use std::alloc::{AllocError, Global};
 
-/// Legs for the keys from `lo` to `hi`: those of the set by their routes, the others as among the
-/// legs; and how many moves share a key with the set. A move counts once, though it may share keys
-/// with more than one span. The first and the last leg are looked for at `near` first.
+/// Legs for the keys from `lo` to `hi`: those of the set by their routes, the others as in the table;
+/// and how many moves share a key with the set. A move counts once, though it may share keys with
+/// more than one span.
 fn fresh_legs(
     alloc: Global,
     routes: Routes,
-    near: (usize, usize),
+    table: &Blocks<PartId>,
     set: &[Span],
     lo: Bound,
     hi: Bound,
 ) -> Result<(Vec<Leg>, usize), AllocError>
     requires legs { IsCanonical routes.legs.now }
+    requires table { IsCanonical (legs_from 0 table.now) }
     requires rise { MovesRise 0 routes.moves.now }
     requires set { IsCanonicalSet set.now }
     requires starts { StartsFrom lo set.now }
     requires ends { EndsBy hi set.now }
     requires order { lo ≤ hi }
-    ensures legs { IfOk result (λ made. Grows (renewed set.now (route_told routes.entry) (owner_of routes.entry.legs.now)) lo hi [] made.0.items) }
+    ensures legs { IfOk result (λ made. Grows (renewed set.now (route_told routes.entry) (owner_of (legs_from 0 table.now))) lo hi [] made.0.items) }
     ensures moves { IfOk result (λ made. made.1 ≡ moves_in set.now routes.entry.moves.now) }
 {
-    let (legs, moves) = (routes.legs, routes.moves);
+    let moves = routes.moves;
     let mut out = Vec::new(alloc);
     let mut reach = lo;
     let mut seen = 0;
     let mut taken = 0;
     for span in set {
-        copy_legs(&mut out, legs, near.0, reach, span.lo())?;
+        copy_entries(&mut out, table, reach, span.lo())?;
         let first = first_move(moves, span.lo());
         let (from, to) = (span.lo(), span.hi());
         let end = push_routes(&mut out, routes, first, from, to)?;
@@ -55,7 +57,7 @@ fn fresh_legs(
         seen = seen.max(end);
         reach = span.hi();
     }
-    copy_legs(&mut out, legs, near.1, reach, hi)?;
+    copy_entries(&mut out, table, reach, hi)?;
     Ok((out, taken))
 }
 
@@ -71,51 +73,48 @@ pub(crate) fn know_moves(course: &Course)
     let _new = course.new_plan().ranges();
 }
 
-/// What renews the keys of a set in a table: the legs from `first` to `end` go, and fresh ones come
-/// in their place.
+/// What renews the keys of a set in a table: the legs between two bounds go, and fresh ones come in
+/// their place.
 #[derive(Drop)]
 pub(crate) struct Renewal {
-    pub(crate) first: usize,
-    pub(crate) end: usize,
-    pub(crate) fresh: Vec<Leg>,
+    pub(crate) lo: Bound,
+    pub(crate) hi: Bound,
+    pub(crate) fresh: Entries<PartId>,
     /// How many moves share a key with the set.
     pub(crate) moves: usize,
 }
 
 /// What renews the keys of the set, which has one. The legs that go begin at the first that shares
-/// a key with the set or borders on it, and end at the last, so that no others need be joined. The
-/// first is looked for first at the place `at`.
+/// a key with the set or borders on it, and end at the last, so no others need be joined.
 pub(crate) fn renew(
     alloc: Global,
-    legs: &[Leg],
-    at: usize,
+    table: &Blocks<PartId>,
     course: &Course,
     heard: Heard,
     set: &[Span],
 ) -> Result<Renewal, AllocError>
-    requires legs { IsCanonical legs.now }
+    requires table { IsCanonical (legs_from 0 table.now) }
     requires set { IsSet set.now }
     requires some { 0 < length set.now }
-    ensures order { IfOk result (λ r. r.first < r.end) }
-    ensures some { IfOk result (λ r. 0 < length r.fresh.items) }
-    ensures within { IfOk result (λ r. r.end ≤ length legs.now) }
-    ensures legs { IfOk result (λ r. IsRenewed course.now (said heard.entry) set.now legs.now (splice legs.now r.first r.end r.fresh.items)) }
+    ensures begins { IfOk result (λ r. last_from 0 (up_to r.lo table.now) ≡ r.lo) }
+    ensures rise { IfOk result (λ r. RiseFrom r.lo r.fresh) }
+    ensures last { IfOk result (λ r. last_from r.lo r.fresh ≤ r.hi) }
+    ensures legs { IfOk result (λ r.
+        IsRenewed course.now (said heard.entry) set.now (legs_from 0 table.now) (legs_from 0 (replaced r.lo r.hi r.fresh table.now))) }
     ensures moves { IfOk result (λ r. r.moves ≡ moves_in set.now (moves_of course.now.old course.now.new)) }
 {
-    let first = near_start(legs, at, set[0].lo());
-    let end = near_end(legs, first, set[set.len() - 1].hi());
-    let lo = legs[first].span.lo();
-    let hi = legs[end - 1].span.hi();
+    let (lo, hi) = reach_of(table, set[0].lo(), set[set.len() - 1].hi());
     let routes = Routes {
-        legs,
+        legs: course.old_plan().ranges(),
         moves: course.moves(),
         number: course.number(),
         heard,
     };
-    let (fresh, moves) = fresh_legs(alloc, routes, (first, end - 1), set, lo, hi)?;
+    let (legs, moves) = fresh_legs(alloc, routes, table, set, lo, hi)?;
+    let fresh = entries_of(alloc, &legs)?;
     Ok(Renewal {
-        first,
-        end,
+        lo,
+        hi,
         fresh,
         moves,
     })

@@ -1,54 +1,50 @@
 //! The legs about a set of keys.
 
-ghost use Rattle.std.specs.Prelude.{◌≤◌};
-ghost use Rattle.squall_span.specs.Spans.{IsSet};
+ghost use Rattle.std.specs.Prelude.{◌≡◌, ◌≤◌, true, IsTrue};
+ghost use Rattle.squall_span.specs.Spans.{interval};
 ghost use Rattle.squall_plan.specs.Ranges.{IsCanonical};
-ghost use Rattle.squall_table.specs.Patching.{NearStart, NearEnd};
-ghost use Rattle.squall_table.specs.Reach.{legs_near};
+ghost use Rattle.squall_blocks.specs.Entries.{last_from, up_to};
+ghost use Rattle.squall_table.specs.LegEntries.{legs_from};
+ghost use Rattle.squall_table.specs.Reach.{is_near, legs_near};
 
-use crate::search::{end_near, place_near};
-use crate::table::Leg;
-use squall_key::Bound;
-use squall_span::Span;
+use crate::entries::bound_before;
+use squall_blocks::Blocks;
+use squall_key::{Bound, PartId};
+use squall_span::SpanSet;
 
-/// Where the first leg stands that ends at the bound or later: the one at the place where it is
-/// looked for first, or another.
-pub(crate) fn near_start(legs: &[Leg], at: usize, bound: Bound) -> usize
-    requires { IsCanonical legs.now }
-    ensures { NearStart legs.now bound result }
+/// Whether the keys from `lo` to `hi` share one with the set, or border on a span of it: what is
+/// answered so is so.
+fn is_near(set: &SpanSet, lo: Bound, hi: Bound) -> bool
+    requires order { lo ≤ hi }
+    ensures { IsTrue result → is_near set.now (interval lo hi) ≡ true }
 {
-    if bound.rank() == 0 {
-        return 0;
+    let at = set.ended(bound_before(lo));
+    let spans = set.spans();
+    if at >= spans.len() {
+        return false;
     }
-    end_near(legs, at, bound)
+    let span = spans[at];
+    span.lo().rank() <= hi.rank() && lo.rank() <= span.hi().rank()
 }
 
-/// Where the legs end that begin at the bound or before: behind the one at the place where the last
-/// is looked for first, or another.
-pub(crate) fn near_end(legs: &[Leg], at: usize, bound: Bound) -> usize
-    requires { IsCanonical legs.now }
-    ensures { NearEnd legs.now bound result }
+/// How many legs from `from` to `to` are taken up for the set: each of them shares a key with it,
+/// or borders on a span of it, and is counted once.
+pub(crate) fn near_count(table: &Blocks<PartId>, set: &SpanSet, from: Bound, to: Bound) -> usize
+    requires canonical { IsCanonical (legs_from 0 table.now) }
+    requires begins { last_from 0 (up_to from table.now) ≡ from }
+    ensures { result ≤ legs_near set.now (legs_from 0 table.now) }
 {
-    if bound.rank() >= Bound::TOP.rank() {
-        return legs.len();
+    let mut reach = from;
+    let mut count = 0;
+    let mut rest = table.iter_from(from);
+    while reach.rank() < to.rank() {
+        let Some(entry) = rest.next() else {
+            return count;
+        };
+        if is_near(set, reach, entry.0) {
+            count += 1;
+        }
+        reach = entry.0;
     }
-    place_near(legs, at, bound) + 1
-}
-
-/// How many legs are taken up for the set: each of them shares a key with it, or borders on a span
-/// of it, and is counted once. The first is looked for first at the place `at`.
-pub(crate) fn near_count(legs: &[Leg], at: usize, set: &[Span]) -> usize
-    requires canonical { IsCanonical legs.now }
-    requires set { IsSet set.now }
-    ensures { result ≤ legs_near set.now legs.now }
-{
-    let mut seen = 0;
-    let mut taken = 0;
-    for span in set {
-        let first = near_start(legs, at, span.lo());
-        let end = near_end(legs, first, span.hi());
-        taken += end.saturating_sub(first.max(seen));
-        seen = seen.max(end);
-    }
-    taken
+    count
 }

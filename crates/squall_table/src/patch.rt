@@ -1,64 +1,55 @@
 //! Patches of route tables.
 
-ghost use Rattle.std.specs.Prelude.{◌≡◌, ℕ, ◌<◌, ◌≤◌, ◌+◌, ◌^◌, false, length, vec_len, vec_capacity, OnOk, OnErr};
-ghost use Rattle.std.specs.List.{splice};
+ghost use Rattle.std.specs.Prelude.{◌≡◌, ℕ, ◌<◌, ◌≤◌, ◌+◌, ◌^◌, false, length, IfOk, OnOk, OnErr};
 ghost use Rattle.squall_key.specs.Keys.{top};
 ghost use Rattle.squall_span.specs.Spans.{has, IsSet};
-ghost use Rattle.squall_plan.specs.Ranges.{owner_of, IsCanonical};
+ghost use Rattle.squall_plan.specs.Ranges.{owner_of};
 ghost use Rattle.squall_course.specs.Moves.{moves_of};
 ghost use Rattle.squall_board.specs.Boards.{board_join, report_board, says};
+ghost use Rattle.squall_blocks.specs.Entries.{RiseFrom, last_from, replaced};
 ghost use Rattle.squall_table.specs.Tables.{IsTable};
-ghost use Rattle.squall_table.specs.Strips.{HasIndex};
 ghost use Rattle.squall_table.specs.Touched.{WasTable, is_touched};
 ghost use Rattle.squall_table.specs.Reach.{moves_in, reach};
 ghost use Rattle.squall_table.specs.News.{news_board};
 
 use crate::fresh::{Renewal, know_moves, renew};
-use crate::index::Index;
 use crate::meter::Meter;
 use crate::near::near_count;
 use crate::news::{News, take_news};
-use crate::ready::replace_ready;
 use crate::routes::Heard;
 use crate::single::{reported_span, touched_span};
-use crate::table::{Leg, RouteTable};
+use crate::table::RouteTable;
 use crate::touch::{touched, touched_by_report};
+use squall_blocks::{Blocks, Prepared};
 use squall_board::{Board, Delta};
 use squall_course::Course;
-use squall_key::Bound;
+use squall_key::PartId;
 use squall_report::Report;
 use squall_span::{Span, SpanSet};
-use std::alloc::AllocError;
+use std::alloc::{AllocError, Global};
+use std::mem::replace;
 
-/// Makes room for fresh legs, and for their index. Where that fails, the legs are as they were, and
-/// the index is still theirs.
-fn make_room(legs: &mut Vec<Leg>, index: &mut Index, fresh: &[Leg]) -> Result<(), AllocError>
-    requires index { HasIndex index.old legs.old.items }
-    ensures legs { legs.new.items ≡ legs.old.items }
-    ensures index { HasIndex index.new legs.new.items }
-    ensures room { OnOk result (vec_len legs.new + length fresh.now ≤ vec_capacity legs.new) }
+/// Takes the legs out, with what renews them prepared. An error means that an allocation failed: the
+/// legs are then back.
+fn prepare(
+    alloc: Global,
+    legs: &mut Blocks<PartId>,
+    made: &Renewal,
+) -> Result<Prepared<PartId>, AllocError>
+    requires some { 0 < length legs.old }
+    requires rise { RiseFrom made.now.lo made.now.fresh }
+    requires last { last_from made.now.lo made.now.fresh ≤ made.now.hi }
+    ensures before { IfOk result (λ p. p.0 ≡ legs.old) }
+    ensures after { IfOk result (λ p. p.1 ≡ replaced made.now.lo made.now.hi made.now.fresh legs.old) }
+    ensures err { OnErr result (legs.new ≡ legs.old) }
 {
-    legs.reserve(fresh.len())?;
-    index.reserve(legs.len() + fresh.len())
-}
-
-/// Puts fresh legs in their place, in room that was made, and lets the index follow them.
-fn put(legs: &mut Vec<Leg>, index: &mut Index, made: &Renewal)
-    requires order { made.now.first < made.now.end }
-    requires within { made.now.end ≤ length legs.old.items }
-    requires some { 0 < length made.now.fresh.items }
-    requires old { IsCanonical legs.old.items }
-    requires canonical { IsCanonical (splice legs.old.items made.now.first made.now.end made.now.fresh.items) }
-    requires index { HasIndex index.old legs.old.items }
-    requires room { vec_len legs.old + length made.now.fresh.items ≤ vec_capacity legs.old }
-    ensures legs { legs.new.items ≡ splice legs.old.items made.now.first made.now.end made.now.fresh.items }
-    ensures index { HasIndex index.new legs.new.items }
-{
-    replace_ready(legs, made.first, made.end, &made.fresh);
-    if index.is_coarse() {
-        index.renew(legs);
-    } else {
-        index.follow(legs, made.first, made.fresh.len(), made.end - made.first);
+    let whole = replace(legs, Blocks::new(alloc));
+    match Prepared::of(alloc, whole, made.lo, made.hi, &made.fresh) {
+        Ok(ready) => Ok(ready),
+        Err(whole) => {
+            *legs = whole;
+            Err(AllocError)
+        }
     }
 }
 
@@ -92,13 +83,12 @@ impl RouteTable {
         if spans.is_empty() {
             return Ok(());
         }
-        let alloc = *self.legs.allocator();
-        let at = self.place_before(spans[0].lo());
-        let made = renew(alloc, &self.legs, at, course, Heard::Board(board), spans)?;
-        let entries = near_count(&self.legs, made.first, spans);
-        make_room(&mut self.legs, &mut self.index, &made.fresh)?;
-        put(&mut self.legs, &mut self.index, &made);
-        meter.count += made.moves as u64 + entries as u64;
+        let alloc = self.legs.allocator();
+        let made = renew(alloc, &self.legs, course, Heard::Board(board), spans)?;
+        let entries = near_count(&self.legs, set, made.lo, made.hi);
+        self.legs.replace(alloc, made.lo, made.hi, &made.fresh)?;
+        meter.count += made.moves as u64;
+        meter.count = meter.count.saturating_add(entries as u64);
         Ok(())
     }
 
@@ -124,13 +114,19 @@ impl RouteTable {
             return take_news(board, news);
         }
         // Every key of the set has come, once the news are taken.
-        let alloc = *self.legs.allocator();
-        let at = self.place_before(spans[0].lo());
-        let made = renew(alloc, &self.legs, at, course, Heard::All, spans)?;
-        make_room(&mut self.legs, &mut self.index, &made.fresh)?;
-        take_news(board, news)?;
-        put(&mut self.legs, &mut self.index, &made);
-        Ok(())
+        let alloc = self.legs.allocator();
+        let made = renew(alloc, &self.legs, course, Heard::All, spans)?;
+        let ready = prepare(alloc, &mut self.legs, &made)?;
+        match take_news(board, news) {
+            Ok(()) => {
+                self.legs = ready.apply();
+                Ok(())
+            }
+            Err(error) => {
+                self.legs = ready.cancel();
+                Err(error)
+            }
+        }
     }
 
     /// Merges the delta into the board whose table this is, and patches the table for what the delta
@@ -151,7 +147,7 @@ impl RouteTable {
         if let Some(span) = touched_span(course, delta) {
             return self.absorb_touched(course, board, News::Delta(delta), &[span]);
         }
-        let set = touched(*self.legs.allocator(), course, delta)?;
+        let set = touched(self.legs.allocator(), course, delta)?;
         self.absorb_touched(course, board, News::Delta(delta), set.spans())
     }
 
@@ -176,7 +172,7 @@ impl RouteTable {
         if let Some(span) = reported_span(course, report) {
             return self.absorb_touched(course, board, News::Report(report), &[span]);
         }
-        let set = touched_by_report(*self.legs.allocator(), course, report)?;
+        let set = touched_by_report(self.legs.allocator(), course, report)?;
         self.absorb_touched(course, board, News::Report(report), set.spans())
     }
 }

@@ -1,6 +1,6 @@
 //! Searches for the leg of a key.
 
-ghost use Rattle.std.specs.Prelude.{◌≡◌, ◌<◌, ◌≤◌, ◌*◌, ◌-◌, min, length, IsTrue};
+ghost use Rattle.std.specs.Prelude.{◌≡◌, ◌<◌, ◌≤◌, ◌*◌, ◌-◌, length, IsTrue};
 ghost use Rattle.squall_key.specs.Keys.{top};
 ghost use Rattle.squall_plan.specs.Ranges.{IsCanonical};
 ghost use Rattle.squall_table.specs.Legs.{IsAt, IsAmong, EndsAt};
@@ -82,30 +82,6 @@ pub(crate) fn place_among(legs: &[Leg], first: usize, count: usize, key: Bound) 
         2 => half(legs, base, 2, 1, key),
         _ => base,
     }
-}
-
-/// A place from which the leg of a key is among the next 16 legs, by steps of so many.
-fn skip(legs: &[Leg], first: usize, key: Bound) -> usize
-    requires canonical { IsCanonical legs.now }
-    requires among { IsAmong legs.now key first (length legs.now - first) }
-    ensures { IsAmong legs.now key result (min 16 (length legs.now - result)) }
-{
-    let mut at = first;
-    while legs.len() - at > 16 && legs[at + 16].span.lo().rank() <= key.rank() {
-        at += 16;
-    }
-    at
-}
-
-/// Where the leg of a key stands, at a place or behind it.
-pub(crate) fn place_from(legs: &[Leg], first: usize, key: Bound) -> usize
-    requires canonical { IsCanonical legs.now }
-    requires among { IsAmong legs.now key first (length legs.now - first) }
-    requires below { key < top }
-    ensures { IsAt legs.now key result }
-{
-    let at = skip(legs, first, key);
-    place_among(legs, at, 16.min(legs.len() - at), key)
 }
 
 /// Where the leg of a key stands.

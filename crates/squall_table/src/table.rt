@@ -2,12 +2,13 @@
 
 ghost use Rattle.std.specs.Prelude.{◌≡◌, IfOk};
 ghost use Rattle.squall_plan.specs.Ranges.{owner_of, AreRanges, IsCanonical};
-ghost use Rattle.squall_table.specs.Legs.{IsAt};
+ghost use Rattle.squall_table.specs.LegEntries.{legs_from, legs_beyond};
 ghost use Rattle.squall_table.specs.Tables.{AreLegs, IsTable};
 
-use crate::index::Index;
-use crate::legs::copy_legs;
+use crate::entries::{copy_entries, entries_of};
 use crate::routes::{Heard, Routes, first_move, push_routes};
+use crate::view::Legs;
+use squall_blocks::Blocks;
 use squall_board::Board;
 use squall_course::Course;
 use squall_key::{Bound, Key, PartId};
@@ -25,25 +26,24 @@ pub type Leg = PlanRange;
 /// Contracts see a table as the list of its legs.
 #[derive(Drop)]
 pub struct RouteTable {
-    pub(crate) legs: Vec<Leg>,
-    pub(crate) index: Index,
+    pub(crate) legs: Blocks<PartId>,
 }
 
 impl Model for RouteTable {
     ghost use Rattle.std.specs.Prelude.{List};
     ghost use Rattle.squall_plan.specs.declared.range.PlanRange.{PlanRange};
     ghost use Rattle.squall_plan.specs.Ranges.{IsCanonical, AreRanges};
-    ghost use Rattle.squall_table.specs.Strips.{HasIndex};
+    ghost use Rattle.squall_table.specs.LegEntries.{legs_from};
 
     ghost Value = { List PlanRange };
 
-    ghost view = { λ t. t.legs.items };
+    ghost view = { λ t. legs_from 0 t.legs };
 
-    ghost invariant = { λ t. IsCanonical t.legs.items × AreRanges t.legs.items × HasIndex t.index t.legs.items };
+    ghost invariant = { λ t. IsCanonical (legs_from 0 t.legs) × AreRanges (legs_from 0 t.legs) };
 }
 
 /// The bound at the least key.
-fn bottom() -> Bound
+pub(crate) fn bottom() -> Bound
     ensures { result ≡ 0 }
 {
     Bound::of_rank(0).unwrap_or(Bound::TOP)
@@ -65,53 +65,46 @@ impl RouteTable {
             heard: Heard::Board(board),
         };
         push_routes(&mut legs, routes, first, bottom(), Bound::TOP)?;
-        let index = Index::over(alloc, &legs)?;
-        Ok(RouteTable { legs, index })
+        let entries = entries_of(alloc, &legs)?;
+        let legs = Blocks::of(alloc, entries)?;
+        Ok(RouteTable { legs })
     }
 
-    /// The partition to ask for the key, by a binary search.
+    /// The partition to ask for the key, by a binary search among the blocks and one in a block.
     pub fn owner(&self, key: Key) -> PartId
         ensures { result ≡ owner_of self.now key }
     {
-        let at = self.index.place(&self.legs, Bound::of_key(key));
-        self.legs[at].part
+        let Some(entry) = self.legs.above(Bound::of_key(key)) else {
+            unreachable!()
+        };
+        entry.1
     }
 
     /// The legs, by rising key.
-    pub fn entries(&self) -> &[Leg]
-        ensures value { result.now ≡ self.now }
-        ensures canonical { IsCanonical result.now }
-        ensures ranges { AreRanges result.now }
+    pub fn entries(&self) -> Legs<'_>
+        ensures value { result ≡ self.now }
+        ensures canonical { IsCanonical result }
+        ensures ranges { AreRanges result }
     {
-        &self.legs
+        Legs::over(bottom(), self.legs.iter())
+    }
+
+    /// The legs by rising key, from that of a key on, by a binary search.
+    pub fn entries_from(&self, key: Key) -> Legs<'_>
+        ensures legs { result ≡ legs_beyond key self.now }
+        ensures canonical { IsCanonical self.now }
+    {
+        let key = Bound::of_key(key);
+        let from = self.legs.end_before(key, bottom());
+        Legs::over(from, self.legs.iter_from(key))
     }
 
     /// A table with the same legs. It fails only where an allocation fails.
     pub fn copied(&self, alloc: Global) -> Result<RouteTable, AllocError>
         ensures { IfOk result (λ t. t ≡ self.now) }
     {
-        let legs = Vec::from_slice(alloc, &self.legs)?;
-        let index = self.index.copied(alloc)?;
-        Ok(RouteTable { legs, index })
-    }
-
-    /// Where the leg of the key stands among the legs, by a binary search.
-    pub fn place(&self, key: Key) -> usize
-        ensures { IsAt self.now key result }
-    {
-        self.index.place(&self.legs, Bound::of_key(key))
-    }
-
-    /// Where the leg of the key before a bound is looked for first.
-    pub(crate) fn place_before(&self, bound: Bound) -> usize {
-        if bound.rank() >= Bound::TOP.rank() {
-            return self.legs.len();
-        }
-        let at = self.index.place(&self.legs, bound);
-        if self.legs[at].span.lo().rank() < bound.rank() {
-            return at;
-        }
-        at.saturating_sub(1)
+        let legs = self.legs.copied(alloc)?;
+        Ok(RouteTable { legs })
     }
 
     /// The legs cut to a span. It fails only where an allocation fails.
@@ -119,7 +112,7 @@ impl RouteTable {
         ensures { IfOk result (λ legs. AreLegs (owner_of self.now) span.now.lo span.now.hi legs.items) }
     {
         let mut legs = Vec::new(alloc);
-        copy_legs(&mut legs, &self.legs, 0, span.lo(), span.hi())?;
+        copy_entries(&mut legs, &self.legs, span.lo(), span.hi())?;
         Ok(legs)
     }
 }

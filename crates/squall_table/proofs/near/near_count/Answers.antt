@@ -1,21 +1,28 @@
-use Rattle.std.proofs.Common.{subst}
-use Rattle.squall_span.specs.Spans.{Interval}
-use Rattle.squall_plan.specs.Ranges.{owner_of}
+use Rattle.std.proofs.Common.{◌≤◌, ◌-◌, arith}
 use Rattle.squall_table.specs.LegLaws.{canonical_legs}
-use Rattle.squall_table.specs.Patching.{NearStart, NearEnd}
-use Rattle.squall_table.proofs.About.{counted_none, counted_more, counted_done}
+use Rattle.squall_table.proofs.Walked.{counted_none, counted_more, counted_up, counted_all}
 use Rattle.squall_table.proofs.near.near_count.Goals as goal
+use Rattle.squall_table.proofs.near.near_count.Goals.{then-is_near, else-is_near}
 
-pub loop-span-init : goal.loop-span-init
-loop-span-init c = counted_none c.args.set.now c.args.legs.now
+pub loop-rest-init : goal.loop-rest-init
+loop-rest-init c = counted_none c.args.set.now c.args.table.now c.iter_from-rest.result c.args.from c.requires.begins c.iter_from-rest.ensures
 
-pub loop-span-preserved : goal.loop-span-preserved
-loop-span-preserved c =
-    let ls = c.args.legs.now in
-    let x : Interval = c.span-item.result in
-    let start : NearStart ls x.lo c.near_start-first.result = subst (λ b. NearStart ls b c.near_start-first.result) c.lo.ensures.value c.near_start-first.ensures in
-    let end : NearEnd ls x.hi c.near_end-end.result = subst (λ b. NearEnd ls b c.near_end-end.result) c.hi.ensures.value c.near_end-end.ensures in
-    rw (c.max-seen.ensures, c.saturating_sub-taken.ensures, c.max.ensures) (counted_more (owner_of ls) c.args.set.now ls c.loop-span.span-index c.loop-span.seen c.loop-span.taken c.near_start-first.result c.near_end-end.result x x (canonical_legs ls c.requires.canonical) c.requires.set.0 c.loop-span-test.true c.span-item.is start end c.loop-span.invariant)
+pub is_near-requires : goal.is_near-requires
+is_near-requires c =
+    let up = counted_up c.args.set.now c.args.table.now c.loop-rest.rest c.next.new.self c.loop-rest.reach c.loop-rest.count c.in-Some.entry c.requires.canonical c.loop-rest.invariant c.in-Some.ensures.steps in
+    record { order = omega (arith, up.0) }
 
-pub returns : goal.returns
-returns c = counted_done c.args.set.now c.args.legs.now c.loop-span.seen c.loop-span.taken c.loop-span.invariant
+pub loop-rest-smaller : goal.loop-rest-smaller
+loop-rest-smaller c =
+    let up = counted_up c.args.set.now c.args.table.now c.loop-rest.rest c.next.new.self c.loop-rest.reach c.loop-rest.count c.in-Some.entry c.requires.canonical c.loop-rest.invariant c.in-Some.ensures.steps in
+    omega (arith, up.0, up.1)
+
+pub loop-rest-preserved : goal.loop-rest-preserved
+loop-rest-preserved c = elim c.if-is_near.branch [
+  | then-is_near w ↦
+      counted_more c.args.set.now c.args.table.now c.loop-rest.rest c.next.new.self c.loop-rest.reach c.loop-rest.count c.if-is_near.count c.in-Some.entry (canonical_legs _ c.requires.canonical) c.loop-rest.invariant c.in-Some.ensures.steps
+      (omega (arith, w.count-is)) (omega (arith, w.count-is)) (λ lt. c.is_near.ensures w.if-is_near.true)
+  | else-is_near w ↦
+      counted_more c.args.set.now c.args.table.now c.loop-rest.rest c.next.new.self c.loop-rest.reach c.loop-rest.count c.if-is_near.count c.in-Some.entry (canonical_legs _ c.requires.canonical) c.loop-rest.invariant c.in-Some.ensures.steps
+      (omega (arith, w.count-is)) (omega (arith, w.count-is)) (λ lt. absurd (omega (arith, w.count-is, lt)))
+]

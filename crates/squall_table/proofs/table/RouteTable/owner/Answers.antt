@@ -1,15 +1,12 @@
-use Rattle.std.proofs.Common.{sym, ap, ◌∙◌, subst}
+use Rattle.std.proofs.Common.{◌<◌, sym, ap, ◌∙◌, arith}
 use Rattle.squall_key.specs.Keys.{top}
-use Rattle.squall_plan.specs.declared.range.PlanRange.{PlanRange}
 use Rattle.squall_plan.specs.Ranges.{owner_of}
-use Rattle.squall_table.specs.Legs.{IsAt}
-use Rattle.squall_table.specs.LegLaws.{canonical_legs}
-use Rattle.squall_table.proofs.Kept.{owner_at}
+use Rattle.squall_table.proofs.Walked.{found_owner, some_owner}
 use Rattle.squall_table.proofs.table.RouteTable.owner.Goals as goal
+
+pub unreachable-requires : goal.unreachable-requires
+unreachable-requires c = some_owner c.self.inside.legs c.of_key.result c.self.invariant.0 (omega (arith, c.of_key.ensures)) (sym c.in_default.is ∙ c.above.ensures)
 
 pub returns : goal.returns
 returns c =
-    let xs = c.self.inside.legs.items in
-    let near : IsAt xs c.of_key.result c.place-at.result = subst (λ ls. IsAt ls c.of_key.result c.place-at.result) c.deref.ensures.value c.place-at.ensures in
-    let at : IsAt xs c.args.key c.place-at.result = subst (λ k. IsAt xs k c.place-at.result) c.of_key.ensures near in
-    ap (λ (l : PlanRange). l.part) c.index.ensures ∙ sym (owner_at (owner_of xs) 0 top c.args.key xs c.place-at.result c.index.result.now (canonical_legs xs c.self.invariant.0) at) ∙ ap (λ ls. owner_of ls c.args.key) c.self.view_is
+    found_owner c.self.inside.legs c.of_key.result c.args.key c.in-Some.entry c.self.invariant.0 c.of_key.ensures (omega arith) (sym c.in-Some.is ∙ c.above.ensures) ∙ ap (λ ls. owner_of ls c.args.key) c.self.view_is

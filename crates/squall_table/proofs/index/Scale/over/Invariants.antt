@@ -1,8 +1,0 @@
-use Rattle.std.proofs.Common.{◌<◌, ◌-◌}
-use Rattle.squall_table.proofs.index.Scale.over.Given as goal
-
-abbrev pub invariant-loop-shift : goal.invariant-loop-shift
-invariant-loop-shift l = l.shift < 64
-
-abbrev pub decreases-loop-shift : goal.decreases-loop-shift
-decreases-loop-shift l = 64 - l.shift

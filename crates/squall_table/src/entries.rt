@@ -1,0 +1,75 @@
+//! Legs as entries in blocks, and back.
+
+ghost use Rattle.std.specs.Prelude.{◌≡◌, ◌<◌, ◌≤◌, ◌-◌, IfOk, OnOk};
+ghost use Rattle.squall_key.specs.Keys.{top};
+ghost use Rattle.squall_plan.specs.Ranges.{owner_of, IsCanonical};
+ghost use Rattle.squall_blocks.specs.Entries.{last_from, up_to};
+ghost use Rattle.squall_table.specs.Legs.{Grows};
+ghost use Rattle.squall_table.specs.LegEntries.{legs_from, entries_of};
+ghost use Rattle.squall_table.specs.Patching.{IsReach};
+
+use crate::legs::push_leg;
+use crate::table::{Leg, bottom};
+use squall_blocks::{Blocks, Entries};
+use squall_key::{Bound, PartId};
+use std::alloc::{AllocError, Global};
+
+/// The entries of legs. It fails only if an allocation fails.
+pub(crate) fn entries_of(alloc: Global, legs: &[Leg]) -> Result<Entries<PartId>, AllocError>
+    ensures { IfOk result (λ es. es ≡ entries_of legs.now) }
+{
+    let mut entries = Entries::new(alloc);
+    for leg in legs {
+        entries.push(leg.span.hi(), leg.part)?;
+    }
+    Ok(entries)
+}
+
+/// Adds what a table has from `lo` to `hi` at the end. After an error the list may have changed.
+pub(crate) fn copy_entries(
+    out: &mut Vec<Leg>,
+    table: &Blocks<PartId>,
+    lo: Bound,
+    hi: Bound,
+) -> Result<(), AllocError>
+    requires canonical { IsCanonical (legs_from 0 table.now) }
+    requires order { lo ≤ hi }
+    ensures { OnOk result (Grows (owner_of (legs_from 0 table.now)) lo hi out.old.items out.new.items) }
+{
+    if lo.rank() == hi.rank() {
+        return Ok(());
+    }
+    let mut reach = lo;
+    let mut rest = table.iter_from(lo);
+    while reach.rank() < hi.rank() {
+        let Some(entry) = rest.next() else {
+            unreachable!()
+        };
+        let stop = entry.0.min(hi);
+        push_leg(out, reach, stop, entry.1)?;
+        reach = stop;
+    }
+    Ok(())
+}
+
+/// The bound before a bound, the least before itself.
+pub(crate) fn bound_before(bound: Bound) -> Bound
+    ensures { result ≡ bound - 1 }
+{
+    Bound::of_rank(bound.rank().saturating_sub(1)).unwrap_or(bound)
+}
+
+/// The bounds of what goes when the keys from `low` to `high` are renewed: where the leg begins that
+/// has the key before `low`, and where the leg ends that has the key `high`.
+pub(crate) fn reach_of(table: &Blocks<PartId>, low: Bound, high: Bound) -> (Bound, Bound)
+    requires canonical { IsCanonical (legs_from 0 table.now) }
+    requires order { low < high }
+    ensures { IsReach table.now low high result.0 result.1 }
+{
+    let _top = high.rank();
+    let lo = table.end_before(bound_before(low), bottom());
+    match table.above(high) {
+        Some(entry) => (lo, entry.0),
+        None => (lo, Bound::TOP),
+    }
+}
