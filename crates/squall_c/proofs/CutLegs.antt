@@ -1,6 +1,7 @@
 -- The legs of a table, cut to two ranks, are the legs of its route between them.
-use Rattle.std.specs.Prelude.{◌≡◌, ℕ, zero, suc, ◌+◌, ◌<◌, ◌≤◌, min, max, nat_lt, nat_le, true, false, List, [], ◌∷◌, length, map, take, drop, ◌++◌, if◌then◌else◌, refl}
+use Rattle.std.specs.Prelude.{◌≡◌, ℕ, zero, suc, ◌+◌, ◌<◌, ◌≤◌, min, max, nat_lt, nat_le, true, false, List, [], ◌∷◌, length, map, take, drop, slice_get, ◌++◌, if◌then◌else◌, refl}
 use Rattle.std.proofs.Common.{sym, ap, subst, ◌∙◌, get_or, set, add-one, arith, inl, inr, ◌⊎◌}
+use Rattle.std.proofs.lemmas.Option.{same_Some}
 use Rattle.std.proofs.lemmas.Bool.{cases_lt}
 use Rattle.std.proofs.lemmas.Bool.Decides.{nat_tests}
 use Rattle.squall_key.specs.Keys.{top}
@@ -8,7 +9,7 @@ use Rattle.squall_plan.specs.declared.range.PlanRange.{PlanRange}
 use Rattle.squall_plan.specs.Ranges.{owner_of, IsTiling, Differ, DifferFrom, IsCanonical}
 use Rattle.squall_plan.specs.PlanLaws.{owner_first, owner_later, differ_rest}
 use Rattle.squall_table.specs.Tables.{AreLegs, leg_of, legs_between}
-use Rattle.squall_table.specs.Legs.{IsAt}
+use Rattle.squall_table.specs.LegEntries.{legs_beyond}
 use Rattle.squall_table.specs.TableLaws.{key_by_key}
 use Rattle.squall_router.specs.Routers.{RouterValue, route_of_router, IsTableOf}
 use Rattle.squall_c.specs.declared.legs.CLeg.{CLeg}
@@ -82,34 +83,36 @@ pub record BeginsAt (lo : ℕ) (whole : List PlanRange) (c : ℕ) (ls : List Pla
   pub differ : DifferFrom first rest
   pub owners : (k : ℕ) → lo ≤ k → owner_of (first ∷ rest) k ≡ owner_of whole k
 
-begins_at : (lo c : ℕ) (ls : List PlanRange) (i : ℕ) → IsTiling c top ls → Differ ls → IsAt ls lo i → BeginsAt lo ls c (drop i ls)
-begins_at lo c [] i t d is = absurd (omega (arith, is.within))
-begins_at lo c (l ∷ ls) zero t d is = record {
-  begin = c;
-  first = l;
-  rest = ls;
-  is = refl;
-  after = omega arith;
-  tiles = t;
-  from = omega (arith, t.0, is.from l);
-  below = is.below l;
-  differ = d;
-  owners = λ k from. refl;
-}
-begins_at lo c (l ∷ ls) (suc i) t d is =
-    let b = begins_at lo l.span.hi ls i t.2 (differ_rest l ls d) (record { within = omega (arith, is.within); from = λ e. is.from e; below = λ e. is.below e }) in
-    record {
-      begin = b.begin;
-      first = b.first;
-      rest = b.rest;
-      is = b.is;
-      after = omega (arith, t.0, t.1, b.after);
-      tiles = b.tiles;
-      from = b.from;
-      below = b.below;
-      differ = b.differ;
-      owners = λ k from. b.owners k from ∙ sym (owner_later k l ls (omega (arith, from, b.after, b.from)));
-    }
+begins_at : (lo c : ℕ) (ls : List PlanRange) → IsTiling c top ls → Differ ls → c ≤ lo → lo < top → BeginsAt lo ls c (legs_beyond lo ls)
+begins_at lo c [] t d from lt = absurd (omega (arith, t))
+begins_at lo c (l ∷ ls) t d from lt = elim (cases_lt lo l.span.hi) [
+  | inl here ↦ record {
+    begin = c;
+    first = l;
+    rest = ls;
+    is = rw (is_below lo l.span.hi here) refl;
+    after = omega arith;
+    tiles = t;
+    from = from;
+    below = here;
+    differ = d;
+    owners = λ k ge. refl;
+  }
+  | inr past ↦
+      let b = begins_at lo l.span.hi ls t.2 (differ_rest l ls d) past lt in
+      record {
+        begin = b.begin;
+        first = b.first;
+        rest = b.rest;
+        is = rw (is_not_below lo l.span.hi past) b.is;
+        after = omega (arith, t.0, t.1, b.after);
+        tiles = b.tiles;
+        from = b.from;
+        below = b.below;
+        differ = b.differ;
+        owners = λ k ge. b.owners k ge ∙ sym (owner_later k l ls (omega (arith, ge, past)));
+      }
+]
 
 legs_of_first : (lo hi b : ℕ) (l : PlanRange) (ls : List PlanRange) → lo < hi → hi ≤ top → IsTiling b top (l ∷ ls) → DifferFrom l ls → b ≤ lo → lo < l.span.hi → AreLegs (owner_of (l ∷ ls)) lo hi (cut_range lo hi l ∷ cut_ranges lo hi ls)
 legs_of_first lo hi b l ls lt high t d from below = record {
@@ -128,17 +131,17 @@ cut_of_first : (lo hi b : ℕ) (l : PlanRange) (ls : List PlanRange) → lo < hi
 cut_of_first lo hi b l ls lt t from = rw (is_below l.span.lo hi (omega (arith, t.0))) refl
 
 -- the legs of the table from the one that has the first rank on, cut to the ranks, are those of its route
-pub cut_are_legs : (lo hi i : ℕ) (ls : List PlanRange) → lo < hi → hi ≤ top → IsCanonical ls → IsAt ls lo i → AreLegs (owner_of ls) lo hi (cut_ranges lo hi (drop i ls))
-cut_are_legs lo hi i ls lt high is at =
-    let b = begins_at lo 0 ls i is.tiles is.differ at in
+pub cut_are_legs : (lo hi : ℕ) (ls : List PlanRange) → lo < hi → hi ≤ top → IsCanonical ls → AreLegs (owner_of ls) lo hi (cut_ranges lo hi (legs_beyond lo ls))
+cut_are_legs lo hi ls lt high is =
+    let b = begins_at lo 0 ls is.tiles is.differ (omega arith) (omega arith) in
     let e : cut_ranges lo hi (b.first ∷ b.rest) ≡ cut_range lo hi b.first ∷ cut_ranges lo hi b.rest = cut_of_first lo hi b.begin b.first b.rest lt b.tiles b.from in
     let are : AreLegs (owner_of ls) lo hi (cut_range lo hi b.first ∷ cut_ranges lo hi b.rest) = legs_with (owner_of (b.first ∷ b.rest)) (owner_of ls) lo hi (cut_range lo hi b.first ∷ cut_ranges lo hi b.rest) b.owners (legs_of_first lo hi b.begin b.first b.rest lt high b.tiles b.differ b.from b.below) in
     subst (λ (xs : List PlanRange). AreLegs (owner_of ls) lo hi xs) (sym e ∙ sym (ap (λ (xs : List PlanRange). cut_ranges lo hi xs) b.is)) are
 
-pub cut_is_between : (lo hi i : ℕ) (ls : List PlanRange) → lo < hi → hi ≤ top → IsCanonical ls → IsAt ls lo i → map c_leg (legs_between (owner_of ls) lo hi) ≡ cut_legs lo hi (drop i ls)
-cut_is_between lo hi i ls lt high is at =
-    let e : cut_ranges lo hi (drop i ls) ≡ legs_between (owner_of ls) lo hi = (key_by_key (owner_of ls) lo hi (cut_ranges lo hi (drop i ls)) (omega arith)).0 (cut_are_legs lo hi i ls lt high is at) in
-    sym (ap (λ (xs : List PlanRange). map c_leg xs) e) ∙ as_c_legs lo hi (drop i ls)
+pub cut_is_between : (lo hi : ℕ) (ls : List PlanRange) → lo < hi → hi ≤ top → IsCanonical ls → map c_leg (legs_between (owner_of ls) lo hi) ≡ cut_legs lo hi (legs_beyond lo ls)
+cut_is_between lo hi ls lt high is =
+    let e : cut_ranges lo hi (legs_beyond lo ls) ≡ legs_between (owner_of ls) lo hi = (key_by_key (owner_of ls) lo hi (cut_ranges lo hi (legs_beyond lo ls)) (omega arith)).0 (cut_are_legs lo hi ls lt high is) in
+    sym (ap (λ (xs : List PlanRange). map c_leg xs) e) ∙ as_c_legs lo hi (legs_beyond lo ls)
 
 -- ---- legs that are written into a room, one after another
 
@@ -206,6 +209,18 @@ taken_all xs n i in_x in_n (inl full) = ap (λ (m : ℕ). take m xs) (antisym n 
     antisym a b h k = omega arith
 taken_all xs n i in_x in_n (inr all) = take_past xs n (omega arith) ∙ sym (take_past xs i all)
 
+-- legs that are walked: the next of those from a place on
+pub next_leg : (ls : List PlanRange) (i : ℕ) (x : PlanRange) (xs : List PlanRange) → drop i ls ≡ x ∷ xs → (i < length ls) × (x ≡ get_or ls i x) × (drop (suc i) ls ≡ xs)
+next_leg [] zero x xs e = absurd (let n = ap length e in omega (arith, n))
+next_leg [] (suc i) x xs e = absurd (let n = ap length e in omega (arith, n))
+next_leg (l ∷ ls) zero x xs e = (omega arith, same_Some x l (sym (ap (λ (ys : List PlanRange). slice_get ys 0) e)), ap (λ (ys : List PlanRange). drop 1 ys) e)
+next_leg (l ∷ ls) (suc i) x xs e = let r = next_leg ls i x xs e in (omega (arith, r.0), r.1, r.2)
+
+pub no_leg : (ls : List PlanRange) (i : ℕ) → drop i ls ≡ [] → length ls ≤ i
+no_leg [] i e = omega arith
+no_leg (l ∷ ls) zero e = absurd (let n = ap length e in omega (arith, n))
+no_leg (l ∷ ls) (suc i) e = let r = no_leg ls i e in omega (arith, r)
+
 -- so many legs are written: they stand at the front of the room, and behind them what stood there
 pub record Written (lo hi : ℕ) (ls : List PlanRange) (room : List CLeg) (i : ℕ) (now : List CLeg) : Type 0 where
   pub in_room : i ≤ length room
@@ -239,26 +254,10 @@ written_all lo hi i ls room now w end =
 -- ---- what is put
 
 -- where the ranks are bounds with a key between them
-pub put_some : (lo hi i : ℕ) (ls : List PlanRange) (room : List CLeg) → lo < hi → hi ≤ top → IsCanonical ls → IsAt ls lo i → that_fit (legs_by (owner_of ls) lo hi) room ≡ take (length room) (cut_legs lo hi (drop i ls))
-put_some lo hi i ls room lt high is at = rw (is_below lo hi lt) (rw (is_up_to hi top high) (ap (λ (xs : List CLeg). take (length room) xs) (cut_is_between lo hi i ls lt high is at)))
-
-take_whole : (xs : List PlanRange) (n : ℕ) → length xs ≤ n → take n xs ≡ xs
-take_whole [] zero h = refl
-take_whole [] (suc n) h = refl
-take_whole (x ∷ xs) zero h = absurd (omega arith)
-take_whole (x ∷ xs) (suc n) h = ap (λ (zs : List PlanRange). x ∷ zs) (take_whole xs n (omega arith))
-
-tail_whole : (xs : List PlanRange) (i n : ℕ) → length xs ≤ n + i → take n (drop i xs) ≡ drop i xs
-tail_whole xs zero n h = take_whole xs n (omega arith)
-tail_whole [] (suc i) n h = take_whole [] n (omega arith)
-tail_whole (x ∷ xs) (suc i) n h = tail_whole xs i n (omega arith)
-
--- the same of a list that is the table, from the leg on
-pub put_tail : (lo hi i n : ℕ) (ls es : List PlanRange) (room : List CLeg) → lo < hi → hi ≤ top → es ≡ ls → IsCanonical es → length es ≤ n + i → IsAt ls lo i → take (length room) (cut_legs lo hi (take n (drop i es))) ≡ that_fit (legs_by (owner_of ls) lo hi) room
-put_tail lo hi i n ls es room lt high same is whole at =
-    ap (λ (xs : List PlanRange). take (length room) (cut_legs lo hi xs)) (tail_whole es i n whole)
-    ∙ ap (λ (xs : List PlanRange). take (length room) (cut_legs lo hi (drop i xs))) same
-    ∙ sym (put_some lo hi i ls room lt high (subst (λ (xs : List PlanRange). IsCanonical xs) same is) at)
+pub put_some : (lo hi from : ℕ) (ls es : List PlanRange) (room : List CLeg) → lo < hi → hi ≤ top → from ≡ lo → es ≡ legs_beyond from ls → IsCanonical ls → take (length room) (cut_legs lo hi es) ≡ that_fit (legs_by (owner_of ls) lo hi) room
+put_some lo hi from ls es room lt high at same is =
+    ap (λ (xs : List PlanRange). take (length room) (cut_legs lo hi xs)) (same ∙ ap (λ (k : ℕ). legs_beyond k ls) at)
+    ∙ sym (rw (is_below lo hi lt) (rw (is_up_to hi top high) (ap (λ (xs : List CLeg). take (length room) xs) (cut_is_between lo hi ls lt high is))))
 
 -- ---- the legs of a table are those of its router
 

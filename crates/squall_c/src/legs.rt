@@ -6,7 +6,7 @@ ghost use Rattle.squall_c.specs.Frames.{over};
 ghost use Rattle.squall_c.specs.Showing.{cut_leg, cut_legs, legs_by, that_fit};
 
 use squall_key::{Bound, Key};
-use squall_table::{Leg, RouteTable};
+use squall_table::{Leg, Legs, RouteTable};
 
 /// The keys from rank `lo` on, below rank `hi`, and the partition to ask for them.
 #[repr(C)]
@@ -33,18 +33,20 @@ fn cut_leg(leg: &Leg, lo: u64, hi: u64) -> CLeg
 
 /// Puts what lies of the legs between two ranks to the front of the room, up to the last that lies
 /// below the second or that the room holds. Answers how many those are.
-fn cut_into(legs: &[Leg], lo: u64, hi: u64, room: &mut [CLeg]) -> usize
-    ensures legs { room.new ≡ over (take (length room.old) (cut_legs lo hi legs.now)) room.old }
-    ensures count { result ≡ length (take (length room.old) (cut_legs lo hi legs.now)) }
+fn cut_into(legs: Legs, lo: u64, hi: u64, room: &mut [CLeg]) -> usize
+    ensures legs { room.new ≡ over (take (length room.old) (cut_legs lo hi legs.entry)) room.old }
+    ensures count { result ≡ length (take (length room.old) (cut_legs lo hi legs.entry)) }
 {
-    let most = room.len().min(legs.len());
+    let mut rest = legs;
     let mut count = 0;
-    while count < most {
-        let leg = &legs[count];
+    while count < room.len() {
+        let Some(leg) = rest.next() else {
+            return count;
+        };
         if leg.span.lo().rank() >= hi {
             return count;
         }
-        room[count] = cut_leg(leg, lo, hi);
+        room[count] = cut_leg(&leg, lo, hi);
         count += 1;
     }
     count
@@ -65,6 +67,5 @@ pub(crate) fn put_legs(table: &RouteTable, lo: u64, hi: u64, room: &mut [CLeg]) 
     if lo >= hi {
         return 0;
     }
-    let first = table.place(from);
-    cut_into(&table.entries()[first..], lo, hi, room)
+    cut_into(table.entries_from(from), lo, hi, room)
 }

@@ -2,6 +2,7 @@
 
 mod clients;
 mod errands;
+mod legs;
 mod routers;
 mod takes;
 mod tolerant;

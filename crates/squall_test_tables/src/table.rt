@@ -1,6 +1,8 @@
 //! Queries of route tables: their rows were worked out by hand.
 
 mod absorbs;
+mod legs;
+mod many;
 mod patches;
 mod searches;
 mod takes;
@@ -10,8 +12,9 @@ mod unchanged;
 use squall_board::{Board, Delta};
 use squall_course::Course;
 use squall_example::{course, load, span};
+use squall_key::Key;
 use squall_report::Report;
-use squall_table::{Leg, RouteTable};
+use squall_table::{Leg, Legs, RouteTable};
 use std::alloc::Global;
 use std::test::Fail;
 
@@ -54,20 +57,35 @@ pub(crate) fn delta(alloc: Global, said: &[Said]) -> Result<Delta, Fail> {
     Ok(delta)
 }
 
+/// Writes a leg: its partition and its span.
+fn write_leg(out: &mut String, leg: Leg) -> Result<(), Fail> {
+    let part = leg.part;
+    let span = leg.span;
+    write!(out, "{part} {span};")?;
+    Ok(())
+}
+
 /// Legs as text: each its partition and its span.
-pub(crate) fn shown(alloc: Global, legs: &[Leg]) -> Result<String, Fail> {
+fn shown(alloc: Global, legs: &[Leg]) -> Result<String, Fail> {
     let mut out = String::new(alloc);
     for leg in legs {
-        let part = leg.part;
-        let span = leg.span;
-        write!(out, "{part} {span};")?;
+        write_leg(&mut out, *leg)?;
+    }
+    Ok(out)
+}
+
+/// The same of legs that a table lends.
+fn shown_each(alloc: Global, legs: Legs) -> Result<String, Fail> {
+    let mut out = String::new(alloc);
+    for leg in legs {
+        write_leg(&mut out, leg)?;
     }
     Ok(out)
 }
 
 /// Whether the table has the rows.
 pub(crate) fn has_rows(alloc: Global, table: &RouteTable, rows: &str) -> Result<bool, Fail> {
-    Ok(shown(alloc, table.entries())?.as_str() == rows)
+    Ok(shown_each(alloc, table.entries())?.as_str() == rows)
 }
 
 /// Whether the table of the course and the board has the rows.
@@ -179,6 +197,35 @@ fn cuts(rt: HostRuntime) -> Result<(), Fail> {
     ];
     for (lo, hi, rows) in cases {
         assert!(rt; is_cut(rt.alloc(), &table, lo, hi, rows)?, "{rows}");
+    }
+    Ok(())
+}
+
+/// Whether the table's legs from that of a key on are these.
+fn is_from(alloc: Global, table: &RouteTable, key: &str, rows: &str) -> Result<bool, Fail> {
+    let key = Key::read(key).ok_or("a key")?;
+    Ok(shown_each(alloc, table.entries_from(key))?.as_str() == rows)
+}
+
+#[test]
+fn legs_from_a_key_on(rt: HostRuntime) -> Result<(), Fail> {
+    let table = table_of_a_load(rt.alloc())?;
+    let all = "1 [0:0,2:0);3 [2:0,2:7);1 [2:7,3:0);2 [3:0,5:0);3 [5:0,9:0);4 [9:0,end);";
+    let behind = "3 [2:0,2:7);1 [2:7,3:0);2 [3:0,5:0);3 [5:0,9:0);4 [9:0,end);";
+    let cases: [(&str, &str); 8] = [
+        // The first key, and the last of its leg.
+        ("0:0", all),
+        ("1:4294967295", all),
+        // A leg comes whole, whichever of its keys is asked for.
+        ("2:0", behind),
+        ("2:3", behind),
+        ("2:6", behind),
+        ("3:0", "2 [3:0,5:0);3 [5:0,9:0);4 [9:0,end);"),
+        ("9:0", "4 [9:0,end);"),
+        ("4294967294:4294967295", "4 [9:0,end);"),
+    ];
+    for (key, rows) in cases {
+        assert!(rt; is_from(rt.alloc(), &table, key, rows)?, "{key}");
     }
     Ok(())
 }

@@ -13,11 +13,12 @@ ghost use Rattle.squall_board.specs.CourseRoute.{course_of_reports, route_by_rep
 ghost use Rattle.squall_router.specs.Routers.{course_of_router};
 
 use super::heard;
+use super::legs::are_same;
 use squall_course::Course;
 use squall_key::{Key, PartId};
 use squall_router::Router;
 use squall_router::laws::{all_in_is_the_new_plan, routers_follow_reports, same_told_same_routers};
-use squall_table::Leg;
+use squall_table::Legs;
 use std::process::Abort;
 use std::sync::Arc;
 use std::test::Fail;
@@ -38,9 +39,9 @@ fn part_by_reports(router: &Router, key: Key) -> PartId
     router.route(key)
 }
 
-/// The entries of both tables: one list, where the routers began alike and heard the same.
-fn both_entries<'a>(one: &'a Router, other: &'a Router) -> (&'a [Leg], &'a [Leg])
-    ensures { one.now.first ≡ other.now.first → SameTold (told one.now.board) (told other.now.board) → result.0.now ≡ result.1.now }
+/// The legs of both tables: one list, where the routers began alike and heard the same.
+fn both_entries<'a>(one: &'a Router, other: &'a Router) -> (Legs<'a>, Legs<'a>)
+    ensures { one.now.first ≡ other.now.first → SameTold (told one.now.board) (told other.now.board) → result.0 ≡ result.1 }
 {
     same_told_same_routers(one, other);
     (one.table().entries(), other.table().entries())
@@ -54,10 +55,10 @@ fn both_parts(one: &Router, other: &Router, key: Key) -> (PartId, PartId)
     (one.route(key), other.route(key))
 }
 
-/// The entries of the table: the ranges of the new plan, once all has come.
-fn entries_once_all_is_in(router: &Router) -> &[Leg]
+/// The legs of the table: the ranges of the new plan, once all has come.
+fn entries_once_all_is_in(router: &Router) -> Legs<'_>
     ensures { ((k : ℕ) → k < top → moves (course_of_router router.now).old (course_of_router router.now).new k ≡ true
-        → has_come (course_of_router router.now) (says router.now.board) k ≡ true) → result.now ≡ (course_of_router router.now).new }
+        → has_come (course_of_router router.now) (says router.now.board) k ≡ true) → result ≡ (course_of_router router.now).new }
 {
     all_in_is_the_new_plan(router);
     router.table().entries()
@@ -69,9 +70,10 @@ fn look_at_router(rt: &impl Abort, router: &Router, key: Key) {
     let (one, other) = both_parts(router, router, key);
     assert!(rt; (part_by_reports(router, key), one, other) == (part, part, part));
     assert!(rt; course_by_reports(router).number() == router.course().number());
-    let entries = router.table().entries();
-    assert!(rt; both_entries(router, router).0 == entries);
-    assert!(rt; entries_once_all_is_in(router) == entries);
+    let (legs, others) = both_entries(router, router);
+    assert!(rt; are_same(legs, router.table().entries()));
+    assert!(rt; are_same(others, router.table().entries()));
+    assert!(rt; are_same(entries_once_all_is_in(router), router.table().entries()));
 }
 
 #[test]

@@ -1,5 +1,6 @@
 //! What routers do with deltas and reports.
 
+use super::legs::is_list;
 use super::takes::taken;
 use super::{Said, heard};
 use squall_board::Board;
@@ -27,7 +28,7 @@ fn look_at_key(rt: &impl Abort, router: &Router, key: &str, part: u32) -> Result
 /// Whether the table of the router is the list of the plan of the text.
 fn has_plan(alloc: Global, router: &Router, text: &str) -> Result<bool, Fail> {
     let plan = plan(alloc, text).ok_or("a plan")?;
-    Ok(router.table().entries() == plan.ranges())
+    Ok(is_list(router.table().entries(), plan.ranges()))
 }
 
 /// The router goes by the course of that number, has the plan as its table where one is given, and

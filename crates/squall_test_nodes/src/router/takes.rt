@@ -1,5 +1,6 @@
 //! Routers that take reports, beside routers that absorb the boards of these reports.
 
+use super::legs::are_same;
 use super::{Said, heard, report, router};
 use squall_router::Router;
 use std::alloc::Global;
@@ -25,7 +26,7 @@ pub(crate) fn taken(alloc: Global, said: &[Said]) -> Option<Router> {
 fn are_alike(one: &Router, other: &Router) -> bool {
     *one.board() == *other.board()
         && one.course().number() == other.course().number()
-        && one.table().entries() == other.table().entries()
+        && are_same(one.table().entries(), other.table().entries())
 }
 
 /// Whether the router is alike one that has absorbed the boards of so many reports.

@@ -1,5 +1,6 @@
 //! Where an allocation fails a router is unchanged, or there is none.
 
+use super::legs::is_list;
 use super::{Said, delta, heard, report};
 use crate::example::course;
 use squall_board::Board;
@@ -8,7 +9,7 @@ use squall_example::span;
 use squall_report::Report;
 use squall_router::Router;
 use squall_span::Span;
-use squall_table::Leg;
+use squall_table::{Leg, Legs};
 use std::alloc::{AllocError, Global};
 use std::process::Abort;
 use std::sync::Arc;
@@ -28,9 +29,17 @@ fn copied(alloc: Global, entries: &[Leg]) -> Result<Vec<Leg>, AllocError> {
     Ok(copy)
 }
 
+fn listed(alloc: Global, legs: Legs) -> Result<Vec<Leg>, AllocError> {
+    let mut list = Vec::new(alloc);
+    for leg in legs {
+        list.push(leg)?;
+    }
+    Ok(list)
+}
+
 fn look(alloc: Global, router: &Router) -> Result<Seen, AllocError> {
     let board = router.board().copied(alloc)?;
-    let entries = copied(alloc, router.table().entries())?;
+    let entries = listed(alloc, router.table().entries())?;
     Ok(Seen {
         board,
         number: router.course().number(),
@@ -42,7 +51,7 @@ fn look(alloc: Global, router: &Router) -> Result<Seen, AllocError> {
 fn is_as_seen(router: &Router, seen: &Seen) -> bool {
     *router.board() == seen.board
         && router.course().number() == seen.number
-        && router.table().entries() == seen.entries.as_slice()
+        && is_list(router.table().entries(), &seen.entries)
 }
 
 /// Whether the router has all of the delta and is not as seen, or the answer was a failed allocation
@@ -141,7 +150,7 @@ fn tolerant_take(rt: HostRuntime) -> Result<(), Fail> {
 /// allocation; and the course stays.
 fn is_made_or_not(rt: &impl Abort, alloc: Global, course: &Arc<Course>, before: &[Leg]) {
     match Router::new(alloc, course) {
-        Ok(router) => assert!(rt; router.table().entries() == before),
+        Ok(router) => assert!(rt; is_list(router.table().entries(), before)),
         Err(AllocError) => {}
     }
     assert!(rt; course.old_plan().ranges() == before);

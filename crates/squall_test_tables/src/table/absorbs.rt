@@ -19,7 +19,7 @@ const ENDS: &str = concat!(
 );
 
 /// The board, and its table, after both deltas, one after the other.
-fn absorb(
+pub(crate) fn absorb(
     course: &Course,
     board: &mut Board,
     table: &mut RouteTable,

@@ -13,7 +13,12 @@ use std::process::Abort;
 use std::test::Fail;
 
 /// The board, and its table, take a report.
-fn take(course: &Course, board: &mut Board, table: &mut RouteTable, said: Said) -> Result<(), Fail>
+pub(crate) fn take(
+    course: &Course,
+    board: &mut Board,
+    table: &mut RouteTable,
+    said: Said,
+) -> Result<(), Fail>
     requires { IsTable course.now board.old table.old }
     ensures { OnOk result (IsTable course.now board.new table.new) }
 {

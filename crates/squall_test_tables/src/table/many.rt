@@ -1,0 +1,280 @@
+//! Tables of several blocks: patches that split and join legs in several of them, each table beside
+//! that which is built of the same board.
+
+ghost use Rattle.squall_table.specs.Tables.{IsTable};
+
+mod tolerant;
+
+use super::absorbs::absorb;
+use super::legs::{are_same, count};
+use super::patches::patch;
+use super::searches::begin;
+use super::takes::take;
+use crate::table::{Said, delta};
+use squall_board::{Board, Delta};
+use squall_course::Course;
+use squall_key::{Bound, PartId};
+use squall_plan::{Plan, PlanRange};
+use squall_span::Span;
+use squall_table::RouteTable;
+use std::alloc::Global;
+use std::process::Abort;
+use std::test::Fail;
+
+/// The range of that index among so many: of partition 3 where the index is even, else of 4.
+fn range(index: u32, count: u32) -> Option<PlanRange> {
+    let span = Span::new(begin(index, count)?, begin(index.checked_add(1)?, count)?)?;
+    let part = PartId::new(if index % 2 == 0 { 3 } else { 4 })?;
+    Some(PlanRange { span, part })
+}
+
+/// Adds such ranges, so many. None where an allocation fails.
+fn push_ranges(ranges: &mut Vec<PlanRange>, count: u32) -> Option<()> {
+    for index in 0..count {
+        ranges.push(range(index, count)?).ok()?;
+    }
+    Some(())
+}
+
+/// The plan of so many ranges, by turns of partitions 3 and 4. None where an allocation fails.
+fn by_turns(alloc: Global, count: u32) -> Option<Plan> {
+    let mut ranges = Vec::new(alloc);
+    push_ranges(&mut ranges, count)?;
+    Plan::from_ranges(alloc, &ranges).ok()
+}
+
+/// The plan in which partition 3 has all keys. None where an allocation fails.
+fn alone(alloc: Global) -> Option<Plan> {
+    let span = Span::new(Bound::of_rank(0)?, Bound::TOP)?;
+    let part = PartId::new(3)?;
+    Plan::from_ranges(alloc, &[PlanRange { span, part }]).ok()
+}
+
+/// The course from the plan to partition 3 alone. None where an allocation fails.
+fn course_from(alloc: Global, old: &Plan) -> Option<Course> {
+    let new = alone(alloc)?;
+    Course::new(alloc, 1, old, &new).ok()
+}
+
+/// The course from so many ranges, the leg of each of which begins at three times its index and its
+/// index, to partition 3 alone. None where an allocation fails.
+fn many(alloc: Global, count: u32) -> Option<Course> {
+    let old = by_turns(alloc, count)?;
+    course_from(alloc, &old)
+}
+
+/// Whether the table is that which is built of the board, if it has so many legs.
+fn is_as_built(
+    alloc: Global,
+    course: &Course,
+    board: &Board,
+    table: &RouteTable,
+    legs: usize,
+) -> Result<bool, Fail> {
+    let built = RouteTable::build(alloc, course, board)?;
+    Ok(count(table.entries()) == legs && are_same(table.entries(), built.entries()))
+}
+
+/// Whether the table that has absorbed both deltas, one after the other, has so many legs, and is that
+/// which is built.
+fn absorbs_to(
+    alloc: Global,
+    course: &Course,
+    first: &Delta,
+    second: &Delta,
+    legs: usize,
+) -> Result<bool, Fail> {
+    let mut board = Board::new(alloc);
+    let mut table = RouteTable::build(alloc, course, &board)?;
+    absorb(course, &mut board, &mut table, first, second)?;
+    is_as_built(alloc, course, &board, &table, legs)
+}
+
+/// The same of the delta and what is said.
+fn absorbs_then(
+    alloc: Global,
+    course: &Course,
+    first: &Delta,
+    second: &[Said],
+    legs: usize,
+) -> Result<bool, Fail> {
+    let second = delta(alloc, second)?;
+    absorbs_to(alloc, course, first, &second, legs)
+}
+
+/// The same of what is said first and what is said then.
+fn absorbs_both(
+    alloc: Global,
+    course: &Course,
+    first: &[Said],
+    second: &[Said],
+    legs: usize,
+) -> Result<bool, Fail> {
+    let first = delta(alloc, first)?;
+    absorbs_then(alloc, course, &first, second, legs)
+}
+
+/// Whether the table is patched for the delta, has so many legs then, and is that which is built.
+fn patches_to(
+    alloc: Global,
+    course: &Course,
+    board: &mut Board,
+    table: &mut RouteTable,
+    delta: &Delta,
+    legs: usize,
+) -> Result<bool, Fail>
+    requires { IsTable course.now board.old table.old }
+{
+    let (is_patched, _) = patch(alloc, course, board, table, delta)?;
+    Ok(is_patched && is_as_built(alloc, course, board, table, legs)?)
+}
+
+/// The same of the table of the course before any report.
+fn first_patches_to(
+    alloc: Global,
+    course: &Course,
+    delta: &Delta,
+    legs: usize,
+) -> Result<bool, Fail> {
+    let mut board = Board::new(alloc);
+    let mut table = RouteTable::build(alloc, course, &board)?;
+    patches_to(alloc, course, &mut board, &mut table, delta, legs)
+}
+
+/// The same of what is said.
+fn is_patched(alloc: Global, course: &Course, said: &[Said], legs: usize) -> Result<bool, Fail> {
+    let delta = delta(alloc, said)?;
+    first_patches_to(alloc, course, &delta, legs)
+}
+
+/// The board, and its table, take four reports, one after the other.
+fn take_four(
+    course: &Course,
+    board: &mut Board,
+    table: &mut RouteTable,
+    said: &[Said; 4],
+) -> Result<(), Fail>
+    requires { IsTable course.now board.old table.old }
+{
+    take(course, board, table, said[0])?;
+    take(course, board, table, said[1])?;
+    take(course, board, table, said[2])?;
+    take(course, board, table, said[3])
+}
+
+/// Whether the table that has taken four reports has so many legs, and is that which is built.
+fn is_taken(alloc: Global, course: &Course, said: &[Said; 4], legs: usize) -> Result<bool, Fail> {
+    let mut board = Board::new(alloc);
+    let mut table = RouteTable::build(alloc, course, &board)?;
+    take_four(course, &mut board, &mut table, said)?;
+    is_as_built(alloc, course, &board, &table, legs)
+}
+
+/// Some keys in the middle of legs 1, 301, 1201 and 2099, each of partition 4: two legs more for each.
+const SPLITS: [Said; 4] = [
+    Said::Load("4:0", "5:0"),
+    Said::Load("904:0", "905:0"),
+    Said::Load("3604:0", "3605:0"),
+    Said::Load("6298:0", "6299:0"),
+];
+
+/// All keys of legs 301, 303 and 1201: two legs fewer for each.
+const JOINS: [Said; 3] = [
+    Said::Load("903:301", "906:302"),
+    Said::Load("909:303", "912:304"),
+    Said::Load("3603:1201", "3606:1202"),
+];
+
+/// From leg 400 to leg 1000, which become one leg.
+const WIDE: Said = Said::Load("1200:400", "3000:1000");
+
+/// The first keys of leg 301 and the last of leg 1201: as many legs as before.
+const BORDERS: [Said; 2] = [
+    Said::Load("903:301", "904:0"),
+    Said::Load("3605:0", "3606:1202"),
+];
+
+/// All that comes to partition 3.
+const ALL: Said = Said::Done {
+    number: 1,
+    sub: 0,
+    part: 3,
+};
+
+/// What is absorbed first of 2101 legs, what is absorbed then, and how many legs there are after both.
+const ABSORBS: [(&[Said], &[Said], usize); 7] = [
+    (&SPLITS, &[], 2109),
+    // The pieces of legs 301 and 1201 go, with those of leg 303.
+    (&SPLITS, &JOINS, 2099),
+    (&JOINS, &SPLITS, 2099),
+    (&BORDERS, &[WIDE], 1501),
+    (&[WIDE], &SPLITS, 1509),
+    (&[WIDE], &[ALL], 1),
+    (&[ALL], &SPLITS, 1),
+];
+
+/// The course's table absorbs each row.
+fn look_at_absorbs(
+    rt: &impl Abort,
+    alloc: Global,
+    course: &Course,
+    rows: &[(&[Said], &[Said], usize)],
+) -> Result<(), Fail> {
+    for (first, second, legs) in rows {
+        assert!(rt;
+            absorbs_both(alloc, course, first, second, *legs)?,
+            "{legs}"
+        );
+    }
+    Ok(())
+}
+
+#[test]
+fn absorbs_in_several_blocks(rt: HostRuntime) -> Result<(), Fail> {
+    let course = many(rt.alloc(), 2101).ok_or("a course")?;
+    look_at_absorbs(&rt, rt.alloc(), &course, &ABSORBS)
+}
+
+/// What is said of 2101 legs, and how many there are once the table is patched for it.
+const PATCHES: [(&[Said], usize); 5] = [
+    (&SPLITS, 2109),
+    (&JOINS, 2095),
+    (&BORDERS, 2101),
+    (&[WIDE], 1501),
+    (&[ALL], 1),
+];
+
+/// The course's table is patched for each row.
+fn look_at_patches(
+    rt: &impl Abort,
+    alloc: Global,
+    course: &Course,
+    rows: &[(&[Said], usize)],
+) -> Result<(), Fail> {
+    for (said, legs) in rows {
+        assert!(rt; is_patched(alloc, course, said, *legs)?, "{legs}");
+    }
+    Ok(())
+}
+
+#[test]
+fn patches_in_several_blocks(rt: HostRuntime) -> Result<(), Fail> {
+    let course = many(rt.alloc(), 2101).ok_or("a course")?;
+    look_at_patches(&rt, rt.alloc(), &course, &PATCHES)
+}
+
+/// Leg 301 is split, legs 400 to 1000 become one, leg 301 is joined, and leg 2099 is split.
+const TAKES: [Said; 4] = [
+    Said::Load("904:0", "905:0"),
+    WIDE,
+    Said::Load("903:301", "906:302"),
+    Said::Load("6298:0", "6299:0"),
+];
+
+#[test]
+fn takes_in_several_blocks(rt: HostRuntime) -> Result<(), Fail> {
+    let course = many(rt.alloc(), 2101).ok_or("a course")?;
+    assert!(rt; is_taken(rt.alloc(), &course, &SPLITS, 2109)?);
+    assert!(rt; is_taken(rt.alloc(), &course, &TAKES, 1501)?);
+    Ok(())
+}
