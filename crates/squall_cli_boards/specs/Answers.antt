@@ -1,0 +1,163 @@
+-- What the commands over board files answer (this project's command line).
+use Rattle.std.specs.Prelude.{◌≡◌, ◌↔◌, ◌≤◌, ℕ, List, [], ◌∷◌, ◌++◌, length, map, take, drop, slice_get, nat_lt, Bool, true, false}
+use Rattle.std.specs.Prelude.{Option, None, Some, Result, Ok, Err, codes, if◌then◌else◌}
+use Rattle.std.specs.List.{AllByRecursion}
+use Rattle.std.specs.Option.{option_map_or}
+use Rattle.squall_plan.specs.declared.range.PlanRange.{PlanRange}
+use Rattle.squall_plan.specs.declared.fault.PlanFault.{PlanFault}
+use Rattle.squall_plan.specs.Faults.{text_of_fault as text_of_plan_fault}
+use Rattle.squall_plan.specs.Form.{plan_of_text}
+use Rattle.squall_course.specs.Change.{Change}
+use Rattle.squall_report.specs.declared.report.ReportKind.TheVariants.{Issued}
+use Rattle.squall_report.specs.Issues.{plan_pair}
+use Rattle.squall_report.specs.Told.{TellsAll}
+use Rattle.squall_board.specs.Boards.{BoardValue, told, says, report_board}
+use Rattle.squall_board.specs.BoardBeyond.{TellsBeyond}
+use Rattle.squall_board.specs.CourseRoute.{course_of_board}
+use Rattle.squall_status.specs.declared.text.Shown.{Shown}
+use Rattle.squall_status.specs.Summary.{StatusValue, IsStatusOf}
+use Rattle.squall_status.specs.Texts.{status_text}
+use Rattle.squall_wire.specs.declared.message.Message.{Message}
+use Rattle.squall_wire.specs.declared.message.Message.TheVariants.{Delta, Digest}
+use Rattle.squall_wire.specs.declared.fault.WireFault.{WireFault}
+use Rattle.squall_wire.specs.declared.fault.WireFault.TheVariants.{Short}
+use Rattle.squall_wire.specs.DigestValue.{DigestValue}
+use Rattle.squall_wire.specs.Limits.{body_limit}
+use Rattle.squall_wire.specs.Messages.{body_of, spell_body, spell, spell_all, IsMessage}
+use Rattle.squall_delta.specs.Pieces.{ArePieces}
+use Rattle.squall_delta.specs.Hashes.{digest_of}
+use Rattle.squall_delta.specs.Repairs.{IsRepair}
+use Rattle.squall_cli_words.specs.BoardText.{board_text}
+use Rattle.squall_cli_boards.specs.declared.question.Question.{Question}
+use Rattle.squall_cli_boards.specs.declared.question.Question.TheVariants as ask
+use Rattle.squall_cli_boards.specs.Files.{FileValue, refused_file, board_of_files, digest_of_file}
+
+-- the bytes to write, and whether they refuse what was given
+pub record AnswerValue : Type 0 where
+  pub text : List ℕ
+  pub refused : Bool
+
+abbrev pub answer_with : List ℕ → Bool → AnswerValue
+answer_with text refused = record { text = text; refused = refused }
+
+-- what was given is refused by this line
+abbrev pub refusing : List ℕ → AnswerValue
+refusing line = answer_with line true
+
+-- the answer for a board if there is one, and else the line that refuses
+abbrev pub AnswersFor : (BoardValue → AnswerValue → Type 0) → Result BoardValue (List ℕ) → AnswerValue → Type 0
+AnswersFor Shows (Ok b) a = Shows b a
+AnswersFor Shows (Err line) a = a ≡ refusing line
+
+-- ---- frames
+
+-- the board has a frame
+abbrev pub HasFrame : BoardValue → Type 0
+HasFrame b = IsMessage (Delta b)
+
+-- the frames of boards, one after the other
+abbrev pub spell_boards : List BoardValue → List ℕ
+spell_boards bs = spell_all (map Delta bs)
+
+-- the bytes are the frames of the pieces of the board, one after the other; none if the board tells nothing
+pub record AreFramesOf (b : BoardValue) (bytes : List ℕ) : Type 0 where
+  pub pieces : List BoardValue
+  pub cut : ArePieces b pieces
+  pub each : AllByRecursion HasFrame pieces
+  pub spelled : bytes ≡ spell_boards pieces
+
+-- the frames of the board
+abbrev pub ShowsFrames : BoardValue → AnswerValue → Type 0
+ShowsFrames b a = AreFramesOf b a.text × (a.refused ≡ false)
+
+-- ---- boards
+
+-- `board`: the lines of the board
+abbrev pub ShowsBoard : BoardValue → AnswerValue → Type 0
+ShowsBoard b a = a ≡ answer_with (board_text b) false
+
+-- `digest`: the frame of the board's digest, or that it would be too long
+abbrev pub answer_of_digest : DigestValue → AnswerValue
+answer_of_digest d = if nat_lt body_limit (length (spell_body (body_of (Digest d)))) then refusing (codes "no TooLong\n")
+    else answer_with (spell (Digest d)) false
+
+abbrev pub ShowsDigest : BoardValue → AnswerValue → Type 0
+ShowsDigest b a = a ≡ answer_of_digest (digest_of b)
+
+-- `beyond`: the frames of what the first board tells that the second does not
+abbrev pub ShowsBeyond : BoardValue → BoardValue → AnswerValue → Type 0
+ShowsBeyond b other a = (c : BoardValue) × TellsBeyond b other c × ShowsFrames c a
+
+-- `beyond --quiet`: nothing is written, and the status says whether the second board tells all that the first does
+abbrev pub ShowsCover : BoardValue → BoardValue → AnswerValue → Type 0
+ShowsCover b other a = (a.text ≡ []) × ((a.refused ≡ false) ↔ TellsAll (told other) (told b))
+
+-- what is asked of two boards, the second of which is that of the files
+abbrev pub AnswersBoth : (BoardValue → BoardValue → AnswerValue → Type 0) → List FileValue → BoardValue → AnswerValue → Type 0
+AnswersBoth Shows others b a = AnswersFor (Shows b) (board_of_files others) a
+
+-- `repair`: the frames of what the board has that the digest does not show
+abbrev pub ShowsRepair : List ℕ → Result DigestValue WireFault → BoardValue → AnswerValue → Type 0
+ShowsRepair name (Ok d) b a = (r : BoardValue) × IsRepair b d r × ShowsFrames r a
+ShowsRepair name (Err fault) b a = a ≡ refusing (refused_file name fault)
+
+-- the digest is that of the first file; without one it is read as a file without a byte
+abbrev pub AnswersRepair : List FileValue → BoardValue → AnswerValue → Type 0
+AnswersRepair [] b a = a ≡ refusing (refused_file [] Short)
+AnswersRepair (f ∷ fs) b a = ShowsRepair f.name (digest_of_file f.bytes) b a
+
+-- ---- plans
+
+-- the line that refuses a plan, of which `which` says whether it is the old or the new one
+abbrev pub refused_plan : List ℕ → PlanFault → List ℕ
+refused_plan which fault = codes "refused " ++ (which ++ (codes " " ++ (text_of_plan_fault fault ++ codes "\n")))
+
+-- the answer for two plans, or the line that refuses the old one, or else the new one
+abbrev pub AnswersPlans : (List PlanRange → List PlanRange → AnswerValue → Type 0) → Result (List PlanRange) PlanFault → Result (List PlanRange) PlanFault
+    → AnswerValue → Type 0
+AnswersPlans Shows (Ok old) (Ok new) a = Shows old new a
+AnswersPlans Shows (Ok old) (Err fault) a = a ≡ refusing (refused_plan (codes "new") fault)
+AnswersPlans Shows (Err fault) new a = a ≡ refusing (refused_plan (codes "old") fault)
+
+-- the bytes of the n-th file, counted from 0: none if there is no such file
+abbrev pub bytes_at : List FileValue → ℕ → List ℕ
+bytes_at files n = option_map_or (λ f. f.bytes) (slice_get files n) []
+
+-- the answer for the plans of the first two files
+abbrev pub AnswersFirstPlans : (List PlanRange → List PlanRange → AnswerValue → Type 0) → List FileValue → AnswerValue → Type 0
+AnswersFirstPlans Shows files a = AnswersPlans Shows (plan_of_text (bytes_at files 0)) (plan_of_text (bytes_at files 1)) a
+
+-- `status`: how far the course has come, as the board says
+abbrev pub ShowsStatus : Shown → Change → BoardValue → AnswerValue → Type 0
+ShowsStatus shown c b a = (s : StatusValue) × IsStatusOf c (says b) s × (a ≡ answer_with (status_text shown s) false)
+
+-- the first course of two plans
+abbrev pub first_course : List PlanRange → List PlanRange → Change
+first_course old new = record { number = 1; old = old; new = new }
+
+-- of the plans and the board files: the newest course of the board, or else the first
+abbrev pub AnswersStatus : Shown → List FileValue → List PlanRange → List PlanRange → AnswerValue → Type 0
+AnswersStatus shown files old new a = AnswersFor (λ b. ShowsStatus shown (course_of_board (first_course old new) b) b) (board_of_files files) a
+
+-- `report issued`: the frames of the board of that report alone
+abbrev pub ShowsIssue : ℕ → List PlanRange → List PlanRange → AnswerValue → Type 0
+ShowsIssue number old new a = ShowsFrames (report_board (Issued number (plan_pair old new))) a
+
+-- ---- questions
+
+-- the number of an issue is at least 1
+abbrev pub IsAskable : Question → Type 0
+IsAskable (ask.Issue number) = 1 ≤ number
+IsAskable _ = Unit {0}
+
+-- what is answered to a question about files, in their order
+abbrev pub IsAnswerTo : Question → List FileValue → AnswerValue → Type 0
+IsAnswerTo ask.Board files a = AnswersFor ShowsBoard (board_of_files files) a
+IsAnswerTo ask.Merge files a = AnswersFor ShowsFrames (board_of_files files) a
+IsAnswerTo ask.Digest files a = AnswersFor ShowsDigest (board_of_files files) a
+IsAnswerTo ask.Beyond files a = AnswersFor (AnswersBoth ShowsBeyond (drop 1 files)) (board_of_files (take 1 files)) a
+IsAnswerTo ask.Cover files a = AnswersFor (AnswersBoth ShowsCover (drop 1 files)) (board_of_files (take 1 files)) a
+IsAnswerTo ask.Repair files a = AnswersFor (AnswersRepair (drop 1 files)) (board_of_files (take 1 files)) a
+IsAnswerTo (ask.Status shown) files a = AnswersFirstPlans (AnswersStatus shown (drop 2 files)) files a
+IsAnswerTo (ask.Report report) files a = ShowsFrames (report_board report) a
+IsAnswerTo (ask.Issue number) files a = AnswersFirstPlans (ShowsIssue number) files a

@@ -1,0 +1,25 @@
+-- what the clauses here cite of the crates below
+pub use Rattle.squall_report.specs.Told
+pub use Rattle.squall_report.specs.Facts
+pub use Rattle.squall_board.specs.Boards
+pub use Rattle.squall_board.specs.BoardBeyond
+pub use Rattle.squall_board.specs.CourseRoute
+pub use Rattle.squall_plan.specs.Form
+pub use Rattle.squall_plan.specs.Faults
+pub use Rattle.squall_course.specs.Change
+pub use Rattle.squall_status.specs.Summary
+pub use Rattle.squall_status.specs.Texts
+pub use Rattle.squall_wire.specs.Messages
+pub use Rattle.squall_wire.specs.DigestValue
+pub use Rattle.squall_delta.specs.Hashes
+pub use Rattle.squall_delta.specs.Pieces
+pub use Rattle.squall_delta.specs.Repairs
+pub use Rattle.squall_cli_words.specs.BoardText
+pub use Rattle.squall_cli_lines.specs.Words
+pub use Rattle.squall_cli_words.specs.ReportLines
+pub use Rattle.squall_key.specs.Numbers
+pub mod Files
+pub mod Answers
+pub mod Joined
+pub mod Plans
+pub mod ReportWords

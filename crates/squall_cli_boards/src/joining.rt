@@ -1,0 +1,81 @@
+//! The board of board files.
+
+ghost use Rattle.std.specs.Prelude.{◌≡◌, ◌∷◌, List, Option, Err, map, IfOk, if◌then◌else◌, string_bytes};
+ghost use Rattle.squall_wire.specs.declared.fault.WireFault.{WireFault as Fault};
+ghost use Rattle.squall_wire.specs.Messages.{Body, body_of};
+ghost use Rattle.squall_cli_boards.specs.Files.{JoinsTo, joined_with, joined_file, refused_file, board_of_files};
+ghost use Rattle.squall_cli_boards.specs.Joined.{IsJoined};
+
+use crate::file::NamedFile;
+use crate::hearing::hear_file;
+use squall_board::Board;
+use squall_wire::laws::lists_make_the_board;
+use squall_wire::{Message, WireFault};
+use std::alloc::{AllocError, Global};
+
+/// Merges the board of a message. Whether it is one: a digest is none, and changes nothing.
+fn merge_message(board: &mut Board, message: &Message) -> Result<bool, AllocError>
+    ensures { IfOk result (λ merged. (bodies : List Body) (fault : Option Fault) → joined_with board.old (body_of message.now ∷ bodies) fault
+        ≡ (if merged then joined_with board.new bodies fault else Err WireFault.Kind)) }
+{
+    match message {
+        Message::Delta(delta) => {
+            lists_make_the_board(delta);
+            board.merge(delta)?;
+            Ok(true)
+        }
+        Message::Digest(_) => Ok(false),
+    }
+}
+
+/// Merges the boards of messages that such a fault follows. The first fault, if there is one.
+fn merge_messages(
+    board: &mut Board,
+    messages: &[Message],
+    fault: Option<WireFault>,
+) -> Result<Option<WireFault>, AllocError>
+    ensures { IfOk result (λ met. JoinsTo met board.new (joined_with board.old (map body_of messages.now) fault)) }
+{
+    for message in messages {
+        if !merge_message(board, message)? {
+            return Ok(Some(WireFault::Kind));
+        }
+    }
+    Ok(fault)
+}
+
+/// Merges the boards of a file. The first fault, if there is one.
+fn merge_file(
+    alloc: Global,
+    board: &mut Board,
+    bytes: &[u8],
+) -> Result<Option<WireFault>, AllocError>
+    ensures { IfOk result (λ met. JoinsTo met board.new (joined_file board.old bytes.now)) }
+{
+    let (messages, fault) = hear_file(alloc, bytes)?;
+    merge_messages(board, &messages, fault)
+}
+
+/// The line that refuses a file.
+pub(crate) fn refusal(alloc: Global, name: &str, fault: WireFault) -> Result<String, AllocError>
+    ensures { IfOk result (λ line. string_bytes line ≡ refused_file name.now fault) }
+{
+    format!(in alloc; "refused {name} {fault}\n")
+}
+
+/// The board of the files: the join of all boards in them. Or the line that refuses the first file
+/// that has a fault.
+pub(crate) fn join_files(
+    alloc: Global,
+    files: &[NamedFile],
+) -> Result<Result<Board, String>, AllocError>
+    ensures { IfOk result (λ joined. IsJoined string_bytes joined (board_of_files files.now)) }
+{
+    let mut board = Board::new(alloc);
+    for file in files {
+        if let Some(fault) = merge_file(alloc, &mut board, file.bytes())? {
+            return Ok(Err(refusal(alloc, file.name(), fault)?));
+        }
+    }
+    Ok(Ok(board))
+}

@@ -1,0 +1,22 @@
+//! What the commands over board files answer: the lines of a board, and the frames of what boards tell.
+//!
+//! A board file is the frames of a board, one after the other. Several files are joined.
+//!
+//! Its tests are in `crates/squall_test_lines/src/boards.rt`.
+#![tactic(auto)]
+
+mod answer;
+mod boards;
+mod exchange;
+mod file;
+mod frames;
+mod hearing;
+mod joining;
+mod plans;
+mod question;
+mod report_words;
+
+pub use answer::Answer;
+pub use file::NamedFile;
+pub use question::{Question, answer_to};
+pub use report_words::{report_files, report_question};
