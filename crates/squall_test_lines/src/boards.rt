@@ -1,7 +1,11 @@
 // Questions about board files, their answers, and the words of reports.
+ghost use Rattle.std.specs.Prelude.{IfOk, IfSome};
+ghost use Rattle.squall_cli_boards.specs.Answers.{IsAskable};
+
 use squall_cli_boards::*;
 use squall_status::Shown;
 use std::alloc::{AllocError, Global};
+use std::process::Abort;
 
 const OLD: &str = r#"{"plan":[{"part":1,"from":[0,0],"to":"end"}]}"#;
 
@@ -18,7 +22,9 @@ fn copies(alloc: Global, texts: &[&str]) -> Result<Vec<String>, AllocError> {
 }
 
 /// What the words of a report ask.
-fn asked(alloc: Global, words: &[&str]) -> Result<Option<Question>, AllocError> {
+fn asked(alloc: Global, words: &[&str]) -> Result<Option<Question>, AllocError>
+    ensures { IfOk result (λ question. IfSome question IsAskable) }
+{
     let words = copies(alloc, words)?;
     report_question(alloc, &words)
 }
@@ -81,35 +87,48 @@ fn answered(
     question: &Question,
     plans: &[&str],
     loads: usize,
-) -> Result<(usize, bool), AllocError> {
+) -> Result<(usize, bool), AllocError>
+    requires { IsAskable question.now }
+{
     let files = files(alloc, plans, loads)?;
     let answer = answer_to(alloc, question, &files)?;
     Ok((answer.text().len(), answer.is_refused()))
 }
 
-/// The answer to each question, or that memory is short, whichever allocation is refused.
+/// The question has an answer of that length, which refuses the files or not; or memory is short.
+fn answers(
+    rt: &impl Abort,
+    alloc: Global,
+    question: Question,
+    plans: &[&str],
+    loads: usize,
+    wanted: (usize, bool),
+)
+    requires { IsAskable question }
+{
+    if let Ok(found) = answered(alloc, &question, plans, loads) {
+        assert!(rt; found == wanted);
+    }
+}
+
 #[test]
 fn tolerant_answers(rt: HostRuntime) {
-    let cases: [(Question, &[&str], usize, (usize, bool)); 8] = [
-        (Question::Board, &[], 2, (26, false)),
-        (Question::Merge, &[], 2, (49, false)),
-        (Question::Digest, &[], 1, (56, false)),
-        (Question::Beyond, &[], 2, (0, false)),
-        (Question::Cover, &[], 1, (0, true)),
-        (Question::Repair, &[], 2, (18, true)),
-        (
-            Question::Status(Shown::Waiting),
-            &[OLD, NEW],
-            1,
-            (214, false),
-        ),
-        (Question::Issue(2), &[OLD, NEW], 0, (69, false)),
-    ];
-    for (question, plans, loads, wanted) in &cases {
-        if let Ok(found) = answered(rt.alloc(), question, plans, *loads) {
-            assert!(rt; found == *wanted);
-        }
-    }
+    answers(&rt, rt.alloc(), Question::Board, &[], 2, (26, false));
+    answers(&rt, rt.alloc(), Question::Merge, &[], 2, (49, false));
+    answers(&rt, rt.alloc(), Question::Digest, &[], 1, (56, false));
+    answers(&rt, rt.alloc(), Question::Beyond, &[], 2, (0, false));
+    answers(&rt, rt.alloc(), Question::Cover, &[], 1, (0, true));
+    answers(&rt, rt.alloc(), Question::Repair, &[], 2, (18, true));
+    let waiting = Question::Status(Shown::Waiting);
+    answers(&rt, rt.alloc(), waiting, &[OLD, NEW], 1, (214, false));
+    answers(
+        &rt,
+        rt.alloc(),
+        Question::Issue(2),
+        &[OLD, NEW],
+        0,
+        (69, false),
+    );
 }
 
 /// The question of a report, or that memory is short.
