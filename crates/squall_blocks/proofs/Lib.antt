@@ -5,3 +5,4 @@ mod Replacing
 mod Iterating
 mod Turned
 mod Joining
+mod Undoing

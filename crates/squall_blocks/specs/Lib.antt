@@ -1,3 +1,4 @@
 pub mod Entries
 pub mod EntriesLaws
 pub mod Blocks
+pub mod Drafts

@@ -1,14 +1,15 @@
 //! Entries by rising end, in blocks.
 
-ghost use Rattle.std.specs.Prelude.{◌≡◌, ◌↔◌, ◌+◌, ◌-◌, ◌<◌, ◌≤◌, [], ◌++◌, length, slice_get, slice_index, IfOk, IsTrue, OnOk, OnErr};
+ghost use Rattle.std.specs.Prelude.{◌≡◌, ◌↔◌, ◌<◌, ◌≤◌, [], ◌++◌, length, slice_get, IfOk, IsTrue, OnOk, OnErr};
 ghost use Rattle.squall_blocks.specs.Entries.{RiseFrom, last_from, beyond, up_to, replaced};
 ghost use Rattle.squall_blocks.specs.Blocks.{most};
 
 use crate::edit::{join_around, places_of, replace_at};
 use crate::entries::Entries;
 use crate::iter::Iter;
-use crate::search::{End, ended};
-use squall_key::{Bound, Ends};
+use crate::lent::BlocksRef;
+use crate::search::End;
+use squall_key::Bound;
 use std::alloc::{AllocError, Global};
 use std::marker::Model;
 
@@ -46,15 +47,6 @@ fn block_len(len: usize) -> usize
 {
     let blocks = len / SOME + 1;
     (len / blocks).min(MOST - 1) + 1
-}
-
-/// The bound at which the block in front of a place ends, `least` if there is none.
-fn last_before(lasts: &[End], at: usize, least: Bound) -> Bound
-    requires { at ≤ length lasts.now }
-    ensures none { at ≡ 0 → result ≡ least }
-    ensures some { 0 < at → result ≡ slice_index lasts.now (at - 1) }
-{
-    if at == 0 { least } else { lasts[at - 1].end() }
 }
 
 impl<V: Copy> Blocks<V> {
@@ -139,22 +131,21 @@ impl<V: Copy> Blocks<V> {
     pub fn is_empty(&self) -> bool
         ensures { IsTrue result ↔ (length self.now ≡ 0) }
     {
-        let count = self.blocks.len();
-        if count == 0 {
-            return true;
-        }
-        false
+        self.lent().is_empty()
+    }
+
+    /// The entries, lent to look some up.
+    pub fn lent(&self) -> BlocksRef<'_, V>
+        ensures { result ≡ self.now }
+    {
+        BlocksRef::over(&self.lasts, &self.blocks)
     }
 
     /// The first entry that ends beyond the key.
     pub fn above(&self, key: Bound) -> Option<(Bound, V)>
         ensures { result ≡ slice_get (beyond key self.now) 0 }
     {
-        let at = ended(&self.lasts, key);
-        if at >= self.blocks.len() {
-            return None;
-        }
-        self.blocks[at].above(key)
+        self.lent().above(key)
     }
 
     /// The bound at which the entry above the key begins, if the first begins at `least`: there the
@@ -162,12 +153,7 @@ impl<V: Copy> Blocks<V> {
     pub fn end_before(&self, key: Bound, least: Bound) -> Bound
         ensures { result ≡ last_from least (up_to key self.now) }
     {
-        let at = ended(&self.lasts, key);
-        let last = last_before(&self.lasts, at, least);
-        if at >= self.blocks.len() {
-            return last;
-        }
-        self.blocks[at].end_before(key, last)
+        self.lent().end_before(key, least)
     }
 
     /// The entries, by rising end.
@@ -181,14 +167,7 @@ impl<V: Copy> Blocks<V> {
     pub fn iter_from(&self, key: Bound) -> Iter<'_, V>
         ensures { result ≡ beyond key self.now }
     {
-        let at = ended(&self.lasts, key);
-        if at >= self.blocks.len() {
-            return Iter::over(&[], &[], &[]);
-        }
-        let block = &self.blocks[at];
-        let place = block.ended(key);
-        let (ends, values) = block.lists();
-        Iter::over(&ends[place..], &values[place..], &self.blocks[at + 1..])
+        self.lent().iter_from(key)
     }
 
     /// Puts the fresh entries in place of those that end beyond `from` and not beyond `to`. The

@@ -8,14 +8,17 @@
 #![tactic(auto)]
 
 mod blocks;
+mod draft;
 mod edit;
 mod entries;
 mod iter;
-mod prepared;
+mod lent;
 mod ready;
 mod search;
+mod steps;
 
 pub use blocks::Blocks;
+pub use draft::Draft;
 pub use entries::Entries;
 pub use iter::Iter;
-pub use prepared::Prepared;
+pub use lent::BlocksRef;

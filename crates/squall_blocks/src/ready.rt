@@ -5,6 +5,24 @@ ghost use Rattle.std.specs.List.{splice, copy_within};
 
 use std::alloc::AllocError;
 
+/// Makes room in both lists. After an error there may be more room than before.
+pub(crate) fn reserve_both<T, U>(
+    keys: &mut Vec<T>,
+    items: &mut Vec<U>,
+    more_keys: usize,
+    more_items: usize,
+) -> Result<(), AllocError>
+    ensures keys { keys.new.items ≡ keys.old.items }
+    ensures items { items.new.items ≡ items.old.items }
+    ensures keys_room { OnOk result (vec_len keys.new + more_keys ≤ vec_capacity keys.new) }
+    ensures items_room { OnOk result (vec_len items.new + more_items ≤ vec_capacity items.new) }
+    ensures keys_capacity { vec_capacity keys.old ≤ vec_capacity keys.new }
+    ensures items_capacity { vec_capacity items.old ≤ vec_capacity items.new }
+{
+    keys.reserve(more_keys)?;
+    items.reserve(more_items)
+}
+
 /// Moves the items from a place on up by some places, to the end.
 fn move_up_from<T: Copy>(items: &mut [T], first: usize, by: usize)
     requires { first + by ≤ length items.old }
@@ -57,6 +75,7 @@ pub(crate) fn replace_ready<T: Copy>(items: &mut Vec<T>, first: usize, end: usiz
 /// Turns the items from a place on.
 fn turn_from<U>(items: &mut Vec<U>, from: usize, by: usize)
     requires within { from + by ≤ length items.old.items }
+    ensures capacity { vec_capacity items.old ≤ vec_capacity items.new }
     ensures items { items.new.items ≡ take from items.old.items ++ (drop by (drop from items.old.items) ++ take by (drop from items.old.items)) }
 {
     let tail = &mut items[from..];
@@ -68,7 +87,8 @@ fn swap_out<U: Drop>(items: &mut Vec<U>, first: usize, end: usize, fresh: Vec<U>
     requires order { first ≤ end }
     requires within { end ≤ length items.old.items }
     requires room { vec_len items.old + vec_len fresh ≤ vec_capacity items.old }
-    ensures { items.new.items ≡ take first items.old.items ++ (drop end items.old.items ++ fresh.items) }
+    ensures capacity { vec_capacity items.old ≤ vec_capacity items.new }
+    ensures items { items.new.items ≡ take first items.old.items ++ (drop end items.old.items ++ fresh.items) }
 {
     let mut fresh = fresh;
     let len = items.len();
@@ -81,7 +101,8 @@ fn swap_out<U: Drop>(items: &mut Vec<U>, first: usize, end: usize, fresh: Vec<U>
 /// Puts other items in place of as many from `first` on.
 fn swap_in<U: Drop>(items: &mut Vec<U>, first: usize, fresh: Vec<U>)
     requires within { first + vec_len fresh ≤ length items.old.items }
-    ensures { items.new.items ≡ splice items.old.items first (first + vec_len fresh) fresh.items }
+    ensures capacity { vec_capacity items.old ≤ vec_capacity items.new }
+    ensures items { items.new.items ≡ splice items.old.items first (first + vec_len fresh) fresh.items }
 {
     let mut fresh = fresh;
     let end = first + fresh.len();
@@ -94,7 +115,8 @@ pub(crate) fn exchange_ready<U: Drop>(items: &mut Vec<U>, first: usize, end: usi
     requires order { first ≤ end }
     requires within { end ≤ length items.old.items }
     requires room { vec_len items.old + vec_len fresh ≤ vec_capacity items.old }
-    ensures { items.new.items ≡ splice items.old.items first end fresh.items }
+    ensures capacity { vec_capacity items.old ≤ vec_capacity items.new }
+    ensures items { items.new.items ≡ splice items.old.items first end fresh.items }
 {
     let rest = items.len() - end;
     if fresh.len() == end - first {

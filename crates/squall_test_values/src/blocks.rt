@@ -3,7 +3,7 @@
 mod plain;
 mod tolerant;
 
-use squall_blocks::{Blocks, Entries, Prepared};
+use squall_blocks::{Blocks, Draft, Entries};
 use squall_key::Bound;
 use std::alloc::{AllocError, Global};
 use std::process::Abort;
@@ -195,39 +195,80 @@ fn allocator_of_blocks(rt: HostRuntime) -> Result<(), Fail> {
     Ok(())
 }
 
-/// Prepares to put one entry of the value 5 in place of those that end beyond 400 and by 4000.
-fn prepare(
+/// Puts the fresh entries in place of those between two keys of a draft, if they lie between them.
+fn edit(
     rt: &impl Abort,
     alloc: Global,
-    blocks: Blocks<u16>,
-) -> Result<Prepared<u16>, Blocks<u16>> {
-    let (from, to) = (bound(rt, 400), bound(rt, 4000));
-    let Ok(fresh) = row(rt, alloc, 400, 1, 1, 5) else {
-        return Err(blocks);
-    };
-    assert!(rt; !blocks.is_empty() && fresh.is_between(from, to));
-    Prepared::of(alloc, blocks, from, to, &fresh)
+    draft: &mut Draft<u16>,
+    from: u64,
+    to: u64,
+    fresh: &Entries<u16>,
+) -> Result<(), AllocError> {
+    let (low, high) = (bound(rt, from), bound(rt, to));
+    assert!(rt; !draft.lent().is_empty() && fresh.is_between(low, high));
+    draft.replace(alloc, low, high, fresh)
+}
+
+/// Puts one entry of the value 5 in place of those that end beyond 400 and by 4000, and three of the
+/// value 7 in place of that which ends at 5010.
+fn edit_twice(rt: &impl Abort, alloc: Global, draft: &mut Draft<u16>) -> Result<(), AllocError> {
+    let fresh = row(rt, alloc, 400, 1, 1, 5)?;
+    edit(rt, alloc, draft, 400, 4000, &fresh)?;
+    let fresh = row(rt, alloc, 5000, 2, 3, 7)?;
+    edit(rt, alloc, draft, 5000, 5010, &fresh)
+}
+
+/// Whether the blocks are the thousand entries after both edits.
+fn is_edited_twice(rt: &impl Abort, blocks: &Blocks<u16>) -> bool {
+    counted(blocks) == (643, 665)
+        && begins(rt, blocks, 400, 603, (401, 5))
+        && begins(rt, blocks, 401, 602, (4010, 1))
+        && begins(rt, blocks, 5000, 502, (5002, 7))
+        && begins(rt, blocks, 5006, 499, (5020, 1))
+}
+
+/// What is lent of a draft has both edits.
+fn look_at_draft(rt: &impl Abort, draft: &Draft<u16>) {
+    let lent = draft.lent();
+    assert!(rt; lent.above(bound(rt, 400)) == Some((bound(rt, 401), 5)));
+    assert!(rt; lent.above(bound(rt, 5004)) == Some((bound(rt, 5006), 7)));
+    assert!(rt; lent.end_before(bound(rt, 4009), bound(rt, 0)).rank() == 401);
+    assert!(rt; lent.iter_from(bound(rt, 9990)).next() == Some((bound(rt, 10000), 1)));
+    let end = lent.block_end(bound(rt, 400));
+    assert!(rt; end.rank() > 400 && lent.block_end(bound(rt, 10000)) == Bound::TOP);
 }
 
 #[test]
-fn edit_that_is_made(rt: HostRuntime) -> Result<(), Fail> {
+fn draft_that_is_kept(rt: HostRuntime) -> Result<(), Fail> {
     let blocks = thousand(&rt, rt.alloc())?;
-    if let Ok(ready) = prepare(&rt, rt.alloc(), blocks) {
-        let blocks = ready.apply();
-        assert!(rt; counted(&blocks) == (641, 645));
-        assert!(rt;
-            begins(&rt, &blocks, 400, 601, (401, 5)) && begins(&rt, &blocks, 401, 600, (4010, 1))
-        );
-    }
+    let mut draft = Draft::of(blocks);
+    edit_twice(&rt, draft.allocator(), &mut draft)?;
+    look_at_draft(&rt, &draft);
+    assert!(rt; is_edited_twice(&rt, &draft.keep()));
+    Ok(())
+}
+
+/// Edits a copy of the blocks, and undoes the edits.
+fn edit_and_undo(rt: &impl Abort, alloc: Global, blocks: &Blocks<u16>) -> Result<(), AllocError> {
+    let mut draft = Draft::of(blocks.copied(alloc)?);
+    edit_twice(rt, alloc, &mut draft)?;
+    look_at_draft(rt, &draft);
+    assert!(rt; are_same(&draft.undo(), blocks));
     Ok(())
 }
 
 #[test]
-fn edit_that_is_left_out(rt: HostRuntime) -> Result<(), Fail> {
+fn draft_that_is_undone(rt: HostRuntime) -> Result<(), Fail> {
     let blocks = thousand(&rt, rt.alloc())?;
-    if let Ok(ready) = prepare(&rt, rt.alloc(), blocks) {
-        assert!(rt; counted(&ready.cancel()) == (1000, 1000));
-    }
+    edit_and_undo(&rt, rt.alloc(), &blocks)?;
+    Ok(())
+}
+
+#[test]
+fn draft_without_an_edit(rt: HostRuntime) -> Result<(), Fail> {
+    let blocks = Draft::of(thousand(&rt, rt.alloc())?).keep();
+    let blocks = Draft::of(blocks).undo();
+    assert!(rt; counted(&blocks) == (1000, 1000));
     Ok(())
 }
 
@@ -238,19 +279,11 @@ fn with_a_short_block(rt: &impl Abort, alloc: Global) -> Result<Blocks<u16>, All
     Ok(blocks)
 }
 
-/// Prepares to put two entries of the value 5 in place of those that end beyond 1700 and by 3340: the
-/// second block then has few too, and is joined with the first.
-fn prepare_to_join(
-    rt: &impl Abort,
-    alloc: Global,
-    blocks: Blocks<u16>,
-) -> Result<Prepared<u16>, Blocks<u16>> {
-    let (from, to) = (bound(rt, 1700), bound(rt, 3340));
-    let Ok(fresh) = row(rt, alloc, 1700, 3, 2, 5) else {
-        return Err(blocks);
-    };
-    assert!(rt; !blocks.is_empty() && fresh.is_between(from, to));
-    Prepared::of(alloc, blocks, from, to, &fresh)
+/// Puts two entries of the value 5 in place of those that end beyond 1700 and by 3340: the second block
+/// then has few too, and is joined with the first.
+fn edit_to_join(rt: &impl Abort, alloc: Global, draft: &mut Draft<u16>) -> Result<(), AllocError> {
+    let fresh = row(rt, alloc, 1700, 3, 2, 5)?;
+    edit(rt, alloc, draft, 1700, 3340, &fresh)
 }
 
 /// Whether the blocks are those after this edit: three entries and four, and those behind.
@@ -263,11 +296,11 @@ fn is_edited(rt: &impl Abort, blocks: &Blocks<u16>) -> bool {
 }
 
 #[test]
-fn edit_that_joins(rt: HostRuntime) -> Result<(), Fail> {
+fn draft_that_joins(rt: HostRuntime) -> Result<(), Fail> {
     let blocks = with_a_short_block(&rt, rt.alloc())?;
     assert!(rt; counted(&blocks) == (836, 836));
-    if let Ok(ready) = prepare_to_join(&rt, rt.alloc(), blocks) {
-        assert!(rt; is_edited(&rt, &ready.apply()));
-    }
+    let mut draft = Draft::of(blocks);
+    edit_to_join(&rt, rt.alloc(), &mut draft)?;
+    assert!(rt; is_edited(&rt, &draft.keep()));
     Ok(())
 }

@@ -1,10 +1,10 @@
 //! Each call that allocates, any one of whose allocations may fail: then nothing has changed.
 
 use super::{
-    are_same, begins, bound, counted, is_edited, prepare, prepare_to_join, put, row, thousand,
-    with_a_short_block,
+    are_same, begins, bound, counted, edit_to_join, edit_twice, is_edited, is_edited_twice, put,
+    row, thousand, with_a_short_block,
 };
-use squall_blocks::{Blocks, Entries};
+use squall_blocks::{Blocks, Draft, Entries};
 use squall_key::Bound;
 use std::alloc::{AllocError, Global};
 use std::process::Abort;
@@ -89,22 +89,20 @@ fn tolerant_replace_that_joins(rt: HostRuntime) {
     let _tried = replace_and_join(&rt, rt.alloc());
 }
 
-/// A prepared edit. It fails if an allocation fails before.
-fn prepare_and_apply(rt: &impl Abort, alloc: Global) -> Result<(), AllocError> {
-    let blocks = thousand(rt, alloc)?;
-    match prepare(rt, alloc, blocks) {
-        Ok(ready) => {
-            let blocks = ready.apply();
-            assert!(rt; counted(&blocks) == (641, 645));
-        }
-        Err(blocks) => assert!(rt; counted(&blocks) == (1000, 1000)),
+/// A draft of two edits, which is kept if both were made, and else undone. It fails if an allocation
+/// fails before.
+fn keep_or_undo(rt: &impl Abort, alloc: Global) -> Result<(), AllocError> {
+    let mut draft = Draft::of(thousand(rt, alloc)?);
+    match edit_twice(rt, alloc, &mut draft) {
+        Ok(()) => assert!(rt; is_edited_twice(rt, &draft.keep())),
+        Err(AllocError) => assert!(rt; counted(&draft.undo()) == (1000, 1000)),
     }
     Ok(())
 }
 
 #[test]
-fn tolerant_prepared(rt: HostRuntime) {
-    let _tried = prepare_and_apply(&rt, rt.alloc());
+fn tolerant_draft(rt: HostRuntime) {
+    let _tried = keep_or_undo(&rt, rt.alloc());
 }
 
 /// The entries are copied, or the answer is a failed allocation; and they stay as they are.
@@ -123,18 +121,18 @@ fn tolerant_copied(rt: HostRuntime) {
     }
 }
 
-/// A prepared edit after which short neighbours are joined, which may fail unseen. It fails if an
-/// allocation fails before.
-fn apply_and_join(rt: &impl Abort, alloc: Global) -> Result<(), AllocError> {
-    let blocks = with_a_short_block(rt, alloc)?;
-    match prepare_to_join(rt, alloc, blocks) {
-        Ok(ready) => assert!(rt; is_edited(rt, &ready.apply())),
-        Err(blocks) => assert!(rt; counted(&blocks) == (836, 836)),
+/// A draft after which short neighbours are joined, which may fail unseen. It fails if an allocation
+/// fails before.
+fn keep_and_join(rt: &impl Abort, alloc: Global) -> Result<(), AllocError> {
+    let mut draft = Draft::of(with_a_short_block(rt, alloc)?);
+    match edit_to_join(rt, alloc, &mut draft) {
+        Ok(()) => assert!(rt; is_edited(rt, &draft.keep())),
+        Err(AllocError) => assert!(rt; counted(&draft.undo()) == (836, 836)),
     }
     Ok(())
 }
 
 #[test]
-fn tolerant_prepared_that_joins(rt: HostRuntime) {
-    let _tried = apply_and_join(&rt, rt.alloc());
+fn tolerant_draft_that_joins(rt: HostRuntime) {
+    let _tried = keep_and_join(&rt, rt.alloc());
 }

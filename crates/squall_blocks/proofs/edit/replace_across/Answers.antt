@@ -1,4 +1,4 @@
-use Rattle.std.proofs.Common.{◌+◌, ◌∙◌, refl, length, arith}
+use Rattle.std.proofs.Common.{◌+◌, ◌∙◌, refl, arith}
 use Rattle.squall_blocks.proofs.Replacing.{count_of, edit_made, edit_blocks}
 use Rattle.squall_blocks.proofs.edit.replace_across.Goals as goal
 

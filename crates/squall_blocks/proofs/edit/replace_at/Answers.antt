@@ -1,4 +1,4 @@
-use Rattle.std.proofs.Common.{◌≡◌, ◌<◌, ◌≤◌, [], length, get_or, sym, ap, arith}
+use Rattle.std.proofs.Common.{◌<◌, [], length, get_or, ap, arith}
 use Rattle.std.proofs.lemmas.List.{get_or_read}
 use Rattle.squall_blocks.proofs.Replacing.{count_of, long_after}
 use Rattle.squall_blocks.proofs.edit.replace_at.Goals as goal

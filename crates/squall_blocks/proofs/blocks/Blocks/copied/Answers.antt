@@ -1,6 +1,5 @@
 use Rattle.std.proofs.Common.{sym, ap, ◌∙◌, ◌++◌, subst, ◌-◌, add-one, arith}
 use Rattle.squall_blocks.specs.Entries.{RiseFrom, last_from}
-use Rattle.squall_blocks.specs.Blocks.{flat}
 use Rattle.squall_blocks.proofs.Blocked.{copy_at}
 use Rattle.squall_blocks.proofs.blocks.Blocks.copied.Goals as goal
 

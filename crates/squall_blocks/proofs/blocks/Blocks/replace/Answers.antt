@@ -1,4 +1,4 @@
-use Rattle.std.proofs.Common.{◌<◌, length, arith}
+use Rattle.std.proofs.Common.{arith}
 use Rattle.std.proofs.lemmas.Bool.Decides.{nat_tests}
 use Rattle.squall_blocks.specs.Blocks.{flat}
 use Rattle.squall_blocks.specs.EntriesLaws.{last_above, replaced_rises, rise_weaker}

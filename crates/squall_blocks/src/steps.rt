@@ -1,0 +1,128 @@
+//! What undoes an edit of blocks.
+
+ghost use Rattle.std.specs.Prelude.{◌≡◌, ◌+◌, ◌-◌, ◌≤◌, length, take, drop, vec_len, vec_capacity, IfOk, OnOk, OnErr};
+ghost use Rattle.std.specs.List.{splice};
+ghost use Rattle.squall_blocks.specs.Drafts.{IsWithin, Undoes};
+
+use crate::entries::Entries;
+use crate::ready::{exchange_ready, replace_ready, reserve_both};
+use crate::search::End;
+use std::alloc::{AllocError, Global};
+use std::marker::Model;
+use std::mem::replace;
+
+/// What undoes an edit: the blocks that stood before in the place of those from `first` to `end`.
+///
+/// Contracts see its places, and the lists of what stood there.
+#[derive(Drop)]
+pub(crate) struct Step<V: Copy> {
+    first: usize,
+    end: usize,
+    lasts: Vec<End>,
+    blocks: Vec<Entries<V>>,
+}
+
+impl<V: Copy> Model for Step<V> {
+    ghost use Rattle.squall_blocks.specs.Drafts.{StepValue};
+
+    ghost Value = { StepValue V };
+
+    ghost view = { λ s. record { first = s.first; end = s.end; lasts = s.lasts.items; blocks = s.blocks.items } };
+}
+
+impl<V: Copy> Step<V> {
+    /// The place of the first block that came in.
+    pub(crate) fn first(&self) -> usize
+        ensures { result ≡ self.now.first }
+    {
+        self.first
+    }
+}
+
+/// Takes the blocks of some places out. Blocks without entries are left there. It fails only if an
+/// allocation fails, and then changes nothing.
+fn take_out<V: Copy>(
+    alloc: Global,
+    blocks: &mut Vec<Entries<V>>,
+    first: usize,
+    end: usize,
+) -> Result<Vec<Entries<V>>, AllocError>
+    requires order { first ≤ end }
+    requires within { end ≤ length blocks.old.items }
+    ensures gone { IfOk result (λ gone. gone.items ≡ take (end - first) (drop first blocks.old.items)) }
+    ensures front { OnOk result (take first blocks.new.items ≡ take first blocks.old.items) }
+    ensures behind { OnOk result (drop end blocks.new.items ≡ drop end blocks.old.items) }
+    ensures len { length blocks.new.items ≡ length blocks.old.items }
+    ensures capacity { vec_capacity blocks.old ≤ vec_capacity blocks.new }
+    ensures err { OnErr result (blocks.new.items ≡ blocks.old.items) }
+{
+    let mut gone = Vec::with_capacity(alloc, end - first)?;
+    for at in first..end {
+        let block = replace(&mut blocks[at], Entries::new(alloc));
+        gone.push_reserved(block);
+    }
+    Ok(gone)
+}
+
+/// Puts other blocks in place of those from `first` to `end`, and gives what undoes it. In both lists
+/// there is then room for what stood there, and for `kept` blocks more. It fails only if an
+/// allocation fails, and then changes nothing.
+pub(crate) fn exchange<V: Copy>(
+    lasts: &mut Vec<End>,
+    blocks: &mut Vec<Entries<V>>,
+    first: usize,
+    end: usize,
+    ends: &[End],
+    fresh: Vec<Entries<V>>,
+    kept: usize,
+) -> Result<Step<V>, AllocError>
+    requires order { first ≤ end }
+    requires lasts { end ≤ length lasts.old.items }
+    requires blocks { end ≤ length blocks.old.items }
+    requires same { length ends.now ≡ length fresh.items }
+    ensures lasts { OnOk result (lasts.new.items ≡ splice lasts.old.items first end ends.now) }
+    ensures blocks { OnOk result (blocks.new.items ≡ splice blocks.old.items first end fresh.items) }
+    ensures step { IfOk result (λ s. Undoes s lasts.old.items lasts.new.items blocks.old.items blocks.new.items) }
+    ensures few { IfOk result (λ s. length s.blocks ≡ end - first) }
+    ensures lasts_room { OnOk result (vec_len lasts.new + (kept + (end - first)) ≤ vec_capacity lasts.new) }
+    ensures blocks_room { OnOk result (vec_len blocks.new + (kept + (end - first)) ≤ vec_capacity blocks.new) }
+    ensures lasts_err { OnErr result (lasts.new.items ≡ lasts.old.items) }
+    ensures blocks_err { OnErr result (blocks.new.items ≡ blocks.old.items) }
+    ensures lasts_capacity { vec_capacity lasts.old ≤ vec_capacity lasts.new }
+    ensures blocks_capacity { vec_capacity blocks.old ≤ vec_capacity blocks.new }
+{
+    let alloc = *lasts.allocator();
+    let room = kept.saturating_add(ends.len());
+    reserve_both(lasts, blocks, room, room)?;
+    let old = Vec::from_slice(alloc, &lasts[first..end])?;
+    let gone = take_out(alloc, blocks, first, end)?;
+    let stop = first + fresh.len();
+    replace_ready(lasts, first, end, ends);
+    exchange_ready(blocks, first, end, fresh);
+    Ok(Step {
+        first,
+        end: stop,
+        lasts: old,
+        blocks: gone,
+    })
+}
+
+/// Undoes an edit, in room that was reserved. It cannot fail.
+pub(crate) fn undo<V: Copy>(lasts: &mut Vec<End>, blocks: &mut Vec<Entries<V>>, step: Step<V>)
+    requires within { IsWithin step lasts.old.items blocks.old.items }
+    requires lasts_room { vec_len lasts.old + length step.blocks ≤ vec_capacity lasts.old }
+    requires blocks_room { vec_len blocks.old + length step.blocks ≤ vec_capacity blocks.old }
+    ensures lasts { lasts.new.items ≡ splice lasts.old.items step.first step.end step.lasts }
+    ensures blocks { blocks.new.items ≡ splice blocks.old.items step.first step.end step.blocks }
+    ensures lasts_capacity { vec_capacity lasts.old ≤ vec_capacity lasts.new }
+    ensures blocks_capacity { vec_capacity blocks.old ≤ vec_capacity blocks.new }
+{
+    let Step {
+        first,
+        end,
+        lasts: ends,
+        blocks: old,
+    } = step;
+    replace_ready(lasts, first, end, &ends);
+    exchange_ready(blocks, first, end, old);
+}
