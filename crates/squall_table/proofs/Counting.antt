@@ -1,6 +1,5 @@
 -- How many of a list pass a test, between two places.
-use Rattle.std.proofs.Common.{◌≡◌, ℕ, zero, suc, ◌+◌, ◌-◌, ◌<◌, ◌≤◌, Bool, true, false, List, length, get_or, take, refl, sym, ap, subst, ◌∙◌, arith, inl, inr, add-zero}
-use Rattle.std.proofs.lemmas.Bool.{cases_Bool}
+use Rattle.std.proofs.Common.{◌≡◌, ℕ, zero, suc, ◌+◌, ◌-◌, ◌<◌, ◌≤◌, Bool, true, false, List, length, get_or, take, refl, sym, ap, ◌∙◌, arith, add-zero}
 use Rattle.std.specs.List.{count_by}
 use Rattle.std.proofs.lemmas.List.Sums.{count_by_more_no, count_by_more_yes}
 
@@ -30,19 +29,3 @@ pub count_none : {X : Type 0} (p : X → Bool) (xs : List X) (a b : ℕ) (d : X)
 count_none p xs a b d le w is =
     let e : a + (b - a) ≡ b = omega arith in
     ap (λ i. count_by p (take i xs)) (sym e) ∙ count_no p xs a (b - a) d (omega arith) (λ j u v. is j u (omega arith))
-
-grows_by : {X : Type 0} (p : X → Bool) (xs : List X) (a n : ℕ) (d : X) → a + n ≤ length xs → count_by p (take a xs) ≤ count_by p (take (a + n) xs)
-grows_by p xs a zero d w = rw add-zero (omega arith)
-grows_by p xs a (suc n) d w =
-    let before = grows_by p xs a n d (omega arith) in
-    let e : a + n + 1 ≡ a + suc n = omega arith in
-    subst (λ i. count_by p (take a xs) ≤ count_by p (take i xs)) e (elim (cases_Bool (p (get_or xs (a + n) d))) [
-      | inl is ↦ omega (arith, before, count_by_more_yes p xs (a + n) d (omega arith) is)
-      | inr is ↦ omega (arith, before, count_by_more_no p xs (a + n) d (omega arith) is)
-    ])
-
--- more places have no fewer
-pub take_grows : {X : Type 0} (p : X → Bool) (xs : List X) (a b : ℕ) (d : X) → a ≤ b → b ≤ length xs → count_by p (take a xs) ≤ count_by p (take b xs)
-take_grows p xs a b d le w =
-    let e : a + (b - a) ≡ b = omega arith in
-    subst (λ i. count_by p (take a xs) ≤ count_by p (take i xs)) e (grows_by p xs a (b - a) d (omega arith))

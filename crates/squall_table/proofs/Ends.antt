@@ -1,11 +1,11 @@
 -- The legs about a bound, by the leg at it.
-use Rattle.std.proofs.Common.{◌≡◌, ℕ, zero, suc, ◌+◌, ◌-◌, ◌<◌, ◌≤◌, List, [], ◌∷◌, length, get_or, refl, ap, subst, arith}
+use Rattle.std.proofs.Common.{◌≡◌, ℕ, zero, suc, ◌-◌, ◌<◌, ◌≤◌, List, [], ◌∷◌, length, get_or, refl, ap, subst, arith}
 use Rattle.std.proofs.lemmas.List.{get_or_default}
 use Rattle.squall_key.specs.Keys.{top}
 use Rattle.squall_plan.specs.declared.range.PlanRange.{PlanRange}
 use Rattle.squall_table.specs.Legs.{Legs, IsAt, EndsAt}
 use Rattle.squall_table.specs.LegLaws.{legs_at}
-use Rattle.squall_table.proofs.Kept.{legs_next, ends_rise, starts_rise}
+use Rattle.squall_table.proofs.Kept.{legs_next}
 use Rattle.squall_table.proofs.Among.{last_ends}
 
 -- ---- the leg of the key before a bound

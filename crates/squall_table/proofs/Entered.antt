@@ -1,5 +1,5 @@
 -- Legs as entries: which entry has a key, and where a list of entries is cut.
-use Rattle.std.proofs.Common.{◌≡◌, ◌≢◌, ℕ, zero, suc, ◌+◌, ◌<◌, ◌≤◌, List, [], ◌∷◌, ◌++◌, Some, None, length, refl, sym, ap, subst, ◌∙◌, arith, inl, inr, take, get_or, add-one}
+use Rattle.std.proofs.Common.{◌≡◌, ◌≢◌, ℕ, zero, suc, ◌+◌, ◌<◌, ◌≤◌, List, [], ◌∷◌, ◌++◌, length, refl, sym, ap, subst, ◌∙◌, arith, inl, inr, take, get_or, add-one}
 use Rattle.std.proofs.lemmas.Bool.{cases_lt}
 use Rattle.squall_key.specs.Keys.{top}
 use Rattle.squall_plan.specs.declared.range.PlanRange.{PlanRange}
@@ -8,7 +8,7 @@ use Rattle.squall_blocks.specs.EntriesLaws.{beyond_first, beyond_next, up_to_fir
 use Rattle.squall_table.specs.Tables.{leg_of}
 use Rattle.squall_table.specs.Legs.{Differs, Legs}
 use Rattle.squall_table.specs.LegLaws.{legs_up, legs_as, legs_append}
-use Rattle.squall_table.specs.LegEntries.{legs_from, entries_of, legs_beyond}
+use Rattle.squall_table.specs.LegEntries.{legs_from, entries_of}
 
 -- ---- there and back
 

@@ -16,3 +16,4 @@ mod Patched
 mod Entered
 mod Walked
 mod Renewed
+mod Renewals

@@ -1,10 +1,8 @@
 -- Walks over the entries of a table.
-use Rattle.std.proofs.Common.{◌≡◌, ℕ, ◌+◌, ◌-◌, ◌<◌, ◌≤◌, min, Bool, true, false, cond, List, [], ◌∷◌, Some, None, length, get_or, drop, refl, sym, ap, subst, ◌∙◌, arith, inl, inr}
+use Rattle.std.proofs.Common.{◌≡◌, ℕ, ◌+◌, ◌-◌, ◌<◌, ◌≤◌, min, true, cond, List, [], ◌∷◌, Some, None, drop, refl, sym, ap, subst, ◌∙◌, arith, inl, inr}
 use Rattle.std.specs.Prelude.{slice_get}
 use Rattle.std.proofs.lemmas.Option.{same_Some, none-some}
-use Rattle.std.specs.List.{count_by}
-use Rattle.std.proofs.lemmas.Bool.{cases_lt, cases_Bool}
-use Rattle.std.proofs.lemmas.Bool.Decides.{nat_tests}
+use Rattle.std.proofs.lemmas.Bool.{cases_lt}
 use Rattle.std.proofs.lemmas.List.Sums.{sum_by-cons}
 use Rattle.squall_key.specs.Keys.{top}
 use Rattle.squall_span.specs.Spans.{Interval, interval}
@@ -19,7 +17,7 @@ use Rattle.squall_table.specs.LegLaws.{grows_more, grows_as, grows_none, canonic
 use Rattle.squall_table.specs.LegEntries.{legs_from, legs_beyond}
 use Rattle.squall_table.specs.Reach.{is_near, legs_near}
 use Rattle.squall_table.specs.Patching.{IsReach}
-use Rattle.squall_table.proofs.Entered.{Found, found, none_beyond, last_is_end, legs_rise, legs_end}
+use Rattle.squall_table.proofs.Entered.{found, none_beyond, last_is_end, legs_rise, legs_end}
 
 same_head : (x y : ℕ × ℕ) (xs ys : List (ℕ × ℕ)) → x ∷ xs ≡ y ∷ ys → x ≡ y
 same_head x y xs ys e = same_Some x y (ap (λ (l : List (ℕ × ℕ)). slice_get l 0) e)

@@ -10,7 +10,7 @@ ghost use Rattle.squall_table.specs.Patching.{IsReach};
 
 use crate::legs::push_leg;
 use crate::table::{Leg, bottom};
-use squall_blocks::{Blocks, Entries};
+use squall_blocks::{BlocksRef, Entries};
 use squall_key::{Bound, PartId};
 use std::alloc::{AllocError, Global};
 
@@ -28,7 +28,7 @@ pub(crate) fn entries_of(alloc: Global, legs: &[Leg]) -> Result<Entries<PartId>,
 /// Adds what a table has from `lo` to `hi` at the end. After an error the list may have changed.
 pub(crate) fn copy_entries(
     out: &mut Vec<Leg>,
-    table: &Blocks<PartId>,
+    table: &BlocksRef<'_, PartId>,
     lo: Bound,
     hi: Bound,
 ) -> Result<(), AllocError>
@@ -61,7 +61,7 @@ pub(crate) fn bound_before(bound: Bound) -> Bound
 
 /// The bounds of what goes when the keys from `low` to `high` are renewed: where the leg begins that
 /// has the key before `low`, and where the leg ends that has the key `high`.
-pub(crate) fn reach_of(table: &Blocks<PartId>, low: Bound, high: Bound) -> (Bound, Bound)
+pub(crate) fn reach_of(table: &BlocksRef<'_, PartId>, low: Bound, high: Bound) -> (Bound, Bound)
     requires canonical { IsCanonical (legs_from 0 table.now) }
     requires order { low < high }
     ensures { IsReach table.now low high result.0 result.1 }

@@ -16,7 +16,7 @@ ghost use Rattle.squall_table.specs.Reach.{moves_in};
 use crate::entries::{copy_entries, entries_of, reach_of};
 use crate::routes::{Heard, Routes, first_move, push_routes};
 use crate::table::Leg;
-use squall_blocks::{Blocks, Entries};
+use squall_blocks::{BlocksRef, Entries};
 use squall_course::Course;
 use squall_key::{Bound, PartId};
 use squall_span::Span;
@@ -28,7 +28,7 @@ use std::alloc::{AllocError, Global};
 fn fresh_legs(
     alloc: Global,
     routes: Routes,
-    table: &Blocks<PartId>,
+    table: &BlocksRef<'_, PartId>,
     set: &[Span],
     lo: Bound,
     hi: Bound,
@@ -88,7 +88,7 @@ pub(crate) struct Renewal {
 /// a key with the set or borders on it, and end at the last, so no others need be joined.
 pub(crate) fn renew(
     alloc: Global,
-    table: &Blocks<PartId>,
+    table: &BlocksRef<'_, PartId>,
     course: &Course,
     heard: Heard,
     set: &[Span],

@@ -4,7 +4,7 @@ ghost use Rattle.std.specs.Prelude.{◌≤◌, OnOk};
 ghost use Rattle.squall_plan.specs.Ranges.{owner_of, IsCanonical};
 ghost use Rattle.squall_table.specs.Legs.{Grows};
 
-use crate::search::{end_near, place_near};
+use crate::search::{end_of, place_of};
 use crate::table::Leg;
 use squall_key::{Bound, PartId};
 use squall_span::Span;
@@ -38,12 +38,10 @@ pub(crate) fn push_leg(
     Ok(())
 }
 
-/// Adds what a table has from `lo` to `hi` at the end. Their legs are looked for first at the place
-/// `at`. After an error the list may have changed.
+/// Adds what a plan has from `lo` to `hi` at the end. After an error the list may have changed.
 pub(crate) fn copy_legs(
     out: &mut Vec<Leg>,
     legs: &[Leg],
-    at: usize,
     lo: Bound,
     hi: Bound,
 ) -> Result<(), AllocError>
@@ -54,8 +52,8 @@ pub(crate) fn copy_legs(
     if lo.rank() == hi.rank() {
         return Ok(());
     }
-    let first = place_near(legs, at, lo);
-    let last = end_near(legs, first, hi);
+    let first = place_of(legs, lo);
+    let last = end_of(legs, hi);
     let head = legs[first];
     if last <= first {
         push_leg(out, lo, hi, head.part)?;

@@ -19,6 +19,7 @@ mod near;
 mod news;
 mod patch;
 mod routes;
+mod runs;
 mod search;
 mod single;
 mod table;

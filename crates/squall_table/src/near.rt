@@ -8,7 +8,7 @@ ghost use Rattle.squall_table.specs.LegEntries.{legs_from};
 ghost use Rattle.squall_table.specs.Reach.{is_near, legs_near};
 
 use crate::entries::bound_before;
-use squall_blocks::Blocks;
+use squall_blocks::BlocksRef;
 use squall_key::{Bound, PartId};
 use squall_span::SpanSet;
 
@@ -29,7 +29,12 @@ fn is_near(set: &SpanSet, lo: Bound, hi: Bound) -> bool
 
 /// How many legs from `from` to `to` are taken up for the set: each of them shares a key with it,
 /// or borders on a span of it, and is counted once.
-pub(crate) fn near_count(table: &Blocks<PartId>, set: &SpanSet, from: Bound, to: Bound) -> usize
+pub(crate) fn near_count(
+    table: &BlocksRef<'_, PartId>,
+    set: &SpanSet,
+    from: Bound,
+    to: Bound,
+) -> usize
     requires canonical { IsCanonical (legs_from 0 table.now) }
     requires begins { last_from 0 (up_to from table.now) ≡ from }
     ensures { result ≤ legs_near set.now (legs_from 0 table.now) }

@@ -1,57 +1,32 @@
 //! Patches of route tables.
 
-ghost use Rattle.std.specs.Prelude.{◌≡◌, ℕ, ◌<◌, ◌≤◌, ◌+◌, ◌^◌, false, length, IfOk, OnOk, OnErr};
+ghost use Rattle.std.specs.Prelude.{◌≡◌, ℕ, ◌<◌, ◌≤◌, ◌+◌, ◌^◌, false, OnOk, OnErr};
 ghost use Rattle.squall_key.specs.Keys.{top};
 ghost use Rattle.squall_span.specs.Spans.{has, IsSet};
 ghost use Rattle.squall_plan.specs.Ranges.{owner_of};
 ghost use Rattle.squall_course.specs.Moves.{moves_of};
 ghost use Rattle.squall_board.specs.Boards.{board_join, report_board, says};
-ghost use Rattle.squall_blocks.specs.Entries.{RiseFrom, last_from, replaced};
 ghost use Rattle.squall_table.specs.Tables.{IsTable};
 ghost use Rattle.squall_table.specs.Touched.{WasTable, is_touched};
 ghost use Rattle.squall_table.specs.Reach.{moves_in, reach};
 ghost use Rattle.squall_table.specs.News.{news_board};
 
-use crate::fresh::{Renewal, know_moves, renew};
+use crate::fresh::{know_moves, renew};
 use crate::meter::Meter;
 use crate::near::near_count;
 use crate::news::{News, take_news};
 use crate::routes::Heard;
+use crate::runs::renew_and_take;
 use crate::single::{reported_span, touched_span};
 use crate::table::RouteTable;
 use crate::touch::{touched, touched_by_report};
-use squall_blocks::{Blocks, Prepared};
+use squall_blocks::{Blocks, Draft};
 use squall_board::{Board, Delta};
 use squall_course::Course;
-use squall_key::PartId;
 use squall_report::Report;
 use squall_span::{Span, SpanSet};
-use std::alloc::{AllocError, Global};
+use std::alloc::AllocError;
 use std::mem::replace;
-
-/// Takes the legs out, with what renews them prepared. An error means that an allocation failed: the
-/// legs are then back.
-fn prepare(
-    alloc: Global,
-    legs: &mut Blocks<PartId>,
-    made: &Renewal,
-) -> Result<Prepared<PartId>, AllocError>
-    requires some { 0 < length legs.old }
-    requires rise { RiseFrom made.now.lo made.now.fresh }
-    requires last { last_from made.now.lo made.now.fresh ≤ made.now.hi }
-    ensures before { IfOk result (λ p. p.0 ≡ legs.old) }
-    ensures after { IfOk result (λ p. p.1 ≡ replaced made.now.lo made.now.hi made.now.fresh legs.old) }
-    ensures err { OnErr result (legs.new ≡ legs.old) }
-{
-    let whole = replace(legs, Blocks::new(alloc));
-    match Prepared::of(alloc, whole, made.lo, made.hi, &made.fresh) {
-        Ok(ready) => Ok(ready),
-        Err(whole) => {
-            *legs = whole;
-            Err(AllocError)
-        }
-    }
-}
 
 impl RouteTable {
     /// Makes the table that of the board, where it is that of an older board whose routes differ at
@@ -84,8 +59,9 @@ impl RouteTable {
             return Ok(());
         }
         let alloc = self.legs.allocator();
-        let made = renew(alloc, &self.legs, course, Heard::Board(board), spans)?;
-        let entries = near_count(&self.legs, set, made.lo, made.hi);
+        let table = self.legs.lent();
+        let made = renew(alloc, &table, course, Heard::Board(board), spans)?;
+        let entries = near_count(&table, set, made.lo, made.hi);
         self.legs.replace(alloc, made.lo, made.hi, &made.fresh)?;
         meter.count += made.moves as u64;
         meter.count = meter.count.saturating_add(entries as u64);
@@ -93,7 +69,7 @@ impl RouteTable {
     }
 
     /// The board whose table this is takes the news, and the table is patched for the spans, whose keys
-    /// are those that the news touch: both, or neither where an allocation fails.
+    /// are those that the news touch: both, or neither if an allocation fails.
     fn absorb_touched(
         &mut self,
         course: &Course,
@@ -113,25 +89,23 @@ impl RouteTable {
         if spans.is_empty() {
             return take_news(board, news);
         }
-        // Every key of the set has come, once the news are taken.
         let alloc = self.legs.allocator();
-        let made = renew(alloc, &self.legs, course, Heard::All, spans)?;
-        let ready = prepare(alloc, &mut self.legs, &made)?;
-        match take_news(board, news) {
+        let mut draft = Draft::of(replace(&mut self.legs, Blocks::new(alloc)));
+        match renew_and_take(&mut draft, course, board, news, spans) {
             Ok(()) => {
-                self.legs = ready.apply();
+                self.legs = draft.keep();
                 Ok(())
             }
             Err(error) => {
-                self.legs = ready.cancel();
+                self.legs = draft.undo();
                 Err(error)
             }
         }
     }
 
     /// Merges the delta into the board whose table this is, and patches the table for what the delta
-    /// touches: both, or neither where an allocation fails. What can fail for the table is done
-    /// before the merge, so that neither is ever copied.
+    /// touches: both, or neither if an allocation fails. The table is patched first. If the board
+    /// then fails, the patch is undone, which needs no memory. Neither is ever copied.
     pub fn absorb(
         &mut self,
         course: &Course,
@@ -153,8 +127,8 @@ impl RouteTable {
 
     /// Takes the report into the board whose table this is, and patches the table for what the report
     /// touches: of a load the keys that its place awaits, of a completion all that its place awaits,
-    /// and of other reports none. Board and table change together, or neither does: where an
-    /// allocation fails, or where the count of an issue's owners is full, both are unchanged.
+    /// and of other reports none. Board and table change together, or neither does: if an allocation
+    /// fails, or the count of an issue's owners is full, both are unchanged.
     ///
     /// It does what [`RouteTable::absorb`] does of the report's board, which is not made.
     pub fn take(

@@ -158,11 +158,11 @@ pub(crate) fn push_routes(
     while at < moves.len() && moves[at].span.lo().rank() < hi.rank() {
         let moved = moves[at];
         let start = moved.span.lo().max(reach);
-        copy_legs(out, routes.legs, 0, reach, start)?;
+        copy_legs(out, routes.legs, reach, start)?;
         reach = moved.span.hi().min(hi);
         push_move(out, &moved, routes.number, routes.heard, start, reach)?;
         at += 1;
     }
-    copy_legs(out, routes.legs, 0, reach, hi)?;
+    copy_legs(out, routes.legs, reach, hi)?;
     Ok(at)
 }

@@ -1,6 +1,6 @@
 //! Searches for the leg of a key.
 
-ghost use Rattle.std.specs.Prelude.{◌≡◌, ◌<◌, ◌≤◌, ◌*◌, ◌-◌, length, IsTrue};
+ghost use Rattle.std.specs.Prelude.{◌≡◌, ◌<◌, ◌≤◌, ◌*◌, ◌-◌, length};
 ghost use Rattle.squall_key.specs.Keys.{top};
 ghost use Rattle.squall_plan.specs.Ranges.{IsCanonical};
 ghost use Rattle.squall_table.specs.Legs.{IsAt, IsAmong, EndsAt};
@@ -91,51 +91,6 @@ pub(crate) fn place_of(legs: &[Leg], key: Bound) -> usize
     ensures { IsAt legs.now key result }
 {
     place_among(legs, 0, legs.len(), key)
-}
-
-/// Whether the leg at a place has the key.
-#[inline(always)]
-fn has_at(legs: &[Leg], at: usize, key: Bound) -> bool
-    ensures { IsTrue result → IsAt legs.now key at }
-{
-    if at >= legs.len() {
-        return false;
-    }
-    let span = legs[at].span;
-    span.lo().rank() <= key.rank() && key.rank() < span.hi().rank()
-}
-
-/// Where the leg of a key stands: the one at the place where it is looked for first, the one behind
-/// it, or another.
-pub(crate) fn place_near(legs: &[Leg], at: usize, key: Bound) -> usize
-    requires canonical { IsCanonical legs.now }
-    requires below { key < top }
-    ensures { IsAt legs.now key result }
-{
-    if has_at(legs, at, key) {
-        return at;
-    }
-    let behind = at.saturating_add(1);
-    if has_at(legs, behind, key) {
-        return behind;
-    }
-    place_of(legs, key)
-}
-
-/// Where the leg of the key before a bound stands: the one at the place where it is looked for
-/// first, or another.
-pub(crate) fn end_near(legs: &[Leg], at: usize, bound: Bound) -> usize
-    requires canonical { IsCanonical legs.now }
-    requires above { 0 < bound }
-    ensures { EndsAt legs.now bound result }
-{
-    if at < legs.len() {
-        let span = legs[at].span;
-        if span.lo().rank() < bound.rank() && bound.rank() <= span.hi().rank() {
-            return at;
-        }
-    }
-    end_of(legs, bound)
 }
 
 /// Where the leg of the key before a bound stands.

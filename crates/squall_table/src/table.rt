@@ -112,7 +112,7 @@ impl RouteTable {
         ensures { IfOk result (λ legs. AreLegs (owner_of self.now) span.now.lo span.now.hi legs.items) }
     {
         let mut legs = Vec::new(alloc);
-        copy_entries(&mut legs, &self.legs, span.lo(), span.hi())?;
+        copy_entries(&mut legs, &self.legs.lent(), span.lo(), span.hi())?;
         Ok(legs)
     }
 }

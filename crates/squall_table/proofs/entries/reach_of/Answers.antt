@@ -1,5 +1,4 @@
-use Rattle.std.proofs.Common.{◌≡◌, ◌≤◌, arith, ap, ◌∙◌, sym}
-use Rattle.squall_key.specs.Keys.{top}
+use Rattle.std.proofs.Common.{arith, ap, ◌∙◌, sym}
 use Rattle.squall_blocks.specs.Entries.{last_from, up_to}
 use Rattle.squall_table.proofs.Walked.{reach_some, reach_all}
 use Rattle.squall_table.proofs.entries.reach_of.Goals as goal

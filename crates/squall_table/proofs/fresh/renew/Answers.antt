@@ -1,5 +1,4 @@
-use Rattle.std.proofs.Common.{◌≡◌, ◌<◌, ◌≤◌, List, [], sym, ap, subst, ◌∙◌, arith}
-use Rattle.squall_key.specs.Keys.{top}
+use Rattle.std.proofs.Common.{List, [], ap, subst, ◌∙◌, arith}
 use Rattle.squall_plan.specs.declared.range.PlanRange.{PlanRange}
 use Rattle.squall_course.specs.declared.moving.Move.{Move}
 use Rattle.squall_plan.specs.Ranges.{owner_of}
@@ -8,7 +7,7 @@ use Rattle.squall_table.specs.Legs.{Grows, said}
 use Rattle.squall_table.specs.LegEntries.{legs_from, entries_of}
 use Rattle.squall_table.specs.Patching.{renewed}
 use Rattle.squall_table.proofs.Moving.{moves_rise_of}
-use Rattle.squall_table.proofs.Patched.{Renews, placed, renews, ends_later, starts_sooner}
+use Rattle.squall_table.proofs.Patched.{placed, renews, ends_later, starts_sooner}
 use Rattle.squall_table.proofs.fresh.renew.Goals as goal
 
 pub reach_of-lo-requires-clause-order : goal.reach_of-lo-requires-clause-order

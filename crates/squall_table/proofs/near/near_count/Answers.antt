@@ -1,6 +1,6 @@
-use Rattle.std.proofs.Common.{◌≤◌, ◌-◌, arith}
+use Rattle.std.proofs.Common.{arith}
 use Rattle.squall_table.specs.LegLaws.{canonical_legs}
-use Rattle.squall_table.proofs.Walked.{counted_none, counted_more, counted_up, counted_all}
+use Rattle.squall_table.proofs.Walked.{counted_none, counted_more, counted_up}
 use Rattle.squall_table.proofs.near.near_count.Goals as goal
 use Rattle.squall_table.proofs.near.near_count.Goals.{then-is_near, else-is_near}
 

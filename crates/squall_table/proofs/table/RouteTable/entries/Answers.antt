@@ -1,4 +1,4 @@
-use Rattle.std.proofs.Common.{ap, ◌∙◌, sym, subst}
+use Rattle.std.proofs.Common.{sym, subst}
 use Rattle.squall_blocks.specs.Entries.{RiseFrom}
 use Rattle.squall_table.proofs.Walked.{all_rise}
 use Rattle.squall_table.proofs.table.RouteTable.entries.Goals as goal

@@ -1,5 +1,4 @@
-use Rattle.std.proofs.Common.{◌<◌, sym, ap, ◌∙◌, arith}
-use Rattle.squall_key.specs.Keys.{top}
+use Rattle.std.proofs.Common.{sym, ap, ◌∙◌, arith}
 use Rattle.squall_plan.specs.Ranges.{owner_of}
 use Rattle.squall_table.proofs.Walked.{found_owner, some_owner}
 use Rattle.squall_table.proofs.table.RouteTable.owner.Goals as goal

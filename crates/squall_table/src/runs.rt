@@ -1,0 +1,80 @@
+//! Tables that are renewed run by run.
+
+ghost use Rattle.std.specs.Prelude.{◌≡◌, ◌<◌, ◌≤◌, length, OnOk, OnErr};
+ghost use Rattle.squall_span.specs.Spans.{IsSet};
+ghost use Rattle.squall_plan.specs.Ranges.{IsCanonical};
+ghost use Rattle.squall_board.specs.Takes.{TakesBoard};
+ghost use Rattle.squall_table.specs.declared.routes.Heard.TheVariants.{All};
+ghost use Rattle.squall_table.specs.LegEntries.{legs_from};
+ghost use Rattle.squall_table.specs.Legs.{said};
+ghost use Rattle.squall_table.specs.News.{news_board};
+ghost use Rattle.squall_table.specs.Patching.{IsRenewed};
+
+use crate::fresh::renew;
+use crate::news::{News, take_news};
+use crate::routes::Heard;
+use squall_blocks::{BlocksRef, Draft};
+use squall_board::Board;
+use squall_course::Course;
+use squall_key::PartId;
+use squall_span::Span;
+use std::alloc::{AllocError, Global};
+
+/// Where the run ends that begins at a place: its spans end in the block in which the first begins. So
+/// what lies between two of them is little, and all of it is made anew at once.
+fn run_end(table: &BlocksRef<'_, PartId>, spans: &[Span], at: usize) -> usize
+    requires { at < length spans.now }
+    ensures some { at < result }
+    ensures within { result ≤ length spans.now }
+{
+    let stop = table.block_end(spans[at].lo());
+    let mut end = at + 1;
+    while end < spans.len() && spans[end].hi().rank() < stop.rank() {
+        end += 1;
+    }
+    end
+}
+
+/// Renews the legs for the keys of the spans, each of which has come, run by run. It fails only if an
+/// allocation fails: some runs are then renewed.
+fn renew_runs(
+    alloc: Global,
+    draft: &mut Draft<PartId>,
+    course: &Course,
+    spans: &[Span],
+) -> Result<(), AllocError>
+    requires table { IsCanonical (legs_from 0 draft.old.1) }
+    requires set { IsSet spans.now }
+    ensures before { draft.new.0 ≡ draft.old.0 }
+    ensures legs { OnOk result (IsRenewed course.now (said All) spans.now (legs_from 0 draft.old.1) (legs_from 0 draft.new.1)) }
+{
+    let mut at = 0;
+    while at < spans.len() {
+        let table = draft.lent();
+        let end = run_end(&table, spans, at);
+        let made = renew(alloc, &table, course, Heard::All, &spans[at..end])?;
+        draft.replace(alloc, made.lo, made.hi, &made.fresh)?;
+        at = end;
+    }
+    Ok(())
+}
+
+/// Renews the legs for the keys of the spans, each of which has come once the board has taken the news,
+/// which it does then. An error leaves the board as it was.
+pub(crate) fn renew_and_take(
+    draft: &mut Draft<PartId>,
+    course: &Course,
+    board: &mut Board,
+    news: News,
+    spans: &[Span],
+) -> Result<(), AllocError>
+    requires table { IsCanonical (legs_from 0 draft.old.1) }
+    requires set { IsSet spans.now }
+    ensures before { draft.new.0 ≡ draft.old.0 }
+    ensures legs { OnOk result (IsRenewed course.now (said All) spans.now (legs_from 0 draft.old.1) (legs_from 0 draft.new.1)) }
+    ensures takes { OnOk result (TakesBoard board.old (news_board news.entry) board.new) }
+    ensures err { OnErr result (board.new ≡ board.old) }
+{
+    renew_runs(draft.allocator(), draft, course, spans)?;
+    take_news(board, news)
+}
