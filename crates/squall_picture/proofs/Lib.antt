@@ -1,0 +1,4 @@
+pub mod Columns
+pub mod Shares
+pub mod Swatches
+mod Texts
