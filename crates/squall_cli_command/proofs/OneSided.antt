@@ -265,4 +265,5 @@ built_side a h words top subs =
     level_side a.top top (names_of a) h words (is_some (entered a stop)) (entered_fault a stop) (entered_side a stop subs)
 
 pub squall_side : (words : List Text) → IsOneSided (fault_of squall_app words)
-squall_side words = built_side (built squall_app) nothing_held (argument_words squall_app words) refl (refl, (refl, (refl, (refl, tt))))
+squall_side words = built_side (built squall_app) nothing_held (argument_words squall_app words) refl
+    (refl, (refl, (refl, (refl, (refl, (refl, (refl, (refl, (refl, (refl, (refl, tt)))))))))))

@@ -2,19 +2,19 @@
 use Rattle.std.specs.Prelude.{◌≡◌, ℕ, Bool, true, false, not, IsTrue, List, [], ◌∷◌, ◌++◌}
 use Rattle.std.specs.Prelude.{Option, Some, None, unwrap_or, codes, map, string_bytes, if◌then◌else◌}
 use Rattle.std.specs.List.{list_any}
+use Rattle.std.specs.Option.{option_map_or}
 use Rattle.std.specs.Str.{bytes_eq}
 use Rattle.std.specs.Borrow.{Bor}
-use Rattle.clap.specs.Words.{App, Shape, Rule, Row, Text, Kinds, new_app, new_rule, with_rule, with_subcommand, subcommand_of, first_of, fault_of}
+use Rattle.clap.specs.Words.{App, Shape, Row, Text, Kinds, new_app, with_rule, with_subcommand, subcommand_of, first_of, fault_of}
 use Rattle.clap.specs.Simple.{on_top}
-use Rattle.clap.specs.declared.builder.ArgAction.TheVariants.{Set}
 use Rattle.clap.specs.declared.error.kind.ErrorKind.{ErrorKind}
 use Rattle.clap.specs.declared.error.kind.ErrorKind.TheVariants.{DisplayHelp, DisplayVersion}
 use Rattle.squall_cli_command.specs.declared.task.Task.{Task}
-use Rattle.squall_cli_command.specs.declared.task.Task.TheVariants.{Check, Course, Run, Race}
-
--- a file's name, which has to be there
-abbrev pub file_rule : Text → Rule
-file_rule id = record (new_rule id) { required = true; action = Some Set }
+use Rattle.squall_cli_command.specs.declared.task.Task.TheVariants.{Check, Course, Run, Race, Ask}
+use Rattle.squall_cli_command.specs.declared.inquiry.Inquiry.{Inquiry}
+use Rattle.squall_cli_command.specs.Rules.{file_rule}
+use Rattle.squall_cli_command.specs.Asking.{report_shape, board_shape, status_shape, merge_shape, beyond_shape, digest_shape, repair_shape}
+use Rattle.squall_cli_command.specs.Asking.{inquiry_in, arguments_of, words_in}
 
 abbrev pub check_shape : Shape
 check_shape = (with_rule (new_app (codes "check")) (file_rule (codes "PLAN"))).top
@@ -36,9 +36,21 @@ program_app = on_top (λ s. record s { has_version = true; disable_help_subcomma
 abbrev pub plans_app : App
 plans_app = with_subcommand (with_subcommand program_app check_shape) course_shape
 
--- all commands: those about plans, `run FILE` and `race FILE`
+-- and those of scenarios and races: `run FILE` and `race FILE`
+abbrev pub runs_app : App
+runs_app = with_subcommand (with_subcommand plans_app run_shape) race_shape
+
+-- and those of one board: `report WORD..` and `board FILE..`
+abbrev pub reports_app : App
+reports_app = with_subcommand (with_subcommand runs_app report_shape) board_shape
+
+-- and those of several: `status OLD NEW [FILE..]` and `merge FILE..`
+abbrev pub boards_app : App
+boards_app = with_subcommand (with_subcommand reports_app status_shape) merge_shape
+
+-- all commands: also those between two boards, `beyond A B`, `digest A` and `repair A DIGEST`
 abbrev pub squall_app : App
-squall_app = with_subcommand (with_subcommand plans_app run_shape) race_shape
+squall_app = with_subcommand (with_subcommand (with_subcommand boards_app beyond_shape) digest_shape) repair_shape
 
 -- `help` and what follows it are read as what follows it and `--help`: `help run` as `run --help`
 abbrev pub plain_words : List Text → List Text
@@ -53,24 +65,30 @@ pub data Job : Type 0 where
   course : List ℕ → List ℕ → Job
   run : List ℕ → Job
   race : List ℕ → Job
+  ask : Inquiry → List (List ℕ) → Job
 
 abbrev pub job_seen : Task → Job
 job_seen (Check plan) = check (string_bytes plan)
 job_seen (Course old new) = course (string_bytes old) (string_bytes new)
 job_seen (Run file) = run (string_bytes file)
 job_seen (Race file) = race (string_bytes file)
+job_seen (Ask inquiry words) = ask inquiry (map string_bytes words.items)
 
 -- the file that stands for an argument: words without one that has to be there have a fault
 abbrev pub file_in : Text → List Row → List ℕ
 file_in id rows = unwrap_or (first_of id rows) []
 
--- the job of a command's name and entries
-abbrev pub job_in : Text → List Row → Job
-job_in name rows =
+-- the job of the name and the entries of a command that asks nothing of board files
+abbrev pub file_job_in : Text → List Row → Job
+file_job_in name rows =
     if bytes_eq name (codes "check") then check (file_in (codes "PLAN") rows)
     else (if bytes_eq name (codes "course") then course (file_in (codes "OLD") rows) (file_in (codes "NEW") rows)
     else (if bytes_eq name (codes "race") then race (file_in (codes "FILE") rows)
     else run (file_in (codes "FILE") rows)))
+
+-- the job of a command's name and entries
+abbrev pub job_in : Text → List Row → Job
+job_in name rows = option_map_or (λ inquiry. ask inquiry (words_in (arguments_of inquiry) rows)) (inquiry_in name rows) (file_job_in name rows)
 
 -- without a command it is to run standard input
 abbrev pub job_of : Option (Text × List Row) → Job

@@ -2,13 +2,31 @@
 
 ghost use Rattle.std.specs.Prelude.{◌≢◌, ◌⊎◌, ◌∷◌, [], List, codes};
 ghost use Rattle.clap.specs.Words.{Text};
-ghost use Rattle.squall_cli_command.specs.Line.{Asks, AsksForHelp, IsFaulty, faults_in, check, run};
+ghost use Rattle.squall_cli_command.specs.declared.inquiry.Inquiry.TheVariants.{Report, Board, Status, Waiting, Beyond, Cover};
+ghost use Rattle.squall_cli_command.specs.Line.{Asks, AsksForHelp, IsFaulty, faults_in, check, run, ask};
 
 /// Standard input is run without a command, and by `run -`; it is checked by `check -`.
 pub fn standard_input()
     ensures alone { (name : Text) → Asks (name ∷ []) (run (codes "-")) }
     ensures run { (name : Text) → Asks (name ∷ codes "run" ∷ codes "-" ∷ []) (run (codes "-")) }
     ensures check { (name : Text) → Asks (name ∷ codes "check" ∷ codes "-" ∷ []) (check (codes "-")) }
+{}
+
+/// The words after `report` and after `board` are those of the inquiry, in their order.
+pub fn words_of_boards()
+    ensures report { (name : Text) → Asks (name ∷ codes "report" ∷ codes "opened" ∷ codes "1" ∷ codes "2" ∷ [])
+        (ask Report (codes "opened" ∷ codes "1" ∷ codes "2" ∷ [])) }
+    ensures board { (name : Text) → Asks (name ∷ codes "board" ∷ codes "b" ∷ codes "-" ∷ []) (ask Board (codes "b" ∷ codes "-" ∷ [])) }
+{}
+
+/// A flag is no word of the inquiry, and changes what is asked.
+pub fn flags_of_boards()
+    ensures status { (name : Text) → Asks (name ∷ codes "status" ∷ codes "o" ∷ codes "n" ∷ codes "b" ∷ [])
+        (ask Status (codes "o" ∷ codes "n" ∷ codes "b" ∷ [])) }
+    ensures waiting { (name : Text) → Asks (name ∷ codes "status" ∷ codes "--waiting" ∷ codes "o" ∷ codes "n" ∷ [])
+        (ask Waiting (codes "o" ∷ codes "n" ∷ [])) }
+    ensures beyond { (name : Text) → Asks (name ∷ codes "beyond" ∷ codes "a" ∷ codes "b" ∷ []) (ask Beyond (codes "a" ∷ codes "b" ∷ [])) }
+    ensures quiet { (name : Text) → Asks (name ∷ codes "beyond" ∷ codes "a" ∷ codes "b" ∷ codes "--quiet" ∷ []) (ask Cover (codes "a" ∷ codes "b" ∷ [])) }
 {}
 
 /// Words that have a fault ask for help or are bad, and never both.

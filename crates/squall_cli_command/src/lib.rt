@@ -4,10 +4,14 @@
 //! Its tests are in `crates/squall_test_lines/src/command.rt`.
 #![tactic(auto)]
 
+mod boards;
+mod exchange;
+mod inquiry;
 pub mod laws;
 mod line;
 mod parser;
 mod task;
 
+pub use inquiry::Inquiry;
 pub use line::{command, message};
 pub use task::{LineFault, Task};

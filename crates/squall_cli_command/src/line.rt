@@ -3,10 +3,11 @@
 ghost use Rattle.std.specs.Prelude.{◌≡◌, ◌≢◌, ◌↔◌, ◌++◌, [], not, codes, string_bytes, IsTrue, IfOk, Err};
 ghost use Rattle.std.specs.Io.{StartsWith};
 ghost use Rattle.clap.specs.Words.{kind_of, found_of, rows_of, subcommand_rows_of};
-ghost use Rattle.squall_cli_command.specs.Line.{job_of, job_in, job_seen, file_in, words_of, plain_words};
+ghost use Rattle.squall_cli_command.specs.Line.{job_of, job_in, file_job_in, job_seen, file_in, words_of, plain_words};
 ghost use Rattle.squall_cli_command.specs.Line.{faults_in, shows_help, title, Asks, AsksForHelp, IsFaulty};
 ghost use Rattle.squall_cli_command.specs.declared.task.LineFault.TheVariants.{Help, Bad, NoMemory};
 
+use crate::inquiry::{inquiry_of, inquiry_words};
 use crate::parser::{TITLE, parser};
 use crate::task::{LineFault, Task};
 use clap::error::ErrorKind;
@@ -24,9 +25,9 @@ fn file(alloc: Global, matches: &ArgMatches, id: &str) -> Result<String, AllocEr
     }
 }
 
-/// The task of a command.
-fn task_in(alloc: Global, name: &str, matches: &ArgMatches) -> Result<Task, AllocError>
-    ensures { IfOk result (λ task. job_seen task ≡ job_in name.now (rows_of (found_of matches.now))) }
+/// The task of a command that asks nothing of board files.
+fn file_task_in(alloc: Global, name: &str, matches: &ArgMatches) -> Result<Task, AllocError>
+    ensures { IfOk result (λ task. job_seen task ≡ file_job_in name.now (rows_of (found_of matches.now))) }
 {
     if name == "check" {
         return Ok(Task::Check(file(alloc, matches, "PLAN")?));
@@ -40,6 +41,16 @@ fn task_in(alloc: Global, name: &str, matches: &ArgMatches) -> Result<Task, Allo
         return Ok(Task::Race(file(alloc, matches, "FILE")?));
     }
     Ok(Task::Run(file(alloc, matches, "FILE")?))
+}
+
+/// The task of a command.
+fn task_in(alloc: Global, name: &str, matches: &ArgMatches) -> Result<Task, AllocError>
+    ensures { IfOk result (λ task. job_seen task ≡ job_in name.now (rows_of (found_of matches.now))) }
+{
+    match inquiry_of(name, matches) {
+        Some(inquiry) => Ok(Task::Ask(inquiry, inquiry_words(alloc, inquiry, matches)?)),
+        None => file_task_in(alloc, name, matches),
+    }
 }
 
 /// The task that a parse gave.
@@ -80,11 +91,14 @@ fn plain<'a>(alloc: Global, words: &'a [&'a str]) -> Result<Vec<&'a str>, AllocE
 }
 
 /// What the words of a command line ask for, the program's name first: `check PLAN`,
-/// `course OLD NEW`, `run FILE`, `race FILE`, or without a command to run standard input.
+/// `course OLD NEW`, `run FILE`, `race FILE`, a command over board files, which [`Inquiry`] lists, or
+/// without a command to run standard input.
 ///
 /// `Help` where they ask for help, by `-h`, `--help` or `help`, or for the version, by `-V` or
 /// `--version`; `Bad` where they are no such command line; `NoMemory` where an allocation failed.
 /// [`message`] is then what to show.
+///
+/// [`Inquiry`]: crate::Inquiry
 pub fn command<'a>(alloc: Global, words: &'a [&'a str]) -> Result<Task, LineFault>
     // The task and its files are those that the words ask for.
     ensures task { IfOk result (λ task. Asks (words_of words.entry.now) (job_seen task)) }

@@ -3,8 +3,12 @@
 ghost use Rattle.std.specs.Prelude.{◌≡◌, IfOk, false};
 ghost use Rattle.clap.specs.Words.{app_of, shape_of, rule_of};
 ghost use Rattle.clap.specs.declared.builder.command.Command.TheViews.{out-Command as fields_of};
-ghost use Rattle.squall_cli_command.specs.Line.{squall_app, plans_app, program_app, check_shape, course_shape, run_shape, race_shape, file_rule};
+ghost use Rattle.squall_cli_command.specs.Line.{squall_app, boards_app, reports_app, runs_app, plans_app, program_app};
+ghost use Rattle.squall_cli_command.specs.Line.{check_shape, course_shape, run_shape, race_shape};
+ghost use Rattle.squall_cli_command.specs.Rules.{file_rule};
 
+use crate::boards::{board_command, merge_command, report_command, status_command};
+use crate::exchange::{beyond_command, digest_command, repair_command};
 use clap::{Arg, ArgAction, Command};
 use std::alloc::{AllocError, Global};
 
@@ -24,6 +28,7 @@ Example:
   squall course old.json new.json
   squall run scenario.txt
   squall race race.txt
+  squall status old.json new.json board.bin
 
 squall help COMMAND shows the help of a command: squall help run the lines of a scenario, and
 squall help race those of a race.";
@@ -54,7 +59,7 @@ const RACE: &str = "Lines of a race, which is run once all of them are read:
   # REMARK    is skipped, as is a line without words";
 
 /// A file's name, which has to be there.
-fn file<'a>(alloc: Global, name: &'a str, help: &'a str) -> Arg<'a>
+pub(crate) fn file<'a>(alloc: Global, name: &'a str, help: &'a str) -> Arg<'a>
     ensures rule { rule_of result ≡ file_rule name.entry.now }
     ensures global { result.global ≡ false }
 {
@@ -133,11 +138,39 @@ fn with_plans<'a>(alloc: Global) -> Result<Command<'a>, AllocError>
         .subcommand(course_command(alloc)?)
 }
 
-/// The program's command line.
-pub(crate) fn parser<'a>(alloc: Global) -> Result<Command<'a>, AllocError>
-    ensures { IfOk result (λ c. app_of c ≡ squall_app) }
+/// And with those of scenarios and races.
+fn with_runs<'a>(alloc: Global) -> Result<Command<'a>, AllocError>
+    ensures { IfOk result (λ c. app_of c ≡ runs_app) }
 {
     with_plans(alloc)?
         .subcommand(run_command(alloc)?)?
         .subcommand(race_command(alloc)?)
+}
+
+/// And with those of one board.
+fn with_reports<'a>(alloc: Global) -> Result<Command<'a>, AllocError>
+    ensures { IfOk result (λ c. app_of c ≡ reports_app) }
+{
+    with_runs(alloc)?
+        .subcommand(report_command(alloc)?)?
+        .subcommand(board_command(alloc)?)
+}
+
+/// And with those of several.
+fn with_boards<'a>(alloc: Global) -> Result<Command<'a>, AllocError>
+    ensures { IfOk result (λ c. app_of c ≡ boards_app) }
+{
+    with_reports(alloc)?
+        .subcommand(status_command(alloc)?)?
+        .subcommand(merge_command(alloc)?)
+}
+
+/// The program's command line.
+pub(crate) fn parser<'a>(alloc: Global) -> Result<Command<'a>, AllocError>
+    ensures { IfOk result (λ c. app_of c ≡ squall_app) }
+{
+    with_boards(alloc)?
+        .subcommand(beyond_command(alloc)?)?
+        .subcommand(digest_command(alloc)?)?
+        .subcommand(repair_command(alloc)?)
 }

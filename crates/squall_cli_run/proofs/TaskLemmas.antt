@@ -12,13 +12,17 @@ use Rattle.squall_cli_lines.specs.declared.Ended.{Ended}
 use Rattle.squall_cli_lines.specs.declared.RunFault.{RunFault}
 use Rattle.squall_cli_lines.specs.declared.RunFault.TheVariants.{Read, Write, NoMemory}
 use Rattle.squall_cli_lines.specs.Script.{silence}
-use Rattle.squall_cli_command.specs.Line.{Job, check, course, run, race, title, Asks, AsksForHelp, IsFaulty, shows_help}
+use Rattle.squall_cli_command.specs.Line.{Job, check, course, run, race, ask, title, Asks, AsksForHelp, IsFaulty, shows_help}
+use Rattle.squall_cli_ask.specs.Files.{KnownFile, Unknown, Missing, Holds, Opens, BeginsFile, IsWholeFile, is_input}
+use Rattle.squall_cli_ask.specs.Reads.{bytes_of, ReadsFrom, ReadsAll}
+use Rattle.squall_cli_ask.specs.Told.{status_of, IsUnread}
+use Rattle.squall_cli_ask.specs.Asked.{question_of, files_of}
+use Rattle.squall_cli_ask.proofs.Inquired.{nothing_inquired}
 use Rattle.squall_cli_run.specs.declared.tasks.Purpose.{Purpose}
 use Rattle.squall_cli_run.specs.declared.tasks.Purpose.TheVariants as purpose
-use Rattle.squall_cli_run.specs.Files.{KnownFile, Unknown, Missing, Holds, Opens, BeginsFile, IsWholeFile, is_input}
 use Rattle.squall_cli_run.specs.Output.{Output, course_of, IsWritten}
-use Rattle.squall_cli_run.specs.Tasks.{status_of, bytes_of, ReadsFrom, ReadsAll, ShowsCourseWith, IsDone, EndsInput, NamesFile, ShowsHelp}
-use Rattle.squall_cli_run.specs.Sources.{IsAnswered, NeedsAll, IsDoneBy, IsUnread}
+use Rattle.squall_cli_run.specs.Tasks.{ShowsCourseWith, IsDone, EndsInput, NamesFile, ShowsHelp}
+use Rattle.squall_cli_run.specs.Sources.{IsAnswered, NeedsAll, IsDoneBy}
 
 -- ---- nothing is read
 
@@ -96,12 +100,14 @@ nothing_done f i o (course old new) status e = (
 )
 nothing_done f i o (run name) status e = (Err NoMemory, [], [], e, Appends-nil o, (0, silence, refl, refl), reads_nothing f f i o o name, λ l. absurd (omega arith))
 nothing_done f i o (race name) status e = (Err NoMemory, [], [], e, Appends-nil o, refl, reads_nothing f f i o o name, λ l. absurd (omega arith))
+nothing_done f i o (ask inquiry words) status e = nothing_inquired (question_of inquiry words) f i o (files_of inquiry words) status e
 
 pub not_ended : (job : Job) (status : ℕ) → 2 < status → EndsInput job status → ⊥
 not_ended (check name) status l h = omega (arith, h.1)
 not_ended (course old new) status l h = omega (arith, h.1)
 not_ended (run name) status l h = omega (arith, h.1)
 not_ended (race name) status l h = omega (arith, h.1)
+not_ended (ask inquiry words) status l h = omega (arith, h.1)
 
 -- ---- courses of which a file was not read
 

@@ -1,75 +1,8 @@
--- What is told where a write to standard error may fail.
-use Rattle.std.proofs.Common.{◌≡◌, ◌⊎◌, inl, inr, ℕ, List, [], ◌++◌, take, drop, Result, Ok, Err, refl, sym, subst, ap, ◌∙◌}
-use Rattle.std.proofs.lemmas.List.{append_assoc, append-nil, take-append-drop}
-use Rattle.std.proofs.KnownBytes.{Appends-trans}
-use Rattle.std.specs.Prelude.{IfErr, OnOk, OnErr}
-use Rattle.squall_cli_device.specs.States.{SinkState, TookBytes, OutputFails, NoWriteFails}
-use Rattle.squall_cli_lines.specs.declared.RunFault.{RunFault}
-use Rattle.squall_cli_lines.specs.declared.RunFault.TheVariants.{Write}
-use Rattle.squall_cli_lines.specs.Heeding.{HeedsWrites}
-use Rattle.squall_cli_lines.proofs.Bytes.{fine_is_no_error}
-use Rattle.squall_cli_run.specs.Tasks.{status_of}
-use Rattle.squall_cli_command.specs.Line.{Job, check, course, run, race}
-use Rattle.squall_cli_run.specs.Told.{fault_told, Says, IsTold, IsNamed}
-
--- of a call that sends a text it is told whether a write failed
-pub unfailed : {T : Type 0} (x : T) (old new : SinkState) → HeedsWrites (Ok x) old new → NoWriteFails old new
-unfailed x old new h = h.1 (λ e. fine_is_no_error x Write e)
-
-pub failed : {T : Type 0} (fault : RunFault) (old new : SinkState) → HeedsWrites {T = T} (Err fault) old new → fault ≡ Write → OutputFails old new
-failed fault old new h is = h.0 (ap Err is)
-
--- a first part was sent, and then a write failed
-pub sent_first : (old new : SinkState) (text rest : List ℕ) (n : ℕ) → TookBytes old new (take n text) → OutputFails old new → Says old new (text ++ rest)
-sent_first old new text rest n sent fails = (
-  take n text,
-  sent,
-  (drop n text ++ rest, ap (λ w. w ++ rest) (sym (take-append-drop n text)) ∙ append_assoc (take n text) (drop n text) rest),
-  inr fails,
-)
-
--- a text was sent as far as the result says
-pub says_sent : (r : Result Unit RunFault) (old new : SinkState) (text : List ℕ)
-    → OnOk r (TookBytes old new text) → OnErr r ((n : ℕ) × TookBytes old new (take n text)) → IfErr r (λ e. e ≡ Write) → HeedsWrites r old new → Says old new text
-says_sent (Ok u) old new text ok err only h = (text, ok, ([], sym (append-nil text)), inl refl)
-says_sent (Err fault) old new text ok err only h =
-    (take err.0 text, err.1, (drop err.0 text, sym (take-append-drop err.0 text)), inr (failed fault old new h only))
-
--- a text was sent whole, and then another was told
-pub sent_later : (old mid new : SinkState) (text rest : List ℕ) → TookBytes old mid text → NoWriteFails old mid → Says mid new rest → Says old new (text ++ rest)
-sent_later old mid new text rest sent same s = (
-  text ++ s.0,
-  Appends-trans old.contents mid.contents new.contents text s.0 sent s.1,
-  (s.2.0, ap (λ w. text ++ w) s.2.1 ∙ sym (append_assoc text s.0 s.2.0)),
-  whole s.0 s.3,
-)
-  where
-    whole : (said : List ℕ) → (said ≡ rest) ⊎ OutputFails mid new → (text ++ said ≡ text ++ rest) ⊎ OutputFails old new
-    whole said (inl e) = inl (ap (λ w. text ++ w) e)
-    whole said (inr fails) = inr (rw (sym same.0, sym same.1) fails)
-
--- ---- what goes with a status
-
--- with more names
-pub told_of : (named named' : List ℕ → Type 0) (status : ℕ) (text : List ℕ)
-    → ((name : List ℕ) → named name → named' name) → IsTold named status text → IsTold named' status text
-told_of named named' status text more (inl outcome) = inl outcome
-told_of named named' status text more (inr (inl file)) = inr (inl (file.0, more file.0 file.1, file.2, file.3))
-told_of named named' status text more (inr (inr words)) = inr (inr words)
-
--- what stopped a read
-pub read_told : {A : Type 0} (r : Result A RunFault) (result : Result A ℕ) (named : List ℕ → Type 0) (old new : SinkState)
-    → IfErr result (λ status. (fault : RunFault) × (r ≡ Err fault) × (status ≡ status_of (Err fault)) × Says old new (fault_told fault))
-    → IfErr result (λ status. (text : List ℕ) × IsTold named status text × Says old new text)
-read_told r (Ok bytes) named old new h = tt
-read_told r (Err status) named old new h = (fault_told h.0, inl (Err h.0, h.2, refl), h.3)
-
--- nothing was told before
-pub told_after : {D : Type 0} (state : D → SinkState) (a b c : D) (P : List ℕ → Type 0) → b ≡ a
-    → (text : List ℕ) × P text × Says (state b) (state c) text → (text : List ℕ) × P text × Says (state a) (state c) text
-told_after state a b c P same told = subst (λ d. (text : List ℕ) × P text × Says (state d) (state c) text) same told
-
--- ---- names
+-- The words of a task, as they stand in memory.
+use Rattle.std.proofs.Common.{◌≡◌, ℕ, List, sym, subst, ◌∙◌}
+use Rattle.squall_cli_command.specs.declared.inquiry.Inquiry.{Inquiry}
+use Rattle.squall_cli_command.specs.Line.{Job, check, course, run, race, ask}
+use Rattle.squall_cli_run.specs.Named.{IsNamed}
 
 -- the names of the files of a course, as they stand in memory
 pub named_course : (job : Job) (old new old' new' : List ℕ) → job ≡ course old' new' → old ≡ old' → new ≡ new'
@@ -86,3 +19,7 @@ named_run job now file is same name named = subst (λ j. IsNamed j name) (sym is
 
 pub named_race : (job : Job) (now file : List ℕ) → job ≡ race file → now ≡ file → (name : List ℕ) → name ≡ now → IsNamed job name
 named_race job now file is same name named = subst (λ j. IsNamed j name) (sym is) (named ∙ same)
+
+-- what holds of the words of an inquiry, as they stand in memory
+pub asked : (P : Job → Type 0) (job : Job) (inquiry : Inquiry) (words words' : List (List ℕ)) → job ≡ ask inquiry words' → words ≡ words' → P (ask inquiry words) → P job
+asked P job inquiry words words' is same h = subst P (sym is) (subst (λ w. P (ask inquiry w)) same h)

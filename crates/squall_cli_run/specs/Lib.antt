@@ -9,9 +9,12 @@ pub use Rattle.squall_cli_words.specs.Endings
 pub use Rattle.squall_cli_scenario.specs.Text
 pub use Rattle.squall_cli_command.specs.Line
 pub use Rattle.squall_cli_race.specs.RaceText
+pub use Rattle.squall_cli_ask.specs.Files
+pub use Rattle.squall_cli_ask.specs.Reads
+pub use Rattle.squall_cli_ask.specs.Told
+pub use Rattle.squall_cli_ask.specs.Asked
 pub mod Output
 pub mod Races
-pub mod Files
 pub mod Tasks
-pub mod Told
+pub mod Named
 pub mod Sources

@@ -1,15 +1,15 @@
 -- What is done with the bytes of one file, for the functions that do the tasks.
-use Rattle.std.specs.Prelude.{◌≡◌, ◌≢◌, ℕ, ◌<◌, List, Result, Err}
+use Rattle.std.specs.Prelude.{◌≡◌, ℕ, ◌<◌, List, Result}
 use Rattle.squall_cli_lines.specs.Script.{IsOutcome}
 use Rattle.squall_cli_lines.specs.declared.Ended.{Ended}
 use Rattle.squall_cli_lines.specs.declared.RunFault.{RunFault}
-use Rattle.squall_cli_lines.specs.declared.RunFault.TheVariants.{Write}
 use Rattle.squall_cli_run.specs.declared.tasks.Purpose.{Purpose}
 use Rattle.squall_cli_run.specs.declared.tasks.Purpose.TheVariants as purpose
 use Rattle.squall_cli_scenario.specs.Text.{IsScript}
 use Rattle.squall_cli_run.specs.Output.{check_of, IsWritten}
 use Rattle.squall_cli_run.specs.Races.{IsRaced}
-use Rattle.squall_cli_run.specs.Tasks.{status_of, Bytes, RunsWith, ChecksWith, RacesWith}
+use Rattle.squall_cli_ask.specs.Reads.{Bytes}
+use Rattle.squall_cli_run.specs.Tasks.{RunsWith, ChecksWith, RacesWith}
 
 -- what is written for the bytes that were read, by how it ended
 abbrev pub IsAnswered : Purpose → Result Ended RunFault → List ℕ → List ℕ → Type 0
@@ -28,7 +28,3 @@ abbrev pub IsDoneBy : Purpose → Bytes → Bytes → List ℕ → ℕ → Type 
 IsDoneBy purpose.Check before after name status = ChecksWith before after name status
 IsDoneBy purpose.Run before after name status = RunsWith before after name status
 IsDoneBy purpose.Race before after name status = RacesWith before after name status
-
--- the status of a fault that comes before anything is written
-abbrev pub IsUnread : ℕ → Type 0
-IsUnread status = (fault : RunFault) × (fault ≢ Write) × (status ≡ status_of (Err fault))

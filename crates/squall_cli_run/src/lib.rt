@@ -1,4 +1,5 @@
-//! What the program does: it runs scenarios and races, checks plans and shows courses.
+//! What the program does: it runs scenarios and races, checks plans, shows courses, and answers what is
+//! asked of board files.
 //!
 //! Its tests are in `crates/squall_test_runs/src/run.rt`.
 #![tactic(auto)]
@@ -12,9 +13,7 @@ ghost use Rattle.squall_cli_scenario.specs.Text.{IsScript};
 
 mod check;
 mod course;
-mod files;
 pub mod laws;
-mod messages;
 mod output;
 mod program;
 mod race;
@@ -22,9 +21,9 @@ mod tasks;
 
 pub use check::check_text;
 pub use course::course_text;
-pub use files::Files;
 pub use program::perform;
 pub use race::race_text;
+pub use squall_cli_ask::Files;
 pub use squall_cli_command::{LineFault, Task, command};
 pub use squall_cli_device::{DeviceFault, Reader, Sink, Source, Writer};
 pub use squall_cli_lines::{Ended, MOST_READS, RunFault};

@@ -4,13 +4,14 @@ ghost use Rattle.std.specs.Prelude.{◌≡◌, ◌≢◌, ◌⊎◌, ◌↔◌, 
 ghost use Rattle.squall_cli_device.specs.States.{FoundEnd, NoReadFails, OutputFails, NoWriteFails};
 ghost use Rattle.squall_cli_command.specs.Line.{Job, words_of, Asks, AsksForHelp, IsFaulty};
 ghost use Rattle.squall_cli_lines.specs.Heeding.{InputFails};
-ghost use Rattle.squall_cli_run.specs.Tasks.{bytes_at, IsDone, EndsInput, NamesFile, ShowsHelp};
-ghost use Rattle.squall_cli_run.specs.Told.{IsTold, NamesIt, Says};
+ghost use Rattle.squall_cli_ask.specs.Reads.{bytes_at};
+ghost use Rattle.squall_cli_ask.specs.Told.{IsTold, Says};
+ghost use Rattle.squall_cli_run.specs.Tasks.{IsDone, EndsInput, NamesFile, AreBad, ShowsHelp};
+ghost use Rattle.squall_cli_run.specs.Named.{NamesIt};
 
-use crate::files::Files;
-use crate::messages::{BAD_WORDS, say, tell_fault, tell_outcome};
 use crate::output::write_output;
 use crate::tasks::do_task;
+use squall_cli_ask::{BAD_WORDS, Files, say, tell_fault, tell_outcome};
 use squall_cli_command::{LineFault, command, message};
 use squall_cli_device::{Sink, Source};
 use squall_cli_lines::{Ended, RunFault};
@@ -59,7 +60,7 @@ fn show_fault<'a, E: Sink>(alloc: Global, words: &'a [&'a str], err: &mut E) -> 
 ///
 /// - 0: the task was done, or `out` has the help or the version that was asked for.
 /// - 1: the input was refused; `out` says why.
-/// - 2: the words ask for nothing that there is; `err` says why.
+/// - 2: the words ask for nothing that there is, or for a report that is none; `err` says why.
 /// - 3: a file can't be opened, a read failed or found no end, or a write failed or took nothing;
 ///   `err` says which.
 /// - 4: an allocation failed, as `err` says.
@@ -101,7 +102,7 @@ pub fn perform<'a, R: Threads + Wait + Sync, F: Files, S: Source, O: Sink, E: Si
     ensures told { (text : List ℕ) × IsTold (NamesIt (words_of words.entry.now)) result text × Says (E.state err.old) (E.state err.new) text }
 
     // Unless an allocation failed, status 2 comes exactly for bad words,
-    ensures bad { result ≢ 4 → (result ≡ 2) ↔ IsFaulty (words_of words.entry.now) }
+    ensures bad { result ≢ 4 → (result ≡ 2) ↔ AreBad (words_of words.entry.now) }
     // and help that is asked for is written, whole at status 0.
     ensures help { AsksForHelp (words_of words.entry.now) → ShowsHelp (O.state out.old) (O.state out.new) result }
 {

@@ -1,23 +1,24 @@
 //! What the program does for a task.
 
-ghost use Rattle.std.specs.Prelude.{◌≡◌, ◌≢◌, ◌⊎◌, ◌&&◌, ℕ, List, true, false, IfErr, IfOk, IsOk, Err};
+ghost use Rattle.std.specs.Prelude.{◌≡◌, ◌≢◌, ◌⊎◌, ◌↔◌, ◌&&◌, ℕ, List, true, false};
 ghost use Rattle.squall_cli_device.specs.States.{FoundEnd, GaveAll, NoReadFails, OutputFails, NoWriteFails, ReadAndWrote};
 ghost use Rattle.squall_cli_lines.specs.Heeding.{InputFails};
 ghost use Rattle.squall_cli_command.specs.Line.{course, job_seen};
-ghost use Rattle.squall_cli_run.specs.Files.{is_input};
-ghost use Rattle.squall_cli_run.specs.Tasks.{status_of, bytes_at, inputs_at, ReadsFrom, ReadsAll, ShowsCourseWith, IsDone, EndsInput, NamesFile};
-ghost use Rattle.squall_cli_run.specs.Told.{IsNamed, IsTold, Says};
-ghost use Rattle.squall_cli_run.specs.Sources.{IsAnswered, NeedsAll, IsDoneBy, IsUnread};
+ghost use Rattle.squall_cli_ask.specs.Files.{is_input};
+ghost use Rattle.squall_cli_ask.specs.Reads.{bytes_at};
+ghost use Rattle.squall_cli_ask.specs.Told.{status_of, IsTold, Says};
+ghost use Rattle.squall_cli_run.specs.Tasks.{ShowsCourseWith, IsDone, EndsInput, NamesFile, IsNoReport};
+ghost use Rattle.squall_cli_run.specs.Named.{IsNamed};
+ghost use Rattle.squall_cli_run.specs.Sources.{IsAnswered, NeedsAll, IsDoneBy};
 
 use crate::check::check_source;
 use crate::course::course_text;
-use crate::files::Files;
-use crate::messages::{tell_outcome, tell_read, tell_unopened};
 use crate::race::race_text;
 use crate::run_text;
+use squall_cli_ask::{Files, answer_inquiry, read_named, tell_outcome, tell_unopened};
 use squall_cli_command::Task;
 use squall_cli_device::{Sink, Source};
-use squall_cli_lines::{Ended, RunFault, read_all};
+use squall_cli_lines::{Ended, RunFault};
 use std::alloc::Global;
 use std::sync::Wait;
 use std::thread::Threads;
@@ -82,37 +83,6 @@ fn answer_file<R: Threads + Wait + Sync, F: Files, S: Source, O: Sink, E: Sink>(
     }
 }
 
-/// The bytes of a file. If they can't be had, it says why, and gives the status.
-fn read_named<F: Files, S: Source, E: Sink>(
-    alloc: Global,
-    name: &str,
-    files: &mut F,
-    input: &mut S,
-    err: &mut E,
-) -> Result<Vec<u8>, u8>
-    ensures bytes { (read : List ℕ)
-        × ReadsFrom (inputs_at (F.known files.old) (S.state input.old)) (inputs_at (F.known files.new) (S.state input.new)) name.now read
-        × IfOk result (λ bytes. (bytes.items ≡ read)
-        × ReadsAll (inputs_at (F.known files.old) (S.state input.old)) (inputs_at (F.known files.new) (S.state input.new)) name.now read) }
-    ensures ended { is_input name.now ≡ true → IsOk result → FoundEnd (S.state input.old) (S.state input.new) }
-    ensures kept { is_input name.now ≡ false → input.new ≡ input.old }
-    ensures files { F.known files.new ≡ F.known files.old }
-    ensures fault { IfErr result IsUnread }
-    ensures device { IfErr result (λ status. status ≡ 3
-        → InputFails (S.state input.old) (S.state input.new) ⊎ (is_input name.now ≡ false)) }
-    ensures heeds { result ≢ Err 3 → NoReadFails (S.state input.old) (S.state input.new) }
-    ensures told { IfErr result (λ status. (text : List ℕ) × IsTold (λ file. file ≡ name.now) status text × Says (E.state err.old) (E.state err.new) text) }
-    ensures quiet { IsOk result → err.new ≡ err.old }
-{
-    if name == "-" {
-        return tell_read(read_all(alloc, input), err);
-    }
-    match files.open(name) {
-        Some(mut file) => tell_read(read_all(alloc, &mut file), err),
-        None => Err(tell_unopened(name, err)),
-    }
-}
-
 /// Whether both names are that of standard input.
 fn are_input(old: &str, new: &str) -> bool
     ensures { result ≡ (is_input old.now && is_input new.now) }
@@ -168,7 +138,7 @@ pub(crate) fn do_task<R: Threads + Wait + Sync, F: Files, S: Source, O: Sink, E:
     ensures ended { EndsInput (job_seen task.now) result → FoundEnd (S.state input.old) (S.state input.new) }
     ensures device { result ≡ 3 → InputFails (S.state input.old) (S.state input.new)
         ⊎ (OutputFails (O.state out.old) (O.state out.new) ⊎ NamesFile (job_seen task.now)) }
-    ensures taken { result ≢ 2 }
+    ensures bad { result ≢ 4 → (result ≡ 2) ↔ IsNoReport (job_seen task.now) }
     ensures heeds { result ≢ 3 → NoReadFails (S.state input.old) (S.state input.new) × NoWriteFails (O.state out.old) (O.state out.new) }
     ensures told { (text : List ℕ) × IsTold (IsNamed (job_seen task.now)) result text × Says (E.state err.old) (E.state err.new) text }
 {
@@ -180,6 +150,9 @@ pub(crate) fn do_task<R: Threads + Wait + Sync, F: Files, S: Source, O: Sink, E:
         }
         Task::Run(file) => (Purpose::Run, file.as_str()),
         Task::Race(file) => (Purpose::Race, file.as_str()),
+        Task::Ask(inquiry, words) => {
+            return answer_inquiry(alloc, *inquiry, words, files, input, out, err);
+        }
     };
     answer_file(rt, alloc, file, files, input, out, err)
 }

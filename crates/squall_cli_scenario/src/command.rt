@@ -35,7 +35,7 @@ pub(crate) enum Command<'a> {
     /// To hear the bytes that these digits write.
     Hear(&'a [u8]),
     Frame,
-    /// To make a world of so many routers.
+    /// To make a world of this many routers.
     World(u32),
     /// To let an event happen in the world.
     Happen(EventWords<'a>),
@@ -131,7 +131,7 @@ fn route_by<'a>(in_world: bool, name: &[u8], rest: &'a [u8]) -> Option<Command<'
     }
 }
 
-/// The command that the first word names, where what stands after it has that command's form.
+/// The command that the first word names, if what follows it has that command's form.
 fn command_by<'a>(in_world: bool, name: &[u8], rest: &'a [u8]) -> Option<Command<'a>>
     ensures { option_map request_seen result ≡ request_by in_world name.now (words_of rest.now) (from_first is_letter rest.now) }
 {
@@ -165,7 +165,7 @@ fn command_by<'a>(in_world: bool, name: &[u8], rest: &'a [u8]) -> Option<Command
     other_line(name, rest)
 }
 
-/// What the line asks for, its line end taken off, where there is a world or none.
+/// What the line asks for, without its line end, if there is a world or none.
 pub(crate) fn read_line(in_world: bool, line: &[u8]) -> Command
     ensures { request_seen result ≡ request_of in_world line.now }
 {

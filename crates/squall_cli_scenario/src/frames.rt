@@ -74,7 +74,7 @@ fn absorb_messages(router: &mut Router, messages: &[Message]) -> Result<(), Allo
     Ok(())
 }
 
-/// Hears the bytes, once both plans are read and where no fault has ended the feed.
+/// Hears the bytes, once both plans are read and if no fault has ended the feed.
 fn hear_piece(
     scenario: &mut Scenario,
     bytes: &[u8],

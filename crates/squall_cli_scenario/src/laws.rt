@@ -10,13 +10,13 @@ pub fn one_script()
     ensures { (lines : List (List ℕ)) (a b : Script) → IsScript lines a → IsScript lines b → a ≡ b }
 {}
 
-/// Where a run is refused, the last line of its text says why a line is bad.
+/// If a run is refused, the last line of its text says why a line is bad.
 pub fn refused_ends_in_a_bad_line()
     ensures { (lines : List (List ℕ)) (script : Script) → IsScript lines script → script.refused ≡ true → EndsInBadLine (text_of script) }
 {}
 
-/// Where a run is not refused, no line of its text says that a line is bad, so the last one does
-/// not; and each line has its answer.
+/// If a run is not refused, no line of its text says that a line is bad, so the last one does not.
+/// Each line has its answer then.
 pub fn fine_has_no_bad_line()
     ensures none { (lines : List (List ℕ)) (script : Script) → IsScript lines script → script.refused ≡ false → HasNoBadLine (text_of script) }
     ensures last { (lines : List (List ℕ)) (script : Script) → IsScript lines script → script.refused ≡ false → EndsInNoBadLine (text_of script) }

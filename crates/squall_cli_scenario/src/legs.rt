@@ -24,7 +24,7 @@ fn add_legs(legs: &[Leg], out: &mut String) -> Result<(), AllocError>
     Ok(())
 }
 
-/// Shows the legs of the span, where it has a key, once both plans are read.
+/// Shows the legs of the span, if it has a key, once both plans are read.
 pub(crate) fn show_legs(
     scenario: &Scenario,
     span: Option<Span>,

@@ -72,7 +72,7 @@ fn new_plan(
     Ok(None)
 }
 
-/// Takes the report, where there is one, once both plans are read.
+/// Takes the report, if there is one, once both plans are read.
 fn take_report(
     scenario: &mut Scenario,
     report: Option<Report>,

@@ -15,7 +15,7 @@ use squall_router::Router;
 use squall_world::{Event, World, WorldFault};
 use std::alloc::{AllocError, Global};
 
-/// The world of the router's first course, with so many routers; or why there is none.
+/// The world of the router's first course, with this many routers; or why there is none.
 fn world_of(alloc: Global, router: &Router, routers: u32) -> Result<World, WorldFault>
     requires { router.now.first.number ≡ 1 }
     ensures ok { IfOk result (λ w. view w ≡ start router.now.first.old router.now.first.new routers) }

@@ -1,8 +1,9 @@
 use Rattle.std.proofs.Common.{inl, inr, Err, refl}
 use Rattle.squall_cli_lines.specs.declared.RunFault.TheVariants.{NoMemory}
-use Rattle.squall_cli_run.specs.Told.{fault_told, IsNamed, NamesIt}
+use Rattle.squall_cli_ask.specs.Told.{fault_told}
+use Rattle.squall_cli_run.specs.Named.{IsNamed, NamesIt}
 use Rattle.squall_cli_run.proofs.TaskLemmas.{nothing_done, device_of_words, help_unwritten}
-use Rattle.squall_cli_run.proofs.Telling.{told_of}
+use Rattle.squall_cli_ask.proofs.Telling.{told_of}
 use Rattle.squall_cli_command.specs.Line.{words_of, job_seen}
 use Rattle.squall_cli_run.proofs.program.perform.Goals as goal
 

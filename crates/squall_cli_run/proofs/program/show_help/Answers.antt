@@ -1,7 +1,7 @@
 use Rattle.std.proofs.Common.{false, inl, Err, refl}
 use Rattle.std.specs.Prelude.{string_bytes}
 use Rattle.squall_cli_lines.specs.declared.RunFault.TheVariants.{NoMemory}
-use Rattle.squall_cli_run.specs.Told.{fault_told}
+use Rattle.squall_cli_ask.specs.Told.{fault_told}
 use Rattle.squall_cli_run.proofs.TaskLemmas.{help_unwritten}
 use Rattle.squall_cli_run.proofs.program.show_help.Goals as goal
 

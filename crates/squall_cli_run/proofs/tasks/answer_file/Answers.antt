@@ -1,5 +1,5 @@
 use Rattle.std.proofs.Common.{sym, ◌∙◌}
-use Rattle.squall_cli_run.specs.Files.{is_input}
+use Rattle.squall_cli_ask.specs.Files.{is_input}
 use Rattle.squall_cli_run.proofs.TaskLemmas.{unopened, answered, matched_true, matched_false, opened_begins, opened_whole}
 use Rattle.squall_cli_run.proofs.tasks.answer_file.Goals as goal
 

@@ -2,8 +2,9 @@ use Rattle.std.proofs.Common.{◌≡◌, inl, inr, refl, ap, sym, ◌∙◌}
 use Rattle.std.proofs.lemmas.Bool.{false≢true}
 use Rattle.squall_cli_run.proofs.TaskLemmas.{first_unread, second_unread, both_input, both_read}
 use Rattle.squall_cli_command.specs.Line.{course}
-use Rattle.squall_cli_run.specs.Told.{IsNamed, IsTold}
-use Rattle.squall_cli_run.proofs.Telling.{told_of, told_after}
+use Rattle.squall_cli_ask.specs.Told.{IsTold}
+use Rattle.squall_cli_run.specs.Named.{IsNamed}
+use Rattle.squall_cli_ask.proofs.Telling.{told_of, told_after}
 use Rattle.squall_cli_run.proofs.tasks.course_files.Goals as goal
 
 pub returns-in-Err-clause-done : goal.returns-in-Err-clause-done

@@ -1,8 +1,8 @@
 //! What is written to standard error, and the status that goes with it.
 
-ghost use Rattle.std.specs.Prelude.{◌≡◌, ℕ, Ok, Err, IfErr, IfOk, IsOk};
-ghost use Rattle.squall_cli_run.specs.Tasks.{status_of};
-ghost use Rattle.squall_cli_run.specs.Told.{fault_told, outcome_told, unopened_told, Says};
+ghost use Rattle.std.specs.Prelude.{◌≡◌, Ok, Err, IfErr, IfOk, IsOk};
+ghost use Rattle.squall_cli_ask.specs.Told.{status_of};
+ghost use Rattle.squall_cli_ask.specs.Told.{fault_told, outcome_told, unopened_told, Says};
 
 use squall_cli_device::Sink;
 use squall_cli_lines::{Ended, RunFault, send_text};
@@ -14,7 +14,7 @@ const FINE: u8 = 0;
 const REFUSED: u8 = 1;
 
 /// The status if the words ask for nothing that there is.
-pub(crate) const BAD_WORDS: u8 = 2;
+pub const BAD_WORDS: u8 = 2;
 
 /// The status if a device failed.
 const DEVICE: u8 = 3;
@@ -23,14 +23,14 @@ const DEVICE: u8 = 3;
 const MEMORY: u8 = 4;
 
 /// Writes to standard error. If that fails too, the status alone tells.
-pub(crate) fn say<E: Sink>(err: &mut E, text: &str)
+pub fn say<E: Sink>(err: &mut E, text: &str)
     ensures told { Says (E.state err.old) (E.state err.new) text.now }
 {
     let _ = send_text(err, text);
 }
 
 /// Says what stopped a task, and gives the status.
-pub(crate) fn tell_fault<E: Sink>(fault: RunFault, err: &mut E) -> u8
+pub fn tell_fault<E: Sink>(fault: RunFault, err: &mut E) -> u8
     ensures status { result ≡ status_of (Err fault) }
     ensures told { Says (E.state err.old) (E.state err.new) (fault_told fault) }
 {
@@ -60,7 +60,7 @@ fn send_unopened<E: Sink>(name: &str, err: &mut E) -> Result<(), RunFault>
 }
 
 /// Says that the file can't be opened, and gives the status.
-pub(crate) fn tell_unopened<E: Sink>(name: &str, err: &mut E) -> u8
+pub fn tell_unopened<E: Sink>(name: &str, err: &mut E) -> u8
     ensures status { result ≡ 3 }
     ensures told { Says (E.state err.old) (E.state err.new) (unopened_told name.now) }
 {
@@ -70,10 +70,7 @@ pub(crate) fn tell_unopened<E: Sink>(name: &str, err: &mut E) -> u8
 }
 
 /// The bytes that were read. If there are none, it says what stopped the read, and gives the status.
-pub(crate) fn tell_read<E: Sink>(
-    read: Result<Vec<u8>, RunFault>,
-    err: &mut E,
-) -> Result<Vec<u8>, u8>
+pub fn tell_read<E: Sink>(read: Result<Vec<u8>, RunFault>, err: &mut E) -> Result<Vec<u8>, u8>
     ensures bytes { IfOk result (λ bytes. read ≡ Ok bytes) }
     ensures fault { IfErr result (λ status. (fault : RunFault) × (read ≡ Err fault) × (status ≡ status_of (Err fault))
         × Says (E.state err.old) (E.state err.new) (fault_told fault)) }
@@ -86,7 +83,7 @@ pub(crate) fn tell_read<E: Sink>(
 }
 
 /// The status of a task that was begun. Says what stopped it, if something did.
-pub(crate) fn tell_outcome<E: Sink>(outcome: Result<Ended, RunFault>, err: &mut E) -> u8
+pub fn tell_outcome<E: Sink>(outcome: Result<Ended, RunFault>, err: &mut E) -> u8
     ensures status { result ≡ status_of outcome }
     ensures told { Says (E.state err.old) (E.state err.new) (outcome_told outcome) }
 {

@@ -1,13 +1,27 @@
--- What is told on standard error, beside the status (this project's command line).
-use Rattle.std.specs.Prelude.{◌≡◌, ◌⊎◌, ℕ, List, [], ◌++◌, Result, Ok, Err, codes}
+-- The status of the program, and what is told with it on standard error (this project's command line).
+use Rattle.std.specs.Prelude.{◌≡◌, ◌≢◌, ◌⊎◌, ℕ, List, [], ◌++◌, Result, Ok, Err, codes}
 use Rattle.std.specs.Io.{StartsWith}
 use Rattle.squall_cli_device.specs.States.{SinkState, TookBytes, OutputFails}
 use Rattle.squall_cli_lines.specs.Script.{IsPrefix}
 use Rattle.squall_cli_lines.specs.Faults.{text_of_run_fault}
 use Rattle.squall_cli_lines.specs.declared.Ended.{Ended}
+use Rattle.squall_cli_lines.specs.declared.Ended.TheVariants.{Fine, Refused}
 use Rattle.squall_cli_lines.specs.declared.RunFault.{RunFault}
-use Rattle.squall_cli_command.specs.Line.{Job, check, course, run, race, Asks}
-use Rattle.squall_cli_run.specs.Tasks.{status_of}
+use Rattle.squall_cli_lines.specs.declared.RunFault.TheVariants.{Read, Write, NoMemory}
+
+-- ---- statuses
+
+-- the status of a task by how it ended
+abbrev pub status_of : Result Ended RunFault → ℕ
+status_of (Ok Fine) = 0
+status_of (Ok Refused) = 1
+status_of (Err Read) = 3
+status_of (Err Write) = 3
+status_of (Err NoMemory) = 4
+
+-- the status of a fault that comes before anything is written
+abbrev pub IsUnread : ℕ → Type 0
+IsUnread status = (fault : RunFault) × (fault ≢ Write) × (status ≡ status_of (Err fault))
 
 -- ---- texts
 
@@ -24,6 +38,10 @@ outcome_told (Err fault) = fault_told fault
 abbrev pub unopened_told : List ℕ → List ℕ
 unopened_told name = codes "squall: cannot open " ++ (name ++ codes "\n")
 
+-- what is told of words that are to be a report and are none
+abbrev pub no_report_told : List ℕ
+no_report_told = codes "error: the words are no report: see squall help report\n"
+
 -- ---- what was told
 
 -- a text was told: standard error took a prefix of it, and all of it unless a write there failed or took no byte
@@ -36,16 +54,3 @@ abbrev pub IsTold : (List ℕ → Type 0) → ℕ → List ℕ → Type 0
 IsTold named status text =
     ((outcome : Result Ended RunFault) × (status ≡ status_of outcome) × (text ≡ outcome_told outcome))
     ⊎ (((name : List ℕ) × named name × (status ≡ 3) × (text ≡ unopened_told name)) ⊎ ((status ≡ 2) × StartsWith text (codes "error: ")))
-
--- ---- names
-
--- the name is that of a file of the task
-abbrev pub IsNamed : Job → List ℕ → Type 0
-IsNamed (check plan) name = name ≡ plan
-IsNamed (course old new) name = (name ≡ old) ⊎ (name ≡ new)
-IsNamed (run file) name = name ≡ file
-IsNamed (race file) name = name ≡ file
-
--- the words ask for a task that has a file of this name
-abbrev pub NamesIt : List (List ℕ) → List ℕ → Type 0
-NamesIt words name = (job : Job) × Asks words job × IsNamed job name

@@ -1,5 +1,5 @@
-use Rattle.squall_cli_run.proofs.Telling.{says_sent}
-use Rattle.squall_cli_run.proofs.messages.say.Goals as goal
+use Rattle.squall_cli_ask.proofs.Telling.{says_sent}
+use Rattle.squall_cli_ask.proofs.messages.say.Goals as goal
 
 pub returns : goal.returns
 returns g c =

@@ -1,7 +1,7 @@
 use Rattle.std.proofs.Common.{[], ◌++◌}
 use Rattle.std.specs.Prelude.{codes}
-use Rattle.squall_cli_run.proofs.Telling.{failed, unfailed, sent_first, sent_later, says_sent}
-use Rattle.squall_cli_run.proofs.messages.send_unopened.Goals as goal
+use Rattle.squall_cli_ask.proofs.Telling.{failed, unfailed, sent_first, sent_later, says_sent}
+use Rattle.squall_cli_ask.proofs.messages.send_unopened.Goals as goal
 
 pub returns-in_err-send_text : goal.returns-in_err-send_text
 returns-in_err-send_text g c =

@@ -2,7 +2,7 @@
 
 ghost use Rattle.std.specs.Prelude.{◌≡◌, ℕ, List};
 ghost use Rattle.std.specs.Option.{option_map};
-ghost use Rattle.squall_cli_run.specs.Files.{KnownFile, Unknown, Opens};
+ghost use Rattle.squall_cli_ask.specs.Files.{KnownFile, Unknown, Opens};
 
 use squall_cli_device::Source;
 

@@ -1,0 +1,3 @@
+pub mod Telling
+mod Gathering
+pub mod Inquired
