@@ -38,6 +38,7 @@ fn asked(task: &Result<Task, LineFault>) -> Asked<'_> {
         Ok(Task::Course(old, new)) => ("course", old.as_str(), new.as_str()),
         Ok(Task::Run(file)) => ("run", file.as_str(), ""),
         Ok(Task::Race(file)) => ("race", file.as_str(), ""),
+        Ok(Task::Ask(_, _)) => ("ask", "", ""),
         Err(LineFault::Help) => ("help", "", ""),
         Err(LineFault::Bad) => ("bad", "", ""),
         Err(LineFault::NoMemory) => ("no memory", "", ""),
@@ -51,20 +52,159 @@ fn words(rt: HostRuntime) {
     }
 }
 
+/// Command lines about board files, what they ask, and the words that they give.
+static ASKED: [(&[&str], Inquiry, &str); 15] = [
+    (
+        &["squall", "report", "opened", "1", "2"],
+        Inquiry::Report,
+        "opened 1 2 ",
+    ),
+    (&["squall", "report", "--", "-x"], Inquiry::Report, "-x "),
+    (&["squall", "board", "a"], Inquiry::Board, "a "),
+    (
+        &["squall", "board", "a", "-", "a"],
+        Inquiry::Board,
+        "a - a ",
+    ),
+    (&["squall", "status", "o", "n"], Inquiry::Status, "o n "),
+    (
+        &["squall", "status", "o", "n", "a", "b"],
+        Inquiry::Status,
+        "o n a b ",
+    ),
+    (
+        &["squall", "status", "--waiting", "o", "n"],
+        Inquiry::Waiting,
+        "o n ",
+    ),
+    (
+        &["squall", "status", "o", "n", "a", "--waiting"],
+        Inquiry::Waiting,
+        "o n a ",
+    ),
+    (&["squall", "merge", "a", "b"], Inquiry::Merge, "a b "),
+    (&["squall", "beyond", "a", "b"], Inquiry::Beyond, "a b "),
+    (
+        &["squall", "beyond", "--quiet", "a", "b"],
+        Inquiry::Cover,
+        "a b ",
+    ),
+    (
+        &["squall", "beyond", "b", "--quiet", "a"],
+        Inquiry::Cover,
+        "b a ",
+    ),
+    (&["squall", "digest", "-"], Inquiry::Digest, "- "),
+    (&["squall", "repair", "a", "d"], Inquiry::Repair, "a d "),
+    (&["squall", "repair", "-", "-"], Inquiry::Repair, "- - "),
+];
+
+/// Command lines about board files that have too few or too many words, or an unknown flag.
+static REFUSED: [&[&str]; 11] = [
+    &["squall", "report"],
+    &["squall", "report", "-x"],
+    &["squall", "board"],
+    &["squall", "status", "o"],
+    &["squall", "status", "--waiting", "--waiting", "o", "n"],
+    &["squall", "merge"],
+    &["squall", "beyond", "a"],
+    &["squall", "beyond", "a", "b", "c"],
+    &["squall", "beyond", "--quiet=yes", "a", "b"],
+    &["squall", "digest", "a", "b"],
+    &["squall", "repair", "a"],
+];
+
+/// The words with a blank after each.
+fn line_of(alloc: Global, words: &[String]) -> Result<String, AllocError> {
+    let mut line = String::new(alloc);
+    for word in words {
+        line.push_str(word.as_str())?;
+        line.push_str(" ")?;
+    }
+    Ok(line)
+}
+
+/// Whether the task asks so of board files.
+fn is_asked(alloc: Global, task: &Task, inquiry: Inquiry, words: &str) -> Result<bool, AllocError> {
+    match task {
+        Task::Ask(asked, given) => Ok(
+            *asked == inquiry && line_of(alloc, given)?.as_str() == words,
+        ),
+        _ => Ok(false),
+    }
+}
+
+#[test]
+fn inquiries(rt: HostRuntime) -> Result<(), Fail> {
+    for (words, inquiry, wanted) in &ASKED {
+        let task = command(rt.alloc(), words).expect(&rt, "a task");
+        assert!(rt; is_asked(rt.alloc(), &task, *inquiry, *wanted)?);
+    }
+    Ok(())
+}
+
+#[test]
+fn refused_inquiries(rt: HostRuntime) {
+    for words in &REFUSED {
+        assert!(rt; asked(&command(rt.alloc(), words)).0 == "bad");
+    }
+}
+
+/// The inquiry of the words, or that memory is short, whichever allocation is refused.
+#[test]
+fn tolerant_inquiries(rt: HostRuntime) {
+    for (words, inquiry, wanted) in &ASKED {
+        if let Ok(task) = command(rt.alloc(), words) {
+            if let Ok(found) = is_asked(rt.alloc(), &task, *inquiry, *wanted) {
+                assert!(rt; found);
+            }
+        }
+    }
+}
+
 /// Command lines, how many lines are shown for each at most, and pieces of these: help names each command with its files, that of
 /// `run` each line of a scenario, and that of `race` each line of a race.
-static SHOWN: [(&[&str], usize, &[&str]); 6] = [
+static SHOWN: [(&[&str], usize, &[&str]); 9] = [
     (
         &["squall", "--help"],
-        40,
+        48,
         &[
             "check",
             "course",
             "run",
             "race",
+            "report",
+            "board",
+            "status",
+            "merge",
+            "beyond",
+            "digest",
+            "repair",
             "squall help run",
             "squall help race",
         ],
+    ),
+    (
+        &["squall", "help", "report"],
+        24,
+        &[
+            "<WORD>...",
+            "  loaded N S P LO HI ",
+            "  done N S P ",
+            "  opened N S ",
+            "  issued N OLD NEW ",
+            "Example:\n  squall report done 1 2 4 >done.bin",
+        ],
+    ),
+    (
+        &["squall", "status", "--help"],
+        24,
+        &["<OLD> <NEW> [FILE]...", "--waiting", "Example:\n"],
+    ),
+    (
+        &["squall", "beyond", "--help"],
+        24,
+        &["<A> <B>", "--quiet", "Example:\n"],
     ),
     (&["squall", "help", "course"], 24, &["<OLD> <NEW>"]),
     (

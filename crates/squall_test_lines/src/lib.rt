@@ -2,6 +2,8 @@
 #![tactic(auto)]
 
 #[cfg(test)]
+mod ask;
+#[cfg(test)]
 mod boards;
 #[cfg(test)]
 mod command;

@@ -12,6 +12,7 @@ use std::sync::Wait;
 use std::test::Fail;
 use std::thread::Threads;
 
+mod asked;
 mod jobs;
 mod program;
 

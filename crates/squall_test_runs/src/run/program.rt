@@ -1,5 +1,6 @@
 //! The program's words: the tasks that they ask for, the files that they name, statuses and texts.
 
+use super::asked::ASKED;
 use super::jobs::{GAP, NEW_CHECKED, OLD, RACE, SHOWN};
 use super::{Drip, Drops};
 use squall_cli_run::{Files, Reader, Source, Writer, perform};
@@ -87,10 +88,10 @@ fn status<R: Threads + Wait + Sync, S: Source + Drop>(
 }
 
 /// How many bytes the output takes, the status, the output, and the first of what is told of faults.
-type Wanted = (usize, u8, &'static str, &'static str);
+pub(super) type Wanted = (usize, u8, &'static str, &'static str);
 
 /// Stands for any output at all.
-const SOME: &str = "some";
+pub(super) const SOME: &str = "some";
 
 /// A writer that stops at that write.
 fn drops(alloc: Global, fails: usize) -> Drops {
@@ -127,15 +128,15 @@ fn is_shown(output: &[u8], wanted: &str) -> bool {
     }
 }
 
-const ALL: usize = usize::MAX;
+pub(super) const ALL: usize = usize::MAX;
 
 const NO_MEMORY: &str = "squall: no memory\n";
 
-const NO_X: &str = "squall: cannot open x\n";
+pub(super) const NO_X: &str = "squall: cannot open x\n";
 
-const NO_READ: &str = "squall: read failed\n";
+pub(super) const NO_READ: &str = "squall: read failed\n";
 
-const NO_WRITE: &str = "squall: write failed\n";
+pub(super) const NO_WRITE: &str = "squall: write failed\n";
 
 /// Words, standard input, and what they bring about. Files are opened in the order of the words.
 static ROWS: [(&[&str], &str, Wanted); 24] = [
@@ -213,16 +214,30 @@ static ROWS: [(&[&str], &str, Wanted); 24] = [
     (&["squall", "--help"], "", (3, 3, SOME, NO_WRITE)),
 ];
 
+/// Whether each row's words bring about what it says.
+fn all_bring<R: Threads + Wait + Sync>(
+    rt: &R,
+    alloc: Global,
+    rows: &'static [(&'static [&'static str], &'static str, Wanted)],
+) -> bool {
+    for (words, text, wanted) in rows {
+        let input = Reader::new(text.as_bytes());
+        if !brings(rt, alloc, words, input, *wanted) {
+            return false;
+        }
+    }
+    true
+}
+
 #[test]
 fn words(rt: HostRuntime) -> Result<(), Fail> {
-    for (words, text, wanted) in &ROWS {
-        let input = Reader::new(text.as_bytes());
-        assert!(rt;
-            brings(&rt, rt.alloc(), words, input, *wanted),
-            "{}",
-            words.len()
-        );
-    }
+    assert!(rt; all_bring(&rt, rt.alloc(), &ROWS));
+    Ok(())
+}
+
+#[test]
+fn inquiries(rt: HostRuntime) -> Result<(), Fail> {
+    assert!(rt; all_bring(&rt, rt.alloc(), &ASKED));
     Ok(())
 }
 
@@ -253,11 +268,16 @@ fn standard_input_that_fails(rt: HostRuntime) -> Result<(), Fail> {
 
 /// Words that bring about a text on standard error, by how many bytes the output takes: the status, the
 /// output, and the first of what is told.
-static TOLD: [(&[&str], Wanted); 5] = [
+static TOLD: [(&[&str], Wanted); 7] = [
     (&["squall", "course", "x", "y"], (ALL, 3, "", NO_X)),
     (&["squall", "check", "-"], (ALL, 3, "", NO_READ)),
     (&["squall", "check", "new.json"], (3, 3, "ran", NO_WRITE)),
     (&["squall", "check"], (ALL, 2, "", "error: ")),
+    (
+        &["squall", "report", "x"],
+        (ALL, 2, "", "error: the words are no report"),
+    ),
+    (&["squall", "board", "new.json", "-"], (ALL, 3, "", NO_READ)),
     (&["squall", "--help"], (0, 3, "", NO_WRITE)),
 ];
 
