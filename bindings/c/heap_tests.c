@@ -72,6 +72,10 @@ static uint32_t feed(squall_router *router) {
     return squall_router_feed(router, LOAD_FRAME, sizeof LOAD_FRAME);
 }
 
+static uint32_t hear(squall_router *router) {
+    return squall_router_hear(router, LOAD_FRAME, sizeof LOAD_FRAME);
+}
+
 static uint32_t gather_repair(squall_router *router) {
     return squall_router_gather_repair(router);
 }
@@ -194,6 +198,10 @@ static void feeds(void) {
     refuse_each(feed);
 }
 
+static void whole_frames(void) {
+    refuse_each(hear);
+}
+
 static void pieces(void) {
     long number = 1;
     answered = 0;
@@ -302,6 +310,7 @@ static const struct test TESTS[] = {
     TEST(openings),
     TEST(issues),
     TEST(feeds),
+    TEST(whole_frames),
     TEST(pieces),
     TEST(boards),
     TEST(digests),

@@ -96,6 +96,7 @@ enum squall_status {
     SQUALL_FRAME_VERSION = 52,
     SQUALL_FRAME_KIND = 53,
     SQUALL_FRAME_TOO_LONG = 54,
+    SQUALL_FRAME_SHORT = 55, /* of squall_router_hear alone: the bytes end within the frame */
     SQUALL_FRAME_COUNT = 56,
     SQUALL_FRAME_RANGE = 57,
     SQUALL_FRAME_ORDER = 58,
@@ -213,6 +214,18 @@ uint32_t squall_router_issued(squall_router *router, uint32_t number, const uint
  * Allocates. */
 uint32_t squall_router_feed(squall_router *router, const uint8_t *bytes, size_t len);
 
+/* Takes one whole frame, no more and no less, for transports that keep messages apart. A delta is
+ * taken as reports; a digest is kept for squall_router_gather_repair. Answers
+ *   SQUALL_OK         the message was taken
+ *   SQUALL_FRAME_..   the bytes are no frame: .._SHORT if they end within it, .._SPARE if bytes follow
+ *                     it or are left in it
+ *   SQUALL_NO_MEMORY  an allocation failed
+ *   SQUALL_CLOSED     there is no router
+ * At all but SQUALL_OK nothing changed, and the next frame may come. It has nothing to do with the
+ * stream of squall_router_feed: what waits there waits on, and a stream that ended takes no bytes, but
+ * frames are still heard. Allocates. */
+uint32_t squall_router_hear(squall_router *router, const uint8_t *frame, size_t len);
+
 /* The partition to ask for the key of that rank; SQUALL_NOWHERE where the rank is no key's or there
  * is no router. Allocates nothing. */
 uint32_t squall_router_route(const squall_router *router, uint64_t rank);
@@ -274,6 +287,11 @@ uint32_t squall_view_status(const squall_view *view);
 
 /* As squall_router_route, of the router at the moment of squall_view_open. Allocates nothing. */
 uint32_t squall_view_route(const squall_view *view, uint64_t rank);
+
+/* Writes the partitions to ask for the keys of `count` ranks to the front of `parts`, as many as there
+ * is room for, and answers how many. Each is what squall_view_route answers. Allocates nothing. */
+size_t squall_view_routes(const squall_view *view, const uint64_t *ranks, size_t count,
+                          uint32_t *parts, size_t room);
 
 /* As squall_router_legs, of that moment. Allocates nothing. */
 size_t squall_view_legs(const squall_view *view, uint64_t lo, uint64_t hi, squall_leg *out,

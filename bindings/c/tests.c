@@ -312,6 +312,54 @@ static bool next_is(squall_router *router, const char *hex) {
     return squall_router_frame(router, got, sizeof got) == len && memcmp(wanted, got, len) == 0;
 }
 
+static uint32_t hear_hex(squall_router *router, const char *hex) {
+    uint8_t bytes[256];
+    return squall_router_hear(router, bytes, bytes_of_hex(hex, bytes, sizeof bytes));
+}
+
+static void whole_frames(void) {
+    squall_router *router = fresh();
+    CHECK(hear_hex(router, LOAD_FRAME) == SQUALL_OK);
+    CHECK(squall_router_route(router, key(2)) == 3);
+    CHECK(hear_hex(router, LOAD_FRAME) == SQUALL_OK);
+    CHECK(hear_hex(router, EMPTY_DELTA) == SQUALL_OK);
+    CHECK(squall_router_gather_repair(router) == SQUALL_NO_DIGEST);
+    CHECK(hear_hex(router, EMPTY_DIGEST) == SQUALL_OK);
+    CHECK(squall_router_gather_repair(router) == SQUALL_OK);
+    CHECK(next_is(router, LOAD_FRAME));
+    drop_router(router);
+}
+
+static void frames_that_are_not_whole(void) {
+    squall_router *router = fresh();
+    char both[256];
+    snprintf(both, sizeof both, "%s%s", EMPTY_DELTA, EMPTY_DELTA);
+    CHECK(hear_hex(router, "") == SQUALL_FRAME_SHORT);
+    CHECK(hear_hex(router, "535101") == SQUALL_FRAME_SHORT);
+    CHECK(hear_hex(router, "5351010100000008") == SQUALL_FRAME_SHORT);
+    CHECK(hear_hex(router, both) == SQUALL_FRAME_SPARE);
+    for (size_t i = 0; i < sizeof BAD_FRAMES / sizeof BAD_FRAMES[0]; i++) {
+        uint32_t fault = hear_hex(router, BAD_FRAMES[i].hex);
+        CHECK(fault == BAD_FRAMES[i].fault);
+    }
+    /* no fault ends anything */
+    CHECK(hear_hex(router, LOAD_FRAME) == SQUALL_OK);
+    CHECK(squall_router_route(router, key(2)) == 3);
+    drop_router(router);
+}
+
+static void a_frame_beside_a_stream(void) {
+    squall_router *router = fresh();
+    CHECK(feed_hex(router, "535101") == SQUALL_OK);
+    CHECK(hear_hex(router, LOAD_FRAME) == SQUALL_OK);
+    CHECK(squall_router_route(router, key(2)) == 3);
+    CHECK(feed_hex(router, "03") == SQUALL_FRAME_KIND);
+    CHECK(feed_hex(router, "") == SQUALL_FAILED);
+    CHECK(hear_hex(router, EMPTY_DIGEST) == SQUALL_OK);
+    CHECK(squall_router_gather_repair(router) == SQUALL_OK);
+    drop_router(router);
+}
+
 static void frames_of_a_board(void) {
     squall_router *router = fresh();
     uint8_t out[64];
@@ -455,6 +503,23 @@ static squall_view *view_of(const squall_router *router) {
 static void drop_view(squall_view *view) {
     squall_view_close(view);
     free(view);
+}
+
+static void routes_of_many_keys(void) {
+    squall_router *router = fresh();
+    CHECK(squall_router_loaded(router, 1, 0, 3, key(2), key(3)) == SQUALL_OK);
+    squall_view *view = view_of(router);
+    const uint64_t ranks[4] = {key(2), key(3), SQUALL_TOP, key(0)};
+    uint32_t parts[4] = {7, 7, 7, 7};
+    CHECK(squall_view_routes(view, ranks, 0, parts, 4) == 0);
+    CHECK(squall_view_routes(view, ranks, 4, parts, 0) == 0);
+    CHECK(parts[0] == 7);
+    CHECK(squall_view_routes(view, ranks, 4, parts, 3) == 3);
+    CHECK(parts[0] == 3 && parts[1] == 2 && parts[2] == SQUALL_NOWHERE && parts[3] == 7);
+    CHECK(squall_view_routes(view, ranks + 3, 1, parts, 4) == 1);
+    CHECK(parts[0] == 1 && parts[1] == 2);
+    drop_view(view);
+    drop_router(router);
 }
 
 static void views_stay_as_they_are(void) {
@@ -612,12 +677,16 @@ static const struct test TESTS[] = {
     TEST(two_frames_cut_anywhere),
     TEST(bytes_that_are_no_frame),
     TEST(a_fault_that_waits_for_its_bytes),
+    TEST(whole_frames),
+    TEST(frames_that_are_not_whole),
+    TEST(a_frame_beside_a_stream),
     TEST(frames_of_a_board),
     TEST(a_clash_in_a_frame),
     TEST(frames_of_digests),
     TEST(a_board_of_two_pieces),
     TEST(routers_that_exchange_boards),
     TEST(routers_that_repair),
+    TEST(routes_of_many_keys),
     TEST(views_stay_as_they_are),
     TEST(an_errand_that_finds_its_key),
     TEST(errands_that_are_lost),

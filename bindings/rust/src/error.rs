@@ -62,13 +62,15 @@ pub enum FrameFault {
     Kind,
     /// The body is to have more than 1,048,576 bytes.
     TooLong,
+    /// The bytes end within the frame. A stream waits for more instead.
+    Short,
     /// The body has too few bytes left for its next item.
     Count,
     /// A field lies outside its limits, or a cell says nothing.
     Range,
     /// An item does not come after the one before it.
     Order,
-    /// Bytes are left in the body after its last item.
+    /// Bytes are left in the body after its last item, or follow a whole frame.
     Spare,
 }
 
@@ -91,6 +93,7 @@ impl Error {
             52 => Error::Frame(FrameFault::Version),
             53 => Error::Frame(FrameFault::Kind),
             54 => Error::Frame(FrameFault::TooLong),
+            55 => Error::Frame(FrameFault::Short),
             56 => Error::Frame(FrameFault::Count),
             57 => Error::Frame(FrameFault::Range),
             58 => Error::Frame(FrameFault::Order),

@@ -59,6 +59,7 @@ unsafe extern "C" {
         len: usize,
     ) -> u32;
     pub(crate) fn squall_router_feed(router: *mut RawRouter, bytes: *const u8, len: usize) -> u32;
+    pub(crate) fn squall_router_hear(router: *mut RawRouter, frame: *const u8, len: usize) -> u32;
     pub(crate) fn squall_router_route(router: *const RawRouter, rank: u64) -> u32;
     pub(crate) fn squall_router_legs(
         router: *const RawRouter,
@@ -79,6 +80,13 @@ unsafe extern "C" {
     pub(crate) fn squall_view_again(view: *const RawView, room: *mut RawView);
     pub(crate) fn squall_view_status(view: *const RawView) -> u32;
     pub(crate) fn squall_view_route(view: *const RawView, rank: u64) -> u32;
+    pub(crate) fn squall_view_routes(
+        view: *const RawView,
+        ranks: *const u64,
+        count: usize,
+        parts: *mut u32,
+        room: usize,
+    ) -> usize;
     pub(crate) fn squall_view_legs(
         view: *const RawView,
         lo: u64,

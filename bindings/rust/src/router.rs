@@ -124,6 +124,19 @@ impl Router {
         self.check(unsafe { ffi::squall_router_feed(router, bytes.as_ptr(), bytes.len()) })
     }
 
+    /// Takes one whole frame, no more and no less, for transports that keep messages apart. It has
+    /// nothing to do with the stream of [`Router::feed`].
+    ///
+    /// # Errors
+    ///
+    /// [`Error::Frame`] if the bytes are no frame; [`Error::NoMemory`]. Nothing has changed then, and
+    /// the next frame may come.
+    pub fn hear(&mut self, frame: &[u8]) -> Result<(), Error> {
+        let router = self.room.get_mut();
+        // SAFETY: the router was opened, and the slice is readable.
+        self.check(unsafe { ffi::squall_router_hear(router, frame.as_ptr(), frame.len()) })
+    }
+
     /// The partition to ask for the key of that rank; none where the rank is no key's.
     pub fn route(&self, key: Rank) -> Option<u32> {
         // SAFETY: the router was opened.

@@ -15,6 +15,9 @@ pub struct View {
 }
 
 impl View {
+    /// No partition: what [`View::routes`] writes for a rank that is no key's.
+    pub const NOWHERE: u32 = ffi::NOWHERE;
+
     /// The view that `open` opens.
     ///
     /// # Safety
@@ -33,6 +36,22 @@ impl View {
         // SAFETY: the view was opened.
         let part = unsafe { ffi::squall_view_route(self.room.get(), key.0) };
         (part != ffi::NOWHERE).then_some(part)
+    }
+
+    /// Writes the partitions to ask for the keys of those ranks to the front of `parts`, as many as it
+    /// holds, and says how many. [`View::NOWHERE`] stands for a rank that is no key's.
+    pub fn routes(&self, keys: &[Rank], parts: &mut [u32]) -> usize {
+        let ranks = keys.as_ptr().cast::<u64>();
+        // SAFETY: the view was opened, a rank is a number, and the places are writable.
+        unsafe {
+            ffi::squall_view_routes(
+                self.room.get(),
+                ranks,
+                keys.len(),
+                parts.as_mut_ptr(),
+                parts.len(),
+            )
+        }
     }
 
     /// The legs of the keys, by rising key: neighbours have different partitions. None where there

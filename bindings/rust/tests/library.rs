@@ -91,6 +91,41 @@ fn legs_of_any_number() -> Result<(), Error> {
 }
 
 #[test]
+fn routes_of_many_keys() -> Result<(), Error> {
+    let mut router = fresh();
+    router.loaded(1, 0, 3, key(2)..key(3))?;
+    let view = router.view()?;
+    let keys = [key(2), key(3), Rank::END, key(0)];
+    let mut parts = [7; 4];
+    assert_eq!(view.routes(&keys, &mut parts[..3]), 3);
+    assert_eq!(parts, [3, 2, View::NOWHERE, 7]);
+    assert_eq!(view.routes(&keys[3..], &mut parts), 1);
+    assert_eq!(parts[0], 1);
+    Ok(())
+}
+
+#[test]
+fn whole_frames() -> Result<(), Error> {
+    let (mut a, mut b) = (fresh(), fresh());
+    a.loaded(1, 0, 3, key(2)..key(3))?;
+    let frames: Vec<Vec<u8>> = a.board()?.collect();
+    let frame = &frames[0];
+    assert_eq!(
+        b.hear(&frame[..frame.len() - 1]),
+        Err(Error::Frame(FrameFault::Short))
+    );
+    assert_eq!(
+        b.hear(&frame.repeat(2)),
+        Err(Error::Frame(FrameFault::Spare))
+    );
+    assert_eq!(b.hear(b"ST"), Err(Error::Frame(FrameFault::Magic)));
+    assert_eq!(b.route(key(2)), Some(1));
+    b.hear(frame)?;
+    assert_eq!(b.route(key(2)), Some(3));
+    Ok(())
+}
+
+#[test]
 fn boards_digests_and_repairs() -> Result<(), Error> {
     let (mut a, mut b) = (fresh(), fresh());
     a.loaded(1, 0, 3, key(2)..key(3))?;

@@ -2,3 +2,5 @@ pub mod Steps
 pub mod CutLegs
 pub mod Joined
 pub mod PieceFrames
+mod Routed
+mod Wholes

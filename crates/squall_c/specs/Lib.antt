@@ -6,6 +6,7 @@ pub use Rattle.squall_report.specs.Facts
 pub use Rattle.squall_board.specs.Boards
 pub use Rattle.squall_board.specs.CourseRoute
 pub use Rattle.squall_wire.specs.Messages
+pub use Rattle.squall_wire.specs.Reading
 pub use Rattle.squall_wire.specs.Hearing
 pub use Rattle.squall_delta.specs.Pieces
 pub use Rattle.squall_delta.specs.Hashes
@@ -17,6 +18,7 @@ pub mod Status
 pub mod Opening
 pub mod Reporting
 pub mod Feeding
+pub mod WholeFrames
 pub mod Frames
 pub mod Showing
 pub mod Views

@@ -1,5 +1,5 @@
 -- Views: what a router of the C library answered at one moment (this project).
-use Rattle.std.specs.Prelude.{◌≡◌, ◌≢◌, ℕ, List, [], Option, None, Some, Result, Ok, Err}
+use Rattle.std.specs.Prelude.{◌≡◌, ◌≢◌, ℕ, List, [], map, take, length, Option, None, Some, Result, Ok, Err}
 use Rattle.std.specs.declared.alloc.AllocError.{AllocError}
 use Rattle.squall_plan.specs.declared.range.PlanRange.{PlanRange}
 use Rattle.squall_plan.specs.Ranges.{owner_of}
@@ -48,6 +48,10 @@ IsSameView old new = IsSameAs old old.view new
 abbrev pub seen : Option View → ℕ → ℕ
 seen None rank = nowhere
 seen (Some v) rank = part_at (owner_of v.table) rank
+
+-- the partitions to ask for the keys of some ranks, as many as the room holds
+abbrev pub routes_that_fit : Option View → List ℕ → List ℕ → List ℕ
+routes_that_fit view ranks room = take (length room) (map (seen view) ranks)
 
 -- the number of the course
 abbrev pub seen_number : Option View → ℕ

@@ -61,7 +61,7 @@ pub unsafe extern "C" fn squall_errand_status(errand: *const CErrand) -> u32
     errand_status(&*(errand as *const ErrandSlot))
 }
 
-/// The partition to ask; 2^32 - 1 where there is no errand.
+/// The partition to ask; 2^32 - 1 if there is no errand.
 #[unsafe(no_mangle)]
 pub unsafe extern "C" fn squall_errand_asked(errand: *const CErrand) -> u32
     ghost s: { ErrandSlot }
@@ -71,8 +71,8 @@ pub unsafe extern "C" fn squall_errand_asked(errand: *const CErrand) -> u32
     asked(&*(errand as *const ErrandSlot))
 }
 
-/// The number of the last reply "moved" that was followed, which the partition that is asked is
-/// told; 0 before the first, and where there is no errand.
+/// The number of the last reply "moved" that was followed. The partition that is asked needs it. It is
+/// 0 before the first, and if there is no errand.
 #[unsafe(no_mangle)]
 pub unsafe extern "C" fn squall_errand_number(errand: *const CErrand) -> u32
     ghost s: { ErrandSlot }

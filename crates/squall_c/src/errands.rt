@@ -42,7 +42,7 @@ fn begun(errand: Errand) -> ErrandSlot
 }
 
 /// An errand for the key of that rank, which asks where the router sends it. `LIMIT` where the rank
-/// is no key's, `CLOSED` where there is no router.
+/// is no key's, `CLOSED` if there is no router.
 pub(crate) fn start(slot: &RouterSlot, rank: u64) -> ErrandSlot
     ensures { result ≡ errand_of_station slot.now.station rank }
 {
@@ -75,7 +75,7 @@ pub(crate) fn errand_status(slot: &ErrandSlot) -> u32
     slot.status
 }
 
-/// The partition to ask, or `NOWHERE` where there is no errand.
+/// The partition to ask, or `NOWHERE` if there is no errand.
 pub(crate) fn asked(slot: &ErrandSlot) -> u32
     ensures { result ≡ asked_by slot.now.errand }
 {
@@ -85,8 +85,8 @@ pub(crate) fn asked(slot: &ErrandSlot) -> u32
     }
 }
 
-/// The number of the last `Moved` that was followed, which the partition that is asked is told; 0
-/// before the first, and where there is no errand.
+/// The number of the last `Moved` that was followed. The partition that is asked needs it. It is 0
+/// before the first, and if there is no errand.
 pub(crate) fn errand_number(slot: &ErrandSlot) -> u32
     ensures { result ≡ moved_number slot.now.errand }
 {
@@ -96,7 +96,7 @@ pub(crate) fn errand_number(slot: &ErrandSlot) -> u32
     }
 }
 
-/// The reply of a number, with the partition and the number that it names, where there is one.
+/// The reply of a number, with the partition and the number that it names, if there is one.
 fn reply_of(reply: u32, part: u32, number: u32) -> Option<Reply>
     ensures { result ≡ reply_of reply part number }
 {
@@ -134,8 +134,8 @@ fn answer_of(next: Next) -> u32
 /// each other. Whom to ask is `asked`.
 ///
 /// A reply is 0 held, 1 moved to `part` in the reconfiguration of that number, 2 pending from
-/// `part`, 3 behind, 4 elsewhere, at `part`; `part` and `number` are looked at only where they are
-/// named. What is no reply is answered by 255, and changes nothing.
+/// `part`, 3 behind, 4 elsewhere, at `part`; `part` and `number` count only if they are named
+/// here. What is no reply is answered by 255, and changes nothing.
 pub(crate) fn heed(slot: &mut ErrandSlot, reply: u32, part: u32, number: u32) -> u32
     ensures answer { result ≡ (heeded slot.old (reply_of reply part number)).answer }
     ensures after { slot.new ≡ (heeded slot.old (reply_of reply part number)).slot }

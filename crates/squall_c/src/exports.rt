@@ -9,12 +9,14 @@ ghost use Rattle.squall_c.specs.Handles.{router_bytes, router_room, router_at, r
 ghost use Rattle.squall_c.specs.Opening.{IsOpened};
 ghost use Rattle.squall_c.specs.Reporting.{loaded_report, Takes, Issues};
 ghost use Rattle.squall_c.specs.Feeding.{Feeds};
+ghost use Rattle.squall_c.specs.WholeFrames.{HearsFrame};
 ghost use Rattle.squall_c.specs.Frames.{GathersBoard, GathersDigest, GathersRepair, waiting_frames, room_after, first_length, slot_after, over};
 ghost use Rattle.squall_c.specs.Showing.{routed, course_number, legs_of_station, that_fit};
 
 use crate::feeding::feed;
 use crate::frames::{gather_board, gather_digest, gather_repair, next_frame};
 use crate::handles::CRouter;
+use crate::hearing::hear_frame;
 use crate::legs::CLeg;
 use crate::reports::{done, issued, loaded, opened};
 use crate::router::{RouterSlot, close, fault_at, legs, number, open, route, status};
@@ -56,8 +58,8 @@ pub unsafe extern "C" fn squall_router_status(router: *const CRouter) -> u32
     status(&*(router as *const RouterSlot))
 }
 
-/// Where the last fault of a plan lay: the index of its entry, or of an overlap or a gap the rank
-/// of the bound that it names; 2^64 - 1 where there was none, or it has no place.
+/// The place of the last fault of a plan: the index of its entry, or of an overlap or a gap the rank
+/// of the bound that it names. It is 2^64 - 1 if there was none, or it has no place.
 #[unsafe(no_mangle)]
 pub unsafe extern "C" fn squall_router_fault_at(router: *const CRouter) -> u64
     ghost s: { RouterSlot }
@@ -137,6 +139,18 @@ pub unsafe extern "C" fn squall_router_feed(router: *mut CRouter, bytes: &[u8]) 
     feed(&mut *(router as *mut RouterSlot), bytes)
 }
 
+/// Takes one whole frame, no more and no less: its message is heard, or the answer is its fault
+/// (51 to 59). What was fed of a stream waits on, and no fault ends it. No memory (1), no router (3), a fault:
+/// then nothing changes.
+#[unsafe(no_mangle)]
+pub unsafe extern "C" fn squall_router_hear(router: *mut CRouter, frame: &[u8]) -> u32
+    ghost s: { RouterSlot }
+    requires* { sem 𝓛 (router_at router s) }
+    ensures* { sem 𝓛 (router_such router (λ now. HearsFrame frame.now s now result)) }
+{
+    hear_frame(&mut *(router as *mut RouterSlot), frame)
+}
+
 /// The partition to ask for the key of that rank; 2^32 - 1 where the rank is no key's, or there is
 /// no router. It allocates nothing.
 #[unsafe(no_mangle)]
@@ -148,7 +162,7 @@ pub unsafe extern "C" fn squall_router_route(router: *const CRouter, rank: u64) 
     route(&*(router as *const RouterSlot), rank)
 }
 
-/// Puts the legs from rank `lo` to rank `hi` to the front of the room, as many as it holds, and
+/// Puts the legs from rank `lo` to rank `hi` into the room, as many as it holds, and
 /// answers how many those are: 0 where no key lies between them, one is no bound, or there is no
 /// router. The rest of the room stays. It allocates nothing.
 #[unsafe(no_mangle)]
@@ -167,8 +181,7 @@ pub unsafe extern "C" fn squall_router_legs(
     legs(&*(router as *const RouterSlot), lo, hi, room)
 }
 
-/// The number of the course that the router goes by, the newest of which it has heard; 0 where
-/// there is no router.
+/// The number of the router's course, the newest of which it has heard; 0 if there is no router.
 #[unsafe(no_mangle)]
 pub unsafe extern "C" fn squall_router_number(router: *const CRouter) -> u32
     ghost s: { RouterSlot }
@@ -178,7 +191,7 @@ pub unsafe extern "C" fn squall_router_number(router: *const CRouter) -> u32
     number(&*(router as *const RouterSlot))
 }
 
-/// Has the frames of all that the router was told wait, in place of those that waited before:
+/// Has the frames of all that the router has heard wait, in place of those that waited before:
 /// `squall_router_frame` fetches them. No memory (1), no router (3): then nothing changes.
 #[unsafe(no_mangle)]
 pub unsafe extern "C" fn squall_router_gather_board(router: *mut CRouter) -> u32
@@ -189,7 +202,7 @@ pub unsafe extern "C" fn squall_router_gather_board(router: *mut CRouter) -> u32
     gather_board(&mut *(router as *mut RouterSlot))
 }
 
-/// Has the frame of a digest of all that the router was told wait, in place of the frames that
+/// Has the frame of a digest of all that the router has heard wait, in place of the frames that
 /// waited before. No memory (1), no router (3), the digest does not fit a frame (5): then nothing
 /// changes.
 #[unsafe(no_mangle)]
@@ -212,8 +225,8 @@ pub unsafe extern "C" fn squall_router_gather_repair(router: *mut CRouter) -> u3
     gather_repair(&mut *(router as *mut RouterSlot))
 }
 
-/// Puts the first frame that waits to the front of the room, and it waits no longer; where the room
-/// is too short for it, nothing changes. Answers how many bytes the frame has, 0 where none waits.
+/// Puts the first frame that waits into the room, from its start on, and it waits no longer. If the
+/// room is too short for it, nothing changes. Answers how many bytes the frame has, 0 if none waits.
 /// It allocates nothing.
 #[unsafe(no_mangle)]
 pub unsafe extern "C" fn squall_router_frame(router: *mut CRouter, room: &mut [u8]) -> usize

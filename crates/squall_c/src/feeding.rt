@@ -18,8 +18,8 @@ use squall_router::Router;
 use squall_wire::{Digest, Feed, FeedFault, Heard, Message, WireFault};
 use std::alloc::{AllocError, Global};
 
-/// Joins to a board what a message tells: a digest tells nothing. After an error the board is as it
-/// was.
+/// Joins to a board what a message tells: a digest tells nothing. An error leaves the
+/// board unchanged.
 fn join_message(board: &mut Board, message: &Message) -> Result<(), AllocError>
     ensures { OnOk result (JoinsMessage board.old message.now board.new) }
 {
@@ -29,7 +29,7 @@ fn join_message(board: &mut Board, message: &Message) -> Result<(), AllocError>
     }
 }
 
-/// All that the messages tell, as one board. It fails where an allocation fails, or where the count
+/// All that the messages tell, as one board. It fails if an allocation fails, or if the count
 /// of an issue's owners is full.
 fn joined(alloc: Global, messages: &[Message]) -> Result<Delta, AllocError>
     requires { AllByRecursion IsMessage messages.now }
@@ -83,7 +83,7 @@ fn last_digest(messages: Vec<Message>) -> Option<Digest>
     None
 }
 
-/// Keeps the last digest among the messages, where there is one, in place of the one before.
+/// Keeps the last digest among the messages, if there is one, in place of the one before.
 #[tactic(auto, using(crate::proofs::Joined::last_none, crate::proofs::Joined::last_some))]
 fn keep_digest(heard: &mut Option<Digest>, messages: Vec<Message>)
     ensures { heard.new ≡ last_digest heard.old messages.items }
@@ -95,7 +95,7 @@ fn keep_digest(heard: &mut Option<Digest>, messages: Vec<Message>)
 }
 
 /// Has the station wait for what the piece leaves, in which no message ends. `heard` and `ahead` are
-/// what its feed answered of the piece. Where it fails the station is as it was.
+/// what its feed answered of the piece. It changes nothing if it fails.
 fn wait_on(station: &mut Station, piece: &[u8], heard: &Heard, ahead: Feed) -> Result<(), FeedFault>
     requires none { heard.now.messages.items ≡ [] }
     requires heard { HearsOn station.old.feed piece.now heard.now.messages.items heard.now.fault ahead }
@@ -108,8 +108,8 @@ fn wait_on(station: &mut Station, piece: &[u8], heard: &Heard, ahead: Feed) -> R
     Ok(())
 }
 
-/// Has the station hear the messages, and wait for what the feed waits for. Where it fails the
-/// station is as it was.
+/// Has the station hear the messages, and wait for what the feed waits for. It changes
+/// nothing if it fails.
 fn take_messages(
     station: &mut Station,
     messages: Vec<Message>,
@@ -127,7 +127,7 @@ fn take_messages(
 }
 
 /// Has the station hear the messages whose frames end in the piece, all of them or none, and gives
-/// the fault of what follows them where there is one. Where it fails the station is as it was.
+/// the fault of what follows them if there is one. It changes nothing if it fails.
 fn hear(station: &mut Station, piece: &[u8]) -> Result<Option<WireFault>, FeedFault>
     ensures { HearsInStation station.old piece.now result station.new }
 {

@@ -41,7 +41,7 @@ impl Frames {
         }
     }
 
-    /// Adds a frame, behind the others. It fails only where an allocation fails.
+    /// Adds a frame, behind the others. It fails only if an allocation fails.
     fn push(&mut self, frame: Vec<u8>) -> Result<(), AllocError>
         ensures { OnOk result (self.new ≡ self.old ++ frame.items ∷ []) }
     {
@@ -49,8 +49,8 @@ impl Frames {
         Ok(())
     }
 
-    /// Puts the first frame to the front of the room, and drops it, where the room has as many
-    /// bytes. Answers how long it is, and 0 where there is none.
+    /// Puts the first frame into the room, from its start on, and drops it, if the room has as many
+    /// bytes. Answers how long it is, and 0 if there is none.
     fn fetch(&mut self, room: &mut [u8]) -> usize
         ensures room { room.new ≡ room_after self.old room.old }
         ensures frames { self.new ≡ frames_after self.old room.old }
@@ -68,7 +68,7 @@ impl Frames {
     }
 }
 
-/// The frame of a piece of a board. It fails only where an allocation fails.
+/// The frame of a piece of a board. It fails only if an allocation fails.
 fn piece_frame(alloc: Global, piece: &Delta) -> Result<Vec<u8>, AllocError>
     ensures { IfOk result (λ frame. frame.items ≡ spell (DeltaMessage piece.now)) }
 {
@@ -90,7 +90,7 @@ fn frames_of(alloc: Global, pieces: &[Delta]) -> Result<Frames, AllocError>
     Ok(frames)
 }
 
-/// The frames of the pieces of the board. It fails only where an allocation fails.
+/// The frames of the pieces of the board. It fails only if an allocation fails.
 fn board_frames(alloc: Global, board: &Board) -> Result<Frames, AllocError>
     ensures { IfOk result (λ frames. ArePieceFrames board.now frames) }
 {
@@ -98,8 +98,8 @@ fn board_frames(alloc: Global, board: &Board) -> Result<Frames, AllocError>
     frames_of(alloc, &pieces)
 }
 
-/// The frames of the pieces of the repair of the board by the digest. It fails where an allocation
-/// fails, or where the count of an issue's owners is full.
+/// The frames of the pieces of the repair of the board by the digest. It fails if an allocation
+/// fails, or if the count of an issue's owners is full.
 fn repair_frames(alloc: Global, board: &Board, digest: &Digest) -> Result<Frames, AllocError>
     ensures { IfOk result (λ frames. AreRepairFrames board.now digest.now frames) }
 {
@@ -189,8 +189,8 @@ pub(crate) fn gather_repair(slot: &mut RouterSlot) -> u32
     }
 }
 
-/// Puts the first frame that waits to the front of the room, where the room has as many bytes, and
-/// it waits no longer. Answers how long it is, and 0 where none waits.
+/// Puts the first frame that waits into the room, from its start on, if the room has as many bytes.
+/// It waits no longer then. Answers how long it is, and 0 if none waits.
 pub(crate) fn next_frame(slot: &mut RouterSlot, room: &mut [u8]) -> usize
     ensures room { room.new ≡ room_after (waiting_frames slot.old.station) room.old }
     ensures slot { slot.new ≡ slot_after slot.old room.old }

@@ -1,4 +1,4 @@
-//! What C sees of a router, a view and an errand: nothing but where it lies.
+//! What C sees of a router, a view and an errand: nothing but its address.
 //!
 //! A handle points to a room that the caller gives, of at least as many bytes as `_size` says and
 //! aligned to 16. From `_open` (of an errand `_start` or `_start_at`) until `_close` a slot lies

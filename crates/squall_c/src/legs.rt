@@ -31,7 +31,7 @@ fn cut_leg(leg: &Leg, lo: u64, hi: u64) -> CLeg
     }
 }
 
-/// Puts what lies of the legs between two ranks to the front of the room, up to the last that lies
+/// Puts what lies of the legs between two ranks into the room, from its start on, up to the last that lies
 /// below the second or that the room holds. Answers how many those are.
 fn cut_into(legs: Legs, lo: u64, hi: u64, room: &mut [CLeg]) -> usize
     ensures legs { room.new ≡ over (take (length room.old) (cut_legs lo hi legs.entry)) room.old }
@@ -52,7 +52,7 @@ fn cut_into(legs: Legs, lo: u64, hi: u64, room: &mut [CLeg]) -> usize
     count
 }
 
-/// Puts the legs of the table from rank `lo` to rank `hi` to the front of the room, as many as it
+/// Puts the legs of the table from rank `lo` to rank `hi` into the room, from its start on, as many as it
 /// holds, and answers how many those are. None where no key lies between them, or one is no bound.
 pub(crate) fn put_legs(table: &RouteTable, lo: u64, hi: u64, room: &mut [CLeg]) -> usize
     ensures legs { room.new ≡ over (that_fit (legs_by (owner_of table.now) lo hi) room.old) room.old }

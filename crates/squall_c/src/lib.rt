@@ -11,6 +11,7 @@ mod exports;
 mod feeding;
 mod frames;
 mod handles;
+mod hearing;
 mod legs;
 mod reports;
 mod router;
@@ -21,6 +22,7 @@ mod views;
 
 pub use errands::{ErrandSlot, errand_may_cross};
 pub use handles::{CErrand, CRouter, CView};
+pub use hearing::heard_as_if_fed;
 pub use legs::CLeg;
 pub use router::{RouterSlot, Station, slot_may_cross};
 pub use status::Cause;

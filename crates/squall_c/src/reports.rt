@@ -13,7 +13,7 @@ use squall_report::{Issue, Report};
 use squall_span::Span;
 use std::alloc::AllocError;
 
-/// The station's router takes the report. It fails where an allocation fails, or where a count of
+/// The station's router takes the report. It fails if an allocation fails, or if a count of
 /// owners is full, and then the station is unchanged.
 fn take_in_router(station: &mut Station, report: &Report) -> Result<(), AllocError>
     ensures told { OnOk result (station.new ≡ told_station station.old report.now) }
@@ -22,7 +22,7 @@ fn take_in_router(station: &mut Station, report: &Report) -> Result<(), AllocErr
     station.router.take(report)
 }
 
-/// Takes the report, where there is one.
+/// Takes the report, if there is one.
 fn take_report(station: &mut Station, report: Option<Report>) -> u32
     ensures { TakesInStation report station.old station.new result }
 {
@@ -42,7 +42,7 @@ fn take(slot: &mut RouterSlot, report: Option<Report>) -> u32
     }
 }
 
-/// The report of a load of the keys from rank `lo` on, below rank `hi`, where there is one.
+/// The report of a load of the keys from rank `lo` on, below rank `hi`, if there is one.
 fn loaded_report(number: u32, sub: u32, part: u32, lo: u64, hi: u64) -> Option<Report>
     ensures { result ≡ loaded_report number sub part lo hi }
 {
@@ -84,7 +84,7 @@ pub(crate) fn opened(slot: &mut RouterSlot, number: u32, sub: u32) -> u32
 }
 
 /// The issue under the number from the new plan of the router's first course to this plan. It
-/// fails where an allocation fails.
+/// fails if an allocation fails.
 fn issue_to(station: &Station, number: u32, plan: &Plan) -> Result<Option<Report>, AllocError>
     ensures { IfOk result (λ report. report ≡ issued_of number (plan_pair station.now.router.first.new plan.now)) }
 {

@@ -21,7 +21,7 @@ use squall_wire::Digest;
 use std::alloc::{AllocError, Global};
 use std::sync::Arc;
 
-/// What stands behind the handle of a router that was opened.
+/// What a handle of a router leads to if the router was opened.
 #[derive(Drop)]
 pub struct Station {
     pub(crate) alloc: Global,
@@ -39,7 +39,7 @@ pub struct Station {
 pub struct RouterSlot {
     /// 0, or why there is no router.
     pub(crate) status: u32,
-    /// Where the last fault of a plan lay.
+    /// The place of the last fault of a plan.
     pub(crate) fault_at: u64,
     pub(crate) station: Option<Station>,
 }
@@ -72,7 +72,7 @@ fn first_course(alloc: Global, number: u32, old: &[u8], new: &[u8]) -> Result<Co
     }
 }
 
-/// A station of the course that has heard nothing. It fails where an allocation fails, or where a
+/// A station of the course that has heard nothing. It fails if an allocation fails, or if a
 /// count of owners is full.
 fn station_of(alloc: Global, course: Course) -> Result<Station, AllocError>
     ensures { IfOk result (λ s. IsNew course (Some s)) }
@@ -122,8 +122,8 @@ pub(crate) fn status(slot: &RouterSlot) -> u32
     slot.status
 }
 
-/// Where the last fault of a plan lay: the index of its entry, or the rank of the bound that it
-/// names; `NO_PLACE` where there was none, or it has no place.
+/// The place of the last fault of a plan: the index of its entry, or the rank of the bound that it
+/// names; `NO_PLACE` if there was none, or it has no place.
 pub(crate) fn fault_at(slot: &RouterSlot) -> u64
     ensures { result ≡ slot.now.fault_at }
 {
@@ -141,7 +141,7 @@ pub(crate) fn route(slot: &RouterSlot, rank: u64) -> u32
     }
 }
 
-/// The number of the course that the router goes by, or 0 where there is no router.
+/// The number of the router's course, or 0 if there is no router.
 pub(crate) fn number(slot: &RouterSlot) -> u32
     ensures { result ≡ course_number slot.now.station }
 {
@@ -151,7 +151,7 @@ pub(crate) fn number(slot: &RouterSlot) -> u32
     }
 }
 
-/// Puts the legs from rank `lo` to rank `hi` to the front of the room, as many as it holds, and
+/// Puts the legs from rank `lo` to rank `hi` into the room, as many as it holds, and
 /// answers how many those are. None where no key lies between them, or one is no bound.
 pub(crate) fn legs(slot: &RouterSlot, lo: u64, hi: u64, room: &mut [CLeg]) -> usize
     ensures legs { room.new ≡ over (that_fit (legs_of_station slot.now.station lo hi) room.old) room.old }

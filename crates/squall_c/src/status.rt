@@ -47,7 +47,7 @@ pub(crate) const IN_NEW_PLAN: u32 = 20;
 pub struct Cause {
     /// The number that says so.
     pub status: u32,
-    /// Where a fault of a plan lies: the index of its entry, or the rank of its bound.
+    /// The place of a fault of a plan: the index of its entry, or the rank of its bound.
     pub at: u64,
 }
 
@@ -87,7 +87,7 @@ impl From<AllocError> for Cause {
     }
 }
 
-/// The number of a fault of a plan, where so much is added to it.
+/// The number of a fault of a plan, with this added to it.
 fn plan_status(added: u32, fault: &PlanFault) -> u32
     requires { added ≤ 20 }
     ensures { result ≡ plan_status added fault.now }
@@ -105,7 +105,7 @@ fn plan_status(added: u32, fault: &PlanFault) -> u32
     }
 }
 
-/// Where a fault of a plan lies.
+/// The place of a fault of a plan.
 fn plan_place(fault: &PlanFault) -> u64
     ensures { result ≡ plan_place fault.now }
 {
@@ -124,7 +124,7 @@ fn plan_place(fault: &PlanFault) -> u64
 }
 
 /// The number of a fault of a frame. A feed tells neither `Short` nor a failed allocation.
-fn wire_status(fault: WireFault) -> u32
+pub(crate) fn wire_status(fault: WireFault) -> u32
     ensures { result ≡ wire_status fault }
 {
     match fault {
@@ -151,7 +151,7 @@ pub(crate) fn heard_status(fault: Option<WireFault>) -> u32
     }
 }
 
-/// How a call ended that fails only where an allocation fails, or where a count of owners is full.
+/// How a call ended that fails only if an allocation fails, or if a count of owners is full.
 pub(crate) fn memory_status(outcome: Result<(), AllocError>) -> u32
     ensures { result ≡ (if is_ok outcome then ok else no_memory) }
 {

@@ -16,7 +16,7 @@ use std::marker::Model;
 pub struct TwinFeed {
     /// What was taken.
     feed: Feed,
-    /// A feed that has taken the same, where there is one.
+    /// A feed that has taken the same, if there is one.
     twin: Option<Feed>,
 }
 
@@ -68,8 +68,8 @@ impl TwinFeed {
         Ok((heard, ahead))
     }
 
-    /// Takes the piece too in which the other feed, made by `try_piece`, has heard that. Where an
-    /// allocation fails it stays as it is.
+    /// Takes the piece too in which the other feed, made by `try_piece`, has heard that. It stays
+    /// unchanged if an allocation fails.
     pub(crate) fn follow(
         &mut self,
         piece: &[u8],

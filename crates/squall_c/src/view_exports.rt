@@ -8,13 +8,14 @@ ghost use Rattle.squall_c.specs.declared.views.ViewSlot.{ViewSlot};
 ghost use Rattle.squall_c.specs.Handles.{view_bytes, router_at, view_room, view_at, view_such};
 ghost use Rattle.squall_c.specs.Frames.{over};
 ghost use Rattle.squall_c.specs.Showing.{that_fit};
-ghost use Rattle.squall_c.specs.Views.{IsViewOf, IsSameView, seen, seen_number, legs_of_view};
+ghost use Rattle.squall_c.specs.Views.{IsViewOf, IsSameView, seen, seen_number, routes_that_fit, legs_of_view};
 
 use crate::handles::{CRouter, CView};
 use crate::legs::CLeg;
 use crate::router::RouterSlot;
 use crate::views::{
-    ViewSlot, again, close_view, view_legs, view_number, view_of, view_route, view_status,
+    ViewSlot, again, close_view, view_legs, view_number, view_of, view_route, view_routes,
+    view_status,
 };
 use std::alloc::Global;
 
@@ -41,7 +42,7 @@ pub unsafe extern "C" fn squall_view_open(alloc: Global, router: *const CRouter,
     );
 }
 
-/// Puts the same view into the room once more, for another reader; or, where too many share it, that
+/// Puts the same view into the room once more, for another reader; or, if too many share it, that
 /// there is no memory (1). The room is to be closed. It allocates nothing.
 #[unsafe(no_mangle)]
 pub unsafe extern "C" fn squall_view_again(view: *const CView, room: *mut CView)
@@ -73,7 +74,24 @@ pub unsafe extern "C" fn squall_view_route(view: *const CView, rank: u64) -> u32
     view_route(&*(view as *const ViewSlot), rank)
 }
 
-/// Puts the legs from rank `lo` to rank `hi` to the front of the room, as many as it holds, and
+/// Puts the partitions to ask for the keys of these ranks into the room, as many as it holds, and
+/// answers how many. Each is what `squall_view_route` answers. The rest of the room stays. It allocates
+/// nothing.
+#[unsafe(no_mangle)]
+pub unsafe extern "C" fn squall_view_routes(
+    view: *const CView,
+    ranks: &[u64],
+    room: &mut [u32],
+) -> usize
+    ghost s: { ViewSlot }
+    requires* { sem 𝓛 (view_at view s) }
+    ensures* { sem 𝓛 (view_at view s)
+        ∗ ⌜ (room.new ≡ over (routes_that_fit s.view ranks.now room.old) room.old) × (result ≡ length (routes_that_fit s.view ranks.now room.old)) ⌝ }
+{
+    view_routes(&*(view as *const ViewSlot), ranks, room)
+}
+
+/// Puts the legs from rank `lo` to rank `hi` into the room, as many as it holds, and
 /// answers how many those are: 0 where no key lies between them, one is no bound, or there is no
 /// view. The rest of the room stays. It allocates nothing.
 #[unsafe(no_mangle)]

@@ -5,7 +5,7 @@ ghost use Rattle.squall_router.specs.Routers.{RouterValue, course_of_router, rou
 ghost use Rattle.squall_c.specs.declared.views.View.{View as ViewValue};
 ghost use Rattle.squall_c.specs.Frames.{over};
 ghost use Rattle.squall_c.specs.Showing.{part_at, legs_by, that_fit};
-ghost use Rattle.squall_c.specs.Views.{Shows, IsViewOf, IsSameView, seen, seen_number, legs_of_view, blank_view, slot_of_view};
+ghost use Rattle.squall_c.specs.Views.{Shows, IsViewOf, IsSameView, seen, seen_number, routes_that_fit, legs_of_view, blank_view, slot_of_view};
 
 use crate::legs::{CLeg, put_legs};
 use crate::router::{RouterSlot, Station, may_cross};
@@ -52,7 +52,7 @@ fn slot_of(view: Result<View, AllocError>) -> ViewSlot
     }
 }
 
-/// What the router answers now. It fails where an allocation fails.
+/// What the router answers now. It fails if an allocation fails.
 fn shown(alloc: Global, station: &Station) -> Result<View, AllocError>
     ensures { IfOk result (λ v. Shows station.now.router (Some v)) }
 {
@@ -73,7 +73,7 @@ pub(crate) fn view_of(alloc: Global, slot: &RouterSlot) -> ViewSlot
     }
 }
 
-/// The same view. It fails only where the count of a table's owners is full.
+/// The same view. It fails only if the count of a table's owners is full.
 fn shared(view: &View) -> Result<View, AllocError>
     ensures { IfOk result (λ v. v ≡ view.now) }
 {
@@ -111,7 +111,20 @@ pub(crate) fn view_route(slot: &ViewSlot, rank: u64) -> u32
     }
 }
 
-/// Puts the legs from rank `lo` to rank `hi` to the front of the room, as many as it holds, and
+/// Puts the partitions to ask for the keys of these ranks into the room, as many as it holds, and
+/// answers how many. Each is that of [`view_route`].
+pub(crate) fn view_routes(slot: &ViewSlot, ranks: &[u64], room: &mut [u32]) -> usize
+    ensures parts { room.new ≡ over (routes_that_fit slot.now.view ranks.now room.old) room.old }
+    ensures count { result ≡ length (routes_that_fit slot.now.view ranks.now room.old) }
+{
+    let count = ranks.len().min(room.len());
+    for at in 0..count {
+        room[at] = view_route(slot, ranks[at]);
+    }
+    count
+}
+
+/// Puts the legs from rank `lo` to rank `hi` into the room, as many as it holds, and
 /// answers how many those are. None where no key lies between them, or one is no bound.
 pub(crate) fn view_legs(slot: &ViewSlot, lo: u64, hi: u64, room: &mut [CLeg]) -> usize
     ensures legs { room.new ≡ over (that_fit (legs_of_view slot.now.view lo hi) room.old) room.old }
