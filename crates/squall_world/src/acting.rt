@@ -44,7 +44,7 @@ fn keep(reports: &mut Vec<Report>, known: &mut Vec<usize>, at: usize, report: Re
 }
 
 impl Peer {
-    /// A partition gives on the first keys, at most `max`, that are to go.
+    /// A partition sends the first keys, at most `max`, that are to go.
     pub(crate) fn give(&mut self, max: u64) -> Result<Chunk, GiveFault>
         requires { IsPartPeer self.old }
         ensures { Gives (λ a r b. IsGiven a max r b) self.old result self.new }
@@ -58,7 +58,7 @@ impl Peer {
         given
     }
 
-    /// A partition gives on one key.
+    /// A partition sends one key.
     pub(crate) fn give_at(&mut self, key: Key) -> Result<Chunk, GiveFault>
         requires { IsPartPeer self.old }
         ensures { Gives (λ a r b. IsGivenAt a key r b) self.old result self.new }

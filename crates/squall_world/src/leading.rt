@@ -42,7 +42,7 @@ fn append_ready(peers: &mut Vec<Peer>, mut more: Vec<Peer>)
     let _done = peers.append(&mut more);
 }
 
-/// A course is begun, and nodes come, in room that was made: where they stand is noted.
+/// A course is begun, and nodes come, in room that was made. Their places are noted.
 fn add(
     courses: &mut Vec<Shared<Course>>,
     peers: &mut Vec<Peer>,

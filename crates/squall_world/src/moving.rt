@@ -1,4 +1,4 @@
-//! What partitions give on, load and finish.
+//! What partitions send, load and finish.
 
 ghost use Rattle.std.specs.Prelude.{◌≡◌, ◌<◌, ◌++◌, ◌∷◌, [], vec_len, vec_capacity};
 ghost use Rattle.squall_protocol.specs.declared.answer.Answer.TheVariants.{Gave};
@@ -24,7 +24,7 @@ fn gave(chunks: &mut Vec<Chunk>, chunk: Chunk) -> Answer
 }
 
 impl Net {
-    /// The partition gives on the first keys, at most `max`, that are to go.
+    /// The partition sends the first keys, at most `max`, that are to go.
     pub(crate) fn give(&mut self, part: PartId, max: u64) -> Result<Answer, AllocError>
         requires { IsNet self.old }
         ensures { IsGiveIn self.old part max result self.new }
@@ -39,7 +39,7 @@ impl Net {
         }
     }
 
-    /// The partition gives on one key.
+    /// The partition sends one key.
     pub(crate) fn give_at(&mut self, part: PartId, key: Key) -> Result<Answer, AllocError>
         requires { IsNet self.old }
         ensures { IsGiveAtIn self.old part key result self.new }

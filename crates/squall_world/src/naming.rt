@@ -1,4 +1,4 @@
-//! The partitions that plans name, and where they stand.
+//! The partitions that plans name, and their places among the nodes.
 
 ghost use Rattle.std.specs.Prelude.{◌≡◌, ◌≤◌, ◌<◌, ◌+◌, ◌||◌, ℕ, false, length, take, replicate, slice_index_or, IfOk};
 ghost use Rattle.std.specs.Arc.{arc_value};
@@ -21,7 +21,7 @@ use std::sync::Arc;
 /// How many partitions there can be.
 pub(crate) const PARTS: usize = PART_LIMIT as usize;
 
-/// So many of the same.
+/// A list of the same item, this many times.
 pub(crate) fn repeated<T: Copy + Drop>(
     alloc: Global,
     count: usize,
@@ -56,7 +56,7 @@ fn part_node(alloc: Global, id: PartId, first: &Arc<Course>) -> Result<Peer, All
     Ok(Peer::new(alloc, Role::Part(part)))
 }
 
-/// Whether the partition is named, and stands nowhere yet.
+/// Whether the partition is named, and has no place yet.
 fn is_missing(named: &[bool], places: &[Option<usize>], part: usize) -> bool
     requires named { part < length named.now }
     requires places { part < length places.now }
@@ -65,7 +65,7 @@ fn is_missing(named: &[bool], places: &[Option<usize>], part: usize) -> bool
     named[part] && places[part].is_none()
 }
 
-/// The nodes of the partitions that are named and stand nowhere yet, in rising number.
+/// The nodes of the partitions that are named and have no place yet, in rising number.
 pub(crate) fn new_parts(
     alloc: Global,
     first: &Arc<Course>,
@@ -87,7 +87,7 @@ pub(crate) fn new_parts(
     Ok(peers)
 }
 
-/// Notes where the node stands, if it is a partition that stands nowhere before it.
+/// Notes the place of the node, if it is a partition that has none before it.
 fn note_place(peers: &[Peer], at: usize, places: &mut [Option<usize>])
     requires at { at < length peers.now }
     requires noted { AreNoted (take at peers.now) places.old }
@@ -102,7 +102,7 @@ fn note_place(peers: &[Peer], at: usize, places: &mut [Option<usize>])
     }
 }
 
-/// Notes where the partitions stand, from a place on.
+/// Notes the places of the partitions, from a place on.
 pub(crate) fn note_places(peers: &[Peer], from: usize, places: &mut [Option<usize>])
     requires from { from ≤ length peers.now }
     requires noted { AreNoted (take from peers.now) places.old }

@@ -36,7 +36,7 @@ pub(crate) struct Net {
     pub(crate) peers: Vec<Peer>,
     /// How many routers there are.
     pub(crate) routers: u32,
-    /// For each partition that there can be, where it stands among the nodes.
+    /// For each partition that there can be, its place among the nodes.
     pub(crate) places: Vec<Option<usize>>,
     pub(crate) messages: Vec<Message>,
     pub(crate) chunks: Vec<Chunk>,
@@ -58,7 +58,7 @@ impl Model for Net {
 }
 
 impl Net {
-    /// Where the node stands.
+    /// The place of the node.
     pub(crate) fn place(&self, node: Node) -> Option<usize>
         requires { IsNet self.now }
         ensures { result ≡ place_of self.now node }

@@ -22,7 +22,7 @@ pub(crate) enum Role {
 }
 
 impl Role {
-    /// What it was told, and what it told itself.
+    /// What it has heard, and what it reported itself.
     pub(crate) fn board(&self) -> &Board
         ensures { result.now ≡ role_board self.now }
     {

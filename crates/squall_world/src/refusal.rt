@@ -55,7 +55,7 @@ pub(crate) fn not_finished(fault: FinishFault) -> Result<Answer, AllocError>
     })
 }
 
-/// Why no sub-plan was opened, where a course is begun.
+/// Why no sub-plan was opened, if a course is begun.
 pub(crate) fn not_opened(fault: LeaderFault) -> Result<Answer, AllocError>
     requires running { fault ≢ Running }
     requires number { fault ≢ NoNumber }

@@ -10,7 +10,7 @@ use squall_board::Board;
 use squall_report::{Report, ReportKind};
 use std::alloc::{AllocError, Global};
 
-/// The same report once more: one that issues nothing, so that nothing of it is shared.
+/// The same report once more. It issues nothing, and so shares nothing.
 pub(crate) fn again(report: &Report) -> Report
     requires { is_issue report.now ≡ false }
     ensures { result ≡ report.now }

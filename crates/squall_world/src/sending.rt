@@ -49,7 +49,7 @@ impl Net {
         Ok(Answer::Delivered)
     }
 
-    /// Where the router sends the key.
+    /// The partition to which the router sends the key.
     pub(crate) fn route(&self, router: u32, key: Key) -> Answer
         requires { IsNet self.now }
         ensures { IsRouteIn self.now router key result }

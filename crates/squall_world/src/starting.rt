@@ -52,7 +52,7 @@ fn router(alloc: Global, first: &Arc<Course>) -> Result<Peer, AllocError>
     Ok(Peer::new(alloc, Role::Router(router)))
 }
 
-/// The nodes of so many routers.
+/// The nodes of this many routers.
 fn routers(alloc: Global, first: &Arc<Course>, count: u32) -> Result<Vec<Peer>, AllocError>
     ensures nodes { IfOk result (λ peers. peers.items ≡ router_peers (arc_value first.now) count) }
     ensures valid { IfOk result (λ peers. AreRoles peers.items) }
@@ -80,7 +80,7 @@ fn first_parts(
     new_parts(alloc, first, &named, places)
 }
 
-/// Where partitions stand while there is none.
+/// The places of partitions while there is none.
 fn no_places(alloc: Global) -> Result<Vec<Option<usize>>, AllocError>
     ensures { IfOk result (λ places. AreNoted [] places.items) }
 {

@@ -42,7 +42,7 @@ impl From<AllocError> for WorldFault {
     }
 }
 
-/// That a world may have so many routers.
+/// That a world may have this many routers.
 fn may_have(routers: u32) -> Result<(), WorldFault>
     ensures few { OnOk result (routers ≤ most_routers) }
     ensures err { IfErr result (λ e. (e ≡ TooManyRouters) × (most_routers < routers)) }
@@ -63,8 +63,8 @@ fn first_course(alloc: Global, old: &Plan, new: &Plan) -> Result<Arc<Course>, Al
 
 impl World {
     /// The world in which the course 1, from the old plan to the new one, is begun, and each key
-    /// lies where the old plan has it: with one partition node for each partition that a plan names,
-    /// and so many routers.
+    /// lies at its partition of the old plan. It has one partition node for each partition that a plan
+    /// names, and this many routers.
     ///
     /// `TooManyRouters` above [`MOST_ROUTERS`], whatever memory there is; or `NoMemory`.
     pub fn new(alloc: Global, old: &Plan, new: &Plan, routers: u32) -> Result<World, WorldFault>
@@ -100,7 +100,7 @@ impl World {
 
     /// The leader opens the next sub-plan of the course begun last: `Opened`. Refused as `NotDone`
     /// while a partition is waited for, and as `NoMore` after the last. Like each call here it fails only
-    /// where an allocation fails, or where a count of owners is full, and then nothing changed.
+    /// if an allocation fails, or if a count of owners is full. Nothing has changed then.
     pub fn open_next(&mut self) -> Result<Answer, AllocError>
         ensures ok { IfOk result (λ answer. OpenStep (view self.old) answer (view self.new)) }
         ensures err { OnErr result (self.new ≡ self.old) }
@@ -118,7 +118,7 @@ impl World {
         self.net.begin(plan)
     }
 
-    /// The partition gives on the first keys, at most `max`, that are to go in the sub-plan opened
+    /// The partition sends the first keys, at most `max`, that are to go in the sub-plan opened
     /// last: `Gave`. Refused as `NoSuch`, `NotOpen`, `NothingLeft` or `ZeroMax`.
     pub fn give(&mut self, part: PartId, max: u64) -> Result<Answer, AllocError>
         ensures ok { IfOk result (λ answer. GiveStep (view self.old) part max answer (view self.new)) }
@@ -127,7 +127,7 @@ impl World {
         self.net.give(part, max)
     }
 
-    /// The partition gives on one key: `Gave`. Refused as `NoSuch`, `NotOpen`, `NotOutgoing`, `Given` or
+    /// The partition sends one key: `Gave`. Refused as `NoSuch`, `NotOpen`, `NotOutgoing`, `Given` or
     /// `NotHeld`.
     pub fn give_at(&mut self, part: PartId, key: Key) -> Result<Answer, AllocError>
         ensures ok { IfOk result (λ answer. GiveAtStep (view self.old) part key answer (view self.new)) }
@@ -154,7 +154,7 @@ impl World {
         self.net.finish(part, sub)
     }
 
-    /// What the node was told and told itself becomes the next message: `Sent`. Refused as `NoSuch`.
+    /// What the node has heard and reported itself becomes the next message: `Sent`. Refused as `NoSuch`.
     pub fn send(&mut self, node: Node) -> Result<Answer, AllocError>
         ensures ok { IfOk result (λ answer. SendStep (view self.old) node answer (view self.new)) }
         ensures err { OnErr result (self.new ≡ self.old) }
@@ -170,7 +170,7 @@ impl World {
         self.net.deliver(message, node)
     }
 
-    /// Where the router sends the key: `Routed`. Refused as `NoSuch`. It takes no memory.
+    /// The partition to which the router sends the key: `Routed`. Refused as `NoSuch`. It takes no memory.
     pub fn route(&self, router: u32, key: Key) -> Answer
         ensures { RouteStep (view self.now) router key result (view self.now) }
     {
@@ -216,7 +216,7 @@ impl World {
         answer
     }
 
-    /// Takes the events one after another, and adds their answers to the list. Where an allocation
+    /// Takes the events one after another, and adds their answers to the list. If an allocation
     /// fails, the events whose answers were added took effect, and no others.
     pub fn run(&mut self, events: &[Event], answers: &mut Vec<Answer>) -> Result<(), AllocError>
         ensures ok { OnOk result (IsRun (view self.old) events.now answers.old.items (view self.new) answers.new.items) }

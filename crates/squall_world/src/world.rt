@@ -3,14 +3,14 @@
 use crate::net::Net;
 use std::marker::Model;
 
-/// A leader, partitions and routers, which take events one by one: the leader begins
-/// reconfigurations and opens their sub-plans, partitions give keys on, load them and report, and
-/// messages bring what was reported to any node, in any order, any number of times, or never.
+/// A leader, partitions and routers, which take events one by one. The leader begins
+/// reconfigurations and opens their sub-plans. Partitions send keys, load them and report. Messages
+/// bring what was reported to any node, in any order, any number of times, or never.
 ///
 /// Chunks and messages are counted from 0, and stay: each may come again.
 ///
 /// Contracts see a world through `view`: the plans, what each partition holds, gave and loaded, what
-/// each node was told, and the messages and chunks. Every world is one to which a run leads, and
+/// each node has heard, and the messages and chunks. Every world is one to which a run leads, and
 /// `World::promised` says what holds in it.
 #[derive(Drop)]
 pub struct World {
