@@ -1,0 +1,7 @@
+use Rattle.std.proofs.Common.{◌≡◌, take, map, length}
+use Rattle.squall_c_values.specs.Rooms.{over}
+use Rattle.squall_c_values.specs.Values.{c_leg}
+use Rattle.squall_c_values.proofs.legs.put_all.Given as goal
+
+abbrev pub invariant-loop-at : goal.invariant-loop-at
+invariant-loop-at l = (l.room ≡ over (take l.at (map c_leg l.ranges)) l.fn.room) × (length l.room ≡ length l.fn.room)

@@ -1,0 +1,13 @@
+-- what the clauses here cite of the crates below
+pub use Rattle.squall_key.specs.Keys
+pub use Rattle.squall_plan.specs.Ranges
+pub use Rattle.squall_course.specs.Change
+pub use Rattle.squall_course.specs.Moves
+pub use Rattle.squall_course.specs.Subplans
+pub use Rattle.squall_report.specs.Facts
+pub use Rattle.squall_report.specs.Issues
+pub use Rattle.squall_board.specs.Boards
+pub use Rattle.squall_wire.specs.Messages
+pub mod Rooms
+pub mod Values
+pub mod ReportFrames

@@ -1,0 +1,13 @@
+//! The end of a list.
+
+ghost use Rattle.std.specs.Prelude.{◌≡◌, drop};
+
+/// What follows the first `from` items. None where there are no more.
+pub(crate) fn tail_from<T>(items: &[T], from: usize) -> &[T]
+    ensures { result.now ≡ drop from items.now }
+{
+    match items.get(from..) {
+        Some(tail) => tail,
+        None => &[],
+    }
+}
