@@ -19,9 +19,10 @@ static char nowhere[16];
 static long blocks;  /* that are allocated now */
 static long asked;   /* allocations since the count began */
 static long refused; /* the number of the one to refuse, or 0 */
+static bool refuses_all;
 
 static bool is_refused(void) {
-    return ++asked == refused;
+    return ++asked == refused || refuses_all;
 }
 
 static struct tried tried(void *block) {
@@ -272,6 +273,143 @@ static void openings_of_views(void) {
     CHECK(blocks == 0);
 }
 
+static bool refuse_in_course(squall_course *course, long number) {
+    asked = 0;
+    refused = number;
+    squall_course_open(1, bytes_of(OLD), strlen(OLD), bytes_of(NEW), strlen(NEW), course);
+    bool was_refused = asked >= number;
+    refused = 0;
+    uint32_t status = squall_course_status(course);
+    CHECK(fits(status, was_refused));
+    CHECK(squall_course_fault_at(course) == SQUALL_NO_PLACE);
+    CHECK(squall_course_number(course) == (status == SQUALL_OK));
+    squall_course_close(course);
+    CHECK(blocks == 0);
+    return was_refused;
+}
+
+static void openings_of_courses(void) {
+    squall_course *course = (squall_course *)room_of(squall_course_size());
+    long number = 1;
+    answered = 0;
+    while (refuse_in_course(course, number)) {
+        number++;
+    }
+    CHECK(answered > 0);
+    free(course);
+}
+
+static bool refuse_in_receivers(const squall_course *course, long number) {
+    uint32_t parts[2] = {7, 7};
+    asked = 0;
+    refused = number;
+    size_t count = squall_course_receivers(course, 0, parts, 2);
+    bool was_refused = asked >= number;
+    refused = 0;
+    CHECK(fits(count == SQUALL_NO_COUNT ? SQUALL_NO_MEMORY : SQUALL_OK, was_refused));
+    CHECK(count == SQUALL_NO_COUNT ? parts[0] == 7 && parts[1] == 7
+                                   : count == 2 && parts[0] == 3 && parts[1] == 4);
+    return was_refused;
+}
+
+static void receivers_of_a_course(void) {
+    squall_course *course = (squall_course *)room_of(squall_course_size());
+    squall_course_open(1, bytes_of(OLD), strlen(OLD), bytes_of(NEW), strlen(NEW), course);
+    CHECK(squall_course_status(course) == SQUALL_OK);
+    long number = 1;
+    while (refuse_in_receivers(course, number)) {
+        number++;
+    }
+    /* It tries a second time, for less: so one refused allocation is not enough. */
+    uint32_t parts[2] = {7, 7};
+    refuses_all = true;
+    CHECK(squall_course_receivers(course, 0, parts, 2) == SQUALL_NO_COUNT);
+    refuses_all = false;
+    CHECK(parts[0] == 7 && parts[1] == 7);
+    squall_course_close(course);
+    free(course);
+    CHECK(blocks == 0);
+}
+
+static size_t put_course(const squall_course *course, uint8_t *out, size_t room) {
+    return squall_course_frame(course, out, room);
+}
+
+static size_t put_load(const squall_course *course, uint8_t *out, size_t room) {
+    (void)course;
+    return squall_frame_loaded(1, 0, 3, squall_rank(2, 0), squall_rank(3, 0), out, room);
+}
+
+static size_t put_done(const squall_course *course, uint8_t *out, size_t room) {
+    (void)course;
+    return squall_frame_done(1, 0, 4, out, room);
+}
+
+static size_t put_opened(const squall_course *course, uint8_t *out, size_t room) {
+    (void)course;
+    return squall_frame_opened(1, 0, out, room);
+}
+
+typedef size_t put_frame(const squall_course *course, uint8_t *out, size_t room);
+
+static bool refuse_in_frame(put_frame *put, const squall_course *course, long number) {
+    uint8_t out[512];
+    memset(out, 7, sizeof out);
+    asked = 0;
+    refused = number;
+    size_t count = put(course, out, sizeof out);
+    bool was_refused = asked >= number;
+    refused = 0;
+    CHECK(fits(count == SQUALL_NO_COUNT ? SQUALL_NO_MEMORY : SQUALL_OK, was_refused));
+    CHECK(count == SQUALL_NO_COUNT ? out[0] == 7 : out[0] == 'S' && count < sizeof out);
+    return was_refused;
+}
+
+static void frames_of_reports(void) {
+    static put_frame *const PUTS[] = {put_course, put_load, put_done, put_opened};
+    squall_course *course = (squall_course *)room_of(squall_course_size());
+    squall_course_open(1, bytes_of(OLD), strlen(OLD), bytes_of(NEW), strlen(NEW), course);
+    for (size_t i = 0; i < sizeof PUTS / sizeof PUTS[0]; i++) {
+        long number = 1;
+        answered = 0;
+        while (refuse_in_frame(PUTS[i], course, number)) {
+            number++;
+        }
+        CHECK(answered > 0);
+    }
+    squall_course_close(course);
+    free(course);
+    CHECK(blocks == 0);
+}
+
+/* What the header says of each call of a course that allocates nothing. */
+static void courses_that_allocate_nothing(void) {
+    squall_router *router = busy_router();
+    squall_view *view = (squall_view *)room_of(squall_view_size());
+    squall_course *course = (squall_course *)room_of(squall_course_size());
+    const uint64_t rank = 7;
+    squall_move moves[2];
+    squall_leg legs[8];
+    squall_place place;
+    squall_view_open(router, view);
+    asked = 0;
+    CHECK(squall_view_locate(view, &rank, 1, &place, 1) == 1);
+    squall_course_newest(router, course);
+    CHECK(squall_course_subplans(course) == 1);
+    CHECK(squall_course_moves(course, 0, moves, 2) == 2);
+    CHECK(squall_course_old(course, 0, legs, 8) == 4);
+    CHECK(squall_course_new(course, 0, legs, 8) == 5);
+    squall_course_close(course);
+    squall_course_first(router, course);
+    squall_course_close(course);
+    CHECK(asked == 0);
+    free(course);
+    squall_view_close(view);
+    free(view);
+    drop_router(router);
+    CHECK(blocks == 0);
+}
+
 /* What the header says of each call that allocates nothing. */
 static void calls_that_allocate_nothing(void) {
     squall_router *router = busy_router();
@@ -317,7 +455,11 @@ static const struct test TESTS[] = {
     TEST(repairs),
     TEST(openings_of_routers),
     TEST(openings_of_views),
+    TEST(openings_of_courses),
+    TEST(receivers_of_a_course),
+    TEST(frames_of_reports),
     TEST(calls_that_allocate_nothing),
+    TEST(courses_that_allocate_nothing),
 };
 
 int main(void) {

@@ -2,7 +2,8 @@
  *
  * A router knows an old and a new partition plan and takes reports of what was loaded where. It
  * says for each key which partition to ask. A view is what a router said at one moment, for threads
- * that only read. An errand follows the replies of partitions until a key is found.
+ * that only read. An errand follows the replies of partitions until a key is found. A course says
+ * which keys move, from which partition to which.
  *
  * Link with libsquall.a or libsquall.so (tools/library makes both). docs/EMBEDDING.md is a
  * walk through all of this; docs/FORMATS.md has the text of a plan and the bytes of a frame.
@@ -13,17 +14,17 @@
  * What the library's contracts promise holds for a host that keeps these rules. Nothing can check
  * them: where one is broken, the behaviour is undefined.
  *
- * 1. Rooms. Routers, views and errands live in memory that the host gives: a room. A room has at
- *    least as many bytes as squall_router_size(), squall_view_size() or squall_errand_size()
- *    answers, is writable and is aligned to 16, as memory of malloc is.
- * 2. Open once, close once. Each squall_.._open, _again, _start and _start_at is followed by one
- *    close of the same kind, also where the status says that there is no router, view or errand.
+ * 1. Rooms. Routers, views, errands and courses live in memory that the host gives: a room. A room
+ *    has at least as many bytes as squall_router_size(), squall_view_size(), squall_errand_size()
+ *    or squall_course_size() answers, is writable and is aligned to 16, as memory of malloc is.
+ * 2. Open once, close once. Each squall_.._open, _again, _start, _start_at, _newest and _first is
+ *    followed by one close of the same kind, also if the status says that nothing was opened.
  *    Between the two the host neither reads nor writes nor copies nor moves the room: its address is
  *    a handle, which it passes to functions of this header that take one of that kind, and to
  *    nothing else. After the close the room is plain memory again, and may be opened again.
  * 3. One call at a time. Each handle serves one call at a time, also where the call only reads and
  *    its pointer is to const. Calls with different handles may run at the same time, also with views
- *    that were made from one another.
+ *    or courses that were made from one another.
  * 4. Threads. A handle may pass from one thread to another where a lock, the start or the join of a
  *    thread, or a sequentially consistent atomic orders the calls. No function starts a thread,
  *    takes a lock or waits.
@@ -38,6 +39,9 @@
  *    which do what is said there, and return.
  * 8. Signals and forks. No function is called in a signal handler, nor, where the program has
  *    threads, in the child of a fork before it executes another program.
+ *
+ * 9. Stack. squall_router_open, squall_router_issued and squall_course_open have 192 KiB of stack, as
+ *    a text may nest objects. Any other call has 64 KiB.
  *
  * What is no matter of these rules: any numbers, any bytes of a plan or a frame, any order of
  * reports and any failed allocation. Each has its answer below.
@@ -123,6 +127,8 @@ enum squall_next {
 
 /* No partition. */
 #define SQUALL_NOWHERE UINT32_C(4294967295)
+/* No count: an allocation failed. */
+#define SQUALL_NO_COUNT SIZE_MAX
 /* No place: no plan fault has come that has one. */
 #define SQUALL_NO_PLACE UINT64_C(18446744073709551615)
 /* The rank of the end of all keys. */
@@ -135,6 +141,7 @@ enum squall_next {
 typedef struct squall_router squall_router;
 typedef struct squall_view squall_view;
 typedef struct squall_errand squall_errand;
+typedef struct squall_course squall_course;
 
 /* The keys from lo on, below hi, are to be asked for at the partition. */
 typedef struct squall_leg {
@@ -142,6 +149,25 @@ typedef struct squall_leg {
     uint64_t hi;
     uint32_t part;
 } squall_leg;
+
+/* Where a key stands. It is settled if `part` is `dest`: then it stays there until another course
+ * begins. Else the key moves, and its load is not known yet: `part` is `source`. For a rank that is
+ * no key's all four are SQUALL_NOWHERE. */
+typedef struct squall_place {
+    uint32_t part;   /* the partition to ask */
+    uint32_t source; /* its partition in the old plan */
+    uint32_t dest;   /* its partition in the new plan */
+    uint32_t sub;    /* the sub-plan in which it moves; SQUALL_NOWHERE if it does not move */
+} squall_place;
+
+/* The keys from lo on, below hi, move from a partition to another in a sub-plan. */
+typedef struct squall_move {
+    uint64_t lo;
+    uint64_t hi;
+    uint32_t source;
+    uint32_t dest;
+    uint32_t sub;
+} squall_move;
 
 /* The rank of root:second. */
 static inline uint64_t squall_rank(uint32_t root, uint32_t second) {
@@ -293,6 +319,12 @@ uint32_t squall_view_route(const squall_view *view, uint64_t rank);
 size_t squall_view_routes(const squall_view *view, const uint64_t *ranks, size_t count,
                           uint32_t *parts, size_t room);
 
+/* Writes where the keys of `count` ranks stand to the front of `out`, as many as there is room for,
+ * and answers how many: 0 if there is no view. Each `part` is what squall_view_route answers.
+ * Allocates nothing. */
+size_t squall_view_locate(const squall_view *view, const uint64_t *ranks, size_t count,
+                          squall_place *out, size_t room);
+
 /* As squall_router_legs, of that moment. Allocates nothing. */
 size_t squall_view_legs(const squall_view *view, uint64_t lo, uint64_t hi, squall_leg *out,
                         size_t room);
@@ -302,6 +334,78 @@ uint32_t squall_view_number(const squall_view *view);
 
 /* Closes the view. The last one that shares a table frees it. */
 void squall_view_close(squall_view *view);
+
+
+/* COURSES */
+
+/* How many bytes the room of a course has. */
+size_t squall_course_size(void);
+
+/* Opens the course `number` from the old plan to the new one. squall_course_status then says whether
+ * there is one, as squall_router_status does after squall_router_open. Allocates. */
+void squall_course_open(uint32_t number, const uint8_t *old_plan, size_t old_len,
+                        const uint8_t *new_plan, size_t new_len, squall_course *room);
+
+/* Opens the course by which the router routes now: its newest. It stays as it is, whatever the router
+ * is told later. squall_course_status then says SQUALL_OK, SQUALL_CLOSED if there is no router, or
+ * SQUALL_NO_MEMORY if the course has more owners than can be counted. Nothing is copied, and nothing
+ * allocated. Counts as a call with both handles. */
+void squall_course_newest(const squall_router *router, squall_course *room);
+
+/* The same of the course with which the router was opened. */
+void squall_course_first(const squall_router *router, squall_course *room);
+
+/* How the opening ended. Never changes. */
+uint32_t squall_course_status(const squall_course *course);
+
+/* Where the plan fault lies that squall_course_open answered, as squall_router_fault_at says it. */
+uint64_t squall_course_fault_at(const squall_course *course);
+
+/* The number of the course; 0 if there is none. */
+uint32_t squall_course_number(const squall_course *course);
+
+/* How many sub-plans it has: 0 if nothing moves, or there is no course. */
+uint32_t squall_course_subplans(const squall_course *course);
+
+/* Writes the moves by rising key, from the move `from` on, counted from 0, to the front of `out`, as
+ * many as there is room for, and answers how many: 0 if there are no more. Each key that moves lies
+ * in exactly one, and no other key in any. Allocates nothing. */
+size_t squall_course_moves(const squall_course *course, size_t from, squall_move *out, size_t room);
+
+/* Writes the ranges of the old plan by rising key, from the range `from` on, likewise. Neighbours have
+ * different partitions. Allocates nothing. */
+size_t squall_course_old(const squall_course *course, size_t from, squall_leg *out, size_t room);
+
+/* The same of the new plan. */
+size_t squall_course_new(const squall_course *course, size_t from, squall_leg *out, size_t room);
+
+/* Writes the partitions to which keys move in the sub-plan, by rising number, to the front of `out`,
+ * as many as there is room for, and answers how many: 0 if there are none. SQUALL_NO_COUNT if an
+ * allocation fails: then nothing is written. Allocates. */
+size_t squall_course_receivers(const squall_course *course, uint32_t sub, uint32_t *out, size_t room);
+
+/* Writes the frame of the report that this course was issued to the front of `out`, and answers how
+ * many bytes it has: 0 if there is no course; SQUALL_NO_COUNT if an allocation fails. If the room is
+ * too short, nothing is written. A router that hears it knows the course. Allocates. */
+size_t squall_course_frame(const squall_course *course, uint8_t *out, size_t room);
+
+/* Closes the course. What is shared with routers and other courses stays with them. */
+void squall_course_close(squall_course *course);
+
+
+/* FRAMES OF REPORTS, without a router */
+
+/* Writes the frame of the report of squall_router_loaded to the front of `out`, and answers how many
+ * bytes it has: 49. Answers 0 if there is no such report, as squall_router_loaded says it;
+ * SQUALL_NO_COUNT if an allocation fails. If the room is too short, nothing is written. Allocates. */
+size_t squall_frame_loaded(uint32_t number, uint32_t sub, uint32_t part, uint64_t lo, uint64_t hi,
+                           uint8_t *out, size_t room);
+
+/* The same of the report of squall_router_done: 33 bytes. */
+size_t squall_frame_done(uint32_t number, uint32_t sub, uint32_t part, uint8_t *out, size_t room);
+
+/* The same of the report of squall_router_opened: 24 bytes. */
+size_t squall_frame_opened(uint32_t number, uint32_t sub, uint8_t *out, size_t room);
 
 
 /* ERRANDS */

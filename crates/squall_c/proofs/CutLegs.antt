@@ -12,9 +12,10 @@ use Rattle.squall_table.specs.Tables.{AreLegs, leg_of, legs_between}
 use Rattle.squall_table.specs.LegEntries.{legs_beyond}
 use Rattle.squall_table.specs.TableLaws.{key_by_key}
 use Rattle.squall_router.specs.Routers.{RouterValue, route_of_router, IsTableOf}
-use Rattle.squall_c.specs.declared.legs.CLeg.{CLeg}
-use Rattle.squall_c.specs.Frames.{over}
-use Rattle.squall_c.specs.Showing.{part_at, c_leg, cut_leg, cut_legs, legs_by, that_fit}
+use Rattle.squall_c_values.specs.declared.legs.CLeg.{CLeg}
+use Rattle.squall_c_values.specs.Rooms.{over}
+use Rattle.squall_c_values.specs.Values.{c_leg}
+use Rattle.squall_c.specs.Showing.{part_at, cut_leg, cut_legs, legs_by, that_fit}
 
 -- what lies of a leg between the ranks, as a leg
 abbrev cut_range : ℕ → ℕ → PlanRange → PlanRange
@@ -24,10 +25,10 @@ abbrev cut_ranges : ℕ → ℕ → List PlanRange → List PlanRange
 cut_ranges lo hi [] = []
 cut_ranges lo hi (l ∷ ls) = if nat_lt l.span.lo hi then cut_range lo hi l ∷ cut_ranges lo hi ls else []
 
-is_below : (a b : ℕ) → a < b → nat_lt a b ≡ true
+pub is_below : (a b : ℕ) → a < b → nat_lt a b ≡ true
 is_below a b h = grind (arith, nat_tests)
 
-is_not_below : (a b : ℕ) → b ≤ a → nat_lt a b ≡ false
+pub is_not_below : (a b : ℕ) → b ≤ a → nat_lt a b ≡ false
 is_not_below a b h = grind (arith, nat_tests)
 
 is_up_to : (a b : ℕ) → a ≤ b → nat_le a b ≡ true

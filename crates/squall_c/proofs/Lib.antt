@@ -3,4 +3,5 @@ pub mod CutLegs
 pub mod Joined
 pub mod PieceFrames
 mod Routed
+mod Settled
 mod Wholes

@@ -2,7 +2,7 @@
 use Rattle.std.proofs.Common.{◌≡◌, ℕ, zero, suc, ◌+◌, ◌<◌, ◌≤◌, min, List, [], ◌∷◌, ◌++◌, length, take, drop, map, get_or, set, refl, sym, ap, ◌∙◌, arith, length-take-le, inl, inr}
 use Rattle.std.proofs.lemmas.Bool.{cases_lt}
 use Rattle.std.proofs.lemmas.List.{take_all, length-map}
-use Rattle.squall_c.specs.Frames.{over}
+use Rattle.squall_c_values.specs.Rooms.{over}
 
 -- one more is written
 pub written_more : (f : ℕ → ℕ) (ks xs ys : List ℕ) (n : ℕ) (k : ℕ) → n < length ks → n < length xs → k ≡ get_or ks n k → ys ≡ over (take n (map f ks)) xs → set ys n (f k) ≡ over (take (suc n) (map f ks)) xs

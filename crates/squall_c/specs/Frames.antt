@@ -10,14 +10,11 @@ use Rattle.squall_wire.specs.Messages.{spell, spell_body, body_of}
 use Rattle.squall_delta.specs.Pieces.{ArePieces}
 use Rattle.squall_delta.specs.Hashes.{digest_of}
 use Rattle.squall_delta.specs.Repairs.{IsRepair}
+use Rattle.squall_c_values.specs.Rooms.{over}
 use Rattle.squall_c.specs.declared.router.RouterSlot.{RouterSlot}
 use Rattle.squall_c.specs.declared.router.Station.{Station}
 use Rattle.squall_c.specs.Status.{ok, no_memory, closed, too_long, no_digest}
 use Rattle.squall_c.specs.Opening.{with_station, with_frames, Ends, IsDone}
-
--- the bytes in place of as many at the front
-abbrev pub over : {X : Type 0} → List X → List X → List X
-over xs ys = xs ++ drop (length xs) ys
 
 -- the frames of boards, one for each
 abbrev pub frames_of : List BoardValue → List (List ℕ)

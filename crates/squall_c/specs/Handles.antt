@@ -7,9 +7,11 @@ use prog.Memory.{size, capped}
 use denote.Param.{layout}
 use Rattle.squall_c.specs.contracts.router.RouterSlot.{the_row as router_row}
 use Rattle.squall_c.specs.contracts.views.ViewSlot.{the_row as view_row}
+use Rattle.squall_c.specs.contracts.courses.CourseSlot.{the_row as course_row}
 use Rattle.squall_c.specs.contracts.errands.ErrandSlot.{the_row as errand_row}
 use Rattle.squall_c.specs.declared.router.RouterSlot.{RouterSlot}
 use Rattle.squall_c.specs.declared.views.ViewSlot.{ViewSlot}
+use Rattle.squall_c.specs.declared.courses.CourseSlot.{CourseSlot}
 use Rattle.squall_c.specs.declared.errands.ErrandSlot.{ErrandSlot}
 
 -- ---- routers
@@ -43,6 +45,20 @@ view_at p s = lies_at view_row full_share p s
 
 abbrev pub view_such : Ptr → (ViewSlot → Type 0) → Fml
 view_such p P = fex ViewSlot (λ s. fsep (view_at p s) (fex (P s) (λ _. ftrue)))
+
+-- ---- courses, likewise
+
+abbrev pub course_bytes : ℕ
+course_bytes = capped (size (layout course_row))
+
+abbrev pub course_room : Ptr → Fml
+course_room p = room_at course_row p
+
+abbrev pub course_at : Ptr → CourseSlot → Fml
+course_at p s = lies_at course_row full_share p s
+
+abbrev pub course_such : Ptr → (CourseSlot → Type 0) → Fml
+course_such p P = fex CourseSlot (λ s. fsep (course_at p s) (fex (P s) (λ _. ftrue)))
 
 -- ---- errands, likewise
 

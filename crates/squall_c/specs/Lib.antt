@@ -14,6 +14,9 @@ pub use Rattle.squall_delta.specs.Repairs
 pub use Rattle.squall_table.specs.Tables
 pub use Rattle.squall_router.specs.Routers
 pub use Rattle.squall_errand.specs.Errands
+pub use Rattle.squall_c_values.specs.Rooms
+pub use Rattle.squall_c_values.specs.Values
+pub use Rattle.squall_c_values.specs.ReportFrames
 pub mod Status
 pub mod Opening
 pub mod Reporting
@@ -22,5 +25,6 @@ pub mod WholeFrames
 pub mod Frames
 pub mod Showing
 pub mod Views
+pub mod Courses
 pub mod ErrandSlots
 pub mod Handles

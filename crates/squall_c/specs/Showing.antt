@@ -4,8 +4,9 @@ use Rattle.squall_key.specs.Keys.{top}
 use Rattle.squall_plan.specs.declared.range.PlanRange.{PlanRange}
 use Rattle.squall_table.specs.Tables.{legs_between}
 use Rattle.squall_router.specs.Routers.{course_of_router, route_of_router}
-use Rattle.squall_c.specs.declared.legs.CLeg.{CLeg}
+use Rattle.squall_c_values.specs.declared.legs.CLeg.{CLeg}
 use Rattle.squall_c.specs.declared.router.Station.{Station}
+use Rattle.squall_c_values.specs.Values.{c_leg}
 use Rattle.squall_c.specs.Status.{nowhere}
 
 -- the partition of a key by a route, where the rank is one of a key
@@ -23,10 +24,6 @@ course_number None = 0
 course_number (Some s) = (course_of_router s.router).number
 
 -- ---- legs
-
--- a leg as C sees it
-abbrev pub c_leg : PlanRange → CLeg
-c_leg l = record { lo = l.span.lo; hi = l.span.hi; part = l.part }
 
 -- the legs of a route from one rank to another, where these are bounds with a key between them
 abbrev pub legs_by : (ℕ → ℕ) → ℕ → ℕ → List PlanRange

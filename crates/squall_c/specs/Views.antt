@@ -4,16 +4,18 @@ use Rattle.std.specs.declared.alloc.AllocError.{AllocError}
 use Rattle.squall_plan.specs.declared.range.PlanRange.{PlanRange}
 use Rattle.squall_plan.specs.Ranges.{owner_of}
 use Rattle.squall_router.specs.Routers.{RouterValue, course_of_router, IsTableOf}
+use Rattle.squall_c_values.specs.declared.places.CPlace.{CPlace}
+use Rattle.squall_c_values.specs.Values.{places_that_fit}
 use Rattle.squall_c.specs.declared.router.Station.{Station}
 use Rattle.squall_c.specs.declared.views.View.{View}
 use Rattle.squall_c.specs.declared.views.ViewSlot.{ViewSlot}
 use Rattle.squall_c.specs.Status.{ok, no_memory, closed, nowhere}
 use Rattle.squall_c.specs.Showing.{part_at, legs_by}
 
--- a view with the table of a router, and the number of its course
+-- a view with the table of a router, and its course
 abbrev pub Shows : RouterValue → Option View → Type 0
 Shows r None = ⊥
-Shows r (Some v) = IsTableOf r v.table × (v.number ≡ (course_of_router r).number)
+Shows r (Some v) = IsTableOf r v.table × (v.course ≡ course_of_router r)
 
 -- nothing is to be seen, and the status says why
 abbrev pub IsBlank : ℕ → ViewSlot → Type 0
@@ -53,10 +55,19 @@ seen (Some v) rank = part_at (owner_of v.table) rank
 abbrev pub routes_that_fit : Option View → List ℕ → List ℕ → List ℕ
 routes_that_fit view ranks room = take (length room) (map (seen view) ranks)
 
+-- where the keys of some ranks stand, as many as the room holds
+abbrev pub places_of_view : Option View → List ℕ → List CPlace → List CPlace
+places_of_view None ranks room = []
+places_of_view (Some v) ranks room = places_that_fit v.course (owner_of v.table) ranks room
+
+-- the key is where the new plan has it: it does not move, or its load is known
+abbrev pub IsSettled : CPlace → Type 0
+IsSettled p = p.part ≡ p.dest
+
 -- the number of the course
 abbrev pub seen_number : Option View → ℕ
 seen_number None = 0
-seen_number (Some v) = v.number
+seen_number (Some v) = v.course.number
 
 -- the legs from one rank to another
 abbrev pub legs_of_view : Option View → ℕ → ℕ → List PlanRange

@@ -10,16 +10,17 @@ ghost use Rattle.squall_c.specs.Opening.{IsOpened};
 ghost use Rattle.squall_c.specs.Reporting.{loaded_report, Takes, Issues};
 ghost use Rattle.squall_c.specs.Feeding.{Feeds};
 ghost use Rattle.squall_c.specs.WholeFrames.{HearsFrame};
-ghost use Rattle.squall_c.specs.Frames.{GathersBoard, GathersDigest, GathersRepair, waiting_frames, room_after, first_length, slot_after, over};
+ghost use Rattle.squall_c.specs.Frames.{GathersBoard, GathersDigest, GathersRepair, waiting_frames, room_after, first_length, slot_after};
+ghost use Rattle.squall_c_values.specs.Rooms.{over};
 ghost use Rattle.squall_c.specs.Showing.{routed, course_number, legs_of_station, that_fit};
 
 use crate::feeding::feed;
 use crate::frames::{gather_board, gather_digest, gather_repair, next_frame};
 use crate::handles::CRouter;
 use crate::hearing::hear_frame;
-use crate::legs::CLeg;
 use crate::reports::{done, issued, loaded, opened};
 use crate::router::{RouterSlot, close, fault_at, legs, number, open, route, status};
+use squall_c_values::CLeg;
 use std::alloc::Global;
 
 /// How many bytes the room of a router has at least. It is aligned to 16.

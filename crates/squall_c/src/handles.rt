@@ -1,4 +1,4 @@
-//! What C sees of a router, a view and an errand: nothing but its address.
+//! What C sees of a router, a view, a course and an errand: nothing but its address.
 //!
 //! A handle points to a room that the caller gives, of at least as many bytes as `_size` says and
 //! aligned to 16. From `_open` (of an errand `_start` or `_start_at`) until `_close` a slot lies
@@ -16,6 +16,13 @@ pub struct CRouter {
 #[repr(C)]
 #[derive(Drop)]
 pub struct CView {
+    _hidden: u8,
+}
+
+/// What C sees of a course.
+#[repr(C)]
+#[derive(Drop)]
+pub struct CCourse {
     _hidden: u8,
 }
 

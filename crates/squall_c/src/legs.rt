@@ -1,24 +1,13 @@
-//! Legs as C sees them.
+//! Legs of a table, cut to two ranks, as C sees them.
 
 ghost use Rattle.std.specs.Prelude.{◌≡◌, length, take};
 ghost use Rattle.squall_plan.specs.Ranges.{owner_of};
-ghost use Rattle.squall_c.specs.Frames.{over};
+ghost use Rattle.squall_c_values.specs.Rooms.{over};
 ghost use Rattle.squall_c.specs.Showing.{cut_leg, cut_legs, legs_by, that_fit};
 
+use squall_c_values::CLeg;
 use squall_key::{Bound, Key};
 use squall_table::{Leg, Legs, RouteTable};
-
-/// The keys from rank `lo` on, below rank `hi`, and the partition to ask for them.
-#[repr(C)]
-#[derive(Clone, Copy, Debug, PartialEq, Eq)]
-pub struct CLeg {
-    /// The rank of the least key.
-    pub lo: u64,
-    /// The rank above the greatest key.
-    pub hi: u64,
-    /// The partition.
-    pub part: u32,
-}
 
 /// What lies of the leg between two ranks.
 fn cut_leg(leg: &Leg, lo: u64, hi: u64) -> CLeg

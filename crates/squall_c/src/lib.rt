@@ -5,6 +5,8 @@
 //! pointers into borrows and says that contract again.
 #![tactic(auto)]
 
+mod course_exports;
+mod courses;
 mod errand_exports;
 mod errands;
 mod exports;
@@ -13,6 +15,7 @@ mod frames;
 mod handles;
 mod hearing;
 mod legs;
+mod report_exports;
 mod reports;
 mod router;
 mod status;
@@ -20,10 +23,10 @@ mod twin_feed;
 mod view_exports;
 mod views;
 
+pub use courses::{CourseSlot, HeldCourse, course_may_cross};
 pub use errands::{ErrandSlot, errand_may_cross};
-pub use handles::{CErrand, CRouter, CView};
+pub use handles::{CCourse, CErrand, CRouter, CView};
 pub use hearing::heard_as_if_fed;
-pub use legs::CLeg;
 pub use router::{RouterSlot, Station, slot_may_cross};
 pub use status::Cause;
-pub use views::{View, ViewSlot, view_may_cross, views_answer_as_their_router};
+pub use views::{View, ViewSlot, settled_keys_stay, view_may_cross, views_answer_as_their_router};

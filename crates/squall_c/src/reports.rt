@@ -43,7 +43,7 @@ fn take(slot: &mut RouterSlot, report: Option<Report>) -> u32
 }
 
 /// The report of a load of the keys from rank `lo` on, below rank `hi`, if there is one.
-fn loaded_report(number: u32, sub: u32, part: u32, lo: u64, hi: u64) -> Option<Report>
+pub(crate) fn loaded_report(number: u32, sub: u32, part: u32, lo: u64, hi: u64) -> Option<Report>
     ensures { result ≡ loaded_report number sub part lo hi }
 {
     let lo = Bound::of_rank(lo)?;

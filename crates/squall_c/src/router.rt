@@ -5,14 +5,15 @@ ghost use Rattle.squall_plan.specs.Form.{plan_of_text};
 ghost use Rattle.squall_c.specs.Status.{GivesSeen, PlacesMemory, plan_or_cause};
 ghost use Rattle.squall_c.specs.Opening.{first_course, IsNew, IsStationOf, IsOpened};
 ghost use Rattle.squall_c.specs.Showing.{routed, course_number, legs_of_station, that_fit};
-ghost use Rattle.squall_c.specs.Frames.{over};
+ghost use Rattle.squall_c_values.specs.Rooms.{over};
 
 use crate::frames::Frames;
-use crate::legs::{CLeg, put_legs};
+use crate::legs::put_legs;
 use crate::status::{
     CLOSED, Cause, IN_NEW_PLAN, IN_OLD_PLAN, LIMIT, NO_MEMORY, NO_PLACE, NOWHERE, OK,
 };
 use crate::twin_feed::TwinFeed;
+use squall_c_values::CLeg;
 use squall_course::Course;
 use squall_key::Key;
 use squall_plan::Plan;
@@ -57,7 +58,12 @@ pub(crate) fn read_plan(alloc: Global, text: &[u8], added: u32) -> Result<Plan, 
 }
 
 /// The first course of the router of two texts, or why there is none.
-fn first_course(alloc: Global, number: u32, old: &[u8], new: &[u8]) -> Result<Course, Cause>
+pub(crate) fn first_course(
+    alloc: Global,
+    number: u32,
+    old: &[u8],
+    new: &[u8],
+) -> Result<Course, Cause>
     ensures course { GivesSeen (λ c. c) result (first_course number old.now new.now) }
     ensures place { PlacesMemory result }
 {

@@ -6,17 +6,17 @@ ghost use Rattle.std.specs.Borrow.{sem};
 ghost use Rattle.squall_c.specs.declared.router.RouterSlot.{RouterSlot};
 ghost use Rattle.squall_c.specs.declared.views.ViewSlot.{ViewSlot};
 ghost use Rattle.squall_c.specs.Handles.{view_bytes, router_at, view_room, view_at, view_such};
-ghost use Rattle.squall_c.specs.Frames.{over};
+ghost use Rattle.squall_c_values.specs.Rooms.{over};
 ghost use Rattle.squall_c.specs.Showing.{that_fit};
-ghost use Rattle.squall_c.specs.Views.{IsViewOf, IsSameView, seen, seen_number, routes_that_fit, legs_of_view};
+ghost use Rattle.squall_c.specs.Views.{IsViewOf, IsSameView, seen, seen_number, routes_that_fit, places_of_view, legs_of_view};
 
 use crate::handles::{CRouter, CView};
-use crate::legs::CLeg;
 use crate::router::RouterSlot;
 use crate::views::{
-    ViewSlot, again, close_view, view_legs, view_number, view_of, view_route, view_routes,
-    view_status,
+    ViewSlot, again, close_view, view_legs, view_locate, view_number, view_of, view_route,
+    view_routes, view_status,
 };
+use squall_c_values::{CLeg, CPlace};
 use std::alloc::Global;
 
 /// How many bytes the room of a view has at least. It is aligned to 16.
@@ -89,6 +89,23 @@ pub unsafe extern "C" fn squall_view_routes(
         ∗ ⌜ (room.new ≡ over (routes_that_fit s.view ranks.now room.old) room.old) × (result ≡ length (routes_that_fit s.view ranks.now room.old)) ⌝ }
 {
     view_routes(&*(view as *const ViewSlot), ranks, room)
+}
+
+/// Puts where the keys of these ranks stand into the room, as many as it holds, and answers how
+/// many: 0 if there is no view. A key whose `part` is its `dest` stays there until another course
+/// begins. The rest of the room stays. It allocates nothing.
+#[unsafe(no_mangle)]
+pub unsafe extern "C" fn squall_view_locate(
+    view: *const CView,
+    ranks: &[u64],
+    room: &mut [CPlace],
+) -> usize
+    ghost s: { ViewSlot }
+    requires* { sem 𝓛 (view_at view s) }
+    ensures* { sem 𝓛 (view_at view s)
+        ∗ ⌜ (room.new ≡ over (places_of_view s.view ranks.now room.old) room.old) × (result ≡ length (places_of_view s.view ranks.now room.old)) ⌝ }
+{
+    view_locate(&*(view as *const ViewSlot), ranks, room)
 }
 
 /// Puts the legs from rank `lo` to rank `hi` into the room, as many as it holds, and

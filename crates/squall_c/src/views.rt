@@ -1,15 +1,22 @@
 //! Views: what a router answered at one moment, for readers that share one table.
 
 ghost use Rattle.std.specs.Prelude.{◌≡◌, ℕ, IfOk, Some, length};
+ghost use Rattle.squall_plan.specs.Ranges.{owner_of};
+ghost use Rattle.squall_report.specs.Told.{TellsAll};
+ghost use Rattle.squall_board.specs.Boards.{told};
 ghost use Rattle.squall_router.specs.Routers.{RouterValue, course_of_router, route_of_router};
+ghost use Rattle.squall_c_values.specs.Values.{place_at, place_of};
 ghost use Rattle.squall_c.specs.declared.views.View.{View as ViewValue};
-ghost use Rattle.squall_c.specs.Frames.{over};
+ghost use Rattle.squall_c_values.specs.Rooms.{over};
 ghost use Rattle.squall_c.specs.Showing.{part_at, legs_by, that_fit};
-ghost use Rattle.squall_c.specs.Views.{Shows, IsViewOf, IsSameView, seen, seen_number, routes_that_fit, legs_of_view, blank_view, slot_of_view};
+ghost use Rattle.squall_c.specs.Views.{IsSettled, places_of_view, Shows, IsViewOf, IsSameView};
+ghost use Rattle.squall_c.specs.Views.{seen, seen_number, routes_that_fit, legs_of_view, blank_view, slot_of_view};
 
-use crate::legs::{CLeg, put_legs};
+use crate::legs::put_legs;
 use crate::router::{RouterSlot, Station, may_cross};
 use crate::status::{CLOSED, NO_MEMORY, NOWHERE, OK};
+use squall_c_values::{CLeg, CPlace, put_places};
+use squall_course::Course;
 use squall_join::Shared;
 use squall_key::Key;
 use squall_table::RouteTable;
@@ -21,8 +28,8 @@ use std::sync::Arc;
 pub struct View {
     /// Its table, which all views of that moment share.
     pub(crate) table: Shared<RouteTable>,
-    /// The number of its course.
-    pub(crate) number: u32,
+    /// Its course, which the router and all its views share.
+    pub(crate) course: Shared<Course>,
 }
 
 /// What lies behind the handle of a view: a view, or why there is none.
@@ -59,7 +66,7 @@ fn shown(alloc: Global, station: &Station) -> Result<View, AllocError>
     let table = station.router.table().copied(alloc)?;
     Ok(View {
         table: Shared::new(Arc::new(alloc, table)?),
-        number: station.router.course().number(),
+        course: Shared::new(Arc::try_clone(station.router.course())?),
     })
 }
 
@@ -79,7 +86,7 @@ fn shared(view: &View) -> Result<View, AllocError>
 {
     Ok(View {
         table: view.table.again()?,
-        number: view.number,
+        course: view.course.again()?,
     })
 }
 
@@ -124,6 +131,18 @@ pub(crate) fn view_routes(slot: &ViewSlot, ranks: &[u64], room: &mut [u32]) -> u
     count
 }
 
+/// Writes the places of the keys of these ranks into the room, as many as it holds, and answers how
+/// many: 0 if there is no view.
+pub(crate) fn view_locate(slot: &ViewSlot, ranks: &[u64], room: &mut [CPlace]) -> usize
+    ensures places { room.new ≡ over (places_of_view slot.now.view ranks.now room.old) room.old }
+    ensures count { result ≡ length (places_of_view slot.now.view ranks.now room.old) }
+{
+    match &slot.view {
+        Some(view) => put_places(view.course.as_arc(), view.table.as_arc(), ranks, room),
+        None => 0,
+    }
+}
+
 /// Puts the legs from rank `lo` to rank `hi` into the room, as many as it holds, and
 /// answers how many those are. None where no key lies between them, or one is no bound.
 pub(crate) fn view_legs(slot: &ViewSlot, lo: u64, hi: u64, room: &mut [CLeg]) -> usize
@@ -141,7 +160,7 @@ pub(crate) fn view_number(slot: &ViewSlot) -> u32
     ensures { result ≡ seen_number slot.now.view }
 {
     match &slot.view {
-        Some(view) => view.number,
+        Some(view) => view.course.as_arc().number(),
         None => 0,
     }
 }
@@ -151,6 +170,16 @@ pub fn views_answer_as_their_router()
     ensures routes { (r : RouterValue) (v : ViewValue) (rank : ℕ) → Shows r (Some v) → seen (Some v) rank ≡ part_at (route_of_router r) rank }
     ensures legs { (r : RouterValue) (v : ViewValue) (lo hi : ℕ) → Shows r (Some v) → legs_of_view (Some v) lo hi ≡ legs_by (route_of_router r) lo hi }
     ensures number { (r : RouterValue) (v : ViewValue) → Shows r (Some v) → seen_number (Some v) ≡ (course_of_router r).number }
+{}
+
+/// Changes nothing: after it a proof knows that a view gives the places of keys that its router gave. It
+/// also knows that a settled key stays. A router that took more reports routes the key to the same
+/// partition while its course is the same.
+pub fn settled_keys_stay()
+    ensures places { (r : RouterValue) (v : ViewValue) (rank : ℕ) → Shows r (Some v)
+        → place_at v.course (owner_of v.table) rank ≡ place_at (course_of_router r) (route_of_router r) rank }
+    ensures stays { (r later : RouterValue) (k : ℕ) → TellsAll (told later.board) (told r.board) → course_of_router later ≡ course_of_router r
+        → IsSettled (place_of (course_of_router r) (route_of_router r) k) → route_of_router later k ≡ route_of_router r k }
 {}
 
 /// Drops the view.

@@ -3,9 +3,9 @@ use Rattle.squall_c.proofs.Steps.{◌≡◌, ℕ, [], ◌∷◌, ◌++◌, refl,
 use Rattle.squall_c.specs.declared.router.RouterSlot as declared
 use Rattle.squall_c.specs.contracts.router.RouterSlot.{the_row as R}
 use Rattle.squall_c.proofs.router.RouterSlot.TheLaws.{the_row_laws as L}
-use Rattle.squall_c.specs.contracts.legs.CLeg.{the_row as Leg}
+use Rattle.squall_c_values.specs.contracts.legs.CLeg.{the_row as Leg}
 use Rattle.squall_c.specs.Showing.{legs_of_station, that_fit}
-use Rattle.squall_c.specs.Frames.{over}
+use Rattle.squall_c_values.specs.Rooms.{over}
 use Rattle.squall_c.specs.contracts.exports.squall_router_legs as f
 use Rattle.squall_c.proofs.exports.squall_router_legs.Statement.{statement}
 use Rattle.squall_c.proofs.exports.squall_router_legs.Code as code

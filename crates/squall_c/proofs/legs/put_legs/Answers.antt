@@ -1,8 +1,8 @@
 use Rattle.std.specs.Prelude.{◌≡◌, ◌≤◌, List, length}
 use Rattle.std.proofs.Common.{ap, ◌∙◌, ℕ, arith}
 use Rattle.squall_key.specs.Keys.{top}
-use Rattle.squall_c.specs.declared.legs.CLeg.{CLeg}
-use Rattle.squall_c.specs.Frames.{over}
+use Rattle.squall_c_values.specs.declared.legs.CLeg.{CLeg}
+use Rattle.squall_c_values.specs.Rooms.{over}
 use Rattle.squall_c.proofs.CutLegs.{put_some}
 use Rattle.squall_c.proofs.legs.put_legs.Goals as goal
 

@@ -2,7 +2,7 @@ use Rattle.std.specs.Prelude.{◌≡◌, List, Option, length}
 use Rattle.std.proofs.Common.{ap, sym, subst, ◌∙◌}
 use Rattle.squall_plan.specs.declared.range.PlanRange.{PlanRange}
 use Rattle.squall_c.specs.declared.router.Station.{Station}
-use Rattle.squall_c.specs.Frames.{over}
+use Rattle.squall_c_values.specs.Rooms.{over}
 use Rattle.squall_c.specs.Showing.{legs_of_station, that_fit}
 use Rattle.squall_c.proofs.CutLegs.{same_shown}
 use Rattle.squall_c.proofs.router.legs.Goals as goal

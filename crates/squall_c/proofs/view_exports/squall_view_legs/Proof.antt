@@ -3,10 +3,10 @@ use Rattle.squall_c.proofs.Steps.{◌≡◌, ℕ, [], ◌∷◌, ◌++◌, refl,
 use Rattle.squall_c.specs.declared.views.ViewSlot as declared
 use Rattle.squall_c.specs.contracts.views.ViewSlot.{the_row as R}
 use Rattle.squall_c.proofs.views.ViewSlot.TheLaws.{the_row_laws as L}
-use Rattle.squall_c.specs.contracts.legs.CLeg.{the_row as Leg}
+use Rattle.squall_c_values.specs.contracts.legs.CLeg.{the_row as Leg}
 use Rattle.squall_c.specs.Views.{legs_of_view}
 use Rattle.squall_c.specs.Showing.{that_fit}
-use Rattle.squall_c.specs.Frames.{over}
+use Rattle.squall_c_values.specs.Rooms.{over}
 use Rattle.squall_c.specs.contracts.view_exports.squall_view_legs as f
 use Rattle.squall_c.proofs.view_exports.squall_view_legs.Statement.{statement}
 use Rattle.squall_c.proofs.view_exports.squall_view_legs.Code as code

@@ -4,7 +4,7 @@ use Rattle.squall_c.specs.declared.views.ViewSlot as declared
 use Rattle.squall_c.specs.contracts.views.ViewSlot.{the_row as R}
 use Rattle.squall_c.proofs.views.ViewSlot.TheLaws.{the_row_laws as L}
 use Rattle.squall_c.specs.Views.{routes_that_fit}
-use Rattle.squall_c.specs.Frames.{over}
+use Rattle.squall_c_values.specs.Rooms.{over}
 use Rattle.squall_c.specs.contracts.view_exports.squall_view_routes as f
 use Rattle.squall_c.proofs.view_exports.squall_view_routes.Statement.{statement}
 use Rattle.squall_c.proofs.view_exports.squall_view_routes.Code as code

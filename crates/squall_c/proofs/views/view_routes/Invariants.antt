@@ -1,5 +1,5 @@
 use Rattle.std.proofs.Common.{◌≡◌, take, map, length}
-use Rattle.squall_c.specs.Frames.{over}
+use Rattle.squall_c_values.specs.Rooms.{over}
 use Rattle.squall_c.specs.Views.{seen}
 use Rattle.squall_c.proofs.views.view_routes.Given as goal
 

@@ -1,0 +1,133 @@
+/* Tests in threads with no more stack than the header says: texts of plans that nest as deep as JSON is
+ * read, and all other calls over many keys. The last line is `N passed, M failed`. */
+#include "check.h"
+
+#include <pthread.h>
+
+enum { TEXT_CALLS = 192 * 1024, OTHER_CALLS = 64 * 1024, DEEPEST = 126, SPANS = 20000 };
+
+static void in_thread(size_t stack, void *(*run)(void *)) {
+    pthread_attr_t attributes;
+    pthread_t thread;
+    CHECK(pthread_attr_init(&attributes) == 0);
+    CHECK(pthread_attr_setstacksize(&attributes, stack) == 0);
+    if (pthread_create(&thread, &attributes, run, NULL) == 0) {
+        CHECK(pthread_join(thread, NULL) == 0);
+    } else {
+        CHECK(!"a thread starts");
+    }
+    pthread_attr_destroy(&attributes);
+}
+
+/* ---- texts */
+
+static char nested[4096];
+
+/* A plan with a member that is ignored: so many objects, or arrays, one within the other. */
+static void nest(int depth, const char *begin, const char *end) {
+    strcpy(nested, "{\"ignored\":");
+    for (int i = 0; i < depth; i++) {
+        strcat(nested, begin);
+    }
+    strcat(nested, "1");
+    for (int i = 0; i < depth; i++) {
+        strcat(nested, end);
+    }
+    strcat(nested, ",\"plan\":[{\"part\":1,\"from\":[0,0],\"to\":\"end\"}]}");
+}
+
+static void *read_texts(void *unused) {
+    (void)unused;
+    squall_router *router = router_of(1, nested, nested);
+    uint32_t status = squall_router_status(router);
+    CHECK(status == SQUALL_OK || status == SQUALL_PLAN_JSON);
+    drop_router(router);
+    router = router_of(1, OLD, NEW);
+    status = squall_router_issued(router, 2, bytes_of(nested), strlen(nested));
+    CHECK(status == SQUALL_OK || status == SQUALL_NEW_PLAN_JSON);
+    drop_router(router);
+    squall_course *course = (squall_course *)room_of(squall_course_size());
+    squall_course_open(1, bytes_of(nested), strlen(nested), bytes_of(nested), strlen(nested), course);
+    status = squall_course_status(course);
+    CHECK(status == SQUALL_OK || status == SQUALL_PLAN_JSON);
+    squall_course_close(course);
+    free(course);
+    return NULL;
+}
+
+static void texts_that_nest(void) {
+    static const char *const FORMS[][2] = {{"{\"a\":", "}"}, {"[", "]"}, {"[{\"a\":", "}]"}};
+    for (size_t form = 0; form < sizeof FORMS / sizeof FORMS[0]; form++) {
+        for (int depth = DEEPEST / 2 - 1; depth <= DEEPEST + 2; depth++) {
+            nest(depth, FORMS[form][0], FORMS[form][1]);
+            in_thread(TEXT_CALLS, read_texts);
+        }
+    }
+}
+
+/* ---- all else */
+
+static squall_router *opened;
+static uint8_t *frames;
+
+static void *take_and_tell(void *unused) {
+    (void)unused;
+    for (uint64_t i = 0; i < SPANS; i++) {
+        CHECK(squall_router_loaded(opened, 1, 0, 3, squall_rank(2, (uint32_t)(2 * i)),
+                                   squall_rank(2, (uint32_t)(2 * i + 1))) == SQUALL_OK);
+    }
+    CHECK(squall_router_gather_board(opened) == SQUALL_OK);
+    size_t len = squall_router_frame(opened, frames, SQUALL_FRAME_BYTES);
+    CHECK(squall_router_feed(opened, frames, len / 2) == SQUALL_OK);
+    CHECK(squall_router_feed(opened, frames + len / 2, len - len / 2) == SQUALL_OK);
+    CHECK(squall_router_hear(opened, frames, len) == SQUALL_OK);
+    CHECK(squall_router_gather_digest(opened) == SQUALL_OK);
+    len = squall_router_frame(opened, frames, SQUALL_FRAME_BYTES);
+    CHECK(squall_router_hear(opened, frames, len) == SQUALL_OK);
+    CHECK(squall_router_gather_repair(opened) == SQUALL_OK);
+    CHECK(squall_router_done(opened, 1, 0, 4) == SQUALL_OK);
+    return NULL;
+}
+
+static void *look(void *unused) {
+    (void)unused;
+    squall_view *view = (squall_view *)room_of(squall_view_size());
+    squall_course *course = (squall_course *)room_of(squall_course_size());
+    squall_errand *errand = (squall_errand *)room_of(squall_errand_size());
+    const uint64_t rank = squall_rank(2, 0);
+    squall_place place;
+    squall_move moves[2];
+    squall_view_open(opened, view);
+    CHECK(squall_view_route(view, rank) == 3);
+    CHECK(squall_view_locate(view, &rank, 1, &place, 1) == 1);
+    squall_course_newest(opened, course);
+    CHECK(squall_course_moves(course, 0, moves, 2) == 2);
+    CHECK(squall_course_frame(course, frames, SQUALL_FRAME_BYTES) > 0);
+    squall_errand_start(opened, rank, errand);
+    CHECK(squall_errand_heed(errand, SQUALL_HELD, 0, 0) == SQUALL_SERVED);
+    squall_errand_close(errand);
+    squall_course_close(course);
+    squall_view_close(view);
+    free(errand);
+    free(course);
+    free(view);
+    return NULL;
+}
+
+static void calls_over_many_spans(void) {
+    frames = (uint8_t *)room_of(SQUALL_FRAME_BYTES);
+    opened = router_of(1, OLD, NEW);
+    in_thread(OTHER_CALLS, take_and_tell);
+    in_thread(OTHER_CALLS, look);
+    drop_router(opened);
+    free(frames);
+}
+
+static const struct test TESTS[] = {
+    TEST(texts_that_nest),
+    TEST(calls_over_many_spans),
+};
+
+int main(void) {
+    return run_tests(TESTS, sizeof TESTS / sizeof TESTS[0]);
+}
