@@ -3,6 +3,7 @@
 use crate::key::Rank;
 use std::error;
 use std::fmt;
+use std::io;
 
 /// Why a call did not do what it was asked for. Where its documentation does not say otherwise, the
 /// call has changed nothing.
@@ -158,3 +159,15 @@ impl fmt::Display for FrameFault {
 }
 
 impl error::Error for Error {}
+
+/// An error of the kind `OutOfMemory` for [`Error::NoMemory`], and else `InvalidData`, as bytes and
+/// texts from elsewhere are its cause.
+impl From<Error> for io::Error {
+    fn from(error: Error) -> io::Error {
+        let kind = match error {
+            Error::NoMemory => io::ErrorKind::OutOfMemory,
+            _ => io::ErrorKind::InvalidData,
+        };
+        io::Error::new(kind, error)
+    }
+}

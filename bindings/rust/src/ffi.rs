@@ -2,6 +2,7 @@
 
 use std::ffi::c_char;
 
+use crate::course::{Move, Place};
 use crate::key::Leg;
 
 /// What stands in the room of a router: nobody looks into it here.
@@ -19,6 +20,12 @@ pub(crate) struct RawView {
 /// What stands in the room of an errand.
 #[repr(C)]
 pub(crate) struct RawErrand {
+    hidden: [u8; 0],
+}
+
+/// What stands in the room of a course.
+#[repr(C)]
+pub(crate) struct RawCourse {
     hidden: [u8; 0],
 }
 
@@ -87,6 +94,13 @@ unsafe extern "C" {
         parts: *mut u32,
         room: usize,
     ) -> usize;
+    pub(crate) fn squall_view_locate(
+        view: *const RawView,
+        ranks: *const u64,
+        count: usize,
+        out: *mut Place,
+        room: usize,
+    ) -> usize;
     pub(crate) fn squall_view_legs(
         view: *const RawView,
         lo: u64,
@@ -96,6 +110,67 @@ unsafe extern "C" {
     ) -> usize;
     pub(crate) fn squall_view_number(view: *const RawView) -> u32;
     pub(crate) fn squall_view_close(view: *mut RawView);
+
+    pub(crate) safe fn squall_course_size() -> usize;
+    pub(crate) fn squall_course_open(
+        number: u32,
+        old_plan: *const u8,
+        old_len: usize,
+        new_plan: *const u8,
+        new_len: usize,
+        room: *mut RawCourse,
+    );
+    pub(crate) fn squall_course_newest(router: *const RawRouter, room: *mut RawCourse);
+    pub(crate) fn squall_course_first(router: *const RawRouter, room: *mut RawCourse);
+    pub(crate) fn squall_course_status(course: *const RawCourse) -> u32;
+    pub(crate) fn squall_course_fault_at(course: *const RawCourse) -> u64;
+    pub(crate) fn squall_course_number(course: *const RawCourse) -> u32;
+    pub(crate) fn squall_course_subplans(course: *const RawCourse) -> u32;
+    pub(crate) fn squall_course_moves(
+        course: *const RawCourse,
+        from: usize,
+        out: *mut Move,
+        room: usize,
+    ) -> usize;
+    pub(crate) fn squall_course_old(
+        course: *const RawCourse,
+        from: usize,
+        out: *mut Leg,
+        room: usize,
+    ) -> usize;
+    pub(crate) fn squall_course_new(
+        course: *const RawCourse,
+        from: usize,
+        out: *mut Leg,
+        room: usize,
+    ) -> usize;
+    pub(crate) fn squall_course_receivers(
+        course: *const RawCourse,
+        sub: u32,
+        out: *mut u32,
+        room: usize,
+    ) -> usize;
+    pub(crate) fn squall_course_frame(course: *const RawCourse, out: *mut u8, room: usize)
+    -> usize;
+    pub(crate) fn squall_course_close(course: *mut RawCourse);
+
+    pub(crate) fn squall_frame_loaded(
+        number: u32,
+        sub: u32,
+        part: u32,
+        lo: u64,
+        hi: u64,
+        out: *mut u8,
+        room: usize,
+    ) -> usize;
+    pub(crate) fn squall_frame_done(
+        number: u32,
+        sub: u32,
+        part: u32,
+        out: *mut u8,
+        room: usize,
+    ) -> usize;
+    pub(crate) fn squall_frame_opened(number: u32, sub: u32, out: *mut u8, room: usize) -> usize;
 
     pub(crate) safe fn squall_errand_size() -> usize;
     pub(crate) fn squall_errand_start(router: *const RawRouter, rank: u64, room: *mut RawErrand);

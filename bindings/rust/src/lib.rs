@@ -2,7 +2,8 @@
 //!
 //! A [`Router`] knows an old and a new partition plan and takes reports of what was loaded where. It
 //! says for each key which partition to ask. A [`View`] is what a router said at one moment, for
-//! threads that only read. An [`Errand`] follows the replies of partitions until a key is found.
+//! threads that only read. An [`Errand`] follows the replies of partitions until a key is found. A
+//! [`Course`] says which keys move, from which partition to which.
 //!
 //! ```
 //! use squall::{Rank, Router};
@@ -45,14 +46,17 @@
 
 use std::ffi::CStr;
 
+mod course;
 mod errand;
 mod error;
 mod ffi;
+pub mod frame;
 mod key;
 mod room;
 mod router;
 mod view;
 
+pub use course::{Course, Move, Place};
 pub use errand::{Errand, Next, Reply};
 pub use error::{Error, FrameFault, PlanFault};
 pub use key::{Leg, Rank};

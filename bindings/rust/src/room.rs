@@ -1,6 +1,6 @@
-//! Rooms: the memory in which routers, views and errands live.
+//! Rooms: the memory in which routers, views, errands and courses live.
 
-use crate::ffi::{self, RawErrand, RawRouter, RawView};
+use crate::ffi::{self, RawCourse, RawErrand, RawRouter, RawView};
 use std::mem::MaybeUninit;
 use std::ptr::{self, NonNull};
 
@@ -47,6 +47,17 @@ impl Handle for RawErrand {
     unsafe fn close(at: *mut RawErrand) {
         // SAFETY: the caller keeps it.
         unsafe { ffi::squall_errand_close(at) }
+    }
+}
+
+impl Handle for RawCourse {
+    fn size() -> usize {
+        ffi::squall_course_size()
+    }
+
+    unsafe fn close(at: *mut RawCourse) {
+        // SAFETY: the caller keeps it.
+        unsafe { ffi::squall_course_close(at) }
     }
 }
 

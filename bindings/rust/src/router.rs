@@ -1,5 +1,6 @@
 //! Routers.
 
+use crate::course::Course;
 use crate::errand::Errand;
 use crate::error::Error;
 use crate::ffi::{self, RawRouter};
@@ -207,6 +208,27 @@ impl Router {
     pub fn view(&self) -> Result<View, Error> {
         // SAFETY: the router was opened.
         unsafe { View::open(|room| ffi::squall_view_open(self.room.get(), room)) }
+    }
+
+    /// The course by which its routes go: its newest. It stays as it is, whatever the router takes
+    /// later. Nothing is copied.
+    ///
+    /// # Errors
+    ///
+    /// [`Error::NoMemory`] if the course has more owners than can be counted.
+    pub fn course(&self) -> Result<Course, Error> {
+        // SAFETY: it opens a course, of a router that was opened.
+        unsafe { Course::open_by(|room| ffi::squall_course_newest(self.room.get(), room)) }
+    }
+
+    /// The course with which it was opened.
+    ///
+    /// # Errors
+    ///
+    /// As [`Router::course`].
+    pub fn first_course(&self) -> Result<Course, Error> {
+        // SAFETY: it opens a course, of a router that was opened.
+        unsafe { Course::open_by(|room| ffi::squall_course_first(self.room.get(), room)) }
     }
 
     /// An errand for the key, which begins at the partition to which the router routes it now.

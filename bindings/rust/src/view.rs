@@ -1,5 +1,6 @@
 //! Views.
 
+use crate::course::Place;
 use crate::errand::Errand;
 use crate::error::Error;
 use crate::ffi::{self, RawView};
@@ -52,6 +53,29 @@ impl View {
                 parts.len(),
             )
         }
+    }
+
+    /// Writes where those keys stand to the front of `places`, as many as it holds, and says how many.
+    /// [`Place::NO_KEY`] stands for a rank that is no key's.
+    pub fn locate(&self, keys: &[Rank], places: &mut [Place]) -> usize {
+        let ranks = keys.as_ptr().cast::<u64>();
+        // SAFETY: the view was opened, a rank is a number, and the places are writable.
+        unsafe {
+            ffi::squall_view_locate(
+                self.room.get(),
+                ranks,
+                keys.len(),
+                places.as_mut_ptr(),
+                places.len(),
+            )
+        }
+    }
+
+    /// Where the key of that rank stands; none if the rank is no key's.
+    pub fn place(&self, key: Rank) -> Option<Place> {
+        let mut place = [Place::NO_KEY];
+        self.locate(&[key], &mut place);
+        (place[0] != Place::NO_KEY).then_some(place[0])
     }
 
     /// The legs of the keys, by rising key: neighbours have different partitions. None where there

@@ -1,6 +1,9 @@
 //! The library as a Rust program sees it. Expected values are those of the worked examples.
 
-use squall::{Error, FrameFault, Leg, Next, PlanFault, Rank, Reply, Router, View};
+use squall::{
+    Course, Error, FrameFault, Leg, Move, Next, Place, PlanFault, Rank, Reply, Router, View, frame,
+};
+use std::io;
 use std::sync::Mutex;
 use std::thread;
 
@@ -199,5 +202,118 @@ fn errands_follow_replies() -> Result<(), Error> {
         Ok(Next::Lost)
     );
     assert_eq!(errand.heed(Reply::Held), Ok(Next::Lost));
+    Ok(())
+}
+
+fn moving(lo: Rank, hi: Rank, source: u32, dest: u32) -> Move {
+    Move {
+        lo,
+        hi,
+        source,
+        dest,
+        sub: 0,
+    }
+}
+
+#[test]
+fn the_course_of_the_examples() -> Result<(), Error> {
+    let course = Course::open(1, OLD, NEW)?;
+    assert_eq!(course.number(), 1);
+    assert_eq!(course.subplans(), 1);
+    let moves = [moving(key(2), key(3), 1, 3), moving(key(6), key(9), 3, 4)];
+    assert_eq!(course.moves(), moves);
+    assert_eq!(course.receivers(0)?, [3, 4]);
+    assert_eq!(course.receivers(1)?, []);
+    assert_eq!(course.old_plan()[0], leg(key(0), key(3), 1));
+    assert_eq!(course.old_plan().len(), 4);
+    assert_eq!(course.new_plan()[4], leg(key(6), Rank::END, 4));
+    assert_eq!(course.new_plan().len(), 5);
+    Ok(())
+}
+
+/// The plan that gives the key i:0 and those up to (i + 1):0 to `part(i)`, for 200 of them.
+fn striped(part: impl Fn(u32) -> u32) -> String {
+    let range = |i: u32| {
+        let to = if i == 199 {
+            "\"end\"".to_string()
+        } else {
+            format!("[{},0]", i + 1)
+        };
+        format!(r#"{{"part":{},"from":[{i},0],"to":{to}}}"#, part(i))
+    };
+    let ranges: Vec<String> = (0..200).map(range).collect();
+    format!(r#"{{"plan":[{}]}}"#, ranges.join(","))
+}
+
+#[test]
+fn courses_of_more_moves_than_a_call_gives() -> Result<(), Error> {
+    let (old, new) = (striped(|i| i), striped(|i| i + 1));
+    let course = Course::open(1, old.as_bytes(), new.as_bytes())?;
+    let moves = course.moves();
+    assert_eq!(moves.len(), 200);
+    let alike = |i: u32| moves[i as usize].lo == key(i) && moves[i as usize].dest == i + 1;
+    assert!((0..200).all(alike));
+    assert_eq!(course.receivers(0)?, Vec::from_iter(1..=200));
+    assert_eq!(course.old_plan().len(), 200);
+    Ok(())
+}
+
+#[test]
+fn courses_of_a_router() -> Result<(), Error> {
+    let mut router = fresh();
+    router.issued(5, OLD)?;
+    let (first, newest) = (router.first_course()?, router.course()?);
+    drop(router);
+    assert_eq!((first.number(), newest.number()), (1, 5));
+    assert_eq!(newest.moves()[0], moving(key(2), key(3), 3, 1));
+    Ok(())
+}
+
+#[test]
+fn courses_that_are_none() {
+    assert_eq!(Course::open(0, OLD, NEW).err(), Some(Error::Limit));
+    let fault = Some(Error::NewPlan(PlanFault::Json));
+    assert_eq!(Course::open(1, OLD, b"").err(), fault);
+}
+
+#[test]
+fn where_keys_stand() -> Result<(), Error> {
+    let mut router = fresh();
+    router.loaded(1, 0, 3, key(2)..Rank::new(2, 5))?;
+    let view = router.view()?;
+    let place = |rank: Rank| view.place(rank).unwrap();
+    assert!(place(key(0)).is_settled() && place(key(0)).sub().is_none());
+    assert!(place(key(2)).is_settled() && place(key(2)).sub() == Some(0));
+    let waiting = place(key(6));
+    assert!(!waiting.is_settled());
+    assert_eq!((waiting.part, waiting.source, waiting.dest), (3, 3, 4));
+    assert_eq!(view.place(Rank::END), None);
+    let mut places = [Place::NO_KEY; 2];
+    assert_eq!(view.locate(&[key(6), Rank::END, key(0)], &mut places), 2);
+    assert_eq!(places, [waiting, Place::NO_KEY]);
+    Ok(())
+}
+
+#[test]
+fn errors_of_the_library_are_errors_of_io() {
+    let read = || -> io::Result<Course> { Ok(Course::open(1, OLD, b"")?) };
+    let error = read().err().unwrap();
+    assert_eq!(error.kind(), io::ErrorKind::InvalidData);
+    assert_eq!(error.to_string(), "the new text is no plan: Json");
+}
+
+#[test]
+fn frames_that_a_router_hears() -> Result<(), Error> {
+    let mut router = Router::open(1, OLD, OLD)?;
+    router.hear(&Course::open(2, OLD, NEW)?.frame()?)?;
+    assert_eq!((router.number(), router.route(key(2))), (2, Some(1)));
+    router.hear(&frame::loaded(2, 0, 3, key(2)..key(3))?)?;
+    assert_eq!(router.route(key(2)), Some(3));
+    router.hear(&frame::opened(2, 0)?)?;
+    router.hear(&frame::done(2, 0, 4)?)?;
+    assert_eq!(router.route(key(6)), Some(4));
+    assert_eq!(frame::loaded(2, 0, 3, key(3)..key(3)), Err(Error::Limit));
+    assert_eq!(frame::opened(0, 0), Err(Error::Limit));
+    assert_eq!(frame::done(1, 0, 10000), Err(Error::Limit));
     Ok(())
 }
