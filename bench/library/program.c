@@ -1,4 +1,4 @@
-/* Routes from C by views, in one to four threads, and feeds. Prints `NAME: VALUE UNIT` a line. */
+/* Routes from C by views, in one to four threads and many keys a call, and frames. Prints `NAME: VALUE UNIT` a line. */
 #define _POSIX_C_SOURCE 200809L
 #include "squall.h"
 
@@ -8,7 +8,7 @@
 #include <string.h>
 #include <time.h>
 
-enum { KEYS = 20000, ROUNDS = 100, MOST_THREADS = 4, SMALL_FRAMES = 20000 };
+enum { KEYS = 20000, ROUNDS = 100, MOST_THREADS = 4, SMALL_FRAMES = 20000, AT_ONCE = 16 };
 
 /* All loads lie below this rank, and so do the keys that are asked for. */
 static const uint64_t REACH = UINT64_C(1) << 62;
@@ -136,6 +136,42 @@ static void measure_routes(squall_view *view, uint32_t legs, int count, int wait
            waits ? "each key from the last answer" : "keys on their own", count, sum / count / KEYS * 1e9);
 }
 
+/* Keys that do not wait for one another, in calls of 16: their routes, and where they stand. */
+static void measure_batches(const squall_view *view, uint32_t legs) {
+    uint64_t ranks[AT_ONCE];
+    uint32_t parts[AT_ONCE];
+    squall_place places[AT_ONCE];
+    double routes = 1e9;
+    double located = 1e9;
+    uint64_t state = 1;
+    uint64_t sum = 0;
+    for (int round = 0; round < ROUNDS; round++) {
+        double start = now();
+        for (int i = 0; i < KEYS; i += AT_ONCE) {
+            for (int j = 0; j < AT_ONCE; j++) {
+                ranks[j] = state & (REACH - 1);
+                state = next_state(state);
+            }
+            sum += squall_view_routes(view, ranks, AT_ONCE, parts, AT_ONCE) + parts[0];
+        }
+        double took = now() - start;
+        routes = took < routes ? took : routes;
+        start = now();
+        for (int i = 0; i < KEYS; i += AT_ONCE) {
+            for (int j = 0; j < AT_ONCE; j++) {
+                ranks[j] = state & (REACH - 1);
+                state = next_state(state);
+            }
+            sum += squall_view_locate(view, ranks, AT_ONCE, places, AT_ONCE) + places[0].part;
+        }
+        took = now() - start;
+        located = took < located ? took : located;
+    }
+    demand(sum >= (uint64_t)KEYS * ROUNDS);
+    printf("routes of %d keys a call, %u legs, each: %.1f ns\n", AT_ONCE, legs, routes / KEYS * 1e9);
+    printf("places of %d keys a call, %u legs, each: %.1f ns\n", AT_ONCE, legs, located / KEYS * 1e9);
+}
+
 static void measure_views(uint32_t legs) {
     uint8_t *frame = room_of(SQUALL_FRAME_BYTES);
     squall_router *router = open_router();
@@ -151,6 +187,7 @@ static void measure_views(uint32_t legs) {
             measure_routes(view, legs, count, waits);
         }
     }
+    measure_batches(view, legs);
     squall_view_close(view);
     free(view);
     close_router(router);
@@ -181,8 +218,10 @@ static void measure_feeds(void) {
     free(stream);
 }
 
-/* Frames of one load each, each fed whole by one call. */
-static void measure_small_frames(void) {
+typedef uint32_t take(squall_router *router, const uint8_t *frame, size_t len);
+
+/* Frames of one load each, each taken whole by one call. */
+static void measure_small_frames(const char *name, take *take) {
     squall_router *router = open_router();
     uint8_t frame[64];
     double took = 0;
@@ -190,11 +229,11 @@ static void measure_small_frames(void) {
         size_t len = put_frame(frame, 1, 1, 1);
         put(put(frame + len - 16, 16 * (uint64_t)i, 8), 16 * (uint64_t)i + 8, 8);
         double start = now();
-        uint32_t status = squall_router_feed(router, frame, len);
+        uint32_t status = take(router, frame, len);
         took += now() - start;
         demand(status == SQUALL_OK);
     }
-    printf("feed, frames of one load: %.0f ns\n", took / SMALL_FRAMES * 1e9);
+    printf("%s, frames of one load: %.0f ns\n", name, took / SMALL_FRAMES * 1e9);
     close_router(router);
 }
 
@@ -202,6 +241,7 @@ int main(void) {
     measure_views(1000);
     measure_views(100000);
     measure_feeds();
-    measure_small_frames();
+    measure_small_frames("feed", squall_router_feed);
+    measure_small_frames("hear", squall_router_hear);
     return 0;
 }
