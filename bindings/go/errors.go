@@ -1,0 +1,211 @@
+package squall
+
+// #include "squall.h"
+import "C"
+
+import (
+	"errors"
+	"fmt"
+)
+
+// Error is a reason without further detail why a call did not do what it was asked for. Its number is
+// the library's status. Plans and frames have errors of their own: [PlanError] and [FrameFault].
+type Error uint32
+
+// If the documentation of a call does not say otherwise, it has changed nothing when it returns one of
+// these.
+const (
+	// ErrNoMemory says that an allocation failed. The same call may be tried again.
+	ErrNoMemory Error = C.SQUALL_NO_MEMORY
+	// ErrLimit says that a number or a rank lies outside its limits, or that a span has no keys.
+	ErrLimit Error = C.SQUALL_LIMIT
+	// ErrClosed says that the router, view or errand was closed, or is nil.
+	ErrClosed Error = C.SQUALL_CLOSED
+	// ErrFailed says that a frame fault came earlier, so that the router's stream is at its end.
+	ErrFailed Error = C.SQUALL_FAILED
+	// ErrTooLong says that a digest has more rows than a frame holds.
+	ErrTooLong Error = C.SQUALL_TOO_LONG
+	// ErrNoDigest says that no digest was heard that could be answered.
+	ErrNoDigest Error = C.SQUALL_NO_DIGEST
+)
+
+// ErrBusy says that a [Router.ReadFrom] is reading the router's stream, so that other bytes would come
+// between those of its frames. Nothing was taken. It is an error of this package and has no status.
+var ErrBusy = errors.New("squall: the router's stream is being read")
+
+var errorTexts = map[Error]string{
+	ErrNoMemory: "no memory",
+	ErrLimit:    "a number or a span is outside its limits",
+	ErrClosed:   "closed",
+	ErrFailed:   "the stream ended with a fault before",
+	ErrTooLong:  "the digest has too many rows for a frame",
+	ErrNoDigest: "no digest was heard",
+}
+
+// Error is the reason as a text.
+func (e Error) Error() string {
+	if text, ok := errorTexts[e]; ok {
+		return "squall: " + text
+	}
+	return fmt.Sprintf("squall: unknown status %d", uint32(e))
+}
+
+// FrameFault is the error of bytes that are no frame. docs/FORMATS.md has the bytes of a frame.
+type FrameFault uint32
+
+const (
+	// FrameMagic says that the first two bytes are not those of a frame.
+	FrameMagic FrameFault = C.SQUALL_FRAME_MAGIC
+	// FrameVersion says that the version is not known.
+	FrameVersion FrameFault = C.SQUALL_FRAME_VERSION
+	// FrameKind says that the kind is neither that of a delta nor that of a digest.
+	FrameKind FrameFault = C.SQUALL_FRAME_KIND
+	// FrameTooLong says that the body is to have more than 1,048,576 bytes.
+	FrameTooLong FrameFault = C.SQUALL_FRAME_TOO_LONG
+	// FrameShort says that the bytes end within the frame. A stream waits for more instead.
+	FrameShort FrameFault = C.SQUALL_FRAME_SHORT
+	// FrameCount says that the body has too few bytes left for its next item.
+	FrameCount FrameFault = C.SQUALL_FRAME_COUNT
+	// FrameRange says that a field lies outside its limits, or that a cell says nothing.
+	FrameRange FrameFault = C.SQUALL_FRAME_RANGE
+	// FrameOrder says that an item does not come after the one before it.
+	FrameOrder FrameFault = C.SQUALL_FRAME_ORDER
+	// FrameSpare says that bytes are left in the body, or follow a whole frame.
+	FrameSpare FrameFault = C.SQUALL_FRAME_SPARE
+)
+
+var frameNames = map[FrameFault]string{
+	FrameMagic:   "Magic",
+	FrameVersion: "Version",
+	FrameKind:    "Kind",
+	FrameTooLong: "TooLong",
+	FrameShort:   "Short",
+	FrameCount:   "Count",
+	FrameRange:   "Range",
+	FrameOrder:   "Order",
+	FrameSpare:   "Spare",
+}
+
+// Error names the fault as docs/FORMATS.md does.
+func (f FrameFault) Error() string {
+	return "squall: no frame: " + frameNames[f]
+}
+
+// PlanFault says why a text is no plan. A [PlanError] holds one, and says where it lies.
+type PlanFault uint32
+
+const (
+	// PlanJSON says that the bytes are no JSON, or no UTF-8.
+	PlanJSON PlanFault = C.SQUALL_PLAN_JSON
+	// PlanShape says that the text is no object with an array `plan`, or that an entry lacks its form.
+	PlanShape PlanFault = C.SQUALL_PLAN_SHAPE
+	// PlanBadPart says that the partition of an entry is above 9999.
+	PlanBadPart PlanFault = C.SQUALL_PLAN_BAD_PART
+	// PlanBadBound says that a pair of an entry is no bound.
+	PlanBadBound PlanFault = C.SQUALL_PLAN_BAD_BOUND
+	// PlanEmptyRange says that the `from` of an entry is not below its `to`.
+	PlanEmptyRange PlanFault = C.SQUALL_PLAN_EMPTY_RANGE
+	// PlanTooMany says that there are more than 4096 entries.
+	PlanTooMany PlanFault = C.SQUALL_PLAN_TOO_MANY
+	// PlanOverlap says that some key is in two ranges.
+	PlanOverlap PlanFault = C.SQUALL_PLAN_OVERLAP
+	// PlanGap says that some key is in no range.
+	PlanGap PlanFault = C.SQUALL_PLAN_GAP
+)
+
+var planNames = map[PlanFault]string{
+	PlanJSON:       "Json",
+	PlanShape:      "Shape",
+	PlanBadPart:    "BadPart",
+	PlanBadBound:   "BadBound",
+	PlanEmptyRange: "EmptyRange",
+	PlanTooMany:    "TooMany",
+	PlanOverlap:    "Overlap",
+	PlanGap:        "Gap",
+}
+
+// Error names the fault as docs/FORMATS.md does.
+func (f PlanFault) Error() string {
+	return "squall: no plan: " + planNames[f]
+}
+
+// PlanError is the error of a text that is no plan. errors.Is compares it with a [PlanFault].
+type PlanError struct {
+	// Fault says why the text is no plan.
+	Fault PlanFault
+	// New says that it is the text of the new plan, and not that of the old one.
+	New bool
+	// Entry is the index of the entry at fault, from 0, or -1 if the fault is of no entry.
+	Entry int
+	// Key is the least key in two ranges or in none, of PlanOverlap and PlanGap, and else 0.
+	Key Rank
+}
+
+// Error names the text, the fault and its place.
+func (e *PlanError) Error() string {
+	text := "squall: the old text is no plan: "
+	if e.New {
+		text = "squall: the new text is no plan: "
+	}
+	text += planNames[e.Fault]
+	switch {
+	case e.Entry >= 0:
+		return fmt.Sprintf("%s %d", text, e.Entry)
+	case e.Fault == PlanOverlap || e.Fault == PlanGap:
+		return fmt.Sprintf("%s %v", text, e.Key)
+	}
+	return text
+}
+
+// Unwrap is the fault.
+func (e *PlanError) Unwrap() error {
+	return e.Fault
+}
+
+// newPlan is how far the statuses of a new plan's faults are above those of an old one's.
+const newPlan = C.SQUALL_NEW_PLAN_JSON - C.SQUALL_PLAN_JSON
+
+// StatusOf is the library's status of an error of this package, one of enum squall_status in squall.h.
+// It is 0 for all other errors, and for nil.
+func StatusOf(err error) uint32 {
+	var plain Error
+	var frame FrameFault
+	var plan *PlanError
+	switch {
+	case errors.As(err, &plain):
+		return uint32(plain)
+	case errors.As(err, &frame):
+		return uint32(frame)
+	case errors.As(err, &plan) && plan.New:
+		return uint32(plan.Fault) + newPlan
+	case plan != nil:
+		return uint32(plan.Fault)
+	}
+	return 0
+}
+
+// errorOf is the error of a status, if it is one. `place` is where the last plan fault lies.
+func errorOf(status uint32, place uint64) error {
+	switch {
+	case status == C.SQUALL_OK:
+		return nil
+	case C.SQUALL_PLAN_JSON <= status && status <= C.SQUALL_PLAN_GAP:
+		return planError(PlanFault(status), false, place)
+	case C.SQUALL_NEW_PLAN_JSON <= status && status <= C.SQUALL_NEW_PLAN_GAP:
+		return planError(PlanFault(status-newPlan), true, place)
+	case C.SQUALL_FRAME_MAGIC <= status && status <= C.SQUALL_FRAME_SPARE:
+		return FrameFault(status)
+	}
+	return Error(status)
+}
+
+func planError(fault PlanFault, isNew bool, place uint64) error {
+	e := &PlanError{Fault: fault, New: isNew, Entry: -1}
+	switch {
+	case fault == PlanOverlap || fault == PlanGap:
+		e.Key = Rank(place)
+	case place != C.SQUALL_NO_PLACE:
+		e.Entry = int(place)
+	}
+	return e
+}

@@ -1,0 +1,181 @@
+package squall
+
+// #include "squall.h"
+import "C"
+
+import "io"
+
+// Frames are the frames that a router has made, in the order in which they are to be sent. Each is one
+// message, and holds for itself: what another router hears of them does not depend on their order.
+type Frames [][]byte
+
+// WriteTo writes the frames, each by one Write, and returns how many bytes were written. After an error
+// it is safe to write all of them again on another stream: a frame that comes twice changes nothing.
+func (f Frames) WriteTo(to io.Writer) (int64, error) {
+	var sum int64
+	for _, frame := range f {
+		n, err := to.Write(frame)
+		sum += int64(n)
+		if err != nil {
+			return sum, err
+		}
+		if n < len(frame) {
+			return sum, io.ErrShortWrite
+		}
+	}
+	return sum, nil
+}
+
+// Board makes the frames of all that was reported to the router. There are none if nothing was.
+//
+// Errors: [ErrNoMemory]; [ErrClosed].
+func (r *Router) Board() (Frames, error) {
+	return r.gather(func(at *C.squall_router) C.uint32_t { return C.squall_router_gather_board(at) })
+}
+
+// Digest makes the frame of a digest of all that was reported to the router. Another router that hears
+// it can tell by [Router.Repair] what this one lacks.
+//
+// Errors: [ErrTooLong] if the digest has more rows than a frame holds; [ErrNoMemory]; [ErrClosed].
+func (r *Router) Digest() ([]byte, error) {
+	frames, err := r.gather(func(at *C.squall_router) C.uint32_t { return C.squall_router_gather_digest(at) })
+	if err != nil {
+		return nil, err
+	}
+	return frames[0], nil
+}
+
+// Repair makes the frames of what the digest that was heard last does not show. There are none if it
+// shows all.
+//
+// Errors: [ErrNoDigest] if no digest was heard; [ErrNoMemory]; [ErrClosed].
+func (r *Router) Repair() (Frames, error) {
+	return r.gather(func(at *C.squall_router) C.uint32_t { return C.squall_router_gather_repair(at) })
+}
+
+// gather makes frames by a call, and fetches them before another call can make others.
+func (r *Router) gather(call func(at *C.squall_router) C.uint32_t) (Frames, error) {
+	var frames Frames
+	err := r.take(func(at *C.squall_router) C.uint32_t {
+		status := call(at)
+		if status == C.SQUALL_OK {
+			frames = fetch(at)
+		}
+		return status
+	})
+	return frames, err
+}
+
+// fetch takes the frames that wait at the router.
+func fetch(at *C.squall_router) Frames {
+	var frames Frames
+	for {
+		nothing, _ := bytesOf(nil)
+		size := C.squall_router_frame(at, nothing, 0)
+		if size == 0 {
+			return frames
+		}
+		frame := make([]byte, size)
+		out, room := bytesOf(frame)
+		C.squall_router_frame(at, out, room)
+		frames = append(frames, frame)
+	}
+}
+
+// Hear takes one whole frame, no more and no less, of a transport that keeps messages apart. A delta is
+// taken as reports. A digest is kept for [Router.Repair]. It has nothing to do with the stream of
+// [Router.Feed], and any number of goroutines may call it.
+//
+// Errors: a [FrameFault] if the bytes are no frame; [ErrNoMemory]; [ErrClosed]. The next frame may come.
+func (r *Router) Hear(frame []byte) error {
+	return r.take(func(at *C.squall_router) C.uint32_t {
+		bytes, size := bytesOf(frame)
+		return C.squall_router_hear(at, bytes, size)
+	})
+}
+
+// Feed takes the next bytes of a stream of frames, which may be cut anywhere. Deltas that end in these
+// bytes are taken as reports. The last digest is kept for [Router.Repair]. What is left waits for the
+// next bytes. A router has one stream: several streams may share it only if each frame is fed whole
+// before bytes of another stream come.
+//
+// Errors: a [FrameFault] if bytes are no frame: the messages before them were taken, and from now on
+// the error is [ErrFailed]. [ErrNoMemory], after which the same bytes may be fed again. [ErrBusy] while
+// a [Router.ReadFrom] runs. [ErrClosed].
+func (r *Router) Feed(bytes []byte) error {
+	err := error(ErrClosed)
+	r.use(func(at *C.squall_router) {
+		if err = ErrBusy; !r.reading {
+			err = r.feed(bytes)
+		}
+	})
+	return err
+}
+
+// feed feeds what is still to be fed, and then the bytes. The router is locked and open.
+func (r *Router) feed(bytes []byte) error {
+	for _, next := range [][]byte{r.unfed, bytes} {
+		at, size := bytesOf(next)
+		if err := r.check(C.squall_router_feed(r.at, at, size)); err != nil {
+			return err
+		}
+		r.unfed = nil
+	}
+	return nil
+}
+
+// readSize is how many bytes ReadFrom asks for at once.
+const readSize = 64 << 10
+
+// ReadFrom feeds the router the bytes of a reader until that is at its end, as [Router.Feed] does, and
+// returns how many bytes it has read. The router may be used for all but Feed and ReadFrom meanwhile.
+// A frame that the reader's end cuts waits for its other bytes, which the next Feed or ReadFrom brings.
+//
+// Errors: those of the reader, unless it is io.EOF; those of Feed. After [ErrNoMemory] the bytes that
+// were read are kept: call ReadFrom again to go on. To stop it, close the reader: after
+// [Router.Close] it returns once the reader has answered.
+func (r *Router) ReadFrom(from io.Reader) (int64, error) {
+	if err := r.beginReading(); err != nil {
+		return 0, err
+	}
+	defer r.use(func(*C.squall_router) { r.reading = false })
+	var sum int64
+	buffer := make([]byte, readSize)
+	for {
+		n, readErr := from.Read(buffer)
+		sum += int64(n)
+		if err := r.feedRead(buffer[:n]); err != nil {
+			return sum, err
+		}
+		if readErr == io.EOF {
+			return sum, nil
+		}
+		if readErr != nil {
+			return sum, readErr
+		}
+	}
+}
+
+// beginReading takes the stream for a ReadFrom, if it can be fed at all.
+func (r *Router) beginReading() error {
+	err := r.Feed(nil)
+	if err == nil {
+		r.use(func(*C.squall_router) {
+			if err = ErrBusy; !r.reading {
+				r.reading, err = true, nil
+			}
+		})
+	}
+	return err
+}
+
+// feedRead feeds bytes that were read, and keeps them if there is no memory for them.
+func (r *Router) feedRead(bytes []byte) error {
+	err := error(ErrClosed)
+	r.use(func(*C.squall_router) {
+		if err = r.feed(bytes); err == ErrNoMemory {
+			r.unfed = append(r.unfed, bytes...)
+		}
+	})
+	return err
+}

@@ -1,0 +1,74 @@
+package squall
+
+// #include "squall.h"
+import "C"
+
+import (
+	"fmt"
+	"unsafe"
+)
+
+// Part is the number of a partition, from 0 to 9999.
+type Part uint32
+
+// Nowhere is no partition: the answer for a rank that is no key's.
+const Nowhere Part = C.SQUALL_NOWHERE
+
+// Rank is the number by which keys are ordered: root * 4294967296 + second. The ranks below [End] are
+// those of keys.
+type Rank uint64
+
+// End is the end of all keys, and no key itself.
+const End Rank = C.SQUALL_TOP
+
+// Key is the rank of the key root:second. Roots up to 4294967294 have keys.
+func Key(root, second uint32) Rank {
+	return Rank(root)<<32 | Rank(second)
+}
+
+// String is "root:second", or "end".
+func (r Rank) String() string {
+	if r == End {
+		return "end"
+	}
+	return fmt.Sprintf("%d:%d", uint64(r)>>32, uint32(r))
+}
+
+// Leg says that the keys from Lo on, below Hi, are to be asked for at Part. Neighbouring legs have
+// different partitions.
+type Leg struct {
+	Lo, Hi Rank
+	Part   Part
+}
+
+// atOnce is how many legs one call asks for.
+const atOnce = 64
+
+// allLegs gathers the legs of the keys from lo on, below hi, by calls of fill, which writes as many as
+// out has room for, from its argument on, and says how many.
+func allLegs(lo, hi Rank, fill func(lo Rank, out *C.squall_leg) C.size_t) []Leg {
+	var legs []Leg
+	var block [atOnce]C.squall_leg
+	for lo < hi {
+		count := fill(lo, &block[0])
+		for _, leg := range block[:count] {
+			legs = append(legs, Leg{Lo: Rank(leg.lo), Hi: Rank(leg.hi), Part: Part(leg.part)})
+		}
+		if count == 0 {
+			break
+		}
+		lo = legs[len(legs)-1].Hi
+	}
+	return legs
+}
+
+// empty is what the pointer to no bytes leads to, since the library takes no null pointer.
+var empty [16]byte
+
+// bytesOf is where the bytes are, and how many.
+func bytesOf(bytes []byte) (*C.uint8_t, C.size_t) {
+	if len(bytes) == 0 {
+		return (*C.uint8_t)(unsafe.Pointer(&empty[0])), 0
+	}
+	return (*C.uint8_t)(unsafe.Pointer(&bytes[0])), C.size_t(len(bytes))
+}

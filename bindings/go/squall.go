@@ -1,0 +1,50 @@
+// Package squall says which partition to ask for a key while partitions move.
+//
+// A [Router] knows an old and a new partition plan, and takes reports of what was loaded where. It
+// says for each key which partition to ask. A [View] is what a router said at one moment, for
+// goroutines that only read. An [Errand] follows the replies of partitions until a key is found.
+//
+//	router, err := squall.OpenRouter(1, oldPlan, newPlan)
+//	if err != nil {
+//		return err
+//	}
+//	defer router.Close()
+//	err = router.Loaded(1, 0, 3, squall.Key(2, 0), squall.Key(3, 0))
+//	part, ok := router.Route(squall.Key(2, 7))
+//
+// The package is a thin layer over the C library of squall, which is proved: that answers are right
+// and that each call ends rests on that. The layer itself is tested and not proved.
+//
+// # Linking
+//
+// cgo finds the library by pkg-config. PKG_CONFIG_PATH names the folder that tools/library makes, if
+// the library is not installed. README.md has the commands, also for a program that holds the archive.
+//
+// # Goroutines
+//
+// Any number of goroutines may use one router, view or errand. The C library serves one call at a
+// time for each handle. So a router or an errand has a lock, and a view has several handles of one
+// table, of which each call takes one that is free: routes by a view do not wait for each other.
+//
+// # Closing
+//
+// Close frees what the library has allocated. It may be called twice, and while other goroutines make
+// calls. After it, each call returns [ErrClosed] or the answer for "none" that its documentation
+// names. The same holds for a nil pointer. What is never closed is closed by a finalizer once it is
+// unreachable. But the garbage collector does not see the library's memory, and may come late.
+//
+// # Memory
+//
+// The library allocates by malloc. If that fails, the call returns [ErrNoMemory] and has changed
+// nothing. It keeps no pointer to Go memory. Byte slices and batches must not change while a call
+// runs that takes them.
+package squall
+
+// #cgo pkg-config: squall
+// #include "squall.h"
+import "C"
+
+// Version is the version of the library that runs, such as "0.1.0".
+func Version() string {
+	return C.GoString(C.squall_version())
+}
