@@ -1,13 +1,11 @@
 package squall
 
-// #include "squall.h"
-// #include <stdlib.h>
+// #include "library.h"
 import "C"
 
 import (
 	"runtime"
 	"sync"
-	"unsafe"
 )
 
 // ReplyKind is what a partition replies when it is asked for a key. The zero value is no reply.
@@ -67,19 +65,16 @@ type Errand struct {
 	at *C.squall_errand // nil once it is closed
 }
 
-// startErrand opens an errand in a room of its own.
-func startErrand(start func(room *C.squall_errand)) (*Errand, error) {
-	room := (*C.squall_errand)(C.calloc(1, C.squall_errand_size()))
-	if room == nil {
-		return nil, ErrNoMemory
+// newErrand is the errand that was started, if it was.
+func newErrand(started C.struct_started) (*Errand, error) {
+	if started.status != C.SQUALL_OK {
+		if started.errand != nil {
+			C.end_errand(started.errand)
+		}
+		return nil, errorOf(uint32(started.status), C.SQUALL_NO_PLACE)
 	}
-	start(room)
-	errand := &Errand{at: room}
+	errand := &Errand{at: started.errand}
 	runtime.SetFinalizer(errand, (*Errand).Close)
-	if err := errorOf(uint32(C.squall_errand_status(room)), C.SQUALL_NO_PLACE); err != nil {
-		errand.Close()
-		return nil, err
-	}
 	return errand, nil
 }
 
@@ -91,8 +86,7 @@ func (e *Errand) Close() error {
 	e.mu.Lock()
 	defer e.mu.Unlock()
 	if e.at != nil {
-		C.squall_errand_close(e.at)
-		C.free(unsafe.Pointer(e.at))
+		C.end_errand(e.at)
 		e.at = nil
 		runtime.SetFinalizer(e, nil)
 	}

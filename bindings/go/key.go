@@ -1,6 +1,6 @@
 package squall
 
-// #include "squall.h"
+// #include "library.h"
 import "C"
 
 import (

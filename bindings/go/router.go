@@ -1,7 +1,6 @@
 package squall
 
-// #include "squall.h"
-// #include <stdlib.h>
+// #include "library.h"
 import "C"
 
 import (
@@ -171,8 +170,6 @@ func (r *Router) View() (*View, error) {
 // Errors: [ErrLimit] if the rank is no key's; [ErrNoMemory]; [ErrClosed].
 func (r *Router) Errand(key Rank) (*Errand, error) {
 	errand, err := (*Errand)(nil), error(ErrClosed)
-	r.use(func(at *C.squall_router) {
-		errand, err = startErrand(func(room *C.squall_errand) { C.squall_errand_start(at, C.uint64_t(key), room) })
-	})
+	r.use(func(at *C.squall_router) { errand, err = newErrand(C.start_errand(at, nil, C.uint64_t(key))) })
 	return errand, err
 }

@@ -41,7 +41,7 @@
 package squall
 
 // #cgo pkg-config: squall
-// #include "squall.h"
+// #include "library.h"
 import "C"
 
 // Version is the version of the library that runs, such as "0.1.0".

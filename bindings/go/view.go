@@ -1,7 +1,6 @@
 package squall
 
-// #include "squall.h"
-// #include <stdlib.h>
+// #include "library.h"
 import "C"
 
 import (
@@ -210,5 +209,5 @@ func (v *View) Errand(key Rank) (*Errand, error) {
 		return nil, ErrClosed
 	}
 	defer v.give(h)
-	return startErrand(func(room *C.squall_errand) { C.squall_errand_start_at(h.at, C.uint64_t(key), room) })
+	return newErrand(C.start_errand(nil, h.at, C.uint64_t(key)))
 }

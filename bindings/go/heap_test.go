@@ -1,0 +1,239 @@
+//go:build squall_heap
+
+// Tests with a heap that refuses the library one allocation: go test -tags squall_heap, over the archive.
+// Each call is made once for each allocation that it asks for, with that one refused. It then returns
+// ErrNoMemory, nothing has changed, and the same call succeeds afterwards; or it did without.
+
+package squall
+
+import (
+	"bytes"
+	"encoding/hex"
+	"io"
+	"os"
+	"reflect"
+	"runtime"
+	"testing"
+	"testing/iotest"
+	"time"
+)
+
+func file(t *testing.T, name string) []byte {
+	t.Helper()
+	text, err := os.ReadFile("../../examples/" + name)
+	succeed(t, err)
+	return text
+}
+
+func bytesOfHex(t *testing.T, text string) []byte {
+	t.Helper()
+	bytes, err := hex.DecodeString(text)
+	succeed(t, err)
+	return bytes
+}
+
+func succeed(t *testing.T, err error) {
+	t.Helper()
+	if err != nil {
+		t.Fatal(err)
+	}
+}
+
+const frameOfALoad = "53510101000000290000000000000001000000010000000000000003000000000100000002000000000000000300000000"
+
+// busy is a router that has taken a load and heard a digest.
+func busy(t *testing.T) *Router {
+	t.Helper()
+	router, err := OpenRouter(1, file(t, "old.json"), file(t, "new.json"))
+	succeed(t, err)
+	succeed(t, router.Loaded(1, 0, 3, 0, 7))
+	succeed(t, router.Hear(bytesOfHex(t, "53510102000000080000000000000000")))
+	return router
+}
+
+// seen is what a caller can see of a router.
+type seen struct {
+	board  Frames
+	legs   []Leg
+	number uint32
+}
+
+func seenOf(t *testing.T, router *Router) seen {
+	t.Helper()
+	board, err := router.Board()
+	succeed(t, err)
+	return seen{board, router.Legs(0, End), router.Number()}
+}
+
+// refuseEach makes a call of a busy router with each of its allocations refused in turn.
+func refuseEach(t *testing.T, call func(router *Router) error) {
+	t.Helper()
+	answered := 0
+	for number, more := 1, true; more; number++ {
+		router := busy(t)
+		before := seenOf(t, router)
+		refuse(number)
+		err := call(router)
+		more = asked() >= number
+		refuse(0)
+		if err != nil && (err != ErrNoMemory || !more) {
+			t.Fatal(err)
+		}
+		if err != nil {
+			answered++
+			if after := seenOf(t, router); !reflect.DeepEqual(before, after) {
+				t.Errorf("allocation %d: %v became %v", number, before, after)
+			}
+			succeed(t, call(router))
+		}
+		router.Close()
+	}
+	if answered == 0 {
+		t.Error("no allocation was refused")
+	}
+}
+
+func TestCallsWithoutMemory(t *testing.T) {
+	frame, plan := bytesOfHex(t, frameOfALoad), file(t, "old.json")
+	for name, call := range map[string]func(*Router) error{
+		"Loaded": func(r *Router) error { return r.Loaded(1, 0, 3, Key(2, 0), Key(3, 0)) },
+		"Done":   func(r *Router) error { return r.Done(1, 0, 4) },
+		"Opened": func(r *Router) error { return r.Opened(1, 0) },
+		"Issued": func(r *Router) error { return r.Issued(2, plan) },
+		"Feed":   func(r *Router) error { return r.Feed(frame) },
+		"Hear":   func(r *Router) error { return r.Hear(frame) },
+		"Board":  func(r *Router) error { _, err := r.Board(); return err },
+		"Digest": func(r *Router) error { _, err := r.Digest(); return err },
+		"Repair": func(r *Router) error { _, err := r.Repair(); return err },
+		"View":   func(r *Router) error { view, err := r.View(); view.Close(); return err },
+	} {
+		t.Run(name, func(t *testing.T) { refuseEach(t, call) })
+	}
+}
+
+func TestOpeningsWithoutMemory(t *testing.T) {
+	oldPlan, newPlan := file(t, "old.json"), file(t, "new.json")
+	for number, more := 1, true; more; number++ {
+		refuse(number)
+		router, err := OpenRouter(1, oldPlan, newPlan)
+		more = asked() >= number
+		refuse(0)
+		if (err == nil) == (router == nil) || err != nil && err != ErrNoMemory || more && number == 1 && err == nil {
+			t.Errorf("allocation %d: %v", number, err)
+		}
+		router.Close()
+	}
+}
+
+// What a reader gave is not lost if there was no memory for it: the next call feeds it.
+func TestReadersWithoutMemory(t *testing.T) {
+	frame := bytesOfHex(t, frameOfALoad)
+	answered := 0
+	for number, more := 1, true; more; number++ {
+		router := busy(t)
+		from := iotest.HalfReader(bytes.NewReader(frame))
+		refuse(number)
+		n, err := router.ReadFrom(io.LimitReader(from, 20))
+		if err == nil {
+			var rest int64
+			rest, err = router.ReadFrom(from)
+			n += rest
+		}
+		more = asked() >= number
+		refuse(0)
+		if err != nil {
+			answered++
+			if err != ErrNoMemory {
+				t.Fatal(err)
+			}
+			var rest int64
+			if number%2 == 0 {
+				succeed(t, router.Feed(nil))
+			}
+			rest, err = router.ReadFrom(from)
+			n += rest
+		}
+		succeed(t, err)
+		part, _ := router.Route(Key(2, 0))
+		if n != int64(len(frame)) || part != 3 {
+			t.Errorf("allocation %d: %d bytes, routed to %d", number, n, part)
+		}
+		router.Close()
+	}
+	if answered == 0 {
+		t.Error("no allocation was refused")
+	}
+}
+
+// What the documentation says of routes, and each block is freed by Close.
+func TestCallsThatAllocateNothing(t *testing.T) {
+	settle(t)
+	before := allocated()
+	router := busy(t)
+	view, err := router.View()
+	succeed(t, err)
+	refuse(0)
+	router.Route(7)
+	router.Legs(0, End)
+	clone, err := view.Clone()
+	succeed(t, err)
+	view.Route(7)
+	clone.Legs(0, End)
+	errand, err := clone.Errand(7)
+	succeed(t, err)
+	if asked() != 0 {
+		t.Errorf("%d allocations", asked())
+	}
+	router.Close()
+	clone.Close()
+	errand.Close()
+	if allocated() == before {
+		t.Error("the table of the view is freed too early")
+	}
+	view.Close()
+	if allocated() != before {
+		t.Errorf("%d blocks are left of %d", allocated(), before)
+	}
+}
+
+// dropped opens what is never closed.
+func dropped(t *testing.T) {
+	for n := 0; n < 20; n++ {
+		router := busy(t)
+		view, err := router.View()
+		succeed(t, err)
+		view.Route(7)
+		_, err = view.Errand(7)
+		succeed(t, err)
+	}
+}
+
+func TestFinalizers(t *testing.T) {
+	settle(t)
+	before := allocated()
+	dropped(t)
+	if allocated() == before {
+		t.Fatal("nothing was allocated")
+	}
+	settle(t)
+	if allocated() != before {
+		t.Errorf("%d blocks are left of %d", allocated(), before)
+	}
+}
+
+// settle returns when the finalizers have run of all that is unreachable. A view is found unreachable by
+// the second collection, since the runtime knows its sync.Pool until then. What one collection finds
+// may be finalized beside the mark of this round, and is before that of the next.
+func settle(t *testing.T) {
+	t.Helper()
+	for round := 0; round < 4; round++ {
+		ran := make(chan struct{})
+		runtime.SetFinalizer(new([64]byte), func(*[64]byte) { close(ran) })
+		runtime.GC()
+		select {
+		case <-ran:
+		case <-time.After(20 * time.Second):
+			t.Fatal("a finalizer has not run")
+		}
+	}
+}

@@ -1,0 +1,48 @@
+/* The library's header, with handles of which cgo knows that they hold no Go pointers. If their types
+ * were left incomplete, it would look at the handle in each call, and allocate 8 bytes for that. */
+#ifndef SQUALL_GO_LIBRARY_H
+#define SQUALL_GO_LIBRARY_H
+
+#include <stdlib.h>
+
+/* The first byte of a room, which nobody looks at here. */
+struct squall_router {
+    unsigned char first;
+};
+struct squall_view {
+    unsigned char first;
+};
+struct squall_errand {
+    unsigned char first;
+};
+
+#include "squall.h"
+
+/* An errand in a room of its own, and the status of its opening. A call from Go costs as much as some
+ * routes, and a request has an errand each: so what opens and what closes one is one call. */
+struct started {
+    squall_errand *errand;
+    uint32_t status;
+};
+
+/* Starts an errand by a router, or by a view if the router is a null pointer. */
+static inline struct started start_errand(const squall_router *router, const squall_view *view,
+                                          uint64_t rank) {
+    squall_errand *room = malloc(squall_errand_size());
+    if (room == NULL) {
+        return (struct started){NULL, SQUALL_NO_MEMORY};
+    }
+    if (router != NULL) {
+        squall_errand_start(router, rank, room);
+    } else {
+        squall_errand_start_at(view, rank, room);
+    }
+    return (struct started){room, squall_errand_status(room)};
+}
+
+static inline void end_errand(squall_errand *errand) {
+    squall_errand_close(errand);
+    free(errand);
+}
+
+#endif
