@@ -2,10 +2,12 @@ package squall_test
 
 import (
 	"bytes"
+	"encoding/binary"
 	"errors"
 	"fmt"
 	"io"
 	"log"
+	"sync"
 
 	"squall"
 )
@@ -109,6 +111,67 @@ func ExampleRouter_ReadFrom() {
 	// [{0:0 2:0 1} {2:0 5:0 3} {5:0 end 1}]
 }
 
+// hearFrom hears the frames of a stream one by one, so that one router can have many streams at once. Of
+// a stream alone, ReadFrom does the same.
+func hearFrom(from io.Reader, router *squall.Router) error {
+	for {
+		head := make([]byte, 8)
+		if _, err := io.ReadFull(from, head); err != nil {
+			if err == io.EOF {
+				return nil // the stream ended between two frames
+			}
+			return err
+		}
+		size := 8 + int64(binary.BigEndian.Uint32(head[4:]))
+		if size > squall.FrameBytes {
+			return router.Hear(head) // which is the fault
+		}
+		frame := append(head, make([]byte, size-8)...)
+		if _, err := io.ReadFull(from, frame[8:]); err != nil {
+			return err
+		}
+		if err := router.Hear(frame); err != nil {
+			return err
+		}
+	}
+}
+
+// Streams of many peers at once.
+func ExampleRouter_Hear() {
+	router := exampleRouter()
+	defer router.Close()
+	var group sync.WaitGroup
+	for root := uint32(2); root < 10; root++ {
+		peer := exampleRouter()
+		if err := peer.Loaded(1, 0, 3, squall.Key(root, 0), squall.Key(root+1, 0)); err != nil {
+			log.Fatal(err)
+		}
+		frames, err := peer.Board()
+		if err != nil {
+			log.Fatal(err)
+		}
+		peer.Close()
+		from, to := io.Pipe()
+		group.Add(2)
+		go func() {
+			defer group.Done()
+			defer to.Close()
+			if _, err := frames.WriteTo(to); err != nil {
+				log.Print(err)
+			}
+		}()
+		go func() {
+			defer group.Done()
+			if err := hearFrom(from, router); err != nil {
+				log.Print(err)
+			}
+		}()
+	}
+	group.Wait()
+	fmt.Println(router.Legs(0, squall.End))
+	// Output: [{0:0 2:0 1} {2:0 10:0 3} {10:0 end 1}]
+}
+
 // A proxy that missed reports shows another one what it knows, and gets what it lacks.
 func ExampleRouter_Repair() {
 	late, peer := exampleRouter(), exampleRouter()
@@ -158,6 +221,61 @@ func ExampleFrames_WriteTo() {
 		log.Fatal(err)
 	}
 	fmt.Println(restarted.Route(squall.Key(2, 7)))
+	// Output: 3 true
+}
+
+// newest is the newest view of a router, which one goroutine publishes and others route by.
+type newest struct {
+	mu   sync.RWMutex
+	view *squall.View
+}
+
+// publish makes what the router says now the newest view. When it has the lock, nobody uses the last one.
+func (n *newest) publish(router *squall.Router) error {
+	view, err := router.View()
+	if err != nil {
+		return err
+	}
+	n.mu.Lock()
+	last := n.view
+	n.view = view
+	n.mu.Unlock()
+	return last.Close()
+}
+
+func (n *newest) route(key squall.Rank) (squall.Part, bool) {
+	n.mu.RLock()
+	defer n.mu.RUnlock()
+	return n.view.Route(key)
+}
+
+// One goroutine takes reports and publishes views, and others route by the newest one.
+func ExampleView() {
+	router := exampleRouter()
+	defer router.Close()
+	var views newest
+	if err := views.publish(router); err != nil {
+		log.Fatal(err)
+	}
+	var readers sync.WaitGroup
+	for i := 0; i < 8; i++ {
+		readers.Add(1)
+		go func() {
+			defer readers.Done()
+			for part := squall.Part(1); part == 1; {
+				part, _ = views.route(squall.Key(2, 7))
+			}
+		}()
+	}
+	if err := router.Done(1, 0, 3); err != nil {
+		log.Fatal(err)
+	}
+	if err := views.publish(router); err != nil {
+		log.Fatal(err)
+	}
+	readers.Wait()
+	fmt.Println(views.route(squall.Key(2, 7)))
+	views.view.Close()
 	// Output: 3 true
 }
 

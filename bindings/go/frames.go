@@ -5,6 +5,9 @@ import "C"
 
 import "io"
 
+// FrameBytes is how many bytes a frame has at most, for transports that limit their messages.
+const FrameBytes = C.SQUALL_FRAME_BYTES
+
 // Frames are the frames that a router has made, in the order in which they are to be sent. Each is one
 // message, and holds for itself: what another router hears of them does not depend on their order.
 type Frames [][]byte
