@@ -170,6 +170,7 @@ const newPlan = C.SQUALL_NEW_PLAN_JSON - C.SQUALL_PLAN_JSON
 func StatusOf(err error) uint32 {
 	var plain Error
 	var frame FrameFault
+	var fault PlanFault
 	var plan *PlanError
 	switch {
 	case errors.As(err, &plain):
@@ -178,8 +179,8 @@ func StatusOf(err error) uint32 {
 		return uint32(frame)
 	case errors.As(err, &plan) && plan.New:
 		return uint32(plan.Fault) + newPlan
-	case plan != nil:
-		return uint32(plan.Fault)
+	case errors.As(err, &fault):
+		return uint32(fault)
 	}
 	return 0
 }

@@ -87,6 +87,7 @@ func TestErrorsAreToldApart(t *testing.T) {
 	}
 	failsWith(t, err, squall.ErrLimit)
 	equals(t, squall.StatusOf(err), uint32(2))
+	equals(t, squall.StatusOf(squall.PlanGap), uint32(18))
 	equals(t, squall.StatusOf(nil), uint32(0))
 	equals(t, squall.StatusOf(squall.ErrBusy), uint32(0))
 }
