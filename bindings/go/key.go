@@ -3,10 +3,7 @@ package squall
 // #include "library.h"
 import "C"
 
-import (
-	"fmt"
-	"unsafe"
-)
+import "fmt"
 
 // Part is the number of a partition, from 0 to 9999.
 type Part uint32
@@ -60,15 +57,4 @@ func allLegs(lo, hi Rank, fill func(lo Rank, out *C.squall_leg) C.size_t) []Leg 
 		lo = legs[len(legs)-1].Hi
 	}
 	return legs
-}
-
-// empty is what the pointer to no bytes leads to, since the library takes no null pointer.
-var empty [16]byte
-
-// bytesOf is where the bytes are, and how many.
-func bytesOf(bytes []byte) (*C.uint8_t, C.size_t) {
-	if len(bytes) == 0 {
-		return (*C.uint8_t)(unsafe.Pointer(&empty[0])), 0
-	}
-	return (*C.uint8_t)(unsafe.Pointer(&bytes[0])), C.size_t(len(bytes))
 }

@@ -44,7 +44,20 @@ package squall
 // #include "library.h"
 import "C"
 
+import "unsafe"
+
 // Version is the version of the library that runs, such as "0.1.0".
 func Version() string {
 	return C.GoString(C.squall_version())
+}
+
+// empty is what the pointer to no bytes leads to, since the library takes no null pointer.
+var empty [16]byte
+
+// bytesOf is where the bytes are, and how many.
+func bytesOf(bytes []byte) (*C.uint8_t, C.size_t) {
+	if len(bytes) == 0 {
+		return (*C.uint8_t)(unsafe.Pointer(&empty[0])), 0
+	}
+	return (*C.uint8_t)(unsafe.Pointer(&bytes[0])), C.size_t(len(bytes))
 }
