@@ -19,7 +19,8 @@ func TestARouterThatIsClosed(t *testing.T) {
 		_, boardErr := router.Board()
 		_, digestErr := router.Digest()
 		_, repairErr := router.Repair()
-		_, readErr := router.ReadFrom(bytes.NewReader(unhex(loadFrame)))
+		read, readErr := router.ReadFrom(bytes.NewReader(unhex(loadFrame)))
+		equals(t, read, int64(0))
 		for _, err := range []error{
 			router.Loaded(1, 0, 3, two, three), router.Done(1, 0, 4), router.Opened(1, 0), router.Issued(2, newPlan),
 			router.Feed(unhex(loadFrame)), router.Hear(unhex(loadFrame)), readErr,

@@ -159,16 +159,15 @@ func (r *Router) ReadFrom(from io.Reader) (int64, error) {
 	}
 }
 
-// beginReading takes the stream for a ReadFrom, if it can be fed at all.
+// beginReading takes the stream for a ReadFrom, if bytes can be fed at all.
 func (r *Router) beginReading() error {
-	err := r.Feed(nil)
-	if err == nil {
-		r.use(func(*C.squall_router) {
-			if err = ErrBusy; !r.reading {
-				r.reading, err = true, nil
-			}
-		})
-	}
+	err := error(ErrClosed)
+	r.use(func(*C.squall_router) {
+		if err = ErrBusy; !r.reading {
+			err = r.feed(nil)
+			r.reading = err == nil
+		}
+	})
 	return err
 }
 

@@ -67,9 +67,11 @@ func TestBytesThatAreNoFrame(t *testing.T) {
 		routes(t, router, squall.Key(2, 0), 3)
 		equals(t, router.Feed(unhex(emptyDelta)), squall.ErrFailed)
 		equals(t, router.Feed(nil), squall.ErrFailed)
-		n, err := router.ReadFrom(iotest.ErrReader(io.ErrUnexpectedEOF))
+		// The reader keeps its bytes.
+		n, err := router.ReadFrom(bytes.NewReader(unhex(emptyDelta)))
 		equals(t, n, int64(0))
 		equals(t, err, squall.ErrFailed)
+		equals(t, router.Feed(nil), squall.ErrFailed)
 		succeeds(t, router.Done(1, 0, 4))
 	}
 }

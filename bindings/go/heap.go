@@ -2,6 +2,7 @@
 
 package squall
 
+// #include <malloc.h>
 // #include <stdatomic.h>
 // #include <stdbool.h>
 // #include <stdlib.h>
@@ -54,6 +55,10 @@ package squall
 // static long allocated(void) {
 //     return atomic_load(&blocks);
 // }
+//
+// static size_t in_use(void) {
+//     return mallinfo2().uordblks;
+// }
 import "C"
 
 // The heap of the tests with the tag squall_heap: see heap_test.go.
@@ -66,3 +71,6 @@ func asked() int { return int(C.asked_for()) }
 
 // allocated is how many blocks the library has allocated and not freed.
 func allocated() int { return int(C.allocated()) }
+
+// inUse is how many bytes of C's heap are in use, those of rooms among them.
+func inUse() int { return int(C.in_use()) }

@@ -221,6 +221,57 @@ func TestFinalizers(t *testing.T) {
 	}
 }
 
+// opened opens views and errands, and closes them if isClosed. It says how many of each. Beside each it
+// tries to open some that fail.
+func opened(t *testing.T, isClosed bool) int {
+	const count = 2000
+	router, err := OpenRouter(1, file(t, "old.json"), file(t, "new.json"))
+	succeed(t, err)
+	defer router.Close()
+	for n := 0; n < count; n++ {
+		view, err := router.View()
+		succeed(t, err)
+		clone, err := view.Clone()
+		succeed(t, err)
+		errand, err := clone.Errand(7)
+		succeed(t, err)
+		failing(t, router)
+		if isClosed {
+			clone.Close()
+			errand.Close()
+			view.Close()
+		}
+	}
+	return count
+}
+
+// failing tries to open a router, a view and an errand.
+func failing(t *testing.T, router *Router) {
+	_, routerErr := OpenRouter(0, nil, nil)
+	_, errandErr := router.Errand(End)
+	refuse(1)
+	_, viewErr := router.View()
+	refuse(0)
+	if routerErr != ErrLimit || errandErr != ErrLimit || viewErr != ErrNoMemory {
+		t.Fatal(routerErr, errandErr, viewErr)
+	}
+}
+
+// Rooms are freed too, which the library's heap does not count.
+func TestRooms(t *testing.T) {
+	for _, isClosed := range []bool{true, false} {
+		opened(t, isClosed)
+		settle(t)
+		before := inUse()
+		count := opened(t, isClosed)
+		settle(t)
+		// A room has at least 24 bytes, and the heap keeps some freed blocks for each thread.
+		if grown := inUse() - before; grown > count*12 {
+			t.Errorf("closed %v: %d bytes are in use of %d that were opened", isClosed, grown, count)
+		}
+	}
+}
+
 // settle returns when the finalizers have run of all that is unreachable. A view is found unreachable by
 // the second collection, since the runtime knows its sync.Pool until then. What one collection finds
 // may be finalized beside the mark of this round, and is before that of the next.

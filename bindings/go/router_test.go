@@ -35,7 +35,8 @@ func TestRanksThatAreNoKeys(t *testing.T) {
 func TestTextsOfRanks(t *testing.T) {
 	equals(t, squall.Key(2, 7).String(), "2:7")
 	equals(t, fmt.Sprint(squall.Rank(8589934599)), "2:7")
-	equals(t, fmt.Sprint(squall.Rank(0), squall.End-1, squall.End), "0:0 4294967294:4294967295 end")
+	equals(t, fmt.Sprint(squall.Rank(0), squall.End-1), "0:0 4294967294:4294967295")
+	equals(t, fmt.Sprint(squall.End, squall.End+1), "end 4294967295:1")
 }
 
 func TestTheLibraryHasTheVersionOfTheRepository(t *testing.T) {
