@@ -49,7 +49,8 @@ func (r *Router) Digest() ([]byte, error) {
 }
 
 // Repair makes the frames of what the digest that was heard last does not show. There are none if it
-// shows all.
+// shows all. Goroutines that answer digests of several peers need a lock of their own around Hear and
+// Repair. Without it a peer may get the repair for another one's digest, and has to ask again.
 //
 // Errors: [ErrNoDigest] if no digest was heard; [ErrNoMemory]; [ErrClosed].
 func (r *Router) Repair() (Frames, error) {

@@ -48,9 +48,9 @@ func FuzzPlans(f *testing.F) {
 	}
 	f.Fuzz(func(t *testing.T, text []byte) {
 		router, err := squall.OpenRouter(1, text, newPlan)
-		defer router.Close()
 		var plan *squall.PlanError
 		if err == nil {
+			defer router.Close()
 			legs := router.Legs(0, squall.End)
 			equals(t, legs[0].Lo, squall.Rank(0))
 			equals(t, legs[len(legs)-1].Hi, squall.End)

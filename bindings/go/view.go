@@ -10,12 +10,13 @@ import (
 )
 
 // View is what a router said at one moment. It stays the same, whatever the router takes later, and also
-// after the router was closed. Any number of goroutines may route by one view at the same time.
-//
-// Each handle of the library serves one call at a time. So a view has several handles, which share one
-// table. A call takes one that is free, and opens one more if there is none, which copies no table. So a
-// route from eight goroutines on four processors takes 70 ns. With one handle behind a lock it took 170.
+// after the router was closed. Any number of goroutines may route by one view, and do not wait for each
+// other.
 type View struct {
+	// Each handle of the library serves one call at a time. So a view has several handles, which share
+	// one table. A call takes one that is free, and opens one more if there is none, which copies no
+	// table. A route from eight goroutines on four processors took 170 ns by one handle behind a lock,
+	// 90 by a sync.Pool of handles, and takes 70 so. Close can also reach all handles.
 	mu      sync.Mutex
 	first   *C.squall_view // the handle from which others are opened; nil once the view is closed
 	handles []*handle      // those that calls take
@@ -161,9 +162,9 @@ func (v *View) Route(key Rank) (Part, bool) {
 	return part, part != Nowhere
 }
 
-// Routes writes the partitions to ask for the keys to the begin of `parts`, as many as it has places, and
-// returns how many. Each is what [View.Route] answers. Nothing is written, and the count is 0, if the
-// view is closed. All keys are routed in one call of the library, which costs about as much as a route.
+// Routes writes the partition to ask for each key to the same index of `parts`, as many as that has places,
+// and returns how many. Each is what [View.Route] answers: [Nowhere] if the rank is no key's. If the view
+// is closed, nothing is written, and the count is 0. It makes one call into C for all keys.
 func (v *View) Routes(keys []Rank, parts []Part) int {
 	if len(keys) == 0 || len(parts) == 0 {
 		return 0
