@@ -69,8 +69,8 @@ func eight(b *testing.B, route func(key squall.Rank)) {
 	})
 }
 
-// Routes from eight goroutines: by a router, whose lock they wait for; by one view; by the newest view
-// under a lock for many readers; and by a view behind one more lock.
+// Routes from eight goroutines: by a router, whose lock they wait for, and by one view. Then by a view under
+// a lock for many readers, as in ExampleView, and by a view behind one more lock.
 func BenchmarkEightGoroutines(b *testing.B) {
 	router := large(b)
 	view := viewOf(b, router)

@@ -131,8 +131,8 @@ func (r *Router) feed(bytes []byte) error {
 // readSize is how many bytes ReadFrom asks for at once.
 const readSize = 64 << 10
 
-// ReadFrom feeds the router the bytes of a reader until that is at its end, as [Router.Feed] does, and
-// returns how many bytes it has read. The router may be used for all but Feed and ReadFrom meanwhile.
+// ReadFrom feeds the router the bytes of a reader, as [Router.Feed] does, until the reader is at its end.
+// It returns how many bytes it has read. Other calls than Feed and ReadFrom may be made meanwhile.
 // A frame that the reader's end cuts waits for its other bytes, which the next Feed or ReadFrom brings.
 //
 // Errors: those of the reader, unless it is io.EOF; those of Feed. After [ErrNoMemory] the bytes that

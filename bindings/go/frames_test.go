@@ -262,7 +262,7 @@ func TestOneReaderAtATime(t *testing.T) {
 	succeeds(t, router.Feed(frame))
 }
 
-// limited takes so many bytes, and then fails, or takes too few and says nothing.
+// limited takes as many bytes as it has room for. Then it fails, or takes too few and says nothing.
 type limited struct {
 	room int
 	err  error

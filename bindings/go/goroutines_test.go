@@ -145,7 +145,7 @@ func TestAViewThatIsClosedAmongReaders(t *testing.T) {
 	}
 }
 
-// Goroutines report to one router in any order, by calls and by frames, while others read it: in the end
+// Goroutines report to one router in any order, by calls and by frames, while others read it. In the end
 // its board is that of a router that took the same reports one after another.
 func TestReportsOfManyGoroutines(t *testing.T) {
 	const each = 40

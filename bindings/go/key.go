@@ -41,8 +41,8 @@ type Leg struct {
 // atOnce is how many legs one call asks for.
 const atOnce = 64
 
-// allLegs gathers the legs of the keys from lo on, below hi, by calls of fill, which writes as many as
-// out has room for, from its argument on, and says how many.
+// allLegs gathers the legs of the keys from lo on, below hi, by calls of fill. A call writes the legs from
+// its argument on, at most atOnce of them, and says how many.
 func allLegs(lo, hi Rank, fill func(lo Rank, out *C.squall_leg) C.size_t) []Leg {
 	var legs []Leg
 	var block [atOnce]C.squall_leg

@@ -18,8 +18,8 @@ struct squall_errand {
 
 #include "squall.h"
 
-/* An errand in a room of its own, and the status of its opening. A call from Go costs as much as some
- * routes, and a request has an errand each: so what opens and what closes one is one call. */
+/* An errand in a room of its own, and the status of its opening. A call from Go costs more than a route,
+ * and each request may have an errand. So one call opens it, and one call closes it. */
 struct started {
     squall_errand *errand;
     uint32_t status;

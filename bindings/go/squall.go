@@ -12,8 +12,8 @@
 //	err = router.Loaded(1, 0, 3, squall.Key(2, 0), squall.Key(3, 0))
 //	part, ok := router.Route(squall.Key(2, 7))
 //
-// The package is a thin layer over the C library of squall, which is proved: that answers are right
-// and that each call ends rests on that. The layer itself is tested and not proved.
+// The package is a thin layer over the C library of squall, which is proved. That answers are right and
+// that each call ends rests on those proofs. The layer itself is tested and not proved.
 //
 // # Linking
 //
@@ -22,9 +22,9 @@
 //
 // # Goroutines
 //
-// Any number of goroutines may use one router, view or errand. The C library serves one call at a
-// time for each handle. So a router or an errand has a lock, and a view has several handles of one
-// table, of which each call takes one that is free: routes by a view do not wait for each other.
+// Any number of goroutines may use one router, view or errand. Calls of one router, or of one errand,
+// wait for each other. Those of a view do not: it has several handles of one table, and each call takes
+// one that is free.
 //
 // # Closing
 //

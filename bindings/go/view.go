@@ -15,8 +15,8 @@ import (
 type View struct {
 	// Each handle of the library serves one call at a time. So a view has several handles, which share
 	// one table. A call takes one that is free, and opens one more if there is none, which copies no
-	// table. A route from eight goroutines on four processors took 170 ns by one handle behind a lock,
-	// 90 by a sync.Pool of handles, and takes 70 so. Close can also reach all handles.
+	// table. Close can reach them all. A route from eight goroutines on four processors takes 70 ns so.
+	// By one handle behind a lock it took 170 ns, and by a sync.Pool of handles 90.
 	mu      sync.Mutex
 	first   *C.squall_view // the handle from which others are opened; nil once the view is closed
 	handles []*handle      // those that calls take
