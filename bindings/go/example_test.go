@@ -230,17 +230,17 @@ type newest struct {
 	view *squall.View
 }
 
-// publish makes what the router says now the newest view. When it has the lock, nobody uses the last one.
+// publish makes what the router says now the newest view. When it has the lock, nobody uses the old one.
 func (n *newest) publish(router *squall.Router) error {
 	view, err := router.View()
 	if err != nil {
 		return err
 	}
 	n.mu.Lock()
-	last := n.view
+	old := n.view
 	n.view = view
 	n.mu.Unlock()
-	return last.Close()
+	return old.Close()
 }
 
 func (n *newest) route(key squall.Rank) (squall.Part, bool) {

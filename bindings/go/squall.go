@@ -17,8 +17,8 @@
 //
 // # Linking
 //
-// cgo finds the library by pkg-config. PKG_CONFIG_PATH names the folder that tools/library makes, if
-// the library is not installed. README.md has the commands, also for a program that holds the archive.
+// cgo finds the library by pkg-config. If it is not installed, PKG_CONFIG_PATH names the folder that
+// tools/library makes. README.md has the commands, also those that make the archive a part of the program.
 //
 // # Goroutines
 //
