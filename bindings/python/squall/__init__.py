@@ -1,0 +1,70 @@
+"""squall: which partition to ask for a key while partitions move.
+
+A `Router` knows an old and a new plan, and takes reports of what was loaded where. It says for each
+key which partition to ask. A `View` is what a router said at one moment, for threads that only
+read. An `Errand` follows the replies of partitions until a key is found.
+
+>>> from squall import END, Plan, Rank, Router
+>>> old = Plan.of([(0, END, 1)])
+>>> new = Plan.of([(0, Rank(2, 0), 1), (Rank(2, 0), END, 3)])
+>>> with Router(1, old, new) as router:
+...     router.loaded(1, 0, 3, Rank(2, 0), Rank(3, 0))
+...     router.route(Rank(2, 7))
+3
+
+All of this is done by the C library of squall, `libsquall.so.1`, which is proved. This package,
+which calls it by `ctypes`, is not. The library is loaded when the package is imported: from the
+folder that the environment variable SQUALL_DIR names, or else from where the system's loader looks.
+"""
+
+from ._library import version
+from ._version import __version__
+from .errand import Errand, Next, Reply
+from .errors import (
+    ClosedError,
+    ForkError,
+    FrameError,
+    FrameFault,
+    LibraryError,
+    NoDigestError,
+    NoMemory,
+    NumberError,
+    PlanError,
+    PlanFault,
+    SquallError,
+    StreamError,
+    TooLongError,
+)
+from .keys import END, NOWHERE, Leg, Rank
+from .plan import Plan
+from .router import FRAME_BYTES, Router
+from .view import View
+
+__all__ = [
+    "END",
+    "FRAME_BYTES",
+    "NOWHERE",
+    "ClosedError",
+    "Errand",
+    "ForkError",
+    "FrameError",
+    "FrameFault",
+    "Leg",
+    "LibraryError",
+    "Next",
+    "NoDigestError",
+    "NoMemory",
+    "NumberError",
+    "Plan",
+    "PlanError",
+    "PlanFault",
+    "Rank",
+    "Reply",
+    "Router",
+    "SquallError",
+    "StreamError",
+    "TooLongError",
+    "View",
+    "__version__",
+    "version",
+]

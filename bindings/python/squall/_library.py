@@ -1,0 +1,154 @@
+"""The functions of `squall.h`, where their rules and answers are.
+
+Python runs one thread at a time, the one that has its lock (the GIL). A function that may take long
+lets other threads run meanwhile. One that ends within some microseconds does not: to let the lock
+go and to wait for it again would often take longer.
+"""
+
+from __future__ import annotations
+
+import ctypes
+import os
+from typing import Any, Callable, Tuple, Union
+
+from ._room import ErrandRoom, LegRecord, RouterRoom, ViewRoom
+from .errors import LibraryError
+
+SONAME = "libsquall.so.1"
+VARIABLE = "SQUALL_DIR"
+
+#: An address, or bytes, whose own address is passed on.
+Bytes = Union[int, bytes]
+#: An address, or something that ctypes has made, whose own address is passed on.
+Out = Any
+
+_U32 = ctypes.c_uint32
+_U64 = ctypes.c_uint64
+_SIZE = ctypes.c_size_t
+_ADDRESS = ctypes.c_void_p
+_ROUTER = ctypes.POINTER(RouterRoom)
+_VIEW = ctypes.POINTER(ViewRoom)
+_ERRAND = ctypes.POINTER(ErrandRoom)
+_LEGS = ctypes.POINTER(LegRecord)
+
+
+def _find() -> Tuple[str, str]:
+    """What the loader is asked for, and where it looks."""
+    folder = os.environ.get(VARIABLE)
+    if folder:
+        return os.path.join(os.path.abspath(folder), SONAME), f"the folder {folder} of {VARIABLE}"
+    return SONAME, f"the folders of the system's loader ({VARIABLE} names no other one)"
+
+
+def _load() -> Tuple[ctypes.PyDLL, ctypes.CDLL]:
+    """The library, for calls that keep Python's lock and for calls that let it go."""
+    name, where = _find()
+    try:
+        return ctypes.PyDLL(name), ctypes.CDLL(name)
+    except OSError as error:
+        raise LibraryError(f"{SONAME} can't be loaded from {where}: {error}") from error
+
+
+_short, _long = _load()
+
+
+def _bind(library: ctypes.CDLL, name: str, answer: Any, takes: Tuple[Any, ...]) -> Any:
+    try:
+        function = library["squall_" + name]
+    except AttributeError as error:
+        raise LibraryError(f"{SONAME} from {_find()[1]} is too old: {error}") from error
+    function.restype = answer
+    function.argtypes = takes
+    return function
+
+
+def _quick(name: str, answer: Any, *takes: Any) -> Any:
+    """A function that keeps Python's lock."""
+    return _bind(_short, name, answer, takes)
+
+
+def _slow(name: str, answer: Any, *takes: Any) -> Any:
+    """A function that lets other threads run."""
+    return _bind(_long, name, answer, takes)
+
+
+# Routers.
+
+router_size: Callable[[], int] = _quick("router_size", _SIZE)
+router_close: Callable[[RouterRoom], None] = _slow("router_close", None, _ROUTER)
+router_open: Callable[[int, bytes, int, bytes, int, RouterRoom], None]
+router_open = _slow("router_open", None, _U32, _ADDRESS, _SIZE, _ADDRESS, _SIZE, _ROUTER)
+router_status: Callable[[RouterRoom], int] = _quick("router_status", _U32, _ROUTER)
+router_fault_at: Callable[[RouterRoom], int] = _quick("router_fault_at", _U64, _ROUTER)
+
+router_loaded: Callable[[RouterRoom, int, int, int, int, int], int]
+router_loaded = _quick("router_loaded", _U32, _ROUTER, _U32, _U32, _U32, _U64, _U64)
+router_done: Callable[[RouterRoom, int, int, int], int]
+router_done = _slow("router_done", _U32, _ROUTER, _U32, _U32, _U32)
+router_opened: Callable[[RouterRoom, int, int], int]
+router_opened = _quick("router_opened", _U32, _ROUTER, _U32, _U32)
+router_issued: Callable[[RouterRoom, int, bytes, int], int]
+router_issued = _slow("router_issued", _U32, _ROUTER, _U32, _ADDRESS, _SIZE)
+
+# The two kinds of each: bytes of Python can't change, but those of a bytearray can while another
+# thread runs, which the library must not see.
+router_feed: Callable[[RouterRoom, Bytes, int], int]
+router_feed = _slow("router_feed", _U32, _ROUTER, _ADDRESS, _SIZE)
+router_feed_kept: Callable[[RouterRoom, Bytes, int], int]
+router_feed_kept = _quick("router_feed", _U32, _ROUTER, _ADDRESS, _SIZE)
+router_hear: Callable[[RouterRoom, Bytes, int], int]
+router_hear = _slow("router_hear", _U32, _ROUTER, _ADDRESS, _SIZE)
+router_hear_kept: Callable[[RouterRoom, Bytes, int], int]
+router_hear_kept = _quick("router_hear", _U32, _ROUTER, _ADDRESS, _SIZE)
+
+router_route: Callable[[RouterRoom, int], int] = _quick("router_route", _U32, _ROUTER, _U64)
+router_legs: Callable[[RouterRoom, int, int, Out, int], int]
+router_legs = _slow("router_legs", _SIZE, _ROUTER, _U64, _U64, _LEGS, _SIZE)
+router_number: Callable[[RouterRoom], int] = _quick("router_number", _U32, _ROUTER)
+
+router_gather_board: Callable[[RouterRoom], int] = _slow("router_gather_board", _U32, _ROUTER)
+router_gather_digest: Callable[[RouterRoom], int] = _slow("router_gather_digest", _U32, _ROUTER)
+router_gather_repair: Callable[[RouterRoom], int] = _slow("router_gather_repair", _U32, _ROUTER)
+router_frame: Callable[[RouterRoom, Out, int], int]
+router_frame = _quick("router_frame", _SIZE, _ROUTER, _ADDRESS, _SIZE)
+
+# Views.
+
+view_size: Callable[[], int] = _quick("view_size", _SIZE)
+view_close: Callable[[ViewRoom], None] = _slow("view_close", None, _VIEW)
+view_open: Callable[[RouterRoom, ViewRoom], None] = _slow("view_open", None, _ROUTER, _VIEW)
+view_again: Callable[[ViewRoom, ViewRoom], None] = _quick("view_again", None, _VIEW, _VIEW)
+view_status: Callable[[ViewRoom], int] = _quick("view_status", _U32, _VIEW)
+view_route: Callable[[ViewRoom, int], int] = _quick("view_route", _U32, _VIEW, _U64)
+view_routes: Callable[[ViewRoom, Bytes, int, Out, int], int]
+view_routes = _slow("view_routes", _SIZE, _VIEW, _ADDRESS, _SIZE, _ADDRESS, _SIZE)
+view_legs: Callable[[ViewRoom, int, int, Out, int], int]
+view_legs = _slow("view_legs", _SIZE, _VIEW, _U64, _U64, _LEGS, _SIZE)
+view_number: Callable[[ViewRoom], int] = _quick("view_number", _U32, _VIEW)
+
+# Errands.
+
+errand_size: Callable[[], int] = _quick("errand_size", _SIZE)
+errand_close: Callable[[ErrandRoom], None] = _quick("errand_close", None, _ERRAND)
+errand_start: Callable[[RouterRoom, int, ErrandRoom], None]
+errand_start = _quick("errand_start", None, _ROUTER, _U64, _ERRAND)
+errand_start_at: Callable[[ViewRoom, int, ErrandRoom], None]
+errand_start_at = _quick("errand_start_at", None, _VIEW, _U64, _ERRAND)
+errand_status: Callable[[ErrandRoom], int] = _quick("errand_status", _U32, _ERRAND)
+errand_asked: Callable[[ErrandRoom], int] = _quick("errand_asked", _U32, _ERRAND)
+errand_number: Callable[[ErrandRoom], int] = _quick("errand_number", _U32, _ERRAND)
+errand_heed: Callable[[ErrandRoom, int, int, int], int]
+errand_heed = _quick("errand_heed", _U32, _ERRAND, _U32, _U32, _U32)
+
+RouterRoom.prepare(router_size(), router_close)
+ViewRoom.prepare(view_size(), view_close)
+ErrandRoom.prepare(errand_size(), errand_close)
+
+# The library.
+
+_version: Callable[[], bytes] = _quick("version", ctypes.c_char_p)
+
+
+def version() -> str:
+    """The version of the shared library that is loaded, as `0.1.0`."""
+    return _version().decode("ascii")

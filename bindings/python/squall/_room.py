@@ -1,0 +1,64 @@
+"""Rooms: the memory in which routers, views and errands live."""
+
+from __future__ import annotations
+
+import ctypes
+from typing import Any, ClassVar, Type, TypeVar
+
+from ._fork import REFUSED
+
+#: What the address of a room is a multiple of.
+_ALIGN = 16
+
+R = TypeVar("R", bound="Room")
+
+
+class Room(ctypes.Structure):
+    """A room. What was opened in it is closed when nothing refers to the room any more.
+
+    A call of ctypes refers to its arguments. So nothing is closed while a call with it runs,
+    whatever other threads, signal handlers and the garbage collector do meanwhile.
+    """
+
+    #: Whether something was opened here, so that it has to be closed.
+    is_open = False
+
+    _memory: ClassVar[Any]
+    _close: ClassVar[Any]
+
+    @classmethod
+    def prepare(cls, size: int, close: Any) -> None:
+        """Says how many bytes such a room has, and by which function of C it is closed."""
+        cls._memory = ctypes.c_char * (size + _ALIGN - 1)
+        cls._close = close
+
+    @classmethod
+    def make(cls: Type[R]) -> R:
+        """A room in which nothing was opened."""
+        memory = cls._memory()
+        return cls.from_buffer(memory, -ctypes.addressof(memory) % _ALIGN)
+
+    def __del__(self) -> None:
+        if self.is_open and not REFUSED:
+            self._close(self)
+
+
+class RouterRoom(Room):
+    """A room for a router."""
+
+
+class ViewRoom(Room):
+    """A room for a view."""
+
+
+class ErrandRoom(Room):
+    """A room for an errand."""
+
+
+class LegRecord(ctypes.Structure):
+    """A leg, as `squall.h` has it."""
+
+    _fields_ = [("lo", ctypes.c_uint64), ("hi", ctypes.c_uint64), ("part", ctypes.c_uint32)]
+    lo: int
+    hi: int
+    part: int

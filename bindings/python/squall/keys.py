@@ -1,0 +1,111 @@
+"""Keys, bounds and legs."""
+
+from __future__ import annotations
+
+import operator
+import re
+from typing import NamedTuple, Tuple
+
+from .errors import NumberError
+
+_WORD = 0xFFFFFFFF
+_RANK = 0xFFFFFFFFFFFFFFFF
+_PAIR = re.compile("([0-9]{1,10}):([0-9]{1,10})")
+
+
+def word(number: int) -> int:
+    """A number of 32 bits: the library looks whether it is within its limits.
+
+    Raises `NumberError` if it has no 32 bits, and `TypeError` if it is no whole number.
+    """
+    number = operator.index(number)
+    if not 0 <= number <= _WORD:
+        raise NumberError(f"{number} is not from 0 to {_WORD}")
+    return number
+
+
+def rank(number: int) -> int:
+    """A number of 64 bits: the library looks whether it is the rank of a key.
+
+    Raises `NumberError` if it has no 64 bits, and `TypeError` if it is no whole number.
+    """
+    number = operator.index(number)
+    if not 0 <= number <= _RANK:
+        raise NumberError(f"the rank {number} is not from 0 to {_RANK}")
+    return number
+
+
+class Rank(int):
+    """A key or a bound, as the number by which keys are ordered.
+
+    That of root:second is `root * 2**32 + second`. The ranks below `END` are keys. A `Rank` is an
+    `int`, and a call that takes a key takes any `int`.
+
+    >>> Rank(2, 7)
+    Rank(2, 7)
+    >>> int(Rank(2, 7)), str(Rank(2, 7)), str(END)
+    (8589934599, '2:7', 'end')
+    >>> Rank.of(8589934599) == Rank.parse("2:7") == Rank(2, 7)
+    True
+    """
+
+    __slots__ = ()
+
+    def __new__(cls, root: int, second: int) -> Rank:
+        """The rank of root:second. Raises `NumberError` if one has no 32 bits."""
+        return super().__new__(cls, word(root) << 32 | word(second))
+
+    @classmethod
+    def of(cls, number: int) -> Rank:
+        """The rank that is this number. Raises `NumberError` if it has no 64 bits."""
+        return int.__new__(cls, rank(number))
+
+    @classmethod
+    def parse(cls, text: str) -> Rank:
+        """The rank of a text `root:second`, or `end`. Raises `NumberError` if it is none."""
+        if text == "end":
+            return END
+        pair = _PAIR.fullmatch(text)
+        if pair is None:
+            raise NumberError(f"{text!r} is no root:second")
+        return cls(int(pair[1]), int(pair[2]))
+
+    @property
+    def root(self) -> int:
+        """The first number of the pair."""
+        return int(self) >> 32
+
+    @property
+    def second(self) -> int:
+        """The second number of the pair."""
+        return int(self) & _WORD
+
+    def __getnewargs__(self) -> Tuple[int, int]:  # type: ignore[override]
+        return self.root, self.second
+
+    def __repr__(self) -> str:
+        return f"Rank({self.root}, {self.second})"
+
+    def __str__(self) -> str:
+        return "end" if self == END else f"{self.root}:{self.second}"
+
+
+#: The end of all keys, and no key itself.
+END = Rank(0xFFFFFFFF, 0)
+
+#: No partition: what `View.routes` writes for a rank that is no key's.
+NOWHERE = 0xFFFFFFFF
+
+
+class Leg(NamedTuple):
+    """The keys from `lo` on, below `hi`, are to be asked for at the partition `part`."""
+
+    #: The first key.
+    lo: Rank
+    #: Where the keys end: a key, or `END`.
+    hi: Rank
+    #: The partition, from 0 to 9999.
+    part: int
+
+    def __str__(self) -> str:
+        return f"[{self.lo},{self.hi}) {self.part}"
