@@ -4,10 +4,20 @@ from __future__ import annotations
 
 import ctypes
 from types import TracebackType
-from typing import TYPE_CHECKING, Optional, Type, Union
+from typing import TYPE_CHECKING, Any, Dict, Optional, Protocol, Type, Union
 
 if TYPE_CHECKING:
-    from _typeshed import ReadableBuffer
+    from _typeshed import ReadableBuffer, WriteableBuffer
+
+    class NumpyArray(Protocol):
+        """An array of NumPy, which older checkers of types don't know to be a buffer."""
+
+        @property
+        def __array_interface__(self) -> Dict[str, Any]:
+            ...
+
+    ReadableArray = Union[ReadableBuffer, NumpyArray]
+    WritableArray = Union[WriteableBuffer, NumpyArray]
 
 
 class _PyBuffer(ctypes.Structure):
@@ -79,7 +89,7 @@ class Lent:
         _release(self._buffer)
 
 
-def numbers(source: ReadableBuffer, name: str, letters: str, size: int) -> memoryview:
+def numbers(source: ReadableArray, name: str, letters: str, size: int) -> memoryview:
     """The memory of an array of one dimension with unsigned numbers of this many bytes each.
 
     `letters` are the formats that such numbers may have. Raises `TypeError` if it is none, and
@@ -89,7 +99,7 @@ def numbers(source: ReadableBuffer, name: str, letters: str, size: int) -> memor
         f"{name} has to be an array of unsigned {8 * size}-bit numbers, as array('{letters[0]}')"
     )
     try:
-        view = memoryview(source)
+        view = memoryview(source)  # type: ignore[arg-type, unused-ignore]
     except TypeError as error:
         raise TypeError(f"{wanted}: {error}") from None
     if str(view.format).lstrip("@") not in letters or view.itemsize != size:

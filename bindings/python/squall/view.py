@@ -11,7 +11,7 @@ from ._room import ViewRoom
 from ._routes import Routes
 
 if TYPE_CHECKING:
-    from _typeshed import ReadableBuffer, WriteableBuffer
+    from ._buffers import ReadableArray, WritableArray
 
 #: How many keys are routed in one call. What a batch needs beside its answers stays small.
 _AT_ONCE = 1 << 16
@@ -43,7 +43,7 @@ class View(Routes):
         """
         return self._ask_for(View, lib.view_again)
 
-    def routes(self, keys: ReadableBuffer) -> array[int]:
+    def routes(self, keys: ReadableArray) -> array[int]:
         """The partitions to ask for many keys: an array of as many unsigned 32-bit numbers.
 
         `keys` is an array of one dimension with unsigned 64-bit numbers, the ranks: an
@@ -59,7 +59,7 @@ class View(Routes):
         with numbers(keys, "keys", "QL", 8) as ranks:
             return self._routes(ranks)
 
-    def routes_into(self, keys: ReadableBuffer, out: WriteableBuffer) -> int:
+    def routes_into(self, keys: ReadableArray, out: WritableArray) -> int:
         """Writes the partitions to ask for many keys into an array, and says how many it wrote.
 
         They are what `routes` answers, from the beginning of `out` on, as many as it has room for.

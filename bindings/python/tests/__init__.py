@@ -1,0 +1,6 @@
+"""Tests of the package over the library. Expected values are those of the worked examples.
+
+    python3 -m unittest
+
+in the folder above runs them, over the library that `import squall` finds.
+"""
