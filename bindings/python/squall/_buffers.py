@@ -4,7 +4,7 @@ from __future__ import annotations
 
 import ctypes
 from types import TracebackType
-from typing import TYPE_CHECKING, Any, Dict, Optional, Protocol, Type, Union
+from typing import TYPE_CHECKING, Any, Dict, Optional, Protocol, Type, Union, cast
 
 if TYPE_CHECKING:
     from _typeshed import ReadableBuffer, WriteableBuffer
@@ -99,7 +99,7 @@ def numbers(source: ReadableArray, name: str, letters: str, size: int) -> memory
         f"{name} has to be an array of unsigned {8 * size}-bit numbers, as array('{letters[0]}')"
     )
     try:
-        view = memoryview(source)  # type: ignore[arg-type, unused-ignore]
+        view = memoryview(cast("ReadableBuffer", source))
     except TypeError as error:
         raise TypeError(f"{wanted}: {error}") from None
     if str(view.format).lstrip("@") not in letters or view.itemsize != size:

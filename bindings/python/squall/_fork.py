@@ -9,6 +9,7 @@ from __future__ import annotations
 
 import os
 import threading
+import time
 from typing import List, NoReturn
 
 from .errors import ForkError
@@ -37,6 +38,11 @@ def _count_threads() -> int:
 
 
 def _before() -> None:
+    # A thread that was joined may take a moment more to end.
+    for _ in range(5):
+        if _count_threads() == 1 or threading.active_count() > 1:
+            break
+        time.sleep(0.001)
     _counted[:] = [_count_threads()]
 
 

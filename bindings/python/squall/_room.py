@@ -8,7 +8,7 @@ from typing import Any, ClassVar, Type, TypeVar
 from ._fork import REFUSED
 
 #: What the address of a room is a multiple of.
-_ALIGN = 16
+ALIGN = 16
 
 R = TypeVar("R", bound="Room")
 
@@ -29,14 +29,14 @@ class Room(ctypes.Structure):
     @classmethod
     def prepare(cls, size: int, close: Any) -> None:
         """Says how many bytes such a room has, and by which function of C it is closed."""
-        cls._memory = ctypes.c_char * (size + _ALIGN - 1)
+        cls._memory = ctypes.c_char * (size + ALIGN - 1)
         cls._close = close
 
     @classmethod
     def make(cls: Type[R]) -> R:
         """A room in which nothing was opened."""
         memory = cls._memory()
-        return cls.from_buffer(memory, -ctypes.addressof(memory) % _ALIGN)
+        return cls.from_buffer(memory, -ctypes.addressof(memory) % ALIGN)
 
     def __del__(self) -> None:
         if self.is_open and not REFUSED:

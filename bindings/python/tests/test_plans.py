@@ -8,7 +8,8 @@ from squall import END, Leg, NumberError, Plan, PlanError, PlanFault, Rank, Rout
 from .worked import FIVE, NEW, OLD, fresh, key
 
 GAP = '{"plan":[{"part":1,"from":[0,0],"to":[3,5]}]}'
-TOO_MANY = '{"plan":[%s]}' % ",".join(['{"part":1,"from":[0,0],"to":"end"}'] * 4097)
+ENTRY = '{"part":1,"from":[0,0],"to":"end"}'
+TOO_MANY = '{"plan":[' + ",".join([ENTRY] * 4097) + "]}"
 
 #: A text, its fault, and the index or the bound of that.
 NO_PLANS = [
@@ -142,8 +143,7 @@ class Plans(unittest.TestCase):
         self.assertEqual(str(Plan.of(legs)), OLD)
 
     def test_ranges_that_are_no_plan(self) -> None:
-        ranges: List[Any]
-        for ranges, fault in [
+        cases: List[Any] = [
             ([], PlanFault.GAP),
             ([(-1, END, 1)], PlanFault.SHAPE),
             ([(0, END, -1)], PlanFault.SHAPE),
@@ -151,7 +151,8 @@ class Plans(unittest.TestCase):
             ([(0, 2**64, 1)], PlanFault.BAD_BOUND),
             ([(7, 7, 1)], PlanFault.EMPTY_RANGE),
             ([Leg(key(0), END, 1), Leg(key(2), key(3), 1)], PlanFault.OVERLAP),
-        ]:
+        ]
+        for ranges, fault in cases:
             with self.subTest(ranges=ranges), self.assertRaises(PlanError) as raised:
                 Plan.of(ranges).check()
             self.assertIs(raised.exception.fault, fault)

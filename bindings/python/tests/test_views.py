@@ -71,7 +71,7 @@ class ManyKeys(unittest.TestCase):
             keys = array("Q", range(0, count * step, step))
             parts = view.routes(keys)
             self.assertEqual(len(parts), count)
-            for at in {0, 1, count // 2, 65535, 65536, count - 1}:
+            for at in [0, 1, count // 2, 65535, 65536, count - 1]:
                 if at < count:
                     part = view.route(keys[at])
                     self.assertEqual(parts[at], NOWHERE if part is None else part)

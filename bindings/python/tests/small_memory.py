@@ -1,0 +1,120 @@
+"""What `test_memory` runs, over a library with the heap of heap.c.
+
+These tests are in a file of their own since a process has one library.
+"""
+
+import ctypes
+import itertools
+import unittest
+from functools import partial
+from typing import Any, Callable, List
+
+from squall import NoMemory, Router
+from squall import _library as lib
+
+from .worked import EMPTY_DIGEST, LOAD_FRAME, NEW, OLD, fresh, key
+
+_heap: Any = lib._short
+BLOCKS = ctypes.c_long.in_dll(_heap, "test_blocks")
+ASKED = ctypes.c_long.in_dll(_heap, "test_asked")
+REFUSED = ctypes.c_long.in_dll(_heap, "test_refused")
+
+CALLS: List[Callable[[Router], object]] = [
+    lambda it: it.loaded(1, 0, 3, key(2), key(3)),
+    lambda it: it.done(1, 0, 4),
+    lambda it: it.opened(1, 0),
+    lambda it: it.issued(2, OLD),
+    lambda it: it.feed(LOAD_FRAME),
+    lambda it: it.hear(bytearray(LOAD_FRAME)),
+    lambda it: it.board(),
+    lambda it: it.digest(),
+    lambda it: it.repair(),
+    lambda it: it.view(),
+]
+
+
+def busy() -> Router:
+    """A router that knows something and has heard a digest."""
+    router = fresh()
+    router.loaded(1, 0, 3, 0, 7)
+    router.hear(EMPTY_DIGEST)
+    return router
+
+
+def seen(router: Router) -> List[object]:
+    """What a caller can see of a router."""
+    return [router.board(), router.repair(), router.legs(0, 2**63), router.number]
+
+
+class SmallMemory(unittest.TestCase):
+    """Each call, once for each of its allocations, with that one refused."""
+
+    def setUp(self) -> None:
+        self.assertEqual(BLOCKS.value, 0)
+
+    def tearDown(self) -> None:
+        # Each block was freed, though the tests close nothing.
+        self.assertEqual(BLOCKS.value, 0)
+
+    def fails(self, number: int, call: Callable[[], object]) -> bool:
+        """Makes the call with its allocation of this number refused: whether it raised."""
+        ASKED.value, REFUSED.value = 0, number
+        try:
+            call()
+        except NoMemory as error:
+            self.assertEqual(error.status, 1)
+            self.assertIsInstance(error, MemoryError)
+            return True
+        finally:
+            REFUSED.value = 0
+        return False
+
+    def test_openings_of_routers(self) -> None:
+        failed = 0
+        for number in itertools.count(1):
+            failed += self.fails(number, lambda: Router(1, OLD, NEW))
+            if ASKED.value < number:
+                break
+        self.assertGreater(failed, 5)
+
+    def test_a_call_that_fails_changes_nothing(self) -> None:
+        before = seen(busy())
+        for at, call in enumerate(CALLS):
+            done = busy()
+            call(done)
+            wanted, failed = seen(done), 0
+            for number in itertools.count(1):
+                router = busy()
+                with self.subTest(call=at, number=number):
+                    is_failed = self.fails(number, partial(call, router))
+                    is_last = ASKED.value < number
+                    if is_failed:
+                        failed += 1
+                        self.assertEqual(seen(router), before)
+                        call(router)
+                    self.assertEqual(seen(router), wanted)
+                if is_last:
+                    break
+            self.assertGreater(failed, 0)
+
+    def test_what_allocates_nothing(self) -> None:
+        router = busy()
+        view = router.view()
+        ASKED.value = 0
+        with view.clone(), router.errand(0) as errand:
+            self.assertEqual((router.route(7), view.route(7), errand.asked), (1, 1, 1))
+            self.assertEqual(len(router.legs(0, 7)), 1)
+        self.assertEqual(ASKED.value, 0)
+
+    def test_what_is_not_closed_is_freed(self) -> None:
+        for _ in range(100):
+            router = busy()
+            views = [router.view(), router.view().clone()]
+            self.assertGreater(BLOCKS.value, 0)
+            router.board()
+            del router, views
+            self.assertEqual(BLOCKS.value, 0)
+
+
+if __name__ == "__main__":
+    unittest.main()

@@ -1,0 +1,253 @@
+"""How routers, views and errands are closed, and that no use of a closed one does harm."""
+
+import copy
+import ctypes
+import gc
+import pickle
+import signal
+import unittest
+import weakref
+from array import array
+from types import FrameType
+from typing import Any, Callable, Dict, List, Optional
+from unittest import mock
+
+from squall import ClosedError, Errand, Reply, Router, View
+from squall import _library as lib
+from squall._room import ErrandRoom, RouterRoom, ViewRoom
+
+from .worked import EMPTY_DIGEST, LOAD_FRAME, NEW, OLD, OPENING_FRAME, fresh, key, moved
+
+ROUTER_CALLS: Dict[str, Callable[[Router], object]] = {
+    "loaded": lambda it: it.loaded(1, 0, 3, key(2), key(3)),
+    "done": lambda it: it.done(1, 0, 3),
+    "opened": lambda it: it.opened(1, 0),
+    "issued": lambda it: it.issued(2, OLD),
+    "feed": lambda it: it.feed(LOAD_FRAME),
+    "feed, kept": lambda it: it.feed(bytearray(LOAD_FRAME)),
+    "hear": lambda it: it.hear(LOAD_FRAME),
+    "hear, kept": lambda it: it.hear(memoryview(LOAD_FRAME)),
+    "route": lambda it: it.route(0),
+    "legs": lambda it: it.legs(0, 7),
+    "number": lambda it: it.number,
+    "board": lambda it: it.board(),
+    "digest": lambda it: it.digest(),
+    "repair": lambda it: it.repair(),
+    "view": lambda it: it.view(),
+    "errand": lambda it: it.errand(0),
+}
+VIEW_CALLS: Dict[str, Callable[[View], object]] = {
+    "route": lambda it: it.route(0),
+    "routes": lambda it: it.routes(array("Q", [0])),
+    "routes_into": lambda it: it.routes_into(array("Q", [0]), array("I", [0])),
+    "legs": lambda it: it.legs(0, 7),
+    "number": lambda it: it.number,
+    "clone": lambda it: it.clone(),
+    "errand": lambda it: it.errand(0),
+}
+ERRAND_CALLS: Dict[str, Callable[[Errand], object]] = {
+    "asked": lambda it: it.asked,
+    "number": lambda it: it.number,
+    "heed": lambda it: it.heed(Reply.HELD),
+}
+
+
+class Count:
+    """Counts the calls of a function of C, and makes them."""
+
+    def __init__(self, call: Any) -> None:
+        self.call, self.count = call, 0
+
+    def __call__(self, room: object) -> None:
+        self.count += 1
+        self.call(room)
+
+
+class Closing(unittest.TestCase):
+    """Closing, by hand and by the garbage collector."""
+
+    def setUp(self) -> None:
+        self.counts: List[Count] = []
+        for room in [RouterRoom, ViewRoom, ErrandRoom]:
+            self.counts.append(Count(room._close))
+            patch = mock.patch.object(room, "_close", self.counts[-1])
+            patch.start()
+            self.addCleanup(patch.stop)
+
+    def closed(self) -> List[int]:
+        """How many routers, views and errands were closed."""
+        return [it.count for it in self.counts]
+
+    def test_each_use_of_a_closed_handle_is_refused(self) -> None:
+        router = fresh()
+        router.hear(EMPTY_DIGEST)
+        view, errand = router.view(), router.errand(0)
+        groups: List[Any] = [
+            (router, ROUTER_CALLS),
+            (view, VIEW_CALLS),
+            (errand, ERRAND_CALLS),
+        ]
+        for handle, calls in groups:
+            for name, call in calls.items():
+                if name != "feed, kept":
+                    call(handle)
+            handle.close()
+            for name, call in calls.items():
+                with self.subTest(handle=handle, call=name), self.assertRaises(ClosedError):
+                    call(handle)
+            self.assertTrue(handle.closed)
+            self.assertEqual(repr(handle), f"<{type(handle).__name__}, closed>")
+
+    def test_a_handle_is_closed_once(self) -> None:
+        router = fresh()
+        self.assertFalse(router.closed)
+        self.assertEqual(repr(router), "<Router, open>")
+        for _ in range(3):
+            router.close()
+            self.assertEqual(self.closed(), [1, 0, 0])
+        del router
+        gc.collect()
+        self.assertEqual(self.closed(), [1, 0, 0])
+
+    def test_contexts(self) -> None:
+        with fresh() as router, router.view() as view, view.clone() as clone:
+            with router.errand(0) as errand, clone.errand(0):
+                self.assertFalse(errand.closed)
+            self.assertEqual(self.closed(), [0, 0, 2])
+        self.assertEqual(self.closed(), [1, 2, 2])
+        with self.assertRaises(KeyError), fresh():
+            raise KeyError
+        self.assertEqual(self.closed(), [2, 2, 2])
+
+    def test_the_garbage_collector_closes(self) -> None:
+        handles: Any = [fresh()]
+        handles += [handles[0].view(), handles[0].errand(0)]
+        handles.append(handles)
+        alive = [weakref.ref(it) for it in handles[:3]]
+        del handles
+        gc.collect()
+        self.assertEqual([it() for it in alive], [None] * 3)
+        self.assertEqual(self.closed(), [1, 1, 1])
+
+    def test_what_was_not_opened_is_closed_too(self) -> None:
+        # Once each, as the header has it, also if the status says that nothing was opened.
+        for number, old in [(0, OLD), (1, "{}")]:
+            with self.assertRaises(ValueError):
+                Router(number, old, NEW)
+        with self.assertRaises(ValueError):
+            fresh().errand(2**64 - 1)
+        gc.collect()
+        self.assertEqual(self.closed(), [3, 0, 1])
+        # No call was made.
+        with self.assertRaises(ValueError):
+            Router(-1, OLD, NEW)
+        closed = fresh()
+        closed.close()
+        with self.assertRaises(ClosedError):
+            closed.view()
+        gc.collect()
+        self.assertEqual(self.closed(), [4, 0, 1])
+
+    def test_a_router_may_be_opened_again(self) -> None:
+        # pylint: disable=unnecessary-dunder-call
+        router = fresh()
+        router.close()
+        router.__init__(7, NEW, OLD)  # type: ignore[misc]
+        self.assertEqual((router.number, router.route(key(2))), (7, 3))
+        router.__init__(8, OLD, OLD)  # type: ignore[misc]
+        self.assertEqual((router.number, self.closed()), (8, [2, 0, 0]))
+
+    def test_a_handle_that_was_never_opened(self) -> None:
+        groups: List[Any] = [(Router, ROUTER_CALLS), (View, VIEW_CALLS), (Errand, ERRAND_CALLS)]
+        for kind, calls in groups:
+            handle = kind.__new__(kind)
+            for call in calls.values():
+                with self.assertRaises(ClosedError):
+                    call(handle)
+            handle.close()
+
+    def test_rooms_are_aligned(self) -> None:
+        router = fresh()
+        view = router.view()
+        handles: List[Any] = [router, view, view.errand(0)]
+        handles += [view.errand(it) for it in range(50)]
+        for handle in handles:
+            self.assertEqual(ctypes.addressof(handle._room) % 16, 0)
+
+
+class Pickling(unittest.TestCase):
+    """Handles are of one process."""
+
+    def test_pickling_is_refused(self) -> None:
+        router = fresh()
+        handles: List[Any] = [router, router.view(), router.errand(0)]
+        attempts: List[Any] = [pickle.dumps, copy.copy, copy.deepcopy]
+        for handle in handles:
+            for attempt in attempts:
+                with self.subTest(handle=handle), self.assertRaisesRegex(TypeError, "pickled"):
+                    attempt(handle)
+
+
+class Interrupted(unittest.TestCase):
+    """A signal handler that uses the handle of the call that it interrupts."""
+
+    def in_between(self, call: Callable[[], Any], what: Callable[[], Any]) -> Any:
+        """What the call answers if something happens before each of its calls of C."""
+        done: List[int] = []
+
+        def interrupt(name: str) -> Any:
+            inner = getattr(lib, name)
+
+            def interrupted(*words: Any) -> Any:
+                if not done:
+                    done.append(1)
+                    what()
+                return inner(*words)
+
+            return mock.patch.object(lib, name, interrupted)
+
+        with interrupt("router_frame"), interrupt("router_fault_at"):
+            return call()
+
+    def test_frames_that_a_signal_handler_takes(self) -> None:
+        router = moved()
+        for what in [router.board, router.digest]:
+            self.assertEqual(self.in_between(router.board, what), [LOAD_FRAME])
+        digest = router.digest()
+        self.assertEqual(self.in_between(router.digest, router.board), digest)
+
+    def test_a_report_in_between(self) -> None:
+        router = moved()
+        frames = self.in_between(router.board, lambda: router.opened(1, 0))
+        self.assertEqual(frames, [LOAD_FRAME])
+        self.assertEqual(len(router.board()[0]), len(LOAD_FRAME) + 8)
+
+    def test_a_router_that_a_signal_handler_closes(self) -> None:
+        router = moved()
+        self.assertEqual(self.in_between(router.board, router.close), [LOAD_FRAME])
+        self.assertTrue(router.closed)
+
+    def test_signals(self) -> None:
+        router = fresh()
+        router.opened(1, 0)
+        taken: List[object] = []
+
+        def handler(_number: int, _frame: Optional[FrameType]) -> None:
+            taken.append(router.board())
+            taken.append(router.route(key(2)))
+
+        before = signal.signal(signal.SIGALRM, handler)
+        try:
+            signal.setitimer(signal.ITIMER_REAL, 0.0005, 0.0005)
+            boards = []
+            while len(taken) < 50:
+                boards.append(router.board())
+        finally:
+            signal.setitimer(signal.ITIMER_REAL, 0)
+            signal.signal(signal.SIGALRM, before)
+        self.assertTrue(all(it == [OPENING_FRAME] for it in boards))
+        self.assertTrue(all(it in ([OPENING_FRAME], 1) for it in taken))
+
+
+if __name__ == "__main__":
+    unittest.main()

@@ -1,0 +1,170 @@
+"""Threads that share handles, and threads that have a view each."""
+
+import threading
+import unittest
+from array import array
+from functools import partial
+from typing import Any, Callable, List
+
+from squall import END, ClosedError, Rank, Reply, Router, View
+
+from .worked import LOAD_FRAME, NEW, OLD, fresh, key, moved, wide_plan
+
+
+def together(*calls: Callable[[], object]) -> None:
+    """Runs these at the same time, each in a thread, and raises what the first of them raised."""
+    raised: List[BaseException] = []
+
+    def run(call: Callable[[], object]) -> None:
+        try:
+            call()
+        except BaseException as error:  # pylint: disable=broad-exception-caught
+            raised.append(error)
+
+    threads = [threading.Thread(target=run, args=(it,)) for it in calls]
+    for thread in threads:
+        thread.start()
+    for thread in threads:
+        thread.join()
+    if raised:
+        raise raised[0]
+
+
+class Shared(unittest.TestCase):
+    """One handle and several threads: its calls wait for each other."""
+
+    def test_reports_and_routes(self) -> None:
+        router = Router(1, wide_plan(4096, 0), wide_plan(4096, 1))
+
+        def report(first: int) -> None:
+            for root in range(first, 800, 4):
+                router.loaded(1, 0, (root + 1) % 50, key(root), key(root + 1))
+                router.feed(bytearray(LOAD_FRAME))
+
+        def ask() -> None:
+            for root in range(800):
+                self.assertIn(router.route(key(root)), [root % 50, (root + 1) % 50])
+                if root % 40 == 0:
+                    legs = router.legs(0, END)
+                    self.assertTrue(all(a.hi == b.lo for a, b in zip(legs, legs[1:])))
+                    self.assertEqual((legs[0].lo, legs[-1].hi), (0, END))
+
+        together(*[partial(report, it) for it in range(4)], ask, ask)
+        wanted = Router(1, wide_plan(4096, 0), wide_plan(4096, 1))
+        for root in range(800):
+            wanted.loaded(1, 0, (root + 1) % 50, key(root), key(root + 1))
+        wanted.feed(LOAD_FRAME)
+        self.assertEqual(router.board(), wanted.board())
+
+    def test_frames_are_of_one_call(self) -> None:
+        router = moved()
+        digest = router.digest()
+
+        def ask(call: Callable[[], object], wanted: object) -> None:
+            for _ in range(300):
+                self.assertEqual(call(), wanted)
+
+        together(
+            lambda: ask(router.board, [LOAD_FRAME]),
+            lambda: ask(router.digest, digest),
+            lambda: ask(router.board, [LOAD_FRAME]),
+        )
+
+    def test_closing_in_the_midst_of_calls(self) -> None:
+        for _ in range(10):
+            self.close_in_the_midst(Router(1, wide_plan(2000, 0), wide_plan(2000, 1)))
+
+    def close_in_the_midst(self, router: Router) -> None:
+        """Closes a router, a view and an errand while threads use them."""
+        view, errand = router.view(), router.errand(0)
+        keys, frame = array("Q", range(0, 2**40, 2**28)), bytearray(LOAD_FRAME)
+        calls: List[Callable[[], Any]] = [
+            lambda: router.issued(2, NEW),
+            lambda: router.feed(frame),
+            router.view,
+            router.board,
+            lambda: router.legs(0, END),
+            lambda: view.routes(keys),
+            lambda: view.clone().route(0),
+            lambda: errand.heed(Reply.PENDING, 1),
+            lambda: errand.asked,
+        ]
+        begun = threading.Barrier(1 + len(calls))
+
+        def until_closed(call: Callable[[], object]) -> None:
+            begun.wait()
+            with self.assertRaises(ClosedError):
+                while True:
+                    call()
+
+        def close() -> None:
+            begun.wait()
+            for handle in (router, view, errand):
+                handle.close()
+
+        together(close, *[partial(until_closed, it) for it in calls])
+
+    def test_a_shared_errand(self) -> None:
+        errand = fresh().errand(key(2))
+        together(*[lambda: [errand.heed(Reply.PENDING, 1) for _ in range(300)]] * 4)
+        self.assertEqual(errand.asked, 1)
+
+
+class Readers(unittest.TestCase):
+    """A view for each thread."""
+
+    def test_each_reader_has_a_view(self) -> None:
+        router = fresh()
+        lock = threading.Lock()
+        published = [router.view()]
+
+        def read() -> None:
+            while True:
+                with lock:
+                    mine = published[0].clone()
+                if mine.route(key(2)) == 3:
+                    self.assertEqual(mine.route(key(6)), 4)
+                    return
+
+        def publish(view: View) -> None:
+            with lock:
+                published[0] = view
+
+        def write() -> None:
+            router.done(1, 0, 4)
+            publish(router.view())
+            router.loaded(1, 0, 3, key(2), key(3))
+            publish(router.view())
+            router.close()
+
+        together(read, read, read, read, write)
+
+    def test_batches_at_the_same_time(self) -> None:
+        view = Router(1, wide_plan(4096, 0), wide_plan(4096, 1)).view()
+        keys = array("Q", range(0, 4096 << 32, 1 << 28))
+        wanted = view.routes(keys)
+
+        def read() -> None:
+            mine = view.clone()
+            for _ in range(5):
+                self.assertEqual(mine.routes(keys), wanted)
+
+        together(*[read] * 4)
+
+    def test_handles_are_closed_in_any_thread(self) -> None:
+        views = [Router(1, OLD, NEW).view() for _ in range(50)]
+        views += [it.clone() for it in views]
+
+        def drop() -> None:
+            while True:
+                try:
+                    view = views.pop()
+                except IndexError:
+                    return
+                self.assertEqual(view.route(Rank(2, 0)), 1)
+
+        together(*[drop] * 4)
+
+
+if __name__ == "__main__":
+    unittest.main()
