@@ -3,6 +3,7 @@
 import ast
 import doctest
 import os
+import re
 import subprocess
 import sys
 import unittest
@@ -64,18 +65,31 @@ class Documentation(unittest.TestCase):
             ast.parse(text, str(path), feature_version=(3, 8))
             self.assertLessEqual(len(text.splitlines()), 400, path)
 
-    @unittest.skipUnless(C_EXAMPLES.is_dir() and PLANS.is_dir(), "examples/ is not here")
-    def test_the_proxy_answers_as_that_in_c(self) -> None:
-        ran = subprocess.run(
+    def proxy(self, lines: str) -> str:
+        """What the example program answers to these lines."""
+        return subprocess.run(
             [sys.executable, "-B", PYTHON / "examples/proxy.py", "old.json", "new.json"],
             cwd=PLANS,
             env={**os.environ, "PYTHONPATH": str(Path(squall.__file__).parent.parent)},
-            input=(C_EXAMPLES / "proxy.in").read_text(encoding="utf-8"),
+            input=lines,
             stdout=subprocess.PIPE,
             universal_newlines=True,
             check=True,
-        )
-        self.assertEqual(ran.stdout, (C_EXAMPLES / "proxy.out").read_text(encoding="utf-8"))
+        ).stdout
+
+    @unittest.skipUnless(C_EXAMPLES.is_dir() and PLANS.is_dir(), "examples/ is not here")
+    def test_the_proxy_answers_as_that_in_c(self) -> None:
+        lines, wanted = ((C_EXAMPLES / f"proxy.{it}").read_text("utf-8") for it in ["in", "out"])
+        self.assertEqual(self.proxy(lines), wanted)
+        self.assertEqual(self.proxy("keys\nkey 2\nframe 5\n"), "no such line\nno key\ntaken\n")
+
+    @unittest.skipUnless(PLANS.is_dir(), "examples/ is not here")
+    def test_the_proxy_answers_as_the_page_shows(self) -> None:
+        page = (PYTHON / "README.md").read_text("utf-8")
+        shown = re.findall(r"^    ((?:key|frame) .*)\n    (.*)$", page, re.MULTILINE)
+        self.assertEqual(len(shown), 3)
+        answers = self.proxy("".join(f"{line}\n" for line, _ in shown))
+        self.assertEqual(answers, "".join(f"{wanted}\n" for _, wanted in shown))
 
     def test_the_worked_plans_are_those_of_the_examples(self) -> None:
         if PLANS.is_dir():

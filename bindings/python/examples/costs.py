@@ -1,0 +1,59 @@
+"""What calls cost: the least time of each over several rounds, on this machine.
+
+The router has two plans of 4,096 ranges, and keys are drawn by chance.
+"""
+
+import random
+import sys
+import timeit
+from array import array
+from typing import Callable, List
+
+from squall import END, Plan, Rank, Reply, Router
+
+ROUNDS = 7
+RANGES = 4096
+
+
+def plan(shift: int) -> Plan:
+    """A plan of ranges of a root each, at 50 partitions in turn."""
+    bounds = [Rank(it, 0) for it in range(RANGES)] + [END]
+    parts = [(it + shift) % 50 for it in range(RANGES)]
+    return Plan.of(list(zip(bounds, bounds[1:], parts)))
+
+
+def least(call: Callable[[], object], times: int) -> float:
+    """The microseconds of a call."""
+    return min(timeit.repeat(call, number=times, repeat=ROUNDS)) / times * 1e6
+
+
+def main() -> None:
+    """Prints a line for each call."""
+    drawn = random.Random(1)
+    old, new = plan(0), plan(1)
+    router = Router(1, old, new)
+    view = router.view()
+    keys: List[int] = [drawn.randrange(RANGES << 32) for _ in range(1000)]
+    batch, out, next_key = array("Q", keys), array("I", [0] * 1000), iter(keys * 10000).__next__
+    outbox = Router(1, Plan.of([(0, END, 1)]), Plan.of([(0, END, 1)]))
+    outbox.loaded(1, 0, 1, 0, Rank(1, 0))
+    frame = outbox.board()[0]
+    print(f"Python {sys.version.split()[0]}, microseconds a call")
+    for name, call, times in [
+        ("a key drawn, which the next two hold", next_key, 100000),
+        ("Router.route", lambda: router.route(next_key()), 100000),
+        ("View.route", lambda: view.route(next_key()), 100000),
+        ("View.routes, 1,000 keys", lambda: view.routes(batch), 1000),
+        ("View.routes_into, 1,000 keys", lambda: view.routes_into(batch, out), 1000),
+        ("View.clone and close", lambda: view.clone().close(), 10000),
+        ("View.errand, heed, close", lambda: view.errand(7).heed(Reply.HELD), 10000),
+        ("Router.hear, a frame of one load", lambda: router.hear(frame), 10000),
+        ("the same as a bytearray", lambda data=bytearray(frame): router.hear(data), 10000),
+        ("Router.view, 4,096 legs", router.view, 100),
+        ("Router, two plans of 4,096 ranges", lambda: Router(1, old, new), 10),
+    ]:
+        print(f"{least(call, times):12.2f}  {name}")
+
+
+if __name__ == "__main__":
+    main()
