@@ -38,6 +38,7 @@ def main() -> None:
     outbox = Router(1, Plan.of([(0, END, 1)]), Plan.of([(0, END, 1)]))
     outbox.loaded(1, 0, 1, 0, Rank(1, 0))
     frame = outbox.board()[0]
+    changing = bytearray(frame)
     print(f"Python {sys.version.split()[0]}, microseconds a call")
     for name, call, times in [
         ("a key drawn, which the next two hold", next_key, 100000),
@@ -48,7 +49,7 @@ def main() -> None:
         ("View.clone and close", lambda: view.clone().close(), 10000),
         ("View.errand, heed, close", lambda: view.errand(7).heed(Reply.HELD), 10000),
         ("Router.hear, a frame of one load", lambda: router.hear(frame), 10000),
-        ("the same as a bytearray", lambda data=bytearray(frame): router.hear(data), 10000),
+        ("the same as a bytearray", lambda: router.hear(changing), 10000),
         ("Router.view, 4,096 legs", router.view, 100),
         ("Router, two plans of 4,096 ranges", lambda: Router(1, old, new), 10),
     ]:

@@ -88,7 +88,7 @@ class Handle:
         self.close()
 
     def __reduce_ex__(self, protocol: object) -> NoReturn:
-        raise TypeError(f"a {type(self).__name__} is memory of this process: it can't be pickled")
+        raise TypeError(f"a {type(self).__name__} can't be pickled or copied")
 
     def __repr__(self) -> str:
         return f"<{type(self).__name__}, {'closed' if self.closed else 'open'}>"

@@ -147,8 +147,10 @@ ErrandRoom.prepare(errand_size(), errand_close)
 # The library.
 
 _version: Callable[[], bytes] = _quick("version", ctypes.c_char_p)
+# Asked for once: a process that was forked may have to make no call.
+_VERSION = _version().decode("ascii")
 
 
 def version() -> str:
     """The version of the shared library that is loaded, as `0.1.0`."""
-    return _version().decode("ascii")
+    return _VERSION

@@ -36,10 +36,10 @@ class Plan:
     def __init__(self, text: PlanText) -> None:
         """A plan with a copy of this text of JSON, in the form of docs/FORMATS.md."""
         if isinstance(text, Plan):
-            self._text = text.text
+            self._text = text._text
         elif isinstance(text, str):
             # Half of a surrogate pair becomes bytes that are no UTF-8, which the library refuses.
-            self._text = text.encode("utf-8", "surrogatepass")
+            self._text = str.encode(text, "utf-8", "surrogatepass")
         else:
             self._text = bytes(memoryview(text))
 
@@ -71,7 +71,7 @@ class Plan:
     def __eq__(self, other: object) -> bool:
         if not isinstance(other, Plan):
             return NotImplemented
-        return self._text == other.text
+        return self._text == other._text
 
     def __hash__(self) -> int:
         return hash(self._text)

@@ -143,7 +143,8 @@ class Router(Routes):
         call: Callable[[RouterRoom, lib.Bytes, int], int],
         kept: Callable[[RouterRoom, lib.Bytes, int], int],
     ) -> None:
-        if isinstance(data, bytes):
+        # A subclass may say that it has more bytes than it has.
+        if type(data) is bytes:
             check(self._ask(call, data, len(data)))
         else:
             # They may change if another thread runs, so Python's lock is kept.

@@ -9,6 +9,7 @@ import warnings
 from functools import partial
 from typing import Any, Callable, List
 
+import squall
 from squall import ForkError, Plan, Router
 
 from . import test_handles
@@ -103,6 +104,7 @@ class SeveralThreads(unittest.TestCase):
                     self.refused(partial(ask, handle))
             self.refused(lambda: Router(1, OLD, NEW))
             self.refused(Plan(OLD).check)
+            assert squall.version() == squall.__version__
             # A child of the child is no better.
             assert child_of(lambda: self.refused(lambda: Router(1, OLD, NEW))) == 0
             # To close and to drop handles does no harm.

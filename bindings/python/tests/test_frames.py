@@ -148,6 +148,18 @@ class Bytes(unittest.TestCase):
                         call(router, data)
                         self.assertEqual(router.board(), [LOAD_FRAME])
 
+    def test_bytes_that_lie(self) -> None:
+        class Long(bytes):
+            """Says that it has more bytes than it has."""
+
+            def __len__(self) -> int:
+                return 1 << 40
+
+        router = fresh()
+        router.feed(Long(LOAD_FRAME))
+        router.hear(Long(LOAD_FRAME))
+        self.assertEqual(router.board(), [LOAD_FRAME])
+
     def test_no_bytes(self) -> None:
         kinds: List[Any] = [bytearray(), memoryview(b""), array("B")]
         for empty in kinds:
