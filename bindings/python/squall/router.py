@@ -144,7 +144,7 @@ class Router(Routes):
         kept: Callable[[RouterRoom, lib.Bytes, int], int],
     ) -> None:
         # A subclass may say that it has more bytes than it has.
-        if type(data) is bytes:
+        if type(data) is bytes:  # pylint: disable=unidiomatic-typecheck
             check(self._ask(call, data, len(data)))
         else:
             # They may change if another thread runs, so Python's lock is kept.
