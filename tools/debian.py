@@ -1,10 +1,14 @@
-"""Debian's packages of the release: squall, libsquall1 and libsquall-dev, from what `make install` copies."""
+"""Debian's packages of the release, from what `make install` copies.
+
+They are squall, libsquall1, libsquall-dev, and if the release has bindings/python also python3-squall.
+"""
 import gzip
 import hashlib
 import os
 import re
 import shutil
 import subprocess
+import sys
 import tempfile
 from datetime import datetime, timezone
 from email.utils import format_datetime
@@ -18,6 +22,9 @@ ABOUT = """ A partitioned main-memory database keeps each row in the memory of o
  what was loaded where, and says for each key which partition to ask.
 """
 COMMON = "/usr/share/common-licenses"
+MODULES = "usr/lib/python3/dist-packages"
+# Python's own helpers make and remove the compiled modules, for each version that is installed.
+SCRIPTS = {"postinst": "py3compile", "prerm": "py3clean"}
 
 
 class Package:
@@ -26,15 +33,17 @@ class Package:
     def __init__(self, name, section, title, more, paths, *fields):
         self.name, self.section, self.title, self.more = name, section, title, more
         self.paths, self.fields = paths, fields
+        self.architecture = "all" if section == "python" else "amd64"
 
     def control(self, version, kilobytes):
-        lines = [f"Package: {self.name}", "Source: squall", f"Version: {version}", "Architecture: amd64"]
+        lines = [f"Package: {self.name}", "Source: squall", f"Version: {version}"]
+        lines += [f"Architecture: {self.architecture}"]
         lines += [f"Maintainer: {MAINTAINER}", f"Installed-Size: {kilobytes}", *self.fields]
         lines += [f"Section: {self.section}", "Priority: optional", f"Description: {self.title}"]
         return "\n".join(lines) + f"\n{ABOUT} .\n {self.more}\n"
 
 
-def package_list(version, glibc, soname):
+def package_list(version, glibc, soname, has_python):
     """The packages, the last of which takes what is left."""
     number = soname.rpartition(".")[2]
     libc = f"libc6 (>= {glibc})"
@@ -47,6 +56,12 @@ def package_list(version, glibc, soname):
         f"libsquall{number}", "libs", "partition routing while data moves - shared library",
         "This package has the shared library.", [f"{LIBRARIES}/{soname}"], f"Depends: {libc}", same,
     )
+    if has_python:
+        yield Package(
+            "python3-squall", "python", "partition routing while data moves - Python 3",
+            "This package has the package squall for Python 3.", [MODULES],
+            f"Depends: python3 (>= 3.8), libsquall{number} (>= {version})",
+        )
     yield Package(
         "libsquall-dev", "libdevel", "partition routing while data moves - development files",
         "This package has the header, the archive and the sources of the bindings.", ["usr"],
@@ -96,12 +111,32 @@ def add_of_library(stage, package, version, soname, symbols):
     add(stage, "DEBIAN/symbols", ("\n".join(lines) + "\n").encode())
 
 
+def add_python(whole, version):
+    """Copies the package for Python to where Python looks for it: whether the release has it."""
+    source = whole / "usr/share/squall/bindings/python"
+    if not source.is_dir():
+        print("squall: no package python3-squall, since the release has no bindings/python", file=sys.stderr)
+        return False
+    shutil.copytree(source / "squall", whole / MODULES / "squall", ignore=shutil.ignore_patterns("__pycache__"))
+    about = f"Metadata-Version: 2.1\nName: squall\nVersion: {version}\nRequires-Python: >=3.8\n"
+    add(whole, f"{MODULES}/squall-{version}.egg-info", about.encode())
+    return True
+
+
+def add_of_python(stage, package):
+    """What compiles the modules when the package is installed, and removes what that made."""
+    for script, helper in SCRIPTS.items():
+        text = f"#!/bin/sh\nset -e\nif command -v {helper} > /dev/null; then {helper} -p {package.name}; fi\n"
+        add(stage, f"DEBIAN/{script}", text.encode())
+
+
 def seal(stage, date):
     """Sets modes and times, so that the package is the same wherever it is made; the files of the package."""
     files = sorted(it for it in stage.rglob("*") if it.is_file() and not it.is_symlink() and "DEBIAN" not in it.parts)
     for it in [stage, *stage.rglob("*")]:
         if not it.is_symlink():
-            it.chmod(0o755 if it.is_dir() or it.parent.name == "bin" else 0o644)
+            is_run = it.parent.name == "bin" or it.name in SCRIPTS
+            it.chmod(0o755 if it.is_dir() or is_run else 0o644)
         os.utime(it, (date, date), follow_symlinks=False)
     return files
 
@@ -114,7 +149,7 @@ def build(package, stage, to, version, date):
     add(stage, "DEBIAN/md5sums", "".join(sums).encode())
     add(stage, "DEBIAN/control", package.control(version, kilobytes).encode())
     seal(stage, date)
-    made = to / f"{package.name}_{version}_amd64.deb"
+    made = to / f"{package.name}_{version}_{package.architecture}.deb"
     words = ["dpkg-deb", "--root-owner-group", "-Zxz", "--build", str(stage), str(made)]
     subprocess.run(words, check=True, stdout=subprocess.DEVNULL, env={**os.environ, "SOURCE_DATE_EPOCH": str(date)})
     return made
@@ -139,11 +174,14 @@ def packages(top, to, version, date):
         page = whole / "usr/share/man/man1/squall.1"
         add(whole, "usr/share/man/man1/squall.1.gz", gzip.compress(page.read_bytes(), 9, mtime=0))
         page.unlink()
-        for package in package_list(version, said["glibc"], soname):
+        has_python = add_python(whole, version)
+        for package in package_list(version, said["glibc"], soname, has_python):
             stage = Path(room, package.name)
             move(whole, stage, package.paths)
             add_documents(stage, package, notices, version, date)
             if package.section == "libs":
                 add_of_library(stage, package, version, soname, symbols)
+            elif package.section == "python":
+                add_of_python(stage, package)
             print(build(package, stage, to, version, date))
     return 0
