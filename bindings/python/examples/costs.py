@@ -46,6 +46,7 @@ def main() -> None:
         ("View.route", lambda: view.route(next_key()), 100000),
         ("View.routes, 1,000 keys", lambda: view.routes(batch), 1000),
         ("View.routes_into, 1,000 keys", lambda: view.routes_into(batch, out), 1000),
+        ("View.legs, 4,096 legs", lambda: view.legs(0, END), 100),
         ("View.clone and close", lambda: view.clone().close(), 10000),
         ("View.errand, heed, close", lambda: view.errand(7).heed(Reply.HELD), 10000),
         ("Router.hear, a frame of one load", lambda: router.hear(frame), 10000),

@@ -49,7 +49,9 @@ class Routes(Handle):
         Raises `NumberError` if a rank has no 64 bits, and `ClosedError`.
         """
         records = self._ask(self._records, rank(lo), rank(hi))
-        return [Leg(Rank.of(it.lo), Rank.of(it.hi), it.part) for it in records]
+        # These are ranks: to look at each again would double the time.
+        new = int.__new__
+        return [Leg(new(Rank, it.lo), new(Rank, it.hi), it.part) for it in records]
 
     def _records(self, room: Room, lo: int, hi: int) -> List[LegRecord]:
         # All in one call: a signal handler between two could change the router.

@@ -115,11 +115,12 @@ class Legs(unittest.TestCase):
 
     def test_legs_of_any_number(self) -> None:
         router = fresh()
-        counted = [1]
         for second in range(800):
             router.loaded(1, 0, 4, Rank(6, 2 * second), Rank(6, 2 * second + 1))
-            counted.append(len(router.legs(key(6), key(7))))
-        self.assertEqual(counted, [1, *range(2, 1602, 2)])
+        for count in [1, 2, 62, 63, 64, 65, 66, 1022, 1023, 1024, 1025, 1026, 1599]:
+            legs = router.legs(key(6), Rank(6, count))
+            self.assertEqual(len(legs), count)
+            self.assertEqual(legs[-1], (Rank(6, count - 1), Rank(6, count), 4 - (count - 1) % 2))
         legs = router.view().legs(key(6), key(7))
         self.assertEqual(legs[1598], (Rank(6, 1596 + 2), Rank(6, 1599), 4))
         self.assertEqual(legs[1599], (Rank(6, 1599), key(7), 3))
