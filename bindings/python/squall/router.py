@@ -21,8 +21,7 @@ if TYPE_CHECKING:
 
 #: No frame has more bytes.
 FRAME_BYTES = 1048584
-_SMALL = ctypes.c_char * 4096
-_LARGE = ctypes.c_char * FRAME_BYTES
+_SMALL = 4096
 
 
 class Router(Routes):
@@ -205,9 +204,10 @@ class Router(Routes):
 
 def _next_frame(room: RouterRoom) -> bytes:
     """The next frame that waits, or no bytes."""
-    out = _SMALL()
+    out = ctypes.create_string_buffer(_SMALL)
     size = lib.router_frame(room, out, len(out))
-    if size > len(out):
-        out = _LARGE()
+    # Once more at most, if no signal handler puts a larger frame there in between.
+    while size > len(out):
+        out = ctypes.create_string_buffer(size)
         size = lib.router_frame(room, out, len(out))
     return ctypes.string_at(out, size)

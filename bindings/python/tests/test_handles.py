@@ -216,6 +216,19 @@ class Interrupted(unittest.TestCase):
         digest = router.digest()
         self.assertEqual(self.in_between(router.digest, router.board), digest)
 
+    def test_a_larger_frame_in_between(self) -> None:
+        # What waits is larger when it is fetched than when its size was asked for.
+        frame, sizes = bytes(range(250)) * 24, [4500, 6000, 6000]
+
+        def answer(_room: object, out: Any, room: int) -> int:
+            size = sizes.pop(0) if sizes else 0
+            if size <= room:
+                ctypes.memmove(out, frame, size)
+            return size
+
+        with mock.patch.object(lib, "router_frame", answer):
+            self.assertEqual(moved().board(), [frame])
+
     def test_a_report_in_between(self) -> None:
         router = moved()
         frames = self.in_between(router.board, lambda: router.opened(1, 0))
