@@ -3,6 +3,7 @@
 import gc
 import multiprocessing
 import os
+import signal
 import threading
 import unittest
 import warnings
@@ -11,6 +12,7 @@ from typing import Any, Callable, List
 
 import squall
 from squall import ForkError, Plan, Router
+from squall._room import ErrandRoom, RouterRoom, ViewRoom
 
 from . import test_handles
 from .worked import NEW, OLD, fresh, key, moved
@@ -25,6 +27,8 @@ def child_of(call: Callable[[], object], forks: Callable[[], int] = os.fork) -> 
     if child == 0:
         status = 1
         try:
+            # Ends a child that waits for ever.
+            signal.alarm(10)
             call()
             gc.collect()
             status = 0
@@ -67,9 +71,9 @@ class OneThread(unittest.TestCase):
         queue = context.SimpleQueue()
         worker = context.Process(target=lambda: queue.put(router.route(key(2))))
         worker.start()
-        self.assertEqual(queue.get(), 3)
-        worker.join()
+        worker.join(10)
         self.assertEqual(worker.exitcode, 0)
+        self.assertEqual(queue.get(), 3)
 
 
 class SeveralThreads(unittest.TestCase):
@@ -107,11 +111,16 @@ class SeveralThreads(unittest.TestCase):
             assert squall.version() == squall.__version__
             # A child of the child is no better.
             assert child_of(lambda: self.refused(lambda: Router(1, OLD, NEW))) == 0
-            # To close and to drop handles does no harm.
+            # To close and to drop handles calls nothing.
+            closed: List[object] = []
+            for room in [RouterRoom, ViewRoom, ErrandRoom]:
+                room._close = closed.append
             with router:
                 pass
             assert router.closed
             groups.clear()
+            gc.collect()
+            assert not closed
 
         self.assertEqual(child_of(call), 0)
         self.assertEqual(router.route(key(2)), 1)

@@ -1,12 +1,15 @@
 """Threads that share handles, and threads that have a view each."""
 
 import threading
+import time
 import unittest
 from array import array
 from functools import partial
 from typing import Any, Callable, List
+from unittest import mock
 
 from squall import END, ClosedError, Rank, Reply, Router, View
+from squall import _library as lib
 
 from .worked import LOAD_FRAME, NEW, OLD, fresh, key, moved, wide_plan
 
@@ -37,31 +40,52 @@ class Shared(unittest.TestCase):
         router = Router(1, wide_plan(4096, 0), wide_plan(4096, 1))
 
         def report(first: int) -> None:
-            for root in range(first, 800, 4):
+            for root in range(first, 300, 4):
                 router.loaded(1, 0, (root + 1) % 50, key(root), key(root + 1))
                 router.feed(bytearray(LOAD_FRAME))
 
         def ask() -> None:
-            for root in range(800):
+            for root in range(300):
                 self.assertIn(router.route(key(root)), [root % 50, (root + 1) % 50])
-                if root % 40 == 0:
+                if root % 50 == 0:
                     legs = router.legs(0, END)
                     self.assertTrue(all(a.hi == b.lo for a, b in zip(legs, legs[1:])))
                     self.assertEqual((legs[0].lo, legs[-1].hi), (0, END))
 
         together(*[partial(report, it) for it in range(4)], ask, ask)
         wanted = Router(1, wide_plan(4096, 0), wide_plan(4096, 1))
-        for root in range(800):
+        for root in range(300):
             wanted.loaded(1, 0, (root + 1) % 50, key(root), key(root + 1))
         wanted.feed(LOAD_FRAME)
         self.assertEqual(router.board(), wanted.board())
+
+    def test_calls_of_one_handle_wait_for_each_other(self) -> None:
+        running, most = [0], [0]
+
+        def watched(call: Callable[..., Any]) -> Callable[..., Any]:
+            def run(*words: Any) -> Any:
+                running[0] += 1
+                most[0] = max(most[0], running[0])
+                time.sleep(0.001)
+                answer = call(*words)
+                running[0] -= 1
+                return answer
+
+            return run
+
+        router = moved()
+        route, hear = watched(Router._call_route), watched(lib.router_hear)
+        with mock.patch.object(Router, "_call_route", staticmethod(route)):
+            with mock.patch.object(lib, "router_hear", hear):
+                together(*[lambda: router.route(0), lambda: router.hear(LOAD_FRAME)] * 3)
+        self.assertEqual((most, running), ([1], [0]))
 
     def test_frames_are_of_one_call(self) -> None:
         router = moved()
         digest = router.digest()
 
         def ask(call: Callable[[], object], wanted: object) -> None:
-            for _ in range(300):
+            for _ in range(100):
                 self.assertEqual(call(), wanted)
 
         together(
@@ -71,13 +95,13 @@ class Shared(unittest.TestCase):
         )
 
     def test_closing_in_the_midst_of_calls(self) -> None:
-        for _ in range(10):
+        for _ in range(5):
             self.close_in_the_midst(Router(1, wide_plan(2000, 0), wide_plan(2000, 1)))
 
     def close_in_the_midst(self, router: Router) -> None:
         """Closes a router, a view and an errand while threads use them."""
         view, errand = router.view(), router.errand(0)
-        keys, frame = array("Q", range(0, 2**40, 2**28)), bytearray(LOAD_FRAME)
+        keys, frame = array("Q", range(0, 2**40, 2**30)), bytearray(LOAD_FRAME)
         calls: List[Callable[[], Any]] = [
             lambda: router.issued(2, NEW),
             lambda: router.feed(frame),

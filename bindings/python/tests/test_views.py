@@ -114,7 +114,7 @@ class ManyKeys(unittest.TestCase):
     def test_what_is_no_room(self) -> None:
         keys, parts = array("Q", KEYS), array("I", PARTS)
         wrong: Any
-        for wrong in [[0, 0], None, array("i", [0]), array("Q", [0]), bytearray(4)]:
+        for wrong in [[0, 0], None, array("i", [0]), array("L", [0]), bytearray(4)]:
             with self.subTest(out=wrong), self.assertRaisesRegex(TypeError, "^out has to be"):
                 self.view.routes_into(keys, wrong)
         with self.assertRaisesRegex(TypeError, "^out can't be written"):
