@@ -28,7 +28,7 @@ def child_of(call: Callable[[], object], forks: Callable[[], int] = os.fork) -> 
         status = 1
         try:
             # Ends a child that waits for ever.
-            signal.alarm(10)
+            signal.alarm(60)
             call()
             gc.collect()
             status = 0
@@ -71,7 +71,7 @@ class OneThread(unittest.TestCase):
         queue = context.SimpleQueue()
         worker = context.Process(target=lambda: queue.put(router.route(key(2))))
         worker.start()
-        worker.join(10)
+        worker.join(60)
         self.assertEqual(worker.exitcode, 0)
         self.assertEqual(queue.get(), 3)
 
