@@ -23,7 +23,7 @@ ABOUT = """ A partitioned main-memory database keeps each row in the memory of o
 """
 COMMON = "/usr/share/common-licenses"
 MODULES = "usr/lib/python3/dist-packages"
-# Python's own helpers make and remove the compiled modules, for each version that is installed.
+# Debian's own programs that make and remove the compiled modules, for each version that is installed.
 SCRIPTS = {"postinst": "py3compile", "prerm": "py3clean"}
 
 
@@ -125,8 +125,8 @@ def add_python(whole, version):
 
 def add_of_python(stage, package):
     """What compiles the modules when the package is installed, and removes what that made."""
-    for script, helper in SCRIPTS.items():
-        text = f"#!/bin/sh\nset -e\nif command -v {helper} > /dev/null; then {helper} -p {package.name}; fi\n"
+    for script, program in SCRIPTS.items():
+        text = f"#!/bin/sh\nset -e\nif command -v {program} > /dev/null; then {program} -p {package.name}; fi\n"
         add(stage, f"DEBIAN/{script}", text.encode())
 
 
