@@ -32,7 +32,7 @@ use input::block_room;
 pub use input::read_all;
 pub use line::next_line;
 use machine::Machine;
-pub use output::send_text;
+pub use output::{send, send_text};
 
 /// Whether a run goes on after a line.
 #[derive(Clone, Copy, Debug, PartialEq, Eq)]

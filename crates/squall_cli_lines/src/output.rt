@@ -8,7 +8,7 @@ use squall_cli_device::{DeviceFault, Sink};
 
 /// Writes all the bytes. After a fault the writer took a prefix of them, and it failed or took no
 /// byte of some.
-fn send<K: Sink>(writer: &mut K, bytes: &[u8]) -> Result<(), DeviceFault>
+pub fn send<K: Sink>(writer: &mut K, bytes: &[u8]) -> Result<(), DeviceFault>
     ensures ok { OnOk result (TookBytes (K.state writer.old) (K.state writer.new) bytes.now) }
     ensures err { OnErr result ((n : ℕ) × TookBytes (K.state writer.old) (K.state writer.new) (take n bytes.now)) }
     ensures uncounted { OnOk result (NoWriteFails (K.state writer.old) (K.state writer.new)) }
