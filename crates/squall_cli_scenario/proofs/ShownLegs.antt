@@ -4,7 +4,7 @@ use Rattle.std.specs.Prelude.{codes}
 use Rattle.std.specs.Fmt.{decimal}
 use Rattle.squall_span.specs.Spans.{text_of_span}
 use Rattle.squall_plan.specs.declared.range.PlanRange.{PlanRange}
-use Rattle.squall_cli_scenario.specs.LegText.{leg_line, leg_lines}
+use Rattle.squall_cli_words.specs.RouteText.{leg_line, leg_lines}
 use Rattle.squall_cli_words.proofs.LineTexts.{decimal_no_lf, span_no_lf, spells_lf, spells_glued, differs_at, Lacks, lacks_line, lacks_each}
 
 abbrev bad : List ℕ

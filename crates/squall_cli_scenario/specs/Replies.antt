@@ -2,7 +2,6 @@
 use Rattle.std.specs.Prelude.{◌≡◌, ℕ, ◌+◌, ◌-◌, ◌^◌, min, Bool, true, false, List, [], ◌∷◌, ◌++◌, length, nat_lt}
 use Rattle.std.specs.Prelude.{Option, None, Some, Result, Ok, Err, codes, ◌==◌}
 use Rattle.std.specs.Fmt.{decimal}
-use Rattle.squall_key.specs.Keys.{text_of_key}
 use Rattle.squall_span.specs.Spans.{Interval, span_at}
 use Rattle.squall_plan.specs.declared.range.PlanRange.{PlanRange}
 use Rattle.squall_plan.specs.declared.fault.PlanFault.{PlanFault}
@@ -24,6 +23,7 @@ use Rattle.squall_cli_words.specs.declared.reason.Reason.TheVariants.{Word, Orde
 use Rattle.squall_cli_words.specs.Reasons.{bad_line}
 use Rattle.squall_cli_words.specs.ReportLines.{report_of}
 use Rattle.squall_cli_words.specs.BoardText.{board_text}
+use Rattle.squall_cli_words.specs.RouteText.{route_text, leg_lines}
 use Rattle.squall_protocol.specs.declared.event.Event.{Event}
 use Rattle.squall_protocol.specs.declared.answer.Answer.{Answer}
 use Rattle.squall_protocol.specs.Worlds.{WorldValue, most_routers, first_parts, start}
@@ -35,7 +35,7 @@ use Rattle.squall_cli_events.specs.AnswerText.{answer_line}
 use Rattle.squall_cli_scenario.specs.State.{StageState, NoPlan, OldPlan, BothPlans, InWorld, ScenarioState, has_world}
 use Rattle.squall_cli_scenario.specs.Requests.{Request, Skip, Old, New, Report, Issued, Route, Legs, Board, Hear, Frame, World, Happen, Bad, request_of}
 use Rattle.squall_cli_scenario.specs.Frames.{text_of_heard, after_bodies, frame_text}
-use Rattle.squall_cli_scenario.specs.LegText.{leg_lines, legs_of_span}
+use Rattle.squall_cli_scenario.specs.LegText.{legs_of_span}
 
 -- what comes of a line: its answer and the scenario after it; or an event of the world, whose answer is one that may be given to it;
 -- or why the line is bad
@@ -102,10 +102,6 @@ issued_reply s (InWorld w) number text = Ends Order
 -- course 1 goes from the old plan to the new one
 abbrev pub first_course : List PlanRange → List PlanRange → Change
 first_course old new = record { number = 1; old = old; new = new }
-
--- the key and the partition to ask for it
-abbrev pub route_text : ℕ → ℕ → List ℕ
-route_text key part = codes "route " ++ (text_of_key key ++ (codes " " ++ (decimal part ++ codes "\n")))
 
 -- route K: the partition to ask for the key, by the newest course that is known
 abbrev pub route_reply : ScenarioState → StageState → ℕ → Reply

@@ -16,7 +16,7 @@ use squall_cli_events::event_of;
 use squall_cli_lines::Flow;
 use squall_cli_lines::machine::Machine;
 use squall_cli_lines::words::without_cr;
-use squall_cli_words::{Reason, add_bad_line, add_board, read_plan};
+use squall_cli_words::{Reason, add_bad_line, add_board, add_route, read_plan};
 use squall_course::Course;
 use squall_key::Key;
 use squall_report::{Issue, Report};
@@ -127,7 +127,7 @@ fn route(scenario: &Scenario, key: Key, out: &mut String) -> Result<Option<Reaso
         return Ok(Some(Reason::Order));
     };
     let part = router.route(key);
-    write!(out, "route {key} {part}\n")?;
+    add_route(key, part, out)?;
     Ok(None)
 }
 

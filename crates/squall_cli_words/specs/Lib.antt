@@ -9,3 +9,4 @@ pub mod ReportLines
 pub mod Reasons
 pub mod Endings
 pub mod BoardText
+pub mod RouteText

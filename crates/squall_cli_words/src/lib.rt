@@ -1,5 +1,5 @@
 //! What scenarios and races are written in: the words of their lines, reports as lines, why a line is
-//! bad, and how a board is shown.
+//! bad, and how a board, a route and legs are shown.
 //!
 //! Its tests are in `crates/squall_test_lines/src/language.rt`.
 #![tactic(auto)]
@@ -8,9 +8,11 @@ mod board_text;
 mod plans;
 mod reason;
 mod reports;
+mod routes;
 pub mod words;
 
 pub use board_text::add_board;
 pub use plans::read_plan;
 pub use reason::{Reason, add_bad_line};
 pub use reports::{ReportWords, report_line};
+pub use routes::{add_legs, add_route};
