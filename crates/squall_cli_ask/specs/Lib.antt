@@ -2,6 +2,7 @@
 pub use Rattle.squall_cli_device.specs.States
 pub use Rattle.squall_cli_lines.specs.Heeding
 pub use Rattle.squall_cli_boards.specs.Answers
+pub use Rattle.squall_cli_boards.specs.Questions
 pub use Rattle.squall_cli_boards.specs.ReportWords
 pub mod Files
 pub mod Reads

@@ -4,19 +4,18 @@ ghost use Rattle.std.specs.Prelude.{◌≡◌, ◌≢◌, ◌⊎◌, ◌↔◌, 
 ghost use Rattle.std.specs.List.{list_all, list_any};
 ghost use Rattle.squall_cli_device.specs.States.{FoundEnd, NoReadFails, OutputFails, NoWriteFails};
 ghost use Rattle.squall_cli_lines.specs.Heeding.{InputFails};
-ghost use Rattle.squall_cli_boards.specs.Answers.{IsAskable};
+ghost use Rattle.squall_cli_boards.specs.Questions.{IsAskable};
 ghost use Rattle.squall_cli_ask.specs.Files.{is_input};
 ghost use Rattle.squall_cli_ask.specs.Reads.{bytes_at};
 ghost use Rattle.squall_cli_ask.specs.Told.{IsTold, Says, no_report_told};
-ghost use Rattle.squall_cli_ask.specs.Asked.{question_of, files_of, AnswersWith, IsInquired};
+ghost use Rattle.squall_cli_ask.specs.Asked.{words_asked, question_asked, files_asked, AnswersWith, IsInquired};
 
 use crate::answer::answer_files;
 use crate::files::Files;
 use crate::messages::{BAD_WORDS, say, tell_fault, tell_outcome};
-use crate::question::{files_of, question_of};
+use crate::question::{Worded, files_of, question_of};
 use crate::reading::read_files;
-use squall_cli_boards::Question;
-use squall_cli_command::Inquiry;
+use squall_cli_command::Ask;
 use squall_cli_device::{Sink, Source};
 use squall_cli_lines::RunFault;
 use std::alloc::Global;
@@ -36,16 +35,17 @@ fn tell_no_report<E: Sink>(err: &mut E) -> u8
 /// Answers the question about the files of these names.
 fn answer_named<F: Files, S: Source, O: Sink, E: Sink>(
     alloc: Global,
-    question: &Question,
+    asked: &Worded<'_>,
     names: &[String],
     files: &mut F,
     input: &mut S,
     out: &mut O,
     err: &mut E,
 ) -> u8
-    requires { IsAskable question.now }
+    requires { IsAskable asked.now.question.now }
     ensures done { AnswersWith (bytes_at (F.known files.old) (S.state input.old) (O.state out.old))
-        (bytes_at (F.known files.new) (S.state input.new) (O.state out.new)) question.now (map string_bytes names.now) result }
+        (bytes_at (F.known files.new) (S.state input.new) (O.state out.new))
+        asked.now.question.now (map string_bytes asked.now.words.now) (map string_bytes names.now) result }
     ensures ended { list_any is_input (map string_bytes names.now) ≡ true → result < 2 → FoundEnd (S.state input.old) (S.state input.new) }
     ensures device { result ≡ 3 → InputFails (S.state input.old) (S.state input.new)
         ⊎ (OutputFails (O.state out.old) (O.state out.new) ⊎ (list_all is_input (map string_bytes names.now) ≡ false)) }
@@ -54,13 +54,16 @@ fn answer_named<F: Files, S: Source, O: Sink, E: Sink>(
     ensures told { (text : List ℕ) × IsTold (Contains (map string_bytes names.now)) result text × Says (E.state err.old) (E.state err.new) text }
 {
     match read_files(alloc, names, files, input, err) {
-        Ok(read) => tell_outcome(answer_files(alloc, question, &read, out), err),
+        Ok(read) => tell_outcome(
+            answer_files(alloc, asked.question, asked.words, &read, out),
+            err,
+        ),
         Err(status) => status,
     }
 }
 
-/// Does what is asked of board files: reads the files that the words name, in their order, and writes
-/// the answer. It gives the status with which the program is to end. A file named `-` is what `input`
+/// Does what is asked of board files: reads the files that are named, in their order, and writes the
+/// answer. It gives the status with which the program is to end. A file named `-` is what `input`
 /// gives to its end. If it is named again, it is empty.
 ///
 /// - 0: the answer is written.
@@ -72,35 +75,32 @@ fn answer_named<F: Files, S: Source, O: Sink, E: Sink>(
 /// With status 3 or 4 `err` says which.
 pub fn answer_inquiry<F: Files, S: Source, O: Sink, E: Sink>(
     alloc: Global,
-    inquiry: Inquiry,
-    words: &[String],
+    ask: &Ask,
     files: &mut F,
     input: &mut S,
     out: &mut O,
     err: &mut E,
 ) -> u8
-    ensures done { IsInquired (question_of inquiry (map string_bytes words.now))
+    ensures done { IsInquired (question_asked ask.now) (words_asked ask.now)
         (bytes_at (F.known files.old) (S.state input.old) (O.state out.old)) (bytes_at (F.known files.new) (S.state input.new) (O.state out.new))
-        (files_of inquiry (map string_bytes words.now)) result }
-    ensures ended { list_any is_input (files_of inquiry (map string_bytes words.now)) ≡ true → result < 2
+        (files_asked ask.now) result }
+    ensures ended { list_any is_input (files_asked ask.now) ≡ true → result < 2
         → FoundEnd (S.state input.old) (S.state input.new) }
     ensures device { result ≡ 3 → InputFails (S.state input.old) (S.state input.new) ⊎ (OutputFails (O.state out.old) (O.state out.new)
-        ⊎ (list_all is_input (files_of inquiry (map string_bytes words.now)) ≡ false)) }
-    ensures bad { result ≢ 4 → (result ≡ 2) ↔ (question_of inquiry (map string_bytes words.now) ≡ None) }
+        ⊎ (list_all is_input (files_asked ask.now) ≡ false)) }
+    ensures bad { result ≢ 4 → (result ≡ 2) ↔ (question_asked ask.now ≡ None) }
     ensures heeds { result ≢ 3 → NoReadFails (S.state input.old) (S.state input.new) × NoWriteFails (O.state out.old) (O.state out.new) }
-    ensures told { (text : List ℕ) × IsTold (Contains (files_of inquiry (map string_bytes words.now))) result text
+    ensures told { (text : List ℕ) × IsTold (Contains (files_asked ask.now)) result text
         × Says (E.state err.old) (E.state err.new) text }
 {
-    match question_of(alloc, inquiry, words) {
-        Ok(Some(question)) => answer_named(
-            alloc,
-            &question,
-            files_of(inquiry, words),
-            files,
-            input,
-            out,
-            err,
-        ),
+    match question_of(alloc, ask) {
+        Ok(Some(question)) => {
+            let asked = Worded {
+                question: &question,
+                words: &ask.words,
+            };
+            answer_named(alloc, &asked, files_of(ask), files, input, out, err)
+        }
         Ok(None) => tell_no_report(err),
         Err(_) => tell_fault(RunFault::NoMemory, err),
     }

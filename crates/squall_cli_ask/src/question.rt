@@ -1,28 +1,36 @@
-//! What the words of an inquiry ask, and of which files.
+//! What an inquiry asks, and of which files.
 
 ghost use Rattle.std.specs.Prelude.{◌≡◌, IfOk, IfSome, map, string_bytes};
-ghost use Rattle.squall_cli_boards.specs.Answers.{IsAskable};
-ghost use Rattle.squall_cli_ask.specs.Asked.{question_of, files_of};
+ghost use Rattle.squall_cli_boards.specs.Questions.{IsAskable};
+ghost use Rattle.squall_cli_ask.specs.Asked.{question_asked, files_asked};
 
-use squall_cli_boards::{Question, report_files, report_question};
-use squall_cli_command::Inquiry;
+use squall_cli_boards::{CourseQuestion, Question, report_files, report_question};
+use squall_cli_command::{Ask, Inquiry};
 use squall_status::Shown;
 use std::alloc::{AllocError, Global};
 
-/// The question that the words of an inquiry ask. None if they are no question.
-pub(crate) fn question_of(
-    alloc: Global,
-    inquiry: Inquiry,
-    words: &[String],
-) -> Result<Option<Question>, AllocError>
-    ensures question { IfOk result (λ question. question ≡ question_of inquiry (map string_bytes words.now)) }
+/// A question with its words.
+#[derive(Drop)]
+pub(crate) struct Worded<'a> {
+    /// The question.
+    pub(crate) question: &'a Question,
+    /// Its words that name no files.
+    pub(crate) words: &'a [String],
+}
+
+/// The question that is asked. None if the words are none.
+pub(crate) fn question_of(alloc: Global, ask: &Ask) -> Result<Option<Question>, AllocError>
+    ensures question { IfOk result (λ question. question ≡ question_asked ask.now) }
     ensures askable { IfOk result (λ question. IfSome question IsAskable) }
 {
-    match inquiry {
-        Inquiry::Report => report_question(alloc, words),
+    match ask.inquiry {
+        Inquiry::Report => report_question(alloc, &ask.words),
         Inquiry::Board => Ok(Some(Question::Board)),
-        Inquiry::Status => Ok(Some(Question::Status(Shown::EachMove))),
-        Inquiry::Waiting => Ok(Some(Question::Status(Shown::Waiting))),
+        Inquiry::Status => Ok(Some(Question::Course(CourseQuestion::Status(Shown::EachMove)))),
+        Inquiry::Waiting => Ok(Some(Question::Course(CourseQuestion::Status(Shown::Waiting)))),
+        Inquiry::Picture => Ok(Some(Question::Course(CourseQuestion::Picture))),
+        Inquiry::Routes => Ok(Some(Question::Course(CourseQuestion::Routes))),
+        Inquiry::Legs => Ok(Some(Question::Course(CourseQuestion::Legs))),
         Inquiry::Merge => Ok(Some(Question::Merge)),
         Inquiry::Beyond => Ok(Some(Question::Beyond)),
         Inquiry::Cover => Ok(Some(Question::Cover)),
@@ -32,11 +40,11 @@ pub(crate) fn question_of(
 }
 
 /// The names of the files that are read for it, in their order.
-pub(crate) fn files_of(inquiry: Inquiry, words: &[String]) -> &[String]
-    ensures { map string_bytes result.now ≡ files_of inquiry (map string_bytes words.now) }
+pub(crate) fn files_of(ask: &Ask) -> &[String]
+    ensures { map string_bytes result.now ≡ files_asked ask.now }
 {
-    match inquiry {
-        Inquiry::Report => report_files(words),
-        _ => words,
+    match ask.inquiry {
+        Inquiry::Report => report_files(&ask.words),
+        _ => &ask.files,
     }
 }

@@ -10,7 +10,7 @@ use Rattle.squall_wire.specs.declared.message.Message.{Message}
 use Rattle.squall_wire.specs.Messages.{body_of, spell, spell_all, IsMessage}
 use Rattle.squall_wire.specs.Reading.{message_at}
 use Rattle.squall_wire.specs.ReadingLaws.{nothing_is_short}
-use Rattle.squall_wire.specs.Hearing.{EndsIn, IsHeard}
+use Rattle.squall_wire.specs.Hearing.{EndsIn}
 use Rattle.squall_wire.specs.Heard.{HeardValue, heard_with, heard_of}
 use Rattle.squall_wire.specs.HeardLaws.{heard_is}
 use Rattle.squall_wire.specs.HearingLaws.{spell_all-append}

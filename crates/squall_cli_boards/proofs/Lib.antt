@@ -1,2 +1,3 @@
 pub mod Heard
 pub mod PlansRead
+pub mod Routed

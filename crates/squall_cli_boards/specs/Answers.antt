@@ -1,23 +1,17 @@
 -- What the commands over board files answer (this project's command line).
-use Rattle.std.specs.Prelude.{◌≡◌, ◌↔◌, ◌≤◌, ℕ, List, [], ◌∷◌, ◌++◌, length, map, take, drop, slice_get, nat_lt, Bool, true, false}
-use Rattle.std.specs.Prelude.{Option, None, Some, Result, Ok, Err, codes, if◌then◌else◌}
+use Rattle.std.specs.Prelude.{◌≡◌, ◌↔◌, ℕ, List, [], ◌∷◌, ◌++◌, length, map, slice_get, nat_lt, Bool, true, false}
+use Rattle.std.specs.Prelude.{Result, Ok, Err, codes, if◌then◌else◌}
 use Rattle.std.specs.List.{AllByRecursion}
 use Rattle.std.specs.Option.{option_map_or}
 use Rattle.squall_plan.specs.declared.range.PlanRange.{PlanRange}
 use Rattle.squall_plan.specs.declared.fault.PlanFault.{PlanFault}
 use Rattle.squall_plan.specs.Faults.{text_of_fault as text_of_plan_fault}
 use Rattle.squall_plan.specs.Form.{plan_of_text}
-use Rattle.squall_course.specs.Change.{Change}
 use Rattle.squall_report.specs.declared.report.ReportKind.TheVariants.{Issued}
 use Rattle.squall_report.specs.Issues.{plan_pair}
 use Rattle.squall_report.specs.Told.{TellsAll}
-use Rattle.squall_board.specs.Boards.{BoardValue, told, says, report_board}
+use Rattle.squall_board.specs.Boards.{BoardValue, told, report_board}
 use Rattle.squall_board.specs.BoardBeyond.{TellsBeyond}
-use Rattle.squall_board.specs.CourseRoute.{course_of_board}
-use Rattle.squall_status.specs.declared.text.Shown.{Shown}
-use Rattle.squall_status.specs.Summary.{StatusValue, IsStatusOf}
-use Rattle.squall_status.specs.Texts.{status_text}
-use Rattle.squall_wire.specs.declared.message.Message.{Message}
 use Rattle.squall_wire.specs.declared.message.Message.TheVariants.{Delta, Digest}
 use Rattle.squall_wire.specs.declared.fault.WireFault.{WireFault}
 use Rattle.squall_wire.specs.declared.fault.WireFault.TheVariants.{Short}
@@ -28,8 +22,6 @@ use Rattle.squall_delta.specs.Pieces.{ArePieces}
 use Rattle.squall_delta.specs.Hashes.{digest_of}
 use Rattle.squall_delta.specs.Repairs.{IsRepair}
 use Rattle.squall_cli_words.specs.BoardText.{board_text}
-use Rattle.squall_cli_boards.specs.declared.question.Question.{Question}
-use Rattle.squall_cli_boards.specs.declared.question.Question.TheVariants as ask
 use Rattle.squall_cli_boards.specs.Files.{FileValue, refused_file, board_of_files, digest_of_file}
 
 -- the bytes to write, and whether they refuse what was given
@@ -127,37 +119,6 @@ bytes_at files n = option_map_or (λ f. f.bytes) (slice_get files n) []
 abbrev pub AnswersFirstPlans : (List PlanRange → List PlanRange → AnswerValue → Type 0) → List FileValue → AnswerValue → Type 0
 AnswersFirstPlans Shows files a = AnswersPlans Shows (plan_of_text (bytes_at files 0)) (plan_of_text (bytes_at files 1)) a
 
--- `status`: how far the course has come, as the board says
-abbrev pub ShowsStatus : Shown → Change → BoardValue → AnswerValue → Type 0
-ShowsStatus shown c b a = (s : StatusValue) × IsStatusOf c (says b) s × (a ≡ answer_with (status_text shown s) false)
-
--- the first course of two plans
-abbrev pub first_course : List PlanRange → List PlanRange → Change
-first_course old new = record { number = 1; old = old; new = new }
-
--- of the plans and the board files: the newest course of the board, or else the first
-abbrev pub AnswersStatus : Shown → List FileValue → List PlanRange → List PlanRange → AnswerValue → Type 0
-AnswersStatus shown files old new a = AnswersFor (λ b. ShowsStatus shown (course_of_board (first_course old new) b) b) (board_of_files files) a
-
 -- `report issued`: the frames of the board of that report alone
 abbrev pub ShowsIssue : ℕ → List PlanRange → List PlanRange → AnswerValue → Type 0
 ShowsIssue number old new a = ShowsFrames (report_board (Issued number (plan_pair old new))) a
-
--- ---- questions
-
--- the number of an issue is at least 1
-abbrev pub IsAskable : Question → Type 0
-IsAskable (ask.Issue number) = 1 ≤ number
-IsAskable _ = Unit {0}
-
--- what is answered to a question about files, in their order
-abbrev pub IsAnswerTo : Question → List FileValue → AnswerValue → Type 0
-IsAnswerTo ask.Board files a = AnswersFor ShowsBoard (board_of_files files) a
-IsAnswerTo ask.Merge files a = AnswersFor ShowsFrames (board_of_files files) a
-IsAnswerTo ask.Digest files a = AnswersFor ShowsDigest (board_of_files files) a
-IsAnswerTo ask.Beyond files a = AnswersFor (AnswersBoth ShowsBeyond (drop 1 files)) (board_of_files (take 1 files)) a
-IsAnswerTo ask.Cover files a = AnswersFor (AnswersBoth ShowsCover (drop 1 files)) (board_of_files (take 1 files)) a
-IsAnswerTo ask.Repair files a = AnswersFor (AnswersRepair (drop 1 files)) (board_of_files (take 1 files)) a
-IsAnswerTo (ask.Status shown) files a = AnswersFirstPlans (AnswersStatus shown (drop 2 files)) files a
-IsAnswerTo (ask.Report report) files a = ShowsFrames (report_board report) a
-IsAnswerTo (ask.Issue number) files a = AnswersFirstPlans (ShowsIssue number) files a

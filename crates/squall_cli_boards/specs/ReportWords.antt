@@ -1,5 +1,5 @@
 -- What the words of a report ask for (this project's command line).
-use Rattle.std.specs.Prelude.{◌≤◌, ℕ, List, [], ◌∷◌, drop, ◌==◌, Option, None, Some, codes, if◌then◌else◌}
+use Rattle.std.specs.Prelude.{ℕ, List, [], ◌∷◌, drop, ◌==◌, Option, None, Some, codes, if◌then◌else◌}
 use Rattle.std.specs.List.{flat_map}
 use Rattle.std.specs.Option.{option_map, option_and_then}
 use Rattle.std.specs.Str.{bytes_eq}

@@ -43,11 +43,15 @@ impl Answer {
     pub(crate) fn refusing(alloc: Global, line: &str) -> Result<Answer, AllocError>
         ensures { IfOk result (λ a. a ≡ refusing line.now) }
     {
-        let text = Vec::from_slice(alloc, line.as_bytes())?;
-        Ok(Answer {
-            text,
-            refused: true,
-        })
+        Answer::of_text(alloc, line, true)
+    }
+
+    /// The text as an answer that refuses what was given or not.
+    pub(crate) fn of_text(alloc: Global, text: &str, refused: bool) -> Result<Answer, AllocError>
+        ensures { IfOk result (λ a. a ≡ answer_with text.now refused) }
+    {
+        let text = Vec::from_slice(alloc, text.as_bytes())?;
+        Ok(Answer { text, refused })
     }
 
     /// An answer without bytes. It allocates nothing.

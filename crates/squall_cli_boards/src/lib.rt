@@ -7,6 +7,7 @@
 
 mod answer;
 mod boards;
+mod courses;
 mod exchange;
 mod file;
 mod frames;
@@ -15,8 +16,10 @@ mod joining;
 mod plans;
 mod question;
 mod report_words;
+mod routes;
 
 pub use answer::Answer;
+pub use courses::CourseQuestion;
 pub use file::NamedFile;
 pub use question::{Question, answer_to};
 pub use report_words::{report_files, report_question};

@@ -1,15 +1,15 @@
 //! What is asked of files, and its answer.
 
-ghost use Rattle.std.specs.Prelude.{IfOk};
-ghost use Rattle.squall_cli_boards.specs.Answers.{IsAnswerTo, IsAskable};
+ghost use Rattle.std.specs.Prelude.{IfOk, map, string_bytes};
+ghost use Rattle.squall_cli_boards.specs.Questions.{IsAnswerTo, IsAskable};
 
 use crate::answer::Answer;
 use crate::boards::{board_answer, digest_answer, merge_answer};
+use crate::courses::{CourseQuestion, course_answer};
 use crate::exchange::{beyond_answer, cover_answer, repair_answer};
 use crate::file::NamedFile;
-use crate::plans::{issue_answer, report_answer, status_answer};
+use crate::plans::{issue_answer, report_answer};
 use squall_report::Report;
-use squall_status::Shown;
 use std::alloc::{AllocError, Global};
 
 /// What is asked of files.
@@ -27,9 +27,8 @@ pub enum Question {
     Cover,
     /// What the first board file has that the digest of the second file does not show, as frames.
     Repair,
-    /// How far the newest course of the first two files, which are plans, and the board files after
-    /// them has come.
-    Status(Shown),
+    /// Of the newest course of the first two files, which are plans, and the board files after them.
+    Course(CourseQuestion),
     /// The frame of a report. It needs no file.
     Report(Report),
     /// The frame of the report that the reconfiguration of that number leads from the plan of the
@@ -37,14 +36,16 @@ pub enum Question {
     Issue(u32),
 }
 
-/// The answer to the question about the files, in their order. It fails only if an allocation fails.
+/// The answer to the question about the files, in their order. The words count only if routes or legs
+/// are asked for. It fails only if an allocation fails.
 pub fn answer_to(
     alloc: Global,
     question: &Question,
+    words: &[String],
     files: &[NamedFile],
 ) -> Result<Answer, AllocError>
     requires { IsAskable question.now }
-    ensures { IfOk result (λ a. IsAnswerTo question.now files.now a) }
+    ensures { IfOk result (λ a. IsAnswerTo question.now (map string_bytes words.now) files.now a) }
 {
     match question {
         Question::Board => board_answer(alloc, files),
@@ -53,7 +54,7 @@ pub fn answer_to(
         Question::Beyond => beyond_answer(alloc, files),
         Question::Cover => cover_answer(alloc, files),
         Question::Repair => repair_answer(alloc, files),
-        Question::Status(shown) => status_answer(alloc, *shown, files),
+        Question::Course(question) => course_answer(alloc, *question, words, files),
         Question::Report(report) => report_answer(alloc, report),
         Question::Issue(number) => issue_answer(alloc, *number, files),
     }

@@ -5,7 +5,7 @@ ghost use Rattle.squall_cli_lines.specs.Words.{words_of};
 ghost use Rattle.std.specs.Option.{option_map, option_and_then};
 ghost use Rattle.squall_cli_words.specs.ReportLines.{report_line, report_of};
 ghost use Rattle.squall_cli_boards.specs.declared.question.Question.TheVariants.{Report as Reported};
-ghost use Rattle.squall_cli_boards.specs.Answers.{IsAskable};
+ghost use Rattle.squall_cli_boards.specs.Questions.{IsAskable};
 ghost use Rattle.squall_cli_boards.specs.ReportWords.{line_of, report_in, issue_in, issue_numbered, question_in, question_of_report};
 ghost use Rattle.squall_cli_boards.specs.ReportWords.{files_of_report};
 

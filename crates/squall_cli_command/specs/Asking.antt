@@ -5,8 +5,8 @@ use Rattle.std.specs.Option.{option_map_or}
 use Rattle.std.specs.Str.{bytes_eq}
 use Rattle.clap.specs.Words.{App, Shape, Row, Text, new_app, with_rule, first_of, all_of}
 use Rattle.squall_cli_command.specs.declared.inquiry.Inquiry.{Inquiry}
-use Rattle.squall_cli_command.specs.declared.inquiry.Inquiry.TheVariants.{Report, Board, Status, Waiting, Merge, Beyond, Cover, Digest, Repair}
-use Rattle.squall_cli_command.specs.Rules.{file_rule, words_rule, files_rule, flag_rule}
+use Rattle.squall_cli_command.specs.declared.inquiry.Inquiry.TheVariants.{Report, Board, Status, Waiting, Picture, Routes, Legs, Merge, Beyond, Cover, Digest, Repair}
+use Rattle.squall_cli_command.specs.Rules.{file_rule, words_rule, files_rule, option_rule, flag_rule}
 
 -- ---- the commands
 
@@ -16,12 +16,21 @@ report_shape = (with_rule (new_app (codes "report")) (words_rule (codes "WORD"))
 abbrev pub board_shape : Shape
 board_shape = (with_rule (new_app (codes "board")) (words_rule (codes "FILE"))).top
 
--- `status OLD NEW`, without what may follow
-abbrev pub status_of_plans : App
-status_of_plans = with_rule (with_rule (new_app (codes "status")) (file_rule (codes "OLD"))) (file_rule (codes "NEW"))
+-- a command of two plans, without what may follow: `NAME OLD NEW`
+abbrev pub of_plans : Text → App
+of_plans name = with_rule (with_rule (new_app name) (file_rule (codes "OLD"))) (file_rule (codes "NEW"))
 
 abbrev pub status_shape : Shape
-status_shape = (with_rule (with_rule status_of_plans (files_rule (codes "FILE"))) (flag_rule (codes "waiting"))).top
+status_shape = (with_rule (with_rule (of_plans (codes "status")) (files_rule (codes "FILE"))) (flag_rule (codes "waiting"))).top
+
+abbrev pub picture_shape : Shape
+picture_shape = (with_rule (of_plans (codes "picture")) (files_rule (codes "FILE"))).top
+
+abbrev pub route_shape : Shape
+route_shape = (with_rule (with_rule (of_plans (codes "route")) (words_rule (codes "KEY"))) (option_rule (codes "board"))).top
+
+abbrev pub legs_shape : Shape
+legs_shape = (with_rule (with_rule (of_plans (codes "legs")) (files_rule (codes "BOUND"))) (option_rule (codes "board"))).top
 
 abbrev pub merge_shape : Shape
 merge_shape = (with_rule (new_app (codes "merge")) (words_rule (codes "FILE"))).top
@@ -47,23 +56,44 @@ inquiry_in name rows =
     if bytes_eq name (codes "report") then Some Report
     else (if bytes_eq name (codes "board") then Some Board
     else (if bytes_eq name (codes "status") then Some (if is_set (codes "waiting") rows then Waiting else Status)
+    else (if bytes_eq name (codes "picture") then Some Picture
+    else (if bytes_eq name (codes "route") then Some Routes
+    else (if bytes_eq name (codes "legs") then Some Legs
     else (if bytes_eq name (codes "merge") then Some Merge
     else (if bytes_eq name (codes "beyond") then Some (if is_set (codes "quiet") rows then Cover else Beyond)
     else (if bytes_eq name (codes "digest") then Some Digest
     else (if bytes_eq name (codes "repair") then Some Repair
-    else None))))))
+    else None)))))))))
 
--- the arguments of an inquiry, in their order
-abbrev pub arguments_of : Inquiry → List Text
-arguments_of Report = codes "WORD" ∷ []
-arguments_of Board = codes "FILE" ∷ []
-arguments_of Status = codes "OLD" ∷ codes "NEW" ∷ codes "FILE" ∷ []
-arguments_of Waiting = codes "OLD" ∷ codes "NEW" ∷ codes "FILE" ∷ []
-arguments_of Merge = codes "FILE" ∷ []
-arguments_of Beyond = codes "A" ∷ codes "B" ∷ []
-arguments_of Cover = codes "A" ∷ codes "B" ∷ []
-arguments_of Digest = codes "A" ∷ []
-arguments_of Repair = codes "A" ∷ codes "DIGEST" ∷ []
+-- the arguments of an inquiry that are no files: the words of a report, keys or bounds
+abbrev pub word_arguments : Inquiry → List Text
+word_arguments Report = codes "WORD" ∷ []
+word_arguments Board = []
+word_arguments Status = []
+word_arguments Waiting = []
+word_arguments Picture = []
+word_arguments Routes = codes "KEY" ∷ []
+word_arguments Legs = codes "BOUND" ∷ []
+word_arguments Merge = []
+word_arguments Beyond = []
+word_arguments Cover = []
+word_arguments Digest = []
+word_arguments Repair = []
+
+-- its arguments that are files, in the order in which they are read
+abbrev pub file_arguments : Inquiry → List Text
+file_arguments Report = []
+file_arguments Board = codes "FILE" ∷ []
+file_arguments Status = codes "OLD" ∷ codes "NEW" ∷ codes "FILE" ∷ []
+file_arguments Waiting = codes "OLD" ∷ codes "NEW" ∷ codes "FILE" ∷ []
+file_arguments Picture = codes "OLD" ∷ codes "NEW" ∷ codes "FILE" ∷ []
+file_arguments Routes = codes "OLD" ∷ codes "NEW" ∷ codes "board" ∷ []
+file_arguments Legs = codes "OLD" ∷ codes "NEW" ∷ codes "board" ∷ []
+file_arguments Merge = codes "FILE" ∷ []
+file_arguments Beyond = codes "A" ∷ codes "B" ∷ []
+file_arguments Cover = codes "A" ∷ codes "B" ∷ []
+file_arguments Digest = codes "A" ∷ []
+file_arguments Repair = codes "A" ∷ codes "DIGEST" ∷ []
 
 -- the words that stand for an argument
 abbrev pub values_in : Text → List Row → List Text

@@ -13,8 +13,8 @@ use Rattle.squall_cli_command.specs.declared.task.Task.{Task}
 use Rattle.squall_cli_command.specs.declared.task.Task.TheVariants.{Check, Course, Run, Race, Ask}
 use Rattle.squall_cli_command.specs.declared.inquiry.Inquiry.{Inquiry}
 use Rattle.squall_cli_command.specs.Rules.{file_rule}
-use Rattle.squall_cli_command.specs.Asking.{report_shape, board_shape, status_shape, merge_shape, beyond_shape, digest_shape, repair_shape}
-use Rattle.squall_cli_command.specs.Asking.{inquiry_in, arguments_of, words_in}
+use Rattle.squall_cli_command.specs.Asking.{report_shape, board_shape, status_shape, picture_shape, route_shape, legs_shape, merge_shape, beyond_shape, digest_shape, repair_shape}
+use Rattle.squall_cli_command.specs.Asking.{inquiry_in, word_arguments, file_arguments, words_in}
 
 abbrev pub check_shape : Shape
 check_shape = (with_rule (new_app (codes "check")) (file_rule (codes "PLAN"))).top
@@ -44,13 +44,21 @@ runs_app = with_subcommand (with_subcommand plans_app run_shape) race_shape
 abbrev pub reports_app : App
 reports_app = with_subcommand (with_subcommand runs_app report_shape) board_shape
 
--- and those of several: `status OLD NEW [FILE..]` and `merge FILE..`
-abbrev pub boards_app : App
-boards_app = with_subcommand (with_subcommand reports_app status_shape) merge_shape
+-- and those of the newest course: `status OLD NEW [FILE..]` and `picture OLD NEW [FILE..]`
+abbrev pub courses_app : App
+courses_app = with_subcommand (with_subcommand reports_app status_shape) picture_shape
 
--- all commands: also those between two boards, `beyond A B`, `digest A` and `repair A DIGEST`
+-- and those of its routes: `route OLD NEW KEY..` and `legs OLD NEW [BOUND..]`, both with `--board FILE`
+abbrev pub routes_app : App
+routes_app = with_subcommand (with_subcommand courses_app route_shape) legs_shape
+
+-- and those of several boards: `merge FILE..` and `beyond A B`
+abbrev pub boards_app : App
+boards_app = with_subcommand (with_subcommand routes_app merge_shape) beyond_shape
+
+-- all commands: also those of digests, `digest A` and `repair A DIGEST`
 abbrev pub squall_app : App
-squall_app = with_subcommand (with_subcommand (with_subcommand boards_app beyond_shape) digest_shape) repair_shape
+squall_app = with_subcommand (with_subcommand boards_app digest_shape) repair_shape
 
 -- `help` and what follows it are read as what follows it and `--help`: `help run` as `run --help`
 abbrev pub plain_words : List Text → List Text
@@ -65,14 +73,14 @@ pub data Job : Type 0 where
   course : List ℕ → List ℕ → Job
   run : List ℕ → Job
   race : List ℕ → Job
-  ask : Inquiry → List (List ℕ) → Job
+  ask : Inquiry → List (List ℕ) → List (List ℕ) → Job
 
 abbrev pub job_seen : Task → Job
 job_seen (Check plan) = check (string_bytes plan)
 job_seen (Course old new) = course (string_bytes old) (string_bytes new)
 job_seen (Run file) = run (string_bytes file)
 job_seen (Race file) = race (string_bytes file)
-job_seen (Ask inquiry words) = ask inquiry (map string_bytes words.items)
+job_seen (Ask asked) = ask asked.inquiry (map string_bytes asked.words.items) (map string_bytes asked.files.items)
 
 -- the file that stands for an argument: words without one that has to be there have a fault
 abbrev pub file_in : Text → List Row → List ℕ
@@ -88,7 +96,7 @@ file_job_in name rows =
 
 -- the job of a command's name and entries
 abbrev pub job_in : Text → List Row → Job
-job_in name rows = option_map_or (λ inquiry. ask inquiry (words_in (arguments_of inquiry) rows)) (inquiry_in name rows) (file_job_in name rows)
+job_in name rows = option_map_or (λ inquiry. ask inquiry (words_in (word_arguments inquiry) rows) (words_in (file_arguments inquiry) rows)) (inquiry_in name rows) (file_job_in name rows)
 
 -- without a command it is to run standard input
 abbrev pub job_of : Option (Text × List Row) → Job

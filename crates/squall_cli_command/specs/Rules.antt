@@ -15,6 +15,10 @@ words_rule id = record (new_rule id) { required = true; action = Some Append }
 abbrev pub files_rule : Text → Rule
 files_rule id = record (new_rule id) { action = Some Append }
 
+-- `--id FILE`, any number of times
+abbrev pub option_rule : Text → Rule
+option_rule id = record (new_rule id) { long = Some id; action = Some Append; value_names = 1 }
+
 -- `--id`, which may be there
 abbrev pub flag_rule : Text → Rule
 flag_rule id = record (new_rule id) { long = Some id; action = Some SetTrue }

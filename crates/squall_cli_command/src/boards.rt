@@ -1,12 +1,11 @@
 //! The commands about reports and boards, with their help, as `clap` reads them.
 
 ghost use Rattle.std.specs.Prelude.{◌≡◌, IfOk, false};
-ghost use Rattle.clap.specs.Words.{app_of, shape_of, rule_of};
+ghost use Rattle.clap.specs.Words.{shape_of, rule_of};
 ghost use Rattle.clap.specs.declared.builder.command.Command.TheViews.{out-Command as fields_of};
 ghost use Rattle.squall_cli_command.specs.Rules.{words_rule, files_rule, flag_rule};
-ghost use Rattle.squall_cli_command.specs.Asking.{report_shape, board_shape, status_of_plans, status_shape, merge_shape};
+ghost use Rattle.squall_cli_command.specs.Asking.{report_shape, board_shape, merge_shape};
 
-use crate::parser::file;
 use clap::{Arg, ArgAction, Command};
 use std::alloc::{AllocError, Global};
 
@@ -25,20 +24,13 @@ const BOARD: &str =
 Example:
   squall board a.bin b.bin";
 
-const STATUS: &str =
-    "OLD and NEW are the plans of the first reconfiguration. The status is that of the newest one that
-the files tell of.
-
-Example:
-  squall status --waiting old.json new.json board.bin";
-
 const MERGE: &str = "A file has the frames of a board. The output has as few frames as can be.
 
 Example:
   squall merge a.bin b.bin >both.bin";
 
 /// A word, of which there is one or more.
-fn words<'a>(alloc: Global, name: &'a str, help: &'a str) -> Arg<'a>
+pub(crate) fn words<'a>(alloc: Global, name: &'a str, help: &'a str) -> Arg<'a>
     ensures rule { rule_of result ≡ words_rule name.entry.now }
     ensures global { result.global ≡ false }
 {
@@ -48,8 +40,8 @@ fn words<'a>(alloc: Global, name: &'a str, help: &'a str) -> Arg<'a>
         .help(help)
 }
 
-/// A file, of which there is any number.
-fn files<'a>(alloc: Global, name: &'a str, help: &'a str) -> Arg<'a>
+/// A word, as the name of a file, of which there is any number.
+pub(crate) fn files<'a>(alloc: Global, name: &'a str, help: &'a str) -> Arg<'a>
     ensures rule { rule_of result ≡ files_rule name.entry.now }
     ensures global { result.global ≡ false }
 {
@@ -87,32 +79,6 @@ pub(crate) fn board_command<'a>(alloc: Global) -> Result<Command<'a>, AllocError
         .about("Shows the board that files tell of, as lines")
         .after_help(BOARD)
         .arg(words(alloc, "FILE", "The files of frames, or -"))
-}
-
-/// `status OLD NEW`, without what may follow.
-fn status_of_plans<'a>(alloc: Global) -> Result<Command<'a>, AllocError>
-    ensures app { IfOk result (λ c. app_of c ≡ status_of_plans) }
-    ensures globals { IfOk result (λ c. (fields_of c).has_globals ≡ false) }
-{
-    Command::new(alloc, "status")
-        .about("Shows how far the newest reconfiguration is")
-        .after_help(STATUS)
-        .arg(file(alloc, "OLD", "The file of the old plan, or -"))?
-        .arg(file(alloc, "NEW", "The file of the new plan, or -"))
-}
-
-/// `status OLD NEW [FILE..]`
-pub(crate) fn status_command<'a>(alloc: Global) -> Result<Command<'a>, AllocError>
-    ensures shape { IfOk result (λ c. shape_of c ≡ status_shape) }
-    ensures globals { IfOk result (λ c. (fields_of c).has_globals ≡ false) }
-{
-    status_of_plans(alloc)?
-        .arg(files(alloc, "FILE", "The files of frames, or -"))?
-        .arg(flag(
-            alloc,
-            "waiting",
-            "Shows only the moves that are not complete",
-        ))
 }
 
 /// `merge FILE..`

@@ -3,22 +3,28 @@
 ghost use Rattle.std.specs.Prelude.{◌≡◌, ◌++◌, map, string_bytes, IfOk, OnOk, if◌then◌else◌};
 ghost use Rattle.clap.specs.Words.{found_of, rows_of};
 ghost use Rattle.squall_cli_command.specs.Line.{words_of};
-ghost use Rattle.squall_cli_command.specs.Asking.{is_set, inquiry_in, arguments_of, values_in, words_in};
+ghost use Rattle.squall_cli_command.specs.Asking.{is_set, inquiry_in, word_arguments, file_arguments, values_in, words_in};
 
 use clap::ArgMatches;
 use std::alloc::{AllocError, Global};
 
-/// What is asked of board files. The words are those after the command, in their order.
+/// What is asked of board files.
 #[derive(Clone, Copy, Debug, PartialEq, Eq)]
 pub enum Inquiry {
-    /// The frame of a report, which the words write.
+    /// The frame of a report, which the words write. The files of its plans are among them.
     Report,
     /// What the board files tell, as lines.
     Board,
-    /// How far the newest course has come. The words name the old plan, the new plan and board files.
+    /// How far the newest course has come. The files are the old plan, the new plan and board files.
     Status,
     /// The same, with the moves alone that are not complete.
     Waiting,
+    /// The picture of how far the newest course has come, of the same files.
+    Picture,
+    /// Where the newest course sends keys, of the same files. The words are the keys.
+    Routes,
+    /// Its legs, of the same files. The words are two bounds, or there are none.
+    Legs,
     /// What the board files tell, as frames.
     Merge,
     /// What the first board file tells that the second does not, as frames.
@@ -29,6 +35,17 @@ pub enum Inquiry {
     Digest,
     /// What the board file has that the digest of the second file does not show, as frames.
     Repair,
+}
+
+/// An inquiry with what it is about. Words and files are as they were given, in their order.
+#[derive(Debug, Drop)]
+pub struct Ask {
+    /// What is asked.
+    pub inquiry: Inquiry,
+    /// The words of it that name no files.
+    pub words: Vec<String>,
+    /// The names of its files. `-` is standard input.
+    pub files: Vec<String>,
 }
 
 /// Whether the flag is among what was parsed.
@@ -62,6 +79,15 @@ pub(crate) fn inquiry_of(name: &str, matches: &ArgMatches) -> Option<Inquiry>
     if name == "status" {
         return Some(by_flag(matches, "waiting", Inquiry::Waiting, Inquiry::Status));
     }
+    if name == "picture" {
+        return Some(Inquiry::Picture);
+    }
+    if name == "route" {
+        return Some(Inquiry::Routes);
+    }
+    if name == "legs" {
+        return Some(Inquiry::Legs);
+    }
     if name == "merge" {
         return Some(Inquiry::Merge);
     }
@@ -77,14 +103,27 @@ pub(crate) fn inquiry_of(name: &str, matches: &ArgMatches) -> Option<Inquiry>
     None
 }
 
-/// The arguments of an inquiry, in their order.
-fn arguments(inquiry: Inquiry) -> &'static [&'static str]
-    ensures { words_of result.now ≡ arguments_of inquiry }
+/// The arguments of an inquiry that are no files.
+fn word_arguments(inquiry: Inquiry) -> &'static [&'static str]
+    ensures { words_of result.now ≡ word_arguments inquiry }
 {
     match inquiry {
         Inquiry::Report => &["WORD"],
+        Inquiry::Routes => &["KEY"],
+        Inquiry::Legs => &["BOUND"],
+        _ => &[],
+    }
+}
+
+/// Its arguments that are files, in the order in which they are read.
+fn file_arguments(inquiry: Inquiry) -> &'static [&'static str]
+    ensures { words_of result.now ≡ file_arguments inquiry }
+{
+    match inquiry {
+        Inquiry::Report => &[],
         Inquiry::Board | Inquiry::Merge => &["FILE"],
-        Inquiry::Status | Inquiry::Waiting => &["OLD", "NEW", "FILE"],
+        Inquiry::Status | Inquiry::Waiting | Inquiry::Picture => &["OLD", "NEW", "FILE"],
+        Inquiry::Routes | Inquiry::Legs => &["OLD", "NEW", "board"],
         Inquiry::Beyond | Inquiry::Cover => &["A", "B"],
         Inquiry::Digest => &["A"],
         Inquiry::Repair => &["A", "DIGEST"],
@@ -128,13 +167,21 @@ fn words_in(alloc: Global, matches: &ArgMatches, ids: &[&str]) -> Result<Vec<Str
     Ok(words)
 }
 
-/// The words of an inquiry.
-pub(crate) fn inquiry_words(
+/// The inquiry with its words and its files.
+pub(crate) fn asked(
     alloc: Global,
     inquiry: Inquiry,
     matches: &ArgMatches,
-) -> Result<Vec<String>, AllocError>
-    ensures { IfOk result (λ v. map string_bytes v.items ≡ words_in (arguments_of inquiry) (rows_of (found_of matches.now))) }
+) -> Result<Ask, AllocError>
+    ensures inquiry { IfOk result (λ a. a.inquiry ≡ inquiry) }
+    ensures words { IfOk result (λ a. map string_bytes a.words.items ≡ words_in (word_arguments inquiry) (rows_of (found_of matches.now))) }
+    ensures files { IfOk result (λ a. map string_bytes a.files.items ≡ words_in (file_arguments inquiry) (rows_of (found_of matches.now))) }
 {
-    words_in(alloc, matches, arguments(inquiry))
+    let words = words_in(alloc, matches, word_arguments(inquiry))?;
+    let files = words_in(alloc, matches, file_arguments(inquiry))?;
+    Ok(Ask {
+        inquiry,
+        words,
+        files,
+    })
 }

@@ -2,7 +2,7 @@
 
 ghost use Rattle.std.specs.Prelude.{◌≢◌, ◌⊎◌, ◌∷◌, [], List, codes};
 ghost use Rattle.clap.specs.Words.{Text};
-ghost use Rattle.squall_cli_command.specs.declared.inquiry.Inquiry.TheVariants.{Report, Board, Status, Waiting, Beyond, Cover};
+ghost use Rattle.squall_cli_command.specs.declared.inquiry.Inquiry.TheVariants.{Report, Board, Status, Waiting, Routes, Legs, Beyond, Cover};
 ghost use Rattle.squall_cli_command.specs.Line.{Asks, AsksForHelp, IsFaulty, faults_in, check, run, ask};
 
 /// Standard input is run without a command, and by `run -`; it is checked by `check -`.
@@ -12,21 +12,30 @@ pub fn standard_input()
     ensures check { (name : Text) → Asks (name ∷ codes "check" ∷ codes "-" ∷ []) (check (codes "-")) }
 {}
 
-/// The words after `report` and after `board` are those of the inquiry, in their order.
+/// The words after `report` are those of the inquiry, and those after `board` its files, in their order.
 pub fn words_of_boards()
     ensures report { (name : Text) → Asks (name ∷ codes "report" ∷ codes "opened" ∷ codes "1" ∷ codes "2" ∷ [])
-        (ask Report (codes "opened" ∷ codes "1" ∷ codes "2" ∷ [])) }
-    ensures board { (name : Text) → Asks (name ∷ codes "board" ∷ codes "b" ∷ codes "-" ∷ []) (ask Board (codes "b" ∷ codes "-" ∷ [])) }
+        (ask Report (codes "opened" ∷ codes "1" ∷ codes "2" ∷ []) []) }
+    ensures board { (name : Text) → Asks (name ∷ codes "board" ∷ codes "b" ∷ codes "-" ∷ []) (ask Board [] (codes "b" ∷ codes "-" ∷ [])) }
 {}
 
-/// A flag is no word of the inquiry, and changes what is asked.
+/// A flag is no file of the inquiry, and changes what is asked.
 pub fn flags_of_boards()
     ensures status { (name : Text) → Asks (name ∷ codes "status" ∷ codes "o" ∷ codes "n" ∷ codes "b" ∷ [])
-        (ask Status (codes "o" ∷ codes "n" ∷ codes "b" ∷ [])) }
+        (ask Status [] (codes "o" ∷ codes "n" ∷ codes "b" ∷ [])) }
     ensures waiting { (name : Text) → Asks (name ∷ codes "status" ∷ codes "--waiting" ∷ codes "o" ∷ codes "n" ∷ [])
-        (ask Waiting (codes "o" ∷ codes "n" ∷ [])) }
-    ensures beyond { (name : Text) → Asks (name ∷ codes "beyond" ∷ codes "a" ∷ codes "b" ∷ []) (ask Beyond (codes "a" ∷ codes "b" ∷ [])) }
-    ensures quiet { (name : Text) → Asks (name ∷ codes "beyond" ∷ codes "a" ∷ codes "b" ∷ codes "--quiet" ∷ []) (ask Cover (codes "a" ∷ codes "b" ∷ [])) }
+        (ask Waiting [] (codes "o" ∷ codes "n" ∷ [])) }
+    ensures beyond { (name : Text) → Asks (name ∷ codes "beyond" ∷ codes "a" ∷ codes "b" ∷ []) (ask Beyond [] (codes "a" ∷ codes "b" ∷ [])) }
+    ensures quiet { (name : Text) → Asks (name ∷ codes "beyond" ∷ codes "a" ∷ codes "b" ∷ codes "--quiet" ∷ []) (ask Cover [] (codes "a" ∷ codes "b" ∷ [])) }
+{}
+
+/// Of a route and of legs the files are the two plans and those of `--board`, wherever it stands. The
+/// words are the keys and the bounds.
+pub fn files_of_routes()
+    ensures route { (name : Text) → Asks (name ∷ codes "route" ∷ codes "o" ∷ codes "n" ∷ codes "2:0" ∷ codes "--board" ∷ codes "b" ∷ codes "3:0" ∷ [])
+        (ask Routes (codes "2:0" ∷ codes "3:0" ∷ []) (codes "o" ∷ codes "n" ∷ codes "b" ∷ [])) }
+    ensures legs { (name : Text) → Asks (name ∷ codes "legs" ∷ codes "--board" ∷ codes "b" ∷ codes "o" ∷ codes "n" ∷ [])
+        (ask Legs [] (codes "o" ∷ codes "n" ∷ codes "b" ∷ [])) }
 {}
 
 /// Words that have a fault ask for help or are bad, and never both.

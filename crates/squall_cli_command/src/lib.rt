@@ -5,6 +5,7 @@
 #![tactic(auto)]
 
 mod boards;
+mod courses;
 mod exchange;
 mod inquiry;
 pub mod laws;
@@ -12,6 +13,6 @@ mod line;
 mod parser;
 mod task;
 
-pub use inquiry::Inquiry;
+pub use inquiry::{Ask, Inquiry};
 pub use line::{command, message};
 pub use task::{LineFault, Task};

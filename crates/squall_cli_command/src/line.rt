@@ -7,7 +7,7 @@ ghost use Rattle.squall_cli_command.specs.Line.{job_of, job_in, file_job_in, job
 ghost use Rattle.squall_cli_command.specs.Line.{faults_in, shows_help, title, Asks, AsksForHelp, IsFaulty};
 ghost use Rattle.squall_cli_command.specs.declared.task.LineFault.TheVariants.{Help, Bad, NoMemory};
 
-use crate::inquiry::{inquiry_of, inquiry_words};
+use crate::inquiry::{asked, inquiry_of};
 use crate::parser::{TITLE, parser};
 use crate::task::{LineFault, Task};
 use clap::error::ErrorKind;
@@ -48,7 +48,7 @@ fn task_in(alloc: Global, name: &str, matches: &ArgMatches) -> Result<Task, Allo
     ensures { IfOk result (λ task. job_seen task ≡ job_in name.now (rows_of (found_of matches.now))) }
 {
     match inquiry_of(name, matches) {
-        Some(inquiry) => Ok(Task::Ask(inquiry, inquiry_words(alloc, inquiry, matches)?)),
+        Some(inquiry) => Ok(Task::Ask(asked(alloc, inquiry, matches)?)),
         None => file_task_in(alloc, name, matches),
     }
 }

@@ -3,11 +3,12 @@
 ghost use Rattle.std.specs.Prelude.{◌≡◌, IfOk, false};
 ghost use Rattle.clap.specs.Words.{app_of, shape_of, rule_of};
 ghost use Rattle.clap.specs.declared.builder.command.Command.TheViews.{out-Command as fields_of};
-ghost use Rattle.squall_cli_command.specs.Line.{squall_app, boards_app, reports_app, runs_app, plans_app, program_app};
+ghost use Rattle.squall_cli_command.specs.Line.{squall_app, boards_app, routes_app, courses_app, reports_app, runs_app, plans_app, program_app};
 ghost use Rattle.squall_cli_command.specs.Line.{check_shape, course_shape, run_shape, race_shape};
 ghost use Rattle.squall_cli_command.specs.Rules.{file_rule};
 
-use crate::boards::{board_command, merge_command, report_command, status_command};
+use crate::boards::{board_command, merge_command, report_command};
+use crate::courses::{legs_command, picture_command, route_command, status_command};
 use crate::exchange::{beyond_command, digest_command, repair_command};
 use clap::{Arg, ArgAction, Command};
 use std::alloc::{AllocError, Global};
@@ -156,13 +157,31 @@ fn with_reports<'a>(alloc: Global) -> Result<Command<'a>, AllocError>
         .subcommand(board_command(alloc)?)
 }
 
-/// And with those of several.
-fn with_boards<'a>(alloc: Global) -> Result<Command<'a>, AllocError>
-    ensures { IfOk result (λ c. app_of c ≡ boards_app) }
+/// And with those of the newest course.
+fn with_courses<'a>(alloc: Global) -> Result<Command<'a>, AllocError>
+    ensures { IfOk result (λ c. app_of c ≡ courses_app) }
 {
     with_reports(alloc)?
         .subcommand(status_command(alloc)?)?
-        .subcommand(merge_command(alloc)?)
+        .subcommand(picture_command(alloc)?)
+}
+
+/// And with those of its routes.
+fn with_routes<'a>(alloc: Global) -> Result<Command<'a>, AllocError>
+    ensures { IfOk result (λ c. app_of c ≡ routes_app) }
+{
+    with_courses(alloc)?
+        .subcommand(route_command(alloc)?)?
+        .subcommand(legs_command(alloc)?)
+}
+
+/// And with those of several boards.
+fn with_boards<'a>(alloc: Global) -> Result<Command<'a>, AllocError>
+    ensures { IfOk result (λ c. app_of c ≡ boards_app) }
+{
+    with_routes(alloc)?
+        .subcommand(merge_command(alloc)?)?
+        .subcommand(beyond_command(alloc)?)
 }
 
 /// The program's command line.
@@ -170,7 +189,6 @@ pub(crate) fn parser<'a>(alloc: Global) -> Result<Command<'a>, AllocError>
     ensures { IfOk result (λ c. app_of c ≡ squall_app) }
 {
     with_boards(alloc)?
-        .subcommand(beyond_command(alloc)?)?
         .subcommand(digest_command(alloc)?)?
         .subcommand(repair_command(alloc)?)
 }

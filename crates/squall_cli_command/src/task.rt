@@ -1,6 +1,6 @@
 //! What words ask for, and why nothing is done.
 
-use crate::inquiry::Inquiry;
+use crate::inquiry::Ask;
 use std::alloc::AllocError;
 
 /// What the program is to do. Files are as they are named in the words; `-` names standard input.
@@ -14,8 +14,8 @@ pub enum Task {
     Run(String),
     /// To run the race of a file.
     Race(String),
-    /// To answer what is asked of board files by these words.
-    Ask(Inquiry, Vec<String>),
+    /// To answer what is asked of board files.
+    Ask(Ask),
 }
 
 /// Why the words ask for no task.

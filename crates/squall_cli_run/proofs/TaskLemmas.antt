@@ -100,14 +100,14 @@ nothing_done f i o (course old new) status e = (
 )
 nothing_done f i o (run name) status e = (Err NoMemory, [], [], e, Appends-nil o, (0, silence, refl, refl), reads_nothing f f i o o name, λ l. absurd (omega arith))
 nothing_done f i o (race name) status e = (Err NoMemory, [], [], e, Appends-nil o, refl, reads_nothing f f i o o name, λ l. absurd (omega arith))
-nothing_done f i o (ask inquiry words) status e = nothing_inquired (question_of inquiry words) f i o (files_of inquiry words) status e
+nothing_done f i o (ask inquiry words files) status e = nothing_inquired (question_of inquiry words) words f i o (files_of inquiry words files) status e
 
 pub not_ended : (job : Job) (status : ℕ) → 2 < status → EndsInput job status → ⊥
 not_ended (check name) status l h = omega (arith, h.1)
 not_ended (course old new) status l h = omega (arith, h.1)
 not_ended (run name) status l h = omega (arith, h.1)
 not_ended (race name) status l h = omega (arith, h.1)
-not_ended (ask inquiry words) status l h = omega (arith, h.1)
+not_ended (ask inquiry words files) status l h = omega (arith, h.1)
 
 -- ---- courses of which a file was not read
 

@@ -1,7 +1,6 @@
 -- The words of a task, as they stand in memory.
 use Rattle.std.proofs.Common.{◌≡◌, ℕ, List, sym, subst, ◌∙◌}
-use Rattle.squall_cli_command.specs.declared.inquiry.Inquiry.{Inquiry}
-use Rattle.squall_cli_command.specs.Line.{Job, check, course, run, race, ask}
+use Rattle.squall_cli_command.specs.Line.{Job, check, course, run, race}
 use Rattle.squall_cli_run.specs.Named.{IsNamed}
 
 -- the names of the files of a course, as they stand in memory
@@ -19,7 +18,3 @@ named_run job now file is same name named = subst (λ j. IsNamed j name) (sym is
 
 pub named_race : (job : Job) (now file : List ℕ) → job ≡ race file → now ≡ file → (name : List ℕ) → name ≡ now → IsNamed job name
 named_race job now file is same name named = subst (λ j. IsNamed j name) (sym is) (named ∙ same)
-
--- what holds of the words of an inquiry, as they stand in memory
-pub asked : (P : Job → Type 0) (job : Job) (inquiry : Inquiry) (words words' : List (List ℕ)) → job ≡ ask inquiry words' → words ≡ words' → P (ask inquiry words) → P job
-asked P job inquiry words words' is same h = subst P (sym is) (subst (λ w. P (ask inquiry w)) same h)

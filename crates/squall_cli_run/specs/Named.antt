@@ -9,7 +9,7 @@ IsNamed (check plan) name = name ≡ plan
 IsNamed (course old new) name = (name ≡ old) ⊎ (name ≡ new)
 IsNamed (run file) name = name ≡ file
 IsNamed (race file) name = name ≡ file
-IsNamed (ask inquiry words) name = Contains (files_of inquiry words) name
+IsNamed (ask inquiry words files) name = Contains (files_of inquiry words files) name
 
 -- the words ask for a task that has a file of this name
 abbrev pub NamesIt : List (List ℕ) → List ℕ → Type 0

@@ -60,7 +60,7 @@ IsDone before after (check name) status = ChecksWith before after name status
 IsDone before after (course old new) status = ShowsCourseWith before after old new status
 IsDone before after (run name) status = RunsWith before after name status
 IsDone before after (race name) status = RacesWith before after name status
-IsDone before after (ask inquiry words) status = IsInquired (question_of inquiry words) before after (files_of inquiry words) status
+IsDone before after (ask inquiry words files) status = IsInquired (question_of inquiry words) words before after (files_of inquiry words files) status
 
 -- a text that begins with the program's name and version is written, as far as the outcome with that status says
 abbrev pub ShowsHelp : SinkState → SinkState → ℕ → Type 0
@@ -77,7 +77,7 @@ EndsInput (check name) status = (is_input name ≡ true) × (status < 2)
 EndsInput (course old new) status = ((is_input old || is_input new) ≡ true) × (status < 2)
 EndsInput (run name) status = (is_input name ≡ true) × (status ≡ 0)
 EndsInput (race name) status = (is_input name ≡ true) × (status < 2)
-EndsInput (ask inquiry words) status = (list_any is_input (files_of inquiry words) ≡ true) × (status < 2)
+EndsInput (ask inquiry words files) status = (list_any is_input (files_of inquiry words files) ≡ true) × (status < 2)
 
 -- the task reads a file that is not standard input
 abbrev pub NamesFile : Job → Type 0
@@ -85,7 +85,7 @@ NamesFile (check name) = is_input name ≡ false
 NamesFile (course old new) = (is_input old && is_input new) ≡ false
 NamesFile (run name) = is_input name ≡ false
 NamesFile (race name) = is_input name ≡ false
-NamesFile (ask inquiry words) = list_all is_input (files_of inquiry words) ≡ false
+NamesFile (ask inquiry words files) = list_all is_input (files_of inquiry words files) ≡ false
 
 -- the task has the words of a report, and they are none
 abbrev pub IsNoReport : Job → Type 0
@@ -93,7 +93,7 @@ IsNoReport (check name) = ⊥
 IsNoReport (course old new) = ⊥
 IsNoReport (run name) = ⊥
 IsNoReport (race name) = ⊥
-IsNoReport (ask inquiry words) = question_of inquiry words ≡ None
+IsNoReport (ask inquiry words files) = question_of inquiry words ≡ None
 
 -- the words are bad: they have a fault, or they ask for a report that is none
 abbrev pub AreBad : List (List ℕ) → Type 0

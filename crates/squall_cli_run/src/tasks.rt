@@ -150,9 +150,7 @@ pub(crate) fn do_task<R: Threads + Wait + Sync, F: Files, S: Source, O: Sink, E:
         }
         Task::Run(file) => (Purpose::Run, file.as_str()),
         Task::Race(file) => (Purpose::Race, file.as_str()),
-        Task::Ask(inquiry, words) => {
-            return answer_inquiry(alloc, *inquiry, words, files, input, out, err);
-        }
+        Task::Ask(ask) => return answer_inquiry(alloc, ask, files, input, out, err),
     };
     answer_file(rt, alloc, file, files, input, out, err)
 }

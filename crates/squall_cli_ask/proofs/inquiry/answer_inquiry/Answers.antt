@@ -7,17 +7,19 @@ use Rattle.squall_cli_lines.specs.declared.RunFault.TheVariants.{NoMemory}
 use Rattle.squall_cli_ask.specs.Files.{is_input}
 use Rattle.squall_cli_ask.specs.Reads.{bytes_at}
 use Rattle.squall_cli_ask.specs.Told.{IsTold, Says, fault_told}
-use Rattle.squall_cli_ask.specs.Asked.{question_of, files_of}
+use Rattle.squall_cli_ask.specs.Asked.{words_asked, question_asked, files_asked, AnswersWith}
 use Rattle.squall_cli_ask.proofs.Inquired.{nothing_inquired, inquired}
 use Rattle.squall_cli_ask.proofs.inquiry.answer_inquiry.Goals as goal
 
 pub returns-in-Ok-Some-clause-done : goal.returns-in-Ok-Some-clause-done
 returns-in-Ok-Some-clause-done g c =
-    let words = map string_bytes c.args.words.now in
-    inquired (question_of c.args.inquiry words) c.in-Ok-Some.question
+    inquired (question_asked c.args.ask.now) c.in-Ok-Some.question (words_asked c.args.ask.now)
     (bytes_at (g.F.Files.known c.args.files.now) (g.S.Source.state c.args.input.now) (g.O.Sink.state c.args.out.now))
     (bytes_at (g.F.Files.known c.answer_named.new.files) (g.S.Source.state c.answer_named.new.input) (g.O.Sink.state c.answer_named.new.out))
-    (map string_bytes c.files_of.result.now) (files_of c.args.inquiry words) c.answer_named.result (sym c.in-Ok-Some.field-0-is ∙ c.in-Ok-Some.ensures.question) c.files_of.ensures c.answer_named.ensures.done
+    (map string_bytes c.files_of.result.now) (files_asked c.args.ask.now) c.answer_named.result (sym c.in-Ok-Some.field-0-is ∙ c.in-Ok-Some.ensures.question) c.files_of.ensures
+    (subst (λ w. AnswersWith (bytes_at (g.F.Files.known c.args.files.now) (g.S.Source.state c.args.input.now) (g.O.Sink.state c.args.out.now))
+    (bytes_at (g.F.Files.known c.answer_named.new.files) (g.S.Source.state c.answer_named.new.input) (g.O.Sink.state c.answer_named.new.out)) c.in-Ok-Some.question
+    (map string_bytes w) (map string_bytes c.files_of.result.now) c.answer_named.result) c.deref.ensures.value c.answer_named.ensures.done)
 
 pub returns-in-Ok-Some-clause-device : goal.returns-in-Ok-Some-clause-device
 returns-in-Ok-Some-clause-device g c = λ three.
@@ -30,8 +32,8 @@ returns-in-Ok-Some-clause-told g c =
     c.answer_named.ensures.told
 
 pub returns-in-Err-clause-done : goal.returns-in-Err-clause-done
-returns-in-Err-clause-done g c = nothing_inquired (question_of c.args.inquiry (map string_bytes c.args.words.now)) (g.F.Files.known c.args.files.now)
-    (g.S.Source.state c.args.input.now).remaining (g.O.Sink.state c.args.out.now).contents (files_of c.args.inquiry (map string_bytes c.args.words.now)) c.tell_fault.result c.tell_fault.ensures.status
+returns-in-Err-clause-done g c = nothing_inquired (question_asked c.args.ask.now) (words_asked c.args.ask.now) (g.F.Files.known c.args.files.now)
+    (g.S.Source.state c.args.input.now).remaining (g.O.Sink.state c.args.out.now).contents (files_asked c.args.ask.now) c.tell_fault.result c.tell_fault.ensures.status
 
 pub returns-in-Err-clause-told : goal.returns-in-Err-clause-told
 returns-in-Err-clause-told g c = (fault_told NoMemory, inl (Err NoMemory, c.tell_fault.ensures.status, refl), c.tell_fault.ensures.told)

@@ -1,15 +1,15 @@
-use Rattle.std.proofs.Common.{◌≡◌, ◌⊎◌, List, ℕ, ap, ◌∙◌}
+use Rattle.std.proofs.Common.{◌≡◌, ◌⊎◌, List, ℕ, ap, sym, subst, ◌∙◌}
 use Rattle.std.specs.Borrow.{Bor}
-use Rattle.std.specs.Prelude.{Contains, map, string_bytes}
+use Rattle.std.specs.Prelude.{Contains}
 use Rattle.squall_cli_device.specs.States.{OutputFails}
 use Rattle.squall_cli_lines.specs.Heeding.{InputFails}
 use Rattle.squall_cli_command.specs.Line.{course, job_seen}
-use Rattle.squall_cli_ask.specs.Asked.{files_of}
+use Rattle.squall_cli_ask.specs.Asked.{files_asked}
 use Rattle.squall_cli_run.specs.Tasks.{NamesFile}
 use Rattle.squall_cli_run.specs.declared.tasks.Purpose.{Purpose}
 use Rattle.squall_cli_run.specs.Named.{IsNamed}
 use Rattle.squall_cli_ask.proofs.Telling.{told_of}
-use Rattle.squall_cli_run.proofs.Telling.{named_check, named_course, named_run, named_race, asked}
+use Rattle.squall_cli_run.proofs.Telling.{named_check, named_course, named_run, named_race}
 use Rattle.squall_cli_run.proofs.tasks.do_task.Goals.{in-Check, in-Run, in-Race}
 use Rattle.squall_cli_run.proofs.tasks.do_task.Goals as goal
 
@@ -20,18 +20,15 @@ returns-in-Course-clause-told g c =
 
 pub returns-in-Ask-clause-device : goal.returns-in-Ask-clause-device
 returns-in-Ask-clause-device g c = λ three.
-    asked (λ j. InputFails (g.S.Source.state c.args.input.now) (g.S.Source.state c.answer_inquiry.new.input)
-    ⊎ (OutputFails (g.O.Sink.state c.args.out.now) (g.O.Sink.state c.answer_inquiry.new.out) ⊎ NamesFile j)) (job_seen c.args.task.now) c.in-Ask.inquiry
-    (map string_bytes c.deref.result.now) (map string_bytes c.in-Ask.words.items) (ap job_seen c.in-Ask.is) (ap (map string_bytes) c.deref.ensures.value) (c.answer_inquiry.ensures.device three)
+    subst (λ j. InputFails (g.S.Source.state c.args.input.now) (g.S.Source.state c.answer_inquiry.new.input)
+    ⊎ (OutputFails (g.O.Sink.state c.args.out.now) (g.O.Sink.state c.answer_inquiry.new.out) ⊎ NamesFile j)) (sym (ap job_seen c.in-Ask.is)) (c.answer_inquiry.ensures.device three)
 
 pub returns-in-Ask-clause-told : goal.returns-in-Ask-clause-told
 returns-in-Ask-clause-told g c =
-    let t = c.answer_inquiry.ensures.told in
-    let words = map string_bytes c.deref.result.now in (
+    let t = c.answer_inquiry.ensures.told in (
       t.0,
-      told_of (Contains (files_of c.in-Ask.inquiry words)) (IsNamed (job_seen c.args.task.now)) c.answer_inquiry.result t.0
-          (λ name. asked (λ j. IsNamed j name) (job_seen c.args.task.now) c.in-Ask.inquiry words (map string_bytes c.in-Ask.words.items) (ap job_seen c.in-Ask.is)
-          (ap (map string_bytes) c.deref.ensures.value)) t.1,
+      told_of (Contains (files_asked c.in-Ask.ask)) (IsNamed (job_seen c.args.task.now)) c.answer_inquiry.result t.0
+          (λ name. subst (λ j. IsNamed j name) (sym (ap job_seen c.in-Ask.is))) t.1,
       t.2,
     )
 

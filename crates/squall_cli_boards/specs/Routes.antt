@@ -1,0 +1,55 @@
+-- What is answered of routes and legs (this project's command line).
+use Rattle.std.specs.Prelude.{ℕ, ◌+◌, List, [], ◌∷◌, ◌++◌, false, Option, None, Some, Result, Ok, Err, codes}
+use Rattle.squall_key.specs.Keys.{top, key_of}
+use Rattle.squall_span.specs.Spans.{Interval, span_at}
+use Rattle.squall_table.specs.Tables.{legs_between}
+use Rattle.squall_cli_words.specs.declared.reason.Reason.{Reason}
+use Rattle.squall_cli_words.specs.declared.reason.Reason.TheVariants.{Word, Limit}
+use Rattle.squall_cli_words.specs.Forms.{two_bounds}
+use Rattle.squall_cli_words.specs.Reasons.{bad_line}
+use Rattle.squall_cli_words.specs.RouteText.{route_text, leg_lines}
+use Rattle.squall_cli_boards.specs.Answers.{AnswerValue, answer_with, refusing}
+
+-- what refuses the words of that number, counted from 1, as a scenario refuses a line
+abbrev pub refusing_words : ℕ → Reason → AnswerValue
+refusing_words number reason = refusing (bad_line number reason ++ codes "\n")
+
+-- ---- routes
+
+-- what stands after a text
+abbrev pub after_text : List ℕ → AnswerValue → AnswerValue
+after_text text a = answer_with (text ++ a.text) a.refused
+
+-- what is answered to the word of that number, and after it: a word that is no key is refused, and ends the answer
+abbrev pub key_answer : (ℕ → ℕ) → ℕ → Option ℕ → AnswerValue → AnswerValue
+key_answer to_part number None rest = refusing_words number Word
+key_answer to_part number (Some key) rest = after_text (route_text key (to_part key)) rest
+
+-- the partition to ask for each key, in the order of the words, which are numbered from this number on
+abbrev pub routes_answer : (ℕ → ℕ) → ℕ → List (List ℕ) → AnswerValue
+routes_answer to_part number [] = answer_with [] false
+routes_answer to_part number (word ∷ words) = key_answer to_part number (key_of word) (routes_answer to_part (number + 1) words)
+
+-- ---- legs
+
+abbrev pub span_of : Option Interval → Result Interval Reason
+span_of None = Err Limit
+span_of (Some span) = Ok span
+
+abbrev pub span_between : Option (ℕ × ℕ) → Result Interval Reason
+span_between None = Err Word
+span_between (Some bounds) = span_of (span_at bounds.0 bounds.1)
+
+-- the two bounds that the words write, or without words those of all keys
+abbrev pub bounds_asked : List (List ℕ) → Option (ℕ × ℕ)
+bounds_asked [] = Some (0, top)
+bounds_asked (word ∷ words) = two_bounds (word ∷ words)
+
+-- the span that the words ask for, or why there is none
+abbrev pub span_asked : List (List ℕ) → Result Interval Reason
+span_asked words = span_between (bounds_asked words)
+
+-- the legs of the span
+abbrev pub legs_answer : (ℕ → ℕ) → Result Interval Reason → AnswerValue
+legs_answer to_part (Ok span) = answer_with (leg_lines (legs_between to_part span.lo span.hi)) false
+legs_answer to_part (Err reason) = refusing_words 1 reason

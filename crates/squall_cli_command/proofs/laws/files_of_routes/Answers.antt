@@ -1,0 +1,11 @@
+use Rattle.std.proofs.Common.{refl}
+use Rattle.clap.proofs.OnLiterals.{clap_on_literals}
+use Rattle.squall_cli_command.proofs.laws.files_of_routes.Goals as goal
+
+pub returns-clause-route : goal.returns-clause-route
+unfolding clap_on_literals
+returns-clause-route c = λ name. (refl, refl)
+
+pub returns-clause-legs : goal.returns-clause-legs
+unfolding clap_on_literals
+returns-clause-legs c = λ name. (refl, refl)

@@ -1,0 +1,115 @@
+//! The commands about the newest reconfiguration, with their help, as `clap` reads them.
+
+ghost use Rattle.std.specs.Prelude.{◌≡◌, IfOk, false};
+ghost use Rattle.clap.specs.Words.{app_of, shape_of, rule_of};
+ghost use Rattle.clap.specs.declared.builder.command.Command.TheViews.{out-Command as fields_of};
+ghost use Rattle.squall_cli_command.specs.Asking.{of_plans, status_shape, picture_shape, route_shape, legs_shape};
+ghost use Rattle.squall_cli_command.specs.Rules.{option_rule};
+
+use crate::boards::{files, flag, words};
+use crate::parser::file;
+use clap::{Arg, ArgAction, Command};
+use std::alloc::{AllocError, Global};
+
+const STATUS: &str =
+    "OLD and NEW are the plans of the first reconfiguration. The status is that of the newest one that
+the files tell of.
+
+Example:
+  squall status --waiting old.json new.json board.bin";
+
+const PICTURE: &str =
+    "OLD and NEW are the plans of the first reconfiguration. The picture is that of the newest one that
+the files tell of: its old plan above, its new plan below, and a band between them for each move.
+The loaded share of a band is filled.
+
+Example:
+  squall picture old.json new.json board.bin >move.svg";
+
+const ROUTE: &str =
+    "OLD and NEW are the plans of the first reconfiguration. A key is written ROOT:SECOND, as 2:0. The
+answers are the lines that a scenario answers to: route KEY. See: squall help run
+
+Example:
+  squall route old.json new.json 2:0 6:0 --board board.bin";
+
+const LEGS: &str =
+    "OLD and NEW are the plans of the first reconfiguration. LO and HI are two bounds, as 2:0 and end.
+Without them all keys are shown. The answers are the lines that a scenario answers to: legs LO HI.
+See: squall help run
+
+Example:
+  squall legs old.json new.json 2:0 3:0 --board board.bin";
+
+/// `--name FILE`, any number of times.
+fn option<'a>(alloc: Global, name: &'a str, help: &'a str) -> Arg<'a>
+    ensures rule { rule_of result ≡ option_rule name.entry.now }
+    ensures global { result.global ≡ false }
+{
+    Arg::new(alloc, name)
+        .long(name)
+        .value_name("FILE")
+        .action(ArgAction::Append)
+        .help(help)
+}
+
+/// A command of two plans, without what may follow: `NAME OLD NEW`.
+fn of_plans<'a>(alloc: Global, name: &'a str) -> Result<Command<'a>, AllocError>
+    ensures app { IfOk result (λ c. app_of c ≡ of_plans name.entry.now) }
+    ensures globals { IfOk result (λ c. (fields_of c).has_globals ≡ false) }
+{
+    Command::new(alloc, name)
+        .arg(file(alloc, "OLD", "The file of the old plan, or -"))?
+        .arg(file(alloc, "NEW", "The file of the new plan, or -"))
+}
+
+/// `status OLD NEW [FILE..]`
+pub(crate) fn status_command<'a>(alloc: Global) -> Result<Command<'a>, AllocError>
+    ensures shape { IfOk result (λ c. shape_of c ≡ status_shape) }
+    ensures globals { IfOk result (λ c. (fields_of c).has_globals ≡ false) }
+{
+    of_plans(alloc, "status")?
+        .about("Shows how far the newest reconfiguration is")
+        .after_help(STATUS)
+        .arg(files(alloc, "FILE", "The files of frames, or -"))?
+        .arg(flag(
+            alloc,
+            "waiting",
+            "Shows only the moves that are not complete",
+        ))
+}
+
+/// `picture OLD NEW [FILE..]`
+pub(crate) fn picture_command<'a>(alloc: Global) -> Result<Command<'a>, AllocError>
+    ensures shape { IfOk result (λ c. shape_of c ≡ picture_shape) }
+    ensures globals { IfOk result (λ c. (fields_of c).has_globals ≡ false) }
+{
+    of_plans(alloc, "picture")?
+        .about("Draws how far the newest reconfiguration is, as an SVG image")
+        .after_help(PICTURE)
+        .arg(files(alloc, "FILE", "The files of frames, or -"))
+}
+
+/// `route OLD NEW KEY.. [--board FILE]..`
+pub(crate) fn route_command<'a>(alloc: Global) -> Result<Command<'a>, AllocError>
+    ensures shape { IfOk result (λ c. shape_of c ≡ route_shape) }
+    ensures globals { IfOk result (λ c. (fields_of c).has_globals ≡ false) }
+{
+    of_plans(alloc, "route")?
+        .about("Shows which partition to ask for keys")
+        .after_help(ROUTE)
+        .arg(words(alloc, "KEY", "The keys"))?
+        .arg(option(alloc, "board", "A file of frames, or -"))
+}
+
+/// `legs OLD NEW [BOUND].. [--board FILE]..`
+pub(crate) fn legs_command<'a>(alloc: Global) -> Result<Command<'a>, AllocError>
+    ensures shape { IfOk result (λ c. shape_of c ≡ legs_shape) }
+    ensures globals { IfOk result (λ c. (fields_of c).has_globals ≡ false) }
+{
+    of_plans(alloc, "legs")?
+        .about("Shows which partitions to ask for all keys, or for those of a span")
+        .after_help(LEGS)
+        .arg(files(alloc, "BOUND", "LO and HI, the bounds of the span"))?
+        .arg(option(alloc, "board", "A file of frames, or -"))
+}
