@@ -1,7 +1,7 @@
 // What is asked of board files, over readers and writers that work, fail or stop.
 use squall_cli_ask::*;
 use squall_cli_boards::{NamedFile, Question};
-use squall_cli_command::Inquiry;
+use squall_cli_command::{Ask, Inquiry};
 use squall_cli_device::{Reader, Writer};
 use squall_cli_lines::Ended;
 use std::alloc::{AllocError, Global};
@@ -9,16 +9,22 @@ use std::alloc::{AllocError, Global};
 /// The frame of the opening of sub-plan 0 in reconfiguration 1.
 const OPENED: &[u8] = b"SQ\x01\x01\0\0\0\x10\0\0\0\x01\0\0\0\x01\0\0\0\x01\0\0\0\0";
 
-/// One file, `opened`, with that frame.
-#[derive(Drop)]
-struct OneFile;
+/// A plan of one range.
+const PLAN: &[u8] = br#"{"plan":[{"part":1,"from":[0,0],"to":"end"}]}"#;
 
-impl Files for OneFile {
+/// Two files: `opened`, with that frame, and `plan`.
+#[derive(Drop)]
+struct TwoFiles;
+
+impl Files for TwoFiles {
     type File = Reader<&'static [u8]>;
 
     fn open(&mut self, name: &str) -> Option<Reader<&'static [u8]>> {
         if name == "opened" {
             return Some(Reader::new(OPENED));
+        }
+        if name == "plan" {
+            return Some(Reader::new(PLAN));
         }
         None
     }
@@ -33,26 +39,31 @@ fn copies(alloc: Global, texts: &[&str]) -> Result<Vec<String>, AllocError> {
     Ok(copies)
 }
 
-/// What the words bring about: the status, the output, and what is told on standard error.
+/// What an inquiry brings about: the status, the output, and what is told on standard error.
 type Wanted = (u8, &'static [u8], &'static [u8]);
 
-/// Whether the words of an inquiry bring that about, or memory is short. The error comes if an allocation failed before it.
+/// Whether an inquiry by these words of these files brings that about, or memory is short. The error comes if an allocation
+/// failed before it.
 fn brings(
     alloc: Global,
     inquiry: Inquiry,
     words: &[&str],
+    files: &[&str],
     wanted: Wanted,
 ) -> Result<bool, AllocError> {
-    let words = copies(alloc, words)?;
+    let ask = Ask {
+        inquiry,
+        words: copies(alloc, words)?,
+        files: copies(alloc, files)?,
+    };
     // Their room is there before the call, so that a write never fails.
     let mut out = Vec::with_capacity(alloc, 256)?;
     let mut err = Vec::with_capacity(alloc, 256)?;
     let mut input = Reader::new(OPENED);
     let status = answer_inquiry(
         alloc,
-        inquiry,
-        &words,
-        &mut OneFile,
+        &ask,
+        &mut TwoFiles,
         &mut input,
         &mut Writer::new(&mut out),
         &mut Writer::new(&mut err),
@@ -63,30 +74,57 @@ fn brings(
 
 const NO_REPORT: &[u8] = b"error: the words are no report: see squall help report\n";
 
-/// Inquiries with their words, and what they bring about.
-static CASES: [(Inquiry, &[&str], Wanted); 7] = [
-    (Inquiry::Report, &["opened", "1", "0"], (0, OPENED, b"")),
-    (Inquiry::Report, &["opened", "1"], (2, b"", NO_REPORT)),
+/// What is asked: the inquiry, its words and its files.
+type Asked = (Inquiry, &'static [&'static str], &'static [&'static str]);
+
+/// Inquiries, and what they bring about.
+static CASES: [(Asked, Wanted); 12] = [
     (
-        Inquiry::Board,
-        &["opened", "-", "-"],
+        (Inquiry::Report, &["opened", "1", "0"], &[]),
+        (0, OPENED, b""),
+    ),
+    (
+        (Inquiry::Report, &["opened", "1"], &[]),
+        (2, b"", NO_REPORT),
+    ),
+    (
+        (Inquiry::Board, &[], &["opened", "-", "-"]),
         (0, b"opened 1 1\n", b""),
     ),
-    (Inquiry::Merge, &["opened", "-"], (0, OPENED, b"")),
-    (Inquiry::Beyond, &["-", "opened"], (0, b"", b"")),
-    (Inquiry::Cover, &["-", "-"], (1, b"", b"")),
+    ((Inquiry::Merge, &[], &["opened", "-"]), (0, OPENED, b"")),
+    ((Inquiry::Beyond, &[], &["-", "opened"]), (0, b"", b"")),
+    ((Inquiry::Cover, &[], &["-", "-"]), (1, b"", b"")),
     (
-        Inquiry::Digest,
-        &["none"],
+        (Inquiry::Picture, &[], &["opened", "-"]),
+        (1, b"refused old Json\n", b""),
+    ),
+    (
+        (Inquiry::Routes, &["2:0", "0:1"], &["plan", "plan", "-"]),
+        (0, b"route 2:0 1\nroute 0:1 1\n", b""),
+    ),
+    (
+        (Inquiry::Routes, &["2:0", "2"], &["plan", "plan"]),
+        (1, b"route 2:0 1\nbad line 2: word\n", b""),
+    ),
+    (
+        (Inquiry::Legs, &[], &["plan", "plan", "opened"]),
+        (0, b"leg [0:0,end) 1\n", b""),
+    ),
+    (
+        (Inquiry::Legs, &["3:0", "3:0"], &["plan", "plan"]),
+        (1, b"bad line 1: limit\n", b""),
+    ),
+    (
+        (Inquiry::Digest, &[], &["none"]),
         (3, b"", b"squall: cannot open none\n"),
     ),
 ];
 
-/// What the words bring about, or that memory is short, whichever allocation is refused.
+/// What an inquiry brings about, or that memory is short, whichever allocation is refused.
 #[test]
 fn tolerant_inquiries(rt: HostRuntime) {
-    for (inquiry, words, wanted) in &CASES {
-        if let Ok(found) = brings(rt.alloc(), *inquiry, words, *wanted) {
+    for ((inquiry, words, files), wanted) in &CASES {
+        if let Ok(found) = brings(rt.alloc(), *inquiry, words, files, *wanted) {
             assert!(rt; found);
         }
     }

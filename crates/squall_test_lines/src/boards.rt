@@ -1,6 +1,6 @@
 // Questions about board files, their answers, and the words of reports.
 ghost use Rattle.std.specs.Prelude.{IfOk, IfSome};
-ghost use Rattle.squall_cli_boards.specs.Answers.{IsAskable};
+ghost use Rattle.squall_cli_boards.specs.Questions.{IsAskable};
 
 use squall_cli_boards::*;
 use squall_status::Shown;
@@ -57,7 +57,7 @@ fn file(alloc: Global, name: &str, bytes: &[u8]) -> Result<NamedFile, AllocError
 /// The frame of a load.
 fn load(alloc: Global) -> Result<Answer, AllocError> {
     match asked(alloc, &["loaded", "1", "0", "3", "2:0", "3:0"])? {
-        Some(question) => answer_to(alloc, &question, &[]),
+        Some(question) => answer_to(alloc, &question, &[], &[]),
         None => Err(AllocError),
     }
 }
@@ -81,17 +81,18 @@ fn files(alloc: Global, plans: &[&str], loads: usize) -> Result<Vec<NamedFile>, 
     Ok(files)
 }
 
-/// The length of the answer, and whether it refuses the files.
+/// The length of the answer, and whether it refuses the words or the files.
 fn answered(
     alloc: Global,
     question: &Question,
+    words: &[&str],
     plans: &[&str],
     loads: usize,
 ) -> Result<(usize, bool), AllocError>
     requires { IsAskable question.now }
 {
     let files = files(alloc, plans, loads)?;
-    let answer = answer_to(alloc, question, &files)?;
+    let answer = answer_to(alloc, question, &copies(alloc, words)?, &files)?;
     Ok((answer.text().len(), answer.is_refused()))
 }
 
@@ -106,7 +107,22 @@ fn answers(
 )
     requires { IsAskable question }
 {
-    if let Ok(found) = answered(alloc, &question, plans, loads) {
+    if let Ok(found) = answered(alloc, &question, &[], plans, loads) {
+        assert!(rt; found == wanted);
+    }
+}
+
+/// The question with these words has an answer of that length about the plans and the load; or memory
+/// is short.
+fn answers_words(
+    rt: &impl Abort,
+    alloc: Global,
+    question: CourseQuestion,
+    words: &[&str],
+    wanted: (usize, bool),
+) {
+    let question = Question::Course(question);
+    if let Ok(found) = answered(alloc, &question, words, &[OLD, NEW], 1) {
         assert!(rt; found == wanted);
     }
 }
@@ -119,8 +135,10 @@ fn tolerant_answers(rt: HostRuntime) {
     answers(&rt, rt.alloc(), Question::Beyond, &[], 2, (0, false));
     answers(&rt, rt.alloc(), Question::Cover, &[], 1, (0, true));
     answers(&rt, rt.alloc(), Question::Repair, &[], 2, (18, true));
-    let waiting = Question::Status(Shown::Waiting);
+    let waiting = Question::Course(CourseQuestion::Status(Shown::Waiting));
     answers(&rt, rt.alloc(), waiting, &[OLD, NEW], 1, (214, false));
+    let drawn = Question::Course(CourseQuestion::Picture);
+    answers(&rt, rt.alloc(), drawn, &[OLD, NEW], 1, (3033, false));
     answers(
         &rt,
         rt.alloc(),
@@ -129,6 +147,18 @@ fn tolerant_answers(rt: HostRuntime) {
         0,
         (69, false),
     );
+}
+
+/// Keys and bounds, of which some are none.
+#[test]
+fn tolerant_routes(rt: HostRuntime) {
+    let routes = CourseQuestion::Routes;
+    answers_words(&rt, rt.alloc(), routes, &["2:0", "3:0"], (24, false));
+    answers_words(&rt, rt.alloc(), routes, &["2:0", "3"], (29, true));
+    answers_words(&rt, rt.alloc(), CourseQuestion::Legs, &[], (48, false));
+    let span: [&str; 2] = ["2:0", "3:0"];
+    answers_words(&rt, rt.alloc(), CourseQuestion::Legs, &span, (16, false));
+    answers_words(&rt, rt.alloc(), CourseQuestion::Legs, &["2:0"], (17, true));
 }
 
 /// The question of a report, or that memory is short.

@@ -38,7 +38,7 @@ fn asked(task: &Result<Task, LineFault>) -> Asked<'_> {
         Ok(Task::Course(old, new)) => ("course", old.as_str(), new.as_str()),
         Ok(Task::Run(file)) => ("run", file.as_str(), ""),
         Ok(Task::Race(file)) => ("race", file.as_str(), ""),
-        Ok(Task::Ask(_, _)) => ("ask", "", ""),
+        Ok(Task::Ask(_)) => ("ask", "", ""),
         Err(LineFault::Help) => ("help", "", ""),
         Err(LineFault::Bad) => ("bad", "", ""),
         Err(LineFault::NoMemory) => ("no memory", "", ""),
@@ -52,60 +52,103 @@ fn words(rt: HostRuntime) {
     }
 }
 
-/// Command lines about board files, what they ask, and the words that they give.
-static ASKED: [(&[&str], Inquiry, &str); 15] = [
+/// Command lines about board files, what they ask, and the words and the files that they give.
+static ASKED: [(&[&str], Inquiry, &str); 21] = [
     (
         &["squall", "report", "opened", "1", "2"],
         Inquiry::Report,
-        "opened 1 2 ",
+        "opened 1 2 | ",
     ),
-    (&["squall", "report", "--", "-x"], Inquiry::Report, "-x "),
-    (&["squall", "board", "a"], Inquiry::Board, "a "),
+    (&["squall", "report", "--", "-x"], Inquiry::Report, "-x | "),
+    (&["squall", "board", "a"], Inquiry::Board, "| a "),
     (
         &["squall", "board", "a", "-", "a"],
         Inquiry::Board,
-        "a - a ",
+        "| a - a ",
     ),
-    (&["squall", "status", "o", "n"], Inquiry::Status, "o n "),
+    (&["squall", "status", "o", "n"], Inquiry::Status, "| o n "),
     (
         &["squall", "status", "o", "n", "a", "b"],
         Inquiry::Status,
-        "o n a b ",
+        "| o n a b ",
     ),
     (
         &["squall", "status", "--waiting", "o", "n"],
         Inquiry::Waiting,
-        "o n ",
+        "| o n ",
     ),
     (
         &["squall", "status", "o", "n", "a", "--waiting"],
         Inquiry::Waiting,
-        "o n a ",
+        "| o n a ",
     ),
-    (&["squall", "merge", "a", "b"], Inquiry::Merge, "a b "),
-    (&["squall", "beyond", "a", "b"], Inquiry::Beyond, "a b "),
+    (
+        &["squall", "picture", "o", "n", "a"],
+        Inquiry::Picture,
+        "| o n a ",
+    ),
+    (
+        &["squall", "route", "o", "n", "2:0"],
+        Inquiry::Routes,
+        "2:0 | o n ",
+    ),
+    (
+        &[
+            "squall",
+            "route",
+            "--board",
+            "a",
+            "o",
+            "n",
+            "2:0",
+            "--board=b",
+            "3:0",
+        ],
+        Inquiry::Routes,
+        "2:0 3:0 | o n a b ",
+    ),
+    (&["squall", "legs", "o", "n"], Inquiry::Legs, "| o n "),
+    (
+        &["squall", "legs", "o", "--board", "-", "n", "2:0", "end"],
+        Inquiry::Legs,
+        "2:0 end | o n - ",
+    ),
+    (
+        &["squall", "legs", "o", "n", "x"],
+        Inquiry::Legs,
+        "x | o n ",
+    ),
+    (&["squall", "merge", "a", "b"], Inquiry::Merge, "| a b "),
+    (&["squall", "beyond", "a", "b"], Inquiry::Beyond, "| a b "),
     (
         &["squall", "beyond", "--quiet", "a", "b"],
         Inquiry::Cover,
-        "a b ",
+        "| a b ",
     ),
     (
         &["squall", "beyond", "b", "--quiet", "a"],
         Inquiry::Cover,
-        "b a ",
+        "| b a ",
     ),
-    (&["squall", "digest", "-"], Inquiry::Digest, "- "),
-    (&["squall", "repair", "a", "d"], Inquiry::Repair, "a d "),
-    (&["squall", "repair", "-", "-"], Inquiry::Repair, "- - "),
+    (&["squall", "digest", "-"], Inquiry::Digest, "| - "),
+    (&["squall", "repair", "a", "d"], Inquiry::Repair, "| a d "),
+    (&["squall", "repair", "-", "-"], Inquiry::Repair, "| - - "),
 ];
 
 /// Command lines about board files that have too few or too many words, or an unknown flag.
-static REFUSED: [&[&str]; 11] = [
+static REFUSED: [&[&str]; 18] = [
     &["squall", "report"],
     &["squall", "report", "-x"],
     &["squall", "board"],
     &["squall", "status", "o"],
     &["squall", "status", "--waiting", "--waiting", "o", "n"],
+    &["squall", "picture", "o"],
+    &["squall", "picture", "--waiting", "o", "n"],
+    &["squall", "route", "o", "n"],
+    &["squall", "route", "o", "n", "--board", "b"],
+    &["squall", "route", "o", "n", "2:0", "--board"],
+    &["squall", "legs", "o"],
+    &["squall", "legs", "o", "n", "--waiting"],
     &["squall", "merge"],
     &["squall", "beyond", "a"],
     &["squall", "beyond", "a", "b", "c"],
@@ -114,22 +157,33 @@ static REFUSED: [&[&str]; 11] = [
     &["squall", "repair", "a"],
 ];
 
-/// The words with a blank after each.
-fn line_of(alloc: Global, words: &[String]) -> Result<String, AllocError> {
-    let mut line = String::new(alloc);
+/// Adds the words, with a blank after each.
+fn add_words(words: &[String], line: &mut String) -> Result<(), AllocError> {
     for word in words {
         line.push_str(word.as_str())?;
         line.push_str(" ")?;
     }
+    Ok(())
+}
+
+/// The words, a bar and the files, with a blank after each.
+fn line_of(alloc: Global, ask: &Ask) -> Result<String, AllocError> {
+    let mut line = String::new(alloc);
+    add_words(&ask.words, &mut line)?;
+    line.push_str("| ")?;
+    add_words(&ask.files, &mut line)?;
     Ok(line)
 }
 
 /// Whether the task asks so of board files.
-fn is_asked(alloc: Global, task: &Task, inquiry: Inquiry, words: &str) -> Result<bool, AllocError> {
+fn is_asked(
+    alloc: Global,
+    task: &Task,
+    inquiry: Inquiry,
+    wanted: &str,
+) -> Result<bool, AllocError> {
     match task {
-        Task::Ask(asked, given) => Ok(
-            *asked == inquiry && line_of(alloc, given)?.as_str() == words,
-        ),
+        Task::Ask(ask) => Ok(ask.inquiry == inquiry && line_of(alloc, ask)?.as_str() == wanted),
         _ => Ok(false),
     }
 }
@@ -164,7 +218,7 @@ fn tolerant_inquiries(rt: HostRuntime) {
 
 /// Command lines, how many lines are shown for each at most, and pieces of these: help names each command with its files, that of
 /// `run` each line of a scenario, and that of `race` each line of a race.
-static SHOWN: [(&[&str], usize, &[&str]); 9] = [
+static SHOWN: [(&[&str], usize, &[&str]); 12] = [
     (
         &["squall", "--help"],
         48,
@@ -176,6 +230,9 @@ static SHOWN: [(&[&str], usize, &[&str]); 9] = [
             "report",
             "board",
             "status",
+            "picture",
+            "route",
+            "legs",
             "merge",
             "beyond",
             "digest",
@@ -200,6 +257,21 @@ static SHOWN: [(&[&str], usize, &[&str]); 9] = [
         &["squall", "status", "--help"],
         24,
         &["<OLD> <NEW> [FILE]...", "--waiting", "Example:\n"],
+    ),
+    (
+        &["squall", "help", "picture"],
+        24,
+        &["<OLD> <NEW> [FILE]...", "Example:\n"],
+    ),
+    (
+        &["squall", "help", "route"],
+        24,
+        &["<OLD> <NEW> <KEY>...", "--board <FILE>", "Example:\n"],
+    ),
+    (
+        &["squall", "legs", "--help"],
+        24,
+        &["<OLD> <NEW> [BOUND]...", "--board <FILE>", "Example:\n"],
     ),
     (
         &["squall", "beyond", "--help"],

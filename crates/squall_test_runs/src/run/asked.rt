@@ -2,6 +2,7 @@
 
 use super::jobs::GAP;
 use super::program::{ALL, NO_READ, NO_WRITE, NO_X, SOME, Wanted};
+use squall_example::NEW as NEW_PLAN;
 
 /// The frame of the opening of sub-plan 0 in reconfiguration 1.
 const OPENED: &str = "SQ\u{1}\u{1}\0\0\0\u{10}\0\0\0\u{1}\0\0\0\u{1}\0\0\0\u{1}\0\0\0\0";
@@ -12,7 +13,7 @@ const SHOWN_OPENED: &str = "opened 1 1\n";
 const NO_MOVES: &str = "course 1 moves 0 sub-plans 0 open none loaded 0 of 0 keys 1000/1000\n";
 
 /// Words that ask something of board files, standard input, and what they bring about.
-pub(super) static ASKED: [(&[&str], &str, Wanted); 18] = [
+pub(super) static ASKED: [(&[&str], &str, Wanted); 22] = [
     (
         &["squall", "report", "opened", "1", "0"],
         "",
@@ -66,6 +67,28 @@ pub(super) static ASKED: [(&[&str], &str, Wanted); 18] = [
         &["squall", "status", "--waiting", "-", "new.json"],
         GAP,
         (ALL, 1, "refused old Gap 3:5\n", ""),
+    ),
+    (
+        &["squall", "picture", "new.json", "-"],
+        GAP,
+        (ALL, 1, "refused new Gap 3:5\n", ""),
+    ),
+    (
+        &["squall", "route", "new.json", "-", "2:0", "6:0"],
+        NEW_PLAN,
+        (ALL, 0, "route 2:0 3\nroute 6:0 4\n", ""),
+    ),
+    (
+        &[
+            "squall", "route", "new.json", "new.json", "2", "--board", "-",
+        ],
+        OPENED,
+        (ALL, 1, "bad line 1: word\n", ""),
+    ),
+    (
+        &["squall", "legs", "--board", "x", "new.json", "new.json"],
+        "",
+        (ALL, 3, "", NO_X),
     ),
     (
         &["squall", "beyond", "-", "-"],
