@@ -19,7 +19,7 @@ const (
 	ErrNoMemory Error = C.SQUALL_NO_MEMORY
 	// ErrLimit says that a number or a rank lies outside its limits, or that a span has no keys.
 	ErrLimit Error = C.SQUALL_LIMIT
-	// ErrClosed says that the router, view or errand was closed, or is nil.
+	// ErrClosed says that the router, view, course or errand was closed, or is nil.
 	ErrClosed Error = C.SQUALL_CLOSED
 	// ErrFailed says that a frame fault came earlier, so that the router's stream is at its end.
 	ErrFailed Error = C.SQUALL_FAILED

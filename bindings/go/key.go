@@ -38,7 +38,11 @@ type Leg struct {
 	Part   Part
 }
 
-// atOnce is how many legs one call asks for.
+func legOf(leg C.squall_leg) Leg {
+	return Leg{Lo: Rank(leg.lo), Hi: Rank(leg.hi), Part: Part(leg.part)}
+}
+
+// atOnce is how many legs, or moves of a course, one call asks for.
 const atOnce = 64
 
 // allLegs gathers the legs of the keys from lo on, below hi, by calls of fill. A call writes the legs from
@@ -49,7 +53,7 @@ func allLegs(lo, hi Rank, fill func(lo Rank, out *C.squall_leg) C.size_t) []Leg 
 	for lo < hi {
 		count := fill(lo, &block[0])
 		for _, leg := range block[:count] {
-			legs = append(legs, Leg{Lo: Rank(leg.lo), Hi: Rank(leg.hi), Part: Part(leg.part)})
+			legs = append(legs, legOf(leg))
 		}
 		if count == 0 {
 			break

@@ -15,6 +15,9 @@ struct squall_view {
 struct squall_errand {
     unsigned char first;
 };
+struct squall_course {
+    unsigned char first;
+};
 
 #include "squall.h"
 
@@ -43,6 +46,13 @@ static inline struct started start_errand(const squall_router *router, const squ
 static inline void end_errand(squall_errand *errand) {
     squall_errand_close(errand);
     free(errand);
+}
+
+/* Where one key stands, by a view that is open. Go would allocate memory for an answer by a pointer. */
+static inline squall_place place_of(const squall_view *view, uint64_t rank) {
+    squall_place place;
+    squall_view_locate(view, &rank, 1, &place, 1);
+    return place;
 }
 
 #endif

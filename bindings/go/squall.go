@@ -2,7 +2,8 @@
 //
 // A [Router] knows an old and a new partition plan, and takes reports of what was loaded where. It
 // says for each key which partition to ask. A [View] is what a router said at one moment, for
-// goroutines that only read. An [Errand] follows the replies of partitions until a key is found.
+// goroutines that only read. An [Errand] follows the replies of partitions until a key is found. A
+// [Course] says which keys move, from which partition to which.
 //
 //	router, err := squall.OpenRouter(1, oldPlan, newPlan)
 //	if err != nil {
@@ -22,9 +23,9 @@
 //
 // # Goroutines
 //
-// Any number of goroutines may use one router, view or errand. Calls of one router, or of one errand,
-// wait for each other. Those of a view do not: it has several handles of one table, and each call takes
-// one that is free.
+// Any number of goroutines may use one router, view, errand or course. Calls of one router, of one errand
+// or of one course wait for each other. Those of a view do not: it has several handles of one table, and
+// each call takes one that is free.
 //
 // # Closing
 //

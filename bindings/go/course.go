@@ -1,0 +1,204 @@
+package squall
+
+// #include "library.h"
+import "C"
+
+import (
+	"runtime"
+	"sync"
+	"unsafe"
+)
+
+// Course is a numbered change from an old plan to a new one. It says which keys move, from which
+// partition to which, and in which sub-plan. Sub-plans are worked off one after the other, from 0. In
+// each of them a partition gives keys to at most one other. A course never changes.
+type Course struct {
+	mu sync.Mutex
+	at *C.squall_course // nil once it is closed
+}
+
+// Move says that the keys from Lo on, below Hi, move from the partition Source to the partition Dest in
+// the sub-plan Sub, counted from 0.
+type Move struct {
+	Lo, Hi       Rank
+	Source, Dest Part
+	Sub          uint32
+}
+
+func moveOf(move C.squall_move) Move {
+	return Move{Rank(move.lo), Rank(move.hi), Part(move.source), Part(move.dest), uint32(move.sub)}
+}
+
+// OpenCourse opens the course `number`, from 1 on, which leads from the old plan to the new one. The texts
+// of the plans are JSON, as docs/FORMATS.md says.
+//
+// Errors: [ErrLimit] if the number is 0; a [PlanError] of the old text, or else of the new one, if it is
+// no plan; [ErrNoMemory].
+func OpenCourse(number uint32, oldPlan, newPlan []byte) (*Course, error) {
+	return newCourse(func(room *C.squall_course) {
+		oldAt, oldLen := bytesOf(oldPlan)
+		newAt, newLen := bytesOf(newPlan)
+		C.squall_course_open(C.uint32_t(number), oldAt, oldLen, newAt, newLen, room)
+	})
+}
+
+// Course opens the course by which the router routes now, which is its newest. The course needs neither
+// the router nor its later reports. No plan is copied.
+//
+// Errors: [ErrNoMemory]; [ErrClosed].
+func (r *Router) Course() (*Course, error) {
+	course, err := (*Course)(nil), error(ErrClosed)
+	r.use(func(at *C.squall_router) {
+		course, err = newCourse(func(room *C.squall_course) { C.squall_course_newest(at, room) })
+	})
+	return course, err
+}
+
+// FirstCourse opens the course with which the router was opened. Errors are as those of [Router.Course].
+func (r *Router) FirstCourse() (*Course, error) {
+	course, err := (*Course)(nil), error(ErrClosed)
+	r.use(func(at *C.squall_router) {
+		course, err = newCourse(func(room *C.squall_course) { C.squall_course_first(at, room) })
+	})
+	return course, err
+}
+
+// newCourse is the course that a call opens in the room that it is given.
+func newCourse(open func(room *C.squall_course)) (*Course, error) {
+	room := (*C.squall_course)(C.calloc(1, C.squall_course_size()))
+	if room == nil {
+		return nil, ErrNoMemory
+	}
+	open(room)
+	course := &Course{at: room}
+	runtime.SetFinalizer(course, (*Course).Close)
+	status, place := C.squall_course_status(room), C.squall_course_fault_at(room)
+	if err := errorOf(uint32(status), uint64(place)); err != nil {
+		course.Close()
+		return nil, err
+	}
+	return course, nil
+}
+
+// Close closes the course. Routers and other courses that share its plans keep them. It always returns nil.
+func (c *Course) Close() error {
+	if c == nil {
+		return nil
+	}
+	c.mu.Lock()
+	defer c.mu.Unlock()
+	if c.at != nil {
+		C.squall_course_close(c.at)
+		C.free(unsafe.Pointer(c.at))
+		c.at = nil
+		runtime.SetFinalizer(c, nil)
+	}
+	return nil
+}
+
+// use makes calls with the course, which nobody else uses meanwhile, and says whether it is open.
+func (c *Course) use(calls func(at *C.squall_course)) bool {
+	if c == nil {
+		return false
+	}
+	c.mu.Lock()
+	defer c.mu.Unlock()
+	if c.at == nil {
+		return false
+	}
+	calls(c.at)
+	return true
+}
+
+// Number is the number of the course, from 1 on. It is 0 if the course is closed.
+func (c *Course) Number() uint32 {
+	var number uint32
+	c.use(func(at *C.squall_course) { number = uint32(C.squall_course_number(at)) })
+	return number
+}
+
+// Subplans is how many sub-plans the course has. It is 0 if nothing moves, or if the course is closed.
+func (c *Course) Subplans() uint32 {
+	var count uint32
+	c.use(func(at *C.squall_course) { count = uint32(C.squall_course_subplans(at)) })
+	return count
+}
+
+// Moves are the moves of all sub-plans by rising key. Each key that moves lies in exactly one, and no other
+// key in any. There are none if the course is closed.
+func (c *Course) Moves() []Move {
+	return allOf(c, moveOf, func(at *C.squall_course, from C.size_t, out *C.squall_move) C.size_t {
+		return C.squall_course_moves(at, from, out, atOnce)
+	})
+}
+
+// OldPlan is the old plan as ranges by rising key, from the first key to [End]. Part is the partition
+// that has the keys of a range by this plan. Neighbours have different partitions. There are no ranges if
+// the course is closed.
+func (c *Course) OldPlan() []Leg {
+	return allOf(c, legOf, func(at *C.squall_course, from C.size_t, out *C.squall_leg) C.size_t {
+		return C.squall_course_old(at, from, out, atOnce)
+	})
+}
+
+// NewPlan is the new plan as ranges, as [Course.OldPlan] is the old one.
+func (c *Course) NewPlan() []Leg {
+	return allOf(c, legOf, func(at *C.squall_course, from C.size_t, out *C.squall_leg) C.size_t {
+		return C.squall_course_new(at, from, out, atOnce)
+	})
+}
+
+// allOf gathers what a course has, by calls of fill. A call writes items, the first of which has the index
+// `from`, at most atOnce of them, and says how many.
+func allOf[In, Out any](c *Course, of func(In) Out, fill func(at *C.squall_course, from C.size_t, out *In) C.size_t) []Out {
+	var all []Out
+	c.use(func(at *C.squall_course) {
+		var block [atOnce]In
+		for isFull := true; isFull; {
+			count := fill(at, C.size_t(len(all)), &block[0])
+			for _, item := range block[:count] {
+				all = append(all, of(item))
+			}
+			isFull = count == atOnce
+		}
+	})
+	return all
+}
+
+// Receivers are the partitions to which keys move in the sub-plan, by rising number. There are none if
+// there is no such sub-plan. Once each of them has reported that it is done, the next sub-plan may be
+// opened.
+//
+// Errors: [ErrNoMemory]; [ErrClosed].
+func (c *Course) Receivers(sub uint32) ([]Part, error) {
+	parts, err := []Part(nil), error(ErrClosed)
+	c.use(func(at *C.squall_course) { parts, err = receivers(at, C.uint32_t(sub)) })
+	return parts, err
+}
+
+// receivers asks for more and more partitions, until there is room for one more than there are.
+func receivers(at *C.squall_course, sub C.uint32_t) ([]Part, error) {
+	for room := atOnce; ; room *= 2 {
+		parts := make([]Part, room)
+		count := C.squall_course_receivers(at, sub, (*C.uint32_t)(unsafe.Pointer(&parts[0])), C.size_t(room))
+		switch {
+		case count == C.SQUALL_NO_COUNT:
+			return nil, ErrNoMemory
+		case count < C.size_t(room):
+			return parts[:count:count], nil
+		}
+	}
+}
+
+// Frame is the frame of the report that this course was issued. A router that hears it knows the course.
+//
+// Errors: [ErrNoMemory]; [ErrClosed].
+func (c *Course) Frame() ([]byte, error) {
+	frame, err := []byte(nil), error(ErrClosed)
+	c.use(func(at *C.squall_course) {
+		frame, err = written(ErrClosed, func(out *C.uint8_t, room C.size_t) C.size_t {
+			return C.squall_course_frame(at, out, room)
+		})
+	})
+	return frame, err
+}

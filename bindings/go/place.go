@@ -1,0 +1,62 @@
+package squall
+
+// #include "library.h"
+import "C"
+
+import "unsafe"
+
+// NoSub is the sub-plan of a key that does not move.
+const NoSub uint32 = C.SQUALL_NOWHERE
+
+// Place says where a key is while keys move. Its fields have the layout of the library's, which writes
+// them.
+type Place struct {
+	// Part is the partition to ask: Source or Dest.
+	Part Part
+	// Source is the partition of the key in the old plan.
+	Source Part
+	// Dest is the partition of the key in the new plan.
+	Dest Part
+	// Sub is the sub-plan in which the key moves, from 0, or NoSub if it does not move.
+	Sub uint32
+}
+
+// noPlace is where a rank is that is no key's.
+var noPlace = Place{Part: Nowhere, Source: Nowhere, Dest: Nowhere, Sub: NoSub}
+
+// IsSettled says whether the key stays at Part until another course begins: it does not move, or its load
+// is known. It is false if the rank is no key's.
+func (p Place) IsSettled() bool {
+	return p.Part == p.Dest && p.Part != Nowhere
+}
+
+// Locate writes the place of each key to the same index of `places`, as many as that has elements, and
+// returns how many. Part of each is what [View.Route] answers. If the rank is no key's, all partitions are
+// [Nowhere] and Sub is [NoSub]. If the view is closed, nothing is written, and the count is 0. It makes one
+// call into C for all keys.
+func (v *View) Locate(keys []Rank, places []Place) int {
+	if len(keys) == 0 || len(places) == 0 {
+		return 0
+	}
+	h := v.take()
+	if h == nil {
+		return 0
+	}
+	ranks, out := (*C.uint64_t)(unsafe.Pointer(&keys[0])), (*C.squall_place)(unsafe.Pointer(&places[0]))
+	count := C.squall_view_locate(h.at, ranks, C.size_t(len(keys)), out, C.size_t(len(places)))
+	v.give(h)
+	return int(count)
+}
+
+// Place is the place of one key. All of its partitions are [Nowhere], and the second result is false, if the
+// rank is no key's, or if the view is closed.
+func (v *View) Place(key Rank) (Place, bool) {
+	h := v.take()
+	if h == nil {
+		return noPlace, false
+	}
+	it := C.place_of(h.at, C.uint64_t(key))
+	v.give(h)
+	place := Place{Part(it.part), Part(it.source), Part(it.dest), uint32(it.sub)}
+	return place, place != noPlace
+}
