@@ -57,6 +57,28 @@ func BenchmarkRoutes(b *testing.B) {
 	}
 }
 
+func BenchmarkPlace(b *testing.B) {
+	view := viewOf(b, large(b))
+	keys := keys(1024)
+	b.ReportAllocs()
+	for i := 0; i < b.N; i++ {
+		view.Place(keys[i%1024])
+	}
+}
+
+func BenchmarkLocate(b *testing.B) {
+	view := viewOf(b, large(b))
+	for _, count := range []int{1, 16, 1000} {
+		b.Run(fmt.Sprint(count), func(b *testing.B) {
+			keys, places := keys(count), make([]squall.Place, count)
+			b.ReportAllocs()
+			for i := 0; i < b.N; i++ {
+				view.Locate(keys, places)
+			}
+		})
+	}
+}
+
 // eight runs routes in eight goroutines at once.
 func eight(b *testing.B, route func(key squall.Rank)) {
 	procs := runtime.GOMAXPROCS(0)
@@ -103,6 +125,27 @@ func BenchmarkHear(b *testing.B) {
 	b.ReportAllocs()
 	for i := 0; i < b.N; i++ {
 		succeeds(b, router.Hear(frame))
+	}
+}
+
+func BenchmarkFrameLoaded(b *testing.B) {
+	b.ReportAllocs()
+	for i := 0; i < b.N; i++ {
+		_, err := squall.FrameLoaded(1, 0, 4, squall.Key(6, 0), squall.Key(6, 1))
+		succeeds(b, err)
+	}
+}
+
+// The moves of a course of 1,000, and what it costs to open and close it.
+func BenchmarkCourse(b *testing.B) {
+	router, err := squall.OpenRouter(1, striped(1000, 0), striped(1000, 5000))
+	succeeds(b, err)
+	b.Cleanup(func() { router.Close() })
+	for i := 0; i < b.N; i++ {
+		course, err := router.Course()
+		succeeds(b, err)
+		course.Moves()
+		course.Close()
 	}
 }
 

@@ -17,10 +17,11 @@ package squall
 // static char nowhere[16];
 // static atomic_long blocks;  // that are allocated now
 // static atomic_long asked;   // allocations since the count began
-// static atomic_long refused; // the number of the one to refuse, or 0
+// static atomic_long refused; // the number of the one to refuse, 0 for none, or -1 for each
 //
 // static bool is_refused(void) {
-//     return atomic_fetch_add(&asked, 1) + 1 == atomic_load(&refused);
+//     long number = atomic_fetch_add(&asked, 1) + 1, which = atomic_load(&refused);
+//     return number == which || which == -1;
 // }
 //
 // static struct tried tried(void *block) {
@@ -63,7 +64,8 @@ import "C"
 
 // The heap of the tests with the tag squall_heap: see heap_test.go.
 
-// refuse refuses the library the allocation of that number, from 1 on, or none for 0. It counts anew.
+// refuse refuses the library the allocation of that number, from 1 on, none for 0, or each for -1. It counts
+// anew.
 func refuse(number int) { C.refuse(C.long(number)) }
 
 // asked is how many allocations the library has asked for since the count began.
