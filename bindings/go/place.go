@@ -21,7 +21,7 @@ type Place struct {
 	Sub uint32
 }
 
-// noPlace is where a rank is that is no key's.
+// noPlace is the answer for a rank that is no key's.
 var noPlace = Place{Part: Nowhere, Source: Nowhere, Dest: Nowhere, Sub: NoSub}
 
 // IsSettled says whether the key stays at Part until another course begins: it does not move, or its load
@@ -30,10 +30,10 @@ func (p Place) IsSettled() bool {
 	return p.Part == p.Dest && p.Part != Nowhere
 }
 
-// Locate writes the place of each key to the same index of `places`, as many as that has elements, and
-// returns how many. Part of each is what [View.Route] answers. If the rank is no key's, all partitions are
-// [Nowhere] and Sub is [NoSub]. If the view is closed, nothing is written, and the count is 0. It makes one
-// call into C for all keys.
+// Locate writes where each key is to the same index of `places`, for as many keys as that has elements, and
+// returns how many. Part of each is what [View.Route] answers. If a rank is no key's, its partitions are
+// [Nowhere], and its Sub is [NoSub]. If the view is closed, nothing is written, and the count is 0. It makes
+// one call into C for all keys.
 func (v *View) Locate(keys []Rank, places []Place) int {
 	if len(keys) == 0 || len(places) == 0 {
 		return 0
@@ -48,8 +48,8 @@ func (v *View) Locate(keys []Rank, places []Place) int {
 	return int(count)
 }
 
-// Place is the place of one key. All of its partitions are [Nowhere], and the second result is false, if the
-// rank is no key's, or if the view is closed.
+// Place is where one key is. Its partitions are [Nowhere], its Sub is [NoSub], and the second result is
+// false, if the rank is no key's, or if the view is closed.
 func (v *View) Place(key Rank) (Place, bool) {
 	h := v.take()
 	if h == nil {
