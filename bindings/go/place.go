@@ -8,14 +8,13 @@ import "unsafe"
 // NoSub is the sub-plan of a key that does not move.
 const NoSub uint32 = C.SQUALL_NOWHERE
 
-// Place says where a key is while keys move. Its fields have the layout of the library's, which writes
-// them.
+// Place says where a key is in the course of [View.Number].
 type Place struct {
 	// Part is the partition to ask: Source or Dest.
 	Part Part
-	// Source is the partition of the key in the old plan.
+	// Source is the partition of the key in the course's old plan.
 	Source Part
-	// Dest is the partition of the key in the new plan.
+	// Dest is the partition of the key in the course's new plan.
 	Dest Part
 	// Sub is the sub-plan in which the key moves, from 0, or NoSub if it does not move.
 	Sub uint32
@@ -42,6 +41,7 @@ func (v *View) Locate(keys []Rank, places []Place) int {
 	if h == nil {
 		return 0
 	}
+	// The fields of a Place are those of a squall_place.
 	ranks, out := (*C.uint64_t)(unsafe.Pointer(&keys[0])), (*C.squall_place)(unsafe.Pointer(&places[0]))
 	count := C.squall_view_locate(h.at, ranks, C.size_t(len(keys)), out, C.size_t(len(places)))
 	v.give(h)

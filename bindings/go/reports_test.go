@@ -62,27 +62,27 @@ func TestFramesAreThoseOfRouters(t *testing.T) {
 
 func TestFramesOfReportsThatAreNone(t *testing.T) {
 	two, three := squall.Key(2, 0), squall.Key(3, 0)
-	for _, it := range []struct {
-		number, sub uint32
-		part        squall.Part
-		lo, hi      squall.Rank
-	}{
-		{0, 0, 3, two, three}, {1, 10000, 3, two, three}, {1, 1<<32 - 1, 3, two, three},
-		{1, 0, 10000, two, three}, {1, 0, squall.Nowhere, two, three},
-		{1, 0, 3, two, two}, {1, 0, 3, three, two}, {1, 0, 3, two, squall.End + 1}, {1, 0, 3, two, 1<<64 - 1},
-	} {
-		frame, err := squall.FrameLoaded(it.number, it.sub, it.part, it.lo, it.hi)
+	none := func(frame []byte, err error) {
+		t.Helper()
 		equals(t, []any{frame, err}, []any{[]byte(nil), squall.ErrLimit})
-		if frame, err = squall.FrameDone(it.number, it.sub, it.part); it.lo == two && it.hi == three {
-			equals(t, []any{frame, err}, []any{[]byte(nil), squall.ErrLimit})
-		}
-		if frame, err = squall.FrameOpened(it.number, it.sub); it.number == 0 || it.sub > 9999 {
-			equals(t, []any{frame, err}, []any{[]byte(nil), squall.ErrLimit})
-		}
 	}
+	none(squall.FrameLoaded(0, 0, 3, two, three))
+	none(squall.FrameLoaded(1, 10000, 3, two, three))
+	none(squall.FrameLoaded(1, 0, 10000, two, three))
+	none(squall.FrameLoaded(1, 0, squall.Nowhere, two, three))
+	none(squall.FrameLoaded(1, 0, 3, two, two))
+	none(squall.FrameLoaded(1, 0, 3, three, two))
+	none(squall.FrameLoaded(1, 0, 3, two, squall.End+1))
+	none(squall.FrameLoaded(1, 0, 3, two, 1<<64-1))
+	none(squall.FrameDone(0, 0, 3))
+	none(squall.FrameDone(1, 10000, 3))
+	none(squall.FrameDone(1, 0, 10000))
+	none(squall.FrameOpened(0, 0))
+	none(squall.FrameOpened(1, 10000))
+	none(squall.FrameOpened(1, squall.NoSub))
 }
 
-// A router that knows the old plan alone hears of a course and its reports, each by a message or in a stream.
+// A router that knows the old plan alone hears of a course and its reports, by messages or in a stream.
 func TestReportsThatARouterHears(t *testing.T) {
 	course, err := courseOf(t, 2, oldPlan, newPlan).Frame()
 	succeeds(t, err)
@@ -92,19 +92,17 @@ func TestReportsThatARouterHears(t *testing.T) {
 	succeeds(t, err)
 	done, err := squall.FrameDone(2, 0, 4)
 	succeeds(t, err)
-	router, err := squall.OpenRouter(1, oldPlan, oldPlan)
-	succeeds(t, err)
-	defer router.Close()
-	for i, take := range []func([]byte) error{router.Hear, router.Feed} {
-		succeeds(t, take(course))
+	for _, take := range []func(*squall.Router, []byte) error{(*squall.Router).Hear, (*squall.Router).Feed} {
+		router, err := squall.OpenRouter(1, oldPlan, oldPlan)
+		succeeds(t, err)
+		defer router.Close()
+		succeeds(t, take(router, course))
 		equals(t, router.Number(), uint32(2))
-		if i == 0 {
-			routes(t, router, squall.Key(2, 0), 1)
-		}
-		succeeds(t, take(load))
+		routes(t, router, squall.Key(2, 0), 1)
+		succeeds(t, take(router, load))
 		routes(t, router, squall.Key(2, 0), 3)
-		succeeds(t, take(opening))
-		succeeds(t, take(done))
+		succeeds(t, take(router, opening))
+		succeeds(t, take(router, done))
 		routes(t, router, squall.Key(6, 0), 4)
 	}
 }
@@ -144,9 +142,7 @@ func TestFramesOfManyGoroutines(t *testing.T) {
 			}
 		}
 	})
-	equals(t, boardOf(t, router), func() squall.Frames {
-		frame, err := squall.FrameLoaded(1, 0, 3, squall.Key(2, 0), squall.Key(2, 50*readers))
-		succeeds(t, err)
-		return squall.Frames{frame}
-	}())
+	whole, err := squall.FrameLoaded(1, 0, 3, squall.Key(2, 0), squall.Key(2, 50*readers))
+	succeeds(t, err)
+	equals(t, boardOf(t, router), squall.Frames{whole})
 }
