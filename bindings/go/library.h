@@ -48,7 +48,7 @@ static inline void end_errand(squall_errand *errand) {
     free(errand);
 }
 
-/* Where one key stands, by a view that is open. Go would allocate memory for an answer by a pointer. */
+/* Where one key is, by a view that is open. Go would allocate memory for an answer by a pointer. */
 static inline squall_place place_of(const squall_view *view, uint64_t rank) {
     squall_place place;
     squall_view_locate(view, &rank, 1, &place, 1);
