@@ -4,6 +4,7 @@ import (
 	"fmt"
 	"runtime"
 	"strings"
+	"sync/atomic"
 	"testing"
 
 	"squall"
@@ -257,32 +258,41 @@ func TestACourseThatIsClosedAmongOthers(t *testing.T) {
 	}
 }
 
+// newestAfter is the number of the router's newest course, which is checked: no number is less than the one
+// before, and courses of odd numbers lead to the new plan, whose first range ends at 2:0.
+func newestAfter(t *testing.T, router *squall.Router, known uint32) uint32 {
+	course, err := router.Course()
+	number := course.Number()
+	if err != nil || number < known {
+		t.Errorf("course %d after %d: %v", number, known, err)
+		return known
+	}
+	defer course.Close()
+	if first := course.NewPlan()[0]; first.Hi != squall.Key(3-number%2, 0) {
+		t.Errorf("course %d leads to %v", number, first)
+	}
+	return number
+}
+
 // One goroutine issues courses that lead there and back, while others open the newest one.
 func TestCoursesOfManyGoroutines(t *testing.T) {
 	const last = 40
 	router := fresh(t)
+	var issued atomic.Uint32
 	together(readers, func(i int) {
 		if i == 0 {
 			for number := uint32(2); number <= last; number++ {
 				if err := router.Issued(number, [][]byte{oldPlan, newPlan}[number%2]); err != nil {
 					t.Error(err)
 				}
+				issued.Store(number)
 			}
 			return
 		}
-		for known := uint32(0); known < last; {
-			course, err := router.Course()
-			if err != nil || course.Number() < known {
-				t.Errorf("course %d after %d: %v", course.Number(), known, err)
-				return
-			}
-			known = course.Number()
-			// Courses of odd numbers lead to the new plan, whose first range ends at 2:0.
-			if first := course.NewPlan()[0]; first.Hi != squall.Key(3-known%2, 0) {
-				t.Errorf("course %d leads to %v", known, first)
-			}
-			course.Close()
+		for known := uint32(0); issued.Load() < last; {
+			known = newestAfter(t, router, known)
 		}
+		equals(t, newestAfter(t, router, 0), uint32(last))
 	})
 }
 

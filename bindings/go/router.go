@@ -41,7 +41,7 @@ func OpenRouter(number uint32, oldPlan, newPlan []byte) (*Router, error) {
 	return router, nil
 }
 
-// Close closes the router. Views and errands of it go on. It always returns nil.
+// Close closes the router. Views, courses and errands of it go on. It always returns nil.
 func (r *Router) Close() error {
 	if r == nil {
 		return nil
