@@ -136,16 +136,27 @@ func BenchmarkFrameLoaded(b *testing.B) {
 	}
 }
 
-// The moves of a course of 1,000, and what it costs to open and close it.
+// A course is opened from a router and from texts, and says which 1,000 spans move.
 func BenchmarkCourse(b *testing.B) {
-	router, err := squall.OpenRouter(1, striped(1000, 0), striped(1000, 5000))
-	succeeds(b, err)
-	b.Cleanup(func() { router.Close() })
-	for i := 0; i < b.N; i++ {
-		course, err := router.Course()
+	router := fresh(b)
+	large := courseOf(b, 1, striped(1000, 0), striped(1000, 5000))
+	closed := func(course *squall.Course, err error) {
 		succeeds(b, err)
-		course.Moves()
 		course.Close()
+	}
+	for _, it := range []struct {
+		name string
+		call func()
+	}{
+		{"OfRouter", func() { closed(router.Course()) }},
+		{"Open", func() { closed(squall.OpenCourse(1, oldPlan, newPlan)) }},
+		{"Moves", func() { large.Moves() }},
+	} {
+		b.Run(it.name, func(b *testing.B) {
+			for i := 0; i < b.N; i++ {
+				it.call()
+			}
+		})
 	}
 }
 
