@@ -2,7 +2,8 @@
 
 A `Router` knows an old and a new plan, and takes reports of what was loaded where. It says for each
 key which partition to ask. A `View` is what a router said at one moment, for threads that only
-read. An `Errand` follows the replies of partitions until a key is found.
+read. An `Errand` follows the replies of partitions until a key is found. A `Course` says which keys
+move, and the module `frame` makes frames of single reports.
 
 >>> from squall import END, Plan, Rank, Router
 >>> old = Plan.of([(0, END, 1)])
@@ -17,8 +18,10 @@ which calls it by `ctypes`, is not. The library is loaded when the package is im
 folder that the environment variable SQUALL_DIR names, or else from where the system's loader looks.
 """
 
+from . import frame
 from ._library import version
 from ._version import __version__
+from .course import Course, Move, Place
 from .errand import Errand, Next, Reply
 from .errors import (
     ClosedError,
@@ -45,16 +48,19 @@ __all__ = [
     "FRAME_BYTES",
     "NOWHERE",
     "ClosedError",
+    "Course",
     "Errand",
     "ForkError",
     "FrameError",
     "FrameFault",
     "Leg",
     "LibraryError",
+    "Move",
     "Next",
     "NoDigestError",
     "NoMemory",
     "NumberError",
+    "Place",
     "Plan",
     "PlanError",
     "PlanFault",
@@ -66,5 +72,6 @@ __all__ = [
     "TooLongError",
     "View",
     "__version__",
+    "frame",
     "version",
 ]

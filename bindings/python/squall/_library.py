@@ -11,11 +11,13 @@ import ctypes
 import os
 from typing import Any, Callable, Tuple, Union
 
-from ._room import ErrandRoom, LegRecord, RouterRoom, ViewRoom
+from ._room import CourseRoom, ErrandRoom, LegRecord, MoveRecord, RouterRoom, ViewRoom
 from .errors import LibraryError
 
 SONAME = "libsquall.so.1"
 VARIABLE = "SQUALL_DIR"
+#: No count, since an allocation failed.
+NO_COUNT = ctypes.c_size_t(-1).value
 
 #: An address, or bytes, whose own address is passed on.
 Bytes = Union[int, bytes]
@@ -29,7 +31,9 @@ _ADDRESS = ctypes.c_void_p
 _ROUTER = ctypes.POINTER(RouterRoom)
 _VIEW = ctypes.POINTER(ViewRoom)
 _ERRAND = ctypes.POINTER(ErrandRoom)
+_COURSE = ctypes.POINTER(CourseRoom)
 _LEGS = ctypes.POINTER(LegRecord)
+_MOVES = ctypes.POINTER(MoveRecord)
 
 
 def _find() -> Tuple[str, str]:
@@ -122,9 +126,48 @@ view_status: Callable[[ViewRoom], int] = _quick("view_status", _U32, _VIEW)
 view_route: Callable[[ViewRoom, int], int] = _quick("view_route", _U32, _VIEW, _U64)
 view_routes: Callable[[ViewRoom, Bytes, int, Out, int], int]
 view_routes = _slow("view_routes", _SIZE, _VIEW, _ADDRESS, _SIZE, _ADDRESS, _SIZE)
+# For many keys, and for one.
+view_locate: Callable[[ViewRoom, Bytes, int, Out, int], int]
+view_locate = _slow("view_locate", _SIZE, _VIEW, _ADDRESS, _SIZE, _ADDRESS, _SIZE)
+view_place: Callable[[ViewRoom, Bytes, int, Out, int], int]
+view_place = _quick("view_locate", _SIZE, _VIEW, _ADDRESS, _SIZE, _ADDRESS, _SIZE)
 view_legs: Callable[[ViewRoom, int, int, Out, int], int]
 view_legs = _slow("view_legs", _SIZE, _VIEW, _U64, _U64, _LEGS, _SIZE)
 view_number: Callable[[ViewRoom], int] = _quick("view_number", _U32, _VIEW)
+
+# Courses. Each call for moves and ranges is for a few of them.
+
+course_size: Callable[[], int] = _quick("course_size", _SIZE)
+course_close: Callable[[CourseRoom], None] = _slow("course_close", None, _COURSE)
+course_open: Callable[[int, bytes, int, bytes, int, CourseRoom], None]
+course_open = _slow("course_open", None, _U32, _ADDRESS, _SIZE, _ADDRESS, _SIZE, _COURSE)
+course_newest: Callable[[RouterRoom, CourseRoom], None]
+course_newest = _quick("course_newest", None, _ROUTER, _COURSE)
+course_first: Callable[[RouterRoom, CourseRoom], None]
+course_first = _quick("course_first", None, _ROUTER, _COURSE)
+course_status: Callable[[CourseRoom], int] = _quick("course_status", _U32, _COURSE)
+course_fault_at: Callable[[CourseRoom], int] = _quick("course_fault_at", _U64, _COURSE)
+course_number: Callable[[CourseRoom], int] = _quick("course_number", _U32, _COURSE)
+course_subplans: Callable[[CourseRoom], int] = _quick("course_subplans", _U32, _COURSE)
+course_moves: Callable[[CourseRoom, int, Out, int], int]
+course_moves = _quick("course_moves", _SIZE, _COURSE, _SIZE, _MOVES, _SIZE)
+course_old: Callable[[CourseRoom, int, Out, int], int]
+course_old = _quick("course_old", _SIZE, _COURSE, _SIZE, _LEGS, _SIZE)
+course_new: Callable[[CourseRoom, int, Out, int], int]
+course_new = _quick("course_new", _SIZE, _COURSE, _SIZE, _LEGS, _SIZE)
+course_receivers: Callable[[CourseRoom, int, Out, int], int]
+course_receivers = _slow("course_receivers", _SIZE, _COURSE, _U32, _ADDRESS, _SIZE)
+course_frame: Callable[[CourseRoom, Out, int], int]
+course_frame = _slow("course_frame", _SIZE, _COURSE, _ADDRESS, _SIZE)
+
+# Frames of reports.
+
+frame_loaded: Callable[[int, int, int, int, int, Out, int], int]
+frame_loaded = _quick("frame_loaded", _SIZE, _U32, _U32, _U32, _U64, _U64, _ADDRESS, _SIZE)
+frame_done: Callable[[int, int, int, Out, int], int]
+frame_done = _quick("frame_done", _SIZE, _U32, _U32, _U32, _ADDRESS, _SIZE)
+frame_opened: Callable[[int, int, Out, int], int]
+frame_opened = _quick("frame_opened", _SIZE, _U32, _U32, _ADDRESS, _SIZE)
 
 # Errands.
 
@@ -142,6 +185,7 @@ errand_heed = _quick("errand_heed", _U32, _ERRAND, _U32, _U32, _U32)
 
 RouterRoom.prepare(router_size(), router_close)
 ViewRoom.prepare(view_size(), view_close)
+CourseRoom.prepare(course_size(), course_close)
 ErrandRoom.prepare(errand_size(), errand_close)
 
 # The library.

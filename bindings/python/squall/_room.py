@@ -1,4 +1,4 @@
-"""Rooms: the memory in which routers, views and errands live."""
+"""Rooms: the memory in which routers, views, courses and errands live."""
 
 from __future__ import annotations
 
@@ -51,6 +51,10 @@ class ViewRoom(Room):
     """A room for a view."""
 
 
+class CourseRoom(Room):
+    """A room for a course."""
+
+
 class ErrandRoom(Room):
     """A room for an errand."""
 
@@ -62,3 +66,24 @@ class LegRecord(ctypes.Structure):
     lo: int
     hi: int
     part: int
+
+
+class MoveRecord(ctypes.Structure):
+    """A move, as `squall.h` has it."""
+
+    _fields_ = [
+        ("lo", ctypes.c_uint64),
+        ("hi", ctypes.c_uint64),
+        ("source", ctypes.c_uint32),
+        ("dest", ctypes.c_uint32),
+        ("sub", ctypes.c_uint32),
+    ]
+    lo: int
+    hi: int
+    source: int
+    dest: int
+    sub: int
+
+
+#: A place, as `squall.h` has it: the numbers `part`, `source`, `dest` and `sub`.
+PlaceRecord = ctypes.c_uint32 * 4

@@ -52,7 +52,7 @@ class NumberError(SquallError, ValueError):
 
 
 class ClosedError(SquallError, ValueError):
-    """The router, view or errand was closed."""
+    """The router, view, course or errand was closed."""
 
     status = 3
 
@@ -148,7 +148,7 @@ class PlanError(SquallError, ValueError):
     Its text has the fault's name of docs/FORMATS.md and its place: `.. is no plan: Gap 3:5: ..`.
     """
 
-    #: Which plan of a router the text was to be: "old" or "new", or None for `Plan.check`.
+    #: Which plan the text was to be: "old" or "new", or None for `Plan.check`.
     plan: Optional[str]
     #: What is wrong with it.
     fault: PlanFault

@@ -16,8 +16,8 @@ Range = Tuple[int, int, int]
 class Plan:
     """The text of a plan, which gives each key to exactly one partition.
 
-    A `Plan` only holds a text. Whether it is a plan is for the library to say, if a router is
-    opened with it or is given it, or if `check` is called.
+    A `Plan` only holds a text. Whether it is a plan is for the library to say, if a router or a
+    course is opened with it, if a router is given it, or if `check` is called.
 
     >>> halves = Plan.of([(0, Rank(5, 0), 1), (Rank(5, 0), END, 2)])
     >>> print(halves)

@@ -12,6 +12,7 @@ from ._handle import T
 from ._room import RouterRoom
 from ._routes import Routes
 from ._status import check
+from .course import Course
 from .keys import rank, word
 from .plan import Plan, PlanText
 from .view import View
@@ -200,6 +201,19 @@ class Router(Routes):
         Other threads run meanwhile. Raises `NoMemory` and `ClosedError`.
         """
         return self._ask_for(View, lib.view_open)
+
+    def course(self) -> Course:
+        """The course by which the router routes now: its newest.
+
+        The router may have heard of it from a frame. What it takes later changes no course. Nothing
+        is copied. Raises `NoMemory` if a course has more owners than can be counted, and
+        `ClosedError`.
+        """
+        return self._ask_for(Course, lib.course_newest)
+
+    def first_course(self) -> Course:
+        """The course with which the router was opened. Raises what `course` raises."""
+        return self._ask_for(Course, lib.course_first)
 
 
 def _next_frame(room: RouterRoom) -> bytes:

@@ -3,12 +3,15 @@
 from __future__ import annotations
 
 from array import array
-from typing import TYPE_CHECKING
+from sys import byteorder
+from typing import TYPE_CHECKING, Callable, List, Optional
 
 from . import _library as lib
 from ._buffers import numbers
-from ._room import ViewRoom
+from ._room import PlaceRecord, ViewRoom
 from ._routes import Routes
+from .course import Place, place_of
+from .keys import rank
 
 if TYPE_CHECKING:
     from ._buffers import ReadableArray, WritableArray
@@ -57,7 +60,7 @@ class View(Routes):
         each other in memory, and `ClosedError`.
         """
         with numbers(keys, "keys", "QL", 8) as ranks:
-            return self._routes(ranks)
+            return self._each(lib.view_routes, 1, ranks)
 
     def routes_into(self, keys: ReadableArray, out: WritableArray) -> int:
         """Writes the partitions to ask for many keys into an array, and says how many it wrote.
@@ -68,20 +71,71 @@ class View(Routes):
 
         Raises what `routes` raises, also for `out`, and `TypeError` if `out` can't be written.
         """
-        with numbers(keys, "keys", "QL", 8) as ranks, numbers(out, "out", "IL", 4) as room:
-            if room.readonly:
-                raise TypeError("out can't be written")
-            count = min(len(ranks), len(room))
-            with ranks[:count] as wanted, room.cast("B") as place:
-                place[: 4 * count] = memoryview(self._routes(wanted)).cast("B")
-        return count
+        return self._each_into(lib.view_routes, 1, keys, out)
 
-    def _routes(self, ranks: memoryview) -> array[int]:
-        parts = array("I", (0,)) * len(ranks)
-        at, _ = parts.buffer_info()
+    def place(self, key: int) -> Optional[Place]:
+        """Where a key stands, or None if the rank is no key's.
+
+        A key that is settled stays at its partition until another course begins. So it can be sent
+        there, and the partition need not be asked whether it still has the key.
+
+        >>> place = view.place(Rank(2, 7))
+        >>> place
+        Place(part=1, source=1, dest=3, sub=0)
+        >>> place.is_settled
+        False
+
+        Raises `NumberError` if the rank has no 64 bits, and `ClosedError`.
+        """
+        found = PlaceRecord()
+        self._ask(lib.view_place, rank(key).to_bytes(8, byteorder), 1, found, 1)
+        return place_of(*found)
+
+    def locate(self, keys: ReadableArray) -> List[Optional[Place]]:
+        """Where many keys stand: of each what `place` says.
+
+        Takes what `routes` takes, and raises what that raises. Other threads run meanwhile.
+
+        >>> view.locate(array("Q", [Rank(5, 0), END]))
+        [Place(part=2, source=2, dest=2, sub=None), None]
+        """
+        with numbers(keys, "keys", "QL", 8) as ranks:
+            words = iter(self._each(lib.view_locate, 4, ranks))
+        return [place_of(*it) for it in zip(words, words, words, words)]
+
+    def locate_into(self, keys: ReadableArray, out: WritableArray) -> int:
+        """Writes where many keys stand into an array, and says of how many keys it wrote it.
+
+        For each key there are four numbers: the partition to ask, that in the old plan, that in
+        the new plan, and the sub-plan in which the key moves. The last is `NOWHERE` if the key
+        does not move, and all four are for a rank that is no key's. A key is settled if the first
+        number is the third one.
+
+        They are written from the beginning of `out` on, for as many keys as it has room for. `out`
+        is an array as for `routes_into`. Raises what that raises.
+        """
+        return self._each_into(lib.view_locate, 4, keys, out)
+
+    def _each(self, call: Callable[..., int], size: int, ranks: memoryview) -> array[int]:
+        """What the call answers for each rank, in `size` numbers."""
+        # For no keys too, so that a closed view raises.
+        self._ask(lib.view_status)
+        answers = array("I", (0,)) * (size * len(ranks))
+        at, _ = answers.buffer_info()
         for begin in range(0, len(ranks), _AT_ONCE):
             # The library gets a copy: another thread may change the array.
             end = min(begin + _AT_ONCE, len(ranks))
             some = ranks[begin:end].tobytes()
-            self._ask(lib.view_routes, some, end - begin, at + 4 * begin, end - begin)
-        return parts
+            self._ask(call, some, end - begin, at + 4 * size * begin, end - begin)
+        return answers
+
+    def _each_into(
+        self, call: Callable[..., int], size: int, keys: ReadableArray, out: WritableArray
+    ) -> int:
+        with numbers(keys, "keys", "QL", 8) as ranks, numbers(out, "out", "IL", 4) as room:
+            if room.readonly:
+                raise TypeError("out can't be written")
+            count = min(len(ranks), len(room) // size)
+            with ranks[:count] as wanted, room.cast("B") as place:
+                place[: 4 * size * count] = memoryview(self._each(call, size, wanted)).cast("B")
+        return count
