@@ -73,8 +73,9 @@ def place_of(part: int, source: int, dest: int, sub: int) -> Optional[Place]:
 class Course(Handle):
     """A numbered change from an old plan to a new one.
 
-    It says which keys move, from which partition to which. In each sub-plan a partition gives keys to at most one other. The sub-plans are worked off one
-    after the other, from 0. A course never changes.
+    It says which keys move, from which partition to which. In each sub-plan a partition gives keys
+    to at most one other. The sub-plans are worked off one after the other, from 0. A course never
+    changes.
 
     >>> course = Course(1, old, new)
     >>> for move in course.moves(): print(move)

@@ -1,7 +1,7 @@
 """Frames of single reports, for programs that send reports and keep no router.
 
-A router takes them by `Router.hear`, and none has more than 49 bytes. `Course.frame` gives the frame
-of the fourth kind of report: that a course was issued.
+A router takes them by `Router.hear`, and none has more than 49 bytes. `Course.frame` gives the
+frame of the fourth kind of report: that a course was issued.
 
 >>> from squall import frame
 >>> sent = frame.done(1, 0, 3)

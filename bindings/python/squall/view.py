@@ -79,7 +79,7 @@ class View(Routes):
         A key that is settled stays at its partition until another course begins. So it can be sent
         there, and the partition need not be asked whether it still has the key.
 
-        >>> place = view.place(Rank(2, 7))
+        >>> place = Router(1, old, new).view().place(Rank(2, 7))
         >>> place
         Place(part=1, source=1, dest=3, sub=0)
         >>> place.is_settled

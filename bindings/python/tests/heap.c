@@ -11,7 +11,7 @@ struct tried {
 
 long test_blocks;  /* that are allocated now */
 long test_asked;   /* allocations since a test set this to 0 */
-long test_refused; /* the number of the one to refuse, or 0 */
+long test_refused; /* the number of the one to refuse, or 0; -1 for all */
 
 static char nowhere[16];
 
@@ -20,7 +20,7 @@ static struct tried tried(void *block) {
 }
 
 static bool is_refused(void) {
-    return ++test_asked == test_refused;
+    return ++test_asked == test_refused || test_refused == -1;
 }
 
 struct tried rattle_alloc(size_t size, size_t align) {

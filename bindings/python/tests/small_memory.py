@@ -6,11 +6,13 @@ These tests are in a file of their own since a process has one library.
 import ctypes
 import itertools
 import unittest
+from array import array
 from functools import partial
 from typing import Any, Callable, List
 
-from squall import NoMemory, Router
+from squall import Course, NoMemory, Router
 from squall import _library as lib
+from squall import frame
 
 from .worked import EMPTY_DIGEST, LOAD_FRAME, NEW, OLD, fresh, key
 
@@ -69,13 +71,37 @@ class SmallMemory(unittest.TestCase):
             REFUSED.value = 0
         return False
 
-    def test_openings_of_routers(self) -> None:
+    def failures(self, call: Callable[[], object]) -> int:
+        """Makes the call once for each of its allocations, and says how often it raised."""
         failed = 0
         for number in itertools.count(1):
-            failed += self.fails(number, lambda: Router(1, OLD, NEW))
+            failed += self.fails(number, call)
             if ASKED.value < number:
                 break
-        self.assertGreater(failed, 5)
+        return failed
+
+    def test_openings(self) -> None:
+        self.assertGreater(self.failures(lambda: Router(1, OLD, NEW)), 5)
+        self.assertGreater(self.failures(lambda: Course(1, OLD, NEW)), 5)
+
+    def test_frames(self) -> None:
+        calls: List[Callable[[], bytes]] = [
+            Course(1, OLD, NEW).frame,
+            lambda: frame.loaded(1, 0, 3, key(2), key(3)),
+            lambda: frame.done(1, 0, 4),
+            lambda: frame.opened(1, 0),
+        ]
+        for at, call in enumerate(calls):
+            with self.subTest(call=at):
+                wanted = call()
+                self.assertGreater(self.failures(lambda: self.assertEqual(call(), wanted)), 0)
+
+    def test_receivers(self) -> None:
+        course = Course(1, OLD, NEW)
+        self.failures(lambda: self.assertEqual(course.receivers(0), [3, 4]))
+        # It tries once more with less, so that one refusal may be no failure.
+        self.assertTrue(self.fails(-1, lambda: course.receivers(0)))
+        self.assertEqual(course.receivers(0), [3, 4])
 
     def test_a_call_that_fails_changes_nothing(self) -> None:
         before = seen(busy())
@@ -104,15 +130,19 @@ class SmallMemory(unittest.TestCase):
         with view.clone(), router.errand(0) as errand:
             self.assertEqual((router.route(7), view.route(7), errand.asked), (1, 1, 1))
             self.assertEqual(len(router.legs(0, 7)), 1)
+        self.assertEqual(view.locate(array("Q", [7])), [view.place(7)])
+        with router.course() as course, router.first_course():
+            self.assertEqual((course.number, course.subplans, len(course.moves())), (1, 1, 2))
+            self.assertEqual((len(course.old_plan()), len(course.new_plan())), (4, 5))
         self.assertEqual(ASKED.value, 0)
 
     def test_what_is_not_closed_is_freed(self) -> None:
         for _ in range(100):
             router = busy()
-            views = [router.view(), router.view().clone()]
+            handles = [router.view(), router.view().clone(), router.course(), Course(1, OLD, NEW)]
             self.assertGreater(BLOCKS.value, 0)
             router.board()
-            del router, views
+            del router, handles
             self.assertEqual(BLOCKS.value, 0)
 
 

@@ -13,7 +13,7 @@ from types import ModuleType
 from typing import Any, Dict, List
 
 import squall
-from squall import _routes, errand, errors, keys, plan, router, view
+from squall import _routes, course, errand, errors, frame, keys, plan, router, view
 
 from .worked import fresh
 
@@ -22,7 +22,18 @@ C_EXAMPLES = PYTHON.parent / "c" / "examples"
 PLANS = PYTHON.parent.parent / "examples"
 
 HALVES = '{"plan":[{"part":1,"from":[0,0],"to":[5,0]},{"part":2,"from":[5,0],"to":"end"}]}'
-MODULES: List[ModuleType] = [squall, _routes, errand, errors, keys, plan, router, view]
+MODULES: List[ModuleType] = [
+    squall,
+    _routes,
+    course,
+    errand,
+    errors,
+    frame,
+    keys,
+    plan,
+    router,
+    view,
+]
 
 
 def names() -> Dict[str, Any]:

@@ -11,8 +11,8 @@ from functools import partial
 from typing import Any, Callable, List
 
 import squall
-from squall import ForkError, Plan, Router
-from squall._room import ErrandRoom, RouterRoom, ViewRoom
+from squall import Course, ForkError, Plan, Router, frame
+from squall._room import CourseRoom, ErrandRoom, RouterRoom, ViewRoom
 
 from . import test_handles
 from .worked import NEW, OLD, fresh, key, moved
@@ -50,20 +50,22 @@ class OneThread(unittest.TestCase):
 
     def test_a_child_has_copies(self) -> None:
         router = fresh()
-        view, errand = router.view(), router.errand(key(2))
+        view, errand, course = router.view(), router.errand(key(2)), router.course()
 
         def call() -> None:
             router.loaded(1, 0, 3, key(2), key(3))
             assert (router.route(key(2)), view.route(key(2)), errand.asked) == (3, 1, 1)
             assert len(router.board()) == 1
             assert Router(1, OLD, NEW).route(key(2)) == 1
-            for handle in [router, view, errand]:
+            assert course.receivers(0) == Course(1, OLD, NEW).receivers(0) == [3, 4]
+            for handle in [router, view, errand, course]:
                 handle.close()
 
         self.assertEqual(child_of(call), 0)
         self.assertEqual((router.route(key(2)), router.board()), (1, []))
         router.loaded(1, 0, 3, key(2), key(3))
         self.assertEqual((router.route(key(2)), view.route(key(2)), errand.asked), (3, 1, 1))
+        self.assertEqual(course.receivers(0), [3, 4])
 
     def test_workers_of_multiprocessing(self) -> None:
         router = moved()
@@ -100,6 +102,7 @@ class SeveralThreads(unittest.TestCase):
             (router, test_handles.ROUTER_CALLS),
             (router.view(), test_handles.VIEW_CALLS),
             (router.errand(key(2)), test_handles.ERRAND_CALLS),
+            (router.course(), test_handles.COURSE_CALLS),
         ]
 
         def call() -> None:
@@ -107,13 +110,15 @@ class SeveralThreads(unittest.TestCase):
                 for ask in calls.values():
                     self.refused(partial(ask, handle))
             self.refused(lambda: Router(1, OLD, NEW))
+            self.refused(lambda: Course(1, OLD, NEW))
+            self.refused(lambda: frame.opened(1, 0))
             self.refused(Plan(OLD).check)
             assert squall.version() == squall.__version__
             # A child of the child is no better.
             assert child_of(lambda: self.refused(lambda: Router(1, OLD, NEW))) == 0
             # To close and to drop handles calls nothing.
             closed: List[object] = []
-            for room in [RouterRoom, ViewRoom, ErrandRoom]:
+            for room in [RouterRoom, ViewRoom, ErrandRoom, CourseRoom]:
                 room._close = closed.append
             with router:
                 pass

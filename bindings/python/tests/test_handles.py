@@ -1,4 +1,4 @@
-"""How routers, views and errands are closed, and that no use of a closed one does harm."""
+"""How routers, views, courses and errands are closed, and that no use of a closed one does harm."""
 
 import copy
 import ctypes
@@ -12,7 +12,7 @@ from types import FrameType
 from typing import Any, Callable, Dict, List, Optional
 from unittest import mock
 
-from squall import ClosedError, Errand, Reply, Router, View
+from squall import ClosedError, Course, Errand, Reply, Router, View
 from squall import _library as lib
 from squall._room import ErrandRoom, RouterRoom, ViewRoom
 
@@ -35,6 +35,8 @@ ROUTER_CALLS: Dict[str, Callable[[Router], object]] = {
     "repair": lambda it: it.repair(),
     "view": lambda it: it.view(),
     "errand": lambda it: it.errand(0),
+    "course": lambda it: it.course(),
+    "first_course": lambda it: it.first_course(),
 }
 VIEW_CALLS: Dict[str, Callable[[View], object]] = {
     "route": lambda it: it.route(0),
@@ -44,6 +46,19 @@ VIEW_CALLS: Dict[str, Callable[[View], object]] = {
     "number": lambda it: it.number,
     "clone": lambda it: it.clone(),
     "errand": lambda it: it.errand(0),
+    "routes, no keys": lambda it: it.routes(array("Q")),
+    "place": lambda it: it.place(0),
+    "locate": lambda it: it.locate(array("Q", [0])),
+    "locate_into": lambda it: it.locate_into(array("Q", [0]), array("I", [0] * 4)),
+}
+COURSE_CALLS: Dict[str, Callable[[Course], object]] = {
+    "number": lambda it: it.number,
+    "subplans": lambda it: it.subplans,
+    "moves": lambda it: it.moves(),
+    "old_plan": lambda it: it.old_plan(),
+    "new_plan": lambda it: it.new_plan(),
+    "receivers": lambda it: it.receivers(0),
+    "frame": lambda it: it.frame(),
 }
 ERRAND_CALLS: Dict[str, Callable[[Errand], object]] = {
     "asked": lambda it: it.asked,
@@ -85,6 +100,7 @@ class Closing(unittest.TestCase):
         groups: List[Any] = [
             (router, ROUTER_CALLS),
             (view, VIEW_CALLS),
+            (router.course(), COURSE_CALLS),
             (errand, ERRAND_CALLS),
         ]
         for handle, calls in groups:
@@ -159,6 +175,7 @@ class Closing(unittest.TestCase):
 
     def test_a_handle_that_was_never_opened(self) -> None:
         groups: List[Any] = [(Router, ROUTER_CALLS), (View, VIEW_CALLS), (Errand, ERRAND_CALLS)]
+        groups.append((Course, COURSE_CALLS))
         for kind, calls in groups:
             handle = kind.__new__(kind)
             for call in calls.values():
@@ -171,6 +188,7 @@ class Closing(unittest.TestCase):
         view = router.view()
         handles: List[Any] = [router, view, view.errand(0)]
         handles += [view.errand(it) for it in range(50)]
+        handles += [router.course() for _ in range(50)]
         for handle in handles:
             self.assertEqual(ctypes.addressof(handle._room) % 16, 0)
 
@@ -180,7 +198,7 @@ class Pickling(unittest.TestCase):
 
     def test_pickling_is_refused(self) -> None:
         router = fresh()
-        handles: List[Any] = [router, router.view(), router.errand(0)]
+        handles: List[Any] = [router, router.view(), router.errand(0), router.course()]
         attempts: List[Any] = [pickle.dumps, copy.copy, copy.deepcopy]
         for handle in handles:
             for attempt in attempts:

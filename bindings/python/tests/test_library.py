@@ -12,9 +12,9 @@ from pathlib import Path
 from typing import Any, Dict, List, Tuple
 
 import squall
+from squall import Place, _room, _status
 from squall import _library as lib
-from squall import _room, _status
-from squall._room import ErrandRoom, LegRecord, RouterRoom, ViewRoom
+from squall._room import CourseRoom, ErrandRoom, LegRecord, MoveRecord, RouterRoom, ViewRoom
 
 HERE = Path(__file__).resolve().parent
 HEADER = HERE.parent.parent / "c" / "squall.h"
@@ -31,8 +31,11 @@ PLAIN: Dict[str, Any] = {
     "uint64_t *": ctypes.c_void_p,
     "squall_router *": ctypes.POINTER(RouterRoom),
     "squall_view *": ctypes.POINTER(ViewRoom),
+    "squall_course *": ctypes.POINTER(CourseRoom),
     "squall_errand *": ctypes.POINTER(ErrandRoom),
     "squall_leg *": ctypes.POINTER(LegRecord),
+    "squall_move *": ctypes.POINTER(MoveRecord),
+    "squall_place *": ctypes.c_void_p,
 }
 
 
@@ -79,7 +82,7 @@ class Functions(unittest.TestCase):
     @unittest.skipUnless(HEADER.is_file(), "squall.h is not here")
     def test_each_function_of_the_header_is_called_by_its_types(self) -> None:
         wanted = declared()
-        self.assertEqual(len(wanted), 36)
+        self.assertEqual(len(wanted), 54)
         bound: Dict[str, int] = dict.fromkeys(wanted, 0)
         for function in vars(lib).values():
             name = getattr(function, "__name__", "")
@@ -88,8 +91,18 @@ class Functions(unittest.TestCase):
                 with self.subTest(name=name):
                     takes = list(function.argtypes or [])
                     self.assertEqual((function.restype, takes), wanted[name])
-        twice = {"squall_router_feed", "squall_router_hear"}
+        twice = {"squall_router_feed", "squall_router_hear", "squall_view_locate"}
         self.assertEqual(bound, {it: 2 if it in twice else 1 for it in wanted})
+
+    @unittest.skipUnless(HEADER.is_file(), "squall.h is not here")
+    def test_records_have_the_fields_of_the_header(self) -> None:
+        text = HEADER.read_text(encoding="utf-8")
+        found = re.findall(r"typedef struct \w+ \{(.*?)\} squall_(\w+);", text, re.DOTALL)
+        fields = {name: re.findall(r"^ *(\w+) (\w+);", it, re.MULTILINE) for it, name in found}
+        wanted = {name: [(it, PLAIN[of]) for of, it in its] for name, its in fields.items()}
+        place = list(zip(Place._fields, [ctypes.c_uint32] * _room.PlaceRecord._length_))
+        records = {"leg": LegRecord._fields_, "move": MoveRecord._fields_, "place": place}
+        self.assertEqual(records, wanted)
 
     @unittest.skipUnless(HEADER.is_file(), "squall.h is not here")
     def test_constants(self) -> None:
