@@ -80,6 +80,10 @@ class SmallMemory(unittest.TestCase):
                 break
         return failed
 
+    def gives(self, call: Callable[[], object], wanted: object) -> None:
+        """Looks whether a call that raises nothing gives this."""
+        self.assertEqual(call(), wanted)
+
     def test_openings(self) -> None:
         self.assertGreater(self.failures(lambda: Router(1, OLD, NEW)), 5)
         self.assertGreater(self.failures(lambda: Course(1, OLD, NEW)), 5)
@@ -93,12 +97,11 @@ class SmallMemory(unittest.TestCase):
         ]
         for at, call in enumerate(calls):
             with self.subTest(call=at):
-                wanted = call()
-                self.assertGreater(self.failures(lambda: self.assertEqual(call(), wanted)), 0)
+                self.assertGreater(self.failures(partial(self.gives, call, call())), 0)
 
     def test_receivers(self) -> None:
         course = Course(1, OLD, NEW)
-        self.failures(lambda: self.assertEqual(course.receivers(0), [3, 4]))
+        self.failures(lambda: self.gives(lambda: course.receivers(0), [3, 4]))
         # It tries once more with less, so that one refusal may be no failure.
         self.assertTrue(self.fails(-1, lambda: course.receivers(0)))
         self.assertEqual(course.receivers(0), [3, 4])

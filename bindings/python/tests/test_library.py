@@ -100,7 +100,8 @@ class Functions(unittest.TestCase):
         found = re.findall(r"typedef struct \w+ \{(.*?)\} squall_(\w+);", text, re.DOTALL)
         fields = {name: re.findall(r"^ *(\w+) (\w+);", it, re.MULTILINE) for it, name in found}
         wanted = {name: [(it, PLAIN[of]) for of, it in its] for name, its in fields.items()}
-        place = list(zip(Place._fields, [ctypes.c_uint32] * _room.PlaceRecord._length_))
+        place = [(it, ctypes.c_uint32) for it in Place._fields]
+        self.assertEqual(ctypes.sizeof(_room.PlaceRecord), 4 * len(place))
         records = {"leg": LegRecord._fields_, "move": MoveRecord._fields_, "place": place}
         self.assertEqual(records, wanted)
 
@@ -171,7 +172,7 @@ class Loading(unittest.TestCase):
         script = (
             "import sys, squall\n"
             "router = squall.Router(1, *[squall.Plan.of([(0, squall.END, 1)])] * 2)\n"
-            "sys.modules['kept'] = [router.view(), router.errand(0)]\n"
+            "sys.modules['kept'] = [router.view(), router.errand(0), router.course()]\n"
             "ring = [router]; ring.append(ring)\n"
         )
         ran = subprocess.run(
