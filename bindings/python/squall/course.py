@@ -3,7 +3,7 @@
 from __future__ import annotations
 
 import ctypes
-from typing import Any, Callable, List, NamedTuple, Optional, Type, TypeVar
+from typing import Any, Callable, Iterable, List, NamedTuple, Optional, Type, TypeVar
 
 from . import _library as lib
 from ._fork import REFUSED, refuse
@@ -63,11 +63,16 @@ class Place(NamedTuple):
         return self.part == self.dest
 
 
-def place_of(part: int, source: int, dest: int, sub: int) -> Optional[Place]:
-    """The place of these four numbers of C, or None for those of a rank that is no key's."""
-    if part == NOWHERE:
-        return None
-    return Place(part, source, dest, None if sub == NOWHERE else sub)
+def places_of(numbers: Iterable[int]) -> List[Optional[Place]]:
+    """The places of these numbers of C, four each, and None for a rank that is no key's."""
+    words, new = iter(numbers), tuple.__new__
+    # To call the class or a function for each would take half as long again.
+    return [
+        None
+        if part == NOWHERE
+        else new(Place, (part, source, dest, sub if sub != NOWHERE else None))
+        for part, source, dest, sub in zip(words, words, words, words)
+    ]
 
 
 class Course(Handle):

@@ -10,7 +10,7 @@ from . import _library as lib
 from ._buffers import numbers
 from ._room import PlaceRecord, ViewRoom
 from ._routes import Routes
-from .course import Place, place_of
+from .course import Place, places_of
 from .keys import rank
 
 if TYPE_CHECKING:
@@ -89,7 +89,7 @@ class View(Routes):
         """
         found = PlaceRecord()
         self._ask(lib.view_place, rank(key).to_bytes(8, byteorder), 1, found, 1)
-        return place_of(*found)
+        return places_of(found)[0]
 
     def locate(self, keys: ReadableArray) -> List[Optional[Place]]:
         """Where many keys stand: of each what `place` says.
@@ -100,8 +100,7 @@ class View(Routes):
         [Place(part=2, source=2, dest=2, sub=None), None]
         """
         with numbers(keys, "keys", "QL", 8) as ranks:
-            words = iter(self._each(lib.view_locate, 4, ranks))
-        return [place_of(*it) for it in zip(words, words, words, words)]
+            return places_of(self._each(lib.view_locate, 4, ranks))
 
     def locate_into(self, keys: ReadableArray, out: WritableArray) -> int:
         """Writes where many keys stand into an array, and says of how many keys it wrote it.
