@@ -1,6 +1,7 @@
 """How courses are closed, and what threads and signal handlers may do with them."""
 
 import gc
+import threading
 import time
 import unittest
 import weakref
@@ -118,6 +119,18 @@ class Interrupted(unittest.TestCase):
 
 class Threads(unittest.TestCase):
     """Threads that share a course, and threads that have one each."""
+
+    def test_threads_with_little_stack(self) -> None:
+        # As deep as a text may be, in a member that is passed over.
+        text = f'{{"plan":[{{"part":1,"from":[0,0],"to":"end","x":{"[" * 124}{"]" * 124}}}]}}'
+        before = threading.stack_size(256 * 1024)
+        try:
+            together(
+                lambda: self.assertEqual(Course(1, text, text).number, 1),
+                lambda: self.assertIsNone(fresh().issued(2, text)),
+            )
+        finally:
+            threading.stack_size(before)
 
     def test_a_shared_course(self) -> None:
         course, other = wide_course(), wide_course()
