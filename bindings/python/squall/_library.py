@@ -135,7 +135,7 @@ view_legs: Callable[[ViewRoom, int, int, Out, int], int]
 view_legs = _slow("view_legs", _SIZE, _VIEW, _U64, _U64, _LEGS, _SIZE)
 view_number: Callable[[ViewRoom], int] = _quick("view_number", _U32, _VIEW)
 
-# Courses. Each call for moves and ranges is for a few of them.
+# Courses. A call for moves or ranges is short, since it gives no more than there is room for.
 
 course_size: Callable[[], int] = _quick("course_size", _SIZE)
 course_close: Callable[[CourseRoom], None] = _slow("course_close", None, _COURSE)

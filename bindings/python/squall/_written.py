@@ -22,7 +22,8 @@ def written(call: Callable[..., int], *words: object) -> bytes:
     """
     out = ctypes.create_string_buffer(_FIRST)
     size = call(*words, out, len(out))
-    if len(out) < size < lib.NO_COUNT:
+    # Once more at most, unless the library answers another size the second time.
+    while len(out) < size < lib.NO_COUNT:
         out = ctypes.create_string_buffer(size)
         size = call(*words, out, len(out))
     if size == lib.NO_COUNT:
