@@ -10,14 +10,14 @@ from functools import partial
 from typing import Any, Callable, List
 from unittest import mock
 
-from squall import END, ClosedError, Course, PlanError, Router, View, frame
+from squall import END, ClosedError, Course, Plan, PlanError, Router, View, frame
 from squall import _library as lib
 from squall._room import CourseRoom
 
 from .test_courses import MOVES, striped
 from .test_handles import COURSE_CALLS, Count
 from .test_threads import together
-from .worked import LOAD_FRAME, NEW, OLD, fresh, key, wide_plan
+from .worked import FIVE, LOAD_FRAME, NEW, OLD, fresh, key, wide_plan
 
 
 def wide_course() -> Course:
@@ -122,12 +122,15 @@ class Threads(unittest.TestCase):
 
     def test_threads_with_little_stack(self) -> None:
         # As deep as a text may be, in a member that is passed over.
-        text = f'{{"plan":[{{"part":1,"from":[0,0],"to":"end","x":{"[" * 124}{"]" * 124}}}]}}'
+        deep = '{"a":' * 124 + "1" + "}" * 124
+        text = FIVE.replace('"from"', f'"x":{deep},"from"')
         before = threading.stack_size(256 * 1024)
         try:
             together(
-                lambda: self.assertEqual(Course(1, text, text).number, 1),
-                lambda: self.assertIsNone(fresh().issued(2, text)),
+                lambda: Course(1, text, text),
+                lambda: Router(1, text, text),
+                lambda: fresh().issued(2, text),
+                Plan(text).check,
             )
         finally:
             threading.stack_size(before)
@@ -197,19 +200,23 @@ class Threads(unittest.TestCase):
         router.close()
 
     def test_courses_of_a_router_that_hears_of_more(self) -> None:
-        router = Router(1, OLD, OLD)
+        router, ended = Router(1, OLD, OLD), threading.Event()
 
         def issue() -> None:
-            for number in range(2, 100):
-                router.issued(number, NEW)
+            try:
+                for number in range(2, 100):
+                    router.issued(number, NEW)
+            finally:
+                ended.set()
 
         def ask() -> None:
             numbers = [0]
-            while numbers[-1] < 99:
+            while not ended.is_set():
                 course = router.course()
                 self.assertEqual(course.moves(), MOVES if course.number > 1 else [])
                 numbers.append(course.number)
             self.assertEqual(numbers, sorted(numbers))
+            self.assertEqual(router.course().number, 99)
 
         together(issue, ask, ask)
 
