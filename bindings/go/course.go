@@ -148,8 +148,8 @@ func (c *Course) NewPlan() []Leg {
 	})
 }
 
-// allOf gathers what a course has, by calls of fill. A call writes items, the first of which has the index
-// `from`, at most atOnce of them, and says how many.
+// allOf gathers items of a course by calls of fill. A call writes those from the index `from` on, at most
+// atOnce of them, and says how many. All calls are made under one lock, so that Close cuts nothing off.
 func allOf[In, Out any](c *Course, of func(In) Out, fill func(at *C.squall_course, from C.size_t, out *In) C.size_t) []Out {
 	var all []Out
 	c.use(func(at *C.squall_course) {
