@@ -152,7 +152,7 @@ typedef struct squall_leg {
 
 /* Where a key stands. It is settled if `part` is `dest`: then it stays there until another course
  * begins. Else the key moves, and its load is not known yet: `part` is `source`. For a rank that is
- * no key's all four are SQUALL_NOWHERE. */
+ * no key's all four are SQUALL_NOWHERE: look at `part` first. */
 typedef struct squall_place {
     uint32_t part;   /* the partition to ask */
     uint32_t source; /* its partition in the old plan */

@@ -71,9 +71,9 @@ impl Place {
     }
 
     /// Whether the key stays where it is until another course begins: it does not move, or its load
-    /// is known.
+    /// is known. Not of [`Place::NO_KEY`].
     pub fn is_settled(&self) -> bool {
-        self.part == self.dest
+        self.part == self.dest && self.part != ffi::NOWHERE
     }
 }
 

@@ -287,6 +287,7 @@ fn where_keys_stand() -> Result<(), Error> {
     let waiting = place(key(6));
     assert!(!waiting.is_settled());
     assert_eq!((waiting.part, waiting.source, waiting.dest), (3, 3, 4));
+    assert!(!Place::NO_KEY.is_settled());
     assert_eq!(view.place(Rank::END), None);
     let mut places = [Place::NO_KEY; 2];
     assert_eq!(view.locate(&[key(6), Rank::END, key(0)], &mut places), 2);
