@@ -1,0 +1,198 @@
+//! Words of the command line: `--name value`, and flags.
+
+use crate::fault::{Done, Fault, Trying};
+use std::collections::BTreeMap;
+use std::fs;
+use std::net::{SocketAddr, ToSocketAddrs};
+use std::process::ExitCode;
+
+/// What a program is, for its help and its checks.
+pub struct Usage {
+    /// Its name.
+    pub name: &'static str,
+    /// The text of `--help`.
+    pub help: &'static str,
+    /// Names that have a value.
+    pub options: &'static [&'static str],
+    /// Names that have none.
+    pub flags: &'static [&'static str],
+}
+
+/// The words of one run.
+pub struct Args(Vec<(String, String)>);
+
+impl Args {
+    /// The words, if each name is known and has a value exactly if it needs one.
+    pub fn parse(words: &[String], usage: &Usage) -> Done<Args> {
+        let mut pairs = Vec::new();
+        let mut words = words.iter();
+        while let Some(word) = words.next() {
+            let Some(name) = word.strip_prefix("--") else {
+                return Err(Fault::new(format!("{word} is no option")));
+            };
+            let value = if usage.flags.contains(&name) {
+                String::new()
+            } else if usage.options.contains(&name) {
+                let value = words.next();
+                value
+                    .ok_or_else(|| Fault::new(format!("--{name} needs a value")))?
+                    .clone()
+            } else {
+                return Err(Fault::new(format!("--{name} is not known")));
+            };
+            pairs.push((name.to_string(), value));
+        }
+        Ok(Args(pairs))
+    }
+
+    /// The value that was given last.
+    pub fn get(&self, name: &str) -> Option<&str> {
+        let given = self.0.iter().rev().find(|(other, _)| other == name);
+        given.map(|(_, value)| value.as_str())
+    }
+
+    /// Each value that was given, in order.
+    pub fn all<'a>(&'a self, name: &'a str) -> impl Iterator<Item = &'a str> {
+        let given = self.0.iter().filter(move |(other, _)| other == name);
+        given.map(|(_, value)| value.as_str())
+    }
+
+    /// Whether the name was given.
+    pub fn has(&self, name: &str) -> bool {
+        self.get(name).is_some()
+    }
+
+    /// The value, which has to be given.
+    pub fn need(&self, name: &str) -> Done<&str> {
+        self.get(name)
+            .ok_or_else(|| Fault::new(format!("--{name} is missing")))
+    }
+
+    /// A number in its bounds, or `otherwise` if none is given.
+    pub fn number(&self, name: &str, otherwise: u64, least: u64, most: u64) -> Done<u64> {
+        let Some(value) = self.get(name) else {
+            return Ok(otherwise);
+        };
+        let number = value.parse().ok();
+        number
+            .filter(|number| (least..=most).contains(number))
+            .ok_or_else(|| Fault::new(format!("--{name} {value}: not between {least} and {most}")))
+    }
+
+    /// The bytes of the file that an option names.
+    pub fn file(&self, name: &str) -> Done<Vec<u8>> {
+        let path = self.need(name)?;
+        fs::read(path).trying(|| format!("--{name} {path}"))
+    }
+
+    /// A password: the first line of the file that an option names, if it is given.
+    pub fn password(&self, name: &str) -> Done<Option<String>> {
+        let Some(path) = self.get(name) else {
+            return Ok(None);
+        };
+        let text = fs::read_to_string(path).trying(|| format!("--{name} {path}"))?;
+        let line = text.lines().next().unwrap_or_default().to_string();
+        if line.is_empty() || line.contains([' ', '\t']) {
+            return Err(Fault::new(format!(
+                "--{name} {path}: the first line is no password, or has blanks"
+            )));
+        }
+        Ok(Some(line))
+    }
+
+    /// The partitions of `--part P=HOST:PORT`.
+    pub fn parts(&self) -> Done<BTreeMap<u32, SocketAddr>> {
+        let mut parts = BTreeMap::new();
+        for value in self.all("part") {
+            let wrong = || Fault::new(format!("--part {value}: not of the form P=HOST:PORT"));
+            let (part, addr) = value.split_once('=').ok_or_else(wrong)?;
+            let part: u32 = part.parse().map_err(|_| wrong())?;
+            if part > 9999 {
+                return Err(Fault::new(format!(
+                    "--part {value}: a partition is at most 9999"
+                )));
+            }
+            if parts.insert(part, resolve(addr)?).is_some() {
+                return Err(Fault::new(format!("--part {part} is given twice")));
+            }
+        }
+        if parts.is_empty() {
+            return Err(Fault::new("--part P=HOST:PORT is missing"));
+        }
+        Ok(parts)
+    }
+}
+
+/// The first address of a name and a port.
+pub fn resolve(addr: &str) -> Done<SocketAddr> {
+    let found = addr.to_socket_addrs().trying(|| addr.to_string())?.next();
+    found.ok_or_else(|| Fault::new(format!("{addr}: no address")))
+}
+
+/// Runs a program: 0 if it is done, 1 if not, 2 if its words are wrong.
+pub fn run(usage: &Usage, program: impl FnOnce(&Args) -> Done<()>) -> ExitCode {
+    let words: Vec<String> = std::env::args().skip(1).collect();
+    if words.iter().any(|word| word == "--help" || word == "-h") {
+        print!("{}", usage.help);
+        return ExitCode::SUCCESS;
+    }
+    if words.iter().any(|word| word == "--version") {
+        println!(
+            "{} {} (squall {})",
+            usage.name,
+            env!("CARGO_PKG_VERSION"),
+            squall::version()
+        );
+        return ExitCode::SUCCESS;
+    }
+    let args = match Args::parse(&words, usage) {
+        Ok(args) => args,
+        Err(fault) => {
+            eprintln!("{}: {fault}; --help shows all options", usage.name);
+            return ExitCode::from(2);
+        }
+    };
+    match program(&args) {
+        Ok(()) => ExitCode::SUCCESS,
+        Err(fault) => {
+            eprintln!("{}: {fault}", usage.name);
+            ExitCode::FAILURE
+        }
+    }
+}
+
+#[cfg(test)]
+mod tests {
+    use super::*;
+
+    const USAGE: Usage = Usage {
+        name: "test",
+        help: "",
+        options: &["part", "chunk"],
+        flags: &["init"],
+    };
+
+    fn parse(words: &str) -> Done<Args> {
+        let words: Vec<String> = words.split_whitespace().map(String::from).collect();
+        Args::parse(&words, &USAGE)
+    }
+
+    #[test]
+    fn words_are_read() {
+        let args = parse("--part 1=127.0.0.1:7001 --init --part 2=127.0.0.1:7002 --chunk 5").unwrap();
+        assert!(args.has("init"));
+        assert_eq!(args.parts().unwrap().len(), 2);
+        assert_eq!(args.number("chunk", 200, 1, 1000).unwrap(), 5);
+    }
+
+    #[test]
+    fn wrong_words_are_refused() {
+        for words in ["init", "--nothing 1", "--chunk"] {
+            assert!(parse(words).is_err(), "{words}");
+        }
+        for words in ["--part 1", "--part x=127.0.0.1:1", "--part 10000=127.0.0.1:1", ""] {
+            assert!(parse(words).unwrap().parts().is_err(), "{words}");
+        }
+        assert!(parse("--chunk 0").unwrap().number("chunk", 1, 1, 9).is_err());
+    }
+}

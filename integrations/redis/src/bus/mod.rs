@@ -1,0 +1,12 @@
+//! What routers send each other, over a Redis server: frames on one stream, digests on another.
+//!
+//! A stream is trimmed, its server may lose its end, and a reader may miss any of it. So each node
+//! shows a digest of what it knows once a second, and a node that knows more answers with a repair.
+//! The answer waits a short time by chance. If another node answers first, it is dropped.
+
+mod entry;
+mod node;
+mod outbox;
+
+pub use node::{Counts, Node, Options};
+pub use outbox::{issue, report};

@@ -1,0 +1,310 @@
+//! A node of the bus: a router that hears all others.
+
+use super::entry::{Entry, Places, Streams};
+use super::outbox;
+use crate::conn::{Conn, Server};
+use crate::dice::Dice;
+use crate::faults;
+use crate::fault::Done;
+use squall::{Error, Router, View};
+use std::sync::atomic::{AtomicU64, Ordering::Relaxed, Ordering::SeqCst};
+use std::sync::{Arc, Condvar, Mutex, MutexGuard, PoisonError};
+use std::thread;
+use std::time::{Duration, Instant};
+
+/// Between two digests of a node.
+const ROUND: Duration = Duration::from_secs(1);
+/// Between two digests that are asked for at once.
+const AT_ONCE: Duration = Duration::from_millis(10);
+/// The longest pause before an answer, in microseconds.
+const PAUSE: u64 = 50_000;
+
+/// What a node needs to join.
+pub struct Options {
+    /// The server of the streams.
+    pub server: Server,
+    /// The name with which their names begin.
+    pub streams: String,
+    /// What the node is, as `proxy`. Its name also has digits by chance.
+    pub kind: &'static str,
+    /// The text of the plan of course 1.
+    pub plan: Vec<u8>,
+}
+
+/// What a node has counted.
+#[derive(Default)]
+pub struct Counts {
+    /// Frames that were taken.
+    pub taken: AtomicU64,
+    /// Entries that hold no frame.
+    pub refused: AtomicU64,
+    /// Frames of repairs that were sent.
+    pub repairs: AtomicU64,
+    /// Answers that were dropped, since another node answered.
+    pub dropped: AtomicU64,
+    /// Faults of the connection to the bus.
+    pub faults: AtomicU64,
+}
+
+/// A digest that is to be answered.
+struct Answer {
+    due: Instant,
+    id: String,
+    digest: Vec<u8>,
+}
+
+/// What is to be sent next.
+#[derive(Default)]
+struct Agenda {
+    is_wanted: bool,
+    answers: Vec<Answer>,
+}
+
+/// A node of the bus, which hears and answers in threads of its own.
+pub struct Node {
+    server: Server,
+    streams: Streams,
+    name: String,
+    router: Mutex<Router>,
+    /// The newest view. `views` is how many there were.
+    view: Mutex<View>,
+    views: AtomicU64,
+    agenda: Mutex<Agenda>,
+    speak: Condvar,
+    wakers: Mutex<Vec<Box<dyn Fn() + Send>>>,
+    sender: Mutex<Option<Conn>>,
+    /// What it has counted.
+    pub counts: Counts,
+}
+
+fn lock<T>(mutex: &Mutex<T>) -> MutexGuard<'_, T> {
+    mutex.lock().unwrap_or_else(PoisonError::into_inner)
+}
+
+impl Node {
+    /// Joins the bus. The node begins with course 1, which moves nothing, and with what the stream
+    /// still has.
+    ///
+    /// # Errors
+    ///
+    /// The text is no plan. That the bus can't be reached is none: the node tries on.
+    pub fn join(options: Options) -> Done<Arc<Node>> {
+        let router = Router::open(1, &options.plan, &options.plan)?;
+        let view = router.view()?;
+        let node = Arc::new(Node {
+            server: options.server,
+            streams: Streams::new(&options.streams),
+            name: format!("{}-{:016x}", options.kind, Dice::fresh().next()),
+            router: Mutex::new(router),
+            view: Mutex::new(view),
+            views: AtomicU64::new(1),
+            agenda: Mutex::new(Agenda {
+                is_wanted: true,
+                answers: Vec::new(),
+            }),
+            speak: Condvar::new(),
+            wakers: Mutex::default(),
+            sender: Mutex::new(None),
+            counts: Counts::default(),
+        });
+        node.run(Node::hear);
+        node.run(Node::answer);
+        Ok(node)
+    }
+
+    /// Does the work in a thread, and begins it again after a fault.
+    fn run(self: &Arc<Node>, work: fn(&Node) -> Done<()>) {
+        let node = self.clone();
+        thread::spawn(move || {
+            let mut last = String::new();
+            while let Err(fault) = work(&node) {
+                node.counts.faults.fetch_add(1, Relaxed);
+                let fault = fault.to_string();
+                if fault != last {
+                    eprintln!("bus: {fault}");
+                    last = fault;
+                }
+                thread::sleep(Duration::from_millis(200));
+                node.ask();
+            }
+        });
+    }
+
+    /// Calls the function after each change of the view, in a thread of the node.
+    pub fn on_news(&self, waker: impl Fn() + Send + 'static) {
+        lock(&self.wakers).push(Box::new(waker));
+    }
+
+    /// How many views there were. It rises after a view was changed.
+    pub fn views(&self) -> u64 {
+        self.views.load(SeqCst)
+    }
+
+    /// The newest view, and how many there were.
+    pub fn view(&self) -> (View, u64) {
+        let view = lock(&self.view);
+        (view.clone(), self.views())
+    }
+
+    /// Shows at once what this node knows, for others to tell it the rest.
+    pub fn ask(&self) {
+        lock(&self.agenda).is_wanted = true;
+        self.speak.notify_one();
+    }
+
+    /// Takes a report, and sends it to all nodes.
+    pub fn tell(&self, give: impl FnOnce(&mut Router) -> Result<(), Error>) -> Done<()> {
+        self.tell_frames(&outbox::report(give)?)
+    }
+
+    /// Takes frames, and sends them to all nodes.
+    pub fn tell_frames(&self, frames: &[Vec<u8>]) -> Done<()> {
+        {
+            let mut router = lock(&self.router);
+            for frame in frames {
+                router.hear(frame)?;
+            }
+            self.publish(&router)?;
+        }
+        self.send(|streams, conn| streams.write(conn, &self.name, frames, None))
+    }
+
+    /// Sends all that this node knows. A stream that is trimmed then has it at its end.
+    pub fn tell_all(&self) -> Done<()> {
+        let frames: Vec<_> = lock(&self.router).board()?.collect();
+        self.send(|streams, conn| streams.write(conn, &self.name, &frames, None))
+    }
+
+    fn publish(&self, router: &Router) -> Done<()> {
+        let view = router.view()?;
+        *lock(&self.view) = view;
+        self.views.fetch_add(1, SeqCst);
+        lock(&self.wakers).iter().for_each(|waker| waker());
+        Ok(())
+    }
+
+    fn send(&self, write: impl FnOnce(&Streams, &mut Conn) -> Done<()>) -> Done<()> {
+        let mut sender = lock(&self.sender);
+        let mut conn = match sender.take() {
+            Some(conn) => conn,
+            None => Conn::open(&self.server)?,
+        };
+        write(&self.streams, &mut conn)?;
+        *sender = Some(conn);
+        Ok(())
+    }
+
+    /// Hears others, for ever. A new connection begins with all frames that the stream still has.
+    fn hear(&self) -> Done<()> {
+        let mut conn = Conn::open(&self.server)?;
+        let mut places: Places = self.streams.begin(&mut conn)?;
+        let mut dice = Dice::fresh();
+        let misses = faults::misses();
+        loop {
+            let (mut frames, mut digests) = self.streams.read(&mut conn, &mut places)?;
+            let mut is_heard =
+                |entry: &Entry| entry.from != self.name && dice.below(100) >= misses;
+            frames.retain(&mut is_heard);
+            digests.retain(&mut is_heard);
+            self.take(&frames)?;
+            self.consider(&frames, digests, &mut dice);
+        }
+    }
+
+    /// Takes frames. One that is none changes nothing.
+    fn take(&self, frames: &[Entry]) -> Done<()> {
+        if frames.is_empty() {
+            return Ok(());
+        }
+        let mut router = lock(&self.router);
+        for entry in frames {
+            match router.hear(&entry.frame) {
+                Ok(()) => self.counts.taken.fetch_add(1, Relaxed),
+                Err(Error::Frame(_)) => self.counts.refused.fetch_add(1, Relaxed),
+                Err(error) => return Err(error.into()),
+            };
+        }
+        self.publish(&router)
+    }
+
+    /// Plans the answers to digests, and drops those that others gave.
+    fn consider(&self, frames: &[Entry], digests: Vec<Entry>, dice: &mut Dice) {
+        let given: Vec<&String> = frames.iter().filter_map(|it| it.re.as_ref()).collect();
+        if given.is_empty() && digests.is_empty() {
+            return;
+        }
+        let now = Instant::now();
+        let mut agenda = lock(&self.agenda);
+        agenda.answers.extend(digests.into_iter().map(|entry| Answer {
+            due: now + Duration::from_micros(dice.below(PAUSE)),
+            id: entry.id,
+            digest: entry.frame,
+        }));
+        let before = agenda.answers.len();
+        agenda.answers.retain(|answer| !given.contains(&&answer.id));
+        let dropped = before - agenda.answers.len();
+        self.counts.dropped.fetch_add(dropped as u64, Relaxed);
+        self.speak.notify_one();
+    }
+
+    /// Shows a digest each second and when it is wanted, and answers those of others, for ever.
+    fn answer(&self) -> Done<()> {
+        let mut shown = Instant::now();
+        let mut pause = AT_ONCE;
+        loop {
+            let due = self.wait(shown, pause);
+            if shown.elapsed() >= AT_ONCE && (due.is_none() || shown.elapsed() >= ROUND) {
+                let digest: Vec<_> = lock(&self.router).digest()?.collect();
+                self.send(|streams, conn| streams.show(conn, &self.name, &digest))?;
+                shown = Instant::now();
+                pause = ROUND;
+            }
+            for answer in due.into_iter().flatten() {
+                self.repair(&answer)?;
+            }
+        }
+    }
+
+    /// Waits until answers are due, or for nothing if a digest is.
+    fn wait(&self, shown: Instant, pause: Duration) -> Option<Vec<Answer>> {
+        let mut agenda = lock(&self.agenda);
+        loop {
+            let now = Instant::now();
+            let (due, later) = std::mem::take(&mut agenda.answers)
+                .into_iter()
+                .partition(|answer| answer.due <= now);
+            agenda.answers = later;
+            if !Vec::is_empty(&due) {
+                return Some(due);
+            }
+            let next = shown + if agenda.is_wanted { AT_ONCE } else { pause };
+            if next <= now {
+                agenda.is_wanted = false;
+                return None;
+            }
+            let until = agenda.answers.iter().map(|answer| answer.due).fold(next, Instant::min);
+            let waited = self.speak.wait_timeout(agenda, until - now);
+            agenda = waited.unwrap_or_else(PoisonError::into_inner).0;
+        }
+    }
+
+    /// Answers a digest, if this node knows more.
+    fn repair(&self, answer: &Answer) -> Done<()> {
+        let repair: Vec<_> = {
+            let mut router = lock(&self.router);
+            match router.hear(&answer.digest) {
+                Err(Error::Frame(_)) => {
+                    self.counts.refused.fetch_add(1, Relaxed);
+                    return Ok(());
+                }
+                heard => heard?,
+            }
+            match router.repair() {
+                Err(Error::NoDigest) => return Ok(()),
+                frames => frames?.collect(),
+            }
+        };
+        self.counts.repairs.fetch_add(repair.len() as u64, Relaxed);
+        self.send(|streams, conn| streams.write(conn, &self.name, &repair, Some(&answer.id)))
+    }
+}

@@ -1,0 +1,115 @@
+//! A connection that waits for each answer, for all but the proxy's clients.
+
+use crate::fault::{Done, Fault, Trying};
+use crate::resp::{push, Scan, Value};
+use std::io::{Read, Write};
+use std::net::{SocketAddr, TcpStream};
+use std::time::Duration;
+
+/// Where a server is, and how it lets a program in.
+#[derive(Clone)]
+pub struct Server {
+    /// Its address.
+    pub addr: SocketAddr,
+    /// The password of the default user, if it has one.
+    pub password: Option<String>,
+}
+
+/// How long a server may take for an answer.
+const PATIENCE: Duration = Duration::from_secs(30);
+
+/// A connection to a server. Commands are put into its buffer, sent at once, and answered in order.
+pub struct Conn {
+    addr: SocketAddr,
+    stream: TcpStream,
+    out: Vec<u8>,
+    heard: Vec<u8>,
+    at: usize,
+    scan: Scan,
+}
+
+impl Conn {
+    /// Connects, and logs in if the server needs a password.
+    pub fn open(server: &Server) -> Done<Conn> {
+        let addr = server.addr;
+        let stream = TcpStream::connect_timeout(&addr, Duration::from_secs(5))
+            .trying(|| format!("to connect to {addr}"))?;
+        stream.set_nodelay(true)?;
+        stream.set_read_timeout(Some(PATIENCE))?;
+        stream.set_write_timeout(Some(PATIENCE))?;
+        let mut conn = Conn {
+            addr,
+            stream,
+            out: Vec::new(),
+            heard: Vec::new(),
+            at: 0,
+            scan: Scan::default(),
+        };
+        if let Some(password) = &server.password {
+            conn.ask(&["AUTH", password])?;
+        }
+        Ok(conn)
+    }
+
+    /// Puts a command.
+    pub fn put<W: AsRef<[u8]>>(&mut self, words: &[W]) {
+        push(&mut self.out, words);
+    }
+
+    /// Sends what was put.
+    pub fn flush(&mut self) -> Done<()> {
+        let sent = self.stream.write_all(&self.out);
+        self.out.clear();
+        sent.trying(|| format!("to send to {}", self.addr))
+    }
+
+    /// The next answer.
+    pub fn hear(&mut self) -> Done<Value> {
+        loop {
+            let rest = &self.heard[self.at..];
+            let end = self.scan.read(rest);
+            if let Some(len) = end.trying(|| format!("from {}", self.addr))? {
+                let value = Value::read(&rest[..len]).trying(|| format!("from {}", self.addr))?;
+                self.at += len;
+                let wrong = || Fault::new(format!("from {}: no whole answer", self.addr));
+                return Ok(value.ok_or_else(wrong)?.0);
+            }
+            self.heard.drain(..self.at);
+            self.at = 0;
+            self.receive()?;
+        }
+    }
+
+    fn receive(&mut self) -> Done<()> {
+        let mut block = [0; 16384];
+        let got = self.stream.read(&mut block);
+        match got.trying(|| format!("to hear from {}", self.addr))? {
+            0 => Err(Fault::new(format!("{} has closed", self.addr))),
+            got => {
+                self.heard.extend_from_slice(&block[..got]);
+                Ok(())
+            }
+        }
+    }
+
+    /// Sends what was put, and hears that many answers.
+    pub fn hear_all(&mut self, count: usize) -> Done<Vec<Value>> {
+        self.flush()?;
+        (0..count).map(|_| self.hear()).collect()
+    }
+
+    /// Sends one command and hears its answer. An answer that is an error is a fault.
+    pub fn ask<W: AsRef<[u8]>>(&mut self, words: &[W]) -> Done<Value> {
+        self.put(words);
+        self.flush()?;
+        match self.hear()? {
+            Value::Error(text) => Err(Fault::new(format!("{}: {text}", self.addr))),
+            value => Ok(value),
+        }
+    }
+
+    /// How long an answer may take from now on.
+    pub fn set_patience(&mut self, patience: Duration) -> Done<()> {
+        Ok(self.stream.set_read_timeout(Some(patience))?)
+    }
+}

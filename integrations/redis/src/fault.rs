@@ -1,0 +1,50 @@
+//! Why a program can't go on, in words for its operator.
+
+use std::fmt;
+use std::io;
+
+/// Why a program can't go on.
+#[derive(Debug)]
+pub struct Fault(String);
+
+/// What is done, or why not.
+pub type Done<T> = Result<T, Fault>;
+
+impl Fault {
+    /// A fault of these words.
+    pub fn new(words: impl Into<String>) -> Fault {
+        Fault(words.into())
+    }
+}
+
+impl fmt::Display for Fault {
+    fn fmt(&self, f: &mut fmt::Formatter<'_>) -> fmt::Result {
+        f.write_str(&self.0)
+    }
+}
+
+impl std::error::Error for Fault {}
+
+impl From<io::Error> for Fault {
+    fn from(error: io::Error) -> Fault {
+        Fault(error.to_string())
+    }
+}
+
+impl From<squall::Error> for Fault {
+    fn from(error: squall::Error) -> Fault {
+        Fault(error.to_string())
+    }
+}
+
+/// Says of an error what was tried.
+pub trait Trying<T> {
+    /// The same result. An error begins with the words of `what`.
+    fn trying(self, what: impl FnOnce() -> String) -> Done<T>;
+}
+
+impl<T, E: fmt::Display> Trying<T> for Result<T, E> {
+    fn trying(self, what: impl FnOnce() -> String) -> Done<T> {
+        self.map_err(|error| Fault(format!("{}: {error}", what())))
+    }
+}

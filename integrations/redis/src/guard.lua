@@ -1,0 +1,258 @@
+#!lua name=squall
+-- What a partition knows of the course under way. PROTOCOL.md says what each function is for.
+--
+-- squall:number  the course's number
+-- squall:old     its plans, as the mover writes them: the bound at which each range ends, and its
+-- squall:new     partition
+-- squall:moves   a list, one text for each move by rising key: LO HI ROLE PEER. LO and HI are ranks of
+--                16 hexadecimal digits. ROLE is out, in or none. PEER is the partition at the other end
+--                of the move, or its source if ROLE is none
+-- squall:edge    of a move's LO the rank below which its keys were given (out) or loaded (in)
+-- squall:forgot  of a move's LO the rank below which the source has unlinked what it gave
+--
+-- Nothing but these functions changes these keys. So what was read of them is kept from call to call.
+-- A server that loads its data again loads this library again too, and reads them anew.
+local kept = nil
+
+local function read_move(text)
+  local lo, hi, role, peer = string.match(text, '^(%x+) (%x+) (%a+) (%d+)$')
+  return {
+    lo = lo, hi = hi, role = role, peer = peer,
+    edge = redis.call('HGET', 'squall:edge', lo) or lo,
+    forgot = redis.call('HGET', 'squall:forgot', lo) or lo,
+  }
+end
+
+local function known()
+  if not kept then
+    local moves = {}
+    for _, text in ipairs(redis.call('LRANGE', 'squall:moves', 0, -1)) do
+      moves[#moves + 1] = read_move(text)
+    end
+    kept = { number = redis.call('GET', 'squall:number') or '0', moves = moves }
+  end
+  return kept
+end
+
+local function refuse(text)
+  return redis.error_reply('SQUALL ' .. text)
+end
+
+-- The last move that begins at the rank or before it.
+local function move_at(course, rank)
+  local first, after = 1, #course.moves + 1
+  while first < after do
+    local middle = math.floor((first + after) / 2)
+    if course.moves[middle].lo <= rank then
+      first = middle + 1
+    else
+      after = middle
+    end
+  end
+  local move = course.moves[first - 1]
+  if move and rank < move.hi then
+    return move
+  end
+end
+
+-- Where a key is, if it is not here.
+local function say(course, rank)
+  local move = move_at(course, rank)
+  if not move then
+    return nil
+  elseif move.role == 'none' then
+    return 'ELSEWHERE ' .. move.peer
+  elseif move.role == 'out' and rank < move.edge then
+    return 'MOVED ' .. move.peer .. ' ' .. course.number
+  elseif move.role == 'in' and rank >= move.edge then
+    return 'PENDING ' .. move.peer
+  end
+end
+
+-- The same of several keys. If only some of them are here, or they are in several places, SPLIT.
+local function say_all(course, args, first, last)
+  local said = say(course, args[first])
+  for at = first + 1, last do
+    local next = say(course, args[at])
+    if next ~= said then
+      return 'SPLIT'
+    end
+  end
+  return said
+end
+
+-- A number from 2^53 on is not exact in Lua. The key still has its digits.
+local function exact(reply, command, key, field)
+  if type(reply) ~= 'number' or math.abs(reply) < 9007199254740992 then
+    return reply
+  end
+  local name = string.upper(command)
+  if name == 'HINCRBY' then
+    return redis.status_reply('SQUALL INT ' .. redis.call('HGET', key, field))
+  elseif name == 'INCR' or name == 'INCRBY' or name == 'DECR' or name == 'DECRBY' then
+    return redis.status_reply('SQUALL INT ' .. redis.call('GET', key))
+  end
+  return reply
+end
+
+-- NUMBER PROTO COUNT RANK.. COMMAND..: does a command on keys of these ranks, or says where they are.
+redis.register_function('squall_do', function(_, args)
+  local course = known()
+  if args[1] ~= course.number then
+    return refuse('COURSE ' .. course.number)
+  end
+  local first = 4 + tonumber(args[3])
+  local said = say_all(course, args, 4, first - 1)
+  if said then
+    return refuse(said)
+  end
+  if args[2] == '3' then
+    redis.setresp(3)
+  end
+  return exact(redis.pcall(unpack(args, first)), args[first], args[first + 1], args[first + 2])
+end)
+
+-- NUMBER: each move of that course as LO HI ROLE PEER EDGE FORGOT.
+redis.register_function('squall_moves', function(_, args)
+  local course = known()
+  if args[1] ~= course.number then
+    return refuse('COURSE ' .. course.number)
+  end
+  local lines = {}
+  for at, move in ipairs(course.moves) do
+    lines[at] = table.concat({ move.lo, move.hi, move.role, move.peer, move.edge, move.forgot }, ' ')
+  end
+  return lines
+end)
+
+-- The first move that is not over: not given and forgotten here, or not loaded.
+local function unfinished(course)
+  for _, move in ipairs(course.moves) do
+    local is_out = move.role == 'out'
+    if move.role ~= 'none' and (move.edge < move.hi or is_out and move.forgot < move.hi) then
+      return move
+    end
+  end
+end
+
+local function is_same(course, args)
+  for at, move in ipairs(course.moves) do
+    if args[4 + at] ~= table.concat({ move.lo, move.hi, move.role, move.peer }, ' ') then
+      return false
+    end
+  end
+  return #args == 4 + #course.moves and redis.call('GET', 'squall:old') == args[2]
+    and redis.call('GET', 'squall:new') == args[3]
+end
+
+-- Why a course may not begin here.
+local function fault(course, args)
+  local number, known_number = tonumber(args[1]), tonumber(course.number)
+  local move = unfinished(course)
+  if number < known_number then
+    return 'LATE ' .. course.number
+  elseif move then
+    return 'RUNNING ' .. course.number .. ' ' .. move.lo
+  elseif args[4] == 'fresh' then
+    return nil
+  elseif known_number == 0 then
+    return 'EMPTY'
+  elseif number > known_number + 1 then
+    return 'GAP ' .. course.number
+  elseif redis.call('GET', 'squall:new') ~= args[2] then
+    return 'OTHER ' .. course.number
+  end
+end
+
+-- The same arguments as squall_begin has: whether it would begin, or why not.
+redis.register_function('squall_may_begin', function(_, args)
+  local course = known()
+  if args[1] == course.number then
+    return is_same(course, args) and redis.status_reply('again') or refuse('CLASH ' .. course.number)
+  end
+  local why = fault(course, args)
+  return why and refuse(why) or redis.status_reply('fresh')
+end)
+
+-- NUMBER OLD NEW fresh|known MOVE..: begins a course. One that has begun stays as it is. A partition
+-- that the old plan does not name has no keys, and may be fresh.
+redis.register_function('squall_begin', function(_, args)
+  local course = known()
+  if args[1] == course.number then
+    return is_same(course, args) and redis.status_reply('again') or refuse('CLASH ' .. course.number)
+  end
+  local why = fault(course, args)
+  if why then
+    return refuse(why)
+  end
+  kept = nil
+  redis.call('DEL', 'squall:moves', 'squall:edge', 'squall:forgot')
+  redis.call('MSET', 'squall:number', args[1], 'squall:old', args[2], 'squall:new', args[3])
+  for at = 5, #args do
+    redis.call('RPUSH', 'squall:moves', args[at])
+  end
+  return redis.status_reply('begun')
+end)
+
+-- The move that begins at LO, if NUMBER is that of the course and it has that role.
+local function own_move(args, role)
+  local course = known()
+  if args[1] ~= course.number then
+    return nil, refuse('COURSE ' .. course.number)
+  end
+  local move = move_at(course, args[2])
+  if not move or move.lo ~= args[2] or move.role ~= role then
+    return nil, refuse('STRANGER')
+  end
+  return move
+end
+
+local function raise(move, name, key, edge)
+  if edge > move[name] then
+    redis.call('HSET', key, move.lo, edge)
+    move[name] = edge
+  end
+  return redis.status_reply(move[name])
+end
+
+-- NUMBER LO EDGE: the keys of the move from LO on, below EDGE, are given. Never undone.
+redis.register_function('squall_give', function(_, args)
+  local move, refused = own_move(args, 'out')
+  return refused or raise(move, 'edge', 'squall:edge', args[3])
+end)
+
+-- NUMBER LO EDGE: they are loaded. Never undone.
+redis.register_function('squall_load', function(_, args)
+  local move, refused = own_move(args, 'in')
+  return refused or raise(move, 'edge', 'squall:edge', args[3])
+end)
+
+-- A key; NUMBER RANK, when it ends, and its DUMP: puts it where it comes to, unless it was loaded.
+redis.register_function('squall_put', function(keys, args)
+  local course = known()
+  if args[1] ~= course.number then
+    return refuse('COURSE ' .. course.number)
+  end
+  local move = move_at(course, args[2])
+  if not move or move.role ~= 'in' then
+    return refuse('STRANGER')
+  elseif args[2] < move.edge then
+    return redis.status_reply('loaded')
+  end
+  redis.call('RESTORE', keys[1], args[3], args[4], 'REPLACE', 'ABSTTL')
+  return redis.status_reply('put')
+end)
+
+-- Keys that were given and loaded; NUMBER LO EDGE: unlinks them. All below EDGE are forgotten then.
+redis.register_function('squall_forget', function(keys, args)
+  local move, refused = own_move(args, 'out')
+  if refused then
+    return refused
+  elseif args[3] > move.edge then
+    return refuse('STRANGER')
+  end
+  for _, key in ipairs(keys) do
+    redis.call('UNLINK', key)
+  end
+  return raise(move, 'forgot', 'squall:forgot', args[3])
+end)

@@ -1,0 +1,27 @@
+//! A routing proxy and a mover over plain Redis servers.
+//!
+//! Each partition is a redis-server. [`keymap`] says which key of squall a Redis key belongs to, the
+//! functions in `guard.lua` make a server say whether it holds a key, and [`bus`] carries what routers
+//! know over Redis streams. `integrations/PROTOCOL.md` says how these work together.
+
+pub mod args;
+pub mod bus;
+pub mod conn;
+pub mod course;
+pub mod dice;
+pub mod fault;
+pub mod faults;
+pub mod keymap;
+pub mod mover;
+pub mod resp;
+
+/// The functions of a partition.
+pub const GUARD: &str = include_str!("guard.lua");
+
+/// The password of the users `squall-N`, if none is given.
+pub const DEFAULT_SECRET: &str = "squall";
+
+/// The user as which a router of the course `number` logs in at a partition.
+pub fn user(number: impl std::fmt::Display) -> String {
+    format!("squall-{number}")
+}

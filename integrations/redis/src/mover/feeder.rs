@@ -1,0 +1,142 @@
+//! The moves of one source in a sub-plan, chunk by chunk.
+
+use super::index::{Index, Ranked};
+use super::partition::Partition;
+use super::progress::Progress;
+use crate::bus::Node;
+use crate::conn::Server;
+use crate::course::Move;
+use crate::fault::{Done, Fault};
+use crate::resp::Value;
+use squall::Rank;
+use std::collections::BTreeMap;
+use std::thread;
+use std::time::Duration;
+
+/// What all sources of a course share.
+pub struct Job<'a> {
+    /// The course's number.
+    pub number: u32,
+    /// Where the partitions are.
+    pub servers: &'a BTreeMap<u32, Server>,
+    /// Where reports are sent.
+    pub bus: &'a Node,
+    /// What is shown.
+    pub progress: &'a Progress,
+    /// How many keys a chunk has.
+    pub chunk: usize,
+    /// The pause after each chunk.
+    pub pause: Duration,
+}
+
+/// How many keys are copied at once.
+const BLOCK: usize = 64;
+/// How many chunks are reported before the whole board is sent.
+const CHUNKS: usize = 1000;
+
+/// A source and its one destination.
+struct Feeder<'a> {
+    job: &'a Job<'a>,
+    source: Partition,
+    dest: Partition,
+    index: Index,
+    chunks: usize,
+}
+
+impl Job<'_> {
+    /// Moves what the moves say, which have one source and one destination.
+    pub fn feed(&self, moves: &[Move]) -> Done<()> {
+        let Some(first) = moves.first() else {
+            return Ok(());
+        };
+        let server = self.server(first.source)?;
+        let mut feeder = Feeder {
+            job: self,
+            source: Partition::open(first.source, server, self.number)?,
+            dest: Partition::open(first.dest, self.server(first.dest)?, self.number)?,
+            index: Index::new(server, moves)?,
+            chunks: 0,
+        };
+        self.progress.expect(feeder.index.len());
+        moves.iter().try_for_each(|it| feeder.run(it))
+    }
+
+    fn server(&self, part: u32) -> Done<&Server> {
+        let server = self.servers.get(&part);
+        server.ok_or_else(|| Fault::new(format!("partition {part} has no address")))
+    }
+}
+
+impl Feeder<'_> {
+    /// One move. What an earlier run has done is not done again.
+    fn run(&mut self, it: &Move) -> Done<()> {
+        let mut loaded = self.dest.edges(it)?.edge;
+        let mut forgot = self.source.edges(it)?.forgot;
+        if loaded > it.lo {
+            self.report(it, it.lo..loaded)?;
+        }
+        loop {
+            self.index.listen()?;
+            let keys = self.index.take(forgot..loaded);
+            self.source.forget(it, &keys, loaded)?;
+            self.job.progress.forgot(keys.len());
+            forgot = loaded;
+            if loaded >= it.hi {
+                return Ok(());
+            }
+            loaded = self.chunk(it, loaded)?;
+            thread::sleep(self.job.pause);
+        }
+    }
+
+    /// The next chunk, which begins at `lo`: where keys are loaded now.
+    fn chunk(&mut self, it: &Move, lo: Rank) -> Done<Rank> {
+        let wanted = self.index.cut(lo, it.hi, self.job.chunk);
+        let hi = self.source.give(it, wanted)?;
+        // From now on the source serves no key of the chunk, and no new one comes.
+        self.index.listen()?;
+        let keys = self.index.keys(lo..hi);
+        for block in keys.chunks(BLOCK) {
+            self.copy(block)?;
+        }
+        let loaded = self.dest.load(it, hi)?;
+        self.report(it, lo..hi)?;
+        Ok(loaded)
+    }
+
+    fn report(&mut self, it: &Move, keys: std::ops::Range<Rank>) -> Done<()> {
+        let (number, sub, dest) = (self.job.number, it.sub, it.dest);
+        self.job.bus.tell(|router| router.loaded(number, sub, dest, keys))?;
+        self.chunks += 1;
+        if self.chunks % CHUNKS == 0 {
+            self.job.bus.tell_all()?;
+        }
+        Ok(())
+    }
+
+    /// Puts keys where they come to. Their clients wait meanwhile.
+    fn copy(&mut self, keys: &[Ranked]) -> Done<()> {
+        for (_, key) in keys {
+            self.source.conn.put(&[b"DUMP", key.as_slice()]);
+            self.source.conn.put(&[b"PEXPIRETIME", key.as_slice()]);
+        }
+        let said = self.source.conn.hear_all(2 * keys.len())?;
+        let mut count = 0;
+        for ((rank, key), said) in keys.iter().zip(said.chunks(2)) {
+            match said {
+                [Value::Bulk(dump), Value::Int(ends)] => self.dest.put(key, *rank, *ends, dump),
+                // It has ended, was deleted, or another mover has loaded it and forgotten it here.
+                [Value::Nil, _] => continue,
+                [Value::Error(error), _] => return Err(self.source.explain(error)),
+                _ => return Err(Fault::new("a dump of another form")),
+            }
+            count += 1;
+        }
+        for answer in self.dest.conn.hear_all(count)? {
+            if let Value::Error(error) = answer {
+                return Err(self.dest.explain(&error));
+            }
+        }
+        Ok(())
+    }
+}

@@ -1,0 +1,133 @@
+//! Which keys of a source move.
+
+use crate::conn::{Conn, Server};
+use crate::course::Move;
+use crate::fault::{Done, Fault};
+use crate::faults;
+use crate::keymap;
+use crate::resp::Value;
+use squall::Rank;
+use std::collections::{BTreeMap, BTreeSet};
+use std::ops::Range;
+
+/// A Redis key and the rank of its key.
+pub type Ranked = (Rank, Vec<u8>);
+
+/// The Redis keys of a source that move in a sub-plan, by rank.
+///
+/// A scan finds those that are there, and the server sends the names of those that are new. It was
+/// asked for these before the scan began, so none is missed.
+pub struct Index {
+    news: Conn,
+    keys: BTreeMap<Rank, BTreeSet<Vec<u8>>>,
+    count: usize,
+    spans: Vec<Range<Rank>>,
+}
+
+impl Index {
+    /// The keys of these moves, which all go from one source.
+    pub fn new(server: &Server, moves: &[Move]) -> Done<Index> {
+        let mut news = Conn::open(server)?;
+        want_news(&mut news)?;
+        news.ask(&["SUBSCRIBE", "__keyevent@0__:new"])?;
+        let mut index = Index {
+            news,
+            keys: BTreeMap::new(),
+            count: 0,
+            spans: moves.iter().map(|it| it.lo..it.hi).collect(),
+        };
+        scan(&mut Conn::open(server)?, |key| index.add(key))?;
+        Ok(index)
+    }
+
+    fn add(&mut self, key: Vec<u8>) {
+        let rank = keymap::rank(&key);
+        let is_moved = self.spans.iter().any(|span| span.contains(&rank));
+        if is_moved && !is_own(&key) && self.keys.entry(rank).or_default().insert(key) {
+            self.count += 1;
+        }
+    }
+
+    /// Adds all keys that were new before this call.
+    pub fn listen(&mut self) -> Done<()> {
+        self.news.put(&["PING"]);
+        self.news.flush()?;
+        loop {
+            let mut said = self.news.hear()?.list();
+            match (said.pop(), said.len()) {
+                (Some(Value::Bulk(key)), 2) if !faults::is_on("miss-new-keys") => self.add(key),
+                (Some(_), 2) => {}
+                (Some(_), 1) => return Ok(()),
+                _ => return Err(Fault::new("the source sends no news of new keys")),
+            }
+        }
+    }
+
+    /// How many keys are known.
+    pub fn len(&self) -> usize {
+        self.count
+    }
+
+    /// Where a chunk of about that many Redis keys ends, which begins at `lo`, and ends at `hi` at
+    /// the latest. Keys of one rank are in one chunk.
+    pub fn cut(&self, lo: Rank, hi: Rank, count: usize) -> Rank {
+        let mut left = count;
+        for (&rank, keys) in self.keys.range(lo..hi) {
+            if left == 0 {
+                return rank;
+            }
+            left = left.saturating_sub(keys.len());
+        }
+        hi
+    }
+
+    /// The keys of a span.
+    pub fn keys(&self, span: Range<Rank>) -> Vec<Ranked> {
+        let found = self.keys.range(span);
+        found
+            .flat_map(|(&rank, keys)| keys.iter().map(move |key| (rank, key.clone())))
+            .collect()
+    }
+
+    /// Takes the keys of a span away.
+    pub fn take(&mut self, span: Range<Rank>) -> Vec<Vec<u8>> {
+        let mut rest = self.keys.split_off(&span.start);
+        let mut after = rest.split_off(&span.end);
+        self.keys.append(&mut after);
+        let keys: Vec<_> = rest.into_values().flatten().collect();
+        self.count -= keys.len();
+        keys
+    }
+}
+
+/// Whether a Redis key is one of the partition's own.
+pub fn is_own(key: &[u8]) -> bool {
+    key.starts_with(b"squall:")
+}
+
+/// Adds to the events that the server sends those of new keys.
+fn want_news(conn: &mut Conn) -> Done<()> {
+    let name = "notify-keyspace-events";
+    let answer = conn.ask(&["CONFIG", "GET", name])?.list().pop();
+    let before = answer.map_or(String::new(), Value::text);
+    let missing = ['E', 'n'].iter().filter(|&&it| !before.contains(it));
+    let wanted: String = before.chars().chain(missing.copied()).collect();
+    if wanted != before {
+        conn.ask(&["CONFIG", "SET", name, &wanted])?;
+    }
+    Ok(())
+}
+
+/// Calls the function with each Redis key of a server.
+pub fn scan(conn: &mut Conn, mut found: impl FnMut(Vec<u8>)) -> Done<()> {
+    let mut cursor = "0".to_string();
+    loop {
+        let mut page = conn.ask(&["SCAN", &cursor, "COUNT", "1000"])?.list();
+        let keys = page.pop().map_or(Vec::new(), Value::list);
+        cursor = page.pop().map_or("0".to_string(), Value::text);
+        keys.into_iter().for_each(|key| found(key.bytes()));
+        if cursor == "0" {
+            return Ok(());
+        }
+    }
+}

@@ -1,0 +1,234 @@
+//! The mover: begins a course at each partition, moves its keys chunk by chunk, and reports them.
+
+mod feeder;
+mod index;
+mod partition;
+mod progress;
+
+use crate::args::{Args, Usage};
+use crate::bus::{self, Node, Options};
+use crate::conn::{Conn, Server};
+use crate::course::{self, Move, Plan};
+use crate::fault::{Done, Fault, Trying};
+use crate::{faults, keymap, DEFAULT_SECRET};
+use feeder::Job;
+use partition::{Beginning, Partition};
+use progress::Progress;
+use std::collections::{BTreeMap, BTreeSet};
+use std::thread;
+use std::time::Duration;
+
+/// What the program is.
+pub const USAGE: Usage = Usage {
+    name: "squall-redis-mover",
+    help: include_str!("help.txt"),
+    options: &[
+        "number", "old", "new", "first", "bus", "bus-password-file", "streams", "part", "password-file",
+        "secret-file", "chunk", "pause", "squall",
+    ],
+    flags: &["init", "dry-run"],
+};
+
+/// A pause between the issue and the fence, in which routers hear of the course.
+const NOTICE: Duration = Duration::from_millis(30);
+
+/// A course and its partitions.
+struct Mover {
+    number: u32,
+    old: Plan,
+    new: Plan,
+    moves: Vec<Move>,
+    servers: BTreeMap<u32, Server>,
+    secret: String,
+}
+
+/// Runs the program.
+pub fn run(args: &Args) -> Done<()> {
+    if args.has("init") {
+        let plan = args.file("first")?;
+        let (old, new) = (Plan::read(plan.clone())?, Plan::read(plan)?);
+        let mover = Mover::new(args, 1, (old, new), Vec::new())?;
+        mover.begin()?;
+        mover.fence()?;
+        println!("course 1 has begun at {} partitions", mover.servers.len());
+        return Ok(());
+    }
+    let (old, new) = (args.need("old")?, args.need("new")?);
+    let plans = (
+        Plan::read(args.file("old")?).trying(|| format!("--old {old}"))?,
+        Plan::read(args.file("new")?).trying(|| format!("--new {new}"))?,
+    );
+    let moves = course::moves(args.get("squall").unwrap_or("squall"), old, new)?;
+    args.need("number")?;
+    let number = args.number("number", 0, 2, u64::from(u32::MAX))? as u32;
+    let mover = Mover::new(args, number, plans, moves)?;
+    if args.has("dry-run") {
+        return mover.preview();
+    }
+    mover.run(args)
+}
+
+impl Mover {
+    fn new(args: &Args, number: u32, (old, new): (Plan, Plan), moves: Vec<Move>) -> Done<Mover> {
+        let password = args.password("password-file")?;
+        let addrs = args.parts()?;
+        for part in old.parts.union(&new.parts) {
+            if !addrs.contains_key(part) {
+                return Err(Fault::new(format!(
+                    "a plan names partition {part}, which has no address: --part {part}=HOST:PORT is missing"
+                )));
+            }
+        }
+        let server = |addr| Server {
+            addr,
+            password: password.clone(),
+        };
+        Ok(Mover {
+            number,
+            old,
+            new,
+            moves,
+            servers: addrs.into_iter().map(|(part, addr)| (part, server(addr))).collect(),
+            secret: args.password("secret-file")?.unwrap_or(DEFAULT_SECRET.into()),
+        })
+    }
+
+    /// Moves all, from wherever an earlier run has stopped.
+    fn run(&self, args: &Args) -> Done<()> {
+        let bus = Node::join(Options {
+            server: Server {
+                addr: crate::args::resolve(args.need("bus")?)?,
+                password: args.password("bus-password-file")?,
+            },
+            streams: args.get("streams").unwrap_or("squall").to_string(),
+            kind: "mover",
+            plan: args.file("first")?,
+        })?;
+        let issue = bus::issue(self.number, &self.old.text, &self.new.text)?;
+        let progress = Progress::new();
+        let job = Job {
+            number: self.number,
+            servers: &self.servers,
+            bus: &bus,
+            progress: &progress,
+            chunk: args.number("chunk", 100, 1, 1_000_000)? as usize,
+            pause: Duration::from_millis(args.number("pause", 5, 0, 3_600_000)?),
+        };
+        self.begin()?;
+        bus.tell_frames(&issue)?;
+        thread::sleep(NOTICE);
+        self.fence()?;
+        let moved = thread::scope(|scope| {
+            scope.spawn(|| progress.show());
+            let moved = self.sub_plans(&job);
+            progress.finish();
+            moved
+        });
+        moved?;
+        bus.tell_all()?;
+        println!(
+            "course {}: moved {} keys in {:.1} s",
+            self.number,
+            progress.moved(),
+            progress.took().as_secs_f64()
+        );
+        Ok(())
+    }
+
+    /// All partitions, those of the old plan first. The first one decides between two movers that
+    /// draw one number.
+    fn partitions(&self) -> Done<Vec<Partition>> {
+        let (first, rest): (Vec<_>, Vec<_>) =
+            self.servers.iter().partition(|(part, _)| self.old.parts.contains(part));
+        let all = first.into_iter().chain(rest);
+        all.map(|(&part, server)| Partition::open(part, server, self.number))
+            .collect()
+    }
+
+    /// Begins the course at each partition, which then lets in routers of it. Those of the course
+    /// before are let in too. If a partition refuses, nothing has begun, but for two movers at once.
+    fn begin(&self) -> Done<()> {
+        let mut partitions = self.partitions()?;
+        let beginning = |part| Beginning {
+            old: &self.old.ranges,
+            new: &self.new.ranges,
+            is_fresh: self.number == 1 || !self.old.parts.contains(&part),
+            moves: &self.moves,
+        };
+        for partition in &mut partitions {
+            partition.prepare()?;
+            partition.may_begin(&beginning(partition.part))?;
+        }
+        for partition in &mut partitions {
+            partition.begin(&beginning(partition.part))?;
+            partition.admit(&self.secret)?;
+        }
+        Ok(())
+    }
+
+    /// Shuts out routers that have not heard of the course. Keys are given only after that.
+    fn fence(&self) -> Done<()> {
+        if faults::is_on("no-fence") {
+            return Ok(());
+        }
+        self.partitions()?.iter_mut().try_for_each(Partition::fence)
+    }
+
+    /// The sub-plans, one after another.
+    fn sub_plans(&self, job: &Job) -> Done<()> {
+        let subs: BTreeSet<u32> = self.moves.iter().map(|it| it.sub).collect();
+        for sub in subs {
+            job.bus.tell(|router| router.opened(self.number, sub))?;
+            let moves: Vec<Move> = self.moves.iter().copied().filter(|it| it.sub == sub).collect();
+            sources(job, &moves)?;
+            for dest in moves.iter().map(|it| it.dest).collect::<BTreeSet<_>>() {
+                job.bus.tell(|router| router.done(self.number, sub, dest))?;
+            }
+        }
+        Ok(())
+    }
+
+    /// Shows what would move, and changes nothing.
+    fn preview(&self) -> Done<()> {
+        let mut counts: BTreeMap<u64, usize> = BTreeMap::new();
+        for source in self.moves.iter().map(|it| it.source).collect::<BTreeSet<_>>() {
+            let moves: Vec<&Move> = self.moves.iter().filter(|it| it.source == source).collect();
+            index::scan(&mut Conn::open(&self.servers[&source])?, |key| {
+                let rank = keymap::rank(&key);
+                let found = moves.iter().find(|it| it.lo <= rank && rank < it.hi);
+                if let Some(it) = found.filter(|_| !index::is_own(&key)) {
+                    *counts.entry(it.lo.0).or_default() += 1;
+                }
+            })?;
+        }
+        for it in &self.moves {
+            let count = counts.get(&it.lo.0).unwrap_or(&0);
+            let Move { lo, hi, source, dest, sub } = it;
+            println!("move [{lo},{hi}) {source} to {dest} sub {sub}: {count} keys");
+        }
+        let total: usize = counts.values().sum();
+        println!("course {}: {} moves, {total} keys", self.number, self.moves.len());
+        Ok(())
+    }
+}
+
+/// The moves of one sub-plan, those of each source in a thread of its own.
+fn sources(job: &Job, moves: &[Move]) -> Done<()> {
+    let sources: BTreeSet<u32> = moves.iter().map(|it| it.source).collect();
+    thread::scope(|scope| {
+        let threads: Vec<_> = sources
+            .into_iter()
+            .map(|source| {
+                let own: Vec<Move> = moves.iter().copied().filter(|it| it.source == source).collect();
+                scope.spawn(move || job.feed(&own))
+            })
+            .collect();
+        let mut all = Ok(());
+        for thread in threads {
+            let one = thread.join().unwrap_or_else(|_| Err(Fault::new("a source's thread has ended")));
+            all = all.and(one);
+        }
+        all
+    })
+}
+

@@ -1,0 +1,243 @@
+//! What a mover asks of one partition.
+
+use crate::conn::{Conn, Server};
+use crate::course::Move;
+use crate::fault::{Done, Fault, Trying};
+use crate::keymap::hex;
+use crate::resp::Value;
+use crate::{user, GUARD};
+use squall::Rank;
+
+/// A partition, as its operator.
+pub struct Partition {
+    /// Its number.
+    pub part: u32,
+    /// Connected to it.
+    pub conn: Conn,
+    /// The course's number.
+    number: String,
+}
+
+/// A course, as it begins at one partition.
+pub struct Beginning<'a> {
+    /// The ranges of its plans.
+    pub old: &'a str,
+    pub new: &'a str,
+    /// Whether the old plan gives the partition no keys.
+    pub is_fresh: bool,
+    /// All its moves, by rising key.
+    pub moves: &'a [Move],
+}
+
+/// How far a partition has come with a move.
+#[derive(Clone, Copy, Debug)]
+pub struct Edges {
+    /// Below it keys were given, at a source, or loaded, at a destination.
+    pub edge: Rank,
+    /// Below it the source has forgotten them.
+    pub forgot: Rank,
+}
+
+impl Partition {
+    /// Connects, for the course of that number.
+    pub fn open(part: u32, server: &Server, number: u32) -> Done<Partition> {
+        let conn = Conn::open(server).trying(|| format!("partition {part}"))?;
+        Ok(Partition {
+            part,
+            conn,
+            number: number.to_string(),
+        })
+    }
+
+    /// Loads the functions that make it a partition.
+    pub fn prepare(&mut self) -> Done<()> {
+        self.ask(&["FUNCTION", "LOAD", "REPLACE", GUARD]).map(drop)
+    }
+
+    /// Whether the course may begin here; it changes nothing.
+    pub fn may_begin(&mut self, course: &Beginning) -> Done<()> {
+        self.call_begin("squall_may_begin", course)
+    }
+
+    /// Begins the course here. Routers of the course before are still let in.
+    pub fn begin(&mut self, course: &Beginning) -> Done<()> {
+        self.call_begin("squall_begin", course)
+    }
+
+    fn call_begin(&mut self, function: &str, course: &Beginning) -> Done<()> {
+        let fresh = if course.is_fresh { "fresh" } else { "known" };
+        let head = ["FCALL", function, "0", &self.number, course.old, course.new, fresh];
+        let mut words: Vec<String> = head.into_iter().map(String::from).collect();
+        words.extend(course.moves.iter().map(|it| self.line(it)));
+        self.ask(&words).map(drop)
+    }
+
+    /// A move, as this partition sees it.
+    fn line(&self, it: &Move) -> String {
+        let (role, peer) = match self.part {
+            part if part == it.source => ("out", it.dest),
+            part if part == it.dest => ("in", it.source),
+            _ => ("none", it.source),
+        };
+        format!("{} {} {role} {peer}", hex(it.lo), hex(it.hi))
+    }
+
+    /// Lets in routers of this course.
+    pub fn admit(&mut self, secret: &str) -> Done<()> {
+        let name = user(&self.number);
+        let secret = format!(">{secret}");
+        let rights = ["~*", "+@all", "-@admin", "-@dangerous", "-@scripting", "+fcall"];
+        let words = [&["ACL", "SETUSER", &name, "reset", "on", &secret][..], &rights].concat();
+        self.in_course(&[words])
+    }
+
+    /// Shuts out routers of all other courses.
+    pub fn fence(&mut self) -> Done<()> {
+        let own = user(&self.number);
+        let users = self.ask(&["ACL", "USERS"])?.list();
+        let others: Vec<String> = users
+            .into_iter()
+            .map(Value::text)
+            .filter(|name| name.starts_with(&user("")) && *name != own)
+            .collect();
+        let resets: Vec<_> = others
+            .iter()
+            .map(|name| vec!["ACL", "SETUSER", name, "reset"])
+            .collect();
+        self.in_course(&resets)
+    }
+
+    /// Does commands at once, if the partition is in this course. Else a late mover would let in
+    /// routers that another one has shut out.
+    fn in_course(&mut self, commands: &[Vec<&str>]) -> Done<()> {
+        let late = || Fault::new("another course has begun");
+        self.ask(&["WATCH", "squall:number"])?;
+        if self.ask(&["GET", "squall:number"])?.text() != self.number {
+            return Err(late()).trying(|| format!("partition {}", self.part));
+        }
+        self.conn.put(&["MULTI"]);
+        for command in commands {
+            self.conn.put(command);
+        }
+        self.conn.put(&["EXEC"]);
+        let mut answers = self.conn.hear_all(commands.len() + 2)?;
+        match answers.pop() {
+            Some(Value::List(done)) => match done.into_iter().find(|it| matches!(it, Value::Error(_))) {
+                None => Ok(()),
+                Some(error) => Err(self.explain(&error.text())),
+            },
+            Some(Value::Error(error)) => Err(self.explain(&error)),
+            _ => Err(late()).trying(|| format!("partition {}", self.part)),
+        }
+    }
+
+    /// How far it has come with the move.
+    pub fn edges(&mut self, it: &Move) -> Done<Edges> {
+        let number = self.number.clone();
+        let lines = self.ask(&["FCALL", "squall_moves", "0", &number])?.list();
+        let lo = hex(it.lo);
+        let lines: Vec<String> = lines.into_iter().map(Value::text).collect();
+        let found = lines.iter().find(|line| line.starts_with(&lo));
+        let words = found.map(|line| line.split(' ').collect::<Vec<_>>());
+        let edges = words.and_then(|words| {
+            let &[_, _, _, _, edge, forgot] = &words[..] else {
+                return None;
+            };
+            Some(Edges {
+                edge: rank(edge)?,
+                forgot: rank(forgot)?,
+            })
+        });
+        edges.ok_or_else(|| Fault::new(format!("partition {} has no such move", self.part)))
+    }
+
+    /// Gives the keys of the move below the edge: up to where keys are given now.
+    pub fn give(&mut self, it: &Move, edge: Rank) -> Done<Rank> {
+        self.raise("squall_give", it, edge)
+    }
+
+    /// Loads the keys of the move below the edge: up to where keys are loaded now.
+    pub fn load(&mut self, it: &Move, edge: Rank) -> Done<Rank> {
+        self.raise("squall_load", it, edge)
+    }
+
+    fn raise(&mut self, function: &str, it: &Move, edge: Rank) -> Done<Rank> {
+        let (number, lo, edge) = (self.number.clone(), hex(it.lo), hex(edge));
+        let now = self.ask(&["FCALL", function, "0", &number, &lo, &edge])?;
+        rank(&now.text()).ok_or_else(|| Fault::new("an edge of another form"))
+    }
+
+    /// Unlinks keys that were given and loaded, and then has forgotten all below the edge.
+    pub fn forget(&mut self, it: &Move, keys: &[Vec<u8>], edge: Rank) -> Done<()> {
+        let lo = hex(it.lo);
+        let blocks: Vec<&[Vec<u8>]> = keys.chunks(256).collect();
+        for block in &blocks {
+            self.call_forget(&lo, block, &lo)?;
+        }
+        self.call_forget(&lo, &[], &hex(edge))
+    }
+
+    fn call_forget(&mut self, lo: &str, keys: &[Vec<u8>], edge: &str) -> Done<()> {
+        let count = keys.len().to_string();
+        let number = self.number.clone();
+        let mut words: Vec<&[u8]> = vec![b"FCALL", b"squall_forget", count.as_bytes()];
+        words.extend(keys.iter().map(Vec::as_slice));
+        words.extend([number.as_bytes(), lo.as_bytes(), edge.as_bytes()]);
+        self.ask(&words).map(drop)
+    }
+
+    /// The words of a put.
+    pub fn put(&mut self, key: &[u8], rank: Rank, ends: i64, dump: &[u8]) {
+        let (rank, ends) = (hex(rank), ends.max(0).to_string());
+        let number = self.number.clone();
+        let head: [&[u8]; 4] = [b"FCALL", b"squall_put", b"1", key];
+        let rest: [&[u8]; 4] = [number.as_bytes(), rank.as_bytes(), ends.as_bytes(), dump];
+        self.conn.put(&[head, rest].concat());
+    }
+
+    /// Asks, and explains what is refused.
+    pub fn ask<W: AsRef<[u8]>>(&mut self, words: &[W]) -> Done<Value> {
+        self.conn.put(words);
+        self.conn.flush()?;
+        match self.conn.hear()? {
+            Value::Error(text) => Err(self.explain(&text)),
+            value => Ok(value),
+        }
+    }
+
+    /// Why a partition refused, in words for an operator.
+    pub fn explain(&self, error: &str) -> Fault {
+        let (part, number) = (self.part, &self.number);
+        let Some(said) = error.strip_prefix("SQUALL ") else {
+            return Fault::new(format!("partition {part}: {error}"));
+        };
+        let words: Vec<&str> = said.split(' ').collect();
+        let known = words.get(1).copied().unwrap_or("0");
+        Fault::new(match words[0] {
+            "CLASH" => format!(
+                "partition {part}: course {number} has begun with other plans; this one is refused"
+            ),
+            "LATE" | "COURSE" => {
+                format!("partition {part}: course {known} has begun; course {number} is over")
+            }
+            "GAP" => format!(
+                "partition {part} is in course {known}: the next one has the number after it, and not {number}"
+            ),
+            "OTHER" => format!(
+                "partition {part}: course {known} ended at another plan than this one begins at"
+            ),
+            "RUNNING" => format!(
+                "partition {part}: course {known} is not over; run its mover to the end"
+            ),
+            "EMPTY" => format!(
+                "partition {part} has begun no course, and the old plan gives it keys: did it lose its data? (--init begins course 1)"
+            ),
+            _ => format!("partition {part}: {said}"),
+        })
+    }
+}
+
+/// The rank of sixteen digits.
+fn rank(hex: &str) -> Option<Rank> {
+    u64::from_str_radix(hex, 16).ok().map(Rank)
+}

@@ -1,0 +1,103 @@
+//! How far a mover is, on standard error.
+
+use std::io::IsTerminal;
+use std::sync::atomic::{AtomicBool, AtomicUsize, Ordering::Relaxed};
+use std::thread;
+use std::time::{Duration, Instant};
+
+/// How many keys have moved, of how many.
+pub struct Progress {
+    began: Instant,
+    moved: AtomicUsize,
+    expected: AtomicUsize,
+    is_over: AtomicBool,
+}
+
+/// The width of the bar.
+const WIDTH: usize = 30;
+
+impl Progress {
+    /// Nothing has moved.
+    pub fn new() -> Progress {
+        Progress {
+            began: Instant::now(),
+            moved: AtomicUsize::new(0),
+            expected: AtomicUsize::new(0),
+            is_over: AtomicBool::new(false),
+        }
+    }
+
+    /// That many keys more are to move.
+    pub fn expect(&self, count: usize) {
+        self.expected.fetch_add(count, Relaxed);
+    }
+
+    /// That many more have moved.
+    pub fn forgot(&self, count: usize) {
+        self.moved.fetch_add(count, Relaxed);
+    }
+
+    /// How many have moved.
+    pub fn moved(&self) -> usize {
+        self.moved.load(Relaxed)
+    }
+
+    /// How long that took.
+    pub fn took(&self) -> Duration {
+        self.began.elapsed()
+    }
+
+    /// Ends what `show` shows.
+    pub fn finish(&self) {
+        self.is_over.store(true, Relaxed);
+    }
+
+    /// Shows how far it is until it is over: a bar on a terminal, else a line every few seconds.
+    pub fn show(&self) {
+        let is_bar = std::io::stderr().is_terminal();
+        let mut said = Instant::now();
+        while !self.is_over.load(Relaxed) {
+            thread::sleep(Duration::from_millis(100));
+            if is_bar {
+                eprint!("\r{}", self.bar());
+            } else if said.elapsed() >= Duration::from_secs(5) {
+                eprintln!("{}", self.line());
+                said = Instant::now();
+            }
+        }
+        if is_bar {
+            eprint!("\r{}\r", " ".repeat(WIDTH + 60));
+        }
+    }
+
+    fn bar(&self) -> String {
+        let all = self.expected.load(Relaxed).max(1);
+        let full = (self.moved() * WIDTH / all).min(WIDTH);
+        let bar = "#".repeat(full) + &"-".repeat(WIDTH - full);
+        format!("[{bar}] {:<50}", self.line())
+    }
+
+    fn line(&self) -> String {
+        let (moved, all) = (self.moved(), self.expected.load(Relaxed));
+        let rate = moved as f64 / self.took().as_secs_f64().max(0.001);
+        let left = all.saturating_sub(moved) as f64 / rate.max(1.0);
+        format!("{moved} of {all} keys, {rate:.0}/s, {left:.0} s left")
+    }
+}
+
+#[cfg(test)]
+mod tests {
+    use super::*;
+
+    #[test]
+    fn the_bar_fills() {
+        let progress = Progress::new();
+        progress.expect(10);
+        assert!(progress.bar().starts_with("[------"));
+        progress.forgot(5);
+        assert!(progress.bar().starts_with("[###############-"));
+        // Keys that came later are moved too.
+        progress.forgot(6);
+        assert!(progress.bar().contains("11 of 10 keys"));
+    }
+}

@@ -1,0 +1,134 @@
+//! Replies, as a server sends them.
+
+use super::{line, number, Broken};
+
+/// Finds the end of one reply, whose bytes may come in any pieces. What was read of it is not read
+/// again.
+pub struct Scan {
+    /// Where the next value begins, counted from the beginning of the reply.
+    at: usize,
+    /// How many values are still to come.
+    left: u64,
+}
+
+impl Default for Scan {
+    fn default() -> Scan {
+        Scan { at: 0, left: 1 }
+    }
+}
+
+impl Scan {
+    /// Reads on in `bytes`, which begin with the reply: how many bytes it has, if it is whole. The
+    /// next call then reads the next reply.
+    ///
+    /// # Errors
+    ///
+    /// The bytes begin with no reply.
+    pub fn read(&mut self, bytes: &[u8]) -> Result<Option<usize>, Broken> {
+        while self.left > 0 {
+            let Some((line, next)) = line(bytes, self.at) else {
+                return Ok(None);
+            };
+            let Some((&kind, rest)) = line.split_first() else {
+                return Err(Broken("a reply without a type"));
+            };
+            let mut more = 0;
+            match kind {
+                b'+' | b'-' | b':' | b'_' | b'#' | b',' | b'(' => self.at = next,
+                b'$' | b'=' | b'!' => {
+                    let end = match length(rest)? {
+                        None => next,
+                        Some(len) => next + len as usize + 2,
+                    };
+                    if bytes.len() < end {
+                        return Ok(None);
+                    }
+                    self.at = end;
+                }
+                b'*' | b'~' | b'>' => {
+                    more = length(rest)?.unwrap_or(0);
+                    self.at = next;
+                }
+                b'%' => {
+                    more = length(rest)?.unwrap_or(0) * 2;
+                    self.at = next;
+                }
+                b'|' => {
+                    // Attributes come before a value and are none.
+                    more = length(rest)?.unwrap_or(0) * 2 + 1;
+                    self.at = next;
+                }
+                _ => return Err(Broken("a reply of an unknown type")),
+            }
+            self.left = self.left - 1 + more;
+        }
+        let end = self.at;
+        *self = Scan::default();
+        Ok(Some(end))
+    }
+}
+
+/// A length; none for -1.
+fn length(digits: &[u8]) -> Result<Option<u64>, Broken> {
+    match number(digits) {
+        Some(-1) => Ok(None),
+        Some(len) if (0..1 << 40).contains(&len) => Ok(Some(len as u64)),
+        _ => Err(Broken("a reply of no length")),
+    }
+}
+
+#[cfg(test)]
+mod tests {
+    use super::*;
+
+    const REPLIES: &[&[u8]] = &[
+        b"+OK\r\n",
+        b"-ERR no\r\n",
+        b":-12\r\n",
+        b"$-1\r\n",
+        b"$0\r\n\r\n",
+        b"$4\r\na\r\nb\r\n",
+        b"*-1\r\n",
+        b"*0\r\n",
+        b"*2\r\n$1\r\na\r\n*2\r\n:1\r\n$-1\r\n",
+        b"_\r\n",
+        b"#t\r\n",
+        b",1.5\r\n",
+        b"(12345678901234567890\r\n",
+        b"=6\r\ntxt:ab\r\n",
+        b"!3\r\nERR\r\n",
+        b"%2\r\n+a\r\n:1\r\n+b\r\n~1\r\n:2\r\n",
+        b"|1\r\n+ttl\r\n:5\r\n$1\r\nx\r\n",
+        b">2\r\n+message\r\n+x\r\n",
+    ];
+
+    #[test]
+    fn replies_may_be_cut_anywhere() {
+        for reply in REPLIES {
+            for cut in 0..reply.len() {
+                let mut scan = Scan::default();
+                assert_eq!(scan.read(&reply[..cut]), Ok(None), "{reply:?} {cut}");
+                assert_eq!(scan.read(reply), Ok(Some(reply.len())), "{reply:?} {cut}");
+            }
+        }
+    }
+
+    #[test]
+    fn replies_follow_each_other() {
+        let all = REPLIES.concat();
+        let mut at = 0;
+        let mut scan = Scan::default();
+        for reply in REPLIES {
+            assert_eq!(scan.read(&all[at..]), Ok(Some(reply.len())));
+            at += reply.len();
+        }
+        assert_eq!(scan.read(&all[at..]), Ok(None));
+    }
+
+    #[test]
+    fn garbage_is_refused() {
+        for bytes in [&b"\r\n"[..], b"?\r\n", b"$x\r\n", b"$-2\r\n", b"*9999999999999999\r\n"] {
+            assert!(Scan::default().read(bytes).is_err(), "{bytes:?}");
+        }
+    }
+}
