@@ -13,6 +13,7 @@ pub mod fault;
 pub mod faults;
 pub mod keymap;
 pub mod mover;
+pub mod proxy;
 pub mod resp;
 
 /// The functions of a partition.

@@ -11,6 +11,8 @@ use crate::conn::{Conn, Server};
 use crate::course::{self, Move, Plan};
 use crate::fault::{Done, Fault, Trying};
 use crate::{faults, keymap, DEFAULT_SECRET};
+pub use index::is_own;
+
 use feeder::Job;
 use partition::{Beginning, Partition};
 use progress::Progress;

@@ -1,0 +1,288 @@
+//! A client: its commands in order, and their answers in the same order.
+
+use super::commands::Split;
+use super::plan::{Plan, Words};
+use super::socket::Out;
+use crate::resp::{Parser, Value};
+use mio::net::TcpStream;
+use squall::{Errand, Reply};
+use std::collections::VecDeque;
+use std::time::{Duration, Instant};
+
+/// No client has more commands that wait for answers.
+pub const MOST_COMMANDS: usize = 4096;
+/// From so many answered bytes on, they are dropped before all are answered.
+const ANSWERED: usize = 1 << 16;
+
+/// A command that is not answered.
+pub struct Slot {
+    /// Where its bytes begin, counted from the first one that the client sent, and how many it has.
+    begin: u64,
+    len: usize,
+    /// Whether it is to be answered in RESP3.
+    is_resp3: bool,
+    /// How it is done; none if its answer is there from the beginning.
+    plan: Option<Plan>,
+    /// How many parts are not answered.
+    left: usize,
+    /// The answer of each part.
+    replies: Vec<Vec<u8>>,
+}
+
+/// A request that a partition has refused, to be done by an errand.
+pub struct Diverted {
+    /// The command's number, and the part of it.
+    pub seq: u64,
+    pub part: u32,
+    /// The partition that was asked, and what it replied.
+    pub said: Option<(u32, Reply)>,
+}
+
+/// The errand of the first request that was refused.
+pub struct Chase {
+    /// The errand.
+    pub errand: Errand,
+    /// The view by which it was started, and that view's course.
+    pub views: u64,
+    pub number: u32,
+    /// When the request was refused, and when to ask again.
+    pub since: Instant,
+    pub again: Instant,
+    /// The pause before it is asked again.
+    pub pause: Duration,
+}
+
+/// A client of a worker.
+pub struct Client {
+    /// A number that no other client of the worker has or had.
+    pub id: u64,
+    /// Its connection.
+    pub stream: TcpStream,
+    /// What it sent and is not answered, and the place of its first byte among all that it sent.
+    pub input: Vec<u8>,
+    base: u64,
+    /// Where the next command begins in the input, and what was read of it.
+    pub next: usize,
+    pub parser: Parser,
+    /// Whether more may have come than was read.
+    pub is_unread: bool,
+    /// What is to be sent to it.
+    pub out: Out,
+    window: VecDeque<Slot>,
+    first: u64,
+    /// The bytes of answers that wait for an earlier one.
+    pub held: usize,
+    /// How many requests are in flight; how many of them by a guard, and the view by which those were sent.
+    pub in_flight: usize,
+    pub guarded: usize,
+    pub guard_views: u64,
+    /// The requests that were refused, by number and part once nothing is in flight.
+    pub diverted: Vec<Diverted>,
+    pub chase: Option<Chase>,
+    /// Since when the next command waits for its partition.
+    pub waits_since: Option<Instant>,
+    /// Whether it speaks RESP3.
+    pub is_resp3: bool,
+    /// Whether it is closed after the last answer.
+    pub is_ending: bool,
+    /// Whether it is in the list of those that have answers, and of those that are to go on.
+    pub is_dirty: bool,
+    pub is_woken: bool,
+    pub is_blocked: bool,
+}
+
+impl Client {
+    /// A client that has sent nothing.
+    pub fn new(id: u64, stream: TcpStream) -> Client {
+        Client {
+            id,
+            stream,
+            input: Vec::new(),
+            base: 0,
+            next: 0,
+            parser: Parser::default(),
+            is_unread: false,
+            out: Out::default(),
+            window: VecDeque::new(),
+            first: 0,
+            held: 0,
+            in_flight: 0,
+            guarded: 0,
+            guard_views: 0,
+            diverted: Vec::new(),
+            chase: None,
+            waits_since: None,
+            is_resp3: false,
+            is_ending: false,
+            is_dirty: false,
+            is_woken: false,
+            is_blocked: false,
+        }
+    }
+
+    /// How many bytes it holds.
+    pub fn memory(&self) -> usize {
+        self.input.len() + self.out.len() + self.held
+    }
+
+    /// Whether it may have another command in flight.
+    pub fn has_room(&self, most: usize) -> bool {
+        self.window.len() < MOST_COMMANDS && self.out.len() + self.held < most
+    }
+
+    /// Whether all its commands are answered.
+    pub fn is_answered(&self) -> bool {
+        self.window.is_empty()
+    }
+
+    /// The number of the next command.
+    pub fn next_seq(&self) -> u64 {
+        self.first + self.window.len() as u64
+    }
+
+    /// Adds the command that was read, which is done by the plan.
+    pub fn add(&mut self, plan: Plan) {
+        let left = plan.len();
+        let replies = if left > 1 { vec![Vec::new(); left] } else { Vec::new() };
+        self.push(Some(plan), left, replies);
+    }
+
+    /// Adds the command that was read, with its answer.
+    pub fn add_answer(&mut self, answer: Vec<u8>) {
+        if self.window.is_empty() {
+            self.out.bytes.extend_from_slice(&answer);
+            self.first += 1;
+            self.pass();
+            self.drop_answered();
+        } else {
+            self.held += answer.len();
+            self.push(None, 0, vec![answer]);
+        }
+    }
+
+    fn push(&mut self, plan: Option<Plan>, left: usize, replies: Vec<Vec<u8>>) {
+        let begin = self.base + self.next as u64;
+        let len = self.parser.len();
+        self.window.push_back(Slot { begin, len, is_resp3: self.is_resp3, plan, left, replies });
+        self.pass();
+    }
+
+    /// Goes on to the next command.
+    fn pass(&mut self) {
+        self.next += self.parser.len();
+        self.parser.reset();
+    }
+
+    /// Goes on after a command of no words.
+    pub fn skip(&mut self) {
+        self.pass();
+        self.drop_answered();
+    }
+
+    /// Takes the answer of a part of a command.
+    pub fn answer(&mut self, seq: u64, part: u32, reply: &[u8]) {
+        let at = (seq - self.first) as usize;
+        let slot = &mut self.window[at];
+        slot.left -= 1;
+        if slot.replies.is_empty() {
+            if at == 0 {
+                self.out.bytes.extend_from_slice(reply);
+                self.window.pop_front();
+                self.first += 1;
+                self.flush_answers();
+                return;
+            }
+            slot.replies.push(Vec::new());
+        }
+        self.held += reply.len();
+        slot.replies[part as usize] = reply.to_vec();
+        self.flush_answers();
+    }
+
+    /// Moves the answers of the first commands to what is sent.
+    fn flush_answers(&mut self) {
+        while let Some(slot) = self.window.front() {
+            if slot.left > 0 {
+                break;
+            }
+            self.held -= slot.replies.iter().map(Vec::len).sum::<usize>();
+            join(slot, &mut self.out.bytes);
+            self.window.pop_front();
+            self.first += 1;
+        }
+        self.drop_answered();
+    }
+
+    /// How many bytes at the beginning of the input are those of commands that are answered.
+    fn answered(&self) -> usize {
+        match self.window.front() {
+            Some(slot) => (slot.begin - self.base) as usize,
+            None => self.next,
+        }
+    }
+
+    /// Drops the bytes of commands that are answered, if they are many.
+    fn drop_answered(&mut self) {
+        let answered = self.answered();
+        if answered == self.input.len() || answered >= ANSWERED {
+            self.make_room();
+        }
+    }
+
+    /// Drops the bytes of commands that are answered.
+    pub fn make_room(&mut self) {
+        let answered = self.answered();
+        self.input.drain(..answered);
+        self.base += answered as u64;
+        self.next -= answered;
+    }
+
+    /// Whether a command that is not answered is to be answered in RESP3.
+    pub fn is_resp3_of(&self, seq: u64) -> bool {
+        self.window.get((seq - self.first) as usize).is_some_and(|slot| slot.is_resp3)
+    }
+
+    /// Calls the function with a command that is not answered: its plan, its words, and how many bytes
+    /// it has.
+    pub fn with<T>(&self, seq: u64, see: impl FnOnce(&Plan, Words, usize) -> T) -> Option<T> {
+        let slot = self.window.get((seq - self.first) as usize)?;
+        let begin = (slot.begin - self.base) as usize;
+        let bytes = &self.input[begin..begin + slot.len];
+        let mut parser = Parser::default();
+        parser.read(bytes, bytes.len()).ok()?;
+        let words = Words { bytes, places: parser.words() };
+        Some(see(slot.plan.as_ref()?, words, slot.len))
+    }
+}
+
+/// Appends the answer of a command whose parts are all answered. An error of a part is the answer.
+fn join(slot: &Slot, out: &mut Vec<u8>) {
+    let split = match &slot.plan {
+        Some(Plan::Parts(_, split, _)) => *split,
+        _ => return slot.replies.iter().for_each(|reply| out.extend_from_slice(reply)),
+    };
+    if let Some(error) = slot.replies.iter().find(|reply| reply.first() == Some(&b'-')) {
+        return out.extend_from_slice(error);
+    }
+    match split {
+        Split::List => {
+            out.extend_from_slice(format!("*{}\r\n", slot.replies.len()).as_bytes());
+            for reply in &slot.replies {
+                // Each one is a list of one value.
+                out.extend_from_slice(reply.strip_prefix(b"*1\r\n").unwrap_or(reply));
+            }
+        }
+        Split::Sum => {
+            let sum: i64 = slot.replies.iter().map(|reply| int(reply)).sum();
+            out.extend_from_slice(format!(":{sum}\r\n").as_bytes());
+        }
+        Split::Done => out.extend_from_slice(&slot.replies[0]),
+    }
+}
+
+fn int(reply: &[u8]) -> i64 {
+    match Value::read(reply) {
+        Ok(Some((Value::Int(number), _))) => number,
+        _ => 0,
+    }
+}

@@ -1,0 +1,321 @@
+//! Where requests go, and what becomes of those that a partition refuses.
+
+use super::client::{Chase, Client, Diverted};
+use super::plan::Plan;
+use super::upstream::{InFlight, Role};
+use super::worker::Worker;
+use crate::faults;
+use crate::resp::error;
+use squall::{Next, Reply};
+use std::sync::atomic::Ordering::Relaxed;
+use std::time::Duration;
+
+/// The pause before a key that is on its way is asked for again, at first and at most. News end it.
+const FIRST: Duration = Duration::from_millis(2);
+const LAST: Duration = Duration::from_millis(50);
+
+/// The connection of each request, and whether it is sent by the guard.
+pub enum Targets {
+    /// Of a command with one request.
+    One([(usize, bool); 1]),
+    /// Of a command that is split.
+    Many(Vec<(usize, bool)>),
+}
+
+impl Targets {
+    /// All of them.
+    pub fn as_slice(&self) -> &[(usize, bool)] {
+        match self {
+            Targets::One(one) => one,
+            Targets::Many(many) => many,
+        }
+    }
+}
+
+/// What a partition answered to a request.
+enum Said {
+    /// This is the answer.
+    Answer,
+    /// It lets this proxy in no longer, or was asked by the number of another course.
+    Fenced,
+    /// The keys are elsewhere, or on their way.
+    Elsewhere(Reply),
+    /// Only some of the keys are there.
+    Split,
+}
+
+impl Worker {
+    /// The target of each request of a command; none if one has to wait. An error if its keys are at
+    /// several partitions and it can't be split.
+    pub(super) fn targets(&mut self, client: &Client, plan: &Plan) -> Result<Option<Targets>, Vec<u8>> {
+        if plan.len() == 1 {
+            let target = self.target(client, plan, 0)?;
+            return Ok(target.map(|target| Targets::One([target])));
+        }
+        let mut targets = Vec::with_capacity(plan.len());
+        for part in 0..plan.len() {
+            match self.target(client, plan, part)? {
+                Some(target) => targets.push(target),
+                None => return Ok(None),
+            }
+        }
+        Ok(Some(Targets::Many(targets)))
+    }
+
+    fn target(&mut self, client: &Client, plan: &Plan, part: usize) -> Result<Option<(usize, bool)>, Vec<u8>> {
+        let ranks = plan.ranks(part);
+        let Some(asked) = self.view.route(ranks[0]) else {
+            return Err(error("ERR no partition has this key"));
+        };
+        let Some(at) = self.ready(asked, client.is_resp3) else {
+            return Ok(None);
+        };
+        let mut is_guarded = false;
+        for &rank in ranks {
+            is_guarded |= self.upstreams[at].role(rank) == Some(Role::Out);
+            if self.view.route(rank) != Some(asked) {
+                return self.apart(client, ranks);
+            }
+        }
+        if faults::is_on("never-guard") {
+            is_guarded = false;
+        }
+        if is_guarded && !plan.may_be_guarded(client.is_resp3) {
+            return Ok(None);
+        }
+        Ok(Some((at, is_guarded)))
+    }
+
+    /// What is answered to a command whose keys are at several partitions: they may be on their way to
+    /// one.
+    fn apart(&mut self, client: &Client, ranks: &[squall::Rank]) -> Result<Option<(usize, bool)>, Vec<u8>> {
+        let mut are_moving = false;
+        for &rank in ranks {
+            let part = self.view.route(rank).unwrap_or_default();
+            match self.ready(part, client.is_resp3) {
+                Some(at) => are_moving |= self.upstreams[at].role(rank).is_some(),
+                None => return Ok(None),
+            }
+        }
+        Err(error(if are_moving {
+            "TRYAGAIN the keys are at several partitions, and some of them move"
+        } else {
+            "CROSSSLOT the keys are at several partitions"
+        }))
+    }
+
+    /// Takes the reply to a request.
+    pub(super) fn answered(&mut self, at: usize, sent: InFlight, reply: &[u8]) {
+        let said = if reply.first() == Some(&b'-') { read(reply, sent.is_guarded) } else { Said::Answer };
+        if let Said::Answer = said {
+            if sent.is_guarded {
+                if let Some(number) = reply.strip_prefix(b"+SQUALL INT ") {
+                    return self.deliver(&sent, &[b":", number].concat());
+                }
+            }
+            return self.deliver(&sent, reply);
+        }
+        let upstream = &mut self.upstreams[at];
+        let part = upstream.part;
+        if let Said::Fenced = said {
+            // It logs in again once nothing is in flight.
+            upstream.number = 0;
+            self.shared.node.ask();
+        }
+        self.count(&said);
+        let now = self.now;
+        let Some(client) = self.client_of(&sent) else {
+            return;
+        };
+        client.in_flight -= 1;
+        client.guarded -= usize::from(sent.is_guarded && !sent.is_chased);
+        if sent.is_chased {
+            heed(client, said, now);
+        } else {
+            let said = match said {
+                Said::Elsewhere(reply) => Some((part, reply)),
+                _ => None,
+            };
+            client.diverted.push(Diverted { seq: sent.seq, part: sent.part, said });
+        }
+        self.wake(sent.client);
+    }
+
+    fn count(&self, said: &Said) {
+        let counts = self.counts();
+        let counter = match said {
+            Said::Elsewhere(Reply::Moved { .. }) => &counts.moved,
+            Said::Fenced => &counts.fenced,
+            _ => &counts.pending,
+        };
+        counter.fetch_add(1, Relaxed);
+    }
+
+    /// Gives a client the answer to a request.
+    pub(super) fn deliver(&mut self, sent: &InFlight, reply: &[u8]) {
+        let now = self.now;
+        let Some(client) = self.client_of(sent) else {
+            return;
+        };
+        client.in_flight -= 1;
+        client.guarded -= usize::from(sent.is_guarded && !sent.is_chased);
+        client.answer(sent.seq, sent.part, reply);
+        if sent.is_chased {
+            client.diverted.remove(0);
+            if let Some(chase) = client.chase.take() {
+                self.counts().waited(now - chase.since);
+            }
+        }
+        self.wake(sent.client);
+    }
+
+    /// Goes on with the first request that was refused, while nothing of the client is in flight:
+    /// whether it was sent. If not, it waits, or was answered and is the first one no longer.
+    pub(super) fn follow(&mut self, at: usize, client: &mut Client) -> bool {
+        if client.chase.is_none() {
+            client.diverted.sort_by_key(|it| (it.seq, it.part));
+        }
+        let first = &client.diverted[0];
+        let (seq, part) = (first.seq, first.part);
+        let rank = client.with(seq, |plan, _, _| plan.ranks(part as usize)[0]);
+        let Some(rank) = rank else {
+            client.diverted.remove(0);
+            return false;
+        };
+        self.renew(client, rank);
+        let Some(chase) = client.chase.as_ref() else {
+            return false;
+        };
+        if self.now - chase.since > self.shared.wait {
+            client.chase = None;
+            client.diverted.remove(0);
+            self.counts().gave_up.fetch_add(1, Relaxed);
+            client.answer(seq, part, &error("TRYAGAIN the key is on its way"));
+            return false;
+        }
+        if self.now < chase.again {
+            return false;
+        }
+        let asked = chase.errand.asked();
+        let Some(upstream) = self.ready(asked, client.is_resp3_of(seq)) else {
+            return false;
+        };
+        self.send_chased((at, upstream), client, (seq, part), asked)
+    }
+
+    /// Begins the errand of a request, or another one if the view is newer and routes its key to
+    /// another partition.
+    fn renew(&self, client: &mut Client, rank: squall::Rank) {
+        let said = client.diverted[0].said;
+        let chase = client.chase.take();
+        let is_old = chase.as_ref().is_none_or(|chase| {
+            let is_routed = self.view.route(rank) == Some(chase.errand.asked());
+            chase.views != self.views && (!is_routed || chase.number != self.view.number())
+        });
+        if !is_old {
+            client.chase = chase;
+            return;
+        }
+        let Ok(mut errand) = self.view.errand(rank) else {
+            return;
+        };
+        // What the partition has said already need not be asked again.
+        if let (None, Some((part, reply))) = (&chase, said) {
+            if errand.asked() == part {
+                let _ = errand.heed(reply);
+            }
+        }
+        client.chase = Some(Chase {
+            errand,
+            views: self.views,
+            number: self.view.number(),
+            since: chase.map_or(self.now, |chase| chase.since),
+            again: self.now,
+            pause: FIRST,
+        });
+    }
+
+    /// Sends a request that was refused to the partition that its errand names.
+    fn send_chased(
+        &mut self,
+        (at, upstream): (usize, usize),
+        client: &mut Client,
+        (seq, part): (u64, u32),
+        asked: u32,
+    ) -> bool {
+        let (view, to) = (&self.view, &mut self.upstreams[upstream]);
+        let is_resp3 = client.is_resp3_of(seq);
+        let sent = client.with(seq, |plan, words, len| {
+            let is_known = |rank| match to.role(rank) {
+                None => true,
+                Some(role) => role == Role::In && view.route(rank) == Some(asked),
+            };
+            let is_guarded = !plan.ranks(part as usize).iter().all(|&rank| is_known(rank));
+            if is_guarded && !plan.may_be_guarded(is_resp3) {
+                return None;
+            }
+            if is_guarded {
+                plan.put_guarded(&mut to.out.bytes, part as usize, words, (to.number, is_resp3));
+            } else {
+                plan.put(&mut to.out.bytes, part as usize, words, len);
+            }
+            Some(is_guarded)
+        });
+        let Some(is_guarded) = sent.flatten() else {
+            return false;
+        };
+        if to.sent.is_empty() {
+            to.progress = self.now;
+        }
+        to.sent.push_back(InFlight { client: at, id: client.id, seq, part, is_guarded, is_chased: true });
+        client.in_flight += 1;
+        self.mark_upstream(upstream);
+        true
+    }
+}
+
+/// What an errand does after a reply.
+fn heed(client: &mut Client, said: Said, now: std::time::Instant) {
+    let Some(chase) = client.chase.as_mut() else {
+        return;
+    };
+    let next = match said {
+        Said::Elsewhere(reply) => chase.errand.heed(reply),
+        _ => Ok(Next::Again(0)),
+    };
+    match next {
+        Ok(Next::Ask(_)) => chase.again = now,
+        Ok(Next::Again(_)) => {
+            chase.again = now + chase.pause;
+            chase.pause = (chase.pause * 2).min(LAST);
+        }
+        // It starts anew from the view, with the same patience.
+        _ => {
+            chase.again = now + chase.pause;
+            chase.pause = (chase.pause * 2).min(LAST);
+            chase.number = 0;
+            chase.views = 0;
+        }
+    }
+}
+
+/// What an error says: the partition's own words come of guarded requests alone.
+fn read(reply: &[u8], is_guarded: bool) -> Said {
+    if reply.starts_with(b"-NOPERM") {
+        return Said::Fenced;
+    }
+    let line = reply.strip_prefix(b"-SQUALL ").filter(|_| is_guarded);
+    let Some(line) = line.and_then(|line| std::str::from_utf8(line).ok()) else {
+        return Said::Answer;
+    };
+    let words: Vec<&str> = line.trim_end().split(' ').collect();
+    let number = |at: usize| words.get(at).and_then(|word| word.parse().ok());
+    match (words[0], number(1), number(2)) {
+        ("MOVED", Some(dest), Some(number)) => Said::Elsewhere(Reply::Moved { dest, number }),
+        ("PENDING", Some(source), _) => Said::Elsewhere(Reply::Pending { source }),
+        ("ELSEWHERE", Some(dest), _) => Said::Elsewhere(Reply::Elsewhere { dest }),
+        ("COURSE", ..) => Said::Fenced,
+        ("SPLIT", ..) => Said::Split,
+        _ => Said::Answer,
+    }
+}

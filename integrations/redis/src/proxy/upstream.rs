@@ -1,0 +1,238 @@
+//! A connection from a worker to a partition, which the commands of all its clients share.
+
+use super::socket::{receive, Out, Received};
+use crate::keymap;
+use crate::resp::{push, Scan, Value};
+use crate::user;
+use mio::net::TcpStream;
+use squall::Rank;
+use std::collections::VecDeque;
+use std::io;
+use std::net::SocketAddr;
+use std::time::{Duration, Instant};
+
+/// Between two attempts to connect or to log in.
+const AGAIN: Duration = Duration::from_millis(20);
+/// Commands wait if more bytes than these are to be sent.
+const MOST_OUT: usize = 4 << 20;
+
+/// A request that was sent and is not answered.
+#[derive(Clone, Copy)]
+pub struct InFlight {
+    /// The client's place, and its number.
+    pub client: usize,
+    pub id: u64,
+    /// The command's number in the client, and the part of it.
+    pub seq: u64,
+    pub part: u32,
+    /// Whether it was sent by the guard.
+    pub is_guarded: bool,
+    /// Whether an errand sent it.
+    pub is_chased: bool,
+}
+
+/// What a connection is at.
+#[derive(Clone, Copy, PartialEq)]
+pub enum State {
+    /// There is none. Another one may be tried from then on.
+    Down(Instant),
+    /// It logs in: how many answers are still to come, and whether one was a refusal.
+    Entering(u8, bool),
+    /// The partition does not let it in. It may ask again from then on.
+    Refused(Instant),
+    /// It serves.
+    Ready,
+}
+
+/// How a partition takes part in a move.
+#[derive(Clone, Copy, PartialEq, Debug)]
+pub enum Role {
+    /// Keys go from here.
+    Out,
+    /// Keys come here.
+    In,
+    /// They go past.
+    Beside,
+}
+
+/// A connection to a partition.
+pub struct Upstream {
+    /// The partition.
+    pub part: u32,
+    /// Whether it speaks RESP3.
+    pub is_resp3: bool,
+    addr: SocketAddr,
+    /// The connection, if there is one.
+    pub stream: Option<TcpStream>,
+    /// What it is at.
+    pub state: State,
+    /// The course by which it is let in.
+    pub number: u32,
+    /// The moves of that course: from, below, and the role.
+    moves: Vec<(Rank, Rank, Role)>,
+    /// What is to be sent.
+    pub out: Out,
+    /// What was heard and is not answered to clients yet.
+    pub heard: Vec<u8>,
+    /// The scan of the first reply in it.
+    pub scan: Scan,
+    /// What was sent, in order.
+    pub sent: VecDeque<InFlight>,
+    /// When the last answer came, or the first question was sent.
+    pub progress: Instant,
+    /// Whether it is in the list of those that have something to send.
+    pub is_dirty: bool,
+}
+
+impl Upstream {
+    /// A partition that is not connected.
+    pub fn new(part: u32, addr: SocketAddr, is_resp3: bool, now: Instant) -> Upstream {
+        Upstream {
+            part,
+            is_resp3,
+            addr,
+            stream: None,
+            state: State::Down(now),
+            number: 0,
+            moves: Vec::new(),
+            out: Out::default(),
+            heard: Vec::new(),
+            scan: Scan::default(),
+            sent: VecDeque::new(),
+            progress: now,
+            is_dirty: false,
+        }
+    }
+
+    /// Begins to connect. The caller registers the stream.
+    pub fn connect(&mut self) -> io::Result<&mut TcpStream> {
+        let stream = TcpStream::connect(self.addr)?;
+        // It may refuse this until it is connected; `receive` is called then.
+        let _ = stream.set_nodelay(true);
+        self.out.clear();
+        self.heard.clear();
+        self.scan = Scan::default();
+        Ok(self.stream.insert(stream))
+    }
+
+    /// Drops the connection: the requests whose answers are lost.
+    pub fn drop_stream(&mut self, now: Instant) -> VecDeque<InFlight> {
+        self.stream = None;
+        self.state = State::Down(now + AGAIN);
+        self.number = 0;
+        std::mem::take(&mut self.sent)
+    }
+
+    /// Logs in for a course, once nothing is in flight.
+    pub fn enter(&mut self, number: u32, secret: &str) {
+        let name = user(number);
+        if self.is_resp3 {
+            push(&mut self.out.bytes, &["HELLO", "3", "AUTH", &name, secret]);
+        } else {
+            push(&mut self.out.bytes, &["AUTH", &name, secret]);
+        }
+        push(&mut self.out.bytes, &["FCALL", "squall_moves", "0", &number.to_string()]);
+        self.state = State::Entering(2, false);
+        self.number = number;
+    }
+
+    /// Takes an answer of the log-in: whether it is over.
+    pub fn entered(&mut self, reply: &[u8], now: Instant) -> bool {
+        let State::Entering(left, was_refused) = self.state else {
+            return false;
+        };
+        let is_refused = was_refused || reply.first() == Some(&b'-');
+        if left > 1 {
+            self.state = State::Entering(left - 1, is_refused);
+            return false;
+        }
+        self.state = match read_moves(reply).filter(|_| !is_refused) {
+            Some(moves) => {
+                self.moves = moves;
+                State::Ready
+            }
+            None => State::Refused(now + AGAIN),
+        };
+        true
+    }
+
+    /// Whether a command of that course may be sent.
+    pub fn is_ready(&self, number: u32) -> bool {
+        self.state == State::Ready && self.number == number && self.out.len() < MOST_OUT
+    }
+
+    /// How this partition takes part in the move of a key, if it moves.
+    pub fn role(&self, rank: Rank) -> Option<Role> {
+        if self.moves.is_empty() {
+            return None;
+        }
+        let after = self.moves.partition_point(|&(lo, _, _)| lo <= rank);
+        let &(_, hi, role) = self.moves[..after].last()?;
+        (rank < hi).then_some(role)
+    }
+
+    /// Reads what has come: whether the connection still stands.
+    pub fn receive(&mut self, block: &mut [u8], is_closed: bool) -> bool {
+        let Some(stream) = &mut self.stream else {
+            return false;
+        };
+        receive(stream, block, &mut self.heard, (is_closed, usize::MAX)) == Received::All
+    }
+
+    /// Sends what it can: whether the connection still stands.
+    pub fn flush(&mut self) -> bool {
+        self.stream.as_mut().is_none_or(|stream| self.out.send(stream))
+    }
+}
+
+/// The moves of the texts that `squall_moves` answers.
+fn read_moves(reply: &[u8]) -> Option<Vec<(Rank, Rank, Role)>> {
+    let (value, _) = Value::read(reply).ok()??;
+    let Value::List(lines) = value else {
+        return None;
+    };
+    lines.into_iter().map(|line| read_move(&line.text())).collect()
+}
+
+fn read_move(line: &str) -> Option<(Rank, Rank, Role)> {
+    let words: Vec<&str> = line.split(' ').collect();
+    let rank = |word| u64::from_str_radix(word, 16).ok().map(Rank);
+    let role = match *words.get(2)? {
+        "out" => Role::Out,
+        "in" => Role::In,
+        _ => Role::Beside,
+    };
+    let (lo, hi) = (rank(words[0])?, rank(words[1])?);
+    debug_assert_eq!(keymap::hex(lo), words[0]);
+    Some((lo, hi, role))
+}
+
+#[cfg(test)]
+mod tests {
+    use super::*;
+
+    #[test]
+    fn roles_are_found() {
+        let now = Instant::now();
+        let mut upstream = Upstream::new(1, "127.0.0.1:1".parse().unwrap(), false, now);
+        upstream.state = State::Entering(2, false);
+        assert!(!upstream.entered(b"+OK\r\n", now));
+        let line = "0000000200000000 0000000300000000 out 3 0000000200000000 0000000200000000";
+        let reply = format!("*1\r\n${}\r\n{line}\r\n", line.len());
+        assert!(upstream.entered(reply.as_bytes(), now));
+        assert!(upstream.state == State::Ready);
+        assert_eq!(upstream.role(Rank::new(2, 0)), Some(Role::Out));
+        assert_eq!(upstream.role(Rank::new(1, 9)), None);
+        assert_eq!(upstream.role(Rank::new(3, 0)), None);
+    }
+
+    #[test]
+    fn a_refusal_is_noticed() {
+        let now = Instant::now();
+        let mut upstream = Upstream::new(1, "127.0.0.1:1".parse().unwrap(), false, now);
+        upstream.state = State::Entering(2, false);
+        upstream.entered(b"-WRONGPASS invalid\r\n", now);
+        assert!(upstream.entered(b"*0\r\n", now));
+        assert!(matches!(upstream.state, State::Refused(_)));
+    }
+}
