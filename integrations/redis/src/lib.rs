@@ -6,6 +6,7 @@
 
 pub mod args;
 pub mod bus;
+pub mod check;
 pub mod conn;
 pub mod course;
 pub mod dice;

@@ -272,7 +272,8 @@ mod tests {
     fn places(line: &str) -> Result<Vec<usize>, &'static str> {
         let words: Vec<&[u8]> = line.split(' ').map(str::as_bytes).collect();
         let command = find(words[0]).expect("a known command");
-        Ok(command.places(words.len(), |at| words[at])?.collect())
+        let places = command.places(words.len(), |at| words[at])?.collect();
+        Ok(places)
     }
 
     #[test]

@@ -1,0 +1,61 @@
+//! A load that knows each right answer, for tests.
+
+mod key;
+mod load;
+
+use crate::args::{Args, Usage};
+use crate::fault::{Done, Fault};
+use load::{Load, Tally};
+use std::sync::atomic::Ordering::Relaxed;
+use std::thread;
+use std::time::{Duration, Instant};
+
+/// What the program is.
+pub const USAGE: Usage = Usage {
+    name: "squall-redis-check",
+    help: include_str!("help.txt"),
+    options: &["proxy", "commands", "connections", "depth", "keys", "roots", "size", "seed", "prefix", "pause"],
+    flags: &["tolerant", "quiet"],
+};
+
+/// Runs the program.
+pub fn run(args: &Args) -> Done<()> {
+    let proxies: Vec<_> = args.all("proxy").map(crate::args::resolve).collect::<Done<_>>()?;
+    if proxies.is_empty() {
+        return Err(Fault::new("--proxy HOST:PORT is missing"));
+    }
+    let connections = args.number("connections", 8, 1, 1000)?;
+    let commands = args.number("commands", 100_000, 1, u64::MAX)?;
+    let tally = Tally::default();
+    let load = Load {
+        proxies,
+        commands: commands.div_ceil(connections),
+        depth: args.number("depth", 8, 1, 10_000)? as usize,
+        keys: args.number("keys", 500, 8, 1_000_000)? as usize,
+        roots: args.number("roots", 1000, 1, 1_000_000)?,
+        padding: "x".repeat(args.number("size", 100, 0, 1 << 20)? as usize),
+        seed: args.number("seed", 1, 0, u64::MAX)?,
+        prefix: args.get("prefix").unwrap_or("k").to_string(),
+        pause: Duration::from_micros(args.number("pause", 0, 0, 10_000_000)?),
+        is_tolerant: args.has("tolerant"),
+        tally: &tally,
+    };
+    let began = Instant::now();
+    thread::scope(|scope| {
+        let load = &load;
+        let threads: Vec<_> = (0..connections).map(|own| scope.spawn(move || load.run(own))).collect();
+        while !args.has("quiet") && threads.iter().any(|it| !it.is_finished()) {
+            thread::sleep(Duration::from_millis(250));
+            if began.elapsed().as_millis() % 5000 < 250 {
+                eprintln!("{tally}");
+            }
+        }
+    });
+    println!("{tally} seconds {:.1}", began.elapsed().as_secs_f64());
+    let faults = tally.lost.load(Relaxed) + tally.wrong.load(Relaxed);
+    let errors = tally.errors.load(Relaxed) + tally.unread.load(Relaxed);
+    if faults > 0 || errors > 0 && !load.is_tolerant {
+        return Err(Fault::new("answers were lost or wrong"));
+    }
+    Ok(())
+}
