@@ -108,9 +108,7 @@ impl Args {
             let (part, addr) = value.split_once('=').ok_or_else(wrong)?;
             let part: u32 = part.parse().map_err(|_| wrong())?;
             if part > 9999 {
-                return Err(Fault::new(format!(
-                    "--part {value}: a partition is at most 9999"
-                )));
+                return Err(Fault::new(format!("--part {value}: a partition is at most 9999")));
             }
             if parts.insert(part, resolve(addr)?).is_some() {
                 return Err(Fault::new(format!("--part {part} is given twice")));

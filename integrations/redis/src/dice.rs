@@ -18,7 +18,7 @@ impl Dice {
     }
 
     /// The next number of 64 bits.
-    pub fn next(&mut self) -> u64 {
+    pub fn draw(&mut self) -> u64 {
         self.0 = self.0.wrapping_add(0x9e37_79b9_7f4a_7c15);
         let mut mixed = self.0;
         mixed = (mixed ^ (mixed >> 30)).wrapping_mul(0xbf58_476d_1ce4_e5b9);
@@ -28,7 +28,7 @@ impl Dice {
 
     /// The next number below `most`, which is not 0.
     pub fn below(&mut self, most: u64) -> u64 {
-        ((u128::from(self.next()) * u128::from(most)) >> 64) as u64
+        ((u128::from(self.draw()) * u128::from(most)) >> 64) as u64
     }
 }
 
@@ -40,6 +40,6 @@ mod tests {
     fn numbers_are_below() {
         let mut dice = Dice::of(1);
         assert!((0..1000).all(|_| dice.below(7) < 7));
-        assert_ne!(Dice::of(1).next(), Dice::of(2).next());
+        assert_ne!(Dice::of(1).draw(), Dice::of(2).draw());
     }
 }

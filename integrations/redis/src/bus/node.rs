@@ -4,8 +4,8 @@ use super::entry::{Entry, Places, Streams};
 use super::outbox;
 use crate::conn::{Conn, Server};
 use crate::dice::Dice;
-use crate::faults;
 use crate::fault::Done;
+use crate::faults;
 use squall::{Error, Router, View};
 use std::sync::atomic::{AtomicU64, Ordering::Relaxed, Ordering::SeqCst};
 use std::sync::{Arc, Condvar, Mutex, MutexGuard, PoisonError};
@@ -94,7 +94,7 @@ impl Node {
         let node = Arc::new(Node {
             server: options.server,
             streams: Streams::new(&options.streams),
-            name: format!("{}-{:016x}", options.kind, Dice::fresh().next()),
+            name: format!("{}-{:016x}", options.kind, Dice::fresh().draw()),
             router: Mutex::new(router),
             view: Mutex::new(view),
             views: AtomicU64::new(1),
@@ -202,8 +202,7 @@ impl Node {
         let misses = faults::misses();
         loop {
             let (mut frames, mut digests) = self.streams.read(&mut conn, &mut places)?;
-            let mut is_heard =
-                |entry: &Entry| entry.from != self.name && dice.below(100) >= misses;
+            let mut is_heard = |entry: &Entry| entry.from != self.name && dice.below(100) >= misses;
             frames.retain(&mut is_heard);
             digests.retain(&mut is_heard);
             self.take(&frames)?;
@@ -282,7 +281,11 @@ impl Node {
                 agenda.is_wanted = false;
                 return None;
             }
-            let until = agenda.answers.iter().map(|answer| answer.due).fold(next, Instant::min);
+            let until = agenda
+                .answers
+                .iter()
+                .map(|answer| answer.due)
+                .fold(next, Instant::min);
             let waited = self.speak.wait_timeout(agenda, until - now);
             agenda = waited.unwrap_or_else(PoisonError::into_inner).0;
         }

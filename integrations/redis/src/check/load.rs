@@ -29,7 +29,14 @@ pub struct Tally {
 impl fmt::Display for Tally {
     fn fmt(&self, f: &mut fmt::Formatter<'_>) -> fmt::Result {
         let of = |count: &AtomicU64| count.load(Relaxed);
-        let Tally { commands, errors, wrong, lost, unread, .. } = self;
+        let Tally {
+            commands,
+            errors,
+            wrong,
+            lost,
+            unread,
+            ..
+        } = self;
         write!(
             f,
             "commands {} errors {} lost {} wrong {} unread {}",
@@ -69,6 +76,8 @@ pub struct Load<'a> {
     pub prefix: String,
     /// The pause between two rounds.
     pub pause: Duration,
+    /// How often a key is read in the end, until it is answered.
+    pub reads: u64,
     /// Whether answers may be missing, since what is tested is killed.
     pub is_tolerant: bool,
     pub tally: &'a Tally,
@@ -94,8 +103,6 @@ struct Session<'a> {
 
 /// Keys of a command that has many.
 const MANY: usize = 5;
-/// How often a key is read in the end, until it is answered.
-const READS: usize = 200;
 
 impl Load<'_> {
     /// All that one connection does.
@@ -125,9 +132,19 @@ impl Load<'_> {
         let stem = if at % 4 == 3 {
             format!("{}{own}:{at}", self.prefix)
         } else {
-            format!("{}:{}:{}{own}", place % self.roots, place / self.roots, self.prefix)
+            format!(
+                "{}:{}:{}{own}",
+                place % self.roots,
+                place / self.roots,
+                self.prefix
+            )
         };
-        Key { stem, turn: 0, is_count: at % 8 == 5, held: Held::Nothing }
+        Key {
+            stem,
+            turn: 0,
+            is_count: at % 8 == 5,
+            held: Held::Nothing,
+        }
     }
 }
 
@@ -212,7 +229,10 @@ impl Session<'_> {
                     Act::Incr => vec!["INCR".into(), name],
                     Act::Set(version) => vec!["SET".into(), name, text(version, &self.load.padding)],
                 };
-                Command { words, acts: vec![(key, act)] }
+                Command {
+                    words,
+                    acts: vec![(key, act)],
+                }
             }
         }
     }
@@ -251,7 +271,9 @@ impl Session<'_> {
             if self.load.is_tolerant {
                 tally.errors.fetch_add(1, Relaxed);
             } else {
-                tally.fault(&tally.errors, || format!("error: {} {}: {error}", command.words[0], command.words[1]));
+                tally.fault(&tally.errors, || {
+                    format!("error: {} {}: {error}", command.words[0], command.words[1])
+                });
             }
             // A command on one key that was refused was not done.
             return is_done || command.acts.len() > 1;
@@ -260,9 +282,10 @@ impl Session<'_> {
         let is_right = match (command.words[0].as_str(), answer) {
             ("MGET", Value::List(values)) => {
                 values.len() == command.acts.len()
-                    && values.iter().zip(&command.acts).all(|(value, &(key, act))| {
-                        self.keys[key].held.answers(act, value, padding)
-                    })
+                    && values
+                        .iter()
+                        .zip(&command.acts)
+                        .all(|(value, &(key, act))| self.keys[key].held.answers(act, value, padding))
             }
             ("MSET", answer) => *answer == Value::Status("OK".into()),
             _ => {
@@ -274,7 +297,10 @@ impl Session<'_> {
             tally.fault(&tally.wrong, || {
                 let held = command.acts.iter().map(|&(key, _)| &self.keys[key].held);
                 let held: Vec<_> = held.collect();
-                format!("wrong: {} {}: {answer:.60?}, held {held:?}", command.words[0], command.words[1])
+                format!(
+                    "wrong: {} {}: {answer:.60?}, held {held:?}",
+                    command.words[0], command.words[1]
+                )
             });
         }
         for &(key, act) in &command.acts {
@@ -287,7 +313,11 @@ impl Session<'_> {
     /// Gives up keys of which it is not known what was done, or when it will be, for new ones.
     fn give_up(&mut self, unknown: &[(usize, Act)]) {
         for at in 0..self.keys.len() {
-            let acts: Vec<Act> = unknown.iter().filter(|&&(key, _)| key == at).map(|&(_, act)| act).collect();
+            let acts: Vec<Act> = unknown
+                .iter()
+                .filter(|&&(key, _)| key == at)
+                .map(|&(_, act)| act)
+                .collect();
             if acts.is_empty() {
                 continue;
             }
@@ -303,7 +333,10 @@ impl Session<'_> {
         let known: Vec<Loose> = self
             .keys
             .iter()
-            .map(|key| Loose { name: key.name(), may_hold: vec![key.held.clone()] })
+            .map(|key| Loose {
+                name: key.name(),
+                may_hold: vec![key.held.clone()],
+            })
             .chain(std::mem::take(&mut self.loose))
             .collect();
         for key in known {
@@ -325,7 +358,7 @@ impl Session<'_> {
     /// What a key holds, once it is answered.
     fn read(&mut self, name: &str) -> Option<Value> {
         let words = vec!["GET".to_string(), name.to_string()];
-        for _ in 0..READS {
+        for _ in 0..self.load.reads {
             match self.ask(&[&words]).pop() {
                 Some(Value::Error(_)) => thread::sleep(Duration::from_millis(20)),
                 Some(value) => return Some(value),

@@ -14,7 +14,19 @@ use std::time::{Duration, Instant};
 pub const USAGE: Usage = Usage {
     name: "squall-redis-check",
     help: include_str!("help.txt"),
-    options: &["proxy", "commands", "connections", "depth", "keys", "roots", "size", "seed", "prefix", "pause"],
+    options: &[
+        "proxy",
+        "commands",
+        "connections",
+        "depth",
+        "keys",
+        "roots",
+        "size",
+        "seed",
+        "prefix",
+        "pause",
+        "reads",
+    ],
     flags: &["tolerant", "quiet"],
 };
 
@@ -37,13 +49,16 @@ pub fn run(args: &Args) -> Done<()> {
         seed: args.number("seed", 1, 0, u64::MAX)?,
         prefix: args.get("prefix").unwrap_or("k").to_string(),
         pause: Duration::from_micros(args.number("pause", 0, 0, 10_000_000)?),
+        reads: args.number("reads", 200, 1, 1_000_000)?,
         is_tolerant: args.has("tolerant"),
         tally: &tally,
     };
     let began = Instant::now();
     thread::scope(|scope| {
         let load = &load;
-        let threads: Vec<_> = (0..connections).map(|own| scope.spawn(move || load.run(own))).collect();
+        let threads: Vec<_> = (0..connections)
+            .map(|own| scope.spawn(move || load.run(own)))
+            .collect();
         while !args.has("quiet") && threads.iter().any(|it| !it.is_finished()) {
             thread::sleep(Duration::from_millis(250));
             if began.elapsed().as_millis() % 5000 < 250 {

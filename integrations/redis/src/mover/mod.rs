@@ -25,8 +25,19 @@ pub const USAGE: Usage = Usage {
     name: "squall-redis-mover",
     help: include_str!("help.txt"),
     options: &[
-        "number", "old", "new", "first", "bus", "bus-password-file", "streams", "part", "password-file",
-        "secret-file", "chunk", "pause", "squall",
+        "number",
+        "old",
+        "new",
+        "first",
+        "bus",
+        "bus-password-file",
+        "streams",
+        "part",
+        "password-file",
+        "secret-file",
+        "chunk",
+        "pause",
+        "squall",
     ],
     flags: &["init", "dry-run"],
 };
@@ -90,7 +101,10 @@ impl Mover {
             old,
             new,
             moves,
-            servers: addrs.into_iter().map(|(part, addr)| (part, server(addr))).collect(),
+            servers: addrs
+                .into_iter()
+                .map(|(part, addr)| (part, server(addr)))
+                .collect(),
             secret: args.password("secret-file")?.unwrap_or(DEFAULT_SECRET.into()),
         })
     }
@@ -140,8 +154,10 @@ impl Mover {
     /// All partitions, those of the old plan first. The first one decides between two movers that
     /// draw one number.
     fn partitions(&self) -> Done<Vec<Partition>> {
-        let (first, rest): (Vec<_>, Vec<_>) =
-            self.servers.iter().partition(|(part, _)| self.old.parts.contains(part));
+        let (first, rest): (Vec<_>, Vec<_>) = self
+            .servers
+            .iter()
+            .partition(|(part, _)| self.old.parts.contains(part));
         let all = first.into_iter().chain(rest);
         all.map(|(&part, server)| Partition::open(part, server, self.number))
             .collect()
@@ -205,7 +221,13 @@ impl Mover {
         }
         for it in &self.moves {
             let count = counts.get(&it.lo.0).unwrap_or(&0);
-            let Move { lo, hi, source, dest, sub } = it;
+            let Move {
+                lo,
+                hi,
+                source,
+                dest,
+                sub,
+            } = it;
             println!("move [{lo},{hi}) {source} to {dest} sub {sub}: {count} keys");
         }
         let total: usize = counts.values().sum();
@@ -227,10 +249,11 @@ fn sources(job: &Job, moves: &[Move]) -> Done<()> {
             .collect();
         let mut all = Ok(());
         for thread in threads {
-            let one = thread.join().unwrap_or_else(|_| Err(Fault::new("a source's thread has ended")));
+            let one = thread
+                .join()
+                .unwrap_or_else(|_| Err(Fault::new("a source's thread has ended")));
             all = all.and(one);
         }
         all
     })
 }
-

@@ -66,7 +66,15 @@ impl Partition {
 
     fn call_begin(&mut self, function: &str, course: &Beginning) -> Done<()> {
         let fresh = if course.is_fresh { "fresh" } else { "known" };
-        let head = ["FCALL", function, "0", &self.number, course.old, course.new, fresh];
+        let head = [
+            "FCALL",
+            function,
+            "0",
+            &self.number,
+            course.old,
+            course.new,
+            fresh,
+        ];
         let mut words: Vec<String> = head.into_iter().map(String::from).collect();
         words.extend(course.moves.iter().map(|it| self.line(it)));
         self.ask(&words).map(drop)

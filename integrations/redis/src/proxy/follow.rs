@@ -62,7 +62,12 @@ impl Worker {
         Ok(Some(Targets::Many(targets)))
     }
 
-    fn target(&mut self, client: &Client, plan: &Plan, part: usize) -> Result<Option<(usize, bool)>, Vec<u8>> {
+    fn target(
+        &mut self,
+        client: &Client,
+        plan: &Plan,
+        part: usize,
+    ) -> Result<Option<(usize, bool)>, Vec<u8>> {
         let ranks = plan.ranks(part);
         let Some(asked) = self.view.route(ranks[0]) else {
             return Err(error("ERR no partition has this key"));
@@ -106,7 +111,11 @@ impl Worker {
 
     /// Takes the reply to a request.
     pub(super) fn answered(&mut self, at: usize, sent: InFlight, reply: &[u8]) {
-        let said = if reply.first() == Some(&b'-') { read(reply, sent.is_guarded) } else { Said::Answer };
+        let said = if reply.first() == Some(&b'-') {
+            read(reply, sent.is_guarded)
+        } else {
+            Said::Answer
+        };
         if let Said::Answer = said {
             if sent.is_guarded {
                 if let Some(number) = reply.strip_prefix(b"+SQUALL INT ") {
@@ -136,7 +145,11 @@ impl Worker {
                 Said::Elsewhere(reply) => Some((part, reply)),
                 _ => None,
             };
-            client.diverted.push(Diverted { seq: sent.seq, part: sent.part, said });
+            client.diverted.push(Diverted {
+                seq: sent.seq,
+                part: sent.part,
+                said,
+            });
         }
         self.wake(sent.client);
     }
@@ -267,7 +280,14 @@ impl Worker {
         if to.sent.is_empty() {
             to.progress = self.now;
         }
-        to.sent.push_back(InFlight { client: at, id: client.id, seq, part, is_guarded, is_chased: true });
+        to.sent.push_back(InFlight {
+            client: at,
+            id: client.id,
+            seq,
+            part,
+            is_guarded,
+            is_chased: true,
+        });
         client.in_flight += 1;
         self.mark_upstream(upstream);
         true

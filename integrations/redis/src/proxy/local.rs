@@ -17,7 +17,11 @@ pub struct Local {
 
 impl Local {
     fn new(answer: impl Into<Vec<u8>>) -> Local {
-        Local { answer: answer.into(), proto: None, is_end: false }
+        Local {
+            answer: answer.into(),
+            proto: None,
+            is_end: false,
+        }
     }
 }
 
@@ -33,7 +37,10 @@ pub fn answer(words: Words, is_resp3: bool, view: &View, info: impl FnOnce() -> 
         } else {
             error("ERR this proxy serves database 0 alone")
         }),
-        b"QUIT" => Local { is_end: true, ..Local::new("+OK\r\n") },
+        b"QUIT" => Local {
+            is_end: true,
+            ..Local::new("+OK\r\n")
+        },
         b"HELLO" => hello(words, is_resp3),
         b"COMMAND" => Local::new("*0\r\n"),
         b"CLIENT" => client(sub(1)),
@@ -46,8 +53,8 @@ pub fn answer(words: Words, is_resp3: bool, view: &View, info: impl FnOnce() -> 
             "ERR this proxy serves no transactions: '{}'",
             shown(words.at(0))
         ))),
-        b"BLPOP" | b"BRPOP" | b"BLMOVE" | b"BRPOPLPUSH" | b"BLMPOP" | b"BZPOPMIN" | b"BZPOPMAX" | b"BZMPOP"
-        | b"WAIT" => Local::new(error(&format!(
+        b"BLPOP" | b"BRPOP" | b"BLMOVE" | b"BRPOPLPUSH" | b"BLMPOP" | b"BZPOPMIN" | b"BZPOPMAX"
+        | b"BZMPOP" | b"WAIT" => Local::new(error(&format!(
             "ERR this proxy serves no commands that wait: '{}'",
             shown(words.at(0))
         ))),
@@ -96,5 +103,8 @@ fn hello(words: Words, is_resp3: bool) -> Local {
          $2\r\nid\r\n:1\r\n$4\r\nmode\r\n$10\r\nstandalone\r\n$4\r\nrole\r\n$6\r\nmaster\r\n\
          $7\r\nmodules\r\n*0\r\n"
     );
-    Local { proto: Some(proto), ..Local::new(text) }
+    Local {
+        proto: Some(proto),
+        ..Local::new(text)
+    }
 }

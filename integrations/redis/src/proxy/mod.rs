@@ -30,8 +30,19 @@ pub const USAGE: Usage = Usage {
     name: "squall-redis-proxy",
     help: include_str!("help.txt"),
     options: &[
-        "listen", "first", "bus", "bus-password-file", "streams", "part", "secret-file", "threads", "wait",
-        "answer", "clients", "client-memory", "metrics",
+        "listen",
+        "first",
+        "bus",
+        "bus-password-file",
+        "streams",
+        "part",
+        "secret-file",
+        "threads",
+        "wait",
+        "answer",
+        "clients",
+        "client-memory",
+        "metrics",
     ],
     flags: &[],
 };
@@ -89,12 +100,14 @@ fn start(shared: &Arc<Shared>) -> Done<Vec<Arc<Waker>>> {
             let _ = waker.wake();
         });
         let worker = Worker::new(poll, shared.clone(), own);
-        thread::Builder::new().name(format!("worker {own}")).spawn(move || {
-            if let Err(error) = worker.run() {
-                eprintln!("squall-redis-proxy: {error}");
-                std::process::exit(1);
-            }
-        })?;
+        thread::Builder::new()
+            .name(format!("worker {own}"))
+            .spawn(move || {
+                if let Err(error) = worker.run() {
+                    eprintln!("squall-redis-proxy: {error}");
+                    std::process::exit(1);
+                }
+            })?;
     }
     Ok(wakers)
 }
@@ -120,8 +133,13 @@ fn accept(listener: &TcpListener, shared: &Shared, wakers: &[Arc<Waker>], most: 
         };
         shared.clients.fetch_add(1, SeqCst);
         let arrivals = &shared.arrivals[next];
-        arrivals.lock().unwrap_or_else(PoisonError::into_inner).push(stream);
-        wakers[next].wake().map_err(|error| Fault::new(error.to_string()))?;
+        arrivals
+            .lock()
+            .unwrap_or_else(PoisonError::into_inner)
+            .push(stream);
+        wakers[next]
+            .wake()
+            .map_err(|error| Fault::new(error.to_string()))?;
         next = (next + 1) % wakers.len();
     }
 }

@@ -64,9 +64,7 @@ impl Plan {
         let mut ranks = vec![];
         for at in places {
             let next = rank_at(words, at)?;
-            if next != rank || !ranks.is_empty() {
-                ranks.push((at, next));
-            } else if command.split.is_some() {
+            if next != rank || command.split.is_some() {
                 ranks.push((at, next));
             }
         }
@@ -128,7 +126,11 @@ impl Plan {
     /// Appends a request by the guard of a partition in the course `number`.
     pub fn put_guarded(&self, out: &mut Vec<u8>, part: usize, words: Words, (number, is_resp3): (u32, bool)) {
         let ranks = self.ranks(part);
-        let proto = if is_resp3 && self.command().guard == Guard::Both { "3" } else { "2" };
+        let proto = if is_resp3 && self.command().guard == Guard::Both {
+            "3"
+        } else {
+            "2"
+        };
         let texts: Vec<String> = [number.to_string(), proto.into(), ranks.len().to_string()]
             .into_iter()
             .chain(ranks.iter().map(|&rank| keymap::hex(rank)))
@@ -153,13 +155,17 @@ fn part_words<'a>(part: &Part, words: Words<'a>) -> Vec<&'a [u8]> {
 fn parts(keys: &[(usize, Rank)], count: usize) -> Vec<Part> {
     let ends = keys.iter().skip(1).map(|&(at, _)| at).chain([count]);
     let parts = keys.iter().zip(ends);
-    parts.map(|(&(at, rank), end)| Part { rank, words: at..end }).collect()
+    parts
+        .map(|(&(at, rank), end)| Part { rank, words: at..end })
+        .collect()
 }
 
 fn rank_at(words: Words, at: usize) -> Result<Rank, Vec<u8>> {
     let key = words.at(at);
     if is_own(key) {
-        return Err(error("ERR keys that begin with 'squall:' are the partition's own"));
+        return Err(error(
+            "ERR keys that begin with 'squall:' are the partition's own",
+        ));
     }
     Ok(keymap::rank(key))
 }
@@ -168,7 +174,13 @@ fn rank_at(words: Words, at: usize) -> Result<Rank, Vec<u8>> {
 pub fn shown(name: &[u8]) -> String {
     let name = &name[..name.len().min(40)];
     name.iter()
-        .map(|&byte| if byte.is_ascii_graphic() { byte as char } else { '?' })
+        .map(|&byte| {
+            if byte.is_ascii_graphic() {
+                byte as char
+            } else {
+                '?'
+            }
+        })
         .collect()
 }
 
@@ -183,7 +195,10 @@ mod tests {
         push(&mut bytes, &words);
         let mut parser = Parser::default();
         parser.read(&bytes, 100).unwrap();
-        let words = Words { bytes: &bytes, places: parser.words() };
+        let words = Words {
+            bytes: &bytes,
+            places: parser.words(),
+        };
         let plan = Plan::of(words).map_err(|error| String::from_utf8(error).unwrap());
         see(plan, words, parser.len())
     }
@@ -225,7 +240,17 @@ mod tests {
             plan.put(&mut plain, 0, words, len);
             assert_eq!(plain, words.bytes);
             plan.put_guarded(&mut guarded, 0, words, (5, true));
-            let all = ["FCALL", "squall_do", "0", "5", "3", "1", "0000000200000007", "GET", "2:7"];
+            let all = [
+                "FCALL",
+                "squall_do",
+                "0",
+                "5",
+                "3",
+                "1",
+                "0000000200000007",
+                "GET",
+                "2:7",
+            ];
             push(&mut wanted, &all);
             assert_eq!(guarded, wanted);
         });

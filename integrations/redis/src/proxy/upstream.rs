@@ -131,7 +131,10 @@ impl Upstream {
         } else {
             push(&mut self.out.bytes, &["AUTH", &name, secret]);
         }
-        push(&mut self.out.bytes, &["FCALL", "squall_moves", "0", &number.to_string()]);
+        push(
+            &mut self.out.bytes,
+            &["FCALL", "squall_moves", "0", &number.to_string()],
+        );
         self.state = State::Entering(2, false);
         self.number = number;
     }

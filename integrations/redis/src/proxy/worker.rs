@@ -150,13 +150,20 @@ impl Worker {
     /// Takes new clients.
     fn accept(&mut self) {
         let streams = {
-            let mut arrived = self.shared.arrivals[self.own].lock().unwrap_or_else(PoisonError::into_inner);
+            let mut arrived = self.shared.arrivals[self.own]
+                .lock()
+                .unwrap_or_else(PoisonError::into_inner);
             std::mem::take(&mut *arrived)
         };
         for mut stream in streams {
             let at = self.free.pop().unwrap_or(self.clients.len());
             let interest = Interest::READABLE | Interest::WRITABLE;
-            if self.poll.registry().register(&mut stream, client_token(at), interest).is_err() {
+            if self
+                .poll
+                .registry()
+                .register(&mut stream, client_token(at), interest)
+                .is_err()
+            {
                 self.free.push(at);
                 self.shared.clients.fetch_sub(1, SeqCst);
                 continue;
@@ -323,7 +330,10 @@ impl Worker {
                 return Flow::Idle;
             }
         }
-        let words = Words { bytes: &client.input[client.next..], places: client.parser.words() };
+        let words = Words {
+            bytes: &client.input[client.next..],
+            places: client.parser.words(),
+        };
         if words.count() == 0 {
             client.skip();
             return Flow::On;
@@ -337,7 +347,10 @@ impl Worker {
 
     /// Answers a command that is not passed on.
     fn answer_here(&mut self, client: &mut Client, refused: Vec<u8>) -> Flow {
-        let words = Words { bytes: &client.input[client.next..], places: client.parser.words() };
+        let words = Words {
+            bytes: &client.input[client.next..],
+            places: client.parser.words(),
+        };
         let shared = self.shared.clone();
         let local = local::answer(words, client.is_resp3, &self.view, || shared.info());
         self.commands += 1;
@@ -360,7 +373,11 @@ impl Worker {
         // Guarded requests in flight may be refused. If the view has changed, a later request could go
         // to another partition and come before them.
         let may_send = client.guarded == 0 || client.guard_views == self.views;
-        let targets = if may_send { self.targets(client, &plan) } else { Ok(None) };
+        let targets = if may_send {
+            self.targets(client, &plan)
+        } else {
+            Ok(None)
+        };
         match targets {
             Err(refused) => {
                 client.add_answer(refused);
@@ -372,7 +389,10 @@ impl Worker {
                 if let Some(since) = client.waits_since.take() {
                     self.counts().waited(self.now - since);
                 }
-                let words = Words { bytes: &client.input[client.next..], places: client.parser.words() };
+                let words = Words {
+                    bytes: &client.input[client.next..],
+                    places: client.parser.words(),
+                };
                 let len = client.parser.len();
                 for (part, &(upstream, is_guarded)) in targets.as_slice().iter().enumerate() {
                     let to = &mut self.upstreams[upstream];
@@ -384,7 +404,14 @@ impl Worker {
                     }
                     let seq = client.next_seq();
                     let part = part as u32;
-                    let sent = InFlight { client: at, id: client.id, seq, part, is_guarded, is_chased: false };
+                    let sent = InFlight {
+                        client: at,
+                        id: client.id,
+                        seq,
+                        part,
+                        is_guarded,
+                        is_chased: false,
+                    };
                     if to.sent.is_empty() {
                         to.progress = self.now;
                     }
@@ -409,7 +436,9 @@ impl Worker {
         }
         client.waits_since = None;
         self.counts().gave_up.fetch_add(1, Relaxed);
-        client.add_answer(error("TRYAGAIN the partition does not let this proxy in, or can't be reached"));
+        client.add_answer(error(
+            "TRYAGAIN the partition does not let this proxy in, or can't be reached",
+        ));
         Flow::On
     }
 

@@ -127,7 +127,13 @@ mod tests {
 
     #[test]
     fn garbage_is_refused() {
-        for bytes in [&b"\r\n"[..], b"?\r\n", b"$x\r\n", b"$-2\r\n", b"*9999999999999999\r\n"] {
+        for bytes in [
+            &b"\r\n"[..],
+            b"?\r\n",
+            b"$x\r\n",
+            b"$-2\r\n",
+            b"*9999999999999999\r\n",
+        ] {
             assert!(Scan::default().read(bytes).is_err(), "{bytes:?}");
         }
     }

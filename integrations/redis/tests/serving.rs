@@ -1,0 +1,234 @@
+//! What one client sees of a proxy at rest. `tools/integrations` starts it, and names its address in
+//! SQUALL_PROXY. Its limit on the memory of a client is 1 MiB, and that on clients 20.
+
+use squall_redis::resp::{push, Scan, Value};
+use std::io::{Read, Write};
+use std::net::TcpStream;
+use std::time::Duration;
+
+struct Client {
+    stream: TcpStream,
+    heard: Vec<u8>,
+}
+
+impl Client {
+    fn new() -> Client {
+        let addr = std::env::var("SQUALL_PROXY").expect("SQUALL_PROXY");
+        let stream = TcpStream::connect(addr).unwrap();
+        stream.set_read_timeout(Some(Duration::from_secs(20))).unwrap();
+        stream.set_nodelay(true).unwrap();
+        Client {
+            stream,
+            heard: Vec::new(),
+        }
+    }
+
+    fn send(&mut self, bytes: &[u8]) {
+        self.stream.write_all(bytes).unwrap();
+    }
+
+    /// The bytes of the next reply; none if the proxy has closed.
+    fn hear(&mut self) -> Option<Vec<u8>> {
+        loop {
+            if let Some(len) = Scan::default().read(&self.heard).unwrap() {
+                return Some(self.heard.drain(..len).collect());
+            }
+            let mut block = [0; 65536];
+            match self.stream.read(&mut block) {
+                Ok(0) | Err(_) => return None,
+                Ok(got) => self.heard.extend_from_slice(&block[..got]),
+            }
+        }
+    }
+
+    fn text(&mut self) -> String {
+        String::from_utf8(self.hear().expect("a reply")).unwrap()
+    }
+
+    fn ask(&mut self, line: &str) -> String {
+        self.send(&command(line));
+        self.text()
+    }
+}
+
+fn command(line: &str) -> Vec<u8> {
+    let words: Vec<&str> = line.split(' ').collect();
+    let mut out = Vec::new();
+    push(&mut out, &words);
+    out
+}
+
+#[test]
+#[ignore = "needs a proxy"]
+fn answers_come_in_order() {
+    let mut client = Client::new();
+    let mut all = Vec::new();
+    for at in 0..1000 {
+        all.extend(command(&format!("SET {at}:1:order {at}")));
+        all.extend(command(&format!("GET {at}:1:order")));
+        all.extend(command("PING"));
+    }
+    client.send(&all);
+    for at in 0..1000 {
+        let digits = at.to_string();
+        assert_eq!(client.text(), "+OK\r\n");
+        assert_eq!(client.text(), format!("${}\r\n{digits}\r\n", digits.len()));
+        assert_eq!(client.text(), "+PONG\r\n");
+    }
+}
+
+#[test]
+#[ignore = "needs a proxy"]
+fn commands_may_come_byte_by_byte() {
+    let mut client = Client::new();
+    for byte in [command("SET 7:1:bytes abc"), command("GET 7:1:bytes")].concat() {
+        client.send(&[byte]);
+    }
+    assert_eq!(client.text(), "+OK\r\n");
+    assert_eq!(client.text(), "$3\r\nabc\r\n");
+}
+
+#[test]
+#[ignore = "needs a proxy"]
+fn keys_may_lie_in_several_partitions() {
+    let mut client = Client::new();
+    assert_eq!(client.ask("MSET 1:0:m a 900:0:m b hashed:m c"), "+OK\r\n");
+    assert_eq!(client.ask("HSET 5:0:h f v"), ":1\r\n");
+    let values = client.ask("MGET 900:0:m 1:0:m none:m 5:0:h hashed:m");
+    assert_eq!(values, "*5\r\n$1\r\nb\r\n$1\r\na\r\n$-1\r\n$-1\r\n$1\r\nc\r\n");
+    assert_eq!(client.ask("EXISTS 1:0:m 1:0:m 900:0:m none:m"), ":3\r\n");
+    assert_eq!(client.ask("TOUCH 1:0:m 900:0:m"), ":2\r\n");
+    assert_eq!(client.ask("UNLINK 1:0:m 900:0:m none:m"), ":2\r\n");
+    assert_eq!(client.ask("DEL hashed:m 5:0:h"), ":2\r\n");
+    assert_eq!(client.ask("MSET 1:0:m a 1:0:m b 900:0:m c"), "+OK\r\n");
+    assert_eq!(client.ask("GET 1:0:m"), "$1\r\nb\r\n");
+    assert_eq!(client.ask("DEL 1:0:m 900:0:m"), ":2\r\n");
+}
+
+#[test]
+#[ignore = "needs a proxy"]
+fn keys_of_one_partition_are_served_together() {
+    let mut client = Client::new();
+    assert_eq!(client.ask("SET 1:0:from x"), "+OK\r\n");
+    assert_eq!(client.ask("RENAME 1:0:from 2:0:to"), "+OK\r\n");
+    assert_eq!(client.ask("GET 2:0:to"), "$1\r\nx\r\n");
+    assert!(client.ask("RENAME 2:0:to 900:0:to").starts_with("-CROSSSLOT "));
+    assert_eq!(client.ask("DEL 2:0:to"), ":1\r\n");
+}
+
+#[test]
+#[ignore = "needs a proxy"]
+fn what_is_not_served_is_refused() {
+    let mut client = Client::new();
+    for line in [
+        "KEYS *",
+        "FLUSHALL",
+        "EVAL x 0",
+        "MULTI",
+        "BLPOP a 1",
+        "SUBSCRIBE a",
+        "FCALL squall_do 0",
+        "SCAN 0",
+        "GET squall:number",
+        "MOVE a 1",
+        "SELECT 1",
+        "GET",
+        "MSET a",
+        "AUTH x",
+        "CLIENT KILL x",
+        "XREAD a",
+    ] {
+        assert!(client.ask(line).starts_with("-ERR "), "{line}");
+    }
+    assert_eq!(client.ask("PING"), "+PONG\r\n");
+}
+
+#[test]
+#[ignore = "needs a proxy"]
+fn clients_may_speak_resp3() {
+    let mut client = Client::new();
+    assert_eq!(client.ask("HSET 3:0:three a 1"), ":1\r\n");
+    assert_eq!(client.ask("HGETALL 3:0:three"), "*2\r\n$1\r\na\r\n$1\r\n1\r\n");
+    assert!(client.ask("HELLO 3").starts_with("%7\r\n"));
+    assert_eq!(client.ask("HGETALL 3:0:three"), "%1\r\n$1\r\na\r\n$1\r\n1\r\n");
+    assert_eq!(client.ask("GET 3:0:none"), "_\r\n");
+    assert!(client.ask("HELLO 4").starts_with("-NOPROTO"));
+    assert!(client.ask("HELLO 2").starts_with("*14\r\n"));
+    assert_eq!(client.ask("GET 3:0:none"), "$-1\r\n");
+    assert_eq!(client.ask("DEL 3:0:three"), ":1\r\n");
+}
+
+#[test]
+#[ignore = "needs a proxy"]
+fn garbage_ends_the_connection_after_the_answers_before_it() {
+    for garbage in [
+        &b"PING\r\n"[..],
+        b"*1\r\n+x\r\n",
+        b"*1\r\n$99999999\r\n",
+        b"\0\0\0\0",
+        b"*-x\r\n",
+    ] {
+        let mut client = Client::new();
+        client.send(&[&command("GET 1:0:none"), garbage].concat());
+        assert_eq!(client.text(), "$-1\r\n");
+        assert!(client.text().starts_with("-ERR Protocol error"), "{garbage:?}");
+        assert_eq!(client.hear(), None);
+    }
+}
+
+#[test]
+#[ignore = "needs a proxy"]
+fn half_a_command_holds_nobody_up() {
+    let mut half = Client::new();
+    half.send(b"*2\r\n$3\r\nGET\r\n$5\r\n1:");
+    assert_eq!(Client::new().ask("PING"), "+PONG\r\n");
+    half.send(b"0:x\r\n");
+    assert_eq!(half.text(), "$-1\r\n");
+}
+
+#[test]
+#[ignore = "needs a proxy"]
+fn large_values_pass_and_too_large_ones_are_refused() {
+    let mut client = Client::new();
+    let value = "v".repeat(900_000);
+    assert_eq!(client.ask(&format!("SET 4:0:large {value}")), "+OK\r\n");
+    assert_eq!(client.ask("STRLEN 4:0:large"), ":900000\r\n");
+    client.send(&[command("GET 4:0:large"), command("PING")].concat());
+    assert_eq!(client.text().len(), 900_000 + 11);
+    assert_eq!(client.text(), "+PONG\r\n");
+    assert_eq!(client.ask("DEL 4:0:large"), ":1\r\n");
+    let many = format!("MSET {}", "5:0:many v ".repeat(100_000).trim_end());
+    client.stream.write_all(&command(&many)).ok();
+    assert!(client
+        .hear()
+        .is_none_or(|reply| reply.starts_with(b"-ERR Protocol error")));
+}
+
+#[test]
+#[ignore = "needs a proxy"]
+fn too_many_clients_are_refused() {
+    let mut clients: Vec<Client> = (0..30).map(|_| Client::new()).collect();
+    let mut refused = 0;
+    for client in &mut clients {
+        client.stream.write_all(&command("PING")).ok();
+        match client.hear() {
+            Some(reply) if reply == b"+PONG\r\n" => {}
+            _ => refused += 1,
+        }
+    }
+    assert!((1..30).contains(&refused), "{refused}");
+}
+
+#[test]
+#[ignore = "needs a proxy"]
+fn values_are_whole() {
+    let mut client = Client::new();
+    let reply = client.ask("SQUALL INFO");
+    let Ok(Some((Value::Bulk(text), _))) = Value::read(reply.as_bytes()) else {
+        panic!("{reply}");
+    };
+    assert!(String::from_utf8(text).unwrap().starts_with("course 1 views"));
+    assert!(client
+        .ask("SQUALL ROUTE 1:0")
+        .contains("key 1:0 partition 1 course 1"));
+}
