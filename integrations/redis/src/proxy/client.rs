@@ -72,10 +72,11 @@ pub struct Client {
     first: u64,
     /// The bytes of answers that wait for an earlier one.
     pub held: usize,
-    /// How many requests are in flight; how many of them by a guard, and the view by which those were sent.
+    /// How many requests are in flight, and how many of them by a guard.
     pub in_flight: usize,
     pub guarded: usize,
-    pub guard_views: u64,
+    /// The view by which the last request was sent, and that view's course.
+    pub sent_by: (u64, u32),
     /// The requests that were refused, by number and part once nothing is in flight.
     pub diverted: Vec<Diverted>,
     pub chase: Option<Chase>,
@@ -108,7 +109,7 @@ impl Client {
             held: 0,
             in_flight: 0,
             guarded: 0,
-            guard_views: 0,
+            sent_by: (0, 0),
             diverted: Vec::new(),
             chase: None,
             waits_since: None,
@@ -128,6 +129,15 @@ impl Client {
     /// Whether it may have another command in flight.
     pub fn has_room(&self, most: usize) -> bool {
         self.window.len() < MOST_COMMANDS && self.out.len() + self.held < most
+    }
+
+    /// Whether a request that is sent by a view and its course comes after those in flight.
+    ///
+    /// Guarded requests may be refused, and all requests of a course before. By another view a later
+    /// request could go to another partition and be done before them.
+    pub fn keeps_order(&self, views: u64, number: u32) -> bool {
+        let (sent_views, sent_number) = self.sent_by;
+        self.in_flight == 0 || sent_number == number && (self.guarded == 0 || sent_views == views)
     }
 
     /// Whether all its commands are answered.

@@ -338,6 +338,10 @@ impl Worker {
             client.skip();
             return Flow::On;
         }
+        // Each protocol has connections of its own, on which commands could overtake those before.
+        if client.in_flight > 0 && words.at(0).eq_ignore_ascii_case(b"HELLO") {
+            return Flow::Idle;
+        }
         let plan = match Plan::of(words) {
             Ok(plan) => plan,
             Err(refused) => return self.answer_here(client, refused),
@@ -370,10 +374,7 @@ impl Worker {
 
     /// Sends all requests of a command, or none if one of them has to wait.
     fn send(&mut self, at: usize, client: &mut Client, plan: Plan) -> Flow {
-        // Guarded requests in flight may be refused. If the view has changed, a later request could go
-        // to another partition and come before them.
-        let may_send = client.guarded == 0 || client.guard_views == self.views;
-        let targets = if may_send {
+        let targets = if client.keeps_order(self.views, self.view.number()) {
             self.targets(client, &plan)
         } else {
             Ok(None)
@@ -422,7 +423,7 @@ impl Worker {
                 }
             }
         }
-        client.guard_views = self.views;
+        client.sent_by = (self.views, self.view.number());
         client.add(plan);
         self.commands += 1;
         Flow::On
