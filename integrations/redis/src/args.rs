@@ -34,9 +34,7 @@ impl Args {
                 String::new()
             } else if usage.options.contains(&name) {
                 let value = words.next();
-                value
-                    .ok_or_else(|| Fault::new(format!("--{name} needs a value")))?
-                    .clone()
+                value.ok_or_else(|| Fault::new(format!("--{name} needs a value")))?.clone()
             } else {
                 return Err(Fault::new(format!("--{name} is not known")));
             };
@@ -64,8 +62,7 @@ impl Args {
 
     /// The value, which has to be given.
     pub fn need(&self, name: &str) -> Done<&str> {
-        self.get(name)
-            .ok_or_else(|| Fault::new(format!("--{name} is missing")))
+        self.get(name).ok_or_else(|| Fault::new(format!("--{name} is missing")))
     }
 
     /// A number in its bounds, or `otherwise` if none is given.
@@ -93,9 +90,7 @@ impl Args {
         let text = fs::read_to_string(path).trying(|| format!("--{name} {path}"))?;
         let line = text.lines().next().unwrap_or_default().to_string();
         if line.is_empty() || line.contains([' ', '\t']) {
-            return Err(Fault::new(format!(
-                "--{name} {path}: the first line is no password, or has blanks"
-            )));
+            return Err(Fault::new(format!("--{name} {path}: the first line is no password, or has blanks")));
         }
         Ok(Some(line))
     }
@@ -135,12 +130,7 @@ pub fn run(usage: &Usage, program: impl FnOnce(&Args) -> Done<()>) -> ExitCode {
         return ExitCode::SUCCESS;
     }
     if words.iter().any(|word| word == "--version") {
-        println!(
-            "{} {} (squall {})",
-            usage.name,
-            env!("CARGO_PKG_VERSION"),
-            squall::version()
-        );
+        println!("{} {} (squall {})", usage.name, env!("CARGO_PKG_VERSION"), squall::version());
         return ExitCode::SUCCESS;
     }
     let args = match Args::parse(&words, usage) {
@@ -163,12 +153,7 @@ pub fn run(usage: &Usage, program: impl FnOnce(&Args) -> Done<()>) -> ExitCode {
 mod tests {
     use super::*;
 
-    const USAGE: Usage = Usage {
-        name: "test",
-        help: "",
-        options: &["part", "chunk"],
-        flags: &["init"],
-    };
+    const USAGE: Usage = Usage { name: "test", help: "", options: &["part", "chunk"], flags: &["init"] };
 
     fn parse(words: &str) -> Done<Args> {
         let words: Vec<String> = words.split_whitespace().map(String::from).collect();

@@ -37,14 +37,8 @@ impl Conn {
         stream.set_nodelay(true)?;
         stream.set_read_timeout(Some(PATIENCE))?;
         stream.set_write_timeout(Some(PATIENCE))?;
-        let mut conn = Conn {
-            addr,
-            stream,
-            out: Vec::new(),
-            heard: Vec::new(),
-            at: 0,
-            scan: Scan::default(),
-        };
+        let mut conn =
+            Conn { addr, stream, out: Vec::new(), heard: Vec::new(), at: 0, scan: Scan::default() };
         if let Some(password) = &server.password {
             conn.ask(&["AUTH", password])?;
         }

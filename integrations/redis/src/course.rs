@@ -40,15 +40,8 @@ impl Plan {
     pub fn read(text: Vec<u8>) -> Done<Plan> {
         let router = Router::open(1, &text, &text)?;
         let legs = router.legs(Rank(0)..Rank::END);
-        let ranges: Vec<String> = legs
-            .iter()
-            .map(|leg| format!("{} {}", hex(leg.hi), leg.part))
-            .collect();
-        Ok(Plan {
-            text,
-            ranges: ranges.join(" "),
-            parts: legs.iter().map(|leg| leg.part).collect(),
-        })
+        let ranges: Vec<String> = legs.iter().map(|leg| format!("{} {}", hex(leg.hi), leg.part)).collect();
+        Ok(Plan { text, ranges: ranges.join(" "), parts: legs.iter().map(|leg| leg.part).collect() })
     }
 }
 
@@ -111,12 +104,7 @@ mod tests {
         assert_eq!(moves[1].hi, Rank::END);
         assert_eq!((moves[1].source, moves[1].dest, moves[1].sub), (3, 4, 0));
         assert_eq!(read_moves("moves 0\nsub-plans 0\n"), Some(Vec::new()));
-        for text in [
-            "",
-            "refused Gap 3:0\n",
-            "moves 1\n",
-            "moves 1\nmove [2:0,3:0) 1 to 3\n",
-        ] {
+        for text in ["", "refused Gap 3:0\n", "moves 1\n", "moves 1\nmove [2:0,3:0) 1 to 3\n"] {
             assert_eq!(read_moves(text), None, "{text}");
         }
     }

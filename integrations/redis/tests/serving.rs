@@ -18,10 +18,7 @@ impl Client {
         let stream = TcpStream::connect(addr).unwrap();
         stream.set_read_timeout(Some(Duration::from_secs(20))).unwrap();
         stream.set_nodelay(true).unwrap();
-        Client {
-            stream,
-            heard: Vec::new(),
-        }
+        Client { stream, heard: Vec::new() }
     }
 
     fn send(&mut self, bytes: &[u8]) {
@@ -171,13 +168,7 @@ fn clients_may_speak_resp3() {
 #[test]
 #[ignore = "needs a proxy"]
 fn garbage_ends_the_connection_after_the_answers_before_it() {
-    for garbage in [
-        &b"PING\r\n"[..],
-        b"*1\r\n+x\r\n",
-        b"*1\r\n$99999999\r\n",
-        b"\0\0\0\0",
-        b"*-x\r\n",
-    ] {
+    for garbage in [&b"PING\r\n"[..], b"*1\r\n+x\r\n", b"*1\r\n$99999999\r\n", b"\0\0\0\0", b"*-x\r\n"] {
         let mut client = Client::new();
         client.send(&[&command("GET 1:0:none"), garbage].concat());
         assert_eq!(client.text(), "$-1\r\n");
@@ -209,9 +200,7 @@ fn large_values_pass_and_too_large_ones_are_refused() {
     assert_eq!(client.ask("DEL 4:0:large"), ":1\r\n");
     let many = format!("MSET {}", "5:0:many v ".repeat(100_000).trim_end());
     client.stream.write_all(&command(&many)).ok();
-    assert!(client
-        .hear()
-        .is_none_or(|reply| reply.starts_with(b"-ERR Protocol error")));
+    assert!(client.hear().is_none_or(|reply| reply.starts_with(b"-ERR Protocol error")));
 }
 
 #[test]
@@ -235,10 +224,7 @@ fn large_numbers_are_exact() {
     let mut client = Client::new();
     assert_eq!(client.ask("SET 6:0:n 9007199254740992"), "+OK\r\n");
     assert_eq!(client.ask("INCR 6:0:n"), ":9007199254740993\r\n");
-    assert_eq!(
-        client.ask("HINCRBY 6:0:h f -9223372036854775807"),
-        ":-9223372036854775807\r\n"
-    );
+    assert_eq!(client.ask("HINCRBY 6:0:h f -9223372036854775807"), ":-9223372036854775807\r\n");
     assert_eq!(client.ask("DECRBY 6:0:n 2"), ":9007199254740991\r\n");
     assert!(client.ask("INCR 6:0:h").starts_with("-WRONGTYPE "));
     assert_eq!(client.ask("DEL 6:0:n 6:0:h"), ":2\r\n");
@@ -256,8 +242,5 @@ fn values_are_whole() {
     let text = String::from_utf8(text).unwrap();
     assert!(text.starts_with(&format!("course {course} views")), "{text}");
     let route = client.ask("SQUALL ROUTE 1:0");
-    assert!(
-        route.contains(&format!("key 1:0 partition 1 course {course}")),
-        "{route}"
-    );
+    assert!(route.contains(&format!("key 1:0 partition 1 course {course}")), "{route}");
 }

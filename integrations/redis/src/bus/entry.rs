@@ -33,10 +33,7 @@ pub struct Streams {
 impl Streams {
     /// The streams whose names begin with the given one.
     pub fn new(name: &str) -> Streams {
-        Streams {
-            frames: format!("{name}:frames"),
-            digests: format!("{name}:digests"),
-        }
+        Streams { frames: format!("{name}:frames"), digests: format!("{name}:digests") }
     }
 
     /// The beginning of all frames, and the end of all digests.
@@ -44,10 +41,7 @@ impl Streams {
         let last = conn.ask(&["XREVRANGE", &self.digests, "+", "-", "COUNT", "1"])?;
         let last = last.list().pop().map(Value::list);
         let id = last.and_then(|entry| entry.into_iter().next());
-        Ok(Places {
-            frames: "0".into(),
-            digests: id.map_or("0".into(), Value::text),
-        })
+        Ok(Places { frames: "0".into(), digests: id.map_or("0".into(), Value::text) })
     }
 
     /// The next frames and digests, after a wait of at most a second.
@@ -124,16 +118,10 @@ fn read_entry(id: &str, fields: Vec<Value>) -> Option<Entry> {
             _ => {}
         }
     }
-    Some(Entry {
-        id: id.to_string(),
-        from: from?,
-        frame: frame?,
-        re,
-    })
+    Some(Entry { id: id.to_string(), from: from?, frame: frame?, re })
 }
 
 fn two(value: Value) -> Done<[Value; 2]> {
     let list = value.list();
-    list.try_into()
-        .map_err(|_| Fault::new("the bus: a stream of another form"))
+    list.try_into().map_err(|_| Fault::new("the bus: a stream of another form"))
 }

@@ -98,10 +98,7 @@ impl Node {
             router: Mutex::new(router),
             view: Mutex::new(view),
             views: AtomicU64::new(1),
-            agenda: Mutex::new(Agenda {
-                is_wanted: true,
-                answers: Vec::new(),
-            }),
+            agenda: Mutex::new(Agenda { is_wanted: true, answers: Vec::new() }),
             speak: Condvar::new(),
             wakers: Mutex::default(),
             sender: Mutex::new(None),
@@ -269,9 +266,8 @@ impl Node {
         let mut agenda = lock(&self.agenda);
         loop {
             let now = Instant::now();
-            let (due, later) = std::mem::take(&mut agenda.answers)
-                .into_iter()
-                .partition(|answer| answer.due <= now);
+            let (due, later) =
+                std::mem::take(&mut agenda.answers).into_iter().partition(|answer| answer.due <= now);
             agenda.answers = later;
             if !Vec::is_empty(&due) {
                 return Some(due);
@@ -281,11 +277,7 @@ impl Node {
                 agenda.is_wanted = false;
                 return None;
             }
-            let until = agenda
-                .answers
-                .iter()
-                .map(|answer| answer.due)
-                .fold(next, Instant::min);
+            let until = agenda.answers.iter().map(|answer| answer.due).fold(next, Instant::min);
             let waited = self.speak.wait_timeout(agenda, until - now);
             agenda = waited.unwrap_or_else(PoisonError::into_inner).0;
         }

@@ -29,14 +29,7 @@ pub struct Tally {
 impl fmt::Display for Tally {
     fn fmt(&self, f: &mut fmt::Formatter<'_>) -> fmt::Result {
         let of = |count: &AtomicU64| count.load(Relaxed);
-        let Tally {
-            commands,
-            errors,
-            wrong,
-            lost,
-            unread,
-            ..
-        } = self;
+        let Tally { commands, errors, wrong, lost, unread, .. } = self;
         write!(
             f,
             "commands {} errors {} lost {} wrong {} unread {}",
@@ -132,19 +125,9 @@ impl Load<'_> {
         let stem = if at % 4 == 3 {
             format!("{}{own}:{at}", self.prefix)
         } else {
-            format!(
-                "{}:{}:{}{own}",
-                place % self.roots,
-                place / self.roots,
-                self.prefix
-            )
+            format!("{}:{}:{}{own}", place % self.roots, place / self.roots, self.prefix)
         };
-        Key {
-            stem,
-            turn: 0,
-            is_count: at % 8 == 5,
-            held: Held::Nothing,
-        }
+        Key { stem, turn: 0, is_count: at % 8 == 5, held: Held::Nothing }
     }
 }
 
@@ -229,10 +212,7 @@ impl Session<'_> {
                     Act::Incr => vec!["INCR".into(), name],
                     Act::Set(version) => vec!["SET".into(), name, text(version, &self.load.padding)],
                 };
-                Command {
-                    words,
-                    acts: vec![(key, act)],
-                }
+                Command { words, acts: vec![(key, act)] }
             }
         }
     }
@@ -267,40 +247,20 @@ impl Session<'_> {
     fn judge(&mut self, command: &Command, answer: &Value) -> bool {
         let tally = self.load.tally;
         if let Value::Error(error) = answer {
-            let is_done = !error.starts_with("TRYAGAIN");
             if self.load.is_tolerant {
                 tally.errors.fetch_add(1, Relaxed);
             } else {
-                tally.fault(&tally.errors, || {
-                    format!("error: {} {}: {error}", command.words[0], command.words[1])
-                });
+                let words = || format!("error: {} {}: {error}", command.words[0], command.words[1]);
+                tally.fault(&tally.errors, words);
             }
             // A command on one key that was refused was not done.
-            return is_done || command.acts.len() > 1;
+            return !error.starts_with("TRYAGAIN") || command.acts.len() > 1;
         }
-        let padding = &self.load.padding;
-        let is_right = match (command.words[0].as_str(), answer) {
-            ("MGET", Value::List(values)) => {
-                values.len() == command.acts.len()
-                    && values
-                        .iter()
-                        .zip(&command.acts)
-                        .all(|(value, &(key, act))| self.keys[key].held.answers(act, value, padding))
-            }
-            ("MSET", answer) => *answer == Value::Status("OK".into()),
-            _ => {
-                let (key, act) = command.acts[0];
-                self.keys[key].held.answers(act, answer, padding)
-            }
-        };
+        let is_right = self.is_right(command, answer);
         if !is_right {
             tally.fault(&tally.wrong, || {
-                let held = command.acts.iter().map(|&(key, _)| &self.keys[key].held);
-                let held: Vec<_> = held.collect();
-                format!(
-                    "wrong: {} {}: {answer:.60?}, held {held:?}",
-                    command.words[0], command.words[1]
-                )
+                let held: Vec<_> = command.acts.iter().map(|&(key, _)| &self.keys[key].held).collect();
+                format!("wrong: {} {}: {answer:.60?}, held {held:?}", command.words[0], command.words[1])
             });
         }
         for &(key, act) in &command.acts {
@@ -310,14 +270,24 @@ impl Session<'_> {
         !is_right
     }
 
+    /// Whether a command may be answered this.
+    fn is_right(&self, command: &Command, answer: &Value) -> bool {
+        let padding = &self.load.padding;
+        let fits = |&(key, act): &(usize, Act), value| self.keys[key].held.answers(act, value, padding);
+        match (command.words[0].as_str(), answer) {
+            ("MGET", Value::List(values)) => {
+                let mut all = command.acts.iter().zip(values);
+                values.len() == command.acts.len() && all.all(|(act, value)| fits(act, value))
+            }
+            ("MSET", answer) => *answer == Value::Status("OK".into()),
+            _ => fits(&command.acts[0], answer),
+        }
+    }
+
     /// Gives up keys of which it is not known what was done, or when it will be, for new ones.
     fn give_up(&mut self, unknown: &[(usize, Act)]) {
         for at in 0..self.keys.len() {
-            let acts: Vec<Act> = unknown
-                .iter()
-                .filter(|&&(key, _)| key == at)
-                .map(|&(_, act)| act)
-                .collect();
+            let acts: Vec<Act> = unknown.iter().filter(|&&(key, _)| key == at).map(|&(_, act)| act).collect();
             if acts.is_empty() {
                 continue;
             }
@@ -333,10 +303,7 @@ impl Session<'_> {
         let known: Vec<Loose> = self
             .keys
             .iter()
-            .map(|key| Loose {
-                name: key.name(),
-                may_hold: vec![key.held.clone()],
-            })
+            .map(|key| Loose { name: key.name(), may_hold: vec![key.held.clone()] })
             .chain(std::mem::take(&mut self.loose))
             .collect();
         for key in known {

@@ -32,33 +32,13 @@ pub const USAGE: Usage = Usage {
 
 /// Runs the program.
 pub fn run(args: &Args) -> Done<()> {
-    let proxies: Vec<_> = args.all("proxy").map(crate::args::resolve).collect::<Done<_>>()?;
-    if proxies.is_empty() {
-        return Err(Fault::new("--proxy HOST:PORT is missing"));
-    }
     let connections = args.number("connections", 8, 1, 1000)?;
-    let commands = args.number("commands", 100_000, 1, u64::MAX)?;
     let tally = Tally::default();
-    let load = Load {
-        proxies,
-        commands: commands.div_ceil(connections),
-        depth: args.number("depth", 8, 1, 10_000)? as usize,
-        keys: args.number("keys", 500, 8, 1_000_000)? as usize,
-        roots: args.number("roots", 1000, 1, 1_000_000)?,
-        padding: "x".repeat(args.number("size", 100, 0, 1 << 20)? as usize),
-        seed: args.number("seed", 1, 0, u64::MAX)?,
-        prefix: args.get("prefix").unwrap_or("k").to_string(),
-        pause: Duration::from_micros(args.number("pause", 0, 0, 10_000_000)?),
-        reads: args.number("reads", 200, 1, 1_000_000)?,
-        is_tolerant: args.has("tolerant"),
-        tally: &tally,
-    };
+    let load = load(args, connections, &tally)?;
     let began = Instant::now();
     thread::scope(|scope| {
         let load = &load;
-        let threads: Vec<_> = (0..connections)
-            .map(|own| scope.spawn(move || load.run(own)))
-            .collect();
+        let threads: Vec<_> = (0..connections).map(|own| scope.spawn(move || load.run(own))).collect();
         while !args.has("quiet") && threads.iter().any(|it| !it.is_finished()) {
             thread::sleep(Duration::from_millis(250));
             if began.elapsed().as_millis() % 5000 < 250 {
@@ -73,4 +53,27 @@ pub fn run(args: &Args) -> Done<()> {
         return Err(Fault::new("answers were lost or wrong"));
     }
     Ok(())
+}
+
+/// The load that the words of the command line ask for.
+fn load<'a>(args: &Args, connections: u64, tally: &'a Tally) -> Done<Load<'a>> {
+    let proxies: Vec<_> = args.all("proxy").map(crate::args::resolve).collect::<Done<_>>()?;
+    if proxies.is_empty() {
+        return Err(Fault::new("--proxy HOST:PORT is missing"));
+    }
+    let commands = args.number("commands", 100_000, 1, u64::MAX)?;
+    Ok(Load {
+        proxies,
+        commands: commands.div_ceil(connections),
+        depth: args.number("depth", 8, 1, 10_000)? as usize,
+        keys: args.number("keys", 500, 8, 1_000_000)? as usize,
+        roots: args.number("roots", 1000, 1, 1_000_000)?,
+        padding: "x".repeat(args.number("size", 100, 0, 1 << 20)? as usize),
+        seed: args.number("seed", 1, 0, u64::MAX)?,
+        prefix: args.get("prefix").unwrap_or("k").to_string(),
+        pause: Duration::from_micros(args.number("pause", 0, 0, 10_000_000)?),
+        reads: args.number("reads", 200, 1, 1_000_000)?,
+        is_tolerant: args.has("tolerant"),
+        tally,
+    })
 }

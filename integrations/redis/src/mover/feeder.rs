@@ -106,9 +106,7 @@ impl Feeder<'_> {
 
     fn report(&mut self, it: &Move, keys: std::ops::Range<Rank>) -> Done<()> {
         let (number, sub, dest) = (self.job.number, it.sub, it.dest);
-        self.job
-            .bus
-            .tell(|router| router.loaded(number, sub, dest, keys))?;
+        self.job.bus.tell(|router| router.loaded(number, sub, dest, keys))?;
         self.chunks += 1;
         if self.chunks % CHUNKS == 0 {
             self.job.bus.tell_all()?;

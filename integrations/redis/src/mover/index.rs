@@ -84,9 +84,7 @@ impl Index {
     /// The keys of a span.
     pub fn keys(&self, span: Range<Rank>) -> Vec<Ranked> {
         let found = self.keys.range(span);
-        found
-            .flat_map(|(&rank, keys)| keys.iter().map(move |key| (rank, key.clone())))
-            .collect()
+        found.flat_map(|(&rank, keys)| keys.iter().map(move |key| (rank, key.clone()))).collect()
     }
 
     /// Takes the keys of a span away.

@@ -92,19 +92,13 @@ impl Mover {
                 )));
             }
         }
-        let server = |addr| Server {
-            addr,
-            password: password.clone(),
-        };
+        let server = |addr| Server { addr, password: password.clone() };
         Ok(Mover {
             number,
             old,
             new,
             moves,
-            servers: addrs
-                .into_iter()
-                .map(|(part, addr)| (part, server(addr)))
-                .collect(),
+            servers: addrs.into_iter().map(|(part, addr)| (part, server(addr))).collect(),
             secret: args.password("secret-file")?.unwrap_or(DEFAULT_SECRET.into()),
         })
     }
@@ -154,13 +148,10 @@ impl Mover {
     /// All partitions, those of the old plan first. The first one decides between two movers that
     /// draw one number.
     fn partitions(&self) -> Done<Vec<Partition>> {
-        let (first, rest): (Vec<_>, Vec<_>) = self
-            .servers
-            .iter()
-            .partition(|(part, _)| self.old.parts.contains(part));
+        let (first, rest): (Vec<_>, Vec<_>) =
+            self.servers.iter().partition(|(part, _)| self.old.parts.contains(part));
         let all = first.into_iter().chain(rest);
-        all.map(|(&part, server)| Partition::open(part, server, self.number))
-            .collect()
+        all.map(|(&part, server)| Partition::open(part, server, self.number)).collect()
     }
 
     /// Begins the course at each partition, which then lets in routers of it. Those of the course
@@ -221,13 +212,7 @@ impl Mover {
         }
         for it in &self.moves {
             let count = counts.get(&it.lo.0).unwrap_or(&0);
-            let Move {
-                lo,
-                hi,
-                source,
-                dest,
-                sub,
-            } = it;
+            let Move { lo, hi, source, dest, sub } = it;
             println!("move [{lo},{hi}) {source} to {dest} sub {sub}: {count} keys");
         }
         let total: usize = counts.values().sum();
@@ -249,9 +234,7 @@ fn sources(job: &Job, moves: &[Move]) -> Done<()> {
             .collect();
         let mut all = Ok(());
         for thread in threads {
-            let one = thread
-                .join()
-                .unwrap_or_else(|_| Err(Fault::new("a source's thread has ended")));
+            let one = thread.join().unwrap_or_else(|_| Err(Fault::new("a source's thread has ended")));
             all = all.and(one);
         }
         all

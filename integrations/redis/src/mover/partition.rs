@@ -42,11 +42,7 @@ impl Partition {
     /// Connects, for the course of that number.
     pub fn open(part: u32, server: &Server, number: u32) -> Done<Partition> {
         let conn = Conn::open(server).trying(|| format!("partition {part}"))?;
-        Ok(Partition {
-            part,
-            conn,
-            number: number.to_string(),
-        })
+        Ok(Partition { part, conn, number: number.to_string() })
     }
 
     /// Loads the functions that make it a partition.
@@ -66,15 +62,7 @@ impl Partition {
 
     fn call_begin(&mut self, function: &str, course: &Beginning) -> Done<()> {
         let fresh = if course.is_fresh { "fresh" } else { "known" };
-        let head = [
-            "FCALL",
-            function,
-            "0",
-            &self.number,
-            course.old,
-            course.new,
-            fresh,
-        ];
+        let head = ["FCALL", function, "0", &self.number, course.old, course.new, fresh];
         let mut words: Vec<String> = head.into_iter().map(String::from).collect();
         words.extend(course.moves.iter().map(|it| self.line(it)));
         self.ask(&words).map(drop)
@@ -108,10 +96,7 @@ impl Partition {
             .map(Value::text)
             .filter(|name| name.starts_with(&user("")) && *name != own)
             .collect();
-        let resets: Vec<_> = others
-            .iter()
-            .map(|name| vec!["ACL", "SETUSER", name, "reset"])
-            .collect();
+        let resets: Vec<_> = others.iter().map(|name| vec!["ACL", "SETUSER", name, "reset"]).collect();
         self.in_course(&resets)
     }
 
@@ -151,10 +136,7 @@ impl Partition {
             let &[_, _, _, _, edge, forgot] = &words[..] else {
                 return None;
             };
-            Some(Edges {
-                edge: rank(edge)?,
-                forgot: rank(forgot)?,
-            })
+            Some(Edges { edge: rank(edge)?, forgot: rank(forgot)? })
         });
         edges.ok_or_else(|| Fault::new(format!("partition {} has no such move", self.part)))
     }

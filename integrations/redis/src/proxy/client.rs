@@ -153,11 +153,7 @@ impl Client {
     /// Adds the command that was read, which is done by the plan.
     pub fn add(&mut self, plan: Plan) {
         let left = plan.len();
-        let replies = if left > 1 {
-            vec![Vec::new(); left]
-        } else {
-            Vec::new()
-        };
+        let replies = if left > 1 { vec![Vec::new(); left] } else { Vec::new() };
         self.push(Some(plan), left, replies);
     }
 
@@ -177,14 +173,7 @@ impl Client {
     fn push(&mut self, plan: Option<Plan>, left: usize, replies: Vec<Vec<u8>>) {
         let begin = self.base + self.next as u64;
         let len = self.parser.len();
-        self.window.push_back(Slot {
-            begin,
-            len,
-            is_resp3: self.is_resp3,
-            plan,
-            left,
-            replies,
-        });
+        self.window.push_back(Slot { begin, len, is_resp3: self.is_resp3, plan, left, replies });
         self.pass();
     }
 
@@ -260,9 +249,7 @@ impl Client {
 
     /// Whether a command that is not answered is to be answered in RESP3.
     pub fn is_resp3_of(&self, seq: u64) -> bool {
-        self.window
-            .get((seq - self.first) as usize)
-            .is_some_and(|slot| slot.is_resp3)
+        self.window.get((seq - self.first) as usize).is_some_and(|slot| slot.is_resp3)
     }
 
     /// Calls the function with a command that is not answered: its plan, its words, and how many bytes
@@ -273,10 +260,7 @@ impl Client {
         let bytes = &self.input[begin..begin + slot.len];
         let mut parser = Parser::default();
         parser.read(bytes, bytes.len()).ok()?;
-        let words = Words {
-            bytes,
-            places: parser.words(),
-        };
+        let words = Words { bytes, places: parser.words() };
         Some(see(slot.plan.as_ref()?, words, slot.len))
     }
 }

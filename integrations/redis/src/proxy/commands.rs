@@ -51,12 +51,7 @@ pub struct Command {
 }
 
 const fn row(name: &'static str, keys: Keys, guard: Guard, split: Option<Split>) -> Command {
-    Command {
-        name,
-        keys,
-        guard,
-        split,
-    }
+    Command { name, keys, guard, split }
 }
 
 /// All commands, by name.
@@ -246,20 +241,14 @@ impl Command {
         const FEW: &str = "wrong number of arguments";
         let (first, end, step, apart) = match self.keys {
             Keys::Range(first, last, step) => {
-                let last = if last < 0 {
-                    count.checked_add_signed(last)
-                } else {
-                    Some(last as usize)
-                };
+                let last = if last < 0 { count.checked_add_signed(last) } else { Some(last as usize) };
                 (first, last.ok_or(FEW)? + 1, step, 0..0)
             }
             Keys::Counted(at) => {
                 if count <= at {
                     return Err(FEW);
                 }
-                let keys = std::str::from_utf8(word(at))
-                    .ok()
-                    .and_then(|word| word.parse().ok());
+                let keys = std::str::from_utf8(word(at)).ok().and_then(|word| word.parse().ok());
                 let keys: usize = keys.ok_or("numkeys is no number")?;
                 let end = (at + 1).checked_add(keys).ok_or(FEW)?;
                 (at + 1, end, 1, 1..at)
@@ -298,9 +287,7 @@ mod tests {
         for name in ["get", "GET", "gEt", "zremrangebyscore"] {
             assert!(find(name.as_bytes()).is_some(), "{name}");
         }
-        for name in [
-            "", "KEYS", "EVAL", "FLUSHALL", "MULTI", "BLPOP", "MOVE", "FCALL", "SORT", "AUTH",
-        ] {
+        for name in ["", "KEYS", "EVAL", "FLUSHALL", "MULTI", "BLPOP", "MOVE", "FCALL", "SORT", "AUTH"] {
             assert!(find(name.as_bytes()).is_none(), "{name}");
         }
     }

@@ -111,19 +111,21 @@ impl Worker {
 
     /// Takes the reply to a request.
     pub(super) fn answered(&mut self, at: usize, sent: InFlight, reply: &[u8]) {
-        let said = if reply.first() == Some(&b'-') {
-            read(reply, sent.is_guarded)
-        } else {
-            Said::Answer
-        };
-        if let Said::Answer = said {
-            if sent.is_guarded {
-                if let Some(number) = reply.strip_prefix(b"+SQUALL INT ") {
-                    return self.deliver(&sent, &[b":", number].concat());
-                }
-            }
-            return self.deliver(&sent, reply);
+        if reply.first() != Some(&b'-') {
+            let exact = reply.strip_prefix(b"+SQUALL INT ").filter(|_| sent.is_guarded);
+            return match exact {
+                Some(number) => self.deliver(&sent, &[b":", number].concat()),
+                None => self.deliver(&sent, reply),
+            };
         }
+        match read(reply, sent.is_guarded) {
+            Said::Answer => self.deliver(&sent, reply),
+            said => self.divert(at, sent, said),
+        }
+    }
+
+    /// Keeps a request that was refused, for an errand.
+    fn divert(&mut self, at: usize, sent: InFlight, said: Said) {
         let upstream = &mut self.upstreams[at];
         let part = upstream.part;
         if let Said::Fenced = said {
@@ -145,11 +147,7 @@ impl Worker {
                 Said::Elsewhere(reply) => Some((part, reply)),
                 _ => None,
             };
-            client.diverted.push(Diverted {
-                seq: sent.seq,
-                part: sent.part,
-                said,
-            });
+            client.diverted.push(Diverted { seq: sent.seq, part: sent.part, said });
         }
         self.wake(sent.client);
     }
@@ -257,37 +255,27 @@ impl Worker {
         asked: u32,
     ) -> bool {
         let (view, to) = (&self.view, &mut self.upstreams[upstream]);
-        let is_resp3 = client.is_resp3_of(seq);
-        let sent = client.with(seq, |plan, words, len| {
-            let is_known = |rank| match to.role(rank) {
+        let (id, is_resp3) = (client.id, client.is_resp3_of(seq));
+        let is_guarded = client.with(seq, |plan, words, len| {
+            let part = part as usize;
+            let is_known = |&rank| match to.role(rank) {
                 None => true,
                 Some(role) => role == Role::In && view.route(rank) == Some(asked),
             };
-            let is_guarded = !plan.ranks(part as usize).iter().all(|&rank| is_known(rank));
-            if is_guarded && !plan.may_be_guarded(is_resp3) {
+            let is_plain = plan.ranks(part).iter().all(is_known);
+            if is_plain {
+                plan.put(&mut to.out.bytes, part, words, len);
+            } else if plan.may_be_guarded(is_resp3) {
+                plan.put_guarded(&mut to.out.bytes, part, words, (to.number, is_resp3));
+            } else {
                 return None;
             }
-            if is_guarded {
-                plan.put_guarded(&mut to.out.bytes, part as usize, words, (to.number, is_resp3));
-            } else {
-                plan.put(&mut to.out.bytes, part as usize, words, len);
-            }
-            Some(is_guarded)
+            Some(!is_plain)
         });
-        let Some(is_guarded) = sent.flatten() else {
+        let Some(is_guarded) = is_guarded.flatten() else {
             return false;
         };
-        if to.sent.is_empty() {
-            to.progress = self.now;
-        }
-        to.sent.push_back(InFlight {
-            client: at,
-            id: client.id,
-            seq,
-            part,
-            is_guarded,
-            is_chased: true,
-        });
+        to.expect(InFlight { client: at, id, seq, part, is_guarded, is_chased: true }, self.now);
         client.in_flight += 1;
         self.mark_upstream(upstream);
         true

@@ -17,11 +17,7 @@ pub struct Local {
 
 impl Local {
     fn new(answer: impl Into<Vec<u8>>) -> Local {
-        Local {
-            answer: answer.into(),
-            proto: None,
-            is_end: false,
-        }
+        Local { answer: answer.into(), proto: None, is_end: false }
     }
 }
 
@@ -37,10 +33,7 @@ pub fn answer(words: Words, is_resp3: bool, view: &View, info: impl FnOnce() -> 
         } else {
             error("ERR this proxy serves database 0 alone")
         }),
-        b"QUIT" => Local {
-            is_end: true,
-            ..Local::new("+OK\r\n")
-        },
+        b"QUIT" => Local { is_end: true, ..Local::new("+OK\r\n") },
         b"HELLO" => hello(words, is_resp3),
         b"COMMAND" => Local::new("*0\r\n"),
         b"CLIENT" => client(sub(1)),
@@ -49,10 +42,9 @@ pub fn answer(words: Words, is_resp3: bool, view: &View, info: impl FnOnce() -> 
             (Some(b"ROUTE"), 3) => Local::new(bulk(route(words.at(2), view).as_bytes())),
             _ => Local::new(error("ERR SQUALL INFO, or SQUALL ROUTE key")),
         },
-        b"MULTI" | b"EXEC" | b"DISCARD" | b"WATCH" | b"UNWATCH" => Local::new(error(&format!(
-            "ERR this proxy serves no transactions: '{}'",
-            shown(words.at(0))
-        ))),
+        b"MULTI" | b"EXEC" | b"DISCARD" | b"WATCH" | b"UNWATCH" => {
+            Local::new(error(&format!("ERR this proxy serves no transactions: '{}'", shown(words.at(0)))))
+        }
         b"BLPOP" | b"BRPOP" | b"BLMOVE" | b"BRPOPLPUSH" | b"BLMPOP" | b"BZPOPMIN" | b"BZPOPMAX"
         | b"BZMPOP" | b"WAIT" => Local::new(error(&format!(
             "ERR this proxy serves no commands that wait: '{}'",
@@ -103,8 +95,5 @@ fn hello(words: Words, is_resp3: bool) -> Local {
          $2\r\nid\r\n:1\r\n$4\r\nmode\r\n$10\r\nstandalone\r\n$4\r\nrole\r\n$6\r\nmaster\r\n\
          $7\r\nmodules\r\n*0\r\n"
     );
-    Local {
-        proto: Some(proto),
-        ..Local::new(text)
-    }
+    Local { proto: Some(proto), ..Local::new(text) }
 }

@@ -40,9 +40,7 @@ pub struct Counts {
 impl Counts {
     /// A command has waited that long.
     pub fn waited(&self, time: Duration) {
-        let class = CLASSES
-            .iter()
-            .position(|&most| time <= Duration::from_millis(most));
+        let class = CLASSES.iter().position(|&most| time <= Duration::from_millis(most));
         self.waits[class.unwrap_or(CLASSES.len())].fetch_add(1, Relaxed);
         self.waited.fetch_add(time.as_micros() as u64, Relaxed);
     }
@@ -79,76 +77,36 @@ impl Shared {
 
     /// The counters: name, help and value.
     fn counters(&self) -> Vec<(&'static str, &'static str, u64)> {
+        let mut all = self.worker_counters();
         let bus = &self.node.counts;
+        all.extend([
+            ("frames_taken", "frames of the bus that were taken", bus.taken.load(Relaxed)),
+            ("frames_refused", "entries of the bus that are no frame", bus.refused.load(Relaxed)),
+            ("repairs_sent", "frames of repairs that were sent", bus.repairs.load(Relaxed)),
+            ("repairs_dropped", "repairs that another node sent first", bus.dropped.load(Relaxed)),
+            ("bus_faults", "faults of the connection to the bus", bus.faults.load(Relaxed)),
+        ]);
+        all
+    }
+
+    fn worker_counters(&self) -> Vec<(&'static str, &'static str, u64)> {
         vec![
             ("commands", "commands of clients", self.sum(|it| &it.commands)),
-            (
-                "refused",
-                "commands that are not served",
-                self.sum(|it| &it.refused),
-            ),
-            (
-                "moved",
-                "replies that name another partition",
-                self.sum(|it| &it.moved),
-            ),
-            (
-                "pending",
-                "replies that a key is on its way",
-                self.sum(|it| &it.pending),
-            ),
-            (
-                "fenced",
-                "replies that a partition is in another course",
-                self.sum(|it| &it.fenced),
-            ),
+            ("refused", "commands that are not served", self.sum(|it| &it.refused)),
+            ("moved", "replies that name another partition", self.sum(|it| &it.moved)),
+            ("pending", "replies that a key is on its way", self.sum(|it| &it.pending)),
+            ("fenced", "replies that a partition is in another course", self.sum(|it| &it.fenced)),
             ("logins", "log-ins at partitions", self.sum(|it| &it.logins)),
-            (
-                "connections_lost",
-                "connections to partitions that were lost",
-                self.sum(|it| &it.lost),
-            ),
-            (
-                "gave_up",
-                "commands that waited too long",
-                self.sum(|it| &it.gave_up),
-            ),
-            (
-                "frames_taken",
-                "frames of the bus that were taken",
-                bus.taken.load(Relaxed),
-            ),
-            (
-                "frames_refused",
-                "entries of the bus that are no frame",
-                bus.refused.load(Relaxed),
-            ),
-            (
-                "repairs_sent",
-                "frames of repairs that were sent",
-                bus.repairs.load(Relaxed),
-            ),
-            (
-                "repairs_dropped",
-                "repairs that another node sent first",
-                bus.dropped.load(Relaxed),
-            ),
-            (
-                "bus_faults",
-                "faults of the connection to the bus",
-                bus.faults.load(Relaxed),
-            ),
+            ("connections_lost", "lost connections to partitions", self.sum(|it| &it.lost)),
+            ("gave_up", "commands that waited too long", self.sum(|it| &it.gave_up)),
         ]
     }
 
     /// The counters in one line, for `SQUALL INFO`.
     pub fn info(&self) -> String {
         let (view, views) = self.node.view();
-        let mut text = format!(
-            "course {} views {views} clients {}",
-            view.number(),
-            self.clients.load(Relaxed)
-        );
+        let mut text =
+            format!("course {} views {views} clients {}", view.number(), self.clients.load(Relaxed));
         for (name, _, value) in self.counters() {
             let _ = write!(text, " {name} {value}");
         }
@@ -165,17 +123,9 @@ impl Shared {
             );
         }
         let gauges = [
-            (
-                "course",
-                "the number of the course",
-                u64::from(self.node.view().0.number()),
-            ),
+            ("course", "the number of the course", u64::from(self.node.view().0.number())),
             ("clients", "clients", self.clients.load(Relaxed) as u64),
-            (
-                "uptime_seconds",
-                "seconds since the proxy began",
-                self.began.elapsed().as_secs(),
-            ),
+            ("uptime_seconds", "seconds since the proxy began", self.began.elapsed().as_secs()),
         ];
         for (name, help, value) in gauges {
             let _ = write!(
@@ -196,9 +146,7 @@ impl Shared {
         let mut count = 0;
         for at in 0..=CLASSES.len() {
             count += self.sum(|it| &it.waits[at]);
-            let end = CLASSES
-                .get(at)
-                .map_or("+Inf".into(), |&most| (most as f64 / 1000.0).to_string());
+            let end = CLASSES.get(at).map_or("+Inf".into(), |&most| (most as f64 / 1000.0).to_string());
             let _ = writeln!(page, "{name}_bucket{{le=\"{end}\"}} {count}");
         }
         let sum = self.sum(|it| &it.waited) as f64 / 1e6;

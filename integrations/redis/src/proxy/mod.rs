@@ -3,9 +3,11 @@
 mod client;
 mod commands;
 mod follow;
+mod link;
 mod local;
 mod metrics;
 mod plan;
+mod serve;
 mod socket;
 mod upstream;
 mod worker;
@@ -67,10 +69,7 @@ pub fn run(args: &Args) -> Done<()> {
 
 fn share(args: &Args, threads: usize) -> Done<Shared> {
     let node = Node::join(Options {
-        server: Server {
-            addr: resolve(args.need("bus")?)?,
-            password: args.password("bus-password-file")?,
-        },
+        server: Server { addr: resolve(args.need("bus")?)?, password: args.password("bus-password-file")? },
         streams: args.get("streams").unwrap_or("squall").to_string(),
         kind: "proxy",
         plan: args.file("first")?,
@@ -100,14 +99,12 @@ fn start(shared: &Arc<Shared>) -> Done<Vec<Arc<Waker>>> {
             let _ = waker.wake();
         });
         let worker = Worker::new(poll, shared.clone(), own);
-        thread::Builder::new()
-            .name(format!("worker {own}"))
-            .spawn(move || {
-                if let Err(error) = worker.run() {
-                    eprintln!("squall-redis-proxy: {error}");
-                    std::process::exit(1);
-                }
-            })?;
+        thread::Builder::new().name(format!("worker {own}")).spawn(move || {
+            if let Err(error) = worker.run() {
+                eprintln!("squall-redis-proxy: {error}");
+                std::process::exit(1);
+            }
+        })?;
     }
     Ok(wakers)
 }
@@ -133,13 +130,8 @@ fn accept(listener: &TcpListener, shared: &Shared, wakers: &[Arc<Waker>], most: 
         };
         shared.clients.fetch_add(1, SeqCst);
         let arrivals = &shared.arrivals[next];
-        arrivals
-            .lock()
-            .unwrap_or_else(PoisonError::into_inner)
-            .push(stream);
-        wakers[next]
-            .wake()
-            .map_err(|error| Fault::new(error.to_string()))?;
+        arrivals.lock().unwrap_or_else(PoisonError::into_inner).push(stream);
+        wakers[next].wake().map_err(|error| Fault::new(error.to_string()))?;
         next = (next + 1) % wakers.len();
     }
 }

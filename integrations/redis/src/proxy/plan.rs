@@ -51,10 +51,7 @@ impl Plan {
     pub fn of(words: Words) -> Result<Plan, Vec<u8>> {
         let name = words.at(0);
         let Some(command) = find(name) else {
-            return Err(error(&format!(
-                "ERR this proxy does not serve the command '{}'",
-                shown(name)
-            )));
+            return Err(error(&format!("ERR this proxy does not serve the command '{}'", shown(name))));
         };
         let wrong = |why| error(&format!("ERR {why} for '{}' command", shown(name)));
         let places = command.places(words.count(), |at| words.at(at));
@@ -126,11 +123,7 @@ impl Plan {
     /// Appends a request by the guard of a partition in the course `number`.
     pub fn put_guarded(&self, out: &mut Vec<u8>, part: usize, words: Words, (number, is_resp3): (u32, bool)) {
         let ranks = self.ranks(part);
-        let proto = if is_resp3 && self.command().guard == Guard::Both {
-            "3"
-        } else {
-            "2"
-        };
+        let proto = if is_resp3 && self.command().guard == Guard::Both { "3" } else { "2" };
         let texts: Vec<String> = [number.to_string(), proto.into(), ranks.len().to_string()]
             .into_iter()
             .chain(ranks.iter().map(|&rank| keymap::hex(rank)))
@@ -155,17 +148,13 @@ fn part_words<'a>(part: &Part, words: Words<'a>) -> Vec<&'a [u8]> {
 fn parts(keys: &[(usize, Rank)], count: usize) -> Vec<Part> {
     let ends = keys.iter().skip(1).map(|&(at, _)| at).chain([count]);
     let parts = keys.iter().zip(ends);
-    parts
-        .map(|(&(at, rank), end)| Part { rank, words: at..end })
-        .collect()
+    parts.map(|(&(at, rank), end)| Part { rank, words: at..end }).collect()
 }
 
 fn rank_at(words: Words, at: usize) -> Result<Rank, Vec<u8>> {
     let key = words.at(at);
     if is_own(key) {
-        return Err(error(
-            "ERR keys that begin with 'squall:' are the partition's own",
-        ));
+        return Err(error("ERR keys that begin with 'squall:' are the partition's own"));
     }
     Ok(keymap::rank(key))
 }
@@ -173,15 +162,7 @@ fn rank_at(words: Words, at: usize) -> Result<Rank, Vec<u8>> {
 /// A name as a client may read it: printable, and not long.
 pub fn shown(name: &[u8]) -> String {
     let name = &name[..name.len().min(40)];
-    name.iter()
-        .map(|&byte| {
-            if byte.is_ascii_graphic() {
-                byte as char
-            } else {
-                '?'
-            }
-        })
-        .collect()
+    name.iter().map(|&byte| if byte.is_ascii_graphic() { byte as char } else { '?' }).collect()
 }
 
 #[cfg(test)]
@@ -195,10 +176,7 @@ mod tests {
         push(&mut bytes, &words);
         let mut parser = Parser::default();
         parser.read(&bytes, 100).unwrap();
-        let words = Words {
-            bytes: &bytes,
-            places: parser.words(),
-        };
+        let words = Words { bytes: &bytes, places: parser.words() };
         let plan = Plan::of(words).map_err(|error| String::from_utf8(error).unwrap());
         see(plan, words, parser.len())
     }
@@ -240,17 +218,7 @@ mod tests {
             plan.put(&mut plain, 0, words, len);
             assert_eq!(plain, words.bytes);
             plan.put_guarded(&mut guarded, 0, words, (5, true));
-            let all = [
-                "FCALL",
-                "squall_do",
-                "0",
-                "5",
-                "3",
-                "1",
-                "0000000200000007",
-                "GET",
-                "2:7",
-            ];
+            let all = ["FCALL", "squall_do", "0", "5", "3", "1", "0000000200000007", "GET", "2:7"];
             push(&mut wanted, &all);
             assert_eq!(guarded, wanted);
         });

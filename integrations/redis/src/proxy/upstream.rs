@@ -131,10 +131,7 @@ impl Upstream {
         } else {
             push(&mut self.out.bytes, &["AUTH", &name, secret]);
         }
-        push(
-            &mut self.out.bytes,
-            &["FCALL", "squall_moves", "0", &number.to_string()],
-        );
+        push(&mut self.out.bytes, &["FCALL", "squall_moves", "0", &number.to_string()]);
         self.state = State::Entering(2, false);
         self.number = number;
     }
@@ -172,6 +169,14 @@ impl Upstream {
         let after = self.moves.partition_point(|&(lo, _, _)| lo <= rank);
         let &(_, hi, role) = self.moves[..after].last()?;
         (rank < hi).then_some(role)
+    }
+
+    /// Notes a request that was put.
+    pub fn expect(&mut self, sent: InFlight, now: Instant) {
+        if self.sent.is_empty() {
+            self.progress = now;
+        }
+        self.sent.push_back(sent);
     }
 
     /// Reads what has come: whether the connection still stands.

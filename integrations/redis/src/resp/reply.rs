@@ -26,46 +26,44 @@ impl Scan {
     /// The bytes begin with no reply.
     pub fn read(&mut self, bytes: &[u8]) -> Result<Option<usize>, Broken> {
         while self.left > 0 {
-            let Some((line, next)) = line(bytes, self.at) else {
-                return Ok(None);
-            };
-            let Some((&kind, rest)) = line.split_first() else {
-                return Err(Broken("a reply without a type"));
-            };
-            let mut more = 0;
-            match kind {
-                b'+' | b'-' | b':' | b'_' | b'#' | b',' | b'(' => self.at = next,
-                b'$' | b'=' | b'!' => {
-                    let end = match length(rest)? {
-                        None => next,
-                        Some(len) => next + len as usize + 2,
-                    };
-                    if bytes.len() < end {
-                        return Ok(None);
-                    }
-                    self.at = end;
-                }
-                b'*' | b'~' | b'>' => {
-                    more = length(rest)?.unwrap_or(0);
+            match next_value(bytes, self.at)? {
+                None => return Ok(None),
+                Some((next, more)) => {
                     self.at = next;
+                    self.left = self.left - 1 + more;
                 }
-                b'%' => {
-                    more = length(rest)?.unwrap_or(0) * 2;
-                    self.at = next;
-                }
-                b'|' => {
-                    // Attributes come before a value and are none.
-                    more = length(rest)?.unwrap_or(0) * 2 + 1;
-                    self.at = next;
-                }
-                _ => return Err(Broken("a reply of an unknown type")),
             }
-            self.left = self.left - 1 + more;
         }
         let end = self.at;
         *self = Scan::default();
         Ok(Some(end))
     }
+}
+
+/// Where the head of the value at `at` ends, with its bytes if it has any, and how many values follow
+/// that belong to it. None if it is cut.
+fn next_value(bytes: &[u8], at: usize) -> Result<Option<(usize, u64)>, Broken> {
+    let Some((line, next)) = line(bytes, at) else {
+        return Ok(None);
+    };
+    let Some((&kind, rest)) = line.split_first() else {
+        return Err(Broken("a reply without a type"));
+    };
+    Ok(Some(match kind {
+        b'+' | b'-' | b':' | b'_' | b'#' | b',' | b'(' => (next, 0),
+        b'$' | b'=' | b'!' => {
+            let end = length(rest)?.map_or(next, |len| next + len as usize + 2);
+            if bytes.len() < end {
+                return Ok(None);
+            }
+            (end, 0)
+        }
+        b'*' | b'~' | b'>' => (next, length(rest)?.unwrap_or(0)),
+        b'%' => (next, length(rest)?.unwrap_or(0) * 2),
+        // Attributes come before a value and are none.
+        b'|' => (next, length(rest)?.unwrap_or(0) * 2 + 1),
+        _ => return Err(Broken("a reply of an unknown type")),
+    }))
 }
 
 /// A length; none for -1.
@@ -127,13 +125,7 @@ mod tests {
 
     #[test]
     fn garbage_is_refused() {
-        for bytes in [
-            &b"\r\n"[..],
-            b"?\r\n",
-            b"$x\r\n",
-            b"$-2\r\n",
-            b"*9999999999999999\r\n",
-        ] {
+        for bytes in [&b"\r\n"[..], b"?\r\n", b"$x\r\n", b"$-2\r\n", b"*9999999999999999\r\n"] {
             assert!(Scan::default().read(bytes).is_err(), "{bytes:?}");
         }
     }

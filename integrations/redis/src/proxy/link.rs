@@ -1,0 +1,147 @@
+//! A worker's connections to the partitions: they log in, and what they answer.
+
+use super::upstream::{State, Upstream};
+use super::worker::{upstream_token, Worker};
+use crate::resp::error;
+use mio::Interest;
+use std::sync::atomic::Ordering::Relaxed;
+
+impl Worker {
+    /// The connection to a partition, if it can be used for a command of the view's course. Else it is
+    /// made ready.
+    pub(super) fn ready(&mut self, part: u32, is_resp3: bool) -> Option<usize> {
+        let at = match self.by_part.get(&(part, is_resp3)) {
+            Some(&at) => at,
+            None => {
+                let addr = *self.shared.parts.get(&part)?;
+                let at = self.upstreams.len();
+                self.upstreams.push(Upstream::new(part, addr, is_resp3, self.now));
+                self.by_part.insert((part, is_resp3), at);
+                at
+            }
+        };
+        if self.upstreams[at].is_ready(self.view.number()) {
+            return Some(at);
+        }
+        match self.upstreams[at].state {
+            State::Down(again) if self.now >= again => self.connect(at),
+            State::Refused(again) if self.now >= again => self.enter(at),
+            _ => {}
+        }
+        None
+    }
+
+    fn connect(&mut self, at: usize) {
+        let now = self.now;
+        let upstream = &mut self.upstreams[at];
+        let interest = Interest::READABLE | Interest::WRITABLE;
+        let registry = self.poll.registry();
+        let connected =
+            upstream.connect().and_then(|stream| registry.register(stream, upstream_token(at), interest));
+        if connected.is_err() {
+            upstream.drop_stream(now);
+            return;
+        }
+        upstream.state = State::Refused(now);
+        self.enter(at);
+    }
+
+    /// Logs in by the view's course, if the connection stands, is not logged in by it, and nothing is
+    /// in flight on it.
+    pub(super) fn enter(&mut self, at: usize) {
+        let number = self.view.number();
+        let upstream = &mut self.upstreams[at];
+        let may_enter = match upstream.state {
+            State::Ready => upstream.number != number,
+            State::Refused(again) => self.now >= again || upstream.number != number,
+            _ => false,
+        };
+        if may_enter && upstream.sent.is_empty() {
+            upstream.enter(number, &self.shared.secret);
+            upstream.progress = self.now;
+            self.counts().logins.fetch_add(1, Relaxed);
+            self.mark_upstream(at);
+        }
+    }
+
+    pub(super) fn on_upstream(&mut self, at: usize, is_readable: bool, is_closed: bool) {
+        let Some(upstream) = self.upstreams.get_mut(at) else {
+            return;
+        };
+        if upstream.stream.is_none() {
+            return;
+        }
+        let mut stands = true;
+        if is_readable || is_closed {
+            stands = upstream.receive(&mut self.block, is_closed);
+            upstream.progress = self.now;
+            stands &= self.take_replies(at);
+        }
+        if stands {
+            self.mark_upstream(at);
+        } else {
+            self.lose(at);
+        }
+    }
+
+    /// Takes the replies that are whole: whether they are replies.
+    pub(super) fn take_replies(&mut self, at: usize) -> bool {
+        let heard = std::mem::take(&mut self.upstreams[at].heard);
+        let mut used = 0;
+        let mut is_fine = true;
+        loop {
+            let reply = match self.upstreams[at].scan.read(&heard[used..]) {
+                Ok(None) => break,
+                Ok(Some(len)) => &heard[used..used + len],
+                Err(_) => {
+                    is_fine = false;
+                    break;
+                }
+            };
+            used += reply.len();
+            if !self.take_reply(at, reply) {
+                is_fine = false;
+                break;
+            }
+        }
+        let mut heard = heard;
+        heard.drain(..used);
+        self.upstreams[at].heard = heard;
+        is_fine
+    }
+
+    /// Takes one reply: whether one was due.
+    fn take_reply(&mut self, at: usize, reply: &[u8]) -> bool {
+        let upstream = &mut self.upstreams[at];
+        if matches!(upstream.state, State::Entering(..)) {
+            if upstream.entered(reply, self.now) {
+                if upstream.state != State::Ready {
+                    self.shared.node.ask();
+                }
+                self.wake_blocked();
+            }
+            return true;
+        }
+        let Some(sent) = upstream.sent.pop_front() else {
+            return false;
+        };
+        self.answered(at, sent, reply);
+        if self.upstreams[at].sent.is_empty() {
+            self.enter(at);
+        }
+        true
+    }
+
+    /// Gives a connection up. Whether the requests on it were done is not known.
+    pub(super) fn lose(&mut self, at: usize) {
+        let part = self.upstreams[at].part;
+        let sent = self.upstreams[at].drop_stream(self.now);
+        self.counts().lost.fetch_add(1, Relaxed);
+        let text = format!("ERR partition {part} did not answer: whether this was done is not known");
+        let unknown = error(&text);
+        for sent in sent {
+            self.deliver(&sent, &unknown);
+        }
+        self.wake_blocked();
+    }
+}

@@ -1,0 +1,193 @@
+//! What becomes of a client's commands, one after another.
+
+use super::client::Client;
+use super::local;
+use super::plan::{Plan, Words};
+use super::upstream::InFlight;
+use super::worker::Worker;
+use crate::resp::{error, Broken};
+use std::sync::atomic::Ordering::Relaxed;
+
+/// What a client's next command came to.
+#[derive(PartialEq)]
+enum Flow {
+    /// It was sent or answered.
+    On,
+    /// Its bytes are not all there, or the client has too much in flight.
+    Idle,
+    /// It waits for time or news.
+    Blocked,
+}
+
+impl Worker {
+    /// Does as much of a client's commands as can be done now.
+    pub(super) fn pump(&mut self, at: usize) {
+        let Some(mut client) = self.clients[at].take() else {
+            return;
+        };
+        let mut stands = true;
+        loop {
+            let flow = if client.diverted.is_empty() {
+                self.next_command(at, &mut client)
+            } else {
+                self.chase(at, &mut client)
+            };
+            match flow {
+                Flow::On => {}
+                Flow::Idle if client.is_unread => {
+                    client.make_room();
+                    if client.input.len() >= self.shared.memory {
+                        break;
+                    }
+                    stands = self.read_client(&mut client, false);
+                    if !stands {
+                        break;
+                    }
+                }
+                Flow::Idle => break,
+                Flow::Blocked => {
+                    if !client.is_blocked {
+                        client.is_blocked = true;
+                        self.blocked.push(at);
+                    }
+                    break;
+                }
+            }
+        }
+        if client.out.len() > 0 {
+            self.mark_client(at, &mut client);
+        }
+        self.put_back(at, client, stands);
+    }
+
+    /// Follows the errand of the first request that was refused, once nothing else is in flight.
+    fn chase(&mut self, at: usize, client: &mut Client) -> Flow {
+        if client.in_flight > 0 {
+            return Flow::Idle;
+        }
+        if self.follow(at, client) {
+            Flow::Idle
+        } else if client.diverted.is_empty() {
+            Flow::On
+        } else {
+            Flow::Blocked
+        }
+    }
+
+    /// Sends a client's next command, or answers it.
+    fn next_command(&mut self, at: usize, client: &mut Client) -> Flow {
+        if client.is_ending || !client.has_room(self.shared.memory) {
+            return Flow::Idle;
+        }
+        let rest = &client.input[client.next..];
+        let read = match client.parser.read(rest, self.shared.memory) {
+            Ok(false) if rest.len() >= self.shared.memory => Err(Broken("too large a command")),
+            read => read,
+        };
+        match read {
+            Ok(true) => {}
+            Ok(false) => return Flow::Idle,
+            Err(broken) => {
+                client.add_answer(error(&format!("ERR Protocol error: {broken}")));
+                client.is_ending = true;
+                return Flow::Idle;
+            }
+        }
+        let words = Words { bytes: &client.input[client.next..], places: client.parser.words() };
+        if words.count() == 0 {
+            client.skip();
+            return Flow::On;
+        }
+        // Each protocol has connections of its own, on which commands could overtake those before.
+        if client.in_flight > 0 && words.at(0).eq_ignore_ascii_case(b"HELLO") {
+            return Flow::Idle;
+        }
+        let plan = match Plan::of(words) {
+            Ok(plan) => plan,
+            Err(refused) => return self.answer_here(client, refused),
+        };
+        self.send(at, client, plan)
+    }
+
+    /// Answers a command that is not passed on.
+    fn answer_here(&mut self, client: &mut Client, refused: Vec<u8>) -> Flow {
+        let words = Words { bytes: &client.input[client.next..], places: client.parser.words() };
+        let shared = self.shared.clone();
+        let local = local::answer(words, client.is_resp3, &self.view, || shared.info());
+        self.commands += 1;
+        match local {
+            None => {
+                self.counts().refused.fetch_add(1, Relaxed);
+                client.add_answer(refused);
+            }
+            Some(local) => {
+                client.add_answer(local.answer);
+                client.is_resp3 = local.proto.map_or(client.is_resp3, |proto| proto == 3);
+                client.is_ending |= local.is_end;
+            }
+        }
+        Flow::On
+    }
+
+    /// Sends all requests of a command, or none if one of them has to wait.
+    fn send(&mut self, at: usize, client: &mut Client, plan: Plan) -> Flow {
+        let targets = if client.keeps_order(self.views, self.view.number()) {
+            self.targets(client, &plan)
+        } else {
+            Ok(None)
+        };
+        match targets {
+            Err(refused) => client.add_answer(refused),
+            Ok(None) => return self.wait(client),
+            Ok(Some(targets)) => {
+                if let Some(since) = client.waits_since.take() {
+                    self.counts().waited(self.now - since);
+                }
+                for (part, &target) in targets.as_slice().iter().enumerate() {
+                    self.send_part(at, client, (&plan, part), target);
+                }
+                client.sent_by = (self.views, self.view.number());
+                client.add(plan);
+            }
+        }
+        self.commands += 1;
+        Flow::On
+    }
+
+    /// Sends one request of the client's next command to its target.
+    fn send_part(
+        &mut self,
+        at: usize,
+        client: &mut Client,
+        (plan, part): (&Plan, usize),
+        (upstream, is_guarded): (usize, bool),
+    ) {
+        let words = Words { bytes: &client.input[client.next..], places: client.parser.words() };
+        let to = &mut self.upstreams[upstream];
+        if is_guarded {
+            let course = (to.number, client.is_resp3);
+            plan.put_guarded(&mut to.out.bytes, part, words, course);
+        } else {
+            plan.put(&mut to.out.bytes, part, words, client.parser.len());
+        }
+        let seq = client.next_seq();
+        let part = part as u32;
+        let sent = InFlight { client: at, id: client.id, seq, part, is_guarded, is_chased: false };
+        to.expect(sent, self.now);
+        client.in_flight += 1;
+        client.guarded += usize::from(is_guarded);
+        self.mark_upstream(upstream);
+    }
+
+    /// Waits with a command, and refuses it once that took too long.
+    fn wait(&mut self, client: &mut Client) -> Flow {
+        let since = *client.waits_since.get_or_insert(self.now);
+        if self.now - since < self.shared.wait {
+            return Flow::Blocked;
+        }
+        client.waits_since = None;
+        self.counts().gave_up.fetch_add(1, Relaxed);
+        client.add_answer(error("TRYAGAIN the partition does not let this proxy in, or can't be reached"));
+        Flow::On
+    }
+}
