@@ -73,6 +73,8 @@ pub struct Node {
     speak: Condvar,
     wakers: Mutex<Vec<Box<dyn Fn() + Send>>>,
     sender: Mutex<Option<Conn>>,
+    /// When a digest was heard last that differs from this node's.
+    differed: Mutex<Instant>,
     /// What it has counted.
     pub counts: Counts,
 }
@@ -102,6 +104,7 @@ impl Node {
             speak: Condvar::new(),
             wakers: Mutex::default(),
             sender: Mutex::new(None),
+            differed: Mutex::new(Instant::now()),
             counts: Counts::default(),
         });
         node.run(Node::hear);
@@ -172,6 +175,21 @@ impl Node {
         self.send(|streams, conn| streams.write(conn, &self.name, &frames, None))
     }
 
+    /// Answers others until each node that shows a digest has shown that it knows the same: whether
+    /// that came about in the given time.
+    pub fn settle(&self, most: Duration) -> bool {
+        let began = Instant::now();
+        let quiet = ROUND + Duration::from_micros(2 * PAUSE);
+        *lock(&self.differed) = began;
+        while began.elapsed() < most {
+            if lock(&self.differed).elapsed() >= quiet {
+                return true;
+            }
+            thread::sleep(Duration::from_millis(10));
+        }
+        false
+    }
+
     fn publish(&self, router: &Router) -> Done<()> {
         let view = router.view()?;
         *lock(&self.view) = view;
@@ -230,6 +248,10 @@ impl Node {
             return;
         }
         let now = Instant::now();
+        let own = lock(&self.router).digest().map(|frames| frames.collect::<Vec<_>>()).unwrap_or_default();
+        if digests.iter().any(|entry| !own.contains(&entry.frame)) {
+            *lock(&self.differed) = now;
+        }
         let mut agenda = lock(&self.agenda);
         agenda.answers.extend(digests.into_iter().map(|entry| Answer {
             due: now + Duration::from_micros(dice.below(PAUSE)),

@@ -37,6 +37,7 @@ pub const USAGE: Usage = Usage {
         "secret-file",
         "chunk",
         "pause",
+        "settle",
         "squall",
     ],
     flags: &["init", "dry-run"],
@@ -142,6 +143,10 @@ impl Mover {
             progress.moved(),
             progress.took().as_secs_f64()
         );
+        let settle = args.number("settle", 10_000, 0, 3_600_000)?;
+        if !bus.settle(Duration::from_millis(settle)) {
+            eprintln!("squall-redis-mover: some proxies have not heard all; run it again if they don't");
+        }
         Ok(())
     }
 

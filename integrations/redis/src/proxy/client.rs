@@ -40,10 +40,11 @@ pub struct Diverted {
 
 /// The errand of the first request that was refused.
 pub struct Chase {
-    /// The errand.
+    /// The errand, and whether it has ended without the key.
     pub errand: Errand,
-    /// The view by which it was started, and that view's course.
-    pub views: u64,
+    pub is_lost: bool,
+    /// Where the view routed the key when it was started, and that view's course.
+    pub routed: Option<u32>,
     pub number: u32,
     /// When the request was refused, and when to ask again.
     pub since: Instant,

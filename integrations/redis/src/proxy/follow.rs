@@ -214,36 +214,37 @@ impl Worker {
         self.send_chased((at, upstream), client, (seq, part), asked)
     }
 
-    /// Begins the errand of a request, or another one if the view is newer and routes its key to
-    /// another partition.
+    /// Begins the errand of a request. It is begun anew if its key is routed to another partition, or
+    /// if it has ended without the key. If its key is routed to the partition that it asks, that one is
+    /// asked at once.
     fn renew(&self, client: &mut Client, rank: squall::Rank) {
+        let (routed, number) = (self.view.route(rank), self.view.number());
         let said = client.diverted[0].said;
-        let chase = client.chase.take();
-        let is_old = chase.as_ref().is_none_or(|chase| {
-            let is_routed = self.view.route(rank) == Some(chase.errand.asked());
-            chase.views != self.views && (!is_routed || chase.number != self.view.number())
-        });
-        if !is_old {
-            client.chase = chase;
-            return;
+        let mut since = self.now;
+        if let Some(chase) = client.chase.as_mut() {
+            let is_news = chase.number != number || chase.routed != routed;
+            if is_news && !chase.is_lost && chase.number == number && routed == Some(chase.errand.asked()) {
+                chase.routed = routed;
+                chase.again = self.now;
+                return;
+            }
+            let is_over = chase.is_lost && self.now >= chase.again;
+            if !is_news && !is_over {
+                return;
+            }
+            since = chase.since;
         }
         let Ok(mut errand) = self.view.errand(rank) else {
             return;
         };
         // What the partition has said already need not be asked again.
-        if let (None, Some((part, reply))) = (&chase, said) {
+        if let Some((part, reply)) = said.filter(|_| client.chase.is_none()) {
             if errand.asked() == part {
                 let _ = errand.heed(reply);
             }
         }
-        client.chase = Some(Chase {
-            errand,
-            views: self.views,
-            number: self.view.number(),
-            since: chase.map_or(self.now, |chase| chase.since),
-            again: self.now,
-            pause: FIRST,
-        });
+        let pause = client.chase.as_ref().map_or(FIRST, |chase| chase.pause);
+        client.chase = Some(Chase { errand, is_lost: false, routed, number, since, again: self.now, pause });
     }
 
     /// Sends a request that was refused to the partition that its errand names.
@@ -291,20 +292,13 @@ fn heed(client: &mut Client, said: Said, now: std::time::Instant) {
         Said::Elsewhere(reply) => chase.errand.heed(reply),
         _ => Ok(Next::Again(0)),
     };
-    match next {
-        Ok(Next::Ask(_)) => chase.again = now,
-        Ok(Next::Again(_)) => {
-            chase.again = now + chase.pause;
-            chase.pause = (chase.pause * 2).min(LAST);
-        }
-        // It starts anew from the view, with the same patience.
-        _ => {
-            chase.again = now + chase.pause;
-            chase.pause = (chase.pause * 2).min(LAST);
-            chase.number = 0;
-            chase.views = 0;
-        }
+    if let Ok(Next::Ask(_)) = next {
+        chase.again = now;
+        return;
     }
+    chase.is_lost = !matches!(next, Ok(Next::Again(_)));
+    chase.again = now + chase.pause;
+    chase.pause = (chase.pause * 2).min(LAST);
 }
 
 /// What an error says: the partition's own words come of guarded requests alone.
