@@ -6,6 +6,7 @@ use crate::dice::Dice;
 use crate::resp::Value;
 use std::fmt;
 use std::net::SocketAddr;
+use std::path::PathBuf;
 use std::sync::atomic::{AtomicU64, Ordering::Relaxed};
 use std::thread;
 use std::time::Duration;
@@ -59,6 +60,8 @@ pub struct Load<'a> {
     pub proxies: Vec<SocketAddr>,
     /// How many commands each of them makes.
     pub commands: u64,
+    /// It goes on while this file is there.
+    pub file: Option<PathBuf>,
     /// How many it sends at once.
     pub depth: usize,
     /// How many keys it has, and over how many roots they lie.
@@ -112,7 +115,7 @@ impl Load<'_> {
             version: 0,
         };
         let mut made = 0;
-        while made < self.commands {
+        while made < self.commands || self.file.as_ref().is_some_and(|file| file.exists()) {
             made += session.round() as u64;
             thread::sleep(self.pause);
         }

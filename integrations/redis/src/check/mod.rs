@@ -6,6 +6,7 @@ mod load;
 use crate::args::{Args, Usage};
 use crate::fault::{Done, Fault};
 use load::{Load, Tally};
+use std::path::PathBuf;
 use std::sync::atomic::Ordering::Relaxed;
 use std::thread;
 use std::time::{Duration, Instant};
@@ -26,6 +27,7 @@ pub const USAGE: Usage = Usage {
         "prefix",
         "pause",
         "reads",
+        "while",
     ],
     flags: &["tolerant", "quiet"],
 };
@@ -72,6 +74,7 @@ fn load<'a>(args: &Args, connections: u64, tally: &'a Tally) -> Done<Load<'a>> {
         seed: args.number("seed", 1, 0, u64::MAX)?,
         prefix: args.get("prefix").unwrap_or("k").to_string(),
         pause: Duration::from_micros(args.number("pause", 0, 0, 10_000_000)?),
+        file: args.get("while").map(PathBuf::from),
         reads: args.number("reads", 200, 1, 1_000_000)?,
         is_tolerant: args.has("tolerant"),
         tally,
