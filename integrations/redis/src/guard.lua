@@ -10,6 +10,8 @@
 -- squall:edge    of a move's LO the rank below which its keys were given (out) or loaded (in)
 -- squall:forgot  of a move's LO the rank below which the source has unlinked what it gave
 --
+-- Functions that need no memory also run if the server has none left.
+--
 -- Nothing but these functions changes these keys. So what was read of them is kept from call to call.
 -- A server that loads its data again loads this library again too, and reads them anew.
 local kept = nil
@@ -112,18 +114,24 @@ redis.register_function('squall_do', function(_, args)
   return exact(redis.pcall(unpack(args, first)), args[first], args[first + 1], args[first + 2])
 end)
 
--- NUMBER: each move of that course as LO HI ROLE PEER EDGE FORGOT.
-redis.register_function('squall_moves', function(_, args)
-  local course = known()
-  if args[1] ~= course.number then
-    return refuse('COURSE ' .. course.number)
-  end
-  local lines = {}
-  for at, move in ipairs(course.moves) do
-    lines[at] = table.concat({ move.lo, move.hi, move.role, move.peer, move.edge, move.forgot }, ' ')
-  end
-  return lines
-end)
+-- NUMBER [PLAN]: each move of that course as LO HI ROLE PEER EDGE FORGOT, if the course ends at that plan.
+redis.register_function({
+  function_name = 'squall_moves',
+  flags = { 'no-writes', 'allow-oom' },
+  callback = function(_, args)
+    local course = known()
+    if args[1] ~= course.number then
+      return refuse('COURSE ' .. course.number)
+    elseif args[2] and args[2] ~= redis.call('GET', 'squall:new') then
+      return refuse('CLASH ' .. course.number)
+    end
+    local lines = {}
+    for at, move in ipairs(course.moves) do
+      lines[at] = table.concat({ move.lo, move.hi, move.role, move.peer, move.edge, move.forgot }, ' ')
+    end
+    return lines
+  end,
+})
 
 -- The first move that is not over: not given and forgotten here, or not loaded.
 local function unfinished(course)
@@ -165,14 +173,18 @@ local function fault(course, args)
 end
 
 -- The same arguments as squall_begin has: whether it would begin, or why not.
-redis.register_function('squall_may_begin', function(_, args)
-  local course = known()
-  if args[1] == course.number then
-    return is_same(course, args) and redis.status_reply('again') or refuse('CLASH ' .. course.number)
-  end
-  local why = fault(course, args)
-  return why and refuse(why) or redis.status_reply('fresh')
-end)
+redis.register_function({
+  function_name = 'squall_may_begin',
+  flags = { 'no-writes', 'allow-oom' },
+  callback = function(_, args)
+    local course = known()
+    if args[1] == course.number then
+      return is_same(course, args) and redis.status_reply('again') or refuse('CLASH ' .. course.number)
+    end
+    local why = fault(course, args)
+    return why and refuse(why) or redis.status_reply('fresh')
+  end,
+})
 
 -- NUMBER OLD NEW fresh|known MOVE..: begins a course. One that has begun stays as it is. A partition
 -- that the old plan does not name has no keys, and may be fresh.
@@ -216,16 +228,24 @@ local function raise(move, name, key, edge)
 end
 
 -- NUMBER LO EDGE: the keys of the move from LO on, below EDGE, are given. Never undone.
-redis.register_function('squall_give', function(_, args)
-  local move, refused = own_move(args, 'out')
-  return refused or raise(move, 'edge', 'squall:edge', args[3])
-end)
+redis.register_function({
+  function_name = 'squall_give',
+  flags = { 'allow-oom' },
+  callback = function(_, args)
+    local move, refused = own_move(args, 'out')
+    return refused or raise(move, 'edge', 'squall:edge', args[3])
+  end,
+})
 
 -- NUMBER LO EDGE: they are loaded. Never undone.
-redis.register_function('squall_load', function(_, args)
-  local move, refused = own_move(args, 'in')
-  return refused or raise(move, 'edge', 'squall:edge', args[3])
-end)
+redis.register_function({
+  function_name = 'squall_load',
+  flags = { 'allow-oom' },
+  callback = function(_, args)
+    local move, refused = own_move(args, 'in')
+    return refused or raise(move, 'edge', 'squall:edge', args[3])
+  end,
+})
 
 -- A key; NUMBER RANK, when it ends, and its DUMP: puts it where it comes to, unless it was loaded.
 redis.register_function('squall_put', function(keys, args)
@@ -244,15 +264,19 @@ redis.register_function('squall_put', function(keys, args)
 end)
 
 -- Keys that were given and loaded; NUMBER LO EDGE: unlinks them. All below EDGE are forgotten then.
-redis.register_function('squall_forget', function(keys, args)
-  local move, refused = own_move(args, 'out')
-  if refused then
-    return refused
-  elseif args[3] > move.edge then
-    return refuse('STRANGER')
-  end
-  for _, key in ipairs(keys) do
-    redis.call('UNLINK', key)
-  end
-  return raise(move, 'forgot', 'squall:forgot', args[3])
-end)
+redis.register_function({
+  function_name = 'squall_forget',
+  flags = { 'allow-oom' },
+  callback = function(keys, args)
+    local move, refused = own_move(args, 'out')
+    if refused then
+      return refused
+    elseif args[3] > move.edge then
+      return refuse('STRANGER')
+    end
+    for _, key in ipairs(keys) do
+      redis.call('UNLINK', key)
+    end
+    return raise(move, 'forgot', 'squall:forgot', args[3])
+  end,
+})

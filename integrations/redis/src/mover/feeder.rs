@@ -58,7 +58,14 @@ impl Job<'_> {
             chunks: 0,
         };
         self.progress.expect(feeder.index.len());
-        moves.iter().try_for_each(|it| feeder.run(it))
+        let (given, loaded) = (feeder.source.edges()?, feeder.dest.edges()?);
+        for it in moves {
+            let (Some(given), Some(loaded)) = (given.get(&it.lo), loaded.get(&it.lo)) else {
+                return Err(Fault::new(format!("no move begins at {}", it.lo)));
+            };
+            feeder.run(it, given.forgot, loaded.edge)?;
+        }
+        Ok(())
     }
 
     fn server(&self, part: u32) -> Done<&Server> {
@@ -68,10 +75,9 @@ impl Job<'_> {
 }
 
 impl Feeder<'_> {
-    /// One move. What an earlier run has done is not done again.
-    fn run(&mut self, it: &Move) -> Done<()> {
-        let mut loaded = self.dest.edges(it)?.edge;
-        let mut forgot = self.source.edges(it)?.forgot;
+    /// One move, from where an earlier run has stopped. If another mover is further by now, what it has
+    /// done changes nothing.
+    fn run(&mut self, it: &Move, mut forgot: Rank, mut loaded: Rank) -> Done<()> {
         if loaded > it.lo {
             self.report(it, it.lo..loaded)?;
         }

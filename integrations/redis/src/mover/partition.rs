@@ -7,6 +7,7 @@ use crate::keymap::hex;
 use crate::resp::Value;
 use crate::{user, GUARD};
 use squall::Rank;
+use std::collections::HashMap;
 
 /// A partition, as its operator.
 pub struct Partition {
@@ -124,21 +125,12 @@ impl Partition {
         }
     }
 
-    /// How far it has come with the move.
-    pub fn edges(&mut self, it: &Move) -> Done<Edges> {
+    /// How far it has come with each move, by the move's first key.
+    pub fn edges(&mut self) -> Done<HashMap<Rank, Edges>> {
         let number = self.number.clone();
         let lines = self.ask(&["FCALL", "squall_moves", "0", &number])?.list();
-        let lo = hex(it.lo);
-        let lines: Vec<String> = lines.into_iter().map(Value::text).collect();
-        let found = lines.iter().find(|line| line.starts_with(&lo));
-        let words = found.map(|line| line.split(' ').collect::<Vec<_>>());
-        let edges = words.and_then(|words| {
-            let &[_, _, _, _, edge, forgot] = &words[..] else {
-                return None;
-            };
-            Some(Edges { edge: rank(edge)?, forgot: rank(forgot)? })
-        });
-        edges.ok_or_else(|| Fault::new(format!("partition {} has no such move", self.part)))
+        let edges: Option<_> = lines.into_iter().map(|line| read_edges(&line.text())).collect();
+        edges.ok_or_else(|| Fault::new(format!("partition {}: a move of another form", self.part)))
     }
 
     /// Gives the keys of the move below the edge: up to where keys are given now.
@@ -225,6 +217,15 @@ impl Partition {
             _ => format!("partition {part}: {said}"),
         })
     }
+}
+
+/// The first key and the edges of a line of `squall_moves`.
+fn read_edges(line: &str) -> Option<(Rank, Edges)> {
+    let words: Vec<&str> = line.split(' ').collect();
+    let &[lo, _, _, _, edge, forgot] = &words[..] else {
+        return None;
+    };
+    Some((rank(lo)?, Edges { edge: rank(edge)?, forgot: rank(forgot)? }))
 }
 
 /// The rank of sixteen digits.

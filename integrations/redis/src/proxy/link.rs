@@ -57,7 +57,7 @@ impl Worker {
             _ => false,
         };
         if may_enter && upstream.sent.is_empty() {
-            upstream.enter(number, &self.shared.secret);
+            upstream.enter(number, &self.shared.secret, &self.shared.first);
             upstream.progress = self.now;
             self.counts().logins.fetch_add(1, Relaxed);
             self.mark_upstream(at);

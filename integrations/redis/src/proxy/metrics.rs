@@ -54,6 +54,8 @@ pub struct Shared {
     pub parts: BTreeMap<u32, SocketAddr>,
     /// The password of the users squall-N.
     pub secret: String,
+    /// The ranges of the plan of course 1.
+    pub first: String,
     /// How long a command may wait.
     pub wait: Duration,
     /// How long a partition may take for an answer.

@@ -15,6 +15,7 @@ mod worker;
 use crate::args::{resolve, Args, Usage};
 use crate::bus::{Node, Options};
 use crate::conn::Server;
+use crate::course::Plan;
 use crate::fault::{Done, Fault, Trying};
 use crate::DEFAULT_SECRET;
 use metrics::Shared;
@@ -77,6 +78,7 @@ fn share(args: &Args, threads: usize) -> Done<Shared> {
     Ok(Shared {
         node,
         parts: args.parts()?,
+        first: Plan::read(args.file("first")?)?.ranges,
         secret: args.password("secret-file")?.unwrap_or(DEFAULT_SECRET.into()),
         wait: Duration::from_millis(args.number("wait", 5000, 1, 3_600_000)?),
         answer: Duration::from_millis(args.number("answer", 60_000, 1, 3_600_000)?),

@@ -68,6 +68,8 @@ pub struct Upstream {
     pub state: State,
     /// The course by which it is let in.
     pub number: u32,
+    /// The course whose refusal was shown last.
+    shown: u32,
     /// The moves of that course: from, below, and the role.
     moves: Vec<(Rank, Rank, Role)>,
     /// What is to be sent.
@@ -94,6 +96,7 @@ impl Upstream {
             stream: None,
             state: State::Down(now),
             number: 0,
+            shown: 0,
             moves: Vec::new(),
             out: Out::default(),
             heard: Vec::new(),
@@ -124,14 +127,18 @@ impl Upstream {
     }
 
     /// Logs in for a course, once nothing is in flight.
-    pub fn enter(&mut self, number: u32, secret: &str) {
+    pub fn enter(&mut self, number: u32, secret: &str, first: &str) {
         let name = user(number);
         if self.is_resp3 {
             push(&mut self.out.bytes, &["HELLO", "3", "AUTH", &name, secret]);
         } else {
             push(&mut self.out.bytes, &["AUTH", &name, secret]);
         }
-        push(&mut self.out.bytes, &["FCALL", "squall_moves", "0", &number.to_string()]);
+        let text = number.to_string();
+        // No frame says what the plan of course 1 is.
+        let plan = (number == 1).then_some(first);
+        let words = ["FCALL", "squall_moves", "0", &text].into_iter().chain(plan);
+        push(&mut self.out.bytes, &words.collect::<Vec<_>>());
         self.state = State::Entering(2, false);
         self.number = number;
     }
@@ -142,6 +149,11 @@ impl Upstream {
             return false;
         };
         let is_refused = was_refused || reply.first() == Some(&b'-');
+        if is_refused && !was_refused && self.shown != self.number {
+            self.shown = self.number;
+            let why = String::from_utf8_lossy(&reply[1..]);
+            eprintln!("partition {} refuses course {}: {}", self.part, self.number, why.trim_end());
+        }
         if left > 1 {
             self.state = State::Entering(left - 1, is_refused);
             return false;
