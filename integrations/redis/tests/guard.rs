@@ -1,0 +1,181 @@
+//! What the functions of a partition answer. `tools/integrations` starts an empty Redis server, and
+//! names its address in SQUALL_REDIS.
+
+use squall_redis::conn::{Conn, Server};
+use squall_redis::GUARD;
+
+const OUT: &str = "0000000200000000 0000000300000000 out 3";
+const IN: &str = "0000000500000000 0000000600000000 in 4";
+const BESIDE: &str = "0000000700000000 0000000800000000 none 6";
+
+struct Partition(Conn);
+
+impl Partition {
+    /// A partition in course 1 of plan A.
+    fn new() -> Partition {
+        let addr = std::env::var("SQUALL_REDIS").expect("SQUALL_REDIS");
+        let server = Server { addr: addr.parse().unwrap(), password: None };
+        let mut partition = Partition(Conn::open(&server).unwrap());
+        partition.ask(&["FLUSHALL"]);
+        partition.ask(&["FUNCTION", "LOAD", "REPLACE", GUARD]);
+        assert_eq!(partition.begin(&["1", "A", "A", "fresh"]), "begun");
+        partition
+    }
+
+    fn ask(&mut self, words: &[&str]) -> String {
+        self.0.put(words);
+        self.0.flush().unwrap();
+        self.0.hear().unwrap().text()
+    }
+
+    fn call(&mut self, function: &str, args: &[&str]) -> String {
+        self.ask(&[&["FCALL", function, "0"], args].concat())
+    }
+
+    fn begin(&mut self, args: &[&str]) -> String {
+        let may = self.call("squall_may_begin", args);
+        let did = self.call("squall_begin", args);
+        // What may not begin did not.
+        assert_eq!(may.starts_with("SQUALL "), did.starts_with("SQUALL "), "{may} {did}");
+        did
+    }
+
+    fn get(&mut self, ranks: &[&str]) -> String {
+        let count = ranks.len().to_string();
+        self.call("squall_do", &[&["2", "2", &count], ranks, &["GET", "x"]].concat())
+    }
+}
+
+/// A partition in course 2, from which keys of root 2 go to 3, and to which keys of root 5 come from 4.
+fn moving() -> Partition {
+    let mut partition = Partition::new();
+    assert_eq!(partition.begin(&["2", "A", "B", "known", OUT, IN, BESIDE]), "begun");
+    partition.ask(&["SET", "x", "here"]);
+    partition
+}
+
+#[test]
+#[ignore = "needs a server"]
+fn replies_follow_the_edges() {
+    let mut it = moving();
+    for (rank, wanted) in [
+        ("0000000100000000", "here"),
+        ("0000000200000000", "here"),
+        ("00000002ffffffff", "here"),
+        ("0000000500000000", "SQUALL PENDING 4"),
+        ("0000000600000000", "here"),
+        ("0000000700000001", "SQUALL ELSEWHERE 6"),
+    ] {
+        assert_eq!(it.get(&[rank]), wanted, "{rank}");
+    }
+    assert_eq!(it.call("squall_give", &["2", "0000000200000000", "0000000200000005"]), "0000000200000005");
+    assert_eq!(it.call("squall_load", &["2", "0000000500000000", "0000000500000005"]), "0000000500000005");
+    for (rank, wanted) in [
+        ("0000000200000004", "SQUALL MOVED 3 2"),
+        ("0000000200000005", "here"),
+        ("0000000500000004", "here"),
+        ("0000000500000005", "SQUALL PENDING 4"),
+    ] {
+        assert_eq!(it.get(&[rank]), wanted, "{rank}");
+    }
+    // Edges never fall.
+    assert_eq!(it.call("squall_give", &["2", "0000000200000000", "0000000200000001"]), "0000000200000005");
+    assert_eq!(it.get(&["0000000200000004"]), "SQUALL MOVED 3 2");
+}
+
+#[test]
+#[ignore = "needs a server"]
+fn several_keys_have_one_reply() {
+    let mut it = moving();
+    it.call("squall_give", &["2", "0000000200000000", "0000000200000005"]);
+    let (moved, here) = ("0000000200000001", "0000000200000009");
+    assert_eq!(it.get(&[here, "0000000100000000"]), "here");
+    assert_eq!(it.get(&[moved, moved]), "SQUALL MOVED 3 2");
+    assert_eq!(it.get(&[moved, here]), "SQUALL SPLIT");
+    assert_eq!(it.get(&[here, moved]), "SQUALL SPLIT");
+}
+
+#[test]
+#[ignore = "needs a server"]
+fn commands_of_another_course_are_refused() {
+    let mut it = moving();
+    let ask = ["1", "2", "1", "0000000100000000", "SET", "x", "late"];
+    assert_eq!(it.call("squall_do", &ask), "SQUALL COURSE 2");
+    assert_eq!(it.call("squall_moves", &["1"]), "SQUALL COURSE 2");
+    assert_eq!(it.call("squall_give", &["1", "0000000200000000", "0000000200000005"]), "SQUALL COURSE 2");
+    assert_eq!(it.ask(&["GET", "x"]), "here");
+}
+
+#[test]
+#[ignore = "needs a server"]
+fn a_put_is_done_only_while_its_key_is_pending() {
+    let mut it = moving();
+    it.0.put(&["DUMP", "x"]);
+    it.0.flush().unwrap();
+    let dump = it.0.hear().unwrap().bytes();
+    let mut put = |number: &str, rank: &str| {
+        let head: [&[u8]; 4] = [b"FCALL", b"squall_put", b"1", b"y"];
+        let rest: [&[u8]; 4] = [number.as_bytes(), rank.as_bytes(), b"0", &dump];
+        it.0.put(&[head, rest].concat());
+        it.0.flush().unwrap();
+        it.0.hear().unwrap().text()
+    };
+    assert_eq!(put("2", "0000000500000001"), "put");
+    assert_eq!(put("2", "0000000500000001"), "put");
+    assert_eq!(put("1", "0000000500000001"), "SQUALL COURSE 2");
+    assert_eq!(put("2", "0000000200000001"), "SQUALL STRANGER");
+    assert_eq!(put("2", "0000000100000001"), "SQUALL STRANGER");
+    it.call("squall_load", &["2", "0000000500000000", "0000000500000002"]);
+    it.ask(&["SET", "y", "newer"]);
+    let head: [&[u8]; 4] = [b"FCALL", b"squall_put", b"1", b"y"];
+    let rest: [&[u8]; 4] = [b"2", b"0000000500000001", b"0", &dump];
+    it.0.put(&[head, rest].concat());
+    it.0.flush().unwrap();
+    assert_eq!(it.0.hear().unwrap().text(), "loaded");
+    assert_eq!(it.ask(&["GET", "y"]), "newer");
+}
+
+#[test]
+#[ignore = "needs a server"]
+fn only_what_was_given_is_forgotten() {
+    let mut it = moving();
+    let (lo, five, nine) = ("0000000200000000", "0000000200000005", "0000000200000009");
+    it.call("squall_give", &["2", lo, five]);
+    let forget = |it: &mut Partition, edge| it.ask(&["FCALL", "squall_forget", "1", "x", "2", lo, edge]);
+    assert_eq!(forget(&mut it, nine), "SQUALL STRANGER");
+    assert_eq!(it.ask(&["GET", "x"]), "here");
+    assert_eq!(forget(&mut it, five), five);
+    assert_eq!(it.ask(&["EXISTS", "x"]), "0");
+}
+
+#[test]
+#[ignore = "needs a server"]
+fn courses_begin_one_after_another() {
+    let mut it = moving();
+    let words = ["2", "A", "B", "known", OUT, IN, BESIDE];
+    assert_eq!(it.begin(&words), "again");
+    assert_eq!(it.begin(&words[..6]), "SQUALL CLASH 2");
+    assert_eq!(it.begin(&["2", "A", "C", "known", OUT, IN, BESIDE]), "SQUALL CLASH 2");
+    assert_eq!(it.begin(&["1", "A", "A", "fresh"]), "SQUALL LATE 2");
+    assert_eq!(it.begin(&["3", "B", "C", "known"]), "SQUALL RUNNING 2 0000000200000000");
+    it.call("squall_give", &["2", "0000000200000000", "0000000300000000"]);
+    it.call("squall_forget", &["2", "0000000200000000", "0000000300000000"]);
+    assert_eq!(it.begin(&["3", "B", "C", "known"]), "SQUALL RUNNING 2 0000000500000000");
+    it.call("squall_load", &["2", "0000000500000000", "0000000600000000"]);
+    assert_eq!(it.begin(&["3", "A", "C", "known"]), "SQUALL OTHER 2");
+    assert_eq!(it.begin(&["4", "B", "C", "known"]), "SQUALL GAP 2");
+    // One that the old plan gives no keys may have missed courses.
+    assert_eq!(it.begin(&["7", "B", "C", "fresh"]), "begun");
+    assert_eq!(it.call("squall_moves", &["7", "C"]), "");
+    assert_eq!(it.call("squall_moves", &["7", "A"]), "SQUALL CLASH 7");
+}
+
+#[test]
+#[ignore = "needs a server"]
+fn an_empty_partition_is_no_known_one() {
+    let mut it = Partition::new();
+    it.ask(&["FLUSHALL"]);
+    it.ask(&["FUNCTION", "LOAD", "REPLACE", GUARD]);
+    assert_eq!(it.begin(&["2", "A", "B", "known"]), "SQUALL EMPTY");
+    assert_eq!(it.begin(&["2", "A", "B", "fresh"]), "begun");
+}
