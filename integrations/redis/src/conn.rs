@@ -6,7 +6,7 @@ use std::io::{Read, Write};
 use std::net::{SocketAddr, TcpStream};
 use std::time::Duration;
 
-/// Where a server is, and how it lets a program in.
+/// The address of a server, and the password that it needs.
 #[derive(Clone)]
 pub struct Server {
     /// Its address.

@@ -11,7 +11,7 @@ use std::process::Command;
 pub struct Move {
     /// The first key.
     pub lo: Rank,
-    /// Where they end.
+    /// The bound at which they end.
     pub hi: Rank,
     /// The partition from which they go.
     pub source: u32,

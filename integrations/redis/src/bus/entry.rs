@@ -16,7 +16,7 @@ pub struct Entry {
     pub re: Option<String>,
 }
 
-/// Where a reader is in both streams.
+/// A reader's place in both streams.
 pub struct Places {
     /// The last frame that was read.
     pub frames: String,

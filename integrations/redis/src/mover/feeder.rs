@@ -17,9 +17,9 @@ use std::time::Duration;
 pub struct Job<'a> {
     /// The course's number.
     pub number: u32,
-    /// Where the partitions are.
+    /// The addresses of the partitions.
     pub servers: &'a BTreeMap<u32, Server>,
-    /// Where reports are sent.
+    /// The bus, to which reports are sent.
     pub bus: &'a Node,
     /// What is shown.
     pub progress: &'a Progress,
@@ -95,7 +95,7 @@ impl Feeder<'_> {
         }
     }
 
-    /// The next chunk, which begins at `lo`: where keys are loaded now.
+    /// Moves the next chunk, which begins at `lo`: the bound below which keys are loaded now.
     fn chunk(&mut self, it: &Move, lo: Rank) -> Done<Rank> {
         let wanted = self.index.cut(lo, it.hi, self.job.chunk);
         let hi = self.source.give(it, wanted)?;

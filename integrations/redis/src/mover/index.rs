@@ -68,8 +68,8 @@ impl Index {
         self.count
     }
 
-    /// Where a chunk of about that many Redis keys ends, which begins at `lo`, and ends at `hi` at
-    /// the latest. Keys of one rank are in one chunk.
+    /// The end of a chunk of about that many Redis keys, which begins at `lo`. It is `hi` at the
+    /// latest. Keys of one rank are in one chunk.
     pub fn cut(&self, lo: Rank, hi: Rank, count: usize) -> Rank {
         let mut left = count;
         for (&rank, keys) in self.keys.range(lo..hi) {

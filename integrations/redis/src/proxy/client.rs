@@ -11,7 +11,7 @@ use std::time::{Duration, Instant};
 
 /// No client has more commands that wait for answers.
 pub const MOST_COMMANDS: usize = 4096;
-/// From so many answered bytes on, they are dropped before all are answered.
+/// If more bytes than these are answered, they are dropped before all are answered.
 const ANSWERED: usize = 1 << 16;
 
 /// A command that is not answered.
@@ -43,7 +43,7 @@ pub struct Chase {
     /// The errand, and whether it has ended without the key.
     pub errand: Errand,
     pub is_lost: bool,
-    /// Where the view routed the key when it was started, and that view's course.
+    /// The partition to which the view routed the key when it was started, and that view's course.
     pub routed: Option<u32>,
     pub number: u32,
     /// When the request was refused, and when to ask again.

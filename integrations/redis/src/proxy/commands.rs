@@ -4,7 +4,7 @@
 //! connection or a transaction, scripts, subscriptions, the administration of a server, and those whose
 //! keys are found in another way. `MOVE` would take a key to a database that no mover knows.
 
-/// Where the keys of a command are, as indices of its words.
+/// The places of a command's keys, as indices of its words.
 #[derive(Clone, Copy, Debug, PartialEq)]
 pub enum Keys {
     /// From the first to the last, and the step between two. A last index below 0 counts from the end.
@@ -42,7 +42,7 @@ pub enum Split {
 pub struct Command {
     /// Its name in capital letters.
     pub name: &'static str,
-    /// Where its keys are.
+    /// The places of its keys.
     pub keys: Keys,
     /// How it can be guarded.
     pub guard: Guard,

@@ -46,7 +46,7 @@ impl Worker {
         self.enter(at);
     }
 
-    /// Logs in by the view's course, if the connection stands, is not logged in by it, and nothing is
+    /// Logs in by the view's course, if the connection is open, is not logged in by it, and nothing is
     /// in flight on it.
     pub(super) fn enter(&mut self, at: usize) {
         let number = self.view.number();

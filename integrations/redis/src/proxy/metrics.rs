@@ -50,7 +50,7 @@ impl Counts {
 pub struct Shared {
     /// The node of the bus.
     pub node: Arc<Node>,
-    /// Where the partitions are.
+    /// The addresses of the partitions.
     pub parts: BTreeMap<u32, SocketAddr>,
     /// The password of the users squall-N.
     pub secret: String,

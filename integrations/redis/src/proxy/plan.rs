@@ -12,7 +12,7 @@ use std::ops::Range;
 pub struct Words<'a> {
     /// The bytes, which begin with the command.
     pub bytes: &'a [u8],
-    /// Where the words are.
+    /// The places of the words.
     pub places: &'a [Range<usize>],
 }
 

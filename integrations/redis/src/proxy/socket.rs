@@ -11,7 +11,7 @@ pub struct Out {
     sent: usize,
 }
 
-/// From so many sent bytes on, they are dropped before all are sent.
+/// If more bytes than these are sent, they are dropped before all are sent.
 const SENT: usize = 1 << 20;
 
 impl Out {
@@ -26,7 +26,7 @@ impl Out {
         self.sent = 0;
     }
 
-    /// Sends what the connection takes: whether it still stands.
+    /// Sends what the connection takes: whether it is still open.
     pub fn send(&mut self, stream: &mut TcpStream) -> bool {
         while self.sent < self.bytes.len() {
             match stream.write(&self.bytes[self.sent..]) {

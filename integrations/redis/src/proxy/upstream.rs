@@ -191,7 +191,7 @@ impl Upstream {
         self.sent.push_back(sent);
     }
 
-    /// Reads what has come: whether the connection still stands.
+    /// Reads what has come: whether the connection is still open.
     pub fn receive(&mut self, block: &mut [u8], is_closed: bool) -> bool {
         let Some(stream) = &mut self.stream else {
             return false;
@@ -199,7 +199,7 @@ impl Upstream {
         receive(stream, block, &mut self.heard, (is_closed, usize::MAX)) == Received::All
     }
 
-    /// Sends what it can: whether the connection still stands.
+    /// Sends what it can: whether the connection is still open.
     pub fn flush(&mut self) -> bool {
         self.stream.as_mut().is_none_or(|stream| self.out.send(stream))
     }

@@ -47,7 +47,7 @@ pub struct Worker {
     pub(super) commands: u64,
 }
 
-/// Where the event of a token belongs.
+/// The tokens of clients are even, and those of connections to partitions odd.
 fn client_token(at: usize) -> Token {
     Token(2 + 2 * at)
 }
@@ -174,7 +174,7 @@ impl Worker {
         }
     }
 
-    /// Reads what a client has sent: whether its connection stands.
+    /// Reads what a client has sent: whether its connection is open.
     pub(super) fn read_client(&mut self, client: &mut Client, is_closed: bool) -> bool {
         let most = (is_closed, self.shared.memory);
         let received = receive(&mut client.stream, &mut self.block, &mut client.input, most);
