@@ -9,4 +9,4 @@ mod node;
 mod outbox;
 
 pub use node::{Counts, Node, Options};
-pub use outbox::{issue, report};
+pub use outbox::report;

@@ -15,14 +15,3 @@ pub fn report(give: impl FnOnce(&mut Router) -> Result<(), Error>) -> Result<Vec
     give(&mut outbox)?;
     Ok(outbox.board()?.collect())
 }
-
-/// The frames of the report that course `number` leads from one plan to another.
-///
-/// # Errors
-///
-/// As those of [`Router::open`] and [`Router::issued`].
-pub fn issue(number: u32, old: &[u8], new: &[u8]) -> Result<Vec<Vec<u8>>, Error> {
-    let mut outbox = Router::open(1, old, old)?;
-    outbox.issued(number, new)?;
-    Ok(outbox.board()?.collect())
-}

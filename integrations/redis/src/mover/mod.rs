@@ -6,7 +6,7 @@ mod partition;
 mod progress;
 
 use crate::args::{Args, Usage};
-use crate::bus::{self, Node, Options};
+use crate::bus::{Node, Options};
 use crate::conn::{Conn, Server};
 use crate::course::{self, Move, Plan};
 use crate::fault::{Done, Fault, Trying};
@@ -38,7 +38,6 @@ pub const USAGE: Usage = Usage {
         "chunk",
         "pause",
         "settle",
-        "squall",
     ],
     flags: &["init", "dry-run"],
 };
@@ -52,6 +51,8 @@ struct Mover {
     old: Plan,
     new: Plan,
     moves: Vec<Move>,
+    /// The frame by which routers learn of the course.
+    issue: Vec<u8>,
     servers: BTreeMap<u32, Server>,
     secret: String,
 }
@@ -61,7 +62,7 @@ pub fn run(args: &Args) -> Done<()> {
     if args.has("init") {
         let plan = args.file("first")?;
         let (old, new) = (Plan::read(plan.clone())?, Plan::read(plan)?);
-        let mover = Mover::new(args, 1, (old, new), Vec::new())?;
+        let mover = Mover::new(args, 1, (old, new))?;
         mover.begin()?;
         mover.fence()?;
         println!("course 1 has begun at {} partitions", mover.servers.len());
@@ -72,10 +73,9 @@ pub fn run(args: &Args) -> Done<()> {
         Plan::read(args.file("old")?).trying(|| format!("--old {old}"))?,
         Plan::read(args.file("new")?).trying(|| format!("--new {new}"))?,
     );
-    let moves = course::moves(args.get("squall").unwrap_or("squall"), old, new)?;
     args.need("number")?;
     let number = args.number("number", 0, 2, u64::from(u32::MAX))? as u32;
-    let mover = Mover::new(args, number, plans, moves)?;
+    let mover = Mover::new(args, number, plans)?;
     if args.has("dry-run") {
         return mover.preview();
     }
@@ -83,7 +83,7 @@ pub fn run(args: &Args) -> Done<()> {
 }
 
 impl Mover {
-    fn new(args: &Args, number: u32, (old, new): (Plan, Plan), moves: Vec<Move>) -> Done<Mover> {
+    fn new(args: &Args, number: u32, (old, new): (Plan, Plan)) -> Done<Mover> {
         let password = args.password("password-file")?;
         let addrs = args.parts()?;
         for part in old.parts.union(&new.parts) {
@@ -93,12 +93,14 @@ impl Mover {
                 )));
             }
         }
+        let (moves, issue) = course::issue(number, &old, &new)?;
         let server = |addr| Server { addr, password: password.clone() };
         Ok(Mover {
             number,
             old,
             new,
             moves,
+            issue,
             servers: addrs.into_iter().map(|(part, addr)| (part, server(addr))).collect(),
             secret: args.password("secret-file")?.unwrap_or(DEFAULT_SECRET.into()),
         })
@@ -115,7 +117,6 @@ impl Mover {
             kind: "mover",
             plan: args.file("first")?,
         })?;
-        let issue = bus::issue(self.number, &self.old.text, &self.new.text)?;
         let progress = Progress::new();
         let job = Job {
             number: self.number,
@@ -126,7 +127,7 @@ impl Mover {
             pause: Duration::from_millis(args.number("pause", 5, 0, 3_600_000)?),
         };
         self.begin()?;
-        bus.tell_frames(&issue)?;
+        bus.tell_frames(std::slice::from_ref(&self.issue))?;
         thread::sleep(NOTICE);
         self.fence()?;
         let moved = thread::scope(|scope| {
