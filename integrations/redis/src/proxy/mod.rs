@@ -55,7 +55,7 @@ pub fn run(args: &Args) -> Done<()> {
     let listen = args.need("listen")?;
     let listener = TcpListener::bind(listen).trying(|| format!("--listen {listen}"))?;
     let cores = thread::available_parallelism().map_or(1, |cores| cores.get());
-    let threads = args.number("threads", (cores / 2).clamp(1, 8) as u64, 1, 64)? as usize;
+    let threads = args.number("threads", (cores / 4).clamp(1, 8) as u64, 1, 64)? as usize;
     let shared = Arc::new(share(args, threads)?);
     if let Some(addr) = args.get("metrics") {
         let listener = TcpListener::bind(addr).trying(|| format!("--metrics {addr}"))?;
