@@ -1,0 +1,295 @@
+# shellcheck shell=bash disable=SC2154,SC2034
+# The tests that tools/integrations runs over what servers.sh starts. Each of them says what it has done, and its status
+# is that of its last command.
+
+test_guard() {
+  run=$work/guard
+  start_redis && SQUALL_REDIS=127.0.0.1:$port cargo test "${cargo[@]}" --features faults --test guard \
+    -- --ignored --test-threads 1
+}
+
+# A mover relies on it: a server sends the name of each new key, by whatever command it comes.
+test_news_of_keys() {
+  run=$work/news
+  start_redis --notify-keyspace-events En || return
+  launch "$run" said redis-cli -p "$port" subscribe __keyevent@0__:new
+  until grep -q subscribe "$run/said"; do sleep 0.02; done
+  redis-cli -p "$port" > "$run/answers" << 'E2'
+set s1 a
+rename s1 s2
+copy s2 s3
+append s4 x
+setrange s5 2 x
+setbit s6 1 1
+bitop not s7 s4
+incr s8
+getset s9 x
+msetnx s10 1 s11 2
+setex s12 100 a
+incrbyfloat s13 1.5
+renamenx s2 s14
+psetex s15 100000 x
+setnx s16 x
+lpush l1 a b
+lmove l1 l2 left right
+rpoplpush l1 l3
+sadd e1 a b
+smove e1 e2 a
+sunionstore e3 e1 e2
+zadd z1 1 a
+zrangestore z2 z1 0 -1
+zunionstore z3 1 z1
+zincrby z4 1 a
+geoadd g1 1 1 a
+geosearchstore g2 g1 fromlonlat 1 1 byradius 10 km
+hset h1 a b
+hincrby h2 a 1
+hsetnx h3 a b
+hincrbyfloat h4 a 1.5
+xadd x1 * a b
+xgroup create x2 g 0 mkstream
+pfadd p1 a
+pfmerge p2 p1
+E2
+  redis-cli -p "$port" --scan | sort > "$run/keys"
+  local missing
+  for _ in $(seq 100); do
+    missing=$(sort "$run/said" | comm -13 - "$run/keys")
+    [ -z "$missing" ] && [ "$(wc -l < "$run/keys")" -gt 30 ] && return 0
+    sleep 0.02
+  done
+  echo "no news of $missing"
+  cat "$run/answers"
+  return 1
+}
+
+# What one client sees of the first proxy in that course.
+serves() {
+  SQUALL_COURSE=$1 SQUALL_PROXY=127.0.0.1:${proxies[0]} cargo test "${cargo[@]}" --features faults --test serving \
+    -- --ignored --test-threads 1
+}
+
+test_serving() {
+  local limits=(--client-memory 1 --clients 20)
+  deploy && serves 1
+}
+
+# The same while all keys move. After their first chunks the movers of both sources wait.
+test_serving_by_guard() {
+  local limits=(--client-memory 1 --clients 20) id key
+  deploy || return
+  echo '{"plan":[{"part":3,"from":[0,0],"to":"end"}]}' > "$run/all.json"
+  for key in 0:0 0:1 500:0 500:1; do redis-cli -p "${proxies[0]}" set "$key" x || return; done
+  start_move 2 old all --chunk 1 --pause 600000
+  agrees 1 2 && sleep 0.1 && serves 2 || return
+  # Thousands of commands were guarded.
+  redis-cli -p "${servers[0]}" info commandstats | grep -q 'cmdstat_fcall:calls=[0-9][0-9][0-9][0-9]'
+}
+
+test_plain_move() {
+  deploy || return
+  start_load 60000 --pause 200
+  sleep 0.2
+  move 2 old new || return
+  agrees 3 2 && move 3 new old && move 4 old new || return
+  end_load && has_moved && agrees 3 4
+}
+
+test_missed_frames() {
+  local settle=10000
+  deploy SQUALL_MISS=30 || return
+  start_load 40000 --pause 300
+  sleep 0.2
+  move 2 old new && move 3 new old && move 4 old new || return
+  end_load && has_moved && agrees 3 4
+}
+
+# Kills the mover of course N again and again until it has moved all.
+move_killed() {
+  local kills=0 id
+  for _ in $(seq 60); do
+    start_move "$@"
+    sleep "0.$((RANDOM % 25 + 10))"
+    if kill -KILL "$id"; then kills=$((kills + 1)); fi
+    wait "$id"
+    grep -q "^course $1: moved" "$run/mover" && break
+  done
+  echo "the mover was killed $kills times"
+  move "$@"
+}
+
+kill_proxies() {
+  local which
+  while kill -0 "$load" 2> /dev/null; do
+    sleep "0.$((RANDOM % 50 + 30))"
+    which=$((RANDOM % 2))
+    stop "${proxies[which]}"
+    run_proxy "${proxies[which]}" env || return
+  done
+}
+
+test_killed() {
+  deploy || return
+  start_load 40000 --pause 4000 --tolerant
+  kill_proxies 2> /dev/null &
+  local killer=$!
+  move_killed 2 old new --pause 20 2> /dev/null && move_killed 3 new old --pause 20 2> /dev/null || return
+  end_load
+  local status=$?
+  wait "$killer"
+  [ "$status" -eq 0 ]
+}
+
+# Frames are missed, and proxies and both of two movers are killed.
+test_all_at_once() {
+  local number id status plans=(old new)
+  deploy SQUALL_MISS=30 || return
+  start_load 20000 --pause 4000 --tolerant
+  SQUALL_MISS=30 kill_proxies 2> /dev/null &
+  local killer=$!
+  for number in 2 3; do
+    move_killed "$number" "${plans[number % 2]}" "${plans[1 - number % 2]}" --pause 20 2> /dev/null &
+    local other=$!
+    move_killed "$number" "${plans[number % 2]}" "${plans[1 - number % 2]}" --pause 20 2> /dev/null || return
+    wait "$other" || return
+  done
+  end_load
+  status=$?
+  wait "$killer"
+  [ "$status" -eq 0 ]
+}
+
+test_restarted_partition() {
+  local id patience=2000 redis_words="--appendonly yes --appendfsync always"
+  deploy || return
+  start_load 20000 --pause 6000 --tolerant
+  sleep 0.2
+  start_move 2 old new --pause 30
+  sleep 0.4
+  local which
+  for which in 0 2; do
+    stop "${servers[which]}"
+    run_redis "${servers[which]}" --appendonly yes --appendfsync always || return
+  done
+  if wait "$id"; then echo "the mover had ended too soon"; fi
+  move 2 old new || return
+  end_load && has_moved && agrees 3 2
+}
+
+test_two_movers() {
+  deploy || return
+  start_load 30000 --pause 300
+  local id all=()
+  for _ in 1 2; do
+    start_move 2 old new
+    all+=("$id")
+  done
+  for id in "${all[@]}"; do wait "$id" || return; done
+  cat "$run/mover"
+  end_load && has_moved && agrees 3 2
+}
+
+# Runs a mover that is to be refused with these words.
+refused() {
+  local words=$1
+  shift
+  if move "$@" > "$run/refused" 2>&1; then
+    echo "not refused: $words"
+    return 1
+  fi
+  grep -q -- "$words" "$run/refused" || { cat "$run/refused"; return 1; }
+}
+
+test_foreign_plans() {
+  local id
+  deploy || return
+  echo '{"plan":[{"part":1,"from":[0,0],"to":[100,0]},{"part":2,"from":[100,0],"to":"end"}]}' > "$run/other.json"
+  echo '{"plan":[{"part":9,"from":[0,0],"to":"end"}]}' > "$run/unknown.json"
+  start_load 10000 --pause 8000
+  refused "partition 9, which has no address" 2 old unknown && refused "the next one has the number" 3 old new \
+    && refused "ended at another plan" 2 other new || return
+  # It waits after the first chunk.
+  start_move 2 old new --chunk 1 --pause 600000
+  agrees 2 2 900:0 && sleep 0.1 && refused "has begun with other plans" 2 old other && refused "is not over" 3 new old || return
+  kill -KILL "$id"
+  wait "$id"
+  move 2 old new || return
+  refused "course 2 is over\|has begun with other plans" 2 old other && move 3 new old \
+    && refused "course 2 is over" 2 old new || return
+  end_load && agrees 1 3
+}
+
+test_dry_run() {
+  deploy || return
+  redis-cli -p "${proxies[0]}" set 400:1 x && move 2 old new --dry-run > "$run/out" || return
+  cat "$run/out"
+  grep -q "move \[330:0,500:0) 1 to 3 sub 0: 1 keys" "$run/out" && grep -q "course 2: .* moves, 1 keys" "$run/out" \
+    && agrees 1 1
+}
+
+# A proxy with another plan of course 1 is let in nowhere.
+test_foreign_first() {
+  local patience=100
+  deploy || return
+  echo '{"plan":[{"part":2,"from":[0,0],"to":"end"}]}' > "$run/old.json"
+  run_proxy 0 env || return
+  redis-cli -p "$port" set 1:1 x | grep TRYAGAIN && redis-cli -p "${proxies[0]}" get 1:1 | grep -q '^$'
+}
+
+# All servers need passwords, and proxies that of a course's users.
+test_passwords() {
+  local at which limits
+  deploy || return
+  echo operator > "$run/operator"
+  echo proxies > "$run/secret"
+  for at in "$bus" "${servers[@]}"; do redis-cli -p "$at" config set requirepass operator || return; done
+  refused "NOAUTH" 2 old new && refused "NOAUTH" 2 old new --password-file "$run/operator" || return
+  limits=(--bus-password-file "$run/operator" --secret-file "$run/secret")
+  for which in 0 1; do
+    stop "${proxies[which]}"
+    run_proxy "${proxies[which]}" env || return
+  done
+  move 2 old new "${limits[@]}" --password-file "$run/operator" || return
+  agrees 3 2 && redis-cli -p "${proxies[0]}" set 400:0 x && redis-cli -p "${proxies[1]}" get 400:0 | grep -q x
+}
+
+# A mutant has to be caught: the checker finds what is lost or wrong.
+caught() {
+  end_load
+  [[ ! $counts =~ "lost 0 wrong 0" ]]
+}
+
+test_mutant_of_new_keys() {
+  deploy || return
+  start_load 30000 --pause 1000 --tolerant --keys 3000
+  SQUALL_FAULT=miss-new-keys move 2 old new --pause 10 || return
+  caught
+}
+
+test_mutant_without_guard() {
+  deploy SQUALL_FAULT=never-guard || return
+  start_load 40000 --pause 500 --tolerant --keys 2000
+  sleep 0.2
+  move 2 old new --chunk 200 --pause 10 || return
+  caught
+}
+
+test_mutant_without_fence() {
+  deploy SQUALL_MISS=100 || return
+  start_load 20000 --pause 1000 --tolerant
+  sleep 0.1
+  SQUALL_FAULT=no-fence move 2 old new --pause 10 || return
+  caught
+}
+
+# With the fence, proxies that hear nothing do nothing wrong: they answer no more.
+test_deaf_proxies() {
+  local patience=50
+  deploy SQUALL_MISS=100 || return
+  start_load 40 --connections 4 --keys 12 --depth 2 --pause 10000 --tolerant --reads 1
+  sleep 0.1
+  move 2 old new || return
+  sleep 0.3
+  end_load
+  [[ $counts =~ "lost 0 wrong 0" ]] && ! [[ $counts =~ "errors 0" ]]
+}
