@@ -5,7 +5,7 @@ use Rattle.std.specs.Fmt.{decimal}
 use Rattle.std.specs.Str.{bytes_eq}
 use Rattle.squall_key.specs.Numbers.{number_of}
 
--- keys are the ranks below it: the rank of the root 2 ^ 32 - 1, which no key has
+-- each key's rank is below it: the rank of the root 2 ^ 32 - 1, which no key has
 abbrev pub top : ℕ
 top = 18446744069414584320
 
@@ -56,6 +56,6 @@ text_of_key key = decimal (root_of key) ++ 58 ∷ decimal (second_of key)
 abbrev pub text_of_bound : ℕ → List ℕ
 text_of_bound bound = if bound == top then codes "end" else text_of_key bound
 
--- partitions and sub-plans are numbers below it
+-- the numbers of partitions and sub-plans are below it
 abbrev pub part_limit : ℕ
 part_limit = 10000

@@ -6,7 +6,7 @@ use Rattle.std.proofs.Common.{arith}
 use Rattle.std.proofs.lemmas.Bool.{and_parts, and_from}
 use Rattle.std.proofs.lemmas.Bool.Decides.{nat_tests}
 
--- ---- what a comparison of two numbers has told
+-- ---- what a comparison of two numbers says
 
 pub lt_from_cmp : (x y : ℕ) → is_lt (nat_cmp x y) ≡ true → x < y
 lt_from_cmp x y e = grind (arith, nat_tests)

@@ -77,7 +77,7 @@ turn_beyond ends bound place at m far = record {
   ];
 }
 
--- an end that is not, so that no end before it is
+-- an end that is not beyond it, so no end before it is
 none_beyond : (ends : ℕ → ℕ) (count bound place at : ℕ) → Rises ends count → at < count → IsSought ends at bound place 0 → ends at ≤ bound → place ≡ at
 none_beyond ends count bound place at up fits m past = elim (cases_lt place at) [
   | inl old ↦ let far = m.from place (omega arith) old in let rise = up place at (omega arith) fits in absurd (omega (arith, far, rise, past))

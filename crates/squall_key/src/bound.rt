@@ -33,8 +33,8 @@ impl Bound {
     /// The bound above all keys: (4294967295, 0), printed `end`.
     pub const TOP: Bound = Bound { rank: TOP };
 
-    /// The bound `root:second`. At the root 4294967295 there is the top alone, so that second
-    /// must be 0 there, else None.
+    /// The bound `root:second`. None if root is 4294967295 and second is not 0, since the top is
+    /// the only bound of that root.
     pub fn new(root: u32, second: u32) -> Option<Bound>
         ensures { result ≡ bound_at root second }
     {
@@ -59,7 +59,7 @@ impl Bound {
     }
 
     /// The bound that the text spells: `end` for the top, else `r:s`, each number 1 to 10 decimal
-    /// digits, leading zeros allowed. None for all else.
+    /// digits, leading zeros allowed. None for any other text.
     pub fn read(text: &str) -> Option<Bound>
         ensures { result ≡ bound_of text.now }
     {
@@ -99,8 +99,8 @@ impl Bound {
         (self.rank % 4294967296) as u32
     }
 
-    /// `step` if this bound lies beyond the other, else 0: made of the bits of a borrow, so
-    /// that a search that steps by it has no branch on what it compares.
+    /// `step` if this bound lies beyond the other, else 0. It is made of the bits of a borrow, so a
+    /// search that steps by it has no branch on the bounds that it compares.
     #[inline(always)]
     pub fn step_beyond(self, other: Bound, step: usize) -> usize
         ensures beyond { other < self → result ≡ step }

@@ -7,7 +7,7 @@ use crate::number::read_pair;
 use std::fmt;
 use std::marker::Model;
 
-/// The rank that all keys lie below: that of the pair (4294967295, 0).
+/// The rank of the pair (4294967295, 0). Each key's rank is below it.
 pub(crate) const TOP: u64 = 18446744069414584320;
 
 /// A key: a root from 0 to 4294967294 and a second from 0 to 4294967295.
@@ -45,7 +45,7 @@ impl Key {
         })
     }
 
-    /// The key of a rank. None from 18446744069414584320 on.
+    /// The key of a rank. None if it is 18446744069414584320 or more.
     pub fn of_rank(rank: u64) -> Option<Key>
         ensures { SomeIff result (rank < top) rank }
     {
@@ -56,7 +56,7 @@ impl Key {
     }
 
     /// The key that the text spells: `r:s`, each number 1 to 10 decimal digits, leading zeros
-    /// allowed. None for all else.
+    /// allowed. None for any other text.
     pub fn read(text: &str) -> Option<Key>
         ensures { result ≡ key_of text.now }
     {

@@ -6,12 +6,12 @@ ghost use Rattle.squall_key.specs.Keys.{top, rank_of, key_of, text_of_key, bound
 
 use crate::{Bound, Key, PartId};
 
-/// What is printed for a key is read as that key.
+/// The printed text of a key is read as that key.
 pub fn printed_key_is_read()
     ensures { (key : ℕ) → key < top → key_of (text_of_key key) ≡ Some key }
 {}
 
-/// What is printed for a bound is read as that bound.
+/// The printed text of a bound is read as that bound.
 pub fn printed_bound_is_read()
     ensures { (bound : ℕ) → bound ≤ top → bound_of (text_of_bound bound) ≡ Some bound }
 {}

@@ -6,7 +6,7 @@ ghost use Rattle.squall_key.specs.Numbers.{number_of};
 ghost use Rattle.squall_key.specs.Keys.{is_colon, at_colon, pair_of};
 
 /// The number that the bytes write: 1 to 10 decimal digits, leading zeros allowed, at most
-/// 4294967295. None for all else, a sign among it.
+/// 4294967295. None for any other bytes, such as a sign.
 pub fn read_number(text: &[u8]) -> Option<u32>
     ensures { result ≡ number_of text.now }
 {

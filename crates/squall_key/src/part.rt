@@ -7,7 +7,7 @@ ghost use Rattle.squall_key.specs.Keys.{part_limit};
 use std::fmt;
 use std::marker::Model;
 
-/// Partitions and sub-plans are numbered below it.
+/// The numbers of partitions and sub-plans are below it.
 pub const PART_LIMIT: u32 = 10000;
 
 /// The number of a partition, from 0 to 9999. Contracts see it as that number.

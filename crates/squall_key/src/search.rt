@@ -6,10 +6,10 @@ ghost use Rattle.squall_key.specs.Search.{EndedBy, IsSoughtEnd};
 
 use crate::bound::Bound;
 
-/// So many items are sooner looked at one after the other than by quarters.
+/// A search by quarters is slower than one item after the other if at most this many are left.
 const FEW: usize = 8;
 
-/// What ends at a bound, as a range of keys does.
+/// Something that ends at a bound, such as a range of keys.
 pub trait Ends {
     /// The bound at which it ends.
     ghost end: { Self → ℕ };
@@ -19,7 +19,7 @@ pub trait Ends {
         ensures { result ≡ end self.now };
 }
 
-/// One of four parts: three ends are read side by side.
+/// The first place of the quarter in which a search goes on. Three ends are read side by side.
 #[inline(always)]
 fn quarter<T: Ends>(items: &[T], bound: Bound, base: usize, size: usize, step: usize) -> usize
     requires rises { IsNonDecreasingBy T.end items.now }
@@ -37,7 +37,8 @@ fn quarter<T: Ends>(items: &[T], bound: Bound, base: usize, size: usize, step: u
         - items[third - 1].end().step_beyond(bound, step)
 }
 
-/// How many items end at the bound or before it, if few are left: one after the other.
+/// How many items end at the bound or before it. The few items that are left are read one after the
+/// other.
 #[inline(always)]
 fn in_turn<T: Ends>(items: &[T], bound: Bound, base: usize, size: usize) -> usize
     requires rises { IsNonDecreasingBy T.end items.now }
@@ -51,10 +52,11 @@ fn in_turn<T: Ends>(items: &[T], bound: Bound, base: usize, size: usize) -> usiz
     place
 }
 
-/// How many items end at the bound or before it, if none ends before the one in front of it.
+/// How many items end at the bound or before it. Their ends must not decrease.
 ///
-/// By quarters, and without a branch on the bound: for keys in no order a processor would guess
-/// every other one wrong. How often it loops hangs on the number of items alone.
+/// It searches by quarters, without a branch on the bound: on random keys a processor would
+/// mispredict such a branch half the time. The number of turns of its loop depends on the number of
+/// items alone.
 #[inline(always)]
 pub fn ended<T: Ends>(items: &[T], bound: Bound) -> usize
     requires { IsNonDecreasingBy T.end items.now }
@@ -63,7 +65,7 @@ pub fn ended<T: Ends>(items: &[T], bound: Bound) -> usize
     let mut base = 0;
     let mut size = items.len();
     while size > FEW {
-        // That is (size + 1) / 4, and of items that take no room there may be too many to add 1.
+        // That is (size + 1) / 4. If items have size 0, there may be too many to add 1.
         let step = 1 + (size - 3) / 4;
         base = quarter(items, bound, base, size, step);
         size -= 3 * step;

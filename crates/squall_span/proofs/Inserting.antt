@@ -51,7 +51,7 @@ insert_between s (x ∷ xs) (suc i) c p a b =
     let ends = a.before 0 x (omega arith) in
     ap (λ l. x ∷ l) (insert_between s xs i c.2 p (apart_tail x xs s.lo i a) (started_tail x xs s.hi i b)) ∙ sym (insert_after s x xs p c.0 ends)
 
--- where all end before the span, it goes to the end
+-- if all end before the span, it goes to the end
 pub insert_beyond : (s : Interval) (xs : List Interval) → IsCanonical xs → s.lo < s.hi → Apart xs s.lo (length xs) → insert_span s xs ≡ xs ++ (s ∷ [])
 insert_beyond s [] c p a = refl
 insert_beyond s (x ∷ xs) c p a =
@@ -62,7 +62,7 @@ hull_beyond : (s x : Interval) (xs : List Interval) → Beyond s.hi xs → Beyon
 hull_beyond s x [] b c = tt
 hull_beyond s x (y ∷ ys) b c = omega arith
 
--- the first so many spans touch the new one, and become one with it
+-- the spans before a place touch the new one, and become one with it
 absorbed : (s : Interval) (xs : List Interval) (n : ℕ) (d : Interval) → IsCanonical xs → s.lo < s.hi → n < length xs → ((j : ℕ) (e : Interval) → j ≤ n → s.lo ≤ (get_or xs j e).hi) → Started xs s.hi (suc n)
     → insert_span s xs ≡ interval (min s.lo (get_or xs 0 d).lo) (max s.hi (get_or xs n d).hi) ∷ drop (suc n) xs
 absorbed s [] n d c p lt touch b = absurd (omega arith)
@@ -123,7 +123,7 @@ found s xs ys zs i j lo hi e f g h p c a b =
       within = b2.within;
     }
 
--- what is left where one span is written and those after it, up to a place, are cut out
+-- what is left if one span is written and those after it, up to a place, are cut out
 pub become_one : (xs : List Interval) (i j : ℕ) (h : Interval) → i < j → j ≤ length xs → take (i + 1) (set xs i h) ++ drop j (set xs i h) ≡ take i xs ++ (h ∷ drop j xs)
 become_one xs i j h lt le =
     ap (λ l. l ++ drop j (set xs i h)) (take_more_set xs i h (omega arith))

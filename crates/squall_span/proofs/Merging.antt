@@ -19,7 +19,7 @@ pub starts_weaker : (g h : ℕ) (ss : List Interval) → g ≤ h → StartsBy g 
 starts_weaker g h [] le b = tt
 starts_weaker g h (s ∷ ss) le b = (omega (arith, b.0), starts_weaker g h ss le b.1)
 
--- where all start by the new one, it joins the last span or comes after it
+-- if all start by the new one, it joins the last span or comes after it
 pub insert_last : (s : Interval) (xs : List Interval) (n : ℕ) (d : Interval) → length xs ≡ suc n → IsCanonical xs → s.lo < s.hi → StartsBy s.lo xs → s.lo ≤ (get_or xs n d).hi → insert_span s xs ≡ set xs n (interval (get_or xs n d).lo (max (get_or xs n d).hi s.hi))
 insert_last s [] n d e c p h touching = absurd (omega arith)
 insert_last s (t ∷ []) zero d e c p h touching = insert_touching s t [] (omega (arith, h.0)) touching ∙ (λ i. interval (lo i) (hi i) ∷ [])

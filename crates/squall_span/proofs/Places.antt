@@ -82,7 +82,7 @@ has_found xs k i x c e lt is =
 pub has_none : (xs : List Interval) (k i : ℕ) → Ended xs k i → length xs ≤ i → has xs k ≡ false
 has_none xs k i e le = ended_same xs k i k e (omega arith) ∙ ap (λ l. has l k) (drop_all i xs le)
 
--- all end before the bound where the last one does
+-- all end before the bound if the last one does
 pub last_apart : (xs : List Interval) (bound : ℕ) (x : Interval) → IsCanonical xs → 0 < length xs → x ≡ get_or xs (length xs - 1) x → x.hi < bound → Apart xs bound (length xs)
 last_apart xs bound x c some is lt = record {
   within = omega arith;
@@ -101,7 +101,7 @@ ends_before (x ∷ xs) zero (suc j) d c lt fits = starts_above x.hi xs j d c.1 c
 ends_before (x ∷ xs) (suc i) zero d c lt fits = absurd (omega arith)
 ends_before (x ∷ xs) (suc i) (suc j) d c lt fits = ends_before xs i j d c.2 (omega arith) (omega arith)
 
--- the last of those that ended does so before the bound, where there is one
+-- the last of those that ended does so before the bound, if there is one
 pub apart_past : (xs : List Interval) (bound i : ℕ) → IsCanonical xs → Ended xs bound i → ((d : Interval) → 0 < i → (get_or xs (i - 1) d).hi < bound) → Apart xs bound i
 apart_past xs bound i c e past = record {
   within = e.within;
@@ -127,7 +127,7 @@ apart_at xs bound i c e some far = record {
       omega (arith, last, rise);
 }
 
--- the first that ends beyond the bound starts beyond it too, where there is one
+-- the first that ends beyond the bound starts beyond it too, if there is one
 pub started_past : (xs : List Interval) (bound i : ℕ) → IsCanonical xs → Ended xs bound i → ((d : Interval) → i < length xs → bound < (get_or xs i d).lo) → Started xs bound i
 started_past xs bound i c e past = record {
   within = e.within;

@@ -1,4 +1,4 @@
--- What is left of a set where the keys of a span go.
+-- What is left of a set when the keys of a span go.
 use Rattle.std.proofs.Common.{◌≡◌, ℕ, ◌+◌, ◌<◌, ◌≤◌, true, false, cond, List, [], ◌∷◌, ◌++◌, length, get_or, set, take, drop, option_to_list, Option, None, Some, Result, Ok, Err, OnOk, OnErr, not, ◌&&◌, nat_lt, refl, sym, ap, subst, ◌∙◌, arith, inl, inr}
 use Rattle.std.proofs.Math.Bool.{or-false}
 use Rattle.std.proofs.lemmas.Bool.{cases_lt}
@@ -69,7 +69,7 @@ ends_in_order xs ys zs lo hi i j p q lt e f =
       | inr le ↦ le
     ]
 
--- the front up to one place, and the rest from another
+-- the list up to one place, and the rest from another
 pub removed : (s : Interval) (xs ys made : List Interval) (i j : ℕ) (h : Option Interval) → i ≤ j → take i xs ++ option_to_list h ≡ keys_below s.lo xs → take j ys ≡ take j xs → drop j ys ≡ keys_from s.hi xs → made ≡ take i ys ++ (option_to_list h ++ drop j ys) → made ≡ without_span s xs
 removed s xs ys made i j h le head front rest e =
     let first : take i ys ≡ take i xs = sym (take-take i j ys le) ∙ ap (take i) front ∙ take-take i j xs le in

@@ -15,7 +15,7 @@ abbrev pub EndsNear : ℕ → List Interval → Type 0
 EndsNear k [] = ⊥
 EndsNear k (s ∷ ss) = s.hi ≤ k + 1
 
--- what is known where own is left of a and rest is left of b
+-- what is known when own is left of a and rest is left of b
 pub record Walking (a b own rest : List Interval) : Type 0 where
   pub canonical_own : IsCanonical own
   pub canonical_rest : IsCanonical rest
@@ -94,7 +94,7 @@ walking_missed a b s ss t ts le low w all =
           false≢true (sym (has_early (t.hi - 1) s ss w.canonical_own (omega arith)) ∙ w.passed (t.hi - 1) (omega arith) here)
     ]
 
--- a wanted span has a key that is nowhere, where none are left
+-- a wanted span has a key that is nowhere, if none are left
 pub walking_out : (a b : List Interval) (t : Interval) (ts : List Interval) → Walking a b [] (t ∷ ts) → ((k : ℕ) → has b k ≡ true → has a k ≡ true) → ⊥
 walking_out a b t ts w all =
     let some = w.canonical_rest.0 in

@@ -3,17 +3,17 @@ use Rattle.std.specs.Prelude.{◌≡◌, ℕ, ◌<◌, ◌≤◌, ◌&&◌, nat_
 use Rattle.squall_key.specs.Search.{EndedBy}
 use Rattle.squall_span.specs.Spans.{Interval, has, IsCanonical}
 
--- the first so many spans end at the bound or before it, the others beyond it
+-- the spans before the place end at the bound or before it, the others beyond it
 abbrev pub Ended : List Interval → ℕ → ℕ → Type 0
 Ended xs bound place = EndedBy (λ s. s.hi) xs bound place
 
--- the first so many spans end before the bound, the others at it or beyond it
+-- the spans before the place end before the bound, the others at it or beyond it
 pub record Apart (xs : List Interval) (bound place : ℕ) : Type 0 where
   pub within : place ≤ length xs
   pub before : (j : ℕ) (d : Interval) → j < place → (slice_index_or xs j d).hi < bound
   pub from : (j : ℕ) (d : Interval) → place ≤ j → j < length xs → bound ≤ (slice_index_or xs j d).hi
 
--- the first so many spans start at the bound or before it, the others beyond it
+-- the spans before the place start at the bound or before it, the others beyond it
 pub record Started (xs : List Interval) (bound place : ℕ) : Type 0 where
   pub within : place ≤ length xs
   pub before : (j : ℕ) (d : Interval) → j < place → (slice_index_or xs j d).lo ≤ bound

@@ -181,7 +181,7 @@ ends-union : (h : ℕ) (a b : List Interval) → EndsBy h a → EndsBy h b → E
 ends-union h a [] c d = c
 ends-union h a (t ∷ ts) c d = ends-insert h t (union a ts) d.0 (ends-union h a ts c d.1)
 
--- one span more, and a union, is a set again
+-- a set with one span added is a set again, and so is a union
 pub set-insert : (s : Interval) (ss : List Interval) → s.lo < s.hi → s.hi ≤ top → IsSet ss → IsSet (insert_span s ss)
 set-insert s ss p le c = (canonical-insert s ss p c.0, ends-insert top s ss le c.1)
 

@@ -89,7 +89,7 @@ abbrev pub union : List Interval → List Interval → List Interval
 union ss [] = ss
 union ss (t ∷ ts) = insert_span t (union ss ts)
 
--- the span of two bounds, as a list: of none where it has no key
+-- the span of two bounds, as a list that is empty if the span has no key
 abbrev pub spans_between : ℕ → ℕ → List Interval
 spans_between lo hi = if nat_lt lo hi then interval lo hi ∷ [] else []
 
@@ -129,17 +129,17 @@ pub record IsFirstRun (ss : List Interval) (run : Interval) : Type 0 where
   pub least : (k : ℕ) → has ss k ≡ true → run.lo ≤ k
   pub longest : has ss run.hi ≡ false
 
--- the prefix of the first span: at most so many keys
+-- the prefix of the first span, of at most `most` keys
 abbrev pub first_keys : ℕ → List Interval → Option Interval
 first_keys most [] = None
 first_keys most (s ∷ ss) = if most == 0 then None else Some (interval s.lo (min s.hi (s.lo + most)))
 
--- the lengths of the spans, summed
+-- the sum of the lengths of the spans
 abbrev pub total_length : List Interval → ℕ
 total_length [] = 0
 total_length (s ∷ ss) = (s.hi - s.lo) + total_length ss
 
--- how many numbers below n the test takes
+-- how many numbers below n pass the test
 unfoldable pub how_many : (ℕ → Bool) → ℕ → ℕ
 how_many test zero = 0
 how_many test (suc n) = (if test n then 1 else 0) + how_many test n

@@ -10,9 +10,10 @@ use crate::span::Span;
 use squall_key::Bound;
 use std::alloc::{AllocError, Global};
 
-/// Puts a span at a place, before those from there on, in room that is there.
+/// Puts a span at a place, before those from there on. There must be room for it.
 ///
-/// In place of `Vec::insert`, since a rotation by one compiles to one block move of what follows.
+/// It is used instead of `Vec::insert`, since a rotation by one compiles to one block move of what
+/// follows.
 fn put(spans: &mut Vec<Span>, at: usize, span: Span)
     requires within { at ≤ length spans.old.items }
     requires room { vec_len spans.old < vec_capacity spans.old }
@@ -24,7 +25,7 @@ fn put(spans: &mut Vec<Span>, at: usize, span: Span)
     spans[at..].rotate_right(1);
 }
 
-/// Takes out the spans from a place to another.
+/// Takes out the spans from one place to another.
 fn cut_out(spans: &mut Vec<Span>, from: usize, to: usize)
     requires order { from ≤ to }
     requires within { to ≤ length spans.old.items }
@@ -32,7 +33,7 @@ fn cut_out(spans: &mut Vec<Span>, from: usize, to: usize)
     ensures len { vec_len spans.new ≤ vec_len spans.old }
     ensures capacity { vec_capacity spans.new ≡ vec_capacity spans.old }
 {
-    // Where none goes, what follows would be moved to where it is.
+    // If none goes, a move would only write what follows over itself.
     if from < to {
         let left = spans.len() - (to - from);
         spans.copy_within(to.., from);
@@ -40,7 +41,7 @@ fn cut_out(spans: &mut Vec<Span>, from: usize, to: usize)
     }
 }
 
-/// Adds the keys of a span, in room that is there.
+/// Adds the keys of a span. There must be room for one more.
 pub(crate) fn insert_ready(spans: &mut Vec<Span>, span: Span)
     requires canonical { IsCanonical spans.old.items }
     requires room { vec_len spans.old < vec_capacity spans.old }
@@ -48,7 +49,7 @@ pub(crate) fn insert_ready(spans: &mut Vec<Span>, span: Span)
     ensures len { vec_len spans.new ≤ vec_len spans.old + 1 }
     ensures capacity { vec_capacity spans.new ≡ vec_capacity spans.old }
 {
-    // Spans mostly come in order: one beyond the last goes to the end, with no search.
+    // Spans mostly come in order, so one beyond the last is added at the end without a search.
     if all_apart(spans, span.lo()) {
         spans.push_reserved(span);
         return;
@@ -76,7 +77,8 @@ pub(crate) fn insert(spans: &mut Vec<Span>, span: Span) -> Result<(), AllocError
     Ok(())
 }
 
-/// What lies below the bound of the span at a place, the first that ends beyond it.
+/// The keys of the span at a place that lie below the bound. It is the first span that ends beyond
+/// the bound.
 fn head_of(spans: &[Span], at: usize, bound: Bound) -> Option<Span>
     requires set { IsSet spans.now }
     requires ended { Ended spans.now bound at }
@@ -89,7 +91,8 @@ fn head_of(spans: &[Span], at: usize, bound: Bound) -> Option<Span>
     }
 }
 
-/// Cuts off what lies below the bound of the span at a place, the first that ends beyond it.
+/// Cuts off the keys of the span at a place that lie below the bound. It is the first span that
+/// ends beyond the bound.
 fn trim(spans: &mut Vec<Span>, at: usize, bound: Bound)
     requires set { IsSet spans.old.items }
     requires ended { Ended spans.old.items bound at }
@@ -103,7 +106,8 @@ fn trim(spans: &mut Vec<Span>, at: usize, bound: Bound)
     }
 }
 
-/// Puts one span, or none, in the place of those from a place to another, in room that is there.
+/// Puts one span, or none, in place of those from one place to another. There must be room for one
+/// more.
 fn swap_for(spans: &mut Vec<Span>, from: usize, to: usize, head: Option<Span>)
     requires order { from ≤ to }
     requires within { to ≤ length spans.old.items }
@@ -122,7 +126,7 @@ fn swap_for(spans: &mut Vec<Span>, from: usize, to: usize, head: Option<Span>)
     }
 }
 
-/// Removes the keys of a span, in room that is there: a span that is cut in two becomes one more.
+/// Removes the keys of a span. There must be room for one more, since a span may be cut in two.
 pub(crate) fn remove_ready(spans: &mut Vec<Span>, span: Span)
     requires set { IsSet spans.old.items }
     requires room { vec_len spans.old < vec_capacity spans.old }

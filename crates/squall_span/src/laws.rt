@@ -10,12 +10,12 @@ pub fn same_keys_same_set()
     ensures { (a b : List Interval) → IsSet a → IsSet b → ((k : ℕ) → k < top → has a k ≡ has b k) → a ≡ b }
 {}
 
-/// The lengths of the spans, summed, are how many keys the set has.
+/// The sum of the lengths of the spans is the number of keys of the set.
 pub fn lengths_count_keys()
     ensures { (set : List Interval) (n : ℕ) → IsCanonical set → EndsBy n set → how_many (has set) n ≡ total_length set }
 {}
 
-/// One span more is a set again, of its keys and those of the set.
+/// A set with one span added is a set again: it has the keys of the span and those of the set.
 pub fn insert_adds_the_span()
     ensures set { (s : Interval) (a : List Interval) → s.lo < s.hi → s.hi ≤ top → IsSet a → IsSet (insert_span s a) }
     ensures canonical { (s : Interval) (a : List Interval) → s.lo < s.hi → IsCanonical a → IsCanonical (insert_span s a) }

@@ -8,12 +8,12 @@ use crate::set::SpanSet;
 use crate::span::Span;
 use std::marker::Model;
 
-/// A set of keys with room for more spans: so many edits of it cannot fail.
+/// A set of keys with room for more spans. With room for `n` of them, `n` edits cannot fail.
 ///
-/// It is for edits that are to happen all or not at all, without a copy of a set. A caller takes
-/// its sets out of its fields and makes each ready by [`SpanSet::with_room`]. Then it does whatever
-/// else can fail. Where anything failed so far it puts the sets back as they were. Only then it
-/// edits them, which cannot fail.
+/// Use it to make all of several edits or none, without a copy of a set. A caller takes its sets
+/// out of its fields and makes each ready by [`SpanSet::with_room`]. Then it does whatever else can
+/// fail. If anything has failed, it puts the unchanged sets back. Otherwise it edits them, which
+/// cannot fail.
 ///
 /// Contracts see it as the list of its spans, `set`, and how many more spans it has room for,
 /// `room`. An edit adds one span at most.
@@ -59,7 +59,7 @@ impl ReadySet {
         self.spans.capacity() - self.spans.len()
     }
 
-    /// Adds the keys of a span, in room that is there.
+    /// Adds the keys of a span. It needs room for one span, and allocates nothing.
     pub fn insert(&mut self, span: Span)
         requires room { 0 < self.old.room }
         ensures set { self.new.set ≡ insert_span span self.old.set }
@@ -69,8 +69,8 @@ impl ReadySet {
         insert_ready(&mut self.spans, span);
     }
 
-    /// Removes the keys of a span, in room that is there: a span that is cut in two becomes one
-    /// more.
+    /// Removes the keys of a span. It needs room for one span, since a span may be cut in two, and
+    /// allocates nothing.
     pub fn remove(&mut self, span: Span)
         requires room { 0 < self.old.room }
         ensures set { self.new.set ≡ without_span span self.old.set }
@@ -80,7 +80,7 @@ impl ReadySet {
         remove_ready(&mut self.spans, span);
     }
 
-    /// The set alone. What room is left stays with it.
+    /// The set alone. It keeps the room that is left.
     pub fn into_set(self) -> SpanSet
         ensures { result ≡ self.set }
     {

@@ -28,8 +28,8 @@ pub(crate) fn apart(spans: &[Span], bound: Bound) -> usize
     at
 }
 
-/// Whether all spans end before the bound, and do not touch it. The last one ends furthest, so that
-/// it alone is looked at.
+/// Whether all spans end before the bound, and do not touch it. Only the last one is looked at,
+/// since it ends furthest.
 pub(crate) fn all_apart(spans: &[Span], bound: Bound) -> bool
     requires { IsCanonical spans.now }
     ensures { IsTrue result ↔ Apart spans.now bound (length spans.now) }
@@ -46,7 +46,7 @@ pub(crate) fn started(spans: &[Span], bound: Bound) -> usize
     ensures { Started spans.now bound result }
 {
     let at = ended(spans, bound);
-    // The first that ends beyond the bound may start before it, and no other.
+    // Of the spans that end beyond the bound, only the first may start before it.
     if at < spans.len() && spans[at].lo().rank() <= bound.rank() {
         return at + 1;
     }

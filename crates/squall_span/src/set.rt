@@ -55,7 +55,7 @@ impl SpanSet {
         SpanSet { spans }
     }
 
-    /// The set of the keys of a span. It fails only where an allocation fails.
+    /// The set of the keys of a span. An error means that an allocation failed.
     pub fn of(alloc: Global, span: &Span) -> Result<SpanSet, AllocError>
         ensures { IfOk result (λ set. set ≡ span.now ∷ []) }
     {
@@ -64,7 +64,7 @@ impl SpanSet {
         Ok(set)
     }
 
-    /// A copy of the set. It fails only where an allocation fails.
+    /// A copy of the set. An error means that an allocation failed.
     pub fn copied(&self, alloc: Global) -> Result<SpanSet, AllocError>
         ensures { IfOk result (λ set. set ≡ self.now) }
     {
@@ -95,8 +95,8 @@ impl SpanSet {
         at < self.spans.len() && self.spans[at].has(key)
     }
 
-    /// How many spans of the set end at the bound or before it, by a binary search: the place of the
-    /// first that ends beyond it, where there is one.
+    /// How many spans of the set end at the bound or before it, by a binary search. If a span ends
+    /// beyond it, this is the place of the first such span.
     pub fn ended(&self, bound: Bound) -> usize
         ensures { Ended self.now bound result }
     {
@@ -122,8 +122,8 @@ impl SpanSet {
         count
     }
 
-    /// The first keys of the set that follow one another: the prefix of its first span of at most
-    /// `max` keys. None of the empty set, and where `max` is 0.
+    /// The first keys of the set without a gap: the prefix of its first span, of at most `max`
+    /// keys. None if the set is empty or `max` is 0.
     pub fn first_keys(&self, max: u64) -> Option<Span>
         ensures value { result ≡ first_keys max self.now }
         ensures kept { IfSome result (λ s. (k : ℕ) → span_has s k ≡ true → has self.now k ≡ true) }
@@ -142,7 +142,7 @@ impl SpanSet {
         Some(Span::between(first.lo(), hi))
     }
 
-    /// The keys of either set. It fails only where an allocation fails.
+    /// The keys of either set. An error means that an allocation failed.
     pub fn union(&self, alloc: Global, other: &SpanSet) -> Result<SpanSet, AllocError>
         ensures value { IfOk result (λ set. set ≡ union self.now other.now) }
         ensures keys { IfOk result (λ set. (k : ℕ) → has set k ≡ (has self.now k || has other.now k)) }
@@ -151,7 +151,7 @@ impl SpanSet {
         Ok(SpanSet { spans })
     }
 
-    /// The keys of this set that the other lacks. It fails only where an allocation fails.
+    /// The keys of this set that the other lacks. An error means that an allocation failed.
     pub fn minus(&self, alloc: Global, other: &SpanSet) -> Result<SpanSet, AllocError>
         ensures value { IfOk result (λ set. set ≡ minus self.now other.now) }
         ensures keys { IfOk result (λ set. (k : ℕ) → has set k ≡ (has self.now k && not (has other.now k))) }
@@ -160,7 +160,7 @@ impl SpanSet {
         Ok(SpanSet { spans })
     }
 
-    /// The keys that are in both sets. It fails only where an allocation fails.
+    /// The keys that are in both sets. An error means that an allocation failed.
     pub fn meet(&self, alloc: Global, other: &SpanSet) -> Result<SpanSet, AllocError>
         ensures value { IfOk result (λ set. set ≡ meet self.now other.now) }
         ensures keys { IfOk result (λ set. (k : ℕ) → has set k ≡ (has self.now k && has other.now k)) }
@@ -169,7 +169,7 @@ impl SpanSet {
         Ok(SpanSet { spans })
     }
 
-    /// The keys below the bound, and the others. It fails only where an allocation fails.
+    /// The keys below the bound, and the others. An error means that an allocation failed.
     pub fn split_at(&self, alloc: Global, bound: Bound) -> Result<(SpanSet, SpanSet), AllocError>
         ensures first { IfOk result (λ sets. sets.0 ≡ keys_below bound self.now) }
         ensures second { IfOk result (λ sets. sets.1 ≡ keys_from bound self.now) }
@@ -180,8 +180,8 @@ impl SpanSet {
         Ok((SpanSet { spans: below }, SpanSet { spans: others }))
     }
 
-    /// Adds the keys of a span. It fails only where an allocation fails, and then the set is as it
-    /// was.
+    /// Adds the keys of a span. An error means that an allocation failed: the set is then
+    /// unchanged.
     pub fn insert(&mut self, span: Span) -> Result<(), AllocError>
         ensures value { OnOk result (self.new ≡ insert_span span self.old) }
         ensures keys { OnOk result ((k : ℕ) → has self.new k ≡ (span_has span k || has self.old k)) }
@@ -190,8 +190,8 @@ impl SpanSet {
         insert(&mut self.spans, span)
     }
 
-    /// Removes the keys of a span. It fails only where an allocation fails, and then the set is as
-    /// it was.
+    /// Removes the keys of a span. An error means that an allocation failed: the set is then
+    /// unchanged.
     pub fn remove(&mut self, span: Span) -> Result<(), AllocError>
         ensures value { OnOk result (self.new ≡ without_span span self.old) }
         ensures keys { OnOk result ((k : ℕ) → has self.new k ≡ (has self.old k && not (span_has span k))) }
@@ -200,8 +200,8 @@ impl SpanSet {
         remove(&mut self.spans, span)
     }
 
-    /// The set with room for so many more spans. Where an allocation fails the set is handed back
-    /// as it was.
+    /// The set with room for at least `more` further spans. If an allocation fails, the error is
+    /// the unchanged set.
     pub fn with_room(self, more: usize) -> Result<ReadySet, SpanSet>
         ensures ok { IfOk result (λ r. (r.set ≡ self) × (more ≤ r.room)) }
         ensures err { IfErr result (λ s. s ≡ self) }

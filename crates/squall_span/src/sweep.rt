@@ -36,7 +36,7 @@ struct Taken<'a> {
     second: &'a [Span],
 }
 
-/// Takes off the span that starts first. None where both lists are empty.
+/// Takes off the span that starts first. None if both lists are empty.
 fn take_lower<'a>(first: &'a [Span], second: &'a [Span]) -> Option<Taken<'a>>
     ensures { MatchOption result (length first.now + length second.now ≡ 0) (λ r. IsLower first.now second.now r.span r.first.now r.second.now) }
 {
@@ -130,7 +130,7 @@ fn run_from(spans: &[Span], from: Bound) -> Run
     }
 }
 
-/// The spans that end beyond the bound, where at most the first does not.
+/// The spans that end beyond the bound. Of those given, at most the first does not.
 fn past(spans: &[Span], bound: Bound) -> &[Span]
     requires canonical { IsCanonical spans.now }
     requires ends { EndsFrom bound spans.now }

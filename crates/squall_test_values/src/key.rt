@@ -1,5 +1,7 @@
 //! Tests of keys, bounds and partitions.
 
+mod example;
+
 use squall_key::*;
 use std::alloc::{AllocError, Global};
 use std::fmt::Display;

@@ -1,6 +1,7 @@
 //! Tests of sets of keys.
 
 mod clients;
+mod example;
 mod plain;
 mod tolerant;
 

@@ -48,14 +48,14 @@ fn tolerant_insert(rt: HostRuntime) -> Result<(), Fail> {
     Ok(())
 }
 
-/// The set is still that of a few spans from the key on. It looks only where no allocation fails.
+/// The set is still that of a few spans from the key on. It looks only if no allocation fails.
 fn is_few(rt: &impl Abort, alloc: Global, set: &SpanSet, from: u64) {
     if let Ok(before) = few(rt, alloc, from) {
         assert!(rt; *set == before);
     }
 }
 
-/// The set has so many keys, where no allocation failed.
+/// The set has `count` keys, if no allocation failed.
 fn has_count(rt: &impl Abort, made: Result<SpanSet, AllocError>, count: u64) {
     if let Ok(set) = made {
         assert!(rt; set.count() == count);
