@@ -164,7 +164,7 @@ ends_before ls ms bs x k i l r b a e m none some xe q =
     q ∙ (λ j. last_from (sym front j) (up_to k (xe j)))
     ∙ sym (ap (last_from b) (up_to_blocks 0 k bs i a.full a.rise m) ∙ last_append b (flat (take i bs)) (up_to k (get_or bs i [])))
 
--- a block at a place, behind those in front of it
+-- a block at a place, behind those before it
 pub record BlockAt {V : Type 0} (b : ℕ) (bs : List (List (ℕ × V))) (i : ℕ) (x : List (ℕ × V)) : Type 0 where
   pub some : 0 < length x
   pub few : length x ≤ most

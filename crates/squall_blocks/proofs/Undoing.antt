@@ -39,7 +39,7 @@ within_less (t ∷ ss) s ls bs w =
       rest.1,
     )
 
--- ---- what stood in the place of others
+-- ---- what was in the place of others
 
 pub spliced_back : {X : Type 0} (xs f g : List X) (m n stop : ℕ) → m ≤ n → n ≤ length xs → stop ≡ m + length f → g ≡ take (n - m) (drop m xs) → splice (splice xs m n f) m stop g ≡ xs
 spliced_back {X} xs f g m n stop le within s e =

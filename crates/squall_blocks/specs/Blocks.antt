@@ -3,11 +3,11 @@ use Rattle.std.specs.List.{splice}
 use Rattle.std.specs.Prelude.{◌≡◌, ℕ, zero, suc, ◌+◌, nat_le, if◌then◌else◌, slice_index, ◌<◌, ◌≤◌, List, [], ◌∷◌, ◌++◌, length, take, drop, slice_index_or}
 use Rattle.squall_blocks.specs.Entries.{RiseFrom, last_from, beyond, up_to}
 
--- so many entries stand in one block at most
+-- the most entries of a block
 abbrev pub most : ℕ
 most = 256
 
--- neighbours that have no more entries together are made one block
+-- neighbours with at most this many entries together are made one block
 abbrev pub few : ℕ
 few = 128
 
@@ -38,8 +38,8 @@ pub record IsNear (ls : List ℕ) (k m : ℕ) : Type 0 where
   pub before : (j : ℕ) → j < m → slice_index ls j ≤ k
   pub beyond_key : m + 1 < length ls → k < slice_index ls m
 
--- an edit between two keys: the blocks m and e of the first and the last entry that goes, how many entries of the one stay, and from
--- where on those of the other stay
+-- an edit between two keys: the blocks m and e of the first and the last entry that goes, how many entries of the one stay, and
+-- from which place on those of the other stay
 pub record IsEdit {V : Type 0} (ls : List ℕ) (bs : List (List (ℕ × V))) (a b m e o p : ℕ) : Type 0 where
   pub blocks : AreBlocks ls bs
   pub first : IsNear ls a m

@@ -3,14 +3,15 @@ use Rattle.std.specs.List.{splice}
 use Rattle.std.specs.Prelude.{◌≡◌, ℕ, ◌+◌, ◌≤◌, List, [], ◌∷◌, length}
 use Rattle.squall_blocks.specs.Blocks.{AreBlocks}
 
--- what undoes one edit: the blocks from one place to another are to be those that stood there before, with the bounds at which they end
+-- what undoes one edit: the blocks from one place to another become those that were there before, with the bounds at which they
+-- end
 pub record StepValue (V : Type 0) : Type 0 where
   pub first : ℕ
   pub end : ℕ
   pub lasts : List ℕ
   pub blocks : List (List (ℕ × V))
 
--- the bounds at which blocks end when the steps are undone, the newest first; the oldest stands in front
+-- the bounds at which blocks end when the steps are undone, the newest first; the oldest comes first in the list
 abbrev pub undone_lasts : {V : Type 0} → List (StepValue V) → List ℕ → List ℕ
 undone_lasts [] ls = ls
 undone_lasts (s ∷ ss) ls = splice (undone_lasts ss ls) s.first s.end s.lasts

@@ -21,7 +21,7 @@ abbrev pub beyond : {V : Type 0} → ℕ → List (ℕ × V) → List (ℕ × V)
 beyond k [] = []
 beyond k (e ∷ es) = if nat_lt k e.0 then e ∷ es else beyond k es
 
--- the entries in front of these
+-- the entries before these
 abbrev pub up_to : {V : Type 0} → ℕ → List (ℕ × V) → List (ℕ × V)
 up_to k [] = []
 up_to k (e ∷ es) = if nat_lt k e.0 then [] else e ∷ up_to k es

@@ -66,7 +66,7 @@ sought_up_to [] k (suc i) m = refl
 sought_up_to (e ∷ es) k zero m = up_to_first k e es (m.from 0 (omega arith) (omega arith))
 sought_up_to (e ∷ es) k (suc i) m = up_to_next k e es (m.before 0 (omega arith)) ∙ ap (λ l. e ∷ l) (sought_up_to es k i (sought_tail e es k i m))
 
--- ---- lists one behind the other
+-- ---- lists one after the other
 
 pub rise_weaker : {V : Type 0} (a b : ℕ) (es : List (ℕ × V)) → a ≤ b → RiseFrom b es → RiseFrom a es
 rise_weaker a b [] le r = tt
@@ -185,13 +185,13 @@ rise_more b n last es x h is lt =
       sym (ap (last_from b) more ∙ last_append b (take n es) (x ∷ [])),
     )
 
--- an entry lies beyond those in front of it
+-- an entry lies beyond those before it
 pub rise_at : {V : Type 0} (b n : ℕ) (es : List (ℕ × V)) (x : ℕ × V) → RiseFrom b es → slice_get es n ≡ Some x → last_from b (take n es) < x.0
 rise_at b n [] x r is = absurd cc
 rise_at b zero (e ∷ es) x r is = let same : e ≡ x = cc in subst (λ (y : ℕ × _). b < y.0) same r.0
 rise_at b (suc n) (e ∷ es) x r is = rise_at e.0 n es x r.1 is
 
--- an end that does not lie beyond the one in front of it
+-- an end that does not lie beyond the one before it
 pub no_more : {V : Type 0} (b t n last : ℕ) (es : List (ℕ × V)) (x : ℕ × V) → last ≡ last_from b (take n es) → slice_get es n ≡ Some x → x.0 ≤ last → IsTrue false ↔ (RiseFrom b es × (last_from b es ≤ t))
 no_more b t n last es x e is le = (
   λ no. absurd (false≢true no),

@@ -13,14 +13,14 @@ use squall_key::Bound;
 use std::alloc::{AllocError, Global};
 use std::marker::Model;
 
-/// So many entries stand in one block at most.
+/// The most entries of a block.
 pub(crate) const MOST: usize = 256;
 
-/// So many entries stand in each of the blocks that are made of more than one block can have.
+/// The most entries that each block gets if there are too many for one block.
 const SOME: usize = 192;
 
 /// Entries by rising end, in blocks of at most 256. The bounds at which blocks end are kept beside
-/// them, so that a search looks into one block alone.
+/// them, so a search looks into one block alone.
 ///
 /// Contracts see one list of all entries.
 #[derive(Drop)]
@@ -40,7 +40,7 @@ impl<V: Copy> Model for Blocks<V> {
     ghost invariant = { λ s. AreBlocks s.lasts.items s.blocks.items };
 }
 
-/// How many entries stand in each block that is made of so many.
+/// How many entries each block but the last gets, if `len` entries are cut into blocks.
 fn block_len(len: usize) -> usize
     ensures some { 0 < result }
     ensures few { result ≤ most }
@@ -75,7 +75,7 @@ impl<V: Copy> Blocks<V> {
         Ok(blocks)
     }
 
-    /// The entries in blocks that are about as long as each other.
+    /// The entries in blocks of about the same length.
     fn cut(alloc: Global, entries: &Entries<V>) -> Result<Blocks<V>, AllocError>
         requires { RiseFrom 0 entries.now }
         ensures { IfOk result (λ b. b ≡ entries.now) }
@@ -93,8 +93,8 @@ impl<V: Copy> Blocks<V> {
         Ok(blocks)
     }
 
-    /// Adds a block at the end. An error means that an allocation failed: the entries are then as
-    /// they were.
+    /// Adds a block at the end. An error means that an allocation failed: the entries are then
+    /// unchanged.
     fn append(&mut self, block: Entries<V>) -> Result<(), AllocError>
         requires some { 0 < length block }
         requires few { length block ≤ most }
@@ -134,7 +134,7 @@ impl<V: Copy> Blocks<V> {
         self.lent().is_empty()
     }
 
-    /// The entries, lent to look some up.
+    /// The entries, lent for look-ups.
     pub fn lent(&self) -> BlocksRef<'_, V>
         ensures { result ≡ self.now }
     {
@@ -148,8 +148,8 @@ impl<V: Copy> Blocks<V> {
         self.lent().above(key)
     }
 
-    /// The bound at which the entry above the key begins, if the first begins at `least`: there the
-    /// last of the entries ends that end at the key or before it.
+    /// The bound at which the entry above the key begins: the end of the last entry that ends at
+    /// the key or before it. If there is none, it is `least`.
     pub fn end_before(&self, key: Bound, least: Bound) -> Bound
         ensures { result ≡ last_from least (up_to key self.now) }
     {
@@ -172,7 +172,7 @@ impl<V: Copy> Blocks<V> {
 
     /// Puts the fresh entries in place of those that end beyond `from` and not beyond `to`. The
     /// first block that changed is then joined with its neighbours, if they have few entries
-    /// together. An error means that an allocation failed: the entries are then as they were.
+    /// together. An error means that an allocation failed: the entries are then unchanged.
     pub fn replace(
         &mut self,
         alloc: Global,

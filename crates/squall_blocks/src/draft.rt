@@ -13,7 +13,7 @@ use squall_key::Bound;
 use std::alloc::{AllocError, Global};
 use std::marker::Model;
 
-/// Blocks with edits that may still be undone. To undo them cannot fail, since each edit keeps the
+/// Blocks with edits that may still be undone. Undoing them cannot fail, since each edit keeps the
 /// blocks that it replaces.
 ///
 /// Contracts see the entries before the first edit, and those after the last one.
@@ -40,7 +40,7 @@ impl<V: Copy> Model for Draft<V> {
 }
 
 impl<V: Copy> Draft<V> {
-    /// A draft of the blocks, as yet without an edit. It takes no memory.
+    /// A draft of the blocks, with no edit so far. It takes no memory.
     pub fn of(whole: Blocks<V>) -> Draft<V>
         ensures before { result.0 ≡ whole }
         ensures after { result.1 ≡ whole }
@@ -60,15 +60,15 @@ impl<V: Copy> Draft<V> {
         *self.lasts.allocator()
     }
 
-    /// The entries after the last edit, to look some up.
+    /// The entries after the last edit, lent for look-ups.
     pub fn lent(&self) -> BlocksRef<'_, V>
         ensures { result ≡ self.now.1 }
     {
         BlocksRef::over(&self.lasts, &self.blocks)
     }
 
-    /// Puts the fresh entries in place of those that end beyond `from` and not beyond `to`. An error
-    /// means that an allocation failed: the entries are then as they were.
+    /// Puts the fresh entries in place of those that end beyond `from` and not beyond `to`. An
+    /// error means that an allocation failed: the entries are then unchanged.
     pub fn replace(
         &mut self,
         alloc: Global,
@@ -98,7 +98,7 @@ impl<V: Copy> Draft<V> {
         Ok(())
     }
 
-    /// Keeps the edits. The first of the blocks of each is then joined with its neighbours, if they
+    /// Keeps the edits. The first block of each edit is then joined with its neighbours, if they
     /// have few entries together and no allocation fails.
     pub fn keep(self) -> Blocks<V>
         ensures { result ≡ self.1 }
@@ -119,7 +119,7 @@ impl<V: Copy> Draft<V> {
         Blocks { lasts, blocks }
     }
 
-    /// Undoes the edits: the entries are those before the first.
+    /// Undoes the edits: the entries are then those before the first edit.
     pub fn undo(self) -> Blocks<V>
         ensures { result ≡ self.0 }
     {

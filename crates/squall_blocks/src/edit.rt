@@ -12,11 +12,11 @@ use crate::search::{End, near};
 use squall_key::Bound;
 use std::alloc::{AllocError, Global};
 
-/// Two neighbours that have no more entries together are made one block.
+/// Two neighbours with at most this many entries together are made one block.
 const FEW: usize = 128;
 
-/// The places of an edit: the blocks of the first and the last entry that goes, how many entries of
-/// the one stay, and from where on those of the other stay.
+/// The places of an edit: the blocks `first` and `end` of the first and the last entry that goes.
+/// Of the one block the entries before `start` stay, of the other those from `stop` on.
 #[derive(Clone, Copy)]
 pub(crate) struct Places {
     pub(crate) first: usize,
@@ -52,7 +52,7 @@ pub(crate) fn places_of<V: Copy>(
     }
 }
 
-/// Whether an edit stays in one block of so many entries: with so many fresh ones it is then
+/// Whether an edit stays in one block, of `len` entries. With `more` fresh ones the block is then
 /// neither empty nor too long.
 fn fits(at: Places, len: usize, more: usize) -> bool
     requires order { at.first ≡ at.end → at.start ≤ at.stop }
@@ -147,7 +147,7 @@ fn replace_across<V: Copy>(
     Ok(())
 }
 
-/// Makes an edit. An error means that an allocation failed: the entries are then as they were.
+/// Makes an edit. An error means that an allocation failed: the entries are then unchanged.
 pub(crate) fn replace_at<V: Copy>(
     alloc: Global,
     lasts: &mut Vec<End>,
@@ -228,8 +228,8 @@ fn join_few<V: Copy>(
     join(alloc, lasts, blocks, at)
 }
 
-/// Joins a block with the one behind it, then with the one in front of it, if they have few entries
-/// together. An allocation may fail in either: these blocks then stay as they are.
+/// Joins a block with the one behind it, then with the one before it, if they have few entries
+/// together. An allocation may fail in either: these blocks are then unchanged.
 pub(crate) fn join_around<V: Copy>(
     alloc: Global,
     lasts: &mut Vec<End>,

@@ -10,8 +10,8 @@ use squall_key::{Bound, Ends};
 use std::alloc::{AllocError, Global};
 use std::marker::Model;
 
-/// Entries, each a bound at which it ends and a value. Ends and values stand in lists of their own:
-/// no memory is lost between them, and a search reads ends alone.
+/// Entries, each a bound at which it ends and a value. Ends and values are in two lists: no memory
+/// is lost between them, and a search reads ends alone.
 ///
 /// Contracts see the list of the entries.
 #[derive(Drop)]
@@ -31,7 +31,7 @@ impl<V: Copy> Model for Entries<V> {
     ghost invariant = { λ s. length s.ends.items ≡ length s.values.items };
 }
 
-/// Three lists, one behind the other.
+/// Three lists, one after the other.
 fn chained<T: Copy>(alloc: Global, a: &[T], b: &[T], c: &[T]) -> Result<Vec<T>, AllocError>
     ensures { IfOk result (λ v. v.items ≡ a.now ++ (b.now ++ c.now)) }
 {
@@ -61,7 +61,7 @@ impl<V: Copy> Entries<V> {
         self.ends.len()
     }
 
-    /// The entry at a place. None from `len` on.
+    /// The entry at a place. None if the place is `len` or more.
     pub fn get(&self, place: usize) -> Option<(Bound, V)>
         ensures { result ≡ slice_get self.now place }
     {
@@ -80,8 +80,8 @@ impl<V: Copy> Entries<V> {
         (self.ends[place].end(), self.values[place])
     }
 
-    /// Adds an entry at the end. An error means that an allocation failed: the entries are then as
-    /// they were.
+    /// Adds an entry at the end. An error means that an allocation failed: the entries are then
+    /// unchanged.
     pub fn push(&mut self, end: Bound, value: V) -> Result<(), AllocError>
         ensures ok { OnOk result (self.new ≡ self.old ++ (end, value) ∷ []) }
         ensures err { OnErr result (self.new ≡ self.old) }
@@ -152,8 +152,7 @@ impl<V: Copy> Entries<V> {
         }
     }
 
-    /// The bound at which the last of the entries ends that end at the key or before it, `least` if
-    /// there are none.
+    /// The end of the last entry that ends at the key or before it, `least` if there is none.
     pub(crate) fn end_before(&self, key: Bound, least: Bound) -> Bound
         requires { RiseFrom 0 self.now }
         ensures { result ≡ last_from least (up_to key self.now) }
@@ -165,8 +164,8 @@ impl<V: Copy> Entries<V> {
         self.at(at - 1).0
     }
 
-    /// The head's entries before a place, then the fresh ones, then the tail's from a place on. An
-    /// error means that an allocation failed.
+    /// The head's entries before the place `to`, then the fresh ones, then the tail's from the
+    /// place `from` on. An error means that an allocation failed.
     pub(crate) fn joined(
         alloc: Global,
         head: &Entries<V>,
@@ -192,7 +191,7 @@ impl<V: Copy> Entries<V> {
         Ok(Entries { ends, values })
     }
 
-    /// The entries from a place to another. An error means that an allocation failed.
+    /// The entries from one place to another. An error means that an allocation failed.
     pub(crate) fn part(
         &self,
         alloc: Global,
@@ -210,7 +209,7 @@ impl<V: Copy> Entries<V> {
     }
 
     /// Puts the fresh entries in place of those from `first` to `end`. An error means that an
-    /// allocation failed: the entries are then as they were.
+    /// allocation failed: the entries are then unchanged.
     pub(crate) fn replace(
         &mut self,
         first: usize,

@@ -1,4 +1,4 @@
-//! Blocks that are lent, to look entries up.
+//! Blocks that are lent for look-ups.
 
 ghost use Rattle.std.specs.Prelude.{◌≡◌, ◌↔◌, ◌-◌, ◌<◌, ◌≤◌, length, slice_get, slice_index, IsTrue};
 ghost use Rattle.squall_blocks.specs.Entries.{last_from, beyond, up_to};
@@ -30,7 +30,7 @@ impl<'a, V: Copy> Model for BlocksRef<'a, V> {
     ghost invariant = { λ s. AreBlocks s.lasts.now s.blocks.now };
 }
 
-/// The bound at which the block in front of a place ends, `least` if there is none.
+/// The bound at which the block before a place ends, `least` if there is none.
 fn last_before(lasts: &[End], at: usize, least: Bound) -> Bound
     requires { at ≤ length lasts.now }
     ensures none { at ≡ 0 → result ≡ least }
@@ -70,8 +70,8 @@ impl<'a, V: Copy> BlocksRef<'a, V> {
         self.blocks[at].above(key)
     }
 
-    /// The bound at which the entry above the key begins, if the first begins at `least`: there the
-    /// last of the entries ends that end at the key or before it.
+    /// The bound at which the entry above the key begins: the end of the last entry that ends at
+    /// the key or before it. If there is none, it is `least`.
     pub fn end_before(&self, key: Bound, least: Bound) -> Bound
         ensures { result ≡ last_from least (up_to key self.now) }
     {
@@ -97,8 +97,8 @@ impl<'a, V: Copy> BlocksRef<'a, V> {
         Iter::over(&ends[place..], &values[place..], &self.blocks[at + 1..])
     }
 
-    /// A bound beyond the key at which a block ends: that of the block to which the key belongs, or
-    /// the greatest bound if the key lies beyond all blocks.
+    /// The bound at which the key's block ends, which lies beyond the key. It is the greatest bound
+    /// if the key lies beyond all blocks.
     pub fn block_end(&self, key: Bound) -> Bound {
         let at = ended(self.lasts, key);
         if at < self.lasts.len() {

@@ -1,8 +1,30 @@
-//! Entries by rising end, kept in blocks: an edit moves what stands in one block, however many
-//! entries there are.
+//! Entries by rising end, kept in blocks: an edit moves the entries of one block, however many
+//! there are in all.
 //!
-//! An entry is a bound at which it ends, and a value. A list of them says for each key which entry
-//! has it: the first that ends beyond the key. Contracts see one list, and no blocks.
+//! An entry has a value, and a bound at which it ends. A key belongs to the first entry that ends
+//! beyond it. Contracts see one list of entries, and no blocks.
+//!
+//! # Example
+//!
+//! One entry has the keys below 2:0, and another one all others (`Bound` is of `squall_key`).
+//!
+//! ```rust
+//! #[test]
+//! fn entries_above_a_key(rt: HostRuntime) -> Result<(), Fail> {
+//!     let zero = Bound::new(0, 0).expect(&rt, "a bound");
+//!     let two = Bound::new(2, 0).expect(&rt, "a bound");
+//!     let mut fresh: Entries<u16> = Entries::new(rt.alloc());
+//!     fresh.push(two, 1)?;
+//!     fresh.push(Bound::TOP, 3)?;
+//!     assert!(rt; fresh.is_between(zero, Bound::TOP));
+//!     let mut blocks: Blocks<u16> = Blocks::new(rt.alloc());
+//!     blocks.replace(rt.alloc(), zero, Bound::TOP, &fresh)?;
+//!     assert!(rt; blocks.above(zero) == Some((two, 1)));
+//!     assert!(rt; blocks.above(two) == Some((Bound::TOP, 3)));
+//!     assert!(rt; blocks.end_before(two, zero) == two);
+//!     Ok(())
+//! }
+//! ```
 //!
 //! Its tests are in `crates/squall_test_values/src/blocks.rt`.
 #![tactic(auto)]

@@ -5,7 +5,7 @@ ghost use Rattle.std.specs.List.{splice, copy_within};
 
 use std::alloc::AllocError;
 
-/// Makes room in both lists. After an error there may be more room than before.
+/// Reserves room in both lists. After an error there may be more room than before.
 pub(crate) fn reserve_both<T, U>(
     keys: &mut Vec<T>,
     items: &mut Vec<U>,
@@ -32,8 +32,8 @@ fn move_up_from<T: Copy>(items: &mut [T], first: usize, by: usize)
     items.copy_within(first..kept, first + by);
 }
 
-/// Moves the items from `end` on to the place `at`. Items that have the wrong place until others
-/// are written over them stand before.
+/// Moves the items from `end` on to the place `at`. Of the items before it, some are not yet right:
+/// others are to be written over them.
 fn move_tail<T: Copy>(items: &mut Vec<T>, end: usize, at: usize, fresh: &[T])
     requires within { end ≤ length items.old.items }
     requires fits { at ≤ end + length fresh.now }
@@ -109,8 +109,8 @@ fn swap_in<U: Drop>(items: &mut Vec<U>, first: usize, fresh: Vec<U>)
     items[first..end].swap_with_slice(&mut fresh);
 }
 
-/// Puts other items in place of those from `first` to `end`, in room that was reserved. It
-/// cannot fail, and needs no copies. What follows is moved only if they are not as many.
+/// Puts other items in place of those from `first` to `end`, in room that was reserved. It cannot
+/// fail, and needs no copies. What follows is moved only if their number changes.
 pub(crate) fn exchange_ready<U: Drop>(items: &mut Vec<U>, first: usize, end: usize, fresh: Vec<U>)
     requires order { first ≤ end }
     requires within { end ≤ length items.old.items }

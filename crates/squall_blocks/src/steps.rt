@@ -11,9 +11,9 @@ use std::alloc::{AllocError, Global};
 use std::marker::Model;
 use std::mem::replace;
 
-/// What undoes an edit: the blocks that stood before in the place of those from `first` to `end`.
+/// What undoes an edit: the blocks that were there before those from `first` to `end`.
 ///
-/// Contracts see its places, and the lists of what stood there.
+/// Contracts see its places, and the lists of what was there.
 #[derive(Drop)]
 pub(crate) struct Step<V: Copy> {
     first: usize,
@@ -39,8 +39,8 @@ impl<V: Copy> Step<V> {
     }
 }
 
-/// Takes the blocks of some places out. Blocks without entries are left there. It fails only if an
-/// allocation fails, and then changes nothing.
+/// Takes the blocks from `first` to `end` out, and leaves blocks without entries there. An error
+/// means that an allocation failed: the blocks are then unchanged.
 fn take_out<V: Copy>(
     alloc: Global,
     blocks: &mut Vec<Entries<V>>,
@@ -64,9 +64,9 @@ fn take_out<V: Copy>(
     Ok(gone)
 }
 
-/// Puts other blocks in place of those from `first` to `end`, and gives what undoes it. In both lists
-/// there is then room for what stood there, and for `kept` blocks more. It fails only if an
-/// allocation fails, and then changes nothing.
+/// Puts other blocks in place of those from `first` to `end`, and returns what undoes it. Both
+/// lists then have room for what was there, and for `kept` blocks more. An error means that an
+/// allocation failed: both lists are then unchanged.
 pub(crate) fn exchange<V: Copy>(
     lasts: &mut Vec<End>,
     blocks: &mut Vec<Entries<V>>,

@@ -1,5 +1,6 @@
 //! Tests of lists in blocks.
 
+mod example;
 mod plain;
 mod tolerant;
 
@@ -13,7 +14,7 @@ fn bound(rt: &impl Abort, rank: u64) -> Bound {
     Bound::of_rank(rank).expect(rt, "a bound")
 }
 
-/// Entries of one value, so many, that end at every so manieth key beyond a key.
+/// `count` entries of one value, which end at each `step`th key beyond the key `from`.
 fn row(
     rt: &impl Abort,
     alloc: Global,
@@ -63,7 +64,7 @@ fn counted(blocks: &Blocks<u16>) -> (usize, u16) {
     (count, sum)
 }
 
-/// Whether the entries beyond a key are so many, and the first of them is this one.
+/// Whether there are `count` entries beyond a key, and `first` is the first of them.
 fn begins(
     rt: &impl Abort,
     blocks: &Blocks<u16>,
