@@ -38,8 +38,8 @@ pub record IsNear (ls : List ℕ) (k m : ℕ) : Type 0 where
   pub before : (j : ℕ) → j < m → slice_index ls j ≤ k
   pub beyond_key : m + 1 < length ls → k < slice_index ls m
 
--- an edit between two keys: the blocks m and e of the first and the last entry that goes, how many entries of the one stay, and
--- from which place on those of the other stay
+-- An edit between two keys: m and e are the blocks of the first and the last entry that goes. It says how many entries of the one
+-- stay, and from which place on those of the other stay.
 pub record IsEdit {V : Type 0} (ls : List ℕ) (bs : List (List (ℕ × V))) (a b m e o p : ℕ) : Type 0 where
   pub blocks : AreBlocks ls bs
   pub first : IsNear ls a m
