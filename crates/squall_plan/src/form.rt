@@ -15,7 +15,7 @@ use squall_key::{Bound, PartId};
 use squall_span::Span;
 use std::alloc::{AllocError, Global};
 
-/// An entry as it stands in the text: its numbers, where the text `end` is the pair of the top.
+/// The numbers of an entry of the text. The text `end` is read as the pair of the top.
 #[derive(Clone, Copy)]
 pub(crate) struct Entry {
     pub part: u64,
@@ -154,7 +154,7 @@ fn read_listed(value: &Value) -> Option<&Vec<Value>>
     value.get("plan")?.as_array()
 }
 
-/// The ranges that a value lists, or the fault of its form with the lowest number.
+/// The ranges that a value lists, or the fault of its form that comes first in [`PlanFault`].
 #[tactic(auto, unfolding(crate::specs::Form::ranges_of_data))]
 fn read_data(alloc: Global, value: &Value) -> Result<Vec<PlanRange>, PlanFault>
     ensures { GivesSeen (λ v. v.items) result (ranges_of_data (view value.now)) }
@@ -167,7 +167,7 @@ fn read_data(alloc: Global, value: &Value) -> Result<Vec<PlanRange>, PlanFault>
     read_ranges(alloc, &entries)
 }
 
-/// What the bytes read as.
+/// The JSON value of the bytes.
 fn read_value(alloc: Global, text: &[u8]) -> Result<Value, PlanFault>
     ensures { GivesSeen view result (or_fault Json (data_of text.now)) }
 {

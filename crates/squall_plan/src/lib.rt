@@ -1,9 +1,32 @@
 //! Plans: which partition has which range of keys.
 //!
-//! A plan is read from a text or made of ranges in any order, and has one list of ranges: by
-//! rising key from 0:0 to the end without hole, neighbours of different partitions. Contracts see
-//! a plan as that list. What is answered for a text or for ranges is said twice: as a function,
-//! and by its meaning in terms of how many ranges have each key and which partition owns it.
+//! A plan is read from a text, or made of ranges in any order. It has one list of ranges: by rising
+//! key from 0:0 to the end without a gap, neighbours of different partitions. Contracts see a plan
+//! as that list.
+//!
+//! The answer for a text or for ranges is defined twice. One definition is a function. The other is
+//! its meaning: how many ranges have each key, and which partition owns it.
+//!
+//! # Example
+//!
+//! A plan is read from text, and names the partition of a key (`Key` is of `squall_key`).
+//!
+//! ```rust
+//! #[test]
+//! fn plan_of_two_ranges(rt: HostRuntime) -> Result<(), Fail> {
+//!     let text = concat!(
+//!         r#"{"plan":[{"part":3,"from":[2,0],"to":"end"},"#,
+//!         r#"{"part":1,"from":[0,0],"to":[2,0]}]}"#,
+//!     );
+//!     let key = Key::new(2, 7).expect(&rt, "a key");
+//!     let plan = Plan::read(rt.alloc(), text.as_bytes())?;
+//!     assert!(rt; plan.owner(key).get() == 3);
+//!     assert!(rt; plan.ranges().len() == 2);
+//!     let other = Plan::read(rt.alloc(), b"{}".as_slice());
+//!     assert!(rt; other.err() == Some(PlanFault::Shape(None)));
+//!     Ok(())
+//! }
+//! ```
 //!
 //! Its tests are in `crates/squall_test_plans/src/plan.rt`.
 #![tactic(auto)]

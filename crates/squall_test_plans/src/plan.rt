@@ -1,6 +1,7 @@
 //! Queries of plans.
 
 mod clients;
+mod example;
 mod tolerant;
 
 use crate::course::step;
@@ -158,7 +159,7 @@ fn entries_that_are_no_plan(rt: HostRuntime) -> Result<(), Fail> {
     Ok(())
 }
 
-/// Adds the bracket so many times.
+/// Adds the bracket `times` times.
 fn push_brackets(text: &mut String, bracket: &str, times: u32) -> Result<(), AllocError> {
     for _ in 0..times {
         text.push_str(bracket)?;

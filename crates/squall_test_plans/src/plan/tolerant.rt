@@ -1,11 +1,11 @@
-//! Each call that allocates, which may answer NoMemory and leaves what it was given as it was.
+//! Each call that allocates: it may answer NoMemory, and leaves its arguments unchanged.
 
 use super::{OLD, range};
 use squall_plan::{Plan, PlanFault};
 use std::alloc::Global;
 use std::process::Abort;
 
-/// The plan, or None where an allocation failed.
+/// The plan, or None if an allocation failed.
 fn unless_no_memory(rt: &impl Abort, answer: Result<Plan, PlanFault>) -> Option<Plan> {
     match answer {
         Ok(plan) => Some(plan),
@@ -16,7 +16,7 @@ fn unless_no_memory(rt: &impl Abort, answer: Result<Plan, PlanFault>) -> Option<
     }
 }
 
-/// The plan of ranges that are not by rising key, of which two are joined, or None where an
+/// The plan of ranges that are not by rising key, of which two are joined, or None if an
 /// allocation failed.
 fn few(rt: &impl Abort, alloc: Global) -> Option<Plan> {
     let ranges = [
