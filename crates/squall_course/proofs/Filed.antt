@@ -37,7 +37,7 @@ between-below a b n lt = rw (lt-leb a n lt) refl
 pub between-above : (a b n : ℕ) → b ≤ n → between a b n ≡ false
 between-above a b n le = and_right (leb a n) (ltb n b) (le-ltb n b le)
 
--- those that pass, where none of the first does
+-- those that pass, if none of the first does
 passed_later : {X : Type 0} (p : X → Bool) (xs : List X) (i : ℕ) → ((j : ℕ) (d : X) → j < i → j < length xs → p (get_or xs j d) ≡ false) → filter p xs ≡ filter p (drop i xs)
 passed_later p xs zero below = refl
 passed_later p [] (suc i) below = refl
@@ -47,7 +47,7 @@ none_passes : {X : Type 0} (p : X → Bool) (xs : List X) → ((j : ℕ) (d : X)
 none_passes p [] out = refl
 none_passes p (x ∷ xs) out = rw (out 0 x (omega arith)) (none_passes p xs (λ j d lt. out (suc j) d (omega arith)))
 
--- those that pass, where the first do and no others
+-- those that pass, if the first do and no others
 passed_first : {X : Type 0} (p : X → Bool) (xs : List X) (n : ℕ) → ((j : ℕ) (d : X) → j < n → j < length xs → p (get_or xs j d) ≡ true) → ((j : ℕ) (d : X) → n ≤ j → j < length xs → p (get_or xs j d) ≡ false) → filter p xs ≡ take n xs
 passed_first p xs zero pass fail = none_passes p xs (λ j d lt. fail j d (omega arith) lt)
 passed_first p [] (suc n) pass fail = refl

@@ -63,7 +63,7 @@ course_receivers c i j ms ns sub ps a b plans listed same r =
     let r1 : AreReceivers (moves_of i j) sub ps = rw listed1 at r in
     rw (← a, ← b) (receivers_are i j (moves_of i j) sub ps plans.new_ranges (are_moves i j plans.old_canonical plans.new_canonical) r1)
 
--- a partition receives where a key moves to it
+-- a partition receives exactly if a key moves to it
 
 some_key : (old new : List PlanRange) (all ms : List Move) (sub part : ℕ) → AllByRecursion (IsMove old new) ms → ((k : ℕ) → in_moves k ms ≡ true → moves old new k ≡ true) → list_any (goes_to sub part) ms ≡ true → (k : ℕ) × (k < top) × (is_incoming old new sub part k ≡ true)
 some_key old new all [] sub part each moved is = absurd (false≢true is)

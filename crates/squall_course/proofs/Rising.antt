@@ -72,7 +72,7 @@ beyond_range : (p : ℕ → Bool) (a n q : ℕ) → a + n ≤ q → is_in q (fil
 beyond_range p a zero q le = refl
 beyond_range p a (suc n) q le = skip (p a) a q (filter p (range_with_len (a + 1) n)) (λ e. omega arith) ∙ beyond_range p (a + 1) n q (omega arith)
 
--- the members, where what passes lies below the end
+-- the members, if what passes lies below the end
 pub in_filter : (p : ℕ → Bool) (n q : ℕ) → (p q ≡ true → q < n) → is_in q (filter p (range_with_len 0 n)) ≡ p q
 in_filter p n q low = elim (cases_Bool (p q)) [
   | inl is ↦ in_range p 0 n q (omega arith) (omega (arith, low is))
@@ -111,7 +111,7 @@ lower_few from d (x ∷ xs) u = elim (cases_lt x d) [
   | inr le ↦ rw (le-ltb x d le) (omega arith)
 ]
 
--- what stands at the place of a member is that member
+-- what is at the place of a member is that member
 pub place_within : (d : ℕ) (xs : List ℕ) → is_in d xs ≡ true → position_or_len (λ x. eqb x d) xs < length xs
 place_within d [] is = absurd (false≢true is)
 place_within d (x ∷ xs) is = elim (cases_eq x d) [

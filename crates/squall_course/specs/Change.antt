@@ -8,7 +8,7 @@ pub record Change : Type 0 where
   pub old : List PlanRange
   pub new : List PlanRange
 
--- both are the lists of plans: canonical, of ranges with keys and of partitions that there can be
+-- both are the lists of plans: canonical, of ranges with keys and of partitions within the limit
 pub record ArePlans (old new : List PlanRange) : Type 0 where
   pub old_canonical : IsCanonical old
   pub new_canonical : IsCanonical new

@@ -1,5 +1,5 @@
--- The links between two plans: which partitions give keys to which (this project). Only private functions are told by these
--- definitions; what callers learn of destinations stands in Subplans.
+-- The links between two plans: which partitions send keys to which (this project). Only the contracts of private functions cite
+-- these definitions; what callers learn of destinations is in Subplans.
 use Rattle.std.specs.Prelude.{◌≡◌, ℕ, ◌<◌, ◌==◌, ◌&&◌, ◌⊎◌, max, nat_lt, Bool, List, [], ◌∷◌, filter, map, length}
 use Rattle.std.specs.List.{AllByRecursion, prefix_len}
 use Rattle.squall_plan.specs.declared.range.PlanRange.{PlanRange}

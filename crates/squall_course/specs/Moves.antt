@@ -15,7 +15,7 @@ use Rattle.squall_course.specs.Subplans.{moves, shares, sub_at, sub_of}
 abbrev pub overlap : Interval → Interval → Interval
 overlap a b = record { lo = max a.lo b.lo; hi = min a.hi b.hi }
 
--- what goes from a range of the old plan to one of the new: the keys that they share, where their partitions differ
+-- what goes from a range of the old plan to one of the new: the keys that they share, if their partitions differ
 abbrev pub transfer : PlanRange → PlanRange → Option Transfer
 transfer r s = if shares r.span s.span && not (r.part == s.part) then Some (record { span = overlap r.span s.span; source = r.part; dest = s.part }) else None
 
@@ -81,7 +81,7 @@ abbrev pub Rise : ℕ → List Move → Type 0
 Rise from [] = Unit {0}
 Rise from (m ∷ ms) = (from ≤ m.span.lo) × Rise m.span.hi ms
 
--- no move could be longer: where the next begins at its end, that one has another source or another dest
+-- no move could be longer: if the next begins at its end, that one has another source or another dest
 abbrev pub LongestFrom : Move → List Move → Type 0
 LongestFrom m [] = Unit {0}
 LongestFrom m (n ∷ ns) = (m.span.hi ≡ n.span.lo → m.source ≡ n.source → m.dest ≢ n.dest) × LongestFrom n ns
@@ -90,8 +90,8 @@ abbrev pub AreLongest : List Move → Type 0
 AreLongest [] = Unit {0}
 AreLongest (m ∷ ms) = LongestFrom m ms
 
--- the moves between two plans: a key lies in one where it moves, each in one at most, with its owners and its sub-plan; by
--- rising key, and as long as can be
+-- The moves between two plans. A key lies in one exactly if it moves, and in one at most, with its owners and its sub-plan. They
+-- are by rising key, and as long as can be.
 pub record AreMoves (old new : List PlanRange) (ms : List Move) : Type 0 where
   pub each : AllByRecursion (IsMove old new) ms
   pub all : (k : ℕ) → in_moves k ms ≡ moves old new k

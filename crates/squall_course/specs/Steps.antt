@@ -38,11 +38,11 @@ leaving_place m = place m.sub m.source
 abbrev pub arriving_place : Move → ℕ
 arriving_place m = place m.sub m.dest
 
--- both partitions of the move are ones that there can be
+-- both partitions of the move are within the limit
 abbrev pub IsLow : Move → Type 0
 IsLow m = (m.source < part_limit) × (m.dest < part_limit)
 
--- moves by rising place, of partitions that there can be
+-- moves by rising place, of partitions within the limit
 pub record AreByPlace (place_of : Move → ℕ) (xs : List Move) : Type 0 where
   pub rises : IsNonDecreasingBy place_of xs
   pub low : AllByRecursion IsLow xs
@@ -52,7 +52,7 @@ pub record AreFiled (place_of : Move → ℕ) (ms xs : List Move) : Type 0 where
   pub same : IsPermutation ms xs
   pub rises : IsNonDecreasingBy place_of xs
 
--- what a course keeps: its number from 1 on, both plans, and what these tell of links, moves and sub-plans
+-- what a course keeps: its number from 1 on, both plans, and what follows from these for links, moves and sub-plans
 pub record IsKept (number : ℕ) (old new : List PlanRange) (table : List Link) (moves leaving arriving : List Move) (subplans : ℕ) : Type 0 where
   pub numbered : 1 ≤ number
   pub plans : ArePlans old new
@@ -67,8 +67,8 @@ pub record AreReceivers (ms : List Move) (sub : ℕ) (parts : List ℕ) : Type 0
   pub rises : Up 0 parts
   pub each : (part : ℕ) → list_any (λ p. p == part) parts ≡ list_any (goes_to sub part) ms
 
--- the span is the first of a set that ends beyond the bound: from the bound on the set has its keys, none before it, and not
--- the key at its end
+-- The span is the first of a set that ends beyond the bound. From the bound on, the set has its keys, none before it, and not the
+-- key at its end.
 pub record IsFirstSpan (set : List Interval) (from : ℕ) (s : Interval) : Type 0 where
   pub ends : from < s.hi
   pub inside : (k : ℕ) → s.lo ≤ k → k < s.hi → has set k ≡ true

@@ -59,8 +59,8 @@ subplan_count old new = most_dests old new old
 abbrev pub IsSingle : List PlanRange → List PlanRange → (ℕ → ℕ) → Type 0
 IsSingle old new number = (j k : ℕ) → j < top → k < top → moves old new j ≡ true → moves old new k ≡ true → owner_of old j ≡ owner_of old k → number j ≡ number k → owner_of new j ≡ owner_of new k
 
--- a way to number the moving keys, by which those of one source with one number have one destination; each number that a
--- moving key has is in the list
+-- A way to number the moving keys: those of one source with one number have one destination. Each number that a moving key has is
+-- in the list.
 pub record IsSplit (old new : List PlanRange) (number : ℕ → ℕ) (used : List ℕ) : Type 0 where
   pub listed : (k : ℕ) → k < top → moves old new k ≡ true → Contains used (number k)
   pub single : IsSingle old new number

@@ -29,9 +29,9 @@ use std::marker::Model;
 
 /// A change from an old plan to a new one, under the number of its reconfiguration.
 ///
-/// Contracts see a course as its number, from 1 on, and both plans. A key moves where its owners
-/// differ. The destinations of a source, in rising number, take the sub-plans 0, 1, 2 and so on,
-/// so that a source feeds at most one destination in each.
+/// Contracts see a course as its number, from 1 on, and both plans. A key moves if its owners
+/// differ. The destinations of a source, in rising number, get the sub-plans 0, 1, 2 and so on. So
+/// a source sends keys to at most one destination in each.
 #[derive(Drop)]
 pub struct Course {
     number: u32,
@@ -39,8 +39,8 @@ pub struct Course {
     new: Plan,
     table: Table,
     moves: Vec<Move>,
-    // The same moves twice more, so that those of a partition in a sub-plan lie side by side: by
-    // sub-plan, then by source, and by sub-plan, then by destination; each time then by key.
+    // The same moves in two other orders: by sub-plan, source and key, and by sub-plan, destination
+    // and key. So those of a partition in a sub-plan are side by side.
     leaving: Vec<Move>,
     arriving: Vec<Move>,
     subplans: u32,
@@ -58,8 +58,9 @@ impl Model for Course {
 }
 
 impl Course {
-    /// The course of the number from the old plan to the new one. `ZeroNumber` if the number is 0,
-    /// which is refused before anything is allocated; `NoMemory` if an allocation fails.
+    /// The course of the number from the old plan to the new one. The error is `ZeroNumber` if the
+    /// number is 0, which is refused before anything is allocated. It is `NoMemory` if an
+    /// allocation fails.
     pub fn new(alloc: Global, number: u32, old: &Plan, new: &Plan) -> Result<Course, CourseFault>
         ensures course { IfOk result (λ c. c ≡ record { number = number; old = old.now; new = new.now }) }
         ensures numbered { IfOk result (λ c. 1 ≤ c.number) }
@@ -89,13 +90,13 @@ impl Course {
         })
     }
 
-    /// The course of number 1 from the old plan to the new one. The error comes if an allocation
+    /// The course of number 1 from the old plan to the new one. An error means that an allocation
     /// failed.
     pub fn first(alloc: Global, old: &Plan, new: &Plan) -> Result<Course, AllocError>
         ensures course { IfOk result (λ c. c ≡ record { number = 1; old = old.now; new = new.now }) }
         ensures numbered { IfOk result (λ c. 1 ≤ c.number) }
     {
-        // The number is not 0, so that only memory can be missing.
+        // The number is not 0, so the only possible error is a failed allocation.
         match Course::new(alloc, 1, old, new) {
             Ok(course) => Ok(course),
             Err(_) => Err(AllocError),
@@ -146,7 +147,7 @@ impl Course {
         ensures new { result.new ≡ owner_of self.now.new key }
         ensures sub { result.sub ≡ subplan_of self.now.old self.now.new key }
     {
-        // The proof learns that the rank lies below the top, so that both plans have the key.
+        // The proof learns that the rank lies below the top, so both plans have the key.
         let _ = key.rank();
         let old = self.old_owner(key);
         let new = self.new_owner(key);
@@ -176,8 +177,8 @@ impl Course {
         &self.moves
     }
 
-    /// The moves of the sub-plan, by rising destination: what a test finds among the moves of that
-    /// sub-plan, it finds among these.
+    /// The moves of the sub-plan, by rising destination. A test finds a move among these exactly if
+    /// it finds one among the course's moves of that sub-plan.
     pub fn arrivals(&self, sub: u32) -> &[Move]
         ensures same { (p : Move → Bool) → list_any p result.now ≡ list_any (λ m. (m.sub == sub) && p m) (moves_of self.now.old self.now.new) }
         ensures rise { IsNonDecreasingBy (λ m. m.dest) result.now }
@@ -185,8 +186,8 @@ impl Course {
         gather::arrivals(&self.arriving, sub)
     }
 
-    /// How many sub-plans there are: the greatest number of destinations of a source, and so at
-    /// most the number of partitions.
+    /// How many sub-plans there are: the greatest number of destinations of a source. It is at most
+    /// 10000, the limit of partitions.
     pub fn subplans(&self) -> u32
         ensures value { result ≡ subplan_count self.now.old self.now.new }
         ensures most { result ≤ part_limit }
@@ -195,8 +196,8 @@ impl Course {
         self.subplans
     }
 
-    /// The partition to which keys of `part` go in the sub-plan: the destination with that place
-    /// among those of `part`. None if it has no more than `sub` of them.
+    /// The partition to which keys of `part` go in the sub-plan: the destination at the place
+    /// `sub`, from 0, among those of `part`. None if `part` has at most `sub` destinations.
     pub fn dest(&self, sub: u32, part: PartId) -> Option<PartId>
         ensures { result ≡ dest_of self.now.old self.now.new sub part }
     {
@@ -204,30 +205,31 @@ impl Course {
         Some(link.dest)
     }
 
-    /// The keys that move to `part` in the sub-plan. The error comes if an allocation failed.
+    /// The keys that move to `part` in the sub-plan. An error means that an allocation failed.
     pub fn incoming(&self, alloc: Global, sub: u32, part: PartId) -> Result<SpanSet, AllocError>
         ensures { IfOk result (λ set. (k : ℕ) → has set k ≡ is_incoming self.now.old self.now.new sub part k) }
     {
         gather::incoming(alloc, &self.arriving, sub, part)
     }
 
-    /// The keys that move away from `part` in the sub-plan. The error comes if an allocation failed.
+    /// The keys that move away from `part` in the sub-plan. An error means that an allocation
+    /// failed.
     pub fn outgoing(&self, alloc: Global, sub: u32, part: PartId) -> Result<SpanSet, AllocError>
         ensures { IfOk result (λ set. (k : ℕ) → has set k ≡ is_outgoing self.now.old self.now.new sub part k) }
     {
         gather::outgoing(alloc, &self.leaving, sub, part)
     }
 
-    /// The partitions to which keys move in the sub-plan, in rising number. The error comes if
-    /// an allocation failed.
+    /// The partitions to which keys move in the sub-plan, in rising number. An error means that an
+    /// allocation failed.
     pub fn receivers(&self, alloc: Global, sub: u32) -> Result<Vec<PartId>, AllocError>
         ensures { IfOk result (λ v. v.items ≡ receivers_of (moves_of self.now.old self.now.new) sub) }
     {
         gather::receivers(alloc, &self.arriving, sub)
     }
 
-    /// How many keys of the span are in the set, none, some or all: for keys that are to be loaded
-    /// and those that are.
+    /// Whether none, some or all keys of the span are in the set: for a span that is to be loaded,
+    /// and the keys that are.
     pub fn status(&self, span: &Span, set: &SpanSet) -> Status
         ensures { IsStatus span.now set.now result }
     {

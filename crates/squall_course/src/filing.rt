@@ -8,8 +8,8 @@ use crate::moving::Move;
 use squall_key::PartId;
 use std::alloc::{AllocError, Global};
 
-/// The place of a sub-plan and a partition, in the order by sub-plan, then by partition: the number
-/// of partitions that there can be, for each sub-plan before it, and then that of the partition.
+/// The place of a sub-plan and a partition, in the order by sub-plan, then by partition. It is
+/// 10000, the limit of partitions, for each sub-plan before it, plus the number of the partition.
 pub(crate) fn place(sub: u32, part: PartId) -> u64
     ensures value { result ≡ place sub part }
     ensures below { result + 1 < 2 ^ 64 }

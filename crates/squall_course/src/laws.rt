@@ -20,13 +20,14 @@ pub fn one_list_of_moves()
     ensures { (old new : List PlanRange) (ms : List Move) → ArePlans old new → AreMoves old new ms → ms ≡ moves_of old new }
 {}
 
-/// A partition receives in a sub-plan where a key moves to it in that sub-plan.
+/// A partition receives in a sub-plan exactly if a key moves to it in that sub-plan.
 pub fn receivers_have_keys()
     ensures { (old new : List PlanRange) (sub part : ℕ) → ArePlans old new
         → (Contains (receivers_of (moves_of old new) sub) part) ↔ ((k : ℕ) × (k < top) × (is_incoming old new sub part k ≡ true)) }
 {}
 
-/// By the test of ranges a source feeds a destination where a key goes from the one to the other.
+/// The test of ranges finds that a source feeds a destination exactly if a key goes from the one to
+/// the other.
 pub fn feeds_where_keys_go()
     ensures { (old new : List PlanRange) (p q : ℕ) → ArePlans old new → (feeds old new p q ≡ true) ↔ IsFed old new p q }
 {}
@@ -49,8 +50,8 @@ pub fn subplans_are_counted()
     ensures { (old new : List PlanRange) (k : ℕ) → ArePlans old new → k < top → moves old new k ≡ true → sub_of old new k < subplan_count old new }
 {}
 
-/// There are at most as many sub-plans as there can be partitions, and so the sub-plan of a moving
-/// key is below that number.
+/// There are at most as many sub-plans as the limit of partitions. So the sub-plan of a moving key
+/// is below that limit.
 pub fn subplans_at_most_partitions()
     ensures count { (old new : List PlanRange) → subplan_count old new ≤ part_limit }
     ensures keys { (old new : List PlanRange) (k : ℕ) → ArePlans old new → k < top → moves old new k ≡ true → sub_of old new k < part_limit }
@@ -61,10 +62,10 @@ pub fn moves_in_counted_subplans()
     ensures { (old new : List PlanRange) → ArePlans old new → All (λ m. m.sub < subplan_count old new) (moves_of old new) }
 {}
 
-/// No way to number the moving keys by which the moving keys of one source and one number have one
-/// new owner uses fewer numbers, whichever they are: a list that has each number in use is at least
-/// as long as there are sub-plans. So numbers that all lie below a bound need a bound that high; and
-/// the sub-plans are such a way.
+/// Moving keys can be numbered so that those of one source and one number have one new owner. No
+/// such numbering uses fewer numbers than there are sub-plans: a list of all numbers in use is at
+/// least that long. So a bound above all numbers is at least that high. The sub-plans are such a
+/// numbering.
 pub fn no_fewer_subplans()
     ensures used { (old new : List PlanRange) (number : ℕ → ℕ) (used : List ℕ) → ArePlans old new → IsSplit old new number used
         → subplan_count old new ≤ length used }

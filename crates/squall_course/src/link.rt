@@ -1,4 +1,4 @@
-//! Which partition gives keys to which.
+//! Which partition sends keys to which.
 
 ghost use Rattle.std.specs.Prelude.{◌≡◌, ℕ, ◌≤◌, map, length, IfOk};
 ghost use Rattle.std.specs.List.{list_any};

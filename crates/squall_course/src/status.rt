@@ -1,4 +1,4 @@
-//! How far keys have come.
+//! How many keys of a span have been loaded.
 
 ghost use Rattle.squall_course.specs.Statuses.{IsStatus};
 ghost use Rattle.squall_course.specs.Steps.{IsFirst};
@@ -6,14 +6,14 @@ ghost use Rattle.squall_course.specs.Steps.{IsFirst};
 use squall_key::Bound;
 use squall_span::{Span, SpanSet};
 
-/// How many keys of a span are in a set.
+/// Whether none, some or all keys of a span are in a set.
 #[derive(Clone, Copy, Debug, PartialEq, Eq)]
 pub enum Status {
-    /// None is.
+    /// None of the keys.
     NotStarted,
-    /// Some are, and some are not.
+    /// Some of the keys, and not all.
     Partial,
-    /// Each is.
+    /// All of the keys.
     Complete,
 }
 
@@ -25,7 +25,7 @@ fn first_beyond(set: &SpanSet, from: Bound) -> Option<Span>
 }
 
 impl Status {
-    /// How many keys of the span are in the set.
+    /// Whether none, some or all keys of the span are in the set.
     pub fn of(span: &Span, set: &SpanSet) -> Status
         ensures { IsStatus span.now set.now result }
     {

@@ -49,7 +49,7 @@ fn push_transfer(
     Ok(())
 }
 
-/// Adds what goes from a range to the others, and gives those others that reach beyond it.
+/// Adds what goes from a range to the others, and returns those others that reach beyond it.
 fn push_row<'a>(
     transfers: &mut Vec<Transfer>,
     range: &PlanRange,

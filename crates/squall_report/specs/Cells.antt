@@ -1,4 +1,4 @@
--- Where a cell stands on a board (partitions: Squall, SIGMOD 2015; numbers and sub-plans are this project's).
+-- The place of a cell on a board (partitions: Squall, SIGMOD 2015; numbers and sub-plans are this project's).
 use Rattle.std.specs.Prelude.{ℕ, ◌==◌, ◌&&◌, nat_lt, nat_le, Bool, Option, Some, None, if◌then◌else◌}
 use Rattle.std.specs.declared.cmp.Ordering.{Ordering}
 use Rattle.std.specs.Ordering.{nat_cmp, on, then_cmp}
@@ -17,7 +17,7 @@ place_at number sub part = record { number = number; sub = sub; part = part }
 abbrev pub is_cell_place : CellPlace → Bool
 is_cell_place c = nat_le 1 c.number && (nat_lt c.sub part_limit && nat_lt c.part part_limit)
 
--- the cell, where its numbers lie within their limits
+-- the cell, if its numbers lie within their limits
 abbrev pub place_of : ℕ → ℕ → ℕ → Option CellPlace
 place_of number sub part = if is_cell_place (place_at number sub part) then Some (place_at number sub part) else None
 

@@ -8,16 +8,16 @@ use Rattle.squall_report.specs.declared.report.ReportKind.TheVariants.{Loaded, D
 use Rattle.squall_report.specs.Issues.{PlanPair}
 use Rattle.squall_report.specs.Cells.{CellPlace, place_at, is_cell_place, is_same_cell}
 
--- A fact of a reconfiguration: a key was loaded at a partition in a sub-plan, a partition has all its keys of
--- a sub-plan, or a sub-plan is opened (Squall: partitions report when they have all their data, and the leader
--- goes on; the sub-plans and numbers are this project's).
+-- A fact of a reconfiguration: a key was loaded at a partition in a sub-plan, a partition has all its keys of a sub-plan, or a
+-- sub-plan is opened. (Squall: partitions report when they have all their data, and the leader goes on; the sub-plans and numbers
+-- are this project's).
 pub data Fact : Type 0 where
   LoadedKey : (cell : CellPlace) (key : ℕ) → Fact
   DonePart : (cell : CellPlace) → Fact
   OpenedSub : (number sub : ℕ) → Fact
 
--- what one report says: a load says each key of its span loaded, a completion says its partition done, an
--- opening says each sub-plan up to its own opened, and an issue says no fact
+-- What one report says. A load says each key of its span loaded, and a completion says its partition done. An opening says each
+-- sub-plan up to its own opened, and an issue says no fact.
 abbrev pub report_says : ReportKind PlanPair → Fact → Bool
 report_says (Loaded number sub part span) (LoadedKey c k) = is_same_cell (place_at number sub part) c && span_has span k
 report_says (Loaded number sub part span) (DonePart c) = false
@@ -59,7 +59,7 @@ is_report (Done number sub part) = is_cell_place (place_at number sub part)
 is_report (Opened number sub) = is_opening number sub
 is_report (Issued number issue) = nat_le 1 number
 
--- the report, where its numbers lie within their limits
+-- the report, if its numbers lie within their limits
 abbrev pub report_of : ReportKind PlanPair → Option (ReportKind PlanPair)
 report_of kind = if is_report kind then Some kind else None
 

@@ -7,13 +7,13 @@ use Rattle.squall_report.specs.declared.report.ReportKind.TheVariants.{Loaded, D
 use Rattle.squall_report.specs.Issues.{PlanPair}
 use Rattle.squall_report.specs.Told.{reports_issue}
 
--- the greatest number above the first one under which one pair of plans is issued, with that pair; none where there is
--- no such number
+-- the greatest number above the first one under which one pair of plans is issued, with that pair; none if there is no such
+-- number
 abbrev pub IsNewest : (ℕ → Flat PlanPair) → ℕ → Option (ℕ × PlanPair) → Type 0
 IsNewest issues low None = (n : ℕ) → low < n → (p : PlanPair) → issues n ≢ One p
 IsNewest issues low (Some e) = (low < e.0) × (issues e.0 ≡ One e.1) × ((n : ℕ) → e.0 < n → (p : PlanPair) → issues n ≢ One p)
 
--- the number and what is issued under it, where that is one pair of plans and the number is above the first one
+-- the number and what is issued under it, if that is one pair of plans and the number is above the first one
 abbrev pub one_above : ℕ → ℕ × Flat PlanPair → Option (ℕ × PlanPair)
 one_above low (n, Unknown) = None
 one_above low (n, One p) = if nat_lt low n then Some (n, p) else None
@@ -25,7 +25,7 @@ later None y = y
 later (Some x) None = Some x
 later (Some x) (Some y) = if nat_lt x.0 y.0 then Some y else Some x
 
--- what the list issues under the report's number, where the report is an issue
+-- what the list issues under the report's number, if the report is an issue
 abbrev pub course_under : List (ReportKind PlanPair) → ℕ → ReportKind PlanPair → Option (ℕ × PlanPair)
 course_under rs low (Loaded number sub part span) = None
 course_under rs low (Done number sub part) = None

@@ -8,7 +8,7 @@ use Rattle.squall_report.specs.Issues.{PlanPair}
 use Rattle.squall_report.specs.Facts.{OpenedSub, report_says, reports_say}
 use Rattle.squall_report.specs.Openings.{opened_by_report, opened_by}
 
--- a number is below the greater of two where it is below one of them
+-- a number is below the greater of two exactly if it is below one of them
 pub below_max : (s a b : ℕ) → nat_lt s (max a b) ≡ (nat_lt s a || nat_lt s b)
 below_max s a b = grind (arith, nat_tests)
 

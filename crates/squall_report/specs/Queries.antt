@@ -1,5 +1,5 @@
--- What is told, as the answers to four queries (this project): loaded? done? how many opened? what issued? A list of reports, a board, and what
--- a node knows or a message carries answer them all, so that they can be compared and joined in one form.
+-- What is told, as the answers to four queries (this project): loaded? done? how many opened? what issued? A list of reports, a
+-- board, and what a node knows or a message carries answer them all, so they can be compared and joined in one form.
 use Rattle.std.specs.Prelude.{◌≡◌, ℕ, ◌+◌, ◌==◌, max, nat_lt, Bool, false, ◌||◌, ◌&&◌, List, if◌then◌else◌}
 use Rattle.squall_span.specs.Spans.{span_has}
 use Rattle.squall_join.specs.declared.flat.Flat.{Flat}
@@ -33,7 +33,7 @@ pub record SameQueries (a b : Queries) : Type 0 where
 abbrev pub no_queries : Queries
 no_queries = record { loaded = λ c k. false; done = λ c. false; opened = λ n. 0; issued = λ n. Unknown }
 
--- loaded or done where either says so, the greater count of opened sub-plans, and what is issued where both are told
+-- loaded or done if either says so, the greater count of opened sub-plans, and what both issue together
 abbrev pub joined_queries : Queries → Queries → Queries
 joined_queries a b =
     record {

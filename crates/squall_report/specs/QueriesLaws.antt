@@ -55,7 +55,7 @@ same_facts a b s (LoadedKey c k) = s.loaded c k
 same_facts a b s (DonePart c) = s.done c
 same_facts a b s (OpenedSub n t) = ap (nat_lt t) (s.opened n)
 
--- queries are the same where they tell the same
+-- queries are the same exactly if they tell the same
 pub told_by_same : (a b : Queries) → SameQueries a b ↔ SameTold (told_by_queries a) (told_by_queries b)
 told_by_same a b = (
   λ s. record { facts = same_facts a b s; issues = s.issued },
@@ -72,7 +72,7 @@ joined_say a b (LoadedKey c k) = refl
 joined_say a b (DonePart c) = refl
 joined_say a b (OpenedSub n s) = below_max s (a.opened n) (b.opened n)
 
--- queries tell what two others tell, and nothing else, where they are the joined ones
+-- queries tell what two others tell, and nothing else, exactly if they are the joined ones
 pub told_by_joined : (c a b : Queries) → SameQueries c (joined_queries a b) ↔ TellsBoth (told_by_queries c) (told_by_queries a) (told_by_queries b)
 told_by_joined c a b = (
   λ s. record { facts = λ f. same_facts c (joined_queries a b) s f ∙ joined_say a b f; issues = s.issued },
@@ -88,7 +88,7 @@ covered : (a b : Bool) → (a || b) ≡ a → b ≡ true → a ≡ true
 covered true b e is = refl
 covered false b e is = sym e ∙ is
 
--- a join changes nothing where all that comes is told already
+-- a join of queries is the first of them exactly if the first tells all that the second tells
 pub told_already : (a b : Queries) → Covers joined_queries a b ↔ TellsAll (told_by_queries a) (told_by_queries b)
 told_already a b = (
   λ e. record {
@@ -112,7 +112,7 @@ says_by_queries rs (OpenedSub n s) = openings_count rs n s
 pub told_by_its_queries : (rs : List (ReportKind PlanPair)) → SameTold (told_by rs) (told_by_queries (queries_by rs))
 told_by_its_queries rs = record { facts = says_by_queries rs; issues = λ n. refl }
 
--- lists of reports have the same queries where they tell the same
+-- lists of reports have the same queries exactly if they tell the same
 pub same_told_lists : (rs qs : List (ReportKind PlanPair)) → SameQueries (queries_by rs) (queries_by qs) ↔ SameTold (told_by rs) (told_by qs)
 same_told_lists rs qs = (
   λ s. record { facts = λ f. says_by_queries rs f ∙ same_facts (queries_by rs) (queries_by qs) s f ∙ sym (says_by_queries qs f); issues = s.issued },

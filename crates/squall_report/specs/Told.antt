@@ -15,7 +15,7 @@ pub record Told : Type 0 where
   pub says : Fact → Bool
   pub issues : ℕ → Flat PlanPair
 
--- what is issued where both are told: different pairs clash
+-- what two answers issue together: different pairs clash
 abbrev pub both_issued : Flat PlanPair → Flat PlanPair → Flat PlanPair
 both_issued x y = flat_join is_same_pair x y
 
@@ -31,8 +31,8 @@ abbrev pub reports_issue : List (ReportKind PlanPair) → ℕ → Flat PlanPair
 reports_issue [] n = Unknown
 reports_issue (r ∷ rs) n = both_issued (report_issues r n) (reports_issue rs n)
 
--- in plain words: nothing where no report issues under the number; one pair where a report issues it and no
--- report another; and a clash where two reports issue different pairs
+-- In plain words: nothing if no report issues under the number. One pair if a report issues it and no report another. A clash if
+-- two reports issue different pairs.
 abbrev pub IsIssued : List (ReportKind PlanPair) → ℕ → Flat PlanPair → Type 0
 IsIssued rs n Unknown = (p : PlanPair) → Contains rs (Issued n p) → ⊥
 IsIssued rs n (One p) = Contains rs (Issued n p) × ((q : PlanPair) → Contains rs (Issued n q) → q ≡ p)

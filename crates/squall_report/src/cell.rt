@@ -1,4 +1,4 @@
-//! Where a cell stands on a board.
+//! The place of a cell on a board.
 
 ghost use Rattle.std.specs.Prelude.{◌≡◌, true, ◌≤◌, ◌<◌};
 ghost use Rattle.squall_key.specs.Keys.{part_limit};
@@ -9,9 +9,9 @@ use std::marker::Model;
 
 /// A partition in a sub-plan of a reconfiguration: the place of a cell on a board.
 ///
-/// The number of the reconfiguration is at least 1, sub-plan and partition are at most 9999.
-/// Cells rise by number, then by sub-plan, then by partition. Contracts see a cell's place as
-/// these three numbers.
+/// The number of the reconfiguration is at least 1. Sub-plan and partition are at most 9999. Cells
+/// rise by number, then by sub-plan, then by partition. Contracts see a cell's place as these three
+/// numbers.
 #[derive(Clone, Copy, Debug, PartialEq, Eq, PartialOrd, Ord)]
 pub struct CellId {
     number: u32,
@@ -33,8 +33,8 @@ impl Model for CellId {
 }
 
 impl CellId {
-    /// The cell of the partition in that sub-plan of the reconfiguration of that number. None
-    /// if the number is 0, or the sub-plan or the partition above 9999.
+    /// The cell of the partition in that sub-plan of the reconfiguration of that number. None if
+    /// the number is 0, or the sub-plan or the partition is above 9999.
     pub fn new(number: u32, sub: u32, part: u32) -> Option<CellId>
         ensures { result ≡ place_of number sub part }
     {
@@ -78,7 +78,7 @@ impl CellId {
         self.part
     }
 
-    /// Changes nothing: after it a proof knows that the numbers lie within their limits.
+    /// Changes nothing. A proof learns from it that the numbers lie within their limits.
     pub fn known(self)
         ensures { is_cell_place self ≡ true }
     {

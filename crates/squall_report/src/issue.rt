@@ -30,7 +30,7 @@ impl Model for Issue {
 }
 
 impl Issue {
-    /// The issue of a copy of both plans, to be shared. The error comes if an allocation failed.
+    /// The issue of a copy of both plans, to be shared. An error means that an allocation failed.
     pub fn new(alloc: Global, old: &Plan, new: &Plan) -> Result<Arc<Issue>, AllocError>
         ensures { IfOk result (λ issue. arc_value issue ≡ plan_pair old.now new.now) }
     {

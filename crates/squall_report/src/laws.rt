@@ -20,8 +20,8 @@ pub fn cells_rise()
     ensures same { (c d : CellPlace) → ⟦<CellId as PartialEq>⟧.eq c d ≡ is_same_cell c d }
 {}
 
-/// What a list of reports issues under a number is nothing where no report issues under it, one
-/// pair of plans where a report issues it and none another, and a clash where two differ.
+/// Under a number a list of reports issues nothing if no report issues under it. It issues one pair
+/// of plans if a report issues it and none another, and a clash if two reports differ.
 pub fn what_is_issued()
     ensures { (rs : List (ReportKind PlanPair)) (n : ℕ) → IsIssued rs n (reports_issue rs n) }
 {}
@@ -72,7 +72,7 @@ pub fn joined_queries_tell_both()
     ensures { (t a b : Queries) → SameQueries t (joined_queries a b) ↔ TellsBoth (told_by_queries t) (told_by_queries a) (told_by_queries b) }
 {}
 
-/// A join of answers changes nothing exactly if all that comes is told already.
+/// A join of two answers is the first of them exactly if the first tells all that the second tells.
 pub fn told_joins_change_nothing()
     ensures { (a b : Queries) → Covers joined_queries a b ↔ TellsAll (told_by_queries a) (told_by_queries b) }
 {}

@@ -71,8 +71,8 @@ fn is_opening(number: u32, sub: u32) -> bool
 }
 
 impl Report {
-    /// The report that the partition has loaded the keys of the span. None if the number is 0,
-    /// or the sub-plan or the partition above 9999.
+    /// The report that the partition has loaded the keys of the span. None if the number is 0, or
+    /// the sub-plan or the partition is above 9999.
     pub fn loaded(number: u32, sub: u32, part: u32, span: Span) -> Option<Report>
         ensures { result ≡ loaded_of number sub part span }
     {
@@ -89,7 +89,7 @@ impl Report {
     }
 
     /// The report that the partition has all the keys that the sub-plan brings it. None if the
-    /// number is 0, or the sub-plan or the partition above 9999.
+    /// number is 0, or the sub-plan or the partition is above 9999.
     pub fn done(number: u32, sub: u32, part: u32) -> Option<Report>
         ensures { result ≡ done_of number sub part }
     {
@@ -98,8 +98,8 @@ impl Report {
         Some(Report { kind })
     }
 
-    /// The report that the sub-plan is opened, and all those before it. None if the number is
-    /// 0, or the sub-plan above 9999.
+    /// The report that the sub-plan is opened, and all those before it. None if the number is 0, or
+    /// the sub-plan is above 9999.
     pub fn opened(number: u32, sub: u32) -> Option<Report>
         ensures { result ≡ opened_of number sub }
     {

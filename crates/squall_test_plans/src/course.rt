@@ -1,6 +1,7 @@
 //! Courses between plans whose moves were worked out by hand.
 
 mod clients;
+mod example;
 mod tolerant;
 
 use squall_course::{Course, CourseFault, Owners, Status};
@@ -158,7 +159,7 @@ fn courses_of_many_numbers(rt: HostRuntime) -> Result<(), Fail> {
     look_at_numbers_from(&rt, rt.alloc(), &old)
 }
 
-/// The course has two moves, both in one sub-plan, where each source has its destination.
+/// The course has two moves, both in one sub-plan, in which each source has its destination.
 fn look_at_two(rt: &impl Abort, course: &Course) {
     assert!(rt; has_moves(rt, course, &[(2, 3, 1, 3, 0), (6, 9, 3, 4, 0)]));
     assert!(rt; course.subplans() == 1);

@@ -1,3 +1,4 @@
+mod example;
 mod worked;
 
 use squall_example::{NEW, OLD, issue, plan, span};
@@ -220,7 +221,7 @@ fn tolerant_new_issue(rt: HostRuntime) -> Result<(), Fail> {
     Ok(())
 }
 
-/// The issue of the plan and of a copy of it. None where an allocation fails.
+/// The issue of the plan and of a copy of it. None if an allocation fails.
 fn still(alloc: Global) -> Option<Arc<Issue>> {
     let plan = plan(alloc, OLD)?;
     Issue::new(alloc, &plan, &plan).ok()

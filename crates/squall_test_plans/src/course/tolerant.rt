@@ -1,4 +1,4 @@
-//! Each call that allocates, which may answer NoMemory and leaves what it was given as it was.
+//! Each call that allocates: it may answer NoMemory, and leaves its arguments unchanged.
 
 use super::{END, has_moves, part, plan_of_ranges, range};
 use squall_course::{Course, CourseFault};
@@ -6,7 +6,7 @@ use squall_plan::Plan;
 use std::alloc::Global;
 use std::process::Abort;
 
-/// The plan of the roots below `middle` for the partition 1 and all others for 2, or None where an
+/// The plan of the roots below `middle` for the partition 1 and all others for 2, or None if an
 /// allocation failed.
 fn plan(rt: &impl Abort, alloc: Global, middle: u32) -> Option<Plan> {
     let ranges = [range(rt, 1, 0, middle), range(rt, 2, middle, END)];
@@ -14,13 +14,13 @@ fn plan(rt: &impl Abort, alloc: Global, middle: u32) -> Option<Plan> {
 }
 
 /// The course from the old plan to one by which the roots 2 move from the partition 1 to 2, or None
-/// where an allocation failed.
+/// if an allocation failed.
 fn course_from(rt: &impl Abort, alloc: Global, old: &Plan) -> Option<Course> {
     let new = plan(rt, alloc, 2)?;
     Course::new(alloc, 7, old, &new).ok()
 }
 
-/// The course by which the roots 2 move from the partition 1 to 2, or None where an allocation
+/// The course by which the roots 2 move from the partition 1 to 2, or None if an allocation
 /// failed.
 fn course(rt: &impl Abort, alloc: Global) -> Option<Course> {
     let old = plan(rt, alloc, 3)?;
@@ -43,7 +43,7 @@ fn look_at_first(rt: &impl Abort, alloc: Global, old: &Plan, new: &Plan) {
     }
 }
 
-/// The plan is still that of its roots. It looks only where no allocation fails.
+/// The plan is still that of its roots. It looks only if no allocation fails.
 fn is_as_before(rt: &impl Abort, alloc: Global, plan: &Plan, middle: u32) {
     if let Some(before) = self::plan(rt, alloc, middle) {
         assert!(rt; *plan == before);
