@@ -9,7 +9,7 @@ use Rattle.squall_report.specs.Issues.{PlanPair}
 use Rattle.squall_report.specs.Cells.{CellPlace, place_at, is_cell_place, is_same_cell}
 
 -- A fact of a reconfiguration: a key was loaded at a partition in a sub-plan, a partition has all its keys of a sub-plan, or a
--- sub-plan is opened. (Squall: partitions report when they have all their data, and the leader goes on; the sub-plans and numbers
+-- sub-plan is opened (Squall: partitions report when they have all their data, and the leader goes on; the sub-plans and numbers
 -- are this project's).
 pub data Fact : Type 0 where
   LoadedKey : (cell : CellPlace) (key : ℕ) → Fact
