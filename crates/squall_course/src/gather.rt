@@ -1,4 +1,4 @@
-//! What moves of a sub-plan bring to a partition, or take from it.
+//! The keys that a sub-plan brings to a partition, or takes from it.
 
 ghost use Rattle.std.specs.Prelude.{◌≡◌, ◌==◌, ◌&&◌, ℕ, map, filter, IfOk};
 ghost use Rattle.std.specs.List.{list_any};

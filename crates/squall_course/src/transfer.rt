@@ -18,7 +18,7 @@ pub(crate) struct Transfer {
     pub(crate) dest: PartId,
 }
 
-/// What goes from a range to another.
+/// The transfer from one range to another. None if they share no key, or have the same partition.
 fn between(range: &PlanRange, other: &PlanRange) -> Option<Transfer>
     ensures { result ≡ transfer range.now other.now }
 {
@@ -35,7 +35,7 @@ fn between(range: &PlanRange, other: &PlanRange) -> Option<Transfer>
     })
 }
 
-/// Adds what goes from a range to another.
+/// Adds the transfer from one range to another, if there is one.
 fn push_transfer(
     transfers: &mut Vec<Transfer>,
     range: &PlanRange,
@@ -49,7 +49,8 @@ fn push_transfer(
     Ok(())
 }
 
-/// Adds what goes from a range to the others, and returns those others that reach beyond it.
+/// Adds the transfers from a range to the others. Returns the others from the first one on that
+/// ends beyond the range.
 fn push_row<'a>(
     transfers: &mut Vec<Transfer>,
     range: &PlanRange,
@@ -69,7 +70,7 @@ fn push_row<'a>(
     Ok(&[])
 }
 
-/// What goes from ranges to others, by rising key.
+/// The transfers from ranges to others, by rising key.
 pub(crate) fn transfers(
     alloc: Global,
     ranges: &[PlanRange],

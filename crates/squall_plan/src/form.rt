@@ -1,4 +1,4 @@
-//! What a text lists.
+//! Reads the ranges that a text lists.
 
 ghost use Rattle.std.specs.Prelude.{◌≡◌, ◌&&◌, map, option_map, IfOk};
 ghost use Rattle.std.specs.List.{filter_map};
