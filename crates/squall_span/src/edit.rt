@@ -77,7 +77,7 @@ pub(crate) fn insert(spans: &mut Vec<Span>, span: Span) -> Result<(), AllocError
     Ok(())
 }
 
-/// The keys of the span at a place that lie below the bound. It is the first span that ends beyond
+/// The keys below the bound that the span at a place has. That span is the first that ends beyond
 /// the bound.
 fn head_of(spans: &[Span], at: usize, bound: Bound) -> Option<Span>
     requires set { IsSet spans.now }
@@ -91,8 +91,8 @@ fn head_of(spans: &[Span], at: usize, bound: Bound) -> Option<Span>
     }
 }
 
-/// Cuts off the keys of the span at a place that lie below the bound. It is the first span that
-/// ends beyond the bound.
+/// Cuts the keys below the bound off the span at a place. That span is the first that ends beyond
+/// the bound.
 fn trim(spans: &mut Vec<Span>, at: usize, bound: Bound)
     requires set { IsSet spans.old.items }
     requires ended { Ended spans.old.items bound at }
