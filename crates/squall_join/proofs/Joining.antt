@@ -109,7 +109,7 @@ module _ {K V : Type 0} {R : K → K → Ordering} (o : IsTotalOrder R) (exact :
       let here : drop i fs ≡ f ∷ drop (i + 1) fs = drop_more fs i f lt ∙ ap (λ x. x ∷ drop (i + 1) fs) (sym is) in
       found_front es f (drop (i + 1) fs) m (subst (IsMap R is_value bottom) here (drop_is i fs n))
 
--- one part, where its key was sought among the entries
+-- one part, whose key was searched among the entries
 module _ {K V A : Type 0} {R : K → K → Ordering} (o : IsTotalOrder R) (is_ready : V → V → A → Type 0) (join : V → V → V) (es sought : List (K × V)) (same : sought ≡ es) (key : K) (w : V) (part : ReadyPart V A) (h : IsPart is_ready (find R key es) w part) where
   here_at : (i : ℕ) → IsAt R sought key i → IsAt R es key i
   here_at i at = subst (λ l. IsAt R l key i) same at

@@ -98,7 +98,7 @@ module _ {K V : Type 0} {R : K → K → Ordering} (o : IsTotalOrder R) where
     merged_gap (e ∷ es) k w zero h = merged_greater e (k, w) es [] (h.greater_from 0 e (omega arith) (omega arith))
     merged_gap (e ∷ es) k w (suc i) h = merged_less e (k, w) es [] (h.less_before 0 e (omega arith)) ∙ ap (λ l. e ∷ l) (merged_gap es k w i (gap_tail k e es i h))
 
-    -- where one list is used up, the other is left
+    -- if one list is used up, the other is left
     pub merged_rest : (es fs : List (K × V)) (i j : ℕ) → (length es ≤ i) ⊎ (length fs ≤ j) → merged R join (drop i es) (drop j fs) ≡ drop i es ++ drop j fs
     merged_rest es fs i j (inl h) = rw (drop_all i es h) refl
     merged_rest es fs i j (inr h) = rw (drop_all j fs h) (merged_none (drop i es) ∙ sym (append-nil (drop i es)))
@@ -143,7 +143,7 @@ module _ {K V : Type 0} {R : K → K → Ordering} (o : IsTotalOrder R) (exact :
         | false ↦ λ t. covered a b (λ k d lt. h (suc k) d (omega arith)) q
       ] refl
 
-  -- a map covers another where it covers each entry
+  -- a map covers another if it covers each entry
   pub covers_from_entries : (a b : List (K × V)) → IsMap R is_value bottom a → IsMap R is_value bottom b → ((k : ℕ) (d : K × V) → k < length b → CoversEntry R join a (get_or b k d)) → merged R join a b ≡ a
   covers_from_entries a b m n h = same_map o exact l _ _ (merged_is o exact l a b m n) m (λ q. find_merged o join q a b m.sorted n.sorted ∙ covered a b h q)
 

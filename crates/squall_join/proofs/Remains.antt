@@ -17,7 +17,7 @@ rests_more R covered beyond es fs out new i x found within is found_is so_far mo
     ∙ flat_map_more (entry_beyond R covered beyond fs) [] (take i es) x
     ∙ ap (λ l. map_beyond R covered beyond l fs) (sym (take_more es i x within ∙ ap (λ y. take i es ++ y ∷ []) (sym is)))
 
--- the first so many entries of fs have smaller keys than each entry of es from i on
+-- the first `at` entries of fs have smaller keys than each entry of es from i on
 pub record IsBelow {K V : Type 0} (R : K → K → Ordering) (es fs : List (K × V)) (i at : ℕ) : Type 0 where
   pub in_range : at ≤ length fs
   pub less : (j k : ℕ) (d : K × V) → j < at → i ≤ k → k < length es → R (get_or fs j d).0 (get_or es k d).0 ≡ Less

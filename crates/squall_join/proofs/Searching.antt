@@ -105,7 +105,7 @@ place_by_none R es key from size e m = record {
   no_less_from = λ j d le lt. m.no_less_from j d (omega arith) lt;
 }
 
--- what stands at the place
+-- what is at the place
 pub found_at_place : {K V : Type 0} (R : K → K → Ordering) (es : List (K × V)) (key : K) (i : ℕ) (x : K × V) → i < length es → x ≡ get_or es i x → is_eq (R x.0 key) ≡ true → IsPlace R es key i → IsAt R es key i
 found_at_place R es key i x lt is same m = record {
   in_range = lt;

@@ -115,7 +115,7 @@ no_span_is : (ss : List Interval) → (no_span ss ≡ true) ↔ (ss ≡ [])
 no_span_is [] = (λ e. refl, λ e. refl)
 no_span_is (s ∷ ss) = (λ e. absurd (false≢true e), λ e. absurd (let bad : ⊥ = cc in bad))
 
--- no key is left where the second set has each key of the first
+-- no key is left if the second set has each key of the first
 left_none : (x y : Bool) → (x ≡ true → y ≡ true) → (x && not y) ≡ false
 left_none true y f = ap not (f refl)
 left_none false y f = refl
@@ -152,7 +152,7 @@ key_is x k a h = elim (cases_lt k top) [
   | inr ge ↦ absurd (true≢false (sym h ∙ has_ended top k x a.1 ge))
 ]
 
--- a set has a key where it covers the set of that key alone
+-- a set has a key if it covers the set of that key alone
 key_covered : (x : List Interval) (k : ℕ) → IsSet x → IsSet (interval k (k + 1) ∷ []) → Covers union x (interval k (k + 1) ∷ []) ↔ (has x k ≡ true)
 key_covered x k a b = (
   λ e. (covers_by_keys x (interval k (k + 1) ∷ []) a b).0 e k (has_one_key k),
@@ -308,7 +308,7 @@ and_true a b p q = ap (λ x. x && b) p ∙ q
 pub bottom_covered : {X : Type 0} {is_value : X → Type 0} {bottom : X} {join : X → X → X} {covered : X → X → Bool} {unit : X → X → Type 0} {beyond : X → X → X} → JoinLaws is_value bottom join → BeyondLaws is_value bottom join covered unit beyond → (x : X) → is_value x → covered bottom x ≡ true
 bottom_covered l m x a = (m.tested _ x l.bottom_is a).1 (l.neutral x a)
 
--- one half is not covered where the other is
+-- one half is not covered if the other is, and the pair is not
 not_first : (a b : Bool) → b ≡ true → (a && b) ≡ false → a ≡ false
 not_first a b p e = sym (and-true a) ∙ ap (λ x. a && x) (sym p) ∙ e
 

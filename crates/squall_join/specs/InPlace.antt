@@ -8,7 +8,7 @@ use Rattle.squall_join.specs.declared.ready.ReadyMap.{ReadyMap}
 use Rattle.squall_join.specs.declared.ready.ReadyMap.TheVariants.{Whole, Parts}
 use Rattle.squall_join.specs.Entries.{merged}
 
--- for a value and what was found at its key: what their join takes, or a copy of the value
+-- for a value and what was found at its key: what their join needs, or a copy of the value
 abbrev pub IsPart : {V A : Type 0} → (V → V → A → Type 0) → Option V → V → ReadyPart V A → Type 0
 IsPart is_ready None w (Joined r) = ⊥
 IsPart is_ready None w (Fresh v) = v ≡ w
@@ -39,7 +39,7 @@ module _ {K V A : Type 0} (R : K → K → Ordering) (is_ready : V → V → A �
     pub spare_is : spare ≡ []
     pub fits : 0 < fresh_count ps → length es + fresh_count ps ≤ capacity
 
-  -- what was made ready for the join of two maps: the join itself, or what the join in place takes
+  -- what was made ready for the join of two maps: the join itself, or what the join in place needs
   abbrev pub IsReadyMap : (V → V → V) → List (K × V) → List (K × V) → ReadyMap K V A → Type 0
   IsReadyMap join es fs (Whole entries) = entries.items ≡ merged R join es fs
   IsReadyMap join es fs (Parts ready) = IsInPlace es fs ready.parts.items ready.room.items (vec_capacity ready.room)

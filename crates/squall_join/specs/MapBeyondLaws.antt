@@ -118,7 +118,7 @@ module _ {K V : Type 0} {R : K → K → Ordering} (o : IsTotalOrder R) (exact :
       ap (looked bottom) (find_beyond R covered beyond o exact q x y a.sorted)
       ∙ looked_beyond l m _ _ (find_All R is_value q x (values_of_kept is_value bottom x a.kept)) (find_All R is_value q y (values_of_kept is_value bottom y b.kept))
 
-  -- a map covers another where it does at each key
+  -- a map covers another if it does at each key
   pub covers_at : (x y : List (K × V)) → IsMap R is_value bottom x → IsMap R is_value bottom y → Covers (merged R join) x y → (q : K) → Covers join (at x q) (at y q)
   covers_at x y a b e q = sym (looked_merged o l q x y a b) ∙ ap (λ es. at es q) e
 
@@ -155,7 +155,7 @@ module _ {K V : Type 0} {R : K → K → Ordering} (o : IsTotalOrder R) (exact :
   map_nothing x y a b e = same_looked_map o exact (map_beyond R covered beyond x y) [] (map_beyond_is x y a b) (record { sorted = tt; kept = tt }) (λ q.
       looked_map_beyond q x y a b ∙ m.nothing _ _ (value_at x a q) (value_at y b q) (covered_at x y b e q))
 
-  -- where nothing is left, each value was covered
+  -- if nothing is left, each value was covered
   covered_where_nothing : (v w : V) → is_value v → is_value w → beyond v w ≡ bottom → covered v w ≡ true
   covered_where_nothing v w a b is = elim (covered v w) as (λ t. covered v w ≡ t → t ≡ true) [ true ↦ λ t. refl | false ↦ λ t. absurd (m.some v w a b t is) ] refl
 
@@ -180,7 +180,7 @@ module _ {K V : Type 0} {R : K → K → Ordering} (o : IsTotalOrder R) (exact :
   single_at : (k : K) (w : V) → at ((k, w) ∷ []) k ≡ w
   single_at k w = ap (λ r. looked bottom (cond (is_eq r) (Some w) None)) (tied_itself o k)
 
-  -- a map covers the map of one entry where it does at the key
+  -- a map covers the map of one entry if it does at the key
   covers_single : (x : List (K × V)) (k : K) (w : V) → IsMap R is_value bottom x → is_value w → w ≢ bottom → Covers join (at x k) w → Covers (merged R join) x ((k, w) ∷ [])
   covers_single x k w a b n c = covers_by_keys x ((k, w) ∷ []) a (single_is k w b n) (λ q.
       elim (eq_by_cmp R q k) as (λ t. eq_by_cmp R q k ≡ t → Covers join (at x q) (looked bottom (cond t (Some w) None))) [

@@ -1,4 +1,4 @@
--- Pairs, joined each half for itself (join semilattices: Shapiro et al. 2011).
+-- Pairs, each half of which is joined on its own (join semilattices: Shapiro et al. 2011).
 use Rattle.squall_join.specs.declared.pair.Pair.{Pair}
 
 module _ {A B : Type 0} where

@@ -11,9 +11,9 @@ use Rattle.squall_join.specs.Laws.{Covers}
 use Rattle.squall_join.specs.Looked.{looked}
 use Rattle.squall_join.specs.Pairs.{pair_of}
 
--- What a value has beyond another is a value again, and bottom exactly where the other covers the value. With the other it joins
--- to the join of both, it has nothing that the value lacks, and it is the least value with each unit of the value that the other
--- lacks; a unit is a value, and the value has it.
+-- What a value has beyond another is a value again, and it is bottom exactly if the other covers the value. Joined with the other
+-- it is the join of both, it has nothing that the value lacks, and it is the least value with each unit of the value that the
+-- other lacks. A unit is a value, and the value has it.
 pub record BeyondLaws {X : Type 0} (is_value : X → Type 0) (bottom : X) (join : X → X → X) (covered : X → X → Bool) (unit : X → X → Type 0) (beyond : X → X → X) : Type 0 where
   pub closed : (x y : X) → is_value x → is_value y → is_value (beyond x y)
   pub tested : (x y : X) → is_value x → is_value y → (covered x y ≡ true) ↔ Covers join y x
@@ -28,15 +28,15 @@ pub record BeyondLaws {X : Type 0} (is_value : X → Type 0) (bottom : X) (join 
 
 -- ---- numbers and flags
 
--- the number, where it is greater than the other
+-- the number, if it is greater than the other
 abbrev pub max_beyond : ℕ → ℕ → ℕ
 max_beyond x y = if nat_lt y x then x else 0
 
--- a flag is covered where it is not set, or the other is
+-- a flag is covered if it is not set, or the other is
 abbrev pub flag_covered : Bool → Bool → Bool
 flag_covered x y = not x || y
 
--- set where the other is not
+-- set if the flag is set and the other is not
 abbrev pub flag_beyond : Bool → Bool → Bool
 flag_beyond x y = x && not y
 
@@ -64,7 +64,7 @@ module _ {T : Type 0} (eq : T → T → Bool) where
   flat_covered Clash (One y) = false
   flat_covered Clash Clash = true
 
-  -- nothing where the other covers it, and else the whole
+  -- nothing if the other covers it, and else the whole
   abbrev pub flat_beyond : Flat T → Flat T → Flat T
   flat_beyond Unknown y = Unknown
   flat_beyond (One x) Unknown = One x
@@ -88,14 +88,14 @@ module _ {A B : Type 0} where
 -- ---- maps
 
 module _ {V : Type 0} (covered : V → V → Bool) (beyond : V → V → V) where
-  -- what one map has beyond another at a key: the value where the other has none, nothing where the other's covers it, and
-  -- else what it has beyond the other's
+  -- what one map has beyond another at a key: the value if the other has none, nothing if the other's covers it, and else what it
+  -- has beyond the other's
   abbrev pub found_beyond : Option V → Option V → Option V
   found_beyond None w = None
   found_beyond (Some v) None = Some v
   found_beyond (Some v) (Some w) = if covered v w then None else Some (beyond v w)
 
--- the entry of a value under the key, where there is one
+-- the entry of a value under the key, if there is one
 abbrev pub entry_of : {K V : Type 0} → K → Option V → List (K × V)
 entry_of key None = []
 entry_of key (Some v) = (key, v) ∷ []

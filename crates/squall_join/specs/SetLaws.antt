@@ -24,7 +24,7 @@ or_within true y h = refl
 or_within false true h = sym (h refl)
 or_within false false h = refl
 
--- the union with a set is no more than this one where each key of that set is here
+-- the union with a set is no more than this one if each key of that set is here
 pub covers_by_keys : (a b : List Interval) → IsSet a → IsSet b → (union a b ≡ a) ↔ ((k : ℕ) → has b k ≡ true → has a k ≡ true)
 covers_by_keys a b c d = (
   λ e k h. or_absorbs (has a k) (has b k) (sym (has-union a b k c.0 d.0) ∙ ap (λ l. has l k) e) h,

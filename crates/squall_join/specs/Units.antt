@@ -14,7 +14,7 @@ whole_unit x u = u ≡ x
 abbrev pub key_unit : List Interval → List Interval → Type 0
 key_unit x u = (k : ℕ) × (has x k ≡ true) × (u ≡ interval k (k + 1) ∷ [])
 
--- a unit of one half, where the other half is the least value
+-- a unit of one half, and the least value as the other half
 abbrev pub pair_unit : {A B : Type 0} → (A → A → Type 0) → (B → B → Type 0) → A → B → Pair A B → Pair A B → Type 0
 pair_unit p q a b x u = (p x.first u.first × (u.second ≡ b)) ⊎ ((u.first ≡ a) × q x.second u.second)
 

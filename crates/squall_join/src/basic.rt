@@ -113,7 +113,7 @@ impl Beyond for Max {
     }
 }
 
-/// A flag, which a join sets where either is set. The least value is `false`.
+/// A flag, which a join sets if either is set. The least value is `false`.
 ///
 /// Contracts see it as that `bool`.
 #[derive(Clone, Copy, Debug, PartialEq, Eq)]

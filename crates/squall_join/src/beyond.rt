@@ -21,7 +21,7 @@ pub trait Beyond: Join {
     /// What the first value has beyond the second.
     ghost beyond: { Self → Self → Self };
 
-    /// What this value has beyond the other. It fails only where an allocation fails.
+    /// What this value has beyond the other. An error means that an allocation failed.
     fn beyond(&self, alloc: Global, other: &Self) -> Result<Self, AllocError>
         ensures { IfOk result (λ v. v ≡ beyond self.now other.now) };
 

@@ -10,23 +10,23 @@ ghost use Rattle.squall_join.specs.BeyondLaws.{flat_beyond_laws};
 use crate::{Beyond, Join};
 use std::alloc::{AllocError, Global};
 
-/// A type whose values are told apart by a test, and copied.
+/// A type whose values can be compared exactly, and copied.
 pub trait Exact: Drop {
     /// What holds of each value of the type.
     ghost is_one: { Self → Type 0 } = { λ _. Unit {0} };
 
-    /// The test that tells two values apart.
+    /// The test whether two values are equal.
     ghost eq: { Self → Self → Bool };
 
     /// Shows what holds of each value of the type. It does nothing.
     fn known(&self)
         ensures { is_one self.now };
 
-    /// Whether both are one value.
+    /// Whether both are the same value.
     fn is_same(&self, other: &Self) -> bool
         ensures { result ≡ eq self.now other.now };
 
-    /// A copy. It fails only where an allocation fails, or a count of owners is full.
+    /// A copy. An error means that an allocation failed, or that a count of owners is full.
     fn copied(&self, alloc: Global) -> Result<Self, AllocError>
         ensures { IfOk result (λ v. v ≡ self.now) };
 
@@ -58,7 +58,7 @@ pub enum Flat<T> {
     Unknown,
     /// One value.
     One(T),
-    /// Different values came together.
+    /// Different values were joined.
     Clash,
 }
 

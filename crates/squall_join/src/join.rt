@@ -32,32 +32,32 @@ pub trait Join: Drop {
     fn covers(&self, other: &Self) -> bool
         ensures { IsTrue result ↔ Covers join self.now other.now };
 
-    /// The join of both. It fails only where an allocation fails.
+    /// The join of both. An error means that an allocation failed.
     fn joined(&self, alloc: Global, other: &Self) -> Result<Self, AllocError>
         ensures { IfOk result (λ v. v ≡ join self.now other.now) };
 
-    /// A copy. It fails only where an allocation fails.
+    /// A copy. An error means that an allocation failed.
     fn copied(&self, alloc: Global) -> Result<Self, AllocError>
         ensures { IfOk result (λ v. v ≡ self.now) };
 
-    /// Joins the other value into this one. It fails only where an allocation fails, and then
-    /// this value is as it was.
+    /// Joins the other value into this one. An error means that an allocation failed: this value is
+    /// then unchanged.
     fn join_in(&mut self, alloc: Global, other: &Self) -> Result<(), AllocError>
         ensures ok { OnOk result (self.new ≡ join self.old other.now) }
         ensures err { OnErr result (self.new ≡ self.old) };
 
-    /// What a join of two values takes beside them: all that it allocates.
+    /// What a join of two values needs beside them: all that it allocates.
     type Ready: Drop;
 
     /// That it was made ready for the join of these two values.
     ghost is_ready: { Self → Self → Self.Ready → Type 0 };
 
-    /// Makes ready what the join of both takes. It fails only where an allocation fails.
+    /// Makes ready what the join of both needs. An error means that an allocation failed.
     fn make_ready(&self, alloc: Global, other: &Self) -> Result<Self::Ready, AllocError>
         ensures { IfOk result (is_ready self.now other.now) };
 
-    /// Joins the other value into this one, with what was made ready for both. It cannot fail: so
-    /// several values are joined all or not at all, each in place.
+    /// Joins the other value into this one, with what was made ready for both. It cannot fail. So
+    /// several values can be joined in place, either all or none.
     fn join_ready(&mut self, other: &Self, ready: Self::Ready)
         requires { is_ready self.old other.now ready }
         ensures { self.new ≡ join self.old other.now };
@@ -65,7 +65,7 @@ pub trait Join: Drop {
     /// The laws of the join.
     ghost laws: { JoinLaws is_value bottom join };
 
-    /// Whether both are one value.
+    /// Whether both are the same value.
     final fn same(&self, other: &Self) -> bool
         ensures { IsTrue result ↔ (self.now ≡ other.now) }
     {

@@ -30,8 +30,8 @@ pub fn join_of_entries<K: MapKey, V: Join>()
         → find K.cmp q (merged K.cmp V.join x y) ≡ join_found V.join (find K.cmp q x) (find K.cmp q y) }
 {}
 
-/// A joined map has at each key the join of what both have there, where an absent key has the
-/// least value. Maps that have the same at each key are equal.
+/// A joined map has at each key the join of what both have there. An absent key has the least
+/// value. Maps that have the same at each key are equal.
 pub fn join_of_lookups<K: MapKey, V: Join>()
     ensures joined { (x y : List (K × V)) (q : K) → IsMap K.cmp V.is_value V.bottom x → IsMap K.cmp V.is_value V.bottom y
         → looked V.bottom (find K.cmp q (merged K.cmp V.join x y)) ≡ V.join (looked V.bottom (find K.cmp q x)) (looked V.bottom (find K.cmp q y)) }
@@ -39,28 +39,28 @@ pub fn join_of_lookups<K: MapKey, V: Join>()
         → ((q : K) → looked V.bottom (find K.cmp q x) ≡ looked V.bottom (find K.cmp q y)) → x ≡ y }
 {}
 
-/// Where facts tell the values of each half apart, the facts of both halves tell pairs apart,
-/// and a join of pairs has the facts of either.
+/// If facts distinguish the values of each half, the facts of both halves distinguish pairs, and a
+/// join of pairs has the facts of either.
 pub fn pairs_lift_facts<A: Join, B: Join, F, G>()
     ensures { (p : A → F → Bool) (q : B → G → Bool) → Factual A.is_value A.bottom A.join p → Factual B.is_value B.bottom B.join q
         → Factual (pair_is A.is_value B.is_value) (pair_of A.bottom B.bottom) (pair_join A.join B.join) (pair_says p q) }
 {}
 
-/// Where facts tell the values apart, the facts at each key tell maps apart, and a join of maps
-/// has the facts of either.
+/// If facts distinguish the values, the facts at each key distinguish maps, and a join of maps has
+/// the facts of either.
 pub fn maps_lift_facts<K: MapKey, V: Join, F>()
     ensures { (says : V → F → Bool) → Factual V.is_value V.bottom V.join says
         → Factual (IsMap K.cmp V.is_value V.bottom) [] (merged K.cmp V.join) (map_says K.cmp says) }
 {}
 
-/// What a value has beyond another joins with the other to the join of both, and it is the least
+/// What a value has beyond another, joined with the other, is the join of both. It is the least
 /// value with each unit of the value that the other lacks.
 pub fn beyond_joins_to_the_join<J: Beyond>()
     ensures { BeyondLaws J.is_value J.bottom J.join J.covered J.unit J.beyond }
 {}
 
-/// What a map has beyond another is a map, which has at each key what the one has there beyond what
-/// the other has there, where an absent key has the least value.
+/// What a map has beyond another is a map. At each key it has what the one has there beyond what
+/// the other has there. An absent key has the least value.
 pub fn beyond_of_lookups<K: MapKey, V: Beyond>()
     ensures map { (x y : List (K × V)) → IsMap K.cmp V.is_value V.bottom x → IsMap K.cmp V.is_value V.bottom y
         → IsMap K.cmp V.is_value V.bottom (map_beyond K.cmp V.covered V.beyond x y) }

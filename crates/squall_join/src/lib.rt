@@ -1,9 +1,27 @@
 //! Values that only grow: join semilattices, and maps, pairs and sets of keys as such.
 //!
-//! A join of two values is the least value that has all that either has. Joins come in any
-//! order, and any number of times, to the same value.
+//! A join of two values is the least value that has all that either has. Values that are joined in
+//! any order, and any number of times, give the same value.
 //!
 //! Its tests are in `crates/squall_test_values/src/join.rt`.
+//!
+//! # Example
+//!
+//! A map of greatest numbers takes another one, and a second time without a change.
+//!
+//! ```rust
+//! #[test]
+//! fn joins_maps(rt: HostRuntime) -> Result<(), AllocError> {
+//!     let mut map = JoinMap::single(rt.alloc(), 1u32, Max::new(3))?;
+//!     let other = JoinMap::single(rt.alloc(), 2u32, Max::new(5))?;
+//!     assert!(rt; !map.covers(&other));
+//!     map.join_in(rt.alloc(), &other)?;
+//!     assert!(rt; map.covers(&other) && map.len() == 2);
+//!     map.join_in(rt.alloc(), &other)?;
+//!     assert!(rt; map.len() == 2);
+//!     Ok(())
+//! }
+//! ```
 #![tactic(auto)]
 
 mod basic;

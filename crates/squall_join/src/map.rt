@@ -22,7 +22,7 @@ use std::marker::Model;
 
 /// Keys of a map: in an order in which only equal keys tie.
 pub trait MapKey: Ord + Copy {
-    /// The step where this key is less than the other, else 0. A search takes it by arithmetic,
+    /// The step if this key is less than the other, else 0. A search computes it without a branch,
     /// since a branch on keys is mostly mispredicted.
     fn step_if_less(self, other: Self, step: usize) -> usize
         ensures less { Self.cmp self other ≡ Less → result ≡ step }
@@ -42,7 +42,7 @@ impl MapKey for u32 {
     }
 }
 
-/// A map that keeps no least value, so that an absent key and the least value are one.
+/// A map that keeps no least value: an absent key has the least value.
 ///
 /// Contracts see a map as the list of its entries, in the order of their keys. A join has at
 /// each key the join of both values.
@@ -72,8 +72,8 @@ impl<K: MapKey, V: Join> JoinMap<K, V> {
         }
     }
 
-    /// The map of one entry, and the empty map where the value is the least. It fails only where
-    /// an allocation fails.
+    /// The map of one entry, or the empty map if the value is the least one. An error means that an
+    /// allocation failed.
     pub fn single(alloc: Global, key: K, value: V) -> Result<Self, AllocError>
         ensures empty { value ≡ V.bottom → IfOk result (λ m. m ≡ []) }
         ensures one { value ≢ V.bottom → IfOk result (λ m. m ≡ (key, value) ∷ []) }
@@ -94,7 +94,7 @@ impl<K: MapKey, V: Join> JoinMap<K, V> {
         self.entries.len()
     }
 
-    /// The value at a key, by a binary search. None where the key is absent.
+    /// The value at a key, by a binary search. None if the key is absent.
     pub fn get(&self, key: &K) -> Option<&V>
         ensures { option_copied result ≡ find K.cmp key.now self.now }
     {
@@ -104,7 +104,7 @@ impl<K: MapKey, V: Join> JoinMap<K, V> {
         }
     }
 
-    /// The entry at a place, in the order of the keys. None from the length on.
+    /// The entry at an index, in the order of the keys. None if the index is the length or more.
     pub fn at(&self, index: usize) -> Option<(&K, &V)>
         ensures some { IfSome result (λ e. slice_get self.now index ≡ Some (e.0.now, e.1.now)) }
         ensures none { IfNone result (length self.now ≤ index) }
@@ -126,7 +126,7 @@ impl<K: MapKey, V: Join> JoinMap<K, V> {
         *self.entries.allocator()
     }
 
-    /// Where the key is, or where it would go.
+    /// The index of the key, or as an error the index at which it would be inserted.
     pub(crate) fn search(&self, key: K) -> Result<usize, usize>
         ensures found { IfOk result (IsAt K.cmp self.now key) }
         ensures absent { IfErr result (IsGap K.cmp self.now key) }
@@ -189,9 +189,9 @@ impl<K: MapKey, V: Join> Join for JoinMap<K, V> {
 
     /// Joins a map of one entry in place: a binary search, and at most one insertion.
     ///
-    /// Of more entries too it looks at their keys alone, by a search for each, once all is ready
-    /// that their joins take; each new key moves the entries behind it. Only if more than 64 keys
-    /// are new does it make the joined map, which copies each value of both.
+    /// A map of more entries is joined in place too, by a search for each of its keys, once all is
+    /// ready that the joins need. Each new key moves the entries behind it. If more than 64 keys
+    /// are new, it makes the joined map instead, which copies each value of both.
     fn join_in(&mut self, alloc: Global, other: &Self) -> Result<(), AllocError> {
         if other.entries.len() == 1 {
             let entry = &other.entries[0];
@@ -235,9 +235,9 @@ impl<K: MapKey, V: Beyond> Beyond for JoinMap<K, V> {
 
     ghost beyond_laws = { map_beyond_laws K.total K.exact V.laws V.beyond_laws };
 
-    /// It searches the other map for each key of this one, from the place of the key before on by
-    /// doubled steps: so a small map beyond a large one takes about the size of the small one, and
-    /// two maps of like size take the sum of both.
+    /// It searches the other map for each key of this one, by doubled steps from the index of the
+    /// key before. So the time for a small map beyond a large one grows with the small one. For two
+    /// maps of similar size it grows with the sum of both.
     fn beyond(&self, alloc: Global, other: &Self) -> Result<Self, AllocError> {
         let entries = rests(alloc, &self.entries, &other.entries)?;
         Ok(JoinMap { entries })

@@ -10,7 +10,7 @@ ghost use Rattle.squall_join.specs.BeyondLaws.{pair_beyond_laws};
 use crate::{Beyond, Join};
 use std::alloc::{AllocError, Global};
 
-/// Two values, which are joined each for itself.
+/// Two values, each of which is joined on its own.
 #[derive(Debug, PartialEq, Eq, Drop)]
 pub struct Pair<A, B> {
     /// The first value.
@@ -76,8 +76,8 @@ impl<A: Join, B: Join> Join for Pair<A, B> {
     }
 
     /// Joins one half in place if the other half of the argument is the least value. Else it makes
-    /// the join of the first halves ready, and joins them once the second halves are joined: so
-    /// both halves are joined or none.
+    /// the join of the first halves ready, and joins them once the second halves are joined. So
+    /// both halves are joined, or neither is.
     fn join_in(&mut self, alloc: Global, other: &Pair<A, B>) -> Result<(), AllocError> {
         if other.second.is_bottom() {
             self.second.known();

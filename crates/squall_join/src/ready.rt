@@ -12,14 +12,14 @@ use crate::search::{reach, seek, value_at};
 use std::alloc::{AllocError, Global};
 use std::mem;
 
-/// The most new keys that are put in place. Each moves the entries behind it, and a new map copies
-/// each value of both: near a hundred new keys one is as dear as the other, in maps of any size.
+/// The most new keys that are inserted in place. Each moves the entries behind it, and a new map
+/// copies each value of both. Near a hundred new keys both take the same time, in maps of any size.
 const FEW: usize = 64;
 
 /// What is ready for one entry of a map that is joined into another.
 #[derive(Drop)]
 pub enum ReadyPart<V, A> {
-    /// What the join with the value at its key takes.
+    /// What the join with the value at its key needs.
     Joined(A),
     /// A copy of its value, since its key is absent.
     Fresh(V),
@@ -39,11 +39,11 @@ pub struct ReadyParts<K, V, A> {
 pub enum ReadyMap<K, V, A> {
     /// The entries of the join.
     Whole(Vec<(K, V)>),
-    /// What the join in place takes.
+    /// What the join in place needs.
     Parts(ReadyParts<K, V, A>),
 }
 
-/// What is ready for a value, beside the value that was found at its key.
+/// What is ready for a value and the value that was found at its key, if one was.
 fn ready_part<V: Join>(
     alloc: Global,
     found: Option<&V>,
@@ -57,7 +57,7 @@ fn ready_part<V: Join>(
     }
 }
 
-/// What is ready for each entry of the second, by a search for each key from the place of the one
+/// What is ready for each entry of the second. Each key is searched from the index of the key
 /// before it on.
 fn ready_parts<K: MapKey, V: Join>(
     alloc: Global,
@@ -98,8 +98,9 @@ fn count_fresh<V, A>(parts: &[ReadyPart<V, A>]) -> usize
     count
 }
 
-/// Room for so many entries with so many more, if there are more. If they have too little, it is
-/// twice what they take, so that later entries find room.
+/// Room for `there` entries and `more` others. If `more` is 0, it allocates nothing. If the
+/// capacity `has` is too little for all, there is room for at least twice `there`, so later entries
+/// find room.
 fn room_for<K, V>(
     alloc: Global,
     there: usize,
@@ -122,9 +123,10 @@ fn room_for<K, V>(
     Vec::with_capacity(alloc, all)
 }
 
-/// Puts an entry at a place, before those from there on, in room that is there.
+/// Inserts an entry at an index, before those from there on, in spare capacity.
 ///
-/// In place of `Vec::insert`, since a rotation by one compiles to one block move of what follows.
+/// It is used in place of `Vec::insert`, since a rotation by one compiles to one block move of what
+/// follows.
 fn put_ready<K: MapKey, V: Join>(entries: &mut Vec<(K, V)>, at: usize, entry: (K, V))
     requires within { at ≤ length entries.old.items }
     requires room { vec_len entries.old < vec_capacity entries.old }
@@ -179,8 +181,8 @@ fn join_part<K: MapKey, V: Join>(
     }
 }
 
-/// Joins the other entries into the first with what is ready for each, from the last on: so what
-/// was found at a key is still there when its turn comes.
+/// Joins the other entries into the first with what is ready for each, from the last to the first.
+/// So what was found at a key is still there when its turn comes.
 fn join_parts<K: MapKey, V: Join>(
     entries: &mut Vec<(K, V)>,
     others: &[(K, V)],
@@ -218,7 +220,7 @@ pub(crate) fn adds_few<K: MapKey, V: Join>(a: &[(K, V)], b: &[(K, V)]) -> bool
     true
 }
 
-/// Makes ready what the join in place takes, where the first entries have that much room.
+/// Makes ready what the join in place needs, if the first entries have the capacity `has`.
 pub(crate) fn make_parts<K: MapKey, V: Join>(
     alloc: Global,
     a: &[(K, V)],
@@ -249,8 +251,8 @@ pub(crate) fn join_with<K: MapKey, V: Join>(
     join_parts(entries, others, ready.parts);
 }
 
-/// Joins the other entries into the first, once all is ready and there is room. It fails only where
-/// an allocation fails, and then the first are as they were.
+/// Joins the other entries into the first, once all is ready and there is room. An error means that
+/// an allocation failed: the first entries are then unchanged.
 pub(crate) fn join_entries<K: MapKey, V: Join>(
     alloc: Global,
     entries: &mut Vec<(K, V)>,

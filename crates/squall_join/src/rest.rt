@@ -9,8 +9,8 @@ use crate::map::MapKey;
 use crate::search::{reach, value_at};
 use std::alloc::{AllocError, Global};
 
-/// Adds what the entry's value has beyond the one that was found, where that is not the least
-/// value, and the whole where none was found.
+/// Adds what the entry's value has beyond the one that was found, unless that is the least value.
+/// If none was found, it adds the whole entry.
 fn push_rest<K: MapKey, V: Beyond>(
     alloc: Global,
     out: &mut Vec<(K, V)>,
@@ -34,8 +34,8 @@ fn push_rest<K: MapKey, V: Beyond>(
     Ok(())
 }
 
-/// What the first entries have beyond the second, by a search for each key from the place of the
-/// one before it on.
+/// What the first entries have beyond the second. Each key is searched from the index of the key
+/// before it on.
 pub(crate) fn rests<K: MapKey, V: Beyond>(
     alloc: Global,
     a: &[(K, V)],

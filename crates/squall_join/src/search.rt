@@ -1,4 +1,4 @@
-//! Where a key stands among the entries of a map.
+//! Searches for a key among the entries of a map.
 
 ghost use Rattle.std.specs.Prelude.{T, option_copied, ◌≡◌, IfOk, IfErr};
 ghost use Rattle.std.specs.FinMap.Entries.{is_sorted, find};
@@ -7,7 +7,7 @@ ghost use Rattle.squall_join.specs.Entries.{IsPlace, IsAmong, IsFrom, IsAt, IsGa
 use crate::Join;
 use crate::map::MapKey;
 
-/// How many entries have smaller keys, where that is known to be at least `low`, and at most
+/// How many entries have smaller keys, if that is known to be at least `low` and at most
 /// `low + left`.
 fn place_among<K: MapKey, V: Join>(entries: &[(K, V)], key: K, low: usize, left: usize) -> usize
     requires sorted { T (is_sorted K.cmp entries.now) }
@@ -35,9 +35,8 @@ pub(crate) fn place_of<K: MapKey, V: Join>(entries: &[(K, V)], key: K) -> usize
     place_among(entries, key, 0, entries.len())
 }
 
-/// How many entries have smaller keys, where the first `from` have. It looks further and further
-/// from there on, by doubled steps, and then within the last one, so that it costs little where
-/// the place is near.
+/// How many entries have smaller keys, if the first `from` have. It looks from there on by doubled
+/// steps, and then within the last one. So it takes little time if the index is near.
 pub(crate) fn reach<K: MapKey, V: Join>(entries: &[(K, V)], key: K, from: usize) -> usize
     requires sorted { T (is_sorted K.cmp entries.now) }
     requires from { IsFrom K.cmp entries.now key from }
@@ -55,7 +54,7 @@ pub(crate) fn reach<K: MapKey, V: Join>(entries: &[(K, V)], key: K, from: usize)
     low
 }
 
-/// The value at a key that has that place. None where the key is absent.
+/// The value at a key, if `at` entries have smaller keys. None if the key is absent.
 pub(crate) fn value_at<K: MapKey, V: Join>(entries: &[(K, V)], key: K, at: usize) -> Option<&V>
     requires sorted { T (is_sorted K.cmp entries.now) }
     requires place { IsPlace K.cmp entries.now key at }
@@ -68,7 +67,7 @@ pub(crate) fn value_at<K: MapKey, V: Join>(entries: &[(K, V)], key: K, at: usize
     }
 }
 
-/// Where the key is, or where it would go.
+/// The index of the key, or as an error the index at which it would be inserted.
 pub(crate) fn seek<K: MapKey, V: Join>(entries: &[(K, V)], key: K) -> Result<usize, usize>
     requires { T (is_sorted K.cmp entries.now) }
     ensures found { IfOk result (IsAt K.cmp entries.now key) }

@@ -15,16 +15,16 @@ use std::mem;
 /// The most spans that are added in place.
 const FEW: usize = 64;
 
-/// Whether so many spans are added to so many in place.
+/// Whether `more` spans are added in place to a set of `spans` spans.
 ///
-/// Each is a search and a move of what follows it, where a union copies each span once. So one
-/// span in place takes about as long as the union of a set of eight, and of a larger set the more
-/// the more it has to move.
+/// Each is a search and a move of what follows it, and a union copies each span once. One span in
+/// place takes about as long as the union of a set of eight. In a larger set it takes longer, since
+/// it moves more.
 fn are_few(more: usize, spans: usize) -> bool {
     more <= FEW && more <= spans / 8
 }
 
-/// Adds the spans from the last on, in room that is there.
+/// Adds the spans from the last to the first, in spare capacity.
 fn insert_all(mut set: ReadySet, spans: &[Span]) -> ReadySet
     requires { length spans.now ≤ set.room }
     ensures { result.set ≡ union set.set spans.now }
@@ -37,8 +37,8 @@ fn insert_all(mut set: ReadySet, spans: &[Span]) -> ReadySet
     set
 }
 
-/// Adds the spans in place, once there is room for all. It fails only where an allocation fails,
-/// and then the set is as it was.
+/// Adds the spans in place, once there is room for all. An error means that an allocation failed:
+/// the set is then unchanged.
 fn insert_few(alloc: Global, set: &mut SpanSet, spans: &[Span]) -> Result<(), AllocError>
     ensures ok { OnOk result (set.new ≡ union set.old spans.now) }
     ensures err { OnErr result (set.new ≡ set.old) }
@@ -87,8 +87,8 @@ impl Join for SpanSet {
         SpanSet::covers(self, other)
     }
 
-    /// Adds a few spans to a copy of many, since that copies spans in one block. Of others it makes
-    /// the union.
+    /// Adds a few spans to a copy of many, since that copies spans in one block. Else it makes the
+    /// union.
     fn joined(&self, alloc: Global, other: &SpanSet) -> Result<SpanSet, AllocError> {
         let spans = other.spans();
         if are_few(spans.len(), self.spans().len()) {
@@ -104,7 +104,7 @@ impl Join for SpanSet {
     }
 
     /// Adds one span in place, and a few to many: each takes a binary search and a move of the
-    /// spans behind it. Of others it makes the union, which takes the sum of both.
+    /// spans behind it. Else it makes the union, whose time grows with the sum of both.
     fn join_in(&mut self, alloc: Global, other: &SpanSet) -> Result<(), AllocError> {
         let spans = other.spans();
         if spans.len() == 1 {
@@ -118,8 +118,7 @@ impl Join for SpanSet {
         Ok(())
     }
 
-    /// The joined set: of a set contracts see no room, so what is sure to be added is a set of its
-    /// own.
+    /// The joined set. Contracts see no spare capacity of a set, so what is ready is a whole set.
     fn make_ready(&self, alloc: Global, other: &SpanSet) -> Result<SpanSet, AllocError> {
         self.joined(alloc, other)
     }

@@ -37,8 +37,8 @@ impl<T> Shared<T> {
         &self.value
     }
 
-    /// One more owner of the same value, of which nothing is copied. It fails only where the count of
-    /// owners is full.
+    /// One more owner of the same value, of which nothing is copied. An error means that the count
+    /// of owners is full.
     pub fn again(&self) -> Result<Shared<T>, AllocError>
         ensures { IfOk result (λ v. v ≡ self.now) }
     {
@@ -64,7 +64,7 @@ impl<T: Exact> Exact for Shared<T> {
         value.is_same(&other.value)
     }
 
-    /// One more owner. It fails only where the count of owners is full.
+    /// One more owner. An error means that the count of owners is full.
     fn copied(&self, _alloc: Global) -> Result<Shared<T>, AllocError> {
         self.again()
     }

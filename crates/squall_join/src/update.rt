@@ -7,29 +7,29 @@ ghost use Rattle.squall_join.specs.Entries.{merged};
 use crate::{Join, JoinMap, MapKey};
 use std::alloc::{AllocError, Global};
 
-/// What stands for a value that is not the least, and is joined into another in place. A value
-/// of its own is built only where there is none to join it into.
+/// A value other than the least one, in a form that is joined into another in place. It is built as
+/// a value of its own only if there is none to join it into.
 pub trait Update<V: Join>: Drop {
-    /// The value that the update stands for.
+    /// The value of the update.
     ghost value: { Self → V };
 
-    /// Shows what holds of the value that the update stands for. It does nothing.
+    /// Shows what holds of the value of the update. It does nothing.
     fn known(&self)
         ensures value { V.is_value (value self.now) }
         ensures kept { value self.now ≢ V.bottom };
 
-    /// The value that the update stands for. It fails only where an allocation fails.
+    /// The value of the update, as a value of its own. An error means that an allocation failed.
     fn build(&self, alloc: Global) -> Result<V, AllocError>
         ensures { IfOk result (λ v. v ≡ value self.now) };
 
-    /// Joins the update into a value. It fails only where an allocation fails, and then the value
-    /// is as it was.
+    /// Joins the update into a value. An error means that an allocation failed: the value is then
+    /// unchanged.
     fn apply(&self, alloc: Global, target: &mut V) -> Result<(), AllocError>
         ensures ok { OnOk result (target.new ≡ V.join target.old (value self.now)) }
         ensures err { OnErr result (target.new ≡ target.old) };
 }
 
-/// A borrowed value, which stands for itself.
+/// A borrowed value, which is the value of the update.
 #[derive(Drop)]
 pub(crate) struct Borrowed<'a, V: Join> {
     pub(crate) value: &'a V,
@@ -52,7 +52,7 @@ impl<'a, V: Join> Update<V> for Borrowed<'a, V> {
     }
 }
 
-/// An update of the value at a key of a map. It stands for the map of that entry alone.
+/// An update of the value at a key of a map. Its value is the map of that entry alone.
 #[derive(Drop)]
 pub struct UpdateAt<K, U> {
     /// The key.
@@ -100,9 +100,10 @@ fn make_room<K: MapKey, V: Join>(entries: &mut Vec<(K, V)>) -> Result<(), AllocE
     entries.reserve(1)
 }
 
-/// Puts an entry at a place, before those from there on.
+/// Inserts an entry at an index, before those from there on.
 ///
-/// In place of `Vec::insert`, since a rotation by one compiles to one block move of what follows.
+/// It is used in place of `Vec::insert`, since a rotation by one compiles to one block move of what
+/// follows.
 fn put<K: MapKey, V: Join>(
     entries: &mut Vec<(K, V)>,
     at: usize,
@@ -119,9 +120,9 @@ fn put<K: MapKey, V: Join>(
 }
 
 impl<K: MapKey, V: Join> JoinMap<K, V> {
-    /// Joins an update into the value at a key, by a binary search. Where the key is absent it
-    /// puts in the value that the update stands for. It fails only where an allocation fails, and
-    /// then the map is as it was.
+    /// Joins an update into the value at a key, by a binary search. If the key is absent, it
+    /// inserts the value of the update. An error means that an allocation failed: the map is then
+    /// unchanged.
     pub fn update_at<U: Update<V>>(
         &mut self,
         alloc: Global,

@@ -1,6 +1,7 @@
 //! Tests of joins.
 
 mod clients;
+mod example;
 mod in_place;
 mod shared;
 mod tolerant;
