@@ -26,7 +26,7 @@ pub merged_is : (r : Result (Unit {0}) AllocError) (new x y : BoardValue) → On
 merged_is (Ok u) new x y ok err a b = subst IsBoard (sym ok) (join_is x y a b)
 merged_is (Err e) new x y ok err a b = subst IsBoard (sym err) a
 
--- ---- what is joined into one of the three maps, where the others stay as they are
+-- ---- what is joined into one of the three maps; the others are unchanged
 
 merged_none : {V : Type 0} (join : V → V → V) (es : List (ℕ × V)) → merged nat_cmp join es [] ≡ es
 merged_none join [] = refl

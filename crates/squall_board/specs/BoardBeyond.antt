@@ -10,13 +10,13 @@ use Rattle.squall_report.specs.Cells.{CellPlace}
 use Rattle.squall_report.specs.Facts.{LoadedKey, DonePart}
 use Rattle.squall_board.specs.Boards.{CellValue, Parts, Subs, Cells, BoardValue, cell_bottom, opened_count, issued, says}
 
--- what is issued where the other does not cover it: one pair of plans beyond nothing and beyond another pair, and a clash
--- beyond all but a clash
+-- what is issued, if the other does not cover it: one pair of plans beyond nothing and beyond another pair, and a clash beyond
+-- all but a clash
 abbrev pub issue_beyond : Flat PlanPair → Flat PlanPair → Flat PlanPair
 issue_beyond = flat_beyond is_same_pair
 
 -- what the first board tells that the second does not: the loads and completions that it lacks, each count of openings that is
--- greater than its own, and what is issued under each number where it does not cover it
+-- greater than its own, and what is issued under each number unless the second covers it
 pub record TellsBeyond (a b c : BoardValue) : Type 0 where
   pub loaded : (p : CellPlace) (k : ℕ) → says c (LoadedKey p k) ≡ (says a (LoadedKey p k) && not (says b (LoadedKey p k)))
   pub done : (p : CellPlace) → says c (DonePart p) ≡ (says a (DonePart p) && not (says b (DonePart p)))
@@ -25,7 +25,7 @@ pub record TellsBeyond (a b c : BoardValue) : Type 0 where
 
 -- ---- as nested maps
 
--- the keys of the cell that the other lacks, and done where the other is not
+-- the keys of the cell that the other lacks, and done if the cell is done and the other is not
 abbrev pub cell_beyond : CellValue → CellValue → CellValue
 cell_beyond = pair_beyond minus flag_beyond
 

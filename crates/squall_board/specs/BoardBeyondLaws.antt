@@ -137,7 +137,7 @@ says_same a b c d p q (OpenedSub n s) = opened_found c n s ∙ ap (nat_lt s) (p.
 pub one_rest : (a b c d : BoardValue) → IsBoard c → IsBoard d → TellsBeyond a b c → TellsBeyond a b d → c ≡ d
 one_rest a b c d x y p q = same_board c d x.nested y.nested (record { facts = says_same a b c d p q; issues = λ n. p.issues n ∙ sym (q.issues n) })
 
--- beyond a board that covers it a board tells nothing
+-- a board tells nothing beyond a board that covers it
 pub rest_of_covered : (a b c : BoardValue) → IsBoard a → IsBoard b → IsBoard c → board_join b a ≡ b → TellsBeyond a b c → c ≡ empty_board
 rest_of_covered a b c x y z covers p =
     one_rest a b c (board_beyond a b) z (beyond_is a b x y) p (beyond_tells a b x.nested y.nested)

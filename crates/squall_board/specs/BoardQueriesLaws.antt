@@ -25,7 +25,7 @@ board_says_by_queries b (OpenedSub n s) = opened_found b n s
 pub board_told_by_queries : (b : BoardValue) → SameTold (told b) (told_by_queries (queries_of b))
 board_told_by_queries b = record { facts = board_says_by_queries b; issues = λ n. refl }
 
--- a board has taken a list where it has the list's queries
+-- a board has taken a list if it has the list's queries
 pub taken_queries : (b : BoardValue) (rs : List (ReportKind PlanPair)) → HasTaken b rs ↔ SameQueries (queries_of b) (queries_by rs)
 taken_queries b rs = (
   λ taken. (told_by_same (queries_of b) (queries_by rs)).1 (record {
@@ -69,7 +69,7 @@ taken_join z x t added is = (
   },
 )
 
--- a board tells what two others tell, and nothing else, where it has their joined queries
+-- a board tells what two others tell, and nothing else, if it has their joined queries
 pub merged_queries : (z x y : BoardValue) → TellsBoth (told z) (told x) (told y) ↔ SameQueries (queries_of z) (joined_queries (queries_of x) (queries_of y))
 merged_queries z x y = taken_join z x (told y) (queries_of y) (board_told_by_queries y)
 
@@ -77,6 +77,6 @@ merged_queries z x y = taken_join z x (told y) (queries_of y) (board_told_by_que
 pub report_join : (z x : BoardValue) (r : ReportKind PlanPair) → TellsBoth (told z) (told x) (told_by_report r) ↔ SameQueries (queries_of z) (joined_queries (queries_of x) (queries_by_report r))
 report_join z x r = taken_join z x (told_by_report r) (queries_by_report r) (report_told_by_queries r)
 
--- and so it is with a list of reports
+-- the same for a list of reports
 pub reports_join : (z x : BoardValue) (rs : List (ReportKind PlanPair)) → TellsBoth (told z) (told x) (told_by rs) ↔ SameQueries (queries_of z) (joined_queries (queries_of x) (queries_by rs))
 reports_join z x rs = taken_join z x (told_by rs) (queries_by rs) (told_by_its_queries rs)

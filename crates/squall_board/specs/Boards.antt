@@ -83,8 +83,7 @@ is_nested = pair_is (pair_is (IsMap nat_cmp is_max 0) (IsMap nat_cmp issue_is Un
 abbrev pub empty_board : BoardValue
 empty_board = board_of [] [] []
 
--- at each number the greater count, what is issued where both are told, and in each cell the keys of both and
--- done where either is
+-- at each number the greater count and the join of what both issue, and in each cell the keys of both, and done if either is
 abbrev pub board_join : BoardValue → BoardValue → BoardValue
 board_join = pair_join (pair_join (merged nat_cmp max) (merged nat_cmp both_issued)) (merged nat_cmp (merged nat_cmp (merged nat_cmp cell_join)))
 
@@ -120,7 +119,7 @@ HasTaken b rs = SameTold (told b) (told_by rs)
 
 -- ---- boards of one thing
 
--- what a cell says: its keys loaded, and its partition done where it is complete
+-- what a cell says: its keys loaded, and its partition done if it is complete
 abbrev pub cell_says : CellPlace → CellValue → Fact → Bool
 cell_says place cell (LoadedKey c k) = is_same_cell place c && has cell.first k
 cell_says place cell (DonePart c) = is_same_cell place c && cell.second
@@ -181,7 +180,7 @@ report_board (Issued number issue) = issue_board number (One issue)
 
 -- ---- its cells
 
--- what a map has at a key, where there is a map
+-- what a map has at a key, if there is a map
 abbrev pub found_in : {V : Type 0} → ℕ → Option (List (ℕ × V)) → Option V
 found_in q None = None
 found_in q (Some es) = find nat_cmp q es

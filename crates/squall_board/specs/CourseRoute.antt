@@ -1,4 +1,4 @@
--- Where a first course, and what was told since, send a key (this project: the newest course that is known decides).
+-- To which partition a first course, and what was told since, send a key (this project: the newest course that is known decides).
 use Rattle.std.specs.Prelude.{◌≡◌, ℕ, List, Option, None, Some}
 use Rattle.squall_course.specs.Change.{Change}
 use Rattle.squall_report.specs.declared.report.ReportKind.{ReportKind}
@@ -10,7 +10,7 @@ use Rattle.squall_board.specs.Boards.{BoardValue, says}
 use Rattle.squall_board.specs.Newest.{newest_of}
 use Rattle.squall_board.specs.Route.{route}
 
--- the newest course after the first, where there is one, and else the first
+-- the newest course after the first, if there is one, and else the first
 abbrev pub course_by : Change → Option (ℕ × PlanPair) → Change
 course_by first None = first
 course_by first (Some e) = record { number = e.0; old = e.1.old; new = e.1.new }
@@ -23,7 +23,7 @@ course_of_board first b = course_by first (newest_of b first.number)
 abbrev pub course_of_reports : Change → List (ReportKind PlanPair) → Change
 course_of_reports first rs = course_by first (newest_by rs first.number)
 
--- by queries that is the course: the newest after the first, or the first where there is none
+-- by queries that is the course: the newest after the first, or the first if there is none
 abbrev pub IsCourseBy : Change → Queries → Change → Type 0
 IsCourseBy first t c = (newest : Option (ℕ × PlanPair)) × IsNewest t.issued first.number newest × (c ≡ course_by first newest)
 

@@ -1,4 +1,4 @@
--- Boards compared (this project: boards are equal where all that they hold is).
+-- Boards compared (this project: boards are equal if all that they hold is).
 use Rattle.std.specs.Prelude.{ℕ, Bool, true, false, not, ◌&&◌, ◌==◌, List}
 use Rattle.std.specs.Cmp.Lexicographic.{pointwise}
 use Rattle.squall_span.specs.Spans.{spans_eq}

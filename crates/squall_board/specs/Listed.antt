@@ -39,11 +39,11 @@ has_spans (s ∷ ss) = true
 abbrev pub is_entry : CellEntry → Bool
 is_entry c = is_cell_place c.cell && (c.complete || has_spans c.spans)
 
--- the cell, where it may stand on a board
+-- the cell, if a board may hold it
 abbrev pub entry_of : ℕ → ℕ → ℕ → Bool → List Interval → Option CellEntry
 entry_of n s p complete spans = if is_entry (entry_with (place_at n s p) complete spans) then Some (entry_with (place_at n s p) complete spans) else None
 
--- a cell: it may stand on a board, and its spans are a set of keys
+-- a cell: a board may hold it, and its spans are a set of keys
 pub record IsCell (c : CellEntry) : Type 0 where
   pub entry : is_entry c ≡ true
   pub spans : IsSet c.spans
@@ -99,7 +99,7 @@ pub record AreCells (b : BoardValue) (cs : List CellEntry) : Type 0 where
 
 -- ---- openings
 
--- a count of opened sub-plans that may stand on a board
+-- a count of opened sub-plans that a board may hold
 abbrev pub IsOpening : Opening → Type 0
 IsOpening o = (1 ≤ o.number) × (0 < o.count) × (o.count ≤ part_limit)
 

@@ -1,4 +1,4 @@
--- Where a key is to be asked for, by the moves of a course (this project): tables are built of moves.
+-- Which partition to ask for a key, by the moves of a course (this project): tables are built of moves.
 use Rattle.std.specs.Prelude.{ℕ, Bool, false, ◌||◌, List, [], ◌∷◌, Option, None, Some, if◌then◌else◌}
 use Rattle.squall_span.specs.Spans.{has}
 use Rattle.squall_plan.specs.declared.range.PlanRange.{PlanRange}
@@ -21,7 +21,7 @@ has_come_to says cell k = says (LoadedKey cell k) || says (DonePart cell)
 abbrev pub route_in_move : ℕ → (Fact → Bool) → Move → ℕ → ℕ
 route_in_move number says m k = if has_come_to says (cell_to number m) k then m.dest else m.source
 
--- the partition of a key by the first move that has it, and its owner in the old plan where none has it
+-- the partition of a key by the first move that has it, and its owner in the old plan if none has it
 abbrev pub route_by_moves : ℕ → List PlanRange → List Move → (Fact → Bool) → ℕ → ℕ
 route_by_moves number old [] says k = owner_of old k
 route_by_moves number old (m ∷ ms) says k = if move_has k m then route_in_move number says m k else route_by_moves number old ms says k

@@ -60,7 +60,7 @@ eq_cases n m = elim (cases_lt n m) [
   | inr ge ↦ elim (cases_lt m n) [ inl lt ↦ inr (λ e. omega (arith, e)) | inr le ↦ inl (omega arith) ]
 ]
 
--- where no entry of the tail is newest, the head is, if it has one pair above the number
+-- if no entry of the tail is newest, the head is, as long as it has one pair above the number
 none_in_tail : (low n : ℕ) (x : Flat PlanPair) (es : List (ℕ × Flat PlanPair)) → IsNewest (at es) low None → IsNewest (at ((n, x) ∷ es)) low (one_above low (n, x))
 none_in_tail low n Unknown es none = λ m gt p h. elim (eq_cases m n) [
   | inl s ↦ no_one p (sym (at_head (n, Unknown) es) ∙ ap (at ((n, Unknown) ∷ es)) (sym s) ∙ h)

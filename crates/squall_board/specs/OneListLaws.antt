@@ -1,4 +1,4 @@
--- What lists the openings, the issues or the cells of a board is the board's own list of them.
+-- A list of the openings, the issues or the cells of a board is the board's own list of them.
 use Rattle.std.specs.Prelude.{◌≡◌, ◌≢◌, ℕ, ◌<◌, ◌==◌, Bool, true, false, cond, ◌||◌, ◌&&◌, T, map, List, [], ◌∷◌, Some, refl}
 use Rattle.std.proofs.Common.{sym, ap, subst, ◌∙◌, arith, inl, inr, Less, Equal, Greater}
 use Rattle.std.proofs.lemmas.Bool.{true≢false}

@@ -1,4 +1,4 @@
--- What stands at the places of the cells of a board.
+-- What is found at the places of the cells of a board.
 use Rattle.std.specs.Prelude.{◌≡◌, ℕ, ◌<◌, ◌==◌, false, cond, List, [], ◌∷◌, Some}
 use Rattle.std.proofs.Common.{ap, ◌∙◌, arith}
 use Rattle.std.proofs.lemmas.Bool.Decides.{nat_tests}
@@ -33,7 +33,7 @@ module _ (b : BoardValue) where
       (all_both (λ e. find nat_cmp e.0 subs ≡ Some e.1) (λ e. KeysRise e.1) (λ e. AllByRecursion (λ c. cell_of b c.cell ≡ Some (entry_value c)) (cells_of_parts n e.0 e.1)) subs (all_found subs r.0) r.1
       (λ e f k. parts_found n e.0 e.1 k (ap (found_in e.0) h ∙ f)))
 
--- at the place of each cell of a board stands that cell
+-- each cell of a board is found at its place
 pub cells_found : (b : BoardValue) → IsBoard b → AllByRecursion (λ c. cell_of b c.cell ≡ Some (entry_value c)) (cells_of b)
 cells_found b is = all_flat (λ e. cells_of_subs e.0 e.1) (λ c. cell_of b c.cell ≡ Some (entry_value c)) (cells_in b)
     (all_both (λ e. find nat_cmp e.0 (cells_in b) ≡ Some e.1) (λ e. SubsRise e.1) (λ e. AllByRecursion (λ c. cell_of b c.cell ≡ Some (entry_value c)) (cells_of_subs e.0 e.1)) (cells_in b) (all_found (cells_in b) (keys_rise (cells_in b) is.nested.1.sorted)) (numbers_keys (cells_in b) is.nested.1)

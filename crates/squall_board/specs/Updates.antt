@@ -1,4 +1,4 @@
--- What stands for a value that a board takes in place.
+-- Updates of values that a board takes in place.
 use Rattle.std.specs.Arc.{arc_value}
 use Rattle.squall_join.specs.declared.flat.Flat.{Flat}
 use Rattle.squall_join.specs.declared.flat.Flat.TheVariants.{One as One_pair, Clash as No_pair}

@@ -12,8 +12,8 @@ use std::alloc::{AllocError, Global};
 impl Board {
     /// What this board tells beyond the other: the loads and completions that the other lacks, each
     /// count of openings greater than the other's, and what is issued under each number unless the
-    /// other covers it. It fails where an allocation fails, or where the count of an issue's owners
-    /// is full.
+    /// other covers it. An error means that an allocation failed, or that the count of an issue's
+    /// owners is full.
     pub fn beyond(&self, alloc: Global, other: &Board) -> Result<Board, AllocError>
         ensures told { IfOk result (λ c. TellsBeyond self.now other.now c) }
         ensures joined { IfOk result (λ c. board_join c other.now ≡ board_join self.now other.now) }
@@ -34,7 +34,7 @@ pub fn one_beyond(a: &Board, b: &Board, c: &Board, d: &Board)
     d.known();
 }
 
-/// Beyond a board that covers it a board tells nothing.
+/// A board tells nothing beyond a board that covers it.
 pub fn beyond_covered_is_empty(a: &Board, b: &Board, c: &Board)
     ensures { TellsAll (told b.now) (told a.now) → TellsBeyond a.now b.now c.now → c.now ≡ empty_board }
 {

@@ -90,7 +90,7 @@ fn has_or_done(cell: &CellParts, key: Key) -> bool
     cell.first.has(key) || cell.second.get()
 }
 
-/// What the map, where there is one, has at the key.
+/// What the map has at the key, if there is a map.
 fn found_in<V: Join>(map: Option<&JoinMap<u32, V>>, key: u32) -> Option<&V>
     ensures { option_copied result ≡ found_in key (option_copied map.entry) }
 {
@@ -144,8 +144,8 @@ impl Board {
     }
 
     /// Takes a report, in place: a binary search for each level of the cell, and at most one
-    /// insertion. It fails where an allocation fails, or where the count of an issue's owners is
-    /// full, and then the board is as it was.
+    /// insertion. An error means that an allocation failed, or that the count of an issue's owners
+    /// is full: the board is then unchanged.
     pub fn take(&mut self, report: &Report) -> Result<(), AllocError>
         ensures takes { OnOk result (TakesReport self.old report.now self.new) }
         ensures err { OnErr result (self.new ≡ self.old) }
@@ -165,8 +165,8 @@ impl Board {
         }
     }
 
-    /// Takes each report of the list, or none of them. It fails where an allocation fails, and
-    /// then the board is as it was.
+    /// Takes each report of the list, or none of them. An error means that an allocation failed:
+    /// the board is then unchanged.
     pub fn take_all(&mut self, reports: &[Report]) -> Result<(), AllocError>
         ensures takes { OnOk result (TakesReports self.old reports.now self.new) }
         ensures err { OnErr result (self.new ≡ self.old) }
@@ -175,8 +175,8 @@ impl Board {
         self.merge(&delta)
     }
 
-    /// Takes all that the other board tells. It fails where an allocation fails, and then the
-    /// board is as it was.
+    /// Takes all that the other board tells. An error means that an allocation failed: the board is
+    /// then unchanged.
     pub fn merge(&mut self, other: &Board) -> Result<(), AllocError>
         ensures takes { OnOk result (TakesBoard self.old other.now self.new) }
         ensures err { OnErr result (self.new ≡ self.old) }
@@ -204,7 +204,7 @@ impl Board {
         found_in(parts, part)
     }
 
-    /// What was reported of the cell, by binary searches. None where nothing was.
+    /// What was reported of the cell, by binary searches. None if nothing was.
     pub fn cell_at(&self, cell: CellId) -> Option<&CellParts>
         ensures { option_copied result ≡ cell_of self.now cell }
     {
@@ -242,7 +242,7 @@ impl Board {
         }
     }
 
-    /// What is issued under that number: nothing, the issue of one pair of plans, or a clash where
+    /// What is issued under that number: nothing, the issue of one pair of plans, or a clash if
     /// different pairs were.
     pub fn issuing(&self, number: u32) -> Flat<&Arc<Issue>>
         ensures { flat_map (λ issue. arc_value issue.now) result ≡ issued self.now number }
@@ -255,7 +255,7 @@ impl Board {
     }
 
     /// Whether a report said the key loaded at the partition, or the partition done, in that
-    /// sub-plan of that number: from one look-up of the cell.
+    /// sub-plan of that number. It looks up the cell once.
     fn has_come(&self, number: u32, sub: u32, part: u32, key: Key) -> bool
         ensures { result ≡ (says self.now (LoadedKey (place_at number sub part) key) || says self.now (DonePart (place_at number sub part))) }
     {
@@ -265,9 +265,9 @@ impl Board {
         }
     }
 
-    /// The partition to ask for the key while the course runs: its new one where it does not
-    /// move, or where its load there or that partition's completion was reported for the key's own
-    /// sub-plan of the course's number, and else its old one.
+    /// The partition to ask for the key while the course runs: the new one if the key does not move
+    /// or has come there, and else the old one. A key has come if its load there, or that
+    /// partition's completion, was reported for its own sub-plan of the course's number.
     pub fn route(&self, course: &Course, key: Key) -> PartId
         ensures { result ≡ route course.now (says self.now) key }
     {
@@ -282,7 +282,7 @@ impl Board {
         }
     }
 
-    /// A copy, which tells the same. It fails where an allocation fails.
+    /// A copy, which tells the same. An error means that an allocation failed.
     pub fn copied(&self, alloc: Global) -> Result<Board, AllocError>
         ensures { IfOk result (λ b. b ≡ self.now) }
     {
@@ -291,7 +291,7 @@ impl Board {
     }
 }
 
-/// Boards are equal where all that they hold is, and so where they tell the same.
+/// Boards are equal if all that they hold is equal, and so if they tell the same.
 impl PartialEq for Board {
     ghost eq = { is_same_board };
 

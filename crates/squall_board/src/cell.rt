@@ -31,9 +31,9 @@ impl Model for Cell {
 }
 
 impl Cell {
-    /// The cell of that partition in that sub-plan of the reconfiguration of that number. None
-    /// where the number is 0, the sub-plan or the partition above 9999, or where the cell says
-    /// nothing: not complete, and no key.
+    /// The cell of that partition in that sub-plan of the reconfiguration of that number. None if
+    /// the number is 0, if the sub-plan or the partition is above 9999, or if the cell says
+    /// nothing: it is not complete, and has no key.
     pub fn new(number: u32, sub: u32, part: u32, complete: bool, spans: SpanSet) -> Option<Cell>
         ensures { result ≡ entry_of number sub part complete spans }
     {
@@ -50,7 +50,7 @@ impl Cell {
         })
     }
 
-    /// Where the cell stands.
+    /// The place of the cell: its number, its sub-plan and its partition.
     pub fn place(&self) -> CellId
         ensures { result ≡ self.now.cell }
     {

@@ -33,8 +33,8 @@ pub fn equal_facts_equal_boards(first: &Board, second: &Board)
     second.known();
 }
 
-/// Boards are equal that say the same of each fact within the limits of facts (so of keys below
-/// the top alone), and issue the same under each number from 1 on.
+/// Boards are equal if they say the same of each fact within the limits of facts, and issue the
+/// same under each number from 1 on. Of keys, only those below the top count.
 pub fn equal_facts_within_limits(first: &Board, second: &Board)
     ensures { ((fact : Fact) → is_fact fact ≡ true → says first.now fact ≡ says second.now fact)
         → ((number : ℕ) → 1 ≤ number → issued first.now number ≡ issued second.now number) → first.now ≡ second.now }
@@ -51,9 +51,9 @@ pub fn facts_lie_within_the_limits(board: &Board)
     board.known();
 }
 
-/// Boards that have taken lists of reports that tell the same are equal: whatever the order of
-/// the reports, how often each came, how loads were cut into spans, and whether they came alone,
-/// in lists or in merged boards.
+/// Boards that have taken lists of reports that tell the same are equal. The order of the reports,
+/// how often each came, and how loads were cut into spans make no difference. Nor does it matter
+/// whether they came alone, in lists or in merged boards.
 ///
 /// That a board has taken a list is ensured by [`Board::new`], [`Board::take`],
 /// [`Board::take_all`] and [`Board::merge`].

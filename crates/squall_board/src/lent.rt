@@ -70,7 +70,7 @@ impl Board {
     }
 
     /// The cells of which something was reported, each with its place, by rising number, sub-plan
-    /// and partition. No keys are copied. It fails where an allocation fails.
+    /// and partition. No keys are copied. An error means that an allocation failed.
     pub fn lent_cells(&self) -> Result<Vec<(CellId, &CellParts)>, AllocError>
         ensures { IfOk result (λ cells. map (λ c. cell_entry c.0 c.1.now) cells.items ≡ cells_of self.now) }
     {

@@ -81,7 +81,7 @@ fn openings_of(alloc: Global, counts: &[(u32, Max)]) -> Result<Vec<Opening>, All
     Ok(openings)
 }
 
-/// One more owner of the issue, where there is one.
+/// One more owner of the issue, if there is one.
 fn owned(issue: &Flat<Shared<Issue>>) -> Result<Flat<Arc<Issue>>, AllocError>
     ensures { IfOk result (λ owned. flat_map arc_value owned ≡ issue.now) }
 {
@@ -107,7 +107,7 @@ fn owned_all(
 }
 
 impl Board {
-    /// How many sub-plans are opened, by rising number. It fails where an allocation fails.
+    /// How many sub-plans are opened, by rising number. An error means that an allocation failed.
     pub fn openings(&self) -> Result<Vec<Opening>, AllocError>
         ensures openings { IfOk result (λ os. os.items ≡ openings_of self.now) }
         ensures listed { IfOk result (λ os. AreOpenings self.now os.items) }
@@ -116,8 +116,8 @@ impl Board {
         openings_of(self.allocator(), self.opening_map().entries())
     }
 
-    /// What is issued, by rising number, and a clash where different pairs of plans were. Issues
-    /// are shared, and not copied. It fails where an allocation fails, or where the count of an
+    /// What is issued, by rising number, and a clash if different pairs of plans were. Issues are
+    /// shared, and not copied. An error means that an allocation failed, or that the count of an
     /// issue's owners is full.
     pub fn issues(&self) -> Result<Vec<(u32, Flat<Arc<Issue>>)>, AllocError>
         ensures issues { IfOk result (λ es. map (λ e. (e.0, flat_map arc_value e.1)) es.items ≡ issues_of self.now) }
@@ -137,7 +137,7 @@ impl Board {
     }
 
     /// What was reported of each partition in each sub-plan, by rising number, sub-plan and
-    /// partition. It fails where an allocation fails.
+    /// partition. An error means that an allocation failed.
     pub fn cells(&self) -> Result<Vec<Cell>, AllocError>
         ensures cells { IfOk result (λ cs. cs.items ≡ cells_of self.now) }
         ensures listed { IfOk result (λ cs. AreCells self.now cs.items) }

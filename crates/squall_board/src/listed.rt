@@ -27,28 +27,28 @@ pub fn lists_determine_the_board(board: &Board, other: &Board)
     other.known();
 }
 
-/// What lists the openings of a board is the board's own list of them.
+/// A list of the openings of a board is the board's own list of them.
 pub fn one_list_of_openings(board: &Board)
     ensures { (openings : List Opening) → AreOpenings board.now openings → openings ≡ openings_of board.now }
 {
     board.known();
 }
 
-/// What lists the issues of a board is the board's own list of them.
+/// A list of the issues of a board is the board's own list of them.
 pub fn one_list_of_issues(board: &Board)
     ensures { (issues : List (ℕ × Flat PlanPair)) → AreIssues board.now issues → issues ≡ issues_of board.now }
 {
     board.known();
 }
 
-/// What lists the cells of a board is the board's own list of them.
+/// A list of the cells of a board is the board's own list of them.
 pub fn one_list_of_cells(board: &Board)
     ensures { (cells : List CellEntry) → AreCells board.now cells → cells ≡ cells_of board.now }
 {
     board.known();
 }
 
-/// At the place of each cell of a board stands that cell.
+/// Each cell of a board is found at its place.
 pub fn cells_at_their_places(board: &Board)
     ensures { AllByRecursion (λ c. cell_of board.now c.cell ≡ Some (entry_value c)) (cells_of board.now) }
 {

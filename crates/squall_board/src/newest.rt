@@ -11,7 +11,7 @@ use squall_join::{Flat, Shared};
 use squall_report::Issue;
 use std::sync::Arc;
 
-/// The entry's number and issue, where it has one pair of plans and a number above `low`.
+/// The entry's number and issue, if it has one pair of plans and a number above `low`.
 fn one_above(entry: &(u32, Flat<Shared<Issue>>), low: u32) -> Option<(u32, &Arc<Issue>)>
     ensures { option_map (λ e. (e.0, arc_value e.1.now)) result ≡ one_above low entry.now }
 {
@@ -45,7 +45,7 @@ fn newest_in(issues: &[(u32, Flat<Shared<Issue>>)], low: u32) -> Option<(u32, &A
 impl Board {
     /// The newest course after the given first one: the greatest number above the first course's
     /// under which one pair of plans is issued, with its issue. A number under which different
-    /// pairs were issued is passed over. None where there is no such number.
+    /// pairs were issued is skipped. None if there is no such number.
     pub fn newest(&self, first: &Course) -> Option<(u32, &Arc<Issue>)>
         ensures newest { option_map (λ e. (e.0, arc_value e.1.now)) result ≡ newest_of self.now first.now.number }
         ensures meaning { IsNewest (issued self.now) first.now.number (option_map (λ e. (e.0, arc_value e.1.now)) result) }

@@ -18,8 +18,8 @@ use std::alloc::AllocError;
 use std::sync::Arc;
 
 impl Board {
-    /// Takes that the sub-plans of the opening's number below its count are opened. It fails
-    /// where an allocation fails, and then the board is as it was.
+    /// Takes the opening: the sub-plans of its number below its count are opened. An error means
+    /// that an allocation failed: the board is then unchanged.
     pub fn put_opening(&mut self, opening: &Opening) -> Result<(), AllocError>
         requires number { 1 ≤ opening.now.number }
         requires count { (0 < opening.now.count) × (opening.now.count ≤ part_limit) }
@@ -29,8 +29,8 @@ impl Board {
         self.update_opening(opening.number, opening.count)
     }
 
-    /// Takes what the cell says of its partition. It fails where an allocation fails, and then
-    /// the board is as it was.
+    /// Takes what the cell says of its partition. An error means that an allocation failed: the
+    /// board is then unchanged.
     pub fn put_cell(&mut self, cell: &Cell) -> Result<(), AllocError>
         ensures takes { OnOk result (TakesCell self.old cell.now.cell (entry_value cell.now) self.new) }
         ensures err { OnErr result (self.new ≡ self.old) }
@@ -38,9 +38,9 @@ impl Board {
         self.update_cell(cell.place(), WholeCell { cell })
     }
 
-    /// Takes all that the cells of a row say: of one number and sub-plan, by partition. The row is
-    /// copied where the board has none there. It fails where an allocation fails, and then the board
-    /// is as it was.
+    /// Takes all that the cells of a row say. The row has the cells of one number and sub-plan, by
+    /// partition. It is copied if the board has none there. An error means that an allocation
+    /// failed: the board is then unchanged.
     pub fn put_row(
         &mut self,
         number: u32,
@@ -58,9 +58,9 @@ impl Board {
         self.parts.second.update_at(alloc, number, &at_sub)
     }
 
-    /// Takes what is issued under the number, of which nothing is copied. It fails where
-    /// the count of the issue's owners is full, or an allocation fails, and then the board is as it
-    /// was.
+    /// Takes what is issued under the number, of which nothing is copied. An error means that an
+    /// allocation failed, or that the count of the issue's owners is full: the board is then
+    /// unchanged.
     pub fn put_issue(&mut self, number: u32, issue: &Flat<Arc<Issue>>) -> Result<(), AllocError>
         requires { 1 ≤ number }
         ensures takes { OnOk result (TakesIssue self.old number (flat_map arc_value issue.now) self.new) }

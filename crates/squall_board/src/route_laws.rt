@@ -62,7 +62,7 @@ pub fn route_by_report_queries()
     ensures { (first : Change) (rs : List (ReportKind PlanPair)) (k : ℕ) → IsRoutedBy first (queries_by rs) k (route_by_reports first rs k) }
 {}
 
-/// By a first course and the answers each key goes to one partition.
+/// A first course and the answers send each key to one partition.
 pub fn one_route()
     ensures { (first : Change) (t : Queries) (k p q : ℕ) → IsRoutedBy first t k p → IsRoutedBy first t k q → p ≡ q }
 {}
@@ -72,7 +72,7 @@ pub fn moves_give_the_route()
     ensures { (c : Change) (says : Fact → Bool) (ms : List Move) (k : ℕ) → AreMoves c.old c.new ms → route_by_moves c.number c.old ms says k ≡ route c says k }
 {}
 
-/// Whether a key has come to a cell is said by the board's cell alone.
+/// The board's cell alone says whether a key has come to it.
 pub fn coming_by_the_cell(board: &Board)
     ensures { (cell : CellPlace) (k : ℕ) → has_come_to (says board.now) cell k ≡ cell_has_come (cell_of board.now cell) k }
 {}

@@ -155,7 +155,7 @@ impl<'a> Update<Flat<Shared<Issue>>> for Issuing<'a> {
 }
 
 impl Board {
-    /// Joins an update into a cell, or puts in the cell that it stands for where there was none.
+    /// Joins an update into a cell, or inserts the value of the update if there was none.
     pub(crate) fn update_cell<U: Update<CellParts>>(
         &mut self,
         cell: CellId,
@@ -171,7 +171,7 @@ impl Board {
         self.parts.second.update_at(alloc, cell.number(), &at_sub)
     }
 
-    /// Takes that the sub-plans of the number below the count are opened.
+    /// Takes an opening: the sub-plans of the number below the count are opened.
     pub(crate) fn update_opening(&mut self, number: u32, count: u32) -> Result<(), AllocError>
         requires number { 1 ≤ number }
         requires count { (0 < count) × (count ≤ part_limit) }

@@ -1,6 +1,7 @@
 //! Queries of boards.
 
 mod clients;
+mod example;
 mod listed;
 mod rests;
 mod route_clients;
