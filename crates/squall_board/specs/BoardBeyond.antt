@@ -15,8 +15,8 @@ use Rattle.squall_board.specs.Boards.{CellValue, Parts, Subs, Cells, BoardValue,
 abbrev pub issue_beyond : Flat PlanPair → Flat PlanPair → Flat PlanPair
 issue_beyond = flat_beyond is_same_pair
 
--- what the first board tells that the second does not: the loads and completions that it lacks, each count of openings that is
--- greater than its own, and what is issued under each number unless the second covers it
+-- what the first board tells that the second does not: the loads and completions that it lacks, and each count of openings that
+-- is greater than its own. Also what is issued under each number, unless the second covers it
 pub record TellsBeyond (a b c : BoardValue) : Type 0 where
   pub loaded : (p : CellPlace) (k : ℕ) → says c (LoadedKey p k) ≡ (says a (LoadedKey p k) && not (says b (LoadedKey p k)))
   pub done : (p : CellPlace) → says c (DonePart p) ≡ (says a (DonePart p) && not (says b (DonePart p)))

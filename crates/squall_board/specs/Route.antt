@@ -1,5 +1,5 @@
--- Which partition to ask for a key while data moves (this project's rule: a key goes to its new partition only after its load
--- there, or that partition's completion, was reported; Squall, SIGMOD 2015, may send it earlier).
+-- Which partition to ask for a key while data moves (this project's rule; Squall, SIGMOD 2015, may send it earlier). A key goes
+-- to its new partition only after its load there, or that partition's completion, was reported.
 use Rattle.std.specs.Prelude.{ℕ, not, ◌||◌, Bool, if◌then◌else◌}
 use Rattle.squall_plan.specs.Ranges.{owner_of}
 use Rattle.squall_course.specs.Change.{Change}

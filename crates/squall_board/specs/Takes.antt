@@ -7,7 +7,7 @@ use Rattle.squall_report.specs.Cells.{CellPlace}
 use Rattle.squall_report.specs.Told.{Told, told_by_report, told_by, SameTold, TellsBoth}
 use Rattle.squall_board.specs.Boards.{CellValue, BoardValue, HasTaken, board_join, empty_board, cell_board, opening_board, issue_board, report_board, told, told_by_cell, told_by_count, told_by_issue}
 
--- the old board takes another one, which tells these facts: the new board is their join, it tells what both told and nothing else, and if the
+-- the old board takes another one, which tells these facts: the new board is their join, and it tells what both told and nothing else. If the
 -- old one had taken a list of reports, the new one has taken that list and any other one that tells these facts
 pub record Takes (old other : BoardValue) (facts : Told) (new : BoardValue) : Type 0 where
   pub joined : new ≡ board_join old other

@@ -10,10 +10,10 @@ use squall_join::Beyond;
 use std::alloc::{AllocError, Global};
 
 impl Board {
-    /// What this board tells beyond the other: the loads and completions that the other lacks, each
-    /// count of openings greater than the other's, and what is issued under each number unless the
-    /// other covers it. An error means that an allocation failed, or that the count of an issue's
-    /// owners is full.
+    /// What this board tells beyond the other: the loads and completions that the other lacks, and
+    /// each count of openings greater than the other's. It also has what is issued under each
+    /// number, unless the other covers it. An error means that an allocation failed, or that the
+    /// count of an issue's owners is full.
     pub fn beyond(&self, alloc: Global, other: &Board) -> Result<Board, AllocError>
         ensures told { IfOk result (λ c. TellsBeyond self.now other.now c) }
         ensures joined { IfOk result (λ c. board_join c other.now ≡ board_join self.now other.now) }

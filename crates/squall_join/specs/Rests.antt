@@ -12,7 +12,7 @@ use Rattle.squall_join.specs.Looked.{looked}
 use Rattle.squall_join.specs.Pairs.{pair_of}
 
 -- What a value has beyond another is a value again, and it is bottom exactly if the other covers the value. Joined with the other
--- it is the join of both, it has nothing that the value lacks, and it is the least value with each unit of the value that the
+-- it is the join of both. It has nothing that the value lacks, and it is the least value with each unit of the value that the
 -- other lacks. A unit is a value, and the value has it.
 pub record BeyondLaws {X : Type 0} (is_value : X → Type 0) (bottom : X) (join : X → X → X) (covered : X → X → Bool) (unit : X → X → Type 0) (beyond : X → X → X) : Type 0 where
   pub closed : (x y : X) → is_value x → is_value y → is_value (beyond x y)

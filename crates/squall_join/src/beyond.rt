@@ -8,9 +8,10 @@ use std::alloc::{AllocError, Global};
 
 /// A type of which what a value has beyond another is a value again.
 ///
-/// A value is made of units: a set of its keys, a pair of the units of its halves, a map of those
-/// of its entries; a number, a flag and at most one value are one unit each. What a value has
-/// beyond another is the least value with each of its units that the other lacks.
+/// A value is made of units. The units of a set are its keys, those of a pair are the units of its
+/// halves, and those of a map are the units of its entries. A number, a flag and at most one value
+/// are one unit each. What a value has beyond another is the least value with each of its units
+/// that the other lacks.
 pub trait Beyond: Join {
     /// Whether the second value has all that the first has.
     ghost covered: { Self → Self → Bool };
