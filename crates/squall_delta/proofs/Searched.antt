@@ -56,7 +56,7 @@ module _ {X K : Type 0} (R : K → K → Ordering) (o : IsTotalOrder R) (key : X
       (ap is_lt (o.antisymm (key (get_or xs (suc k) d)) (key (get_or xs k d)) ∙ ap ordering_reverse (next_less xs h k d (omega (arith, b)))))
 
   module _ (q : K) (xs : List X) (less : KeysLess xs) where
-    -- where the search gives a gap, no key is the one
+    -- if the search gives a gap, no key is the one
     pub absent : (i : ℕ) → (IsNonDecreasingBy (λ y. ordering_index (R (key y) q)) xs → IsPartitionPoint (λ y. R (key y) q ≡ Less) (λ y. R (key y) q ≡ Greater) xs i) → AllByRecursion (λ x. is_eq (R (key x) q) ≡ false) xs
     absent i f = let p = f (searchable_from_sorted o key xs q (keys_sorted xs less)) in
         all_of (λ x. is_eq (R (key x) q) ≡ false) xs (λ k d lt. elim (cases_lt k i) [

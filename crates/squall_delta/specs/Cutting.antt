@@ -31,7 +31,7 @@ uncut = cut_with [] empty_board
 abbrev pub turned : CutBoard → CutBoard
 turned c = cut_with (c.finished ++ c.piece ∷ []) empty_board
 
--- the same where a body of that length is not too long, and else the next piece is begun
+-- the same if a body of that length is not too long, and else the next piece is begun
 abbrev pub roomy : CutBoard → ℕ → CutBoard
 roomy c bytes = if nat_lt body_limit bytes then turned c else c
 
@@ -39,7 +39,7 @@ roomy c bytes = if nat_lt body_limit bytes then turned c else c
 abbrev pub put_item : CutBoard → Item → CutBoard
 put_item c i = cut_with c.finished (board_join c.piece (item_board i))
 
--- the item is put into the piece where the piece has a frame with it, and else into the next
+-- the item is put into the piece if the piece has a frame with it, and else into the next
 abbrev pub fed : CutBoard → Item → CutBoard
 fed c i = put_item (roomy c (body_length (board_join c.piece (item_board i)))) i
 
@@ -62,7 +62,7 @@ pieces_with c = if nat_lt empty_bytes (body_length c.piece) then c.finished ++ c
 abbrev pub group_bytes : List Item → ℕ
 group_bytes g = body_length (items_board g)
 
--- the items in groups, each as long as a frame can hold, where the first has begun
+-- the items in groups, each as long as a frame can hold, if the first has begun
 abbrev pub cut_after : List Item → List Item → List (List Item)
 cut_after g [] = g ∷ []
 cut_after g (i ∷ is) = if nat_lt body_limit (group_bytes (g ++ i ∷ [])) then g ∷ cut_after (i ∷ []) is else cut_after (g ++ i ∷ []) is
@@ -77,7 +77,7 @@ cut_items (i ∷ is) = cut_after (i ∷ []) is
 abbrev pub entry_joined : CellEntry → CellEntry → CellEntry
 entry_joined c d = entry_with c.cell (c.complete || d.complete) (c.spans ++ d.spans)
 
--- the last cell, and one that comes after it or goes on with it
+-- the last cell, and one that comes after it or continues it
 abbrev pub joined_or_next : Bool → CellEntry → CellEntry → List CellEntry
 joined_or_next true c d = entry_joined c d ∷ []
 joined_or_next false c d = c ∷ d ∷ []
@@ -86,7 +86,7 @@ abbrev pub cell_at_end : CellEntry → List CellEntry → CellEntry → List Cel
 cell_at_end c [] d = joined_or_next (is_same_cell c.cell d.cell) c d
 cell_at_end c (e ∷ es) d = c ∷ cell_at_end e es d
 
--- the cells with one that comes after all of them, or goes on with the last
+-- the cells with one that comes after all of them, or continues the last
 abbrev pub add_cell : List CellEntry → CellEntry → List CellEntry
 add_cell [] d = d ∷ []
 add_cell (c ∷ cs) d = cell_at_end c cs d
@@ -114,12 +114,12 @@ no_lists = lists_with [] [] []
 
 -- ---- which items may come
 
--- the cell goes on with another: the same place, and its spans begin beyond those of the other
+-- the cell continues another: the same place, and its spans begin beyond those of the other
 pub record GoesOn (c d : CellEntry) : Type 0 where
   pub place : c.cell ≡ d.cell
   pub beyond : AllByRecursion (λ s. Beyond s.hi d.spans) c.spans
 
--- the second cell comes after the first, or goes on with it
+-- the second cell comes after the first, or continues it
 abbrev pub EntryFollows : CellEntry → CellEntry → Type 0
 EntryFollows c d = ComesBefore c d ⊎ GoesOn c d
 
@@ -168,7 +168,7 @@ abbrev pub last_place : List CellEntry → Option CellPlace
 last_place [] = None
 last_place (c ∷ cs) = Some (last_after c cs)
 
--- the cell goes on with the last one
+-- the cell continues the last one
 abbrev pub is_last : Option CellPlace → CellPlace → Bool
 is_last None c = false
 is_last (Some q) c = is_same_cell q c
@@ -183,7 +183,7 @@ abbrev pub issue_cost : Bool → ℕ → ℕ
 issue_cost true bytes = bytes
 issue_cost false bytes = bytes + 4
 
--- a span, and where it does not go on with the last cell the cell
+-- a span, and also the cell if it does not continue the last one
 abbrev pub span_bytes : Bool → ℕ
 span_bytes true = 16
 span_bytes false = 33

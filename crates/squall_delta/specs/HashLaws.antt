@@ -62,7 +62,7 @@ place_of_row : (n s : ℕ) (parts : Parts) → parts ≢ [] → AreCellsOfParts 
 place_of_row n s [] some cells = absurd (some refl)
 place_of_row n s (e ∷ es) some cells = place_within n s e.0 (first_so _ _ cells.0.entry)
 
--- the row comes after the place where a list has come to
+-- the row comes after the last place of a list
 abbrev After : ℕ × ℕ → ℕ → ℕ × Parts → Type 0
 After last n e = is_later_row last (row_of n e) ≡ true
 
@@ -102,7 +102,7 @@ number_some n (e ∷ es) kept some cells = let h : nat_le 1 n ≡ true = first_s
 no_more : (n : ℕ) → 0 + n < word_limit → n < word_limit
 no_more n lt = omega (arith, lt)
 
--- the digest of a board is in order and within its limits, where four bytes hold its numbers and count its rows
+-- the digest of a board is in order and within its limits, if four bytes hold its numbers and count its rows
 pub digest_is : (b : BoardValue) → IsBoard b → AllByRecursion IsWordOpening (openings_of b) → AllByRecursion (λ e. e.0 < word_limit) (issues_of b) → AllByRecursion (λ e. e.0 < word_limit) (cells_in b) → length (rows_of b) < word_limit → IsDigest (digest_of b)
 digest_is b is openings issues cells few = record {
   openings = record { count = no_more (length (openings_of b)) (openings_few 0 (openings_of b) (omega arith) opened); turn = opened };

@@ -1,4 +1,4 @@
--- Boards told by hashes (FIPS 180-4 for SHA-256; the form is this project's).
+-- What boards have, as hashes (FIPS 180-4 for SHA-256; the form is this project's).
 use Rattle.std.specs.Prelude.{ℕ, List, [], map}
 use Rattle.std.specs.List.{flat_map}
 use Rattle.std.specs.Ordering.{nat_cmp}
@@ -14,12 +14,12 @@ use Rattle.squall_wire.specs.declared.digest.DigestRow.{DigestRow}
 use Rattle.squall_wire.specs.DigestValue.{DigestValue, digest_with}
 use Rattle.squall_wire.specs.Spelling.{spell_cell, spell_issue}
 
--- a row: the cells of one number and sub-plan, by partition. Its hash is that of its cells as they stand in a delta, one
--- after the other
+-- a row: the cells of one number and sub-plan, by partition. Its hash is that of the bytes of its cells in a delta, one after the
+-- other
 abbrev pub row_hash : ℕ → ℕ → Parts → List ℕ
 row_hash number sub parts = sha256 (flat_map spell_cell (cells_of_parts number sub parts))
 
--- the hash of what is issued under a number, as it stands in a delta
+-- the hash of the bytes in a delta of what is issued under a number
 abbrev pub issue_hash : ℕ → Flat PlanPair → List ℕ
 issue_hash number issue = sha256 (spell_issue (number, issue))
 

@@ -17,11 +17,11 @@ pub data Item : Type 0 where
   done : CellPlace → Item
   loaded : CellPlace → Interval → Item
 
--- that a cell is done, where it is
+-- that a cell is done, if it is
 abbrev pub flag_items : CellPlace → Bool → List Item
 flag_items c complete = if complete then done c ∷ [] else []
 
--- that it is done where it is, then each of its spans
+-- that it is done, if it is, then each of its spans
 abbrev pub items_of_cell : CellEntry → List Item
 items_of_cell c = flag_items c.cell c.complete ++ map (loaded c.cell) c.spans
 

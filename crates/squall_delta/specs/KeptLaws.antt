@@ -45,7 +45,7 @@ parts_laws = map_laws nat_cmp_total exact_unsigned cell_laws
 subs_laws : JoinLaws (IsMap nat_cmp parts_are []) [] (merged nat_cmp parts_join)
 subs_laws = map_laws nat_cmp_total exact_unsigned parts_laws
 
--- what is looked up on a board, and is joined where boards are
+-- what is looked up on a board, and is joined if boards are
 pub record IsLook {A : Type 0} (is_value : A → Type 0) (bottom : A) (join : A → A → A) (look : BoardValue → A) : Type 0 where
   pub laws : JoinLaws is_value bottom join
   pub none : look empty_board ≡ bottom
@@ -117,7 +117,7 @@ seen_map : {X Y A : Type 0} (f : X → Y) (keep : Y → Bool) (at : Y → A) (bo
 seen_map f keep at bottom join [] = refl
 seen_map f keep at bottom join (x ∷ xs) = ap (join (if keep (f x) then at (f x) else bottom)) (seen_map f keep at bottom join xs)
 
--- the item of a key, where it is kept
+-- the item of a key, if it is kept
 abbrev pub at_found : {V A : Type 0} → (ℕ × V → Bool) → (ℕ × V → A) → A → ℕ → Option V → A
 at_found keep at bottom q None = bottom
 at_found keep at bottom q (Some v) = if keep (q, v) then at (q, v) else bottom
@@ -184,7 +184,7 @@ module _ {A : Type 0} (is_value : A → Type 0) (bottom : A) (join : A → A →
             ∙ ap (join (look b)) (sym (left_neutral is_value bottom join l.laws rest value))
       ]
 
-  -- a board looks as before where the items look as nothing
+  -- a board shows the same as before if the items show nothing
   look_same : {X : Type 0} (keep : X → Bool) (make : X → BoardValue) (b : BoardValue) (xs : List X) → is_nested b → AllByRecursion (λ x. is_nested (make x)) xs → ((x : X) → look (make x) ≡ bottom) → look (with_kept keep make b xs) ≡ look b
   look_same keep make b xs n a none = look_kept keep make b xs n a ∙ ap (join (look b)) (seen_none is_value bottom join l.laws keep (λ x. look (make x)) xs (all_true (λ x. look (make x) ≡ bottom) none xs)) ∙ l.laws.neutral (look b) (l.value b n)
 

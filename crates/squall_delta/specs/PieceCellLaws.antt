@@ -253,7 +253,7 @@ length_at_end c (e ∷ es) d =
     assoc : (a b c : ℕ) → a + (b + c) ≡ (a + b) + c
     assoc a b c = omega arith
 
--- a cell more adds its own bytes, or those of its spans where it goes on with the last
+-- a cell more adds its own bytes, or those of its spans if it continues the last
 pub length_added : (cs : List CellEntry) (d : CellEntry) → length (flat_map spell_cell (add_cell cs d)) ≡ length (flat_map spell_cell cs) + cell_cost (is_last (last_place cs) d.cell) d
 length_added [] d = length_one d ∙ zero_left (length (spell_cell d))
   where
@@ -275,13 +275,13 @@ last_added (c ∷ cs) d follows = last_at_end c cs d follows
 
 -- ---- lists of cells that are gathered from items
 
--- a cell that comes after all others stands at the end
+-- a cell that comes after all others is at the end
 pub later_added : (cs : List CellEntry) (d : CellEntry) → AllByRecursion (λ c. ComesBefore c d) cs → add_cell cs d ≡ cs ++ d ∷ []
 later_added [] d h = refl
 later_added (c ∷ []) d h = ap (λ b. joined_or_next b c d) (place_other c.cell d.cell h.0)
 later_added (c ∷ e ∷ es) d h = ap (λ l. c ∷ l) (later_added (e ∷ es) d h.1)
 
--- one that goes on with the last is joined to it
+-- one that continues the last is joined to it
 pub same_added : (cs : List CellEntry) (c d : CellEntry) → c.cell ≡ d.cell → add_cell (cs ++ c ∷ []) d ≡ cs ++ entry_joined c d ∷ []
 same_added [] c d same = ap (λ b. joined_or_next b c d) (place_same c.cell d.cell same)
 same_added (e ∷ []) c d same = ap (λ l. e ∷ l) (same_added [] c d same)

@@ -56,7 +56,7 @@ follow_all : (d : BoardLists) (i : Item) (is : List Item) → AllByRecursion (It
 follow_all d i [] x y = tt
 follow_all d i (j ∷ is) x y = (follows_more d i j x.0 y.0, follow_all d i is x.1 y.1)
 
--- nothing stands in the way of a board that tells nothing
+-- any item comes after a board that tells nothing
 follow_none : (is : List Item) → AllByRecursion (ItemFollows no_lists) is
 follow_none is = all_true (ItemFollows no_lists) none is
   where

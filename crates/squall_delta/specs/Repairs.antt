@@ -11,7 +11,7 @@ use Rattle.squall_board.specs.Boards.{Parts, BoardValue, opened_count, issued, c
 use Rattle.squall_wire.specs.DigestValue.{DigestValue}
 use Rattle.squall_delta.specs.Hashes.{row_hash, issue_hash, row_in}
 
--- the count that a list of openings gives a number, 0 where it gives none
+-- the count that a list of openings gives a number, 0 if it gives none
 abbrev pub count_in : List Opening → ℕ → ℕ
 count_in [] number = 0
 count_in (o ∷ os) number = if o.number == number then o.count else count_in os number
@@ -38,8 +38,8 @@ abbrev pub row_is_hashed : ℕ → ℕ → List ℕ → Option Parts → Bool
 row_is_hashed n s h None = false
 row_is_hashed n s h (Some parts) = is_same_hash (row_hash n s parts) h
 
--- of the board b what the digest d does not show: each opening with a count above the digest's, and whole each issue and
--- each row whose hash the digest lacks
+-- what the board b has that the digest d does not show: each opening with a count above the digest's. Also each whole issue and
+-- row whose hash the digest lacks
 pub record IsRepair (b : BoardValue) (d : DigestValue) (r : BoardValue) : Type 0 where
   pub opened : (n : ℕ) → opened_count r n ≡ (if nat_lt (count_in d.openings n) (opened_count b n) then opened_count b n else 0)
   pub issues : (n : ℕ) → issued r n ≡ (if shows_issue d n (issue_hash n (issued b n)) then Unknown else issued b n)

@@ -10,10 +10,10 @@ use self::cutter::Cutter;
 use squall_board::{Board, Delta};
 use std::alloc::{AllocError, Global};
 
-/// The board in pieces, each of which has a frame. A piece holds as many of the next items as a
-/// frame can: an item is an opening, an issue, the completion of a cell, or one of its spans, in
-/// the order of the board's delta. A board that tells nothing has no pieces. It fails where an
-/// allocation fails.
+/// The board in pieces, each of which has a frame. Each has as many of the next items as fit a
+/// frame. An item is an opening, an issue, the completion of a cell, or one of its spans. The items
+/// have the order of the board's delta. A board that tells nothing has no pieces. An error means
+/// that an allocation failed.
 pub fn pieces(alloc: Global, board: &Board) -> Result<Vec<Delta>, AllocError>
     ensures pieces { IfOk result (λ ps. ArePieces board.now ps.items) }
     ensures joined { IfOk result (λ ps. joined_boards ps.items ≡ board.now) }

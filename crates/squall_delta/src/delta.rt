@@ -9,7 +9,7 @@ use squall_board::{Board, Delta};
 use squall_report::Report;
 use std::alloc::{AllocError, Global};
 
-/// The board that has taken the report alone. It fails where an allocation fails, or where the
+/// The board that has taken the report alone. An error means that an allocation failed, or that the
 /// count of an issue's owners is full.
 pub fn delta_of(alloc: Global, report: &Report) -> Result<Delta, AllocError>
     ensures value { IfOk result (λ d. d ≡ report_board report.now) }
@@ -25,9 +25,10 @@ pub fn delta_of(alloc: Global, report: &Report) -> Result<Delta, AllocError>
     Ok(delta)
 }
 
-/// What board `a` tells beyond board `b`: the loads and completions that `b` lacks, each count of
-/// openings greater than that of `b`, and what is issued under each number unless `b` covers it.
-/// It fails where an allocation fails, or where the count of an issue's owners is full.
+/// What board `a` tells beyond board `b`: the loads and completions that `b` lacks, and each count
+/// of openings greater than that of `b`. It also has what is issued under each number, unless `b`
+/// covers it. An error means that an allocation failed, or that the count of an issue's owners is
+/// full.
 pub fn beyond(alloc: Global, a: &Board, b: &Board) -> Result<Delta, AllocError>
     ensures told { IfOk result (λ c. TellsBeyond a.now b.now c) }
     ensures joined { IfOk result (λ c. board_join c b.now ≡ board_join a.now b.now) }

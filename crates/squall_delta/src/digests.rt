@@ -17,7 +17,7 @@ use squall_wire::{Digest, DigestRow, IssueRow};
 use std::alloc::{AllocError, Global};
 use std::sync::Arc;
 
-/// Four bytes count no more.
+/// The most rows that four bytes can count.
 const MOST_ROWS: usize = 4_294_967_295;
 
 /// Changes nothing: after it a proof knows that four bytes hold the number.
@@ -92,9 +92,9 @@ fn rows(
     Ok(rows)
 }
 
-/// The digest of the board: its openings, and SHA-256 of each issue and of each row. It fails where
-/// an allocation fails, and where the board has more than 4,294,967,295 rows, which no frame could
-/// count.
+/// The digest of the board: its openings, and SHA-256 of each issue and of each row. An error means
+/// that an allocation failed, or that the board has more than 4,294,967,295 rows, which no frame
+/// could count.
 pub fn digest(alloc: Global, board: &Board) -> Result<Digest, AllocError>
     ensures { IfOk result (λ d. d ≡ digest_of board.now) }
 {

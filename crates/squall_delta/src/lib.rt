@@ -1,10 +1,30 @@
 //! What boards send each other in place of whole copies: deltas, pieces that fit a frame, digests,
 //! and repairs by them.
 //!
-//! All of these are boards or digests of boards, and whoever merges them in any order, any number
-//! of times, comes to the same board.
+//! All of these are boards or digests of boards. Whoever merges the boards, in any order and any
+//! number of times, has the same board in the end.
 //!
 //! Its tests are in `crates/squall_test_frames/src/delta.rt`.
+//!
+//! # Example
+//!
+//! A node sends a digest of its board, and merges the repair that another node answers with.
+//!
+//! ```rust
+//! fn repair_completes(
+//!     rt: &impl Abort,
+//!     alloc: Global,
+//!     board: &mut Board,
+//!     other: &Board,
+//! ) -> Result<(), AllocError> {
+//!     let shown = digest(alloc, board)?;
+//!     let missing = repair(alloc, other, &shown)?;
+//!     assert!(rt; other.covers(&missing));
+//!     board.merge(&missing)?;
+//!     assert!(rt; board.covers(other));
+//!     Ok(())
+//! }
+//! ```
 #![tactic(auto)]
 
 mod cut;

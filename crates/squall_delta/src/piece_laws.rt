@@ -34,7 +34,7 @@ pub fn pieces_have_frames(piece: &Board)
     ensures { FitsFrame piece.now → body_limit < length (spell_body (body_of (Delta piece.now))) → ⊥ }
 {}
 
-/// The board that tells nothing has no pieces, and no other board has none.
+/// The board that tells nothing has no pieces, and each other board has some.
 pub fn no_items_no_pieces(board: &Board)
     ensures none { (ps : List BoardValue) → ArePieces empty_board ps → ps ≡ [] }
     ensures empty { ArePieces board.now [] → board.now ≡ empty_board }

@@ -18,8 +18,8 @@ pub fn one_repair(board: &Board, digest: &Digest, repair: &Board, other: &Board)
     other.known();
 }
 
-/// A board that takes the repair of another board by its own digest has all that either has, where
-/// no two different rows or issues of both, at one place, have one hash.
+/// A board that takes the repair of another board by its own digest has all that either has. This
+/// holds if no two different rows or issues of the two boards, at one place, have the same hash.
 pub fn repairs_complete(board: &Board, other: &Board, repair: &Board)
     ensures { NoCollisions board.now other.now → IsRepair other.now (digest_of board.now) repair.now
         → board_join repair.now board.now ≡ board_join board.now other.now }

@@ -101,9 +101,9 @@ fn put_cells(
     Ok(())
 }
 
-/// What the board has that the digest does not show: each opening with a greater count than the
-/// digest gives its number, and whole each issue and each row that the digest lacks or shows with
-/// another hash. It fails where an allocation fails.
+/// What the board has that the digest does not show. That is each opening with a greater count than
+/// the digest gives its number. It is also each whole issue and row that the digest lacks or shows
+/// with another hash. An error means that an allocation failed.
 pub fn repair(alloc: Global, board: &Board, digest: &Digest) -> Result<Delta, AllocError>
     ensures { IfOk result (λ delta. IsRepair board.now digest.now delta) }
 {

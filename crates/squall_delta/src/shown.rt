@@ -17,7 +17,7 @@ use squall_wire::{Digest, DigestRow, IssueRow};
 use std::alloc::{AllocError, Global};
 use std::sync::Arc;
 
-/// The count that the openings give the number, 0 where they give none.
+/// The count that the openings give the number, 0 if they give none.
 pub(crate) fn count_in(openings: &[Opening], number: u32) -> u32
     requires { AreListed FitsOpening after_opening 0 openings.now }
     ensures { result ≡ count_in openings.now number }
@@ -54,8 +54,8 @@ fn row_shown(rows: &[DigestRow], number: u32, sub: u32) -> Option<[u8; 32]>
     }
 }
 
-/// Whether the digest shows the hash of what is issued under the number. It is computed only where
-/// the digest shows one for that number.
+/// Whether the digest shows the hash of what is issued under the number. It is computed only if the
+/// digest shows one for that number.
 pub(crate) fn shows_issue(
     alloc: Global,
     digest: &Digest,
@@ -70,7 +70,7 @@ pub(crate) fn shows_issue(
     }
 }
 
-/// Whether the digest shows the hash of the row. It is computed only where the digest shows one for
+/// Whether the digest shows the hash of the row. It is computed only if the digest shows one for
 /// that number and sub-plan.
 pub(crate) fn shows_row(
     buffer: &mut Vec<u8>,

@@ -1,5 +1,6 @@
 //! Queries of what boards send each other.
 
+mod example;
 mod pieces;
 mod repairs;
 mod reported;

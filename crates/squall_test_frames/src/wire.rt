@@ -2,6 +2,7 @@
 
 mod clients;
 mod digests;
+mod example;
 mod feeds;
 mod frames;
 mod tolerant;

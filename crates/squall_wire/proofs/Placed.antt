@@ -10,7 +10,7 @@ use Rattle.squall_board.specs.ListedLaws.{all_map}
 use Rattle.squall_wire.specs.Spelling.{word, spell_list, spell_place, spell_done, spell_span, spell_cell}
 use Rattle.squall_wire.specs.Fits.{IsWordCell}
 
--- a cell is written as what stands before its spans, and its spans
+-- a cell is written as what comes before its spans, and its spans
 pub cell_written : (place : CellPlace) (complete : Bool) (spans ss : List Interval) (old head now new : List ℕ) → ss ≡ spans → head ≡ spell_place place ++ (spell_done complete ++ word (length ss)) → now ≡ old ++ head → new ≡ now ++ flat_map spell_span ss → new ≡ old ++ spell_cell (entry_with place complete spans)
 cell_written place complete spans ss old head now new same is step last =
     last

@@ -1,4 +1,4 @@
--- Ranges that stand as those of a plan do are the list of a plan.
+-- Ranges in the order of a plan are the list of a plan.
 use Rattle.std.proofs.Common.{◌≡◌, ℕ, ◌<◌, ◌≤◌, ◌==◌, true, List, [], ◌∷◌, length, Option, Some, refl, sym, ap, ◌∙◌, arith}
 use Rattle.std.specs.Prelude.{◌≢◌, not, nat_lt}
 use Rattle.std.proofs.lemmas.Bool.{and_parts}
@@ -8,7 +8,7 @@ use Rattle.squall_plan.specs.declared.range.PlanRange.{PlanRange}
 use Rattle.squall_plan.specs.Ranges.{AreRanges, IsTiling, DifferFrom, Differ, IsCanonical}
 use Rattle.squall_wire.specs.Limits.{AreInTurn, PlanPoint, plan_start, range_in_range, is_other_part, after_range, plan_count_in_range, FitsRange, FitsPlan}
 
--- what the tests of a range tell
+-- what the tests of a range say
 record Told (p : PlanPoint) (r : PlanRange) : Type 0 where
   high : r.span.hi ≤ top
   ends : p.left ≡ 1 → r.span.hi ≡ top

@@ -30,7 +30,7 @@ front_shorter f k xs = omega (arith, length-append (flat_map f (take k xs)) (fla
 longer_between : (a b c d : List ℕ) → length c ≤ length d → length (a ++ (b ++ c)) ≤ length (a ++ (b ++ d))
 longer_between a b c d le = omega (arith, length-append a (b ++ c), length-append a (b ++ d), length-append b c, length-append b d)
 
--- where a part of a list is too long, the list is
+-- if a part of a list is too long, the list is
 pub list_long : {X : Type 0} (most : ℕ) (f : X → List ℕ) (old n : List ℕ) (xs : List X) (i : ℕ) (x : X) (now : List ℕ) → i < length xs → x ≡ get_or xs i x → now ≡ old ++ (n ++ flat_map f (take i xs)) → most < length (now ++ f x) → most < length (old ++ (n ++ flat_map f xs))
 list_long most f old n xs i x now lt is before long =
     let same = list_more f old n xs i x now (now ++ f x) lt is before refl in
@@ -44,7 +44,7 @@ all_more {X} P xs i x lt is h p = subst (AllByRecursion P) (sym (take_more xs i 
     both [] h = (p, tt)
     both (y ∷ ys) h = (h.0, both ys h.1)
 
--- the front of bytes that are too long
+-- bytes whose beginning is too long
 pub front_long : (most : ℕ) (old a b : List ℕ) → most < length (old ++ a) → most < length (old ++ (a ++ b))
 front_long most old a b long = omega (arith, length-append old a, length-append old (a ++ b), length-append a b, long)
 

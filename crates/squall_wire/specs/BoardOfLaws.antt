@@ -37,14 +37,14 @@ record Tells (new old : BoardValue) (more : Told) : Type 0 where
   is : IsBoard new
   both : TellsBoth (told new) (told old) more
 
--- what is told after two steps
+-- what a board tells after two steps
 two_steps : (new now old a b c : Told) → TellsBoth now old a → TellsBoth new now b → TellsBoth c a b → TellsBoth new old c
 two_steps new now old a b c x y both = record {
   facts = λ f. y.facts f ∙ ap (λ v. v || b.says f) (x.facts f) ∙ or_assoc (old.says f) (a.says f) (b.says f) ∙ ap (λ v. old.says f || v) (sym (both.facts f));
   issues = λ n. y.issues n ∙ ap (λ v. both_issued v (b.issues n)) (x.issues n) ∙ issued_assoc (old.issues n) (a.issues n) (b.issues n) ∙ ap (both_issued (old.issues n)) (sym (both.issues n));
 }
 
--- nothing is told by empty lists
+-- empty lists tell nothing
 none_told : (old : Told) → TellsBoth old old (told_by_lists [] [] [])
 none_told old = record { facts = λ f. or_false (old.says f); issues = λ n. sym (issued_neutral (old.issues n)) }
 

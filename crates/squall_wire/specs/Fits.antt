@@ -7,7 +7,7 @@ use Rattle.squall_board.specs.declared.opening.Opening.{Opening}
 use Rattle.squall_board.specs.Listed.{CellEntry}
 use Rattle.squall_wire.specs.Limits.{word_limit, FitsPlan}
 
--- both plans of a pair, where there is one, fit
+-- both plans of a pair, if there is one, fit
 abbrev pub ArePlans : Flat PlanPair → Type 0
 ArePlans = flat_is (λ pair. FitsPlan pair.old × FitsPlan pair.new)
 

@@ -8,7 +8,7 @@ use Rattle.squall_wire.specs.declared.message.Message.{Message}
 use Rattle.squall_wire.specs.Messages.{spell_all, IsMessage}
 use Rattle.squall_wire.specs.Reading.{message_at}
 
--- the fault of what is left of a stream: none where the bytes are too short for one
+-- the fault of what is left of a stream: none if the bytes are too short for one
 abbrev pub EndsIn : Option WireFault → List ℕ → Type 0
 EndsIn None rest = message_at rest ≡ Err Short
 EndsIn (Some e) rest = (e ≢ Short) × (e ≢ NoMemory) × (message_at rest ≡ Err e)

@@ -59,7 +59,7 @@ one_frame m n x y im also e =
 err_is : (d e : WireFault) (r : Result (Body × ℕ) WireFault) → r ≡ Err d → r ≡ Err e → d ≡ e
 err_is d e r p q = cc
 
--- the fault is told by what is left
+-- what is left determines the fault
 ends_alike : (f g : Option WireFault) (r : List ℕ) → EndsIn f r → EndsIn g r → f ≡ g
 ends_alike None None r p q = refl
 ends_alike None (Some e) r p q = absurd (q.0 (err_is e Short (message_at r) q.2 p))
@@ -186,7 +186,7 @@ one_push old new end s ms ns f g a b =
     let same = one_hearing (old.waiting ++ s) ms ns f g a.rest b.rest a.heard b.heard in
     (same.0, same.1, a.after ∙ ap (λ (h : Option WireFault). feed_after h a.rest) same.1 ∙ ap (feed_after g) same.2 ∙ sym b.after)
 
--- where the stream is cut tells nothing
+-- how the stream is cut into pieces does not change what is heard
 pub cutting_tells_nothing : (old new end : FeedValue) (ps qs : List (List ℕ)) (ms ns : List Message) (f g : Option WireFault) → old.failed ≡ false → IsFeed old → concat ps ≡ concat qs → HearsAll old ps ms f new → HearsAll old qs ns g end → (ms ≡ ns) × (f ≡ g) × (new ≡ end)
 cutting_tells_nothing old new end ps qs ms ns f g unended is e a b =
     one_push old new end (concat qs) ms ns f g (subst (λ (s : List ℕ). HearsOn old s ms f new) e (pieces_are_one_push old ps ms f new unended is a)) (pieces_are_one_push old qs ns g end unended is b)

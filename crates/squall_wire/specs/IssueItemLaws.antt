@@ -1,4 +1,4 @@
--- The laws of plans and issues as they stand in a frame (this project's form).
+-- The laws of plans and issues in the form of a frame (this project's form).
 use Rattle.std.proofs.Common.{◌≡◌, ℕ, zero, suc, ◌^◌, ◌<◌, ◌≤◌, Bool, true, false, List, [], ◌∷◌, ◌++◌, length, Result, Ok, refl, sym, ap, subst, ◌∙◌, append_assoc, arith, inl, inr}
 use Rattle.std.specs.Prelude.{◌⊎◌, ◌&&◌, nat_lt, nat_le}
 use Rattle.std.specs.List.{flat_map}

@@ -177,7 +177,7 @@ has_counted : (xs : List Interval) → has_spans xs ≡ nat_le 1 (length xs)
 has_counted [] = grind (arith, nat_tests)
 has_counted (x ∷ xs) = grind (arith, nat_tests)
 
--- what the head tells of the cell
+-- what the head says of the cell
 pub entry_from_head : (h : CellHead) (spans : List Interval) → head_in_range h ≡ true → length spans ≡ h.count → is_entry (entry_with h.place (h.done == 1) spans) ≡ true
 entry_from_head h spans range count =
     let counted : has_spans spans ≡ nat_le 1 h.count = has_counted spans ∙ ap (nat_le 1) count in

@@ -1,4 +1,4 @@
--- The limits of the items of a frame, and the order in which they stand (this project's form).
+-- The limits and the order of the items of a frame (this project's form).
 use Rattle.std.specs.Prelude.{◌≡◌, ℕ, ◌<◌, ◌+◌, ◌-◌, ◌^◌, ◌==◌, ◌&&◌, ◌||◌, not, nat_lt, nat_le, Bool, true, List, [], ◌∷◌, length, Option, None, Some}
 use Rattle.std.specs.Ordering.{is_lt}
 use Rattle.squall_key.specs.Keys.{top, part_limit}
@@ -22,7 +22,7 @@ body_limit = 1048576
 abbrev pub word_limit : ℕ
 word_limit = 2 ^ 32
 
--- each item fits where its list has come to; `next` tells where the list is after an item
+-- each item fits at the point of its list; `next` is the point after an item
 abbrev pub AreInTurn : {S X : Type 0} → (S → X → Type 0) → (S → X → S) → S → List X → Type 0
 AreInTurn Fits next s [] = Unit {0}
 AreInTurn Fits next s (x ∷ xs) = Fits s x × AreInTurn Fits next (next s x) xs
@@ -87,8 +87,8 @@ after_cell last c = c.cell
 
 -- ---- plans
 
--- where the list of a plan's ranges has come to: the bound at which the next range begins, the partition of the one
--- before it, and how many are left
+-- the point of the list of a plan's ranges: the bound at which the next range begins, the partition of the one before it, and how
+-- many are left
 pub record PlanPoint : Type 0 where
   pub from : ℕ
   pub before : Option ℕ
@@ -97,7 +97,7 @@ pub record PlanPoint : Type 0 where
 abbrev pub plan_start : ℕ → PlanPoint
 plan_start count = record { from = 0; before = None; left = count }
 
--- the range ends at a bound, the last one at the top, and its partition is one that there can be
+-- the range ends at a bound, the last one at the top, and its partition lies within the limits
 abbrev pub range_in_range : PlanPoint → PlanRange → Bool
 range_in_range p r = nat_le r.span.hi top && ((r.span.hi == top || not (p.left == 1)) && nat_lt r.part part_limit)
 

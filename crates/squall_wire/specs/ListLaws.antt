@@ -1,5 +1,5 @@
--- The two laws of a reader: what is read is spelled so, and what is spelled so is read. They hold of a list where they
--- hold of its items (this project's form).
+-- The two laws of a reader: what is read is spelled so, and what is spelled so is read. They hold of a list if they hold of its
+-- items (this project's form).
 use Rattle.std.proofs.Common.{◌≡◌, ℕ, zero, suc, Bool, true, nat_le, List, [], ◌∷◌, ◌++◌, length, Ok, refl, sym, ap, subst, ◌∙◌, append_assoc, arith, inl, inr}
 use Rattle.std.specs.Prelude.{◌⊎◌}
 use Rattle.std.specs.List.{flat_map}
@@ -12,7 +12,7 @@ use Rattle.squall_wire.specs.Messages.{version_with}
 use Rattle.squall_wire.specs.Reading.{◌>>=◌, Read, number_at, checked, many_at, list_at, some_at, second_at}
 use Rattle.squall_wire.specs.FieldLaws.{IsBytes, Takes, Takes-none, Takes-then, bind_ok, bind_from, ok_is, test_ok, word_takes, word_again}
 
--- a reader of items that stand where a list has come to
+-- a reader of items at the point of a list
 pub record IsItem {S X : Type 0} (read : S → List ℕ → Read X) (spelling : X → List ℕ) (Fits : S → X → Type 0) : Type 0 where
   pub takes : (s : S) (bytes : List ℕ) (x : X × List ℕ) → IsBytes bytes → read s bytes ≡ Ok x → Takes bytes (spelling x.0) x.1 × Fits s x.0
   pub again : (s : S) (x : X) (rest : List ℕ) → Fits s x → read s (spelling x ++ rest) ≡ Ok (x, rest)

@@ -1,4 +1,4 @@
--- Reading a frame from the front, and the first fault that is met (this project's form).
+-- Reading a frame from its beginning, and the first fault (this project's form).
 use Rattle.std.specs.Prelude.{◌≡◌, ◌≢◌, ℕ, zero, suc, ◌+◌, ◌==◌, ◌&&◌, ◌||◌, not, List, [], ◌∷◌, length, take, drop, slice_index, Result, Ok, Err, nat_lt, nat_le, Bool, true, if◌then◌else◌}
 use Rattle.std.specs.Int.{Width, w32, w64, byte_len, from_be_bytes}
 use Rattle.squall_span.specs.Spans.{Interval, interval}
@@ -43,13 +43,13 @@ byte_at (b ∷ rest) = Ok (b, rest)
 unfoldable pub hash_at : List ℕ → Read (List ℕ)
 hash_at bytes = if nat_lt (length bytes) hash_length then Err Count else Ok (take hash_length bytes, drop hash_length bytes)
 
--- the value, where it is in its range and then in order
+-- the value, if it is in its range and then in order
 abbrev pub checked : {X : Type 0} → Bool → Bool → X → Result X WireFault
 checked in_range in_order x = if in_range then (if in_order then Ok x else Err Order) else Err Range
 
 -- ---- lists
 
--- n items, each read where the list has come to
+-- n items, each read at the point of the list
 unfoldable pub many_at : {S X : Type 0} → (S → List ℕ → Read X) → (S → X → S) → ℕ → S → List ℕ → Read (List X)
 many_at read next zero s bytes = Ok ([], bytes)
 many_at read next (suc n) s bytes = do
@@ -70,7 +70,7 @@ some_at read next s bytes = do
   counted ← checked (nat_le 1 n.0) true n
   many_at read next counted.0 s counted.1
 
--- a list that stands in the second version alone
+-- a list that only the second version has
 abbrev pub second_at : {S X : Type 0} → ℕ → (S → List ℕ → Read X) → (S → X → S) → S → List ℕ → Read (List X)
 second_at version read next s bytes = if version == 2 then some_at read next s bytes else Ok ([], bytes)
 
@@ -89,7 +89,7 @@ span_at floor bytes = do
   hi ← number_at w64 lo.1
   checked (span_in_range (interval lo.0 hi.0)) (span_in_order floor (interval lo.0 hi.0)) (interval lo.0 hi.0, hi.1)
 
--- what stands before the spans of a cell
+-- what comes before the spans of a cell
 pub record CellHead : Type 0 where
   pub place : CellPlace
   pub done : ℕ
@@ -192,7 +192,7 @@ body_at version kind bytes = if kind == 1 then (whole (lists_at version bytes) >
 abbrev pub is_other : List ℕ → ℕ → ℕ → Bool
 is_other bytes i b = nat_lt i (length bytes) && not (slice_index bytes i == b)
 
--- the length that the head tells, and whether the head is there to tell it
+-- the length that the head says, and whether there is a whole head
 abbrev pub body_length : List ℕ → ℕ
 body_length bytes = from_be_bytes w32 (take 4 (drop 4 bytes))
 
@@ -205,7 +205,7 @@ pub record Frame : Type 0 where
   pub kind : ℕ
   pub body : List ℕ
 
--- the first frame: its head is looked at from the front, its body only where it is whole
+-- the first frame: its head is read from the beginning, its body only if it is whole
 unfoldable pub frame_at : List ℕ → Result Frame WireFault
 frame_at bytes =
     if is_other bytes 0 83 || is_other bytes 1 81 then Err Magic

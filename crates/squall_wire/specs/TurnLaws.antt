@@ -1,4 +1,4 @@
--- Lists that stand in a frame are lists as a board has them: they rise, and each item lies within its limits.
+-- Lists of a frame are lists as a board has them: they rise, and each item lies within its limits.
 use Rattle.std.specs.Prelude.{◌≡◌, ◌≢◌, ℕ, ◌<◌, ◌≤◌, ◌+◌, true, List, [], ◌∷◌, refl}
 use Rattle.std.proofs.Common.{sym, ap, subst, arith, Less, Equal, Greater}
 use Rattle.std.proofs.lemmas.Bool.{true≢false}

@@ -20,7 +20,7 @@ head_seen h = record { place = place_at h.number h.sub h.part; done = h.done; co
 pub record HasRoom (left : ℕ) (bytes : List ℕ) (room : ℕ) : Type 0 where
   pub enough : (n : ℕ) → n ≤ left → 16 * n ≤ length bytes → n ≤ room
 
--- the span at the front of the bytes was added to the spans, and took room of one span at most
+-- the span that begins the bytes was added to the spans, and took room of one span at most
 pub record HasAdded (floor : ℕ) (bytes : List ℕ) (old new : ReadyValue) (next : ℕ) (rest : List ℕ) : Type 0 where
   pub span : Interval
   pub read : span_at floor bytes ≡ Ok (span, rest)

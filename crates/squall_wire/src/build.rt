@@ -42,7 +42,7 @@ fn put_cells(board: &mut Board, cells: &[Cell]) -> Result<(), AllocError>
     Ok(())
 }
 
-/// The board that the lists are of. It fails where an allocation fails, or where the count of an
+/// The board of the lists. An error means that an allocation failed, or that the count of an
 /// issue's owners is full.
 pub(crate) fn board_of(
     alloc: Global,

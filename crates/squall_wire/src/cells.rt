@@ -37,7 +37,7 @@ fn place_bytes(place: CellId) -> [u8; 12]
     bytes
 }
 
-/// The bytes of what stands before the spans of a cell.
+/// The bytes before the spans of a cell.
 fn head_bytes(place: CellId, complete: bool, spans: usize) -> [u8; 17]
     ensures bytes { result ≡ spell_place place ++ (spell_done complete ++ word spans) }
     ensures known { place.number < word_limit }
@@ -64,8 +64,9 @@ pub(crate) fn write_cell(
     write_items(out, spans)
 }
 
-/// Adds a cell of a board as it stands in a delta: its place, whether it is complete, and its spans.
-/// It fails only where an allocation fails, and then a part of the cell may have been added.
+/// Adds a cell of a board in the form that it has in a delta: its place, whether it is complete,
+/// and its spans. An error means that an allocation failed: a part of the cell may then have been
+/// added.
 pub fn write_lent_cell(out: &mut Vec<u8>, place: CellId, cell: &CellParts) -> Result<(), AllocError>
     ensures { OnOk result (out.new.items ≡ out.old.items ++ spell_cell (cell_entry place cell.now)) }
 {
@@ -73,7 +74,7 @@ pub fn write_lent_cell(out: &mut Vec<u8>, place: CellId, cell: &CellParts) -> Re
     write_cell(out, place, complete, &cell.first)
 }
 
-/// Adds the cell, unless the bytes are too many for a body with it.
+/// Adds the cell. `TooLong` means that the bytes with it are too many for a body.
 fn write_within(out: &mut Vec<u8>, place: CellId, cell: &CellParts) -> Result<(), EncodeFault>
     ensures written { OnOk result (out.new.items ≡ out.old.items ++ spell_cell (cell_entry place cell.now)) }
     ensures known { OnOk result (place.number < word_limit) }
@@ -89,8 +90,8 @@ fn write_within(out: &mut Vec<u8>, place: CellId, cell: &CellParts) -> Result<()
     Ok(())
 }
 
-/// Adds the count of the cells of the board and the cells, as far as the bytes are not too many
-/// for a body. No keys are copied but into the bytes.
+/// Adds the count of the cells of the board and the cells. `TooLong` means that the bytes are too
+/// many for a body. Keys are copied into the bytes alone.
 pub(crate) fn write_cells(out: &mut Vec<u8>, board: &Board) -> Result<(), EncodeFault>
     ensures written { OnOk result (out.new.items ≡ out.old.items ++ spell_list spell_cell (cells_of board.now)) }
     ensures known { OnOk result (AllByRecursion IsWordCell (cells_of board.now)) }

@@ -32,11 +32,11 @@ fn read(alloc: Global, bytes: &[u8]) -> Result<(Message, usize), WireFault>
     Ok((message, 8 + frame.body.len()))
 }
 
-/// The message whose frame stands first in the bytes, and how many bytes the frame takes. What
-/// follows the frame is not looked at, and the body only where it is whole. It allocates no more
-/// than the bytes of the body justify.
+/// The message whose frame is first in the bytes, and how many bytes the frame takes. The body is
+/// read only if it is whole, and what follows the frame is not read. It allocates no more than the
+/// bytes of the body justify.
 ///
-/// The error is the first fault that is met from the front, or that an allocation failed.
+/// The error is the first fault from the beginning of the bytes, or that an allocation failed.
 pub fn decode(alloc: Global, bytes: &[u8]) -> Result<(Message, usize), WireFault>
     ensures answer { Gives (λ x. (body_of x.0, x.1)) result (message_at bytes.now) }
     ensures spelled { IfOk result (λ x. IsMessage x.0 × (x.1 ≤ length bytes.now) × (take x.1 bytes.now ≡ spell x.0)) }

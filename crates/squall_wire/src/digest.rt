@@ -18,7 +18,7 @@ use std::marker::Model;
 pub struct IssueRow {
     /// The reconfiguration's number, from 1 on.
     pub number: u32,
-    /// The SHA-256 of the issue as it stands in a delta.
+    /// The SHA-256 of the bytes of the issue in a delta.
     pub hash: [u8; 32],
 }
 
@@ -29,11 +29,11 @@ pub struct DigestRow {
     pub number: u32,
     /// The sub-plan, at most 9999.
     pub sub: u32,
-    /// The SHA-256 of the row's cells, one after the other as they stand in a delta.
+    /// The SHA-256 of the bytes of the row's cells in a delta, one after the other.
     pub hash: [u8; 32],
 }
 
-/// Why lists are no digest.
+/// Why lists are not a digest.
 #[derive(Clone, Copy, Debug, PartialEq, Eq)]
 pub enum DigestFault {
     /// A list is not in order, or a number lies outside its limits.
@@ -86,12 +86,12 @@ impl Model for Digest {
 }
 
 impl Digest {
-    /// The digest of three lists: of how many sub-plans are opened and of the hashes of issues, by
-    /// rising number, and of the hashes of rows, by rising number and sub-plan.
+    /// The digest of three lists: how many sub-plans are opened and the hashes of issues, both by
+    /// rising number, and the hashes of rows, by rising number and sub-plan.
     ///
-    /// `BadDigest` if a list is not in order or has more items than four bytes can count, or if a
-    /// number is 0, a count 0 or above 10,000, or a sub-plan above 9999. All of this is tried before
-    /// anything is allocated. `NoMemory` if an allocation fails.
+    /// `BadDigest` if a list is not in order or has more items than four bytes can count. It is
+    /// also the answer if a number is 0, a count is 0 or above 10,000, or a sub-plan is above 9999.
+    /// All of this is checked before anything is allocated. `NoMemory` if an allocation fails.
     pub fn of(
         alloc: Global,
         openings: &[Opening],

@@ -58,10 +58,11 @@ impl From<AllocError> for EncodeFault {
     }
 }
 
-/// The frame of a body of that version and kind, in the body's own room. `TooLong` where the body is.
+/// The frame of a body of that version and kind, in the body's own memory. `TooLong` if the body is
+/// too long.
 ///
-/// The head goes to the end and is turned round to the front, which is one block move: a second room of the size of the
-/// frame would cost more than the move.
+/// The head is added at the end and then rotated to the beginning, which is one block move. A second allocation of the
+/// size of the frame would cost more than the move.
 fn frame(version: u8, kind: u8, body: Vec<u8>) -> Result<Vec<u8>, EncodeFault>
     ensures spelled { IfOk result (λ bytes. bytes.items ≡ spell_frame version kind body.items) }
     ensures short { IfOk result (λ _. length body.items ≤ body_limit) }
@@ -78,8 +79,8 @@ fn frame(version: u8, kind: u8, body: Vec<u8>) -> Result<Vec<u8>, EncodeFault>
     Ok(bytes)
 }
 
-/// Adds the lists of the board, as far as the bytes are not too many for a body. Returns the
-/// version of their frame.
+/// Adds the lists of the board, and returns the version of their frame. `TooLong` means that the
+/// bytes are too many for a body.
 fn write_lists(out: &mut Vec<u8>, board: &Board) -> Result<u8, EncodeFault>
     ensures written { IfOk result (λ _. out.new.items ≡ out.old.items ++ spell_lists (lists_of board.now)) }
     ensures version { IfOk result (λ version. version ≡ version_with (issues_of board.now)) }
@@ -95,9 +96,9 @@ fn write_lists(out: &mut Vec<u8>, board: &Board) -> Result<u8, EncodeFault>
     Ok(version_of(&issues))
 }
 
-/// The frame of a delta, which is the board. No keys are copied but into the frame.
+/// The frame of a delta, which is the board. Keys are copied into the frame alone.
 ///
-/// `TooLong` where its body would have more than 1,048,576 bytes.
+/// `TooLong` if its body would have more than 1,048,576 bytes.
 pub fn encode_board(alloc: Global, board: &Board) -> Result<Vec<u8>, EncodeFault>
     ensures spelled { IfOk result (λ bytes. bytes.items ≡ spell (Delta board.now)) }
     ensures message { IfOk result (λ _. IsMessage (Delta board.now)) }
@@ -123,9 +124,9 @@ fn encode_digest(alloc: Global, digest: &Digest) -> Result<Vec<u8>, EncodeFault>
     frame(version_of(digest.issue_rows()), DIGEST, body)
 }
 
-/// The frame of the message. No keys are copied but into the frame.
+/// The frame of the message. Keys are copied into the frame alone.
 ///
-/// `TooLong` where its body would have more than 1,048,576 bytes.
+/// `TooLong` if its body would have more than 1,048,576 bytes.
 pub fn encode(alloc: Global, message: &Message) -> Result<Vec<u8>, EncodeFault>
     ensures spelled { IfOk result (λ bytes. bytes.items ≡ spell message.now) }
     ensures message { IfOk result (λ _. IsMessage message.now) }
@@ -137,8 +138,7 @@ pub fn encode(alloc: Global, message: &Message) -> Result<Vec<u8>, EncodeFault>
     }
 }
 
-/// The bytes of the cell as it stands in a delta, with its spans. It fails only where an
-/// allocation fails.
+/// The bytes of the cell in a delta, with its spans. An error means that an allocation failed.
 pub fn cell_bytes(alloc: Global, cell: &Cell) -> Result<Vec<u8>, AllocError>
     ensures { IfOk result (λ bytes. bytes.items ≡ spell_cell cell.now) }
 {

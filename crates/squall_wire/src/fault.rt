@@ -1,4 +1,4 @@
-//! Why bytes are no message.
+//! Why bytes are not a message.
 
 ghost use Rattle.std.specs.Prelude.{◌≡◌, Some};
 ghost use Rattle.squall_wire.specs.declared.fault.WireFault.TheVariants.{NoMemory};
@@ -8,7 +8,7 @@ use std::alloc::{AllocError, AllocFailed};
 use std::error::Error;
 use std::fmt;
 
-/// Why bytes do not begin with the frame of a message: the first fault that is met from the front.
+/// Why bytes do not begin with the frame of a message: the first fault from the beginning.
 #[derive(Clone, Copy, Debug, PartialEq, Eq)]
 pub enum WireFault {
     /// The first two bytes are not 53 and 51.
@@ -17,7 +17,7 @@ pub enum WireFault {
     Version,
     /// The fourth byte is neither 01 nor 02.
     Kind,
-    /// The body is to have more than 1,048,576 bytes.
+    /// By its head the body has more than 1,048,576 bytes.
     TooLong,
     /// The bytes end before the head or the body does.
     Short,

@@ -19,7 +19,7 @@ use std::marker::Model;
 pub struct Heard {
     /// The messages whose frames ended in the piece, in the order of the stream.
     pub messages: Vec<Message>,
-    /// The fault of what follows them, where there is one. It is neither `Short` nor `NoMemory`.
+    /// The fault of what follows them, if there is one. It is neither `Short` nor `NoMemory`.
     pub fault: Option<WireFault>,
 }
 
@@ -58,7 +58,8 @@ impl From<AllocError> for FeedFault {
 }
 
 /// Takes a stream of frames in pieces of any length, and gives its messages as their frames end.
-/// Where the stream is cut tells nothing. The first fault ends the stream.
+/// How the stream is cut into pieces does not change what is heard. The first fault ends the
+/// stream.
 ///
 /// Contracts see a feed as the bytes that wait for the rest of their frame, and whether a fault
 /// has ended the stream.
@@ -78,8 +79,8 @@ impl Model for Feed {
     ghost invariant = { λ f. IsFeed (feed_with f.waiting.items f.failed) };
 }
 
-/// The fault that a feed tells where `decode` answered this one: none where the bytes to come may
-/// mend it. It fails where an allocation failed.
+/// The fault that a feed reports if `decode` answered this one: none if more bytes may mend it. An
+/// error means that an allocation failed.
 fn lasting(fault: WireFault) -> Result<Option<WireFault>, AllocError>
     ensures told { IfOk result (λ told. (bytes : List ℕ) → (fault ≢ WireFault.NoMemory → message_at bytes ≡ Err fault) → EndsIn told bytes) }
     ensures memory { fault ≢ WireFault.NoMemory → IsOk result }
@@ -111,7 +112,8 @@ fn hear(alloc: Global, bytes: &[u8]) -> Result<(Heard, &[u8]), AllocError>
     }
 }
 
-/// Takes a piece where no bytes wait. Of the piece only what has to wait is copied.
+/// Takes a piece if no bytes wait. Of the piece only what has to wait is copied. An error means
+/// that an allocation failed: no bytes wait then.
 fn take_first(waiting: &mut Vec<u8>, piece: &[u8]) -> Result<Heard, AllocError>
     requires { waiting.old.items ≡ [] }
     ensures heard { IfOk result (λ heard. WaitsOn waiting.old.items piece.now heard.messages.items heard.fault waiting.new.items) }
@@ -124,7 +126,8 @@ fn take_first(waiting: &mut Vec<u8>, piece: &[u8]) -> Result<Heard, AllocError>
     Ok(heard)
 }
 
-/// Takes a piece after bytes that wait, which are the beginning of its first frame.
+/// Takes a piece after bytes that wait, which are the beginning of its first frame. An error means
+/// that an allocation failed: the bytes that wait are then unchanged.
 fn take_next(waiting: &mut Vec<u8>, piece: &[u8]) -> Result<Heard, AllocError>
     ensures heard { IfOk result (λ heard. WaitsOn waiting.old.items piece.now heard.messages.items heard.fault waiting.new.items) }
     ensures err { OnErr result (waiting.new.items ≡ waiting.old.items) }
@@ -147,7 +150,8 @@ fn take_next(waiting: &mut Vec<u8>, piece: &[u8]) -> Result<Heard, AllocError>
     Ok(heard)
 }
 
-/// Takes a piece after the bytes that wait, if any do. Where it fails they are as they were.
+/// Takes a piece after the bytes that wait, if any do. An error means that an allocation failed:
+/// the bytes that wait are then unchanged.
 fn take_piece(waiting: &mut Vec<u8>, piece: &[u8]) -> Result<Heard, AllocError>
     ensures heard { IfOk result (λ heard. WaitsOn waiting.old.items piece.now heard.messages.items heard.fault waiting.new.items) }
     ensures err { OnErr result (waiting.new.items ≡ waiting.old.items) }
@@ -170,9 +174,10 @@ impl Feed {
         }
     }
 
-    /// Takes the next piece of the stream, and gives the messages whose frames end in it, then the
-    /// fault of what follows them where there is one. `Failed` where a fault ended the stream
-    /// before. Where an allocation failed the piece was not taken, and may be pushed again.
+    /// Takes the next piece of the stream, and gives the messages whose frames end in it, and the
+    /// fault of what follows them if there is one. `Failed` means that a fault ended the stream
+    /// before. `NoMemory` means that an allocation failed: the piece was not taken, and may be
+    /// pushed again.
     pub fn push(&mut self, piece: &[u8]) -> Result<Heard, FeedFault>
         ensures heard { IfOk result (λ heard. HearsOn self.old piece.now heard.messages.items heard.fault self.new) }
         ensures failed { result ≡ Err Failed ↔ (self.old.failed ≡ true) }
@@ -193,7 +198,7 @@ impl Feed {
         self.failed
     }
 
-    /// A feed that waits for the same as this one. It fails only where an allocation fails.
+    /// A feed that waits for the same as this one. An error means that an allocation failed.
     pub fn copied(&self, alloc: Global) -> Result<Feed, AllocError>
         ensures { IfOk result (λ f. f ≡ self.now) }
     {

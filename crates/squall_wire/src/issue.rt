@@ -1,4 +1,4 @@
-//! What is issued under a number, as it stands in a frame.
+//! What is issued under a number, in the form of a frame.
 
 ghost use Rattle.std.specs.Prelude.{◌≡◌};
 ghost use Rattle.std.specs.Arc.{arc_value};

@@ -109,8 +109,8 @@ fn write_issued(out: &mut Vec<u8>, issue: &Flat<Arc<Issue>>) -> Result<(), Alloc
     }
 }
 
-/// The bytes of what is issued under the number, as it stands in a delta: the number, a mark, and
-/// both plans of a pair. It fails only where an allocation fails.
+/// The bytes in a delta of what is issued under the number: the number, a mark, and both plans of a
+/// pair. An error means that an allocation failed.
 pub fn issue_bytes(
     alloc: Global,
     number: u32,

@@ -21,8 +21,8 @@ pub fn one_frame()
     ensures { (m n : MessageValue) (x y : List ℕ) → IsMessage m → IsMessage n → spell m ++ x ≡ spell n ++ y → (m ≡ n) × (x ≡ y) }
 {}
 
-/// In a stream one thing is heard: one list of messages, one fault or none, and one rest. So the
-/// messages that a feed has given are those whose frames begin the stream, and no others can be.
+/// A stream has one reading: one list of messages, one fault or none, and one rest. So the messages
+/// that a feed has given are those whose frames begin the stream, and there can be no others.
 pub fn one_hearing()
     ensures { (stream : List ℕ) (ms ns : List MessageValue) (f g : Option WireFault) (r q : List ℕ) → IsHeard stream ms f r
         → IsHeard stream ns g q → (ms ≡ ns) × (f ≡ g) × (r ≡ q) }
@@ -54,23 +54,22 @@ pub fn pushes_are_one()
         → HearsOn middle t ns f new → HearsOn old (s ++ t) (ms ++ ns) f new }
 {}
 
-/// What comes after a piece with a fault is not heard: the feed would hear the same in the piece
-/// and any bytes after it as one piece.
+/// What comes after a piece with a fault is not heard. The feed would hear the same in one piece of
+/// it and any bytes after it.
 pub fn faults_end_the_stream()
     ensures { (old new : FeedValue) (s t : List ℕ) (ms : List MessageValue) (f : WireFault) → HearsOn old s ms (Some f) new
         → HearsOn old (s ++ t) ms (Some f) new }
 {}
 
-/// Whatever pieces a new feed has taken, the messages that it gave are those whose frames begin
-/// the stream of all the pieces, its fault is that of what follows them, and what waits in it is
-/// the rest of the stream.
+/// A new feed that has taken pieces gave the messages whose frames begin the stream of all the
+/// pieces. Its fault is that of what follows them, and what waits in it is the rest of the stream.
 pub fn pieces_begin_the_stream()
     ensures { (pieces : List (List ℕ)) (ms : List MessageValue) (f : Option WireFault) (new : FeedValue) → HearsAll new_feed pieces ms f new
         → HearsOn new_feed (concat pieces) ms f new }
 {}
 
-/// Where a stream is cut tells nothing: new feeds that take the pieces of one stream, cut in two
-/// ways, give the same messages and the same fault, and end as the same feed.
+/// How a stream is cut into pieces does not change what is heard. Two new feeds that take the
+/// pieces of one stream, cut in two ways, give the same messages and the same fault, and end equal.
 pub fn cutting_tells_nothing()
     ensures { (ps qs : List (List ℕ)) (ms ns : List MessageValue) (f g : Option WireFault) (new end : FeedValue) → concat ps ≡ concat qs
         → HearsAll new_feed ps ms f new → HearsAll new_feed qs ns g end → (ms ≡ ns) × (f ≡ g) × (new ≡ end) }

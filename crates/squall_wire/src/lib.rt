@@ -1,9 +1,23 @@
 //! Boards and digests as frames of bytes.
 //!
 //! A frame holds one message: a delta, which is a board, or a digest of one. Each message has one
-//! frame, and no frame begins another, so that a stream of frames may be cut anywhere.
+//! frame, and no frame begins another. So a stream of frames may be cut anywhere.
 //!
 //! Its tests are in `crates/squall_test_frames/src/wire.rt`.
+//!
+//! # Example
+//!
+//! A board is encoded into a frame, and the frame decodes to the same board.
+//!
+//! ```rust
+//! fn frame_and_back(rt: &impl Abort, alloc: Global, board: &Board) -> Result<(), Fail> {
+//!     let frame = encode_board(alloc, board)?;
+//!     let (message, used) = decode(alloc, &frame)?;
+//!     assert!(rt; used == frame.len());
+//!     assert!(rt; matches!(&message, Message::Delta(read) if *read == *board));
+//!     Ok(())
+//! }
+//! ```
 #![tactic(auto)]
 
 mod build;

@@ -7,7 +7,7 @@ use crate::digest::{DigestRow, IssueRow};
 use squall_board::Opening;
 use squall_key::PART_LIMIT;
 
-/// A type whose values stand in lists by rising place `P`.
+/// A type whose values are in lists by rising place `P`.
 trait Placed<P> {
     /// What holds of a value within its limits that comes after a place.
     ghost fits: { P → Self → Type 0 };
@@ -66,8 +66,8 @@ impl Placed<(u32, u32)> for DigestRow {
     }
 }
 
-/// Whether each item lies within its limits and comes after the one before it, the first after a
-/// place, and four bytes hold how many they are.
+/// Whether each item lies within its limits and comes after the one before it, or the first after
+/// `start`, and four bytes hold their count.
 fn are_listed<P: Copy, T: Placed<P>>(start: P, items: &[T]) -> bool
     ensures { IsTrue result ↔ AreListed T.fits (λ _ item. T.place item) start items.now }
 {

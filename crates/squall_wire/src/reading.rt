@@ -1,4 +1,4 @@
-//! Reading from the front of bytes.
+//! Reading from the beginning of bytes.
 
 pub(crate) mod body;
 mod cell;

@@ -10,7 +10,7 @@ ghost use Rattle.squall_wire.specs.Spelling.{word, spell_list, spell_some};
 use crate::encoding::EncodeFault;
 use std::alloc::AllocError;
 
-/// No body of a frame has more bytes.
+/// The most bytes that a body of a frame has.
 pub(crate) const BODY_LIMIT: usize = 1_048_576;
 
 /// A type whose values have a spelling.
@@ -21,7 +21,7 @@ pub(crate) trait Spelled {
     /// What holds of each value of the type.
     ghost holds: { Self → Type 0 } = { λ _. Unit {0} };
 
-    /// Adds the bytes of the value. It fails only where an allocation fails.
+    /// Adds the bytes of the value. An error means that an allocation failed.
     fn write(&self, out: &mut Vec<u8>) -> Result<(), AllocError>
         ensures written { OnOk result (out.new.items ≡ out.old.items ++ spelling self.now) }
         ensures known { OnOk result (holds self.now) };
@@ -34,7 +34,7 @@ pub(crate) fn count_bytes(count: usize) -> [u8; 4]
     ((count % 4_294_967_296) as u32).to_be_bytes()
 }
 
-/// Adds the items. It fails only where an allocation fails.
+/// Adds the items. An error means that an allocation failed.
 pub(crate) fn write_items<T: Spelled>(out: &mut Vec<u8>, items: &[T]) -> Result<(), AllocError>
     ensures written { OnOk result (out.new.items ≡ out.old.items ++ flat_map T.spelling items.now) }
     ensures known { OnOk result (AllByRecursion T.holds items.now) }
@@ -45,7 +45,7 @@ pub(crate) fn write_items<T: Spelled>(out: &mut Vec<u8>, items: &[T]) -> Result<
     Ok(())
 }
 
-/// Adds the count of the items and the items. It fails only where an allocation fails.
+/// Adds the count of the items and the items. An error means that an allocation failed.
 pub(crate) fn write_list<T: Spelled>(out: &mut Vec<u8>, items: &[T]) -> Result<(), AllocError>
     ensures written { OnOk result (out.new.items ≡ out.old.items ++ spell_list T.spelling items.now) }
     ensures known { OnOk result (AllByRecursion T.holds items.now) }
@@ -54,7 +54,7 @@ pub(crate) fn write_list<T: Spelled>(out: &mut Vec<u8>, items: &[T]) -> Result<(
     write_items(out, items)
 }
 
-/// Adds the value, unless the bytes are too many for a body with it.
+/// Adds the value. `TooLong` means that the bytes with it are too many for a body.
 fn write_within<T: Spelled>(out: &mut Vec<u8>, item: &T) -> Result<(), EncodeFault>
     ensures written { OnOk result (out.new.items ≡ out.old.items ++ T.spelling item.now) }
     ensures known { OnOk result (T.holds item.now) }
@@ -67,7 +67,8 @@ fn write_within<T: Spelled>(out: &mut Vec<u8>, item: &T) -> Result<(), EncodeFau
     Ok(())
 }
 
-/// Adds the count of the items and the items, as far as the bytes are not too many for a body.
+/// Adds the count of the items and the items. `TooLong` means that the bytes are too many for a
+/// body.
 pub(crate) fn write_all<T: Spelled>(out: &mut Vec<u8>, items: &[T]) -> Result<(), EncodeFault>
     ensures written { OnOk result (out.new.items ≡ out.old.items ++ spell_list T.spelling items.now) }
     ensures known { OnOk result (AllByRecursion T.holds items.now) }
@@ -80,7 +81,8 @@ pub(crate) fn write_all<T: Spelled>(out: &mut Vec<u8>, items: &[T]) -> Result<()
     Ok(())
 }
 
-/// Adds the count of the items and the items where there is an item.
+/// Adds the count of the items and the items, if there is an item. `TooLong` means that the bytes
+/// are too many for a body.
 pub(crate) fn write_some<T: Spelled>(out: &mut Vec<u8>, items: &[T]) -> Result<(), EncodeFault>
     ensures written { OnOk result (out.new.items ≡ out.old.items ++ spell_some T.spelling items.now) }
     ensures known { OnOk result (AllByRecursion T.holds items.now) }

@@ -1,4 +1,4 @@
-//! What puts items into pieces, one after the other.
+//! Items are put into pieces, one after the other.
 
 ghost use Rattle.std.specs.Prelude.{◌≡◌, ◌<◌, ◌≤◌, ◌+◌, ◌-◌, ◌*◌, ◌++◌, ◌∷◌, [], false, map, length, IfOk, OnOk, Some};
 ghost use Rattle.std.specs.Arc.{arc_value};
@@ -24,7 +24,7 @@ use std::alloc::{AllocError, Global};
 use std::mem;
 use std::sync::Arc;
 
-/// No body of a frame has more bytes.
+/// The most bytes that a body of a frame has.
 const BODY_LIMIT: usize = 1_048_576;
 
 /// The bytes of a body without items: the counts of its openings and of its cells.
@@ -66,7 +66,7 @@ fn completion(place: CellId) -> Report
     Report::done(place.number(), place.sub(), place.part().get()).unwrap()
 }
 
-/// The empty set, with room for so many spans.
+/// The empty set, with room for `count` spans.
 fn ready_for(alloc: Global, count: usize) -> Result<ReadySet, AllocError>
     ensures empty { IfOk result (λ r. r.set ≡ []) }
     ensures room { IfOk result (λ r. count ≤ r.room) }
@@ -77,7 +77,7 @@ fn ready_for(alloc: Global, count: usize) -> Result<ReadySet, AllocError>
     }
 }
 
-/// The set of spans that stand as those of a set do.
+/// The set of spans that are in the order of a set.
 fn set_of(alloc: Global, spans: &[Span]) -> Result<SpanSet, AllocError>
     requires { IsCanonical spans.now }
     ensures { IfOk result (λ set. set ≡ spans.now) }
@@ -145,7 +145,7 @@ impl Cutter {
         Ok(())
     }
 
-    /// Finishes the piece where its body would be too long by so many bytes more.
+    /// Finishes the piece if its body would be too long with `bytes` more bytes.
     fn make_room(&mut self, bytes: usize) -> Result<(), AllocError>
         requires measured { IsMeasured self.old.piece self.old.length self.old.has_issues self.old.last }
         requires few { bytes ≤ 100000 }
@@ -173,7 +173,7 @@ impl Cutter {
         Ok(())
     }
 
-    /// How many bytes the piece's body grows by with an issue of so many bytes: the first issue
+    /// How many bytes the piece's body grows by with an issue of `bytes` bytes. The first issue
     /// brings the count of the issues.
     fn bytes_with_count(&self, bytes: usize) -> usize
         requires { bytes ≤ 98317 }
@@ -214,7 +214,7 @@ impl Cutter {
         Ok(())
     }
 
-    /// Puts the completion of a cell into the piece, where it is complete.
+    /// Puts the completion of a cell into the piece, if the cell is complete.
     fn put_flag(&mut self, place: CellId, complete: bool) -> Result<(), AllocError>
         requires measured { IsMeasured self.old.piece self.old.length self.old.has_issues self.old.last }
         requires next { AreNext self.old.piece (flag_items place complete) }

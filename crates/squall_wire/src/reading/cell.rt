@@ -15,7 +15,8 @@ use squall_key::PART_LIMIT;
 use std::alloc::Global;
 use std::marker::Model;
 
-/// Where the last cell stands, all 0 before the first. Contracts see it as these three numbers.
+/// The number, sub-plan and partition of the last cell, all 0 before the first. Contracts see it as
+/// these three numbers.
 #[derive(Clone, Copy)]
 pub(crate) struct CellPoint {
     number: u32,
@@ -55,7 +56,7 @@ impl CellPoint {
     }
 }
 
-/// What stands before the spans of a cell.
+/// What comes before the spans of a cell.
 #[derive(Clone, Copy)]
 struct CellHead {
     number: u32,
@@ -65,7 +66,7 @@ struct CellHead {
     count: u32,
 }
 
-/// The head at the front of the bytes, and the bytes after it.
+/// The head that begins the bytes, and the bytes after it.
 #[tactic(auto, unfolding(crate::specs::Reading::head_at))]
 fn head_of(last: CellPoint, bytes: &[u8]) -> Result<(CellHead, &[u8]), WireFault>
     ensures { Gives (λ x. (head_seen x.0, x.1.now)) result (head_at last bytes.now) }
@@ -96,7 +97,7 @@ fn head_of(last: CellPoint, bytes: &[u8]) -> Result<(CellHead, &[u8]), WireFault
     Ok((head, rest))
 }
 
-/// The point is where the last cell stands.
+/// The point is the place of the last cell.
 impl Item for Cell {
     type Point = CellPoint;
 

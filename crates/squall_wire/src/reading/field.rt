@@ -1,4 +1,4 @@
-//! Fields at the front of bytes.
+//! Fields that begin bytes.
 
 ghost use Rattle.std.specs.Prelude.{◌≡◌, length};
 ghost use Rattle.std.specs.Int.{w32, w64};
@@ -9,7 +9,7 @@ use crate::fault::WireFault;
 /// How many bytes a hash has.
 const HASH_LENGTH: usize = 32;
 
-/// The number of four bytes at the front, and the bytes after it.
+/// The number of the first four bytes, and the bytes after it.
 pub(crate) fn word_at(bytes: &[u8]) -> Result<(u32, &[u8]), WireFault>
     ensures { Gives (λ x. (x.0, x.1.now)) result (number_at w32 bytes.now) }
 {
@@ -21,7 +21,7 @@ pub(crate) fn word_at(bytes: &[u8]) -> Result<(u32, &[u8]), WireFault>
     Ok((number, rest))
 }
 
-/// The number of eight bytes at the front, and the bytes after it.
+/// The number of the first eight bytes, and the bytes after it.
 pub(crate) fn rank_at(bytes: &[u8]) -> Result<(u64, &[u8]), WireFault>
     ensures { Gives (λ x. (x.0, x.1.now)) result (number_at w64 bytes.now) }
 {
@@ -35,7 +35,7 @@ pub(crate) fn rank_at(bytes: &[u8]) -> Result<(u64, &[u8]), WireFault>
     Ok((number, rest))
 }
 
-/// The byte at the front, and the bytes after it.
+/// The first byte, and the bytes after it.
 pub(crate) fn byte_at(bytes: &[u8]) -> Result<(u8, &[u8]), WireFault>
     ensures { Gives (λ x. (x.0, x.1.now)) result (byte_at bytes.now) }
 {
@@ -45,7 +45,7 @@ pub(crate) fn byte_at(bytes: &[u8]) -> Result<(u8, &[u8]), WireFault>
     }
 }
 
-/// The hash at the front, and the bytes after it.
+/// The hash that begins the bytes, and the bytes after it.
 #[tactic(auto, unfolding(crate::specs::Reading::hash_at))]
 pub(crate) fn hash_at(bytes: &[u8]) -> Result<([u8; HASH_LENGTH], &[u8]), WireFault>
     ensures { Gives (λ x. (x.0, x.1.now)) result (hash_at bytes.now) }

@@ -7,24 +7,24 @@ ghost use Rattle.squall_wire.specs.Views.{frame_seen};
 
 use crate::fault::WireFault;
 
-/// How many bytes stand before a body.
+/// How many bytes come before a body.
 const HEAD_LENGTH: usize = 8;
 
 /// The longest body.
 const BODY_LIMIT: usize = 1048576;
 
-/// A frame at the front of bytes.
+/// A frame that begins bytes.
 #[derive(Clone, Copy)]
 pub(crate) struct Frame<'a> {
     /// 1 or 2.
     pub(crate) version: u8,
     /// 1 for a delta, 2 for a digest.
     pub(crate) kind: u8,
-    /// What stands after the head.
+    /// What comes after the head.
     pub(crate) body: &'a [u8],
 }
 
-/// The frame at the front of the bytes. The error is the first fault that is met from the front.
+/// The frame that begins the bytes. The error is the first fault from the beginning.
 #[tactic(auto, unfolding(crate::specs::Reading::frame_at))]
 pub(crate) fn frame_of(bytes: &[u8]) -> Result<Frame<'_>, WireFault>
     ensures frame { Gives frame_seen result (frame_at bytes.now) }

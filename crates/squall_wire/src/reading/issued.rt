@@ -15,7 +15,7 @@ use squall_report::Issue;
 use std::alloc::Global;
 use std::sync::Arc;
 
-/// The number and the mark at the front of the bytes, and the bytes after them.
+/// The number and the mark that begin the bytes, and the bytes after them.
 #[tactic(auto, unfolding(crate::specs::Reading::issue_head_at))]
 fn head_of(last: u32, bytes: &[u8]) -> Result<(u32, u8, &[u8]), WireFault>
     ensures { Gives (λ x. ((x.0, x.1), x.2.now)) result (issue_head_at last bytes.now) }
@@ -31,8 +31,8 @@ fn head_of(last: u32, bytes: &[u8]) -> Result<(u32, u8, &[u8]), WireFault>
     Ok((number, mark, rest))
 }
 
-/// What is issued, at the front of the bytes, and the bytes after it: a clash after mark 2, else
-/// two plans.
+/// What is issued, at the beginning of the bytes, and the bytes after it: a clash after mark 2,
+/// else two plans.
 #[tactic(auto, unfolding(crate::specs::Reading::issued_at))]
 fn issued_of(alloc: Global, mark: u8, bytes: &[u8]) -> Result<(Flat<Arc<Issue>>, &[u8]), WireFault>
     ensures { Gives (λ x. (flat_map arc_value x.0, x.1.now)) result (issued_at mark bytes.now) }

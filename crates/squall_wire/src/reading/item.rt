@@ -1,4 +1,4 @@
-//! Items that stand in lists.
+//! Items of lists.
 
 ghost use Rattle.std.specs.Prelude.{◌≡◌, ℕ, List};
 ghost use Rattle.squall_wire.specs.Reading.{Gives, Read};
@@ -6,23 +6,23 @@ ghost use Rattle.squall_wire.specs.Reading.{Gives, Read};
 use crate::fault::WireFault;
 use std::alloc::Global;
 
-/// An item that stands in a list. Whether it fits there depends on where the list has come to.
+/// An item of a list. Whether it fits depends on the point: on what matters of the list so far.
 pub(crate) trait Item: Drop {
-    /// Where a list has come to.
+    /// What matters of a list so far.
     type Point: Copy;
 
-    /// The item at the front of bytes.
+    /// The item that begins bytes.
     ghost read_at: { Self.Point → List ℕ → Read Self };
 
-    /// Where a list has come to after an item.
+    /// The point of a list after an item.
     ghost next: { Self.Point → Self → Self.Point };
 
-    /// The item at the front of the bytes, and the bytes after it. The error is the first fault of
-    /// the item that is met, or that an allocation failed.
+    /// The item that begins the bytes, and the bytes after it. The error is the first fault of the
+    /// item, or that an allocation failed.
     fn read(alloc: Global, point: Self::Point, bytes: &[u8]) -> Result<(Self, &[u8]), WireFault>
         ensures { Gives (λ x. (x.0, x.1.now)) result (read_at point bytes.now) };
 
-    /// Where a list that has come to the point is after the item.
+    /// The point after the item, of a list that was at this point.
     fn after(&self, point: Self::Point) -> Self::Point
         ensures { result ≡ next point self.now };
 }

@@ -7,12 +7,12 @@ use crate::reading::field::word_at;
 use crate::reading::item::Item;
 use std::alloc::Global;
 
-/// Room for one item in so many bytes is made at once, and for others as they come: openings, and
+/// Memory for one item in each 16 bytes is allocated at once, and more as items come. Openings, and
 /// the ranges of plans, have fewer bytes.
 const BYTES_OF_ROOM: usize = 16;
 
-/// So many items at the front of the bytes, and the bytes after them. Room is made at
-/// first for one item in 16 bytes at most, so that a great count before few bytes costs nothing.
+/// The first `count` items of the bytes, and the bytes after them. At first it allocates memory for
+/// at most one item in each 16 bytes. So a great count before few bytes costs nothing.
 pub(crate) fn many<T: Item>(
     alloc: Global,
     count: u32,
@@ -34,7 +34,7 @@ pub(crate) fn many<T: Item>(
     Ok((items, rest))
 }
 
-/// A count at the front of the bytes and as many items, and the bytes after them.
+/// The items after the count that begins the bytes, as many as it says, and the bytes after them.
 #[tactic(auto, unfolding(crate::specs::Reading::list_at))]
 pub(crate) fn list<T: Item>(
     alloc: Global,
@@ -63,7 +63,8 @@ pub(crate) fn some<T: Item>(
     many(alloc, count, start, rest)
 }
 
-/// The list of at least one item that stands in the second version alone: no item in the first.
+/// The list that only the second version has, of at least one item. In the first version there is
+/// no item.
 pub(crate) fn second<T: Item>(
     alloc: Global,
     version: u8,

@@ -12,7 +12,7 @@ use squall_plan::laws::one_list;
 use squall_plan::{Plan, PlanRange, RANGE_LIMIT};
 use std::alloc::Global;
 
-/// The ranges of a plan at the front of the bytes, and the bytes after them.
+/// The ranges of a plan that begin the bytes, and the bytes after them.
 #[tactic(auto, unfolding(crate::specs::Reading::plan_at))]
 fn ranges_of(alloc: Global, bytes: &[u8]) -> Result<(Vec<PlanRange>, &[u8]), WireFault>
     ensures { Gives (λ x. (x.0.items, x.1.now)) result (plan_at bytes.now) }
@@ -24,7 +24,7 @@ fn ranges_of(alloc: Global, bytes: &[u8]) -> Result<(Vec<PlanRange>, &[u8]), Wir
     many(alloc, count, RangePoint::start(count), rest)
 }
 
-/// The plan of ranges that stand as those of a plan do.
+/// The plan of ranges that are in the order of a plan.
 fn plan_from(alloc: Global, ranges: &[PlanRange]) -> Result<Plan, WireFault>
     requires { FitsPlan ranges.now }
     ensures { Gives (λ p. p) result (Ok ranges.now) }
@@ -32,12 +32,12 @@ fn plan_from(alloc: Global, ranges: &[PlanRange]) -> Result<Plan, WireFault>
     one_list();
     match Plan::from_ranges(alloc, ranges) {
         Ok(plan) => Ok(plan),
-        // The ranges are a plan, so that nothing fails but an allocation.
+        // The ranges are a plan, so only an allocation can fail.
         Err(_) => Err(WireFault::NoMemory),
     }
 }
 
-/// The plan at the front of the bytes, and the bytes after it.
+/// The plan that begins the bytes, and the bytes after it.
 pub(crate) fn plan_of(alloc: Global, bytes: &[u8]) -> Result<(Plan, &[u8]), WireFault>
     ensures { Gives (λ x. (x.0, x.1.now)) result (plan_at bytes.now) }
 {

@@ -14,8 +14,8 @@ use squall_span::Span;
 use std::alloc::Global;
 use std::marker::Model;
 
-/// Where the next range begins, the partition of the range before it, and how many ranges are
-/// left.
+/// The bound at which the next range begins, the partition of the range before it, and how many
+/// ranges are left.
 #[derive(Clone, Copy)]
 pub(crate) struct RangePoint {
     from: Bound,
@@ -34,7 +34,7 @@ impl Model for RangePoint {
 }
 
 impl RangePoint {
-    /// Before the first of so many ranges.
+    /// The point before the first of `count` ranges.
     pub(crate) fn start(count: u32) -> RangePoint
         ensures { result ≡ plan_start count }
     {
@@ -64,7 +64,8 @@ impl RangePoint {
     }
 }
 
-/// The point is where the next range begins, and what it must not be.
+/// The point is the bound at which the next range begins, the partition that it must not have, and
+/// how many ranges are left.
 impl Item for PlanRange {
     type Point = RangePoint;
 

@@ -28,8 +28,8 @@ fn span_of(floor: u64, lo: u64, hi: u64) -> Result<Span, WireFault>
     Span::new(from, to).ok_or(WireFault::Order)
 }
 
-/// Adds the span at the front of the bytes to the set, in room that is there. It gives the floor
-/// of the next span, and the bytes after this one.
+/// Adds the span that begins the bytes to the set, in spare capacity. It gives the floor of the
+/// next span, and the bytes after this one.
 #[tactic(auto, unfolding(crate::specs::Reading::span_at))]
 fn add_span<'a>(
     spans: &mut ReadySet,
@@ -47,7 +47,7 @@ fn add_span<'a>(
     Ok((span.hi().rank() + 1, rest))
 }
 
-/// The empty set, with room for so many spans, but for no more than the bytes can hold. So a great
+/// The empty set, with room for `count` spans, but for no more than the bytes can hold. So a great
 /// count before few bytes costs nothing.
 fn room_for(alloc: Global, count: u32, bytes: &[u8]) -> Result<ReadySet, WireFault>
     ensures empty { IfOk result (λ r. r.set ≡ []) }
@@ -61,8 +61,8 @@ fn room_for(alloc: Global, count: u32, bytes: &[u8]) -> Result<ReadySet, WireFau
     }
 }
 
-/// So many spans at the front of the bytes as a set, and the bytes after them. Each begins above
-/// the end of the one before it.
+/// The first `count` spans of the bytes as a set, and the bytes after them. Each begins above the
+/// end of the one before it.
 pub(crate) fn spans_of(
     alloc: Global,
     count: u32,

@@ -1,0 +1,35 @@
+//! The example on the first page of the crate.
+
+use crate::wire::{EMPTY_DELTA, LOAD, board_of};
+use squall_board::Board;
+use squall_delta::{digest, repair};
+use std::alloc::{AllocError, Global};
+use std::process::Abort;
+use std::test::Fail;
+
+/// Brings a board what another one has, by a digest and a repair.
+fn repair_completes(
+    rt: &impl Abort,
+    alloc: Global,
+    board: &mut Board,
+    other: &Board,
+) -> Result<(), AllocError> {
+    let shown = digest(alloc, board)?;
+    let missing = repair(alloc, other, &shown)?;
+    assert!(rt; other.covers(&missing));
+    board.merge(&missing)?;
+    assert!(rt; board.covers(other));
+    Ok(())
+}
+
+/// Repairs the board by that of the load.
+fn repair_by_the_load(rt: &impl Abort, alloc: Global, board: &mut Board) -> Result<(), Fail> {
+    let other = board_of(alloc, LOAD)?;
+    Ok(repair_completes(rt, alloc, board, &other)?)
+}
+
+#[test]
+fn repair_of_an_empty_board(rt: HostRuntime) -> Result<(), Fail> {
+    let mut board = board_of(rt.alloc(), EMPTY_DELTA)?;
+    repair_by_the_load(&rt, rt.alloc(), &mut board)
+}
