@@ -56,7 +56,7 @@ unit_upto q c n le few =
     let one : 1 * c ≡ c = omega arith in
     omega (arith, all, part, split, one, le)
 
--- so many columns are no wider than this
+-- that many columns are no wider than this
 units_few : (ts : List ℕ) (n : ℕ) → n ≤ columns ts → unit_of ts * n ≤ 960 + columns ts
 units_few ts n few = unit_upto (960 / max (columns ts) 1) (columns ts) n (div-mul-le_self 960 (max (columns ts) 1)) few
 

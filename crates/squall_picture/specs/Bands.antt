@@ -15,12 +15,12 @@ use Rattle.squall_picture.specs.Bars.{colour_of, box_text, number_text}
 abbrev pub is_opened : List SubplanStatus → ℕ → Bool
 is_opened ss sub = option_map_or (λ s. s.opened) (slice_get ss sub) false
 
--- what a move is: its keys, where they come from and go to, and its sub-plan
+-- what a move is: its keys, its source and its destination, and its sub-plan
 abbrev pub move_title : Move → List ℕ
 move_title m =
     text_of_span m.span ++ (codes " from " ++ (decimal m.source ++ (codes " to " ++ (decimal m.dest ++ (codes ", sub-plan " ++ decimal m.sub)))))
 
--- what a band says of itself: its move, and how many of its keys are loaded
+-- the title of a band: its move, and how many of its keys are loaded
 abbrev pub band_title : MoveStatus → List ℕ
 band_title s =
     codes "<title>" ++ (move_title s.moving ++ (codes ", loaded " ++ (decimal (move_loaded s)
@@ -30,11 +30,11 @@ band_title s =
 abbrev pub opened_text : Bool → List ℕ
 opened_text opened = if opened then codes " open" else codes " shut"
 
--- how a band is outlined: by whether its sub-plan is opened, and without a line if it is narrow
+-- how a band is outlined: as its sub-plan is opened or not, and without a line if it is narrow
 abbrev pub look_text : Bool → ℕ → List ℕ
 look_text opened width = opened_text opened ++ (if nat_lt width 8 then codes " thin" else [])
 
--- the part of a band that stands for its loaded keys
+-- the part of a band that shows its loaded keys
 abbrev pub load_text : ℕ → ℕ → ℕ → List ℕ
 load_text colour x fill = codes "<rect class='c" ++ (decimal colour ++ (codes " load'" ++ box_text x 108 fill 96))
 
@@ -47,7 +47,7 @@ outline_text colour x width opened =
 abbrev pub parts_text : ℕ → ℕ → ℕ → ℕ → Bool → ℕ → List ℕ
 parts_text colour x width fill opened sub = load_text colour x fill ++ (outline_text colour x width opened ++ number_text x 108 width sub)
 
--- the band of a move of such a width, in the colour of its destination
+-- the band of a move of that width, in the colour of its destination
 abbrev pub shape_text : ℕ → ℕ → Bool → MoveStatus → List ℕ
 shape_text x width opened s = parts_text (colour_of s.moving.dest) x width (filled width (move_loaded s) (move_keys s)) opened s.moving.sub
 

@@ -11,7 +11,7 @@ use Rattle.squall_picture.specs.Scale.{x_of, width_of, is_written}
 abbrev pub colour_of : ℕ → ℕ
 colour_of part = part % 12
 
--- where a rectangle stands and how large it is
+-- the position and the size of a rectangle
 abbrev pub box_text : ℕ → ℕ → ℕ → ℕ → List ℕ
 box_text x y width height =
     codes " x='" ++ (decimal x ++ (codes "' y='" ++ (decimal y
@@ -23,11 +23,11 @@ number_text x y width number =
     if nat_lt width 24 then [] else
     codes "<text x='" ++ (decimal x ++ (codes "' y='" ++ (decimal y ++ (codes "' dx='4' dy='16'>" ++ (decimal number ++ codes "</text>")))))
 
--- what a bar says of itself: its partition and its keys
+-- the title of a bar: its partition and its keys
 abbrev pub bar_title : PlanRange → List ℕ
 bar_title r = codes "<title>partition " ++ (decimal r.part ++ (codes ": " ++ (text_of_span r.span ++ codes "</title>")))
 
--- the begin of a rectangle of the colour
+-- the beginning of a rectangle of the colour
 abbrev pub rect_text : ℕ → List ℕ
 rect_text colour = codes "<rect class='c" ++ (decimal colour ++ codes "'")
 
@@ -39,11 +39,11 @@ bar_rect colour x y width part = rect_text colour ++ (box_text x y width 24 ++ n
 abbrev pub bar_group : ℕ → ℕ → ℕ → ℕ → ℕ → PlanRange → List ℕ
 bar_group colour x y width part r = codes "<g class='bar'>" ++ (bar_title r ++ (bar_rect colour x y width part ++ codes "</g>\n"))
 
--- the bar of a range, so far from the top, in the colour of its partition
+-- the bar of a range, that far from the top, in the colour of its partition
 abbrev pub bar_text : List ℕ → ℕ → PlanRange → List ℕ
 bar_text ts y r = bar_group (colour_of r.part) (x_of ts r.span.lo) y (width_of ts r.span) r.part r
 
--- the bars of a plan, so far from the top
+-- the bars of a plan, that far from the top
 abbrev pub bars_text : List ℕ → ℕ → List PlanRange → List ℕ
 bars_text ts y rs = flat_map (bar_text ts y) rs
 

@@ -1,4 +1,4 @@
--- What stands around plans and moves in a picture: its head, its colours and its legend, in SVG (this project's picture).
+-- What a picture has around plans and moves: its head, its colours and its legend, in SVG (this project's picture).
 use Rattle.std.specs.Prelude.{ℕ, ◌+◌, ◌*◌, ◌==◌, ◌||◌, Bool, length, List, ◌++◌, [], codes, if◌then◌else◌}
 use Rattle.std.specs.List.{flat_map, list_any, range_with_len}
 use Rattle.std.specs.Fmt.{decimal}
@@ -90,7 +90,7 @@ lines_text = bar_look ++ (band_look ++ tick_look)
 abbrev pub style_text : List ℕ
 style_text = codes "<style>\n" ++ (palette_text ++ (lines_text ++ codes "</style>\n"))
 
--- a white sheet, and the begin of the text on it
+-- a white sheet, and the beginning of the text on it
 abbrev pub sheet_text : ℕ → List ℕ
 sheet_text width = codes "<rect width='" ++ (decimal width ++ codes "' height='348' fill='#fff'/>\n<text x='96' y='20' font-size='13'>")
 
@@ -136,7 +136,7 @@ signs_text =
     ++ (codes "<rect class='c0 shut' x='280' y='54' width='24' height='12'/><text x='310' y='64'>sub-plan not opened</text>\n"
     ++ codes "<text x='430' y='64'>number in a band: its sub-plan</text>\n"))
 
--- what stands before the rows
+-- what comes before the rows
 abbrev pub rows_text : List ℕ
 rows_text = codes "<text x='40' y='100'>old plan</text>\n<text x='40' y='220'>new plan</text>\n"
 

@@ -13,7 +13,7 @@ use Rattle.squall_picture.specs.Frame.{head_text, legend_text}
 abbrev pub body_text : List ℕ → List PlanRange → List PlanRange → StatusValue → List ℕ
 body_text ts old new s = bars_text ts 84 old ++ (bands_text ts s.subplans s.moves ++ (bars_text ts 204 new ++ ticks_text ts ts))
 
--- the picture on an axis of these bounds, which makes it so wide
+-- the picture on an axis of these bounds, of that width
 abbrev pub wide_text : ℕ → List ℕ → List PlanRange → List PlanRange → StatusValue → List ℕ
 wide_text width ts old new s = head_text width s ++ (legend_text old new ++ (body_text ts old new s ++ codes "</svg>\n"))
 

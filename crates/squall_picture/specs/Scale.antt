@@ -1,4 +1,4 @@
--- Where keys stand in a picture (this project). All lengths are whole units.
+-- The positions of keys in a picture (this project). All lengths are whole units.
 use Rattle.std.specs.Prelude.{ℕ, ◌+◌, ◌-◌, ◌*◌, ◌/◌, ◌%◌, ◌==◌, ◌&&◌, ◌||◌, nat_lt, nat_le, max, Bool, false, List, [], ◌∷◌, if◌then◌else◌}
 use Rattle.std.specs.List.{count_by, insert, slice_get}
 use Rattle.std.specs.Option.{option_map_or}
@@ -39,7 +39,7 @@ columns ts = column ts top
 abbrev pub unit_of : List ℕ → ℕ
 unit_of ts = max (960 / max (columns ts) 1) 1
 
--- how far the bound stands from the left
+-- how far the bound is from the left
 abbrev pub x_of : List ℕ → ℕ → ℕ
 x_of ts b = 96 + unit_of ts * column ts b
 
@@ -51,16 +51,16 @@ width_of ts s = unit_of ts * (column ts s.hi - column ts s.lo)
 abbrev pub total_width : List ℕ → ℕ
 total_width ts = 128 + max (unit_of ts * columns ts) 960
 
--- how much of a width is filled if so many of the keys are loaded, rounded down
+-- how much of a width is filled if that many of the keys are loaded, rounded down
 abbrev pub filled : ℕ → ℕ → ℕ → ℕ
 filled width loaded keys = width * loaded / max keys 1
 
 -- ---- which bounds are written
 
--- of so many columns one bound is written: 60 units or more
+-- one bound is written for each group of this many columns: 60 units or more
 abbrev pub step_of : List ℕ → ℕ
 step_of ts = 1 + 59 / unit_of ts
 
--- the bound is written: the last one is, and each that is so many steps from the first, but none within a step before the last
+-- the bound is written: the last one is, and each that is whole steps from the first, but none less than a step before the last
 abbrev pub is_written : List ℕ → ℕ → Bool
 is_written ts b = (column ts b == columns ts) || ((column ts b % step_of ts == 0) && nat_le (step_of ts) (columns ts - column ts b))

@@ -1,4 +1,4 @@
-//! Where keys stand in a picture.
+//! The positions of keys in a picture.
 
 ghost use Rattle.std.specs.Prelude.{◌≡◌, ◌+◌, ◌*◌, ◌≤◌, ◌^◌, IfOk};
 ghost use Rattle.squall_key.specs.Keys.{top};
@@ -11,7 +11,7 @@ use squall_span::Span;
 use std::alloc::{AllocError, Global};
 use std::marker::Model;
 
-/// The bounds of both plans, and where they stand. Contracts see it as these bounds.
+/// The bounds of both plans, and their positions. Contracts see it as these bounds.
 #[derive(Drop)]
 pub(crate) struct Axis {
     ticks: Vec<Bound>,
@@ -51,7 +51,7 @@ impl Axis {
         &self.ticks
     }
 
-    /// How many columns stand to the left of the bound.
+    /// How many columns are to the left of the bound.
     fn column(&self, bound: Bound) -> usize
         ensures value { result ≡ column self.now bound }
         ensures most { result ≤ columns self.now }
@@ -68,7 +68,7 @@ impl Axis {
         self.column(Bound::TOP)
     }
 
-    /// How wide so many columns are.
+    /// How wide `count` columns are.
     fn wide(&self, count: usize) -> usize
         requires { count ≤ columns self.now }
         ensures value { result ≡ unit_of self.now * count }
@@ -77,7 +77,7 @@ impl Axis {
         self.unit * count
     }
 
-    /// How far the bound stands from the left.
+    /// How far the bound is from the left.
     pub(crate) fn x(&self, bound: Bound) -> usize
         ensures { result ≡ x_of self.now bound }
     {
@@ -111,7 +111,7 @@ impl Axis {
     }
 }
 
-/// How much of a width is filled if so many of the keys are loaded, rounded down.
+/// How much of a width is filled if `loaded` of `keys` keys are loaded, rounded down.
 pub(crate) fn filled(width: usize, loaded: u64, keys: u64) -> u128
     ensures { result ≡ filled width loaded keys }
 {

@@ -31,7 +31,7 @@ fn add_move(moving: &Move, out: &mut String) -> Result<(), AllocError>
     write!(out, "{span} from {source} to {dest}, sub-plan {sub}")
 }
 
-/// Adds what a band says of itself.
+/// Adds the title of a band.
 fn add_title(status: &MoveStatus, out: &mut String) -> Result<(), AllocError>
     ensures { OnOk result (string_bytes out.new ≡ string_bytes out.old ++ band_title status.now) }
 {
@@ -64,7 +64,7 @@ fn add_look(opened: bool, width: usize, out: &mut String) -> Result<(), AllocErr
     Ok(())
 }
 
-/// Adds the part of a band that stands for its loaded keys.
+/// Adds the part of a band that shows its loaded keys.
 fn add_load(colour: u32, x: usize, fill: u128, out: &mut String) -> Result<(), AllocError>
     ensures { OnOk result (string_bytes out.new ≡ string_bytes out.old ++ load_text colour x fill) }
 {
@@ -105,7 +105,7 @@ fn add_parts(
     add_number(x, 108, width, sub, out)
 }
 
-/// Adds the band of a move of such a width.
+/// Adds the band of a move at `x`, of the width `width`.
 fn add_shape(
     x: usize,
     width: usize,

@@ -17,7 +17,7 @@ pub(crate) fn colour_of(part: PartId) -> u32
     part.get() % 12
 }
 
-/// Adds where a rectangle stands and how large it is, and ends its tag.
+/// Adds the position and the size of a rectangle, and ends its tag.
 pub(crate) fn add_box(
     x: usize,
     y: u32,
@@ -46,7 +46,7 @@ pub(crate) fn add_number(
     write!(out, "<text x='{x}' y='{y}' dx='4' dy='16'>{number}</text>")
 }
 
-/// Adds what a bar says of itself.
+/// Adds the title of a bar.
 fn add_title(range: &PlanRange, out: &mut String) -> Result<(), AllocError>
     ensures { OnOk result (string_bytes out.new ≡ string_bytes out.old ++ bar_title range.now) }
 {
@@ -110,7 +110,7 @@ fn add_group(
     end_group(out)
 }
 
-/// Adds the bar of a range, so far from the top.
+/// Adds the bar of a range, `y` from the top.
 fn add_bar(axis: &Axis, y: u32, range: &PlanRange, out: &mut String) -> Result<(), AllocError>
     ensures { OnOk result (string_bytes out.new ≡ string_bytes out.old ++ bar_text axis.now y range.now) }
 {
@@ -122,7 +122,7 @@ fn add_bar(axis: &Axis, y: u32, range: &PlanRange, out: &mut String) -> Result<(
     add_group(colour, x, y, width, part, range, out)
 }
 
-/// Adds the bars of a plan, so far from the top.
+/// Adds the bars of a plan, `y` from the top.
 pub(crate) fn add_bars(
     axis: &Axis,
     y: u32,

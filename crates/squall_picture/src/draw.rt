@@ -38,7 +38,7 @@ fn end_svg(out: &mut String) -> Result<(), AllocError>
     out.push_str("</svg>\n")
 }
 
-/// Adds the picture on an axis, which makes it so wide.
+/// Adds the picture on an axis, of the width that the axis gives.
 fn add_all(
     width: usize,
     axis: &Axis,
@@ -72,11 +72,11 @@ fn add_drawn(
 /// Adds a picture of two plans and of how far the course between them has come, as SVG.
 ///
 /// The keys run from left to right, with one column for each span between two neighbouring bounds
-/// of the plans. A bar above stands for a range of the old plan, a bar below for one of the new
-/// plan, and a band between them for a move. Of a band the loaded share is filled. Both have the
-/// colour of the partition to which the keys belong or go.
+/// of the plans. A bar above shows a range of the old plan, a bar below shows one of the new plan,
+/// and a band between them shows a move. The loaded share of a band is filled. Bars and bands have
+/// the colour of the partition to which the keys belong or go.
 ///
-/// It fails only if an allocation fails.
+/// An error means that an allocation failed.
 pub fn add_picture(
     alloc: Global,
     old: &[PlanRange],
@@ -90,8 +90,8 @@ pub fn add_picture(
     add_drawn(&axis, old, new, status, out)
 }
 
-/// The picture of a course, as far as it has come by what the board says. It fails only if an
-/// allocation fails.
+/// The picture of a course, as far as it has come by what the board says. An error means that an
+/// allocation failed.
 pub fn picture(alloc: Global, course: &Course, board: &Board) -> Result<String, AllocError>
     ensures { IfOk result (λ text. IsPictureOf course.now (says board.now) (string_bytes text)) }
 {

@@ -12,7 +12,7 @@ pub fn bars_tile_the_axis()
     ensures { (ts : List ℕ) (rs : List PlanRange) → IsTiling 0 top rs → AreSideBySide ts 96 (x_of ts top) rs }
 {}
 
-/// Of a band no more is filled than there is: all of it exactly if each key is loaded, and nothing
+/// No more of a band is filled than there is: all of it exactly if each key is loaded, and nothing
 /// if none is.
 pub fn filled_as_loaded()
     ensures most { (width loaded keys : ℕ) → loaded ≤ keys → filled width loaded keys ≤ width }

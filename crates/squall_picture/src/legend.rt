@@ -91,7 +91,7 @@ fn add_signs(out: &mut String) -> Result<(), AllocError>
     out.push_str("<text x='430' y='64'>number in a band: its sub-plan</text>\n")
 }
 
-/// Adds what stands before the rows.
+/// Adds what comes before the rows.
 fn add_rows(out: &mut String) -> Result<(), AllocError>
     ensures { OnOk result (string_bytes out.new ≡ string_bytes out.old ++ rows_text) }
 {

@@ -21,7 +21,7 @@ pub(crate) fn column(ticks: &[Bound], bound: Bound) -> usize
     below
 }
 
-/// Whether the bound follows those that lie below it, of which there are so many.
+/// Whether the bound follows the `at` bounds that lie below it.
 fn is_tick(ticks: &[Bound], bound: Bound, at: usize) -> bool
     requires { at ≡ column ticks.now bound }
     ensures { result ≡ is_tick ticks.now bound }
@@ -32,7 +32,7 @@ fn is_tick(ticks: &[Bound], bound: Bound, at: usize) -> bool
     }
 }
 
-/// Takes the bound in behind those that lie below it, unless it is among the bounds.
+/// Inserts the bound behind those that lie below it, unless it is among the bounds.
 fn add_tick(ticks: &mut Vec<Bound>, bound: Bound) -> Result<(), AllocError>
     ensures { OnOk result (ticks.new.items ≡ with_tick ticks.old.items bound) }
 {
@@ -43,7 +43,7 @@ fn add_tick(ticks: &mut Vec<Bound>, bound: Bound) -> Result<(), AllocError>
     Ok(())
 }
 
-/// Takes in both bounds of each range.
+/// Inserts both bounds of each range.
 fn add_ranges(ticks: &mut Vec<Bound>, ranges: &[PlanRange]) -> Result<(), AllocError>
     ensures { OnOk result (ticks.new.items ≡ with_ranges ticks.old.items ranges.now) }
 {

@@ -40,7 +40,7 @@ unfolding how_many
 many_none p zero e = refl
 many_none p (suc n) e = let rest = many_none p n (λ k lt. e k (omega arith)) in ap (λ b. cond b 1 0 + how_many p n) (e n (omega arith)) ∙ omega (arith, rest)
 
--- where none passes, no number does
+-- if none passes, no number does
 pub none_many : (p : ℕ → Bool) (n : ℕ) → how_many p n ≡ 0 → (k : ℕ) → k < n → p k ≡ false
 unfolding how_many
 none_many p zero e k lt = absurd (omega arith)

@@ -251,7 +251,7 @@ not_below s n le = grind (arith, nat_tests)
 is_below : (s n : ℕ) → nat_lt s n ≡ true → s < n
 is_below s n e = grind (arith, nat_tests)
 
--- where the sub-plans below a count are opened, that is the last one
+-- if the sub-plans below a count are opened, that is the last one
 pub open_is_last : (opened bound : ℕ) (test : ℕ → Bool) → ((n : ℕ) → test n ≡ nat_lt n opened) → IsLastBelow bound test (open_of opened bound)
 open_is_last opened bound test same =
     elim (min opened bound == 0) as (λ b. (min opened bound == 0) ≡ b → IsLastBelow bound test (cond b None (Some (min opened bound - 1)))) [

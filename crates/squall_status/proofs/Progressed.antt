@@ -89,7 +89,7 @@ one_run span come r q f g =
     let high : r.hi ≡ q.hi = omega (arith, runs_upto span come r q f g low, runs_upto span come q r g f (sym low)) in
     λ i. interval (low i) (high i)
 
--- where a run is missing some key has not come
+-- if a run is missing, some key has not come
 not_all : (span : Interval) (come : ℕ → Bool) (r : Interval) → IsFirstMissing span come r → ((k : ℕ) → span_has span k ≡ true → come k ≡ true) → ⊥
 not_all span come r f all = false≢true (sym (f.missing r.lo (omega arith) f.some) ∙ all r.lo (inside span r.lo f.from (omega (arith, f.upto, f.some))))
 
@@ -112,7 +112,7 @@ progress_is_one span come Complete Complete full x y = refl
 
 -- ---- what a walk over the spans of a set has found
 
--- no key of the span has come where none is counted
+-- no key of the span has come if none is counted
 none_counted : (span : Interval) (come : ℕ → Bool) → span.hi ≤ top → come_count span come ≡ 0 → IsProgress span come NotStarted
 none_counted span come high e = λ k is. no_key (span_has span k) (come k) (none_many (λ k. span_has span k && come k) top e k (omega (arith, (within_span span k is).1))) is
   where

@@ -104,7 +104,7 @@ abbrev pub IsMissing : Interval → (ℕ → Bool) → Option Interval → Type 
 IsMissing span come None = (k : ℕ) → span_has span k ≡ true → come k ≡ true
 IsMissing span come (Some run) = IsFirstMissing span come run
 
--- from a bound on the set has no key before where the next span begins
+-- from a bound on the set has no key before the next span begins
 gap_before : (ss : List Interval) (bound end k : ℕ) → IsCanonical ss → bound ≤ k → k < start_upto end ss → has ss k ≡ false
 gap_before [] bound end k c le lt = refl
 gap_before (s ∷ ss) bound end k c le lt = ap (λ x. x || has ss k) (outside_below s k (omega arith)) ∙ has_below s.hi k ss c.1 c.2 (omega (arith, c.0))
@@ -113,7 +113,7 @@ start_at_most : (end : ℕ) (ss : List Interval) → start_upto end ss ≤ end
 start_at_most end [] = omega arith
 start_at_most end (s ∷ ss) = omega arith
 
--- where it begins before the bound, it has a key there
+-- if it begins before the bound, it has a key there
 start_has : (ss : List Interval) (end : ℕ) → IsCanonical ss → start_upto end ss < end → has ss (start_upto end ss) ≡ true
 start_has [] end c lt = absurd (omega arith)
 start_has (s ∷ ss) end c lt = let at : start_upto end (s ∷ ss) ≡ s.lo = omega arith in rw at (has_first s ss c.0)
@@ -144,7 +144,7 @@ module _ (span : Interval) (come : ℕ → Bool) (from : ℕ) (ss : List Interva
   missing_at : IsMissing span come (span_at from (start_upto span.hi ss))
   missing_at = missing_by (nat_lt from (start_upto span.hi ss)) refl
 
--- the first of the missing, where the spans that end beyond the start of the span are all
+-- the first of the missing, if the spans that end beyond the start of the span are all
 pub missing_is : (span : Interval) (ss : List Interval) → span.lo < span.hi → IsCanonical ss → EndsBeyond span.lo ss → IsMissing span (has ss) (missing_in span ss)
 missing_is span [] full c b = record {
   some = full;

@@ -7,7 +7,7 @@ abbrev pub shared_count : Interval → List Interval → ℕ
 shared_count span [] = 0
 shared_count span (s ∷ ss) = if nat_lt (max s.lo span.lo) (min s.hi span.hi) then (min s.hi span.hi - max s.lo span.lo) + shared_count span ss else 0
 
--- where the first span begins, but at most the bound
+-- the bound at which the first span begins, but at most the given one
 abbrev pub start_upto : ℕ → List Interval → ℕ
 start_upto bound [] = bound
 start_upto bound (s ∷ ss) = min s.lo bound
@@ -23,6 +23,6 @@ abbrev pub missing_in : Interval → List Interval → Option Interval
 missing_in span [] = Some span
 missing_in span (s ∷ ss) = if nat_le s.lo span.lo then span_at s.hi (start_upto span.hi ss) else span_at span.lo (min s.lo span.hi)
 
--- of so many sub-plans the last one opened, if so many are opened
+-- the last one opened of the sub-plans, if that many are opened
 abbrev pub open_of : ℕ → ℕ → Option ℕ
 open_of opened subplans = if min opened subplans == 0 then None else Some (min opened subplans - 1)

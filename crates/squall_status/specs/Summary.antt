@@ -13,8 +13,8 @@ use Rattle.squall_status.specs.declared.progress.MoveStatus.{MoveStatus}
 use Rattle.squall_status.specs.declared.subplan.SubplanStatus.{SubplanStatus}
 use Rattle.squall_status.specs.Coming.{IsProgress, loaded_in}
 
--- how far a course has come: its number, its moves by rising key, its sub-plans by rising number, which of these is open, how
--- many keys move, and how many of them are loaded
+-- how far a course has come: its number, its moves by rising key, and its sub-plans by rising number. Also which of these is
+-- open, how many keys move, and how many of them are loaded
 pub record StatusValue : Type 0 where
   pub number : ℕ
   pub moves : List MoveStatus
@@ -66,7 +66,7 @@ abbrev pub IsLastBelow : ℕ → (ℕ → Bool) → Option ℕ → Type 0
 IsLastBelow bound test None = (n : ℕ) → n < bound → test n ≡ false
 IsLastBelow bound test (Some last) = (last < bound) × (test last ≡ true) × ((n : ℕ) → n < bound → test n ≡ true → n ≤ last)
 
--- the sub-plan that is open: of those of the course the one opened last
+-- the sub-plan that is open: the one of the course that was opened last
 abbrev pub IsOpenSub : Change → (Fact → Bool) → Option ℕ → Type 0
 IsOpenSub c says sub = IsLastBelow (subplan_count c.old c.new) (λ s. says (OpenedSub c.number s)) sub
 

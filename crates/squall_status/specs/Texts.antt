@@ -40,14 +40,14 @@ subplan_line s = codes "sub-plan " ++ (decimal s.sub ++ (codes " receivers " ++ 
 abbrev pub subplan_lines : List SubplanStatus → List ℕ
 subplan_lines ss = flat_map subplan_line ss
 
--- the progress of a move of so many keys
+-- the progress of a move of that many keys
 abbrev pub progress_text : ℕ → Progress → List ℕ
 progress_text keys NotStarted = codes "not started"
 progress_text keys (Partial loaded missing) =
     codes "loaded " ++ (decimal loaded ++ (codes " of " ++ (decimal keys ++ (codes " missing " ++ text_of_span missing))))
 progress_text keys Complete = codes "complete"
 
--- a move: its keys, where they come from and go to, and its sub-plan
+-- a move: its keys, its source and its destination, and its sub-plan
 abbrev pub move_text : Move → List ℕ
 move_text m =
     codes "move " ++ (text_of_span m.span ++ (codes " " ++ (decimal m.source ++ (codes " to " ++ (decimal m.dest ++ (codes " sub " ++ decimal m.sub))))))

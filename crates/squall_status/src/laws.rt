@@ -21,7 +21,7 @@ pub fn one_progress()
         → IsProgress span come p → loaded_in span p ≡ come_count span come }
 {}
 
-/// By what is said a course has one status.
+/// What is said of a course gives it one status.
 pub fn one_status()
     ensures { (c : Change) (says : Fact → Bool) (s t : StatusValue) → ArePlans c.old c.new → IsStatusOf c says s → IsStatusOf c says t → s ≡ t }
 {}

@@ -1,6 +1,27 @@
-//! How far a reconfiguration has come: of a course and a board, what is loaded and what is missing.
+//! How far a reconfiguration has come: what is loaded and what is missing, by a course and a board.
 //!
 //! Its tests are in `crates/squall_test_status/src/status.rt`.
+//!
+//! # Example
+//!
+//! A course has two moves, of a quarter and of three quarters of the keys. The second is complete
+//! once its receiver, partition 4, is done.
+//!
+//! ```rust
+//! fn one_of_two_moves(
+//!     rt: &impl Abort,
+//!     alloc: Global,
+//!     course: &Course,
+//!     board: &mut Board,
+//! ) -> Result<(), Fail> {
+//!     board.take(&Report::done(1, 0, 4).ok_or("report")?)?;
+//!     let status = CourseStatus::of(alloc, course, board)?;
+//!     assert!(rt; !status.moves()[0].progress.is_complete());
+//!     assert!(rt; status.moves()[1].progress.is_complete());
+//!     assert!(rt; status.thousandths() == 750);
+//!     Ok(())
+//! }
+//! ```
 #![tactic(auto)]
 
 pub mod laws;

@@ -34,8 +34,8 @@ fn beyond(set: &SpanSet, bound: Bound) -> &[Span]
     &set.spans()[set.ended(bound)..]
 }
 
-/// How many keys of the span lie in the spans, of which each ends beyond its start. It stops at the
-/// first that begins beyond its end.
+/// How many keys of the span lie in the spans, each of which ends beyond the start of the span. It
+/// stops at the first that shares no key with the span.
 fn count_shared(span: Span, spans: &[Span]) -> u64
     requires canonical { IsCanonical spans.now }
     requires ends { EndsBeyond span.lo spans.now }
@@ -53,7 +53,7 @@ fn count_shared(span: Span, spans: &[Span]) -> u64
     count
 }
 
-/// Where the first span begins, but at most the bound.
+/// The bound at which the first span begins, but at most `bound`.
 fn start_upto(spans: &[Span], bound: Bound) -> Bound
     ensures { result ≡ start_upto bound spans.now }
 {
@@ -63,8 +63,8 @@ fn start_upto(spans: &[Span], bound: Bound) -> Bound
     }
 }
 
-/// The first run of keys of the span that lie in none of the spans, of which each ends beyond its
-/// start.
+/// The first run of keys of the span that lie in none of the spans, each of which ends beyond the
+/// start of the span.
 fn first_missing(span: Span, spans: &[Span]) -> Option<Span>
     ensures { result ≡ missing_in span spans.now }
 {

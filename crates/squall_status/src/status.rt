@@ -16,8 +16,9 @@ use std::marker::Model;
 
 /// How far a course has come, as a board says.
 ///
-/// Contracts see it as the number of the course, the statuses of its moves and of its sub-plans,
-/// the sub-plan that is open, how many keys move, and how many of them are loaded.
+/// Contracts see it as the number of the course, and the statuses of its moves and of its
+/// sub-plans. They also see the sub-plan that is open, how many keys move, and how many of them are
+/// loaded.
 #[derive(Drop)]
 pub struct CourseStatus {
     number: u32,
@@ -47,7 +48,7 @@ impl Model for CourseStatus {
     ghost invariant = { λ s. (s.loaded ≤ s.keys) × (s.keys ≤ top) };
 }
 
-/// Of so many sub-plans the last one opened, if so many are opened.
+/// The last one opened of `subplans` sub-plans, if `opened` are opened.
 fn open_of(opened: u32, subplans: u32) -> Option<u32>
     ensures { result ≡ open_of opened subplans }
 {
@@ -56,7 +57,7 @@ fn open_of(opened: u32, subplans: u32) -> Option<u32>
 
 impl CourseStatus {
     /// How far the course has come, as the board says. It walks over the moves, and over the spans
-    /// of their cells that touch them. It fails only if an allocation fails.
+    /// of their cells that touch them. An error means that an allocation failed.
     pub fn of(alloc: Global, course: &Course, board: &Board) -> Result<CourseStatus, AllocError>
         ensures { IfOk result (λ s. IsStatusOf course.now (says board.now) s) }
     {
@@ -97,7 +98,7 @@ impl CourseStatus {
         &self.subplans
     }
 
-    /// The sub-plan that is open: of those of the course the one opened last. None if none is
+    /// The sub-plan that is open: the one of the course that was opened last. None if none is
     /// opened.
     pub fn open_subplan(&self) -> Option<u32>
         ensures { result ≡ self.now.open_sub }

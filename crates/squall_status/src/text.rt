@@ -55,7 +55,7 @@ fn add_head(status: &CourseStatus, out: &mut String) -> Result<(), AllocError>
     )
 }
 
-/// Adds how it ends: how many of its keys are loaded, and that share in thousandths.
+/// Adds how that line ends: how many of its keys are loaded, and that share in thousandths.
 fn add_tail(status: &CourseStatus, out: &mut String) -> Result<(), AllocError>
     ensures { OnOk result (string_bytes out.new ≡ string_bytes out.old ++ course_tail status.now.loaded status.now.keys) }
 {
@@ -87,7 +87,7 @@ fn add_subplans(subplans: &[SubplanStatus], out: &mut String) -> Result<(), Allo
     Ok(())
 }
 
-/// Adds the progress of a move of so many keys.
+/// Adds the progress of a move of `keys` keys.
 fn add_progress(keys: u64, progress: Progress, out: &mut String) -> Result<(), AllocError>
     ensures { OnOk result (string_bytes out.new ≡ string_bytes out.old ++ progress_text keys progress) }
 {
@@ -100,7 +100,7 @@ fn add_progress(keys: u64, progress: Progress, out: &mut String) -> Result<(), A
     }
 }
 
-/// Adds the keys of a move, where they come from and go to, and its sub-plan.
+/// Adds the keys of a move, its source and its destination, and its sub-plan.
 fn add_moving(moving: &Move, out: &mut String) -> Result<(), AllocError>
     ensures { OnOk result (string_bytes out.new ≡ string_bytes out.old ++ move_text moving.now) }
 {
@@ -141,15 +141,15 @@ fn add_moves(shown: Shown, moves: &[MoveStatus], out: &mut String) -> Result<(),
     Ok(())
 }
 
-/// Adds how far the course has come: a line for the course, one for each of its sub-plans by
-/// rising number, and one for each move that is shown, by rising key:
+/// Adds how far the course has come. There is a line for the course, one for each of its sub-plans
+/// by rising number, and one for each move that is shown, by rising key:
 ///
 /// `course N moves M sub-plans S open K loaded L of T keys P/1000`, with `open none` if none is;
 /// `sub-plan K receivers D of R done`;
 /// `move [LO,HI) P to Q sub K`, and then `complete`, `not started` or
 /// `loaded L of T missing [LO,HI)`.
 ///
-/// It fails only if an allocation fails.
+/// An error means that an allocation failed.
 pub fn add_status(status: &CourseStatus, shown: Shown, out: &mut String) -> Result<(), AllocError>
     ensures { OnOk result (string_bytes out.new ≡ string_bytes out.old ++ status_text shown status.now) }
 {

@@ -1,5 +1,6 @@
 //! Pictures of reconfigurations, as worked out by hand.
 
+mod example;
 mod tolerant;
 
 use squall_board::Board;
