@@ -1,5 +1,5 @@
--- The leader, which begins reconfigurations and opens their sub-plans (a leader starts a reconfiguration and goes on once all
--- partitions have reported: Squall, SIGMOD 2015; sub-plans and numbers are this project's).
+-- The leader, which begins reconfigurations and opens their sub-plans. (That a leader starts a reconfiguration and continues once all
+-- partitions have reported: Squall, SIGMOD 2015. Sub-plans and numbers are this project's.)
 use Rattle.std.specs.Prelude.{◌≡◌, ℕ, ◌+◌, ◌^◌, ◌-◌, ◌<◌, ◌≤◌, zero, suc, not, List, Result, Ok, Err, Option, None, Some}
 use Rattle.std.specs.List.{find}
 use Rattle.squall_plan.specs.declared.range.PlanRange.{PlanRange}
@@ -17,8 +17,8 @@ use Rattle.squall_protocol.specs.Known.{last_number}
 use Rattle.squall_leader.specs.declared.fault.LeaderFault.{LeaderFault}
 use Rattle.squall_leader.specs.declared.fault.LeaderFault.TheVariants.{Running, NoNumber, Idle, NotDone, NoMore, NoMemory}
 
--- a leader: the newest plan, the last number used, the course begun last, if any, how many of its sub-plans the leader has opened
--- since, and what it was told and told itself
+-- A leader: the newest plan, the last number used, the course begun last, if any, and the count of sub-plans that it has opened since.
+-- Its board has what it has heard and reported.
 pub record LeaderValue : Type 0 where
   pub plan : List PlanRange
   pub last : ℕ
@@ -26,7 +26,7 @@ pub record LeaderValue : Type 0 where
   pub opened : ℕ
   pub board : BoardValue
 
--- a leader that has begun nothing, where numbers up to the last were used
+-- a leader that has begun nothing, if numbers up to the last were used
 abbrev pub new_leader : List PlanRange → ℕ → LeaderValue
 new_leader plan last = record { plan = plan; last = last; course = None; opened = 0; board = empty_board }
 
@@ -34,7 +34,7 @@ new_leader plan last = record { plan = plan; last = last; course = None; opened 
 abbrev pub waited_for : Change → BoardValue → ℕ → Option ℕ
 waited_for c b sub = find (λ part. not (says b (DonePart (place_at c.number sub part)))) (receivers_of (moves_of c.old c.new) sub)
 
--- whom the leader waits for before it goes on: that partition of the sub-plan opened last, none where none is opened
+-- whom the leader waits for before it opens or begins anything: that partition of the sub-plan opened last, none if none is opened
 abbrev pub waited_after : Change → BoardValue → ℕ → Option ℕ
 waited_after c b zero = None
 waited_after c b (suc sub) = waited_for c b sub
@@ -62,7 +62,7 @@ issue_report c = Issued c.number (plan_pair c.old c.new)
 abbrev pub after_begin : LeaderValue → Change → LeaderValue
 after_begin l c = record { plan = c.new; last = c.number; course = Some c; opened = 0; board = board_join l.board (report_board (issue_report c)) }
 
--- the answer where a course to the plan is to be begun; memory is missing only where nothing else is in the way
+-- the answer to the call that begins a course to the plan; memory is missing only if nothing else is in the way
 abbrev pub IsBegun : LeaderValue → List PlanRange → Result Change LeaderFault → LeaderValue → Type 0
 IsBegun l plan (Ok c) m = (IsRunning l → ⊥) × (l.last < last_number) × (c ≡ next_course l plan) × (m ≡ after_begin l c)
 IsBegun l plan (Err Running) m = IsRunning l × (m ≡ l)
@@ -79,7 +79,7 @@ open_report c sub = Opened c.number sub
 abbrev pub after_open : LeaderValue → Change → LeaderValue
 after_open l c = record l { opened = l.opened + 1; board = board_join l.board (report_board (open_report c l.opened)) }
 
--- the answer where the next sub-plan is to be opened; memory is missing only where nothing else is in the way
+-- the answer to the call that opens the next sub-plan; memory is missing only if nothing else is in the way
 abbrev pub IsOpened : LeaderValue → Result (ReportKind PlanPair) LeaderFault → LeaderValue → Type 0
 IsOpened l (Ok report) m =
     (c : Change) × (l.course ≡ Some c) × (waited_after c l.board l.opened ≡ None) × (l.opened < subplan_count c.old c.new)
@@ -91,8 +91,8 @@ IsOpened l (Err (NotDone sub part)) m = (c : Change) × (l.course ≡ Some c) ×
 IsOpened l (Err NoMore) m = (c : Change) × (l.course ≡ Some c) × (waited_after c l.board l.opened ≡ None) × (l.opened ≡ subplan_count c.old c.new) × (m ≡ l)
 IsOpened l (Err NoMemory) m = (c : Change) × (l.course ≡ Some c) × (waited_after c l.board l.opened ≡ None) × (l.opened < subplan_count c.old c.new) × (m ≡ l)
 
--- what holds of every leader: its board is a board, its newest plan is a plan, the course begun last leads to it under the last number,
--- which is from 1 on, both plans of that course are plans, and no more sub-plans are opened than there are
+-- What holds of every leader. Its board is a board, and its newest plan is a plan. The course begun last leads to it under the last
+-- number, which is at least 1. Both plans of that course are plans, and no more sub-plans are opened than there are.
 pub record IsLeader (l : LeaderValue) : Type 0 where
   pub board : IsBoard l.board
   pub canonical : IsCanonical l.plan

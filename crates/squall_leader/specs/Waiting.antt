@@ -14,7 +14,7 @@ use Rattle.squall_leader.specs.Leaders.{LeaderValue, waited_for, waited_after, o
 abbrev pub awaits : BoardValue → ℕ → ℕ → ℕ → Bool
 awaits b number sub part = not (says b (DonePart (place_at number sub part)))
 
--- the least number that passes the test, none where none does
+-- the least number that passes the test, none if none does
 abbrev pub IsLeast : (ℕ → Bool) → Option ℕ → Type 0
 IsLeast test None = (q : ℕ) → test q ≡ false
 IsLeast test (Some p) = (test p ≡ true) × ((q : ℕ) → q < p → test q ≡ false)

@@ -1,4 +1,4 @@
-//! Why a leader does not go on.
+//! Why a leader refuses to begin a course or to open a sub-plan.
 
 ghost use Rattle.std.specs.Prelude.{◌≡◌};
 ghost use Rattle.squall_leader.specs.declared.fault.LeaderFault.TheVariants.{NoMemory};
@@ -20,7 +20,7 @@ pub enum LeaderFault {
     #[error("Idle")]
     Idle,
     /// In the sub-plan opened last, `part` is the least partition that receives keys and has not
-    /// reported that it has all.
+    /// reported that it has all of them.
     #[error("NotDone {sub} {part}")]
     NotDone {
         /// The sub-plan.

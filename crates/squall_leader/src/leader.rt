@@ -23,11 +23,11 @@ use std::marker::Model;
 use std::sync::Arc;
 
 /// The leader: it begins one reconfiguration after another, each from the plan to which the one
-/// before it led, and opens the sub-plans of each in turn, once all partitions that receive keys in
-/// the sub-plan before have reported that they have all.
+/// before it led. It opens the sub-plans of each in turn. Before it opens the next one, all
+/// partitions that receive keys in the sub-plan before have reported that they have all of them.
 ///
-/// Contracts see a leader as its newest plan, the last number used, the course begun last, how many
-/// of its sub-plans are opened, and its board.
+/// Contracts see a leader as its newest plan, the last number used, the course begun last, the
+/// count of its opened sub-plans, and its board.
 #[derive(Drop)]
 pub struct Leader {
     plan: Plan,
@@ -72,16 +72,16 @@ fn issue_report(alloc: Global, number: u32, old: &Plan, new: &Plan) -> Result<Re
 }
 
 impl Leader {
-    /// A leader that has begun nothing, of data that lies as the plan says. Its first
-    /// reconfiguration will have the number 1. It fails only where an allocation fails.
+    /// A leader that has begun nothing, of data that is placed as the plan says. Its first
+    /// reconfiguration will have the number 1. An error means that an allocation failed.
     pub fn new(alloc: Global, plan: &Plan) -> Result<Leader, AllocError>
         ensures { IfOk result (λ l. l ≡ new_leader plan.now 0) }
     {
         Leader::after(alloc, plan, 0)
     }
 
-    /// A leader that has begun nothing, where numbers up to `last` were used before. It fails only
-    /// where an allocation fails.
+    /// A leader that has begun nothing, if numbers up to `last` were used before. An error means
+    /// that an allocation failed.
     pub fn after(alloc: Global, plan: &Plan, last: u32) -> Result<Leader, AllocError>
         ensures { IfOk result (λ l. l ≡ new_leader plan.now last) }
     {
@@ -96,9 +96,9 @@ impl Leader {
         })
     }
 
-    /// A leader that has begun the course, as [`Leader::begin`] leaves it where the course is the
-    /// first that it begins. The course is shared, and not computed again. It fails only if an
-    /// allocation fails, or if a count of owners is full.
+    /// A leader that has begun the course, as [`Leader::begin`] leaves it if the course is the
+    /// first that it begins. The course is shared, and not computed again. An error means that an
+    /// allocation failed, or that a count of owners is full.
     pub fn begun(alloc: Global, course: &Arc<Course>) -> Result<Leader, AllocError>
         ensures { IfOk result (λ l. l ≡ after_begin (new_leader (arc_value course.now).old ((arc_value course.now).number - 1)) (arc_value course.now)) }
     {
@@ -126,7 +126,7 @@ impl Leader {
         let _last = self.last;
     }
 
-    /// Whom the leader waits for before it goes on, with the sub-plan opened last.
+    /// Whom the leader waits for before it opens or begins anything, with the sub-plan opened last.
     fn waited_after(&self, course: &Course) -> Option<(u32, PartId)>
         ensures { IsWaited self.now course.now result }
     {
@@ -172,9 +172,9 @@ impl Leader {
     /// Begins the reconfiguration that leads from the newest plan to another, under the last number
     /// plus 1. The leader's own board takes the report that issues it.
     ///
-    /// `Running` while the course begun last is not over, then `NoNumber` where the greatest number
-    /// is used; or `NoMemory`, also where a count of owners is full. After a fault the leader is as
-    /// it was.
+    /// `Running` while the course begun last is not over, then `NoNumber` if the greatest number is
+    /// used. `NoMemory` if an allocation failed or a count of owners is full. A fault leaves the
+    /// leader unchanged.
     pub fn begin(&mut self, plan: &Plan) -> Result<Arc<Course>, LeaderFault>
         ensures answer { IsBegun self.old plan.now (result_map_both (λ course. arc_value course) (λ fault. fault) result) self.new }
     {
@@ -200,9 +200,9 @@ impl Leader {
 
     /// Opens the next sub-plan of the course begun last. The leader's own board takes the report.
     ///
-    /// `Idle` where no course is begun; `NotDone` with the least partition that is waited for;
-    /// `NoMore` where all sub-plans are opened and the last one is done; the first of these that is
-    /// so; or `NoMemory`. After a fault the leader is as it was.
+    /// `Idle` if no course is begun. `NotDone` with the least partition that is waited for.
+    /// `NoMore` if all sub-plans are opened and the last one is done. The fault is the first of
+    /// these that is so; or `NoMemory`. A fault leaves the leader unchanged.
     pub fn open_next(&mut self) -> Result<Report, LeaderFault>
         ensures answer { IsOpened self.old result self.new }
     {
@@ -214,8 +214,9 @@ impl Leader {
         Ok(report)
     }
 
-    /// Whether a course is begun, all its sub-plans are opened, and all partitions that receive keys
-    /// in the last one have reported that they have all: at once where it has no sub-plan.
+    /// Whether a course is begun and over. It is over once all its sub-plans are opened and the
+    /// last one is done: all partitions that receive keys in it have reported that they have all. A
+    /// course without sub-plans is over at once.
     pub fn finished(&self) -> bool
         ensures { IsTrue result ↔ IsFinished self.now }
     {
@@ -225,8 +226,8 @@ impl Leader {
         }
     }
 
-    /// Takes all that the delta tells. It changes the board alone. It fails where an allocation
-    /// fails, or where a count of owners is full, and then the leader is as it was.
+    /// Takes every report of the delta. It changes only the board. An error means that an
+    /// allocation failed, or that a count of owners is full. The leader is then unchanged.
     pub fn absorb(&mut self, delta: &Delta) -> Result<(), AllocError>
         ensures ok { OnOk result (self.new ≡ record self.old { board = board_join self.old.board delta.now }) }
         ensures takes { OnOk result (TakesBoard self.old.board delta.now self.new.board) }
@@ -238,7 +239,7 @@ impl Leader {
         merged
     }
 
-    /// What it was told, and what it told itself.
+    /// What it has heard, and what it reported itself.
     pub fn board(&self) -> &Board
         ensures { result.now ≡ self.now.board }
     {

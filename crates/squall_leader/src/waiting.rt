@@ -18,8 +18,8 @@ fn is_waited_for(board: &Board, number: u32, sub: u32, one: &Move) -> bool
     !board.says_done(number, sub, part)
 }
 
-/// The least partition to which keys go in the sub-plan, and which the board does not say done: the
-/// first of the moves of the sub-plan, by rising destination, whose partition is not.
+/// The least partition to which keys go in the sub-plan, and which the board does not say done. It
+/// is the destination of the first such move of the sub-plan, by rising destination.
 pub(crate) fn waited_for(course: &Course, board: &Board, sub: u32) -> Option<PartId>
     ensures { result ≡ waited_for course.now board.now sub }
 {

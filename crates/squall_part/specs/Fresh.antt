@@ -21,7 +21,7 @@ is_new first b n = not (n == first.number) && is_unknown (issued b n)
 abbrev pub empty_log : ℕ → PlanPair → Log
 empty_log n pair = log_with (record { number = n; old = pair.old; new = pair.new }) [] []
 
--- the log that an issue brings: one where its number is new and it has one pair of plans
+-- the log that an issue brings: one if its number is new and it has one pair of plans, else none
 abbrev pub fresh_log : Change → BoardValue → ℕ × Flat PlanPair → List Log
 fresh_log first b (n, Unknown) = []
 fresh_log first b (n, One pair) = if is_new first b n then empty_log n pair ∷ [] else []

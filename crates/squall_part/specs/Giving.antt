@@ -1,4 +1,4 @@
--- What a partition gives on (on demand and in chunks, sub-plan after sub-plan: Squall, SIGMOD 2015).
+-- What a partition gives (on demand and in chunks, sub-plan after sub-plan: Squall, SIGMOD 2015).
 use Rattle.std.specs.Prelude.{◌≡◌, ℕ, ◌+◌, ◌&&◌, Bool, true, false, Result, Ok, Err, Some}
 use Rattle.squall_span.specs.Spans.{Interval, interval, has, insert_span, without_span}
 use Rattle.squall_course.specs.Subplans.{dest_of}
@@ -32,7 +32,7 @@ pub record IsChunkOf (p : PartValue) (sub : ℕ) (c : ChunkValue) : Type 0 where
   pub source : c.source ≡ p.id
   pub dest : dest_of (course_of_part p).old (course_of_part p).new sub p.id ≡ Some c.dest
 
--- the keys of the span are given on under the newest course: they are held no longer
+-- the keys of the span are given under the newest course: they are held no longer
 abbrev pub after_giving : PartValue → Interval → PartValue
 after_giving p s =
     record p {
@@ -40,7 +40,7 @@ after_giving p s =
       logs = with_given (course_of_part p).number (insert_span s (given_by p (course_of_part p).number)) p.logs;
     }
 
--- the answer to a demand for at most so many keys; memory is missing only where some key goes out in the sub-plan
+-- the answer to a demand for at most `most` keys; memory is missing only if some key goes out in the sub-plan
 abbrev pub IsGiven : PartValue → ℕ → Result ChunkValue GiveFault → PartValue → Type 0
 IsGiven p most (Ok c) q = (sub : ℕ) × IsCurrent p sub × AreFirst (is_left p sub) most c.span × IsChunkOf p sub c × (q ≡ after_giving p c.span)
 IsGiven p most (Err NotOpen) q = NoneOpen p × (q ≡ p)
@@ -52,7 +52,7 @@ IsGiven p most (Err NotHeld) q = ⊥
 IsGiven p most (Err NoMemory) q =
     (sub : ℕ) × IsCurrent p sub × ((part : ℕ) × (dest_of (course_of_part p).old (course_of_part p).new sub p.id ≡ Some part)) × (q ≡ p)
 
--- the answer to a demand for one key; memory is missing only where nothing else is in the way
+-- the answer to a demand for one key; memory is missing only if nothing else is in the way
 abbrev pub IsGivenAt : PartValue → ℕ → Result ChunkValue GiveFault → PartValue → Type 0
 IsGivenAt p k (Ok c) q =
     (sub : ℕ) × IsCurrent p sub × (goes_out p sub k ≡ true) × (has (given_by p (course_of_part p).number) k ≡ false) × (has p.held k ≡ true)

@@ -41,7 +41,7 @@ after_load p c =
       logs = with_loaded c.number (insert_span c.span (loaded_by p c.number)) p.logs;
     }
 
--- the answer to a chunk; memory is missing only where the chunk may be loaded, and some key of it was not
+-- the answer to a chunk; memory is missing only if the chunk may be loaded, and some key of it was not
 abbrev pub IsLoaded : PartValue → ChunkValue → Result Load LoadFault → PartValue → Type 0
 IsLoaded p c (Ok (Loaded report)) q = MayLoad p c × SomeMissing p c × (report ≡ load_report c) × (q ≡ after_load p c)
 IsLoaded p c (Ok Again) q = MayLoad p c × AllLoaded p c × (q ≡ p)
@@ -69,7 +69,7 @@ after_finish p sub = record p { board = board_join p.board (report_board (done_r
 abbrev pub IsOpen : PartValue → ℕ → Type 0
 IsOpen p sub = sub < opened_at p (course_of_part p).number
 
--- the answer where a sub-plan is to be finished; memory is missing only where the sub-plan is open
+-- the answer to the call that finishes a sub-plan; memory is missing only if the sub-plan is open
 abbrev pub IsFinished : PartValue → ℕ → Result (ReportKind PlanPair) FinishFault → PartValue → Type 0
 IsFinished p sub (Ok report) q =
     IsOpen p sub × ((k : ℕ) → is_missing p sub k ≡ false) × ((k : ℕ) × (comes_in p sub k ≡ true)) × (report ≡ done_report p sub) × (q ≡ after_finish p sub)

@@ -1,4 +1,4 @@
--- Logs of courses: where each stands, and the last one that passes a test (this project).
+-- Logs of courses: the place of each, and the last one that passes a test (this project).
 use Rattle.std.specs.Prelude.{◌≡◌, ℕ, ◌<◌, ◌==◌, ◌&&◌, not, Bool, nat_lt, List, [], ◌∷◌, length, slice_index_or, Option, None, Some, is_some, if◌then◌else◌}
 use Rattle.squall_span.specs.Spans.{Interval, has}
 use Rattle.squall_plan.specs.Ranges.{owner_of}
@@ -9,17 +9,17 @@ use Rattle.squall_part.specs.Parts.{PartValue, Log, known_to}
 abbrev pub has_number : ℕ → Log → Bool
 has_number n l = l.course.number == n
 
--- the log of the course stands at the place
+-- the log of the course is at the place
 pub record IsLogAt (logs : List Log) (c : Change) (at : ℕ) : Type 0 where
   pub within : at < length logs
   pub course : (d : Log) → (slice_index_or logs at d).course ≡ c
 
--- the number of a log, 0 where there is none
+-- the number of a log, 0 if there is none
 abbrev pub number_in : Option Log → ℕ
 number_in None = 0
 number_in (Some l) = l.course.number
 
--- the log where it passes and has a greater number than the one that was found
+-- the log, if it passes and has a greater number than the one that was found; else that one
 abbrev pub later : (Log → Bool) → Option Log → Log → Option Log
 later test found l = if nat_lt (number_in found) l.course.number && test l then Some l else found
 
@@ -50,6 +50,6 @@ pub record IsAwaited (id : ℕ) (c : Change) (loaded awaited : List Interval) : 
 abbrev pub comes : PartValue → ℕ → Log → Bool
 comes p k l = is_known p l && awaits p.id l.course l.loaded k
 
--- the same, where the course has a number above another
+-- the same, and the course has a number above `after`
 abbrev pub comes_after : PartValue → ℕ → ℕ → Log → Bool
 comes_after p k after l = nat_lt after l.course.number && comes p k l

@@ -1,5 +1,5 @@
--- What a partition knows and keeps (partitions that hold keys and give them on: Squall, SIGMOD 2015; that one partition knows
--- several reconfigurations is this project's).
+-- What a partition knows and keeps (partitions that hold keys and give them to others: Squall, SIGMOD 2015; that one partition
+-- knows several reconfigurations is this project's).
 use Rattle.std.specs.Prelude.{◌≡◌, ◌≢◌, ℕ, ◌==◌, ◌⊎◌, List, [], ◌∷◌, map, filter, Option, None, Some, if◌then◌else◌}
 use Rattle.std.specs.Option.{option_map}
 use Rattle.std.specs.List.{find, AllByRecursion}
@@ -11,7 +11,7 @@ use Rattle.squall_board.specs.Boards.{BoardValue, IsBoard, empty_board, issued, 
 use Rattle.squall_board.specs.CourseRoute.{course_of_board}
 use Rattle.squall_protocol.specs.Known.{course_under}
 
--- what a partition did under a course: the keys that it gave on, and those that it loaded
+-- what a partition did under a course: the keys that it gave, and those that it loaded
 pub record Log : Type 0 where
   pub course : Change
   pub given : List Interval
@@ -20,7 +20,7 @@ pub record Log : Type 0 where
 abbrev pub log_with : Change → List Interval → List Interval → Log
 log_with course given loaded = record { course = course; given = given; loaded = loaded }
 
--- a partition: its number, its first course, what it was told and what it tells, the keys that it holds, and a log for each course
+-- a partition: its number, its first course, the board of all that it knows, the keys that it holds, and a log for each course
 pub record PartValue : Type 0 where
   pub id : ℕ
   pub first : Change
@@ -30,14 +30,14 @@ pub record PartValue : Type 0 where
 
 -- ---- which courses it knows
 
--- a partition knows its first course, and each other one that its board tells of
+-- a partition knows its first course, and under each other number the course that its board has, if it has exactly one
 abbrev pub known_course : Change → BoardValue → ℕ → Option Change
 known_course first b n = if n == first.number then Some first else course_under n (issued b n)
 
 abbrev pub known_to : PartValue → ℕ → Option Change
 known_to p n = known_course p.first p.board n
 
--- the course that it goes by: the one of the greatest number that it knows
+-- the course that it uses: the one of the greatest number that it knows
 abbrev pub course_of_part : PartValue → Change
 course_of_part p = course_of_board p.first p.board
 
@@ -51,7 +51,7 @@ opened_at p n = opened_count p.board n
 abbrev pub log_of : List Log → ℕ → Option Log
 log_of logs n = find (λ l. l.course.number == n) logs
 
--- the keys given, and loaded, under the number: none where no such log is kept
+-- the keys given, and loaded, under the number: none if no such log is kept
 abbrev pub given_in : Option Log → List Interval
 given_in None = []
 given_in (Some l) = l.given
@@ -109,8 +109,8 @@ pub record IsLog (l : Log) : Type 0 where
 abbrev pub IsHeard : Change → BoardValue → ℕ → Type 0
 IsHeard first b n = (n ≡ first.number) ⊎ (issued b n ≢ Unknown)
 
--- its board is a board, what it holds is a set of keys, and it keeps one log for each course that it knows; a log is of a number
--- that was heard of
+-- Its board is a board, and what it holds is a set of keys. It keeps one log for each course that it knows, and each log is of a number
+-- that it has heard of.
 pub record IsPart (p : PartValue) : Type 0 where
   pub board : IsBoard p.board
   pub plans : ArePlans p.first.old p.first.new

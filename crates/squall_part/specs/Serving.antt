@@ -1,5 +1,5 @@
--- What a partition replies where it is asked for a key (that a partition which gave a key on says where: Squall, SIGMOD 2015; the
--- numbers that keep replies of several reconfigurations apart are this project's).
+-- What a partition replies if it is asked for a key. (That a partition which gave a key says where it went: Squall, SIGMOD 2015. The
+-- numbers that keep replies of several reconfigurations apart are this project's.)
 use Rattle.std.specs.Prelude.{◌≡◌, ℕ, ◌<◌, ◌≤◌, true, false, Some}
 use Rattle.squall_span.specs.Spans.{has}
 use Rattle.squall_plan.specs.Ranges.{owner_of}
@@ -32,9 +32,9 @@ OldOwnerUnder p k n part = (c : Change) × (known_to p n ≡ Some c) × (part �
 abbrev pub NewOwnerUnder : PartValue → ℕ → ℕ → ℕ → Type 0
 NewOwnerUnder p k n part = (c : Change) × (known_to p n ≡ Some c) × (part ≡ owner_of c.new k)
 
--- the reply where a key is asked for with the number of the last move that was followed: it is held; or awaited by a later course
--- than that by which it was given; or it was given under a later number than that; or the number lies above all that the partition
--- knows; or else the key was never there by what the partition knows
+-- The reply to one who asks for a key, with the number of the last move that was followed. The cases are tried in this order. The key
+-- is held. It is awaited by a later course than that by which it was given. It was given under a later number than the one followed.
+-- The number followed lies above all that the partition knows. Else the key was never there by what the partition knows.
 abbrev pub IsReply : PartValue → ℕ → ℕ → Reply → Type 0
 IsReply p k after Held = has p.held k ≡ true
 IsReply p k after (Pending source) = (has p.held k ≡ false) × ((g : ℕ) × (c : ℕ) × IsLastGiven p k g × IsLastComing p k c × (g < c) × OldOwnerUnder p k c source)

@@ -34,8 +34,8 @@ fn made(alloc: Global, number: u32, issue: &Issue) -> Result<Shared<Course>, All
 }
 
 impl Part {
-    /// Whether nothing is issued under the number as far as the partition knows, which is not its
-    /// first course's: so no log has it.
+    /// Whether the number is not that of the first course, and the partition knows of no issue
+    /// under it. No log has such a number.
     fn is_new(&self, number: u32) -> bool
         ensures { result ≡ is_new self.now.first self.now.board number }
     {
@@ -45,7 +45,7 @@ impl Part {
         matches!(self.board.issuing(number), Flat::Unknown)
     }
 
-    /// Adds the log of the issue, where its number is new and it has one pair of plans.
+    /// Adds the log of the issue, if its number is new and it has one pair of plans.
     fn push_fresh(
         &self,
         logs: &mut Vec<Log>,
@@ -67,8 +67,8 @@ impl Part {
         Ok(())
     }
 
-    /// The logs of the courses that become known by the delta's issues: none where it issues
-    /// nothing, without an allocation.
+    /// The logs of the courses that become known by the delta's issues. If it issues nothing there
+    /// are none, and nothing is allocated.
     pub(crate) fn fresh_logs(&self, delta: &Delta) -> Result<Vec<Log>, AllocError>
         ensures value { IfOk result (λ logs. logs.items ≡ fresh_logs self.now.first self.now.board (issues_of delta.now)) }
         ensures logs { IfOk result (λ logs. AllByRecursion IsLog logs.items) }

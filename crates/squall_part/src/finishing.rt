@@ -51,11 +51,11 @@ fn done_report(number: u32, sub: u32, part: PartId) -> Report
 }
 
 impl Part {
-    /// Reports that all keys which come in, in the sub-plan of the newest course, are loaded; the
+    /// Reports that all keys which come in, in the sub-plan of the newest course, are loaded. The
     /// partition's own board takes the report. A repeat gives the same report.
     ///
-    /// `NotOpen`, `NotAll`, `NothingDue`, the first of these that is so; or `NoMemory`. After a
-    /// fault the partition is as it was.
+    /// `NotOpen`, `NotAll`, `NothingDue`, the first of these that is so; or `NoMemory`. A fault
+    /// leaves the partition unchanged.
     pub fn finish(&mut self, sub: u32) -> Result<Report, FinishFault>
         ensures answer { IsFinished self.old sub result self.new }
     {

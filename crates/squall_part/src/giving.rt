@@ -1,4 +1,4 @@
-//! What a partition gives on.
+//! What a partition gives to others.
 
 ghost use Rattle.std.specs.Prelude.{◌≡◌, ◌+◌, ◌≤◌, ◌<◌, OnOk, OnErr};
 ghost use Rattle.squall_key.specs.Keys.{part_limit};
@@ -80,8 +80,8 @@ fn span_of(key: Key) -> Span
 }
 
 impl Part {
-    /// The chunk of the first keys, at most `max`, that are left in the sub-plan opened last: of the
-    /// newest course, whose log stands at the place.
+    /// The chunk of the first keys, at most `max`, that are left in the sub-plan opened last of the
+    /// newest course. `at` is the place of its log.
     fn first_chunk(&self, at: usize, max: u64) -> Result<Chunk, GiveFault>
         requires { IsLogAt self.now.logs (course_of_part self.now) at }
         ensures { IsGiven self.now max result (given_on self.now result) }
@@ -107,8 +107,8 @@ impl Part {
         Ok(chunk_of(course.number(), sub, self.id, dest, span))
     }
 
-    /// The chunk of the key, where it is left in the sub-plan opened last: of the newest course,
-    /// whose log stands at the place.
+    /// The chunk of the key, if it is left in the sub-plan opened last of the newest course. `at`
+    /// is the place of its log.
     fn key_chunk(&self, at: usize, key: Key) -> Result<Chunk, GiveFault>
         requires { IsLogAt self.now.logs (course_of_part self.now) at }
         ensures { IsGivenAt self.now key result (given_on self.now result) }
@@ -132,8 +132,8 @@ impl Part {
         Ok(chunk_of(course.number(), sub, self.id, owners.new, span_of(key)))
     }
 
-    /// Gives on the keys of the span under the newest course, whose log stands at the place. It
-    /// fails where an allocation fails, and then the partition is as it was.
+    /// Gives the keys of the span under the newest course; `at` is the place of its log. An error
+    /// means that an allocation failed. The partition is then unchanged.
     fn give_on(&mut self, at: usize, span: Span) -> Result<(), AllocError>
         requires { IsLogAt self.old.logs (course_of_part self.old) at }
         ensures ok { OnOk result (self.new ≡ after_giving self.old span) }
@@ -143,12 +143,12 @@ impl Part {
         hand_over(alloc, &mut self.held, &mut self.logs[at].given, span)
     }
 
-    /// Gives on the first keys, at most `max`, of those that go out in the sub-plan opened last and
-    /// that it still holds: as a chunk, to the partition to which they go. Then it holds them no
-    /// longer.
+    /// Gives keys that go out in the sub-plan opened last and that it still holds. The first of
+    /// them, at most `max`, become a chunk for the partition to which they go. Then it holds them
+    /// no longer.
     ///
-    /// `NotOpen`, `NothingLeft`, `ZeroMax`, the first of these that is so; or `NoMemory`. After a
-    /// fault the partition is as it was.
+    /// `NotOpen`, `NothingLeft`, `ZeroMax`, the first of these that is so; or `NoMemory`. A fault
+    /// leaves the partition unchanged.
     pub fn give(&mut self, max: u64) -> Result<Chunk, GiveFault>
         ensures answer { IsGiven self.old max result self.new }
     {
@@ -158,10 +158,10 @@ impl Part {
         Ok(chunk)
     }
 
-    /// Gives on one key, as a chunk.
+    /// Gives one key, as a chunk.
     ///
     /// `NotOpen`, `NotOutgoing`, `Given`, `NotHeld`, the first of these that is so; or `NoMemory`.
-    /// After a fault the partition is as it was.
+    /// A fault leaves the partition unchanged.
     pub fn give_at(&mut self, key: Key) -> Result<Chunk, GiveFault>
         ensures answer { IsGivenAt self.old key result self.new }
     {

@@ -1,4 +1,4 @@
-//! The courses that a partition knows, and where it keeps their logs.
+//! The courses that a partition knows, and the places of their logs.
 
 ghost use Rattle.std.specs.Prelude.{◌≡◌, ◌<◌, ◌≤◌, ◌+◌, ℕ, None, Some, IfSome, IfNone, MatchOption, is_some};
 ghost use Rattle.squall_key.specs.Keys.{part_limit};
@@ -30,7 +30,7 @@ impl Part {
         }
     }
 
-    /// The place of the log of the number's course. None where it does not know that.
+    /// The place of the log of the number's course. None if it does not know that course.
     pub(crate) fn known_place(&self, number: u32) -> Option<usize>
         ensures some { IfSome result (λ at. (c : Change) × (known_to self.now number ≡ Some c) × IsLogAt self.now.logs c at) }
         ensures none { IfNone result (known_to self.now number ≡ None) }
@@ -42,7 +42,7 @@ impl Part {
         place_of(&self.logs, number)
     }
 
-    /// The number of the course that it goes by.
+    /// The number of the newest course that it knows.
     pub(crate) fn newest_number(&self) -> u32
         ensures { result ≡ (course_of_part self.now).number }
     {
@@ -52,7 +52,7 @@ impl Part {
         }
     }
 
-    /// The place of the log of the course that it goes by.
+    /// The place of the log of the newest course that it knows.
     pub(crate) fn newest_place(&self) -> usize
         ensures { IsLogAt self.now.logs (course_of_part self.now) result }
     {
@@ -72,7 +72,7 @@ impl Part {
         self.board.opened(number)
     }
 
-    /// The sub-plan of the number that it knows to be opened last. None where none is.
+    /// The sub-plan of the number that it knows to be opened last. None if none is opened.
     pub(crate) fn current_sub(&self, number: u32) -> Option<u32>
         ensures { MatchOption result (opened_at self.now number ≡ 0) (λ sub. (opened_at self.now number ≡ sub + 1) × (sub < part_limit)) }
     {

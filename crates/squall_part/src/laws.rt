@@ -10,8 +10,8 @@ ghost use Rattle.squall_part.specs.Serving.{IsLastGiven, IsLastComing, IsReply};
 
 use crate::part::Part;
 
-/// The last number under which a partition gave a key is one, and so is the last by which the key
-/// comes in and is not loaded.
+/// A partition gave a key last under at most one number. There is also at most one last number by
+/// which the key comes in and is not loaded.
 pub fn one_last_number(part: &Part)
     ensures given { (key g h : ℕ) → IsLastGiven part.now key g → IsLastGiven part.now key h → g ≡ h }
     ensures coming { (key c d : ℕ) → IsLastComing part.now key c → IsLastComing part.now key d → c ≡ d }
@@ -26,7 +26,7 @@ pub fn one_reply(part: &Part)
     part.known();
 }
 
-/// Keys that are given on are held no longer, and are given under the newest course.
+/// Keys that a partition gives are held no longer, and are given under the newest course.
 pub fn given_keys_are_gone(part: &Part)
     ensures held { (s : Interval) (k : ℕ) → s.lo < s.hi → s.hi ≤ top → span_has s k ≡ true → has (after_giving part.now s).held k ≡ false }
     ensures given { (s : Interval) (k : ℕ) → s.lo < s.hi → s.hi ≤ top → span_has s k ≡ true

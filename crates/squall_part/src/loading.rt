@@ -82,7 +82,7 @@ fn carries(m: &Move, chunk: &Chunk) -> bool
 }
 
 /// Whether each key of the chunk goes from its source to its destination in its sub-plan. Moves
-/// are the longest of their kind, so that its keys are in one, and its first key finds that.
+/// are as long as possible, so its keys are in one move, which its first key finds.
 fn fits(course: &Course, chunk: &Chunk) -> bool
     ensures { IsTrue result ↔ Carried course.now chunk.now }
 {
@@ -93,7 +93,7 @@ fn fits(course: &Course, chunk: &Chunk) -> bool
 }
 
 impl Part {
-    /// The place of the log of the chunk's course, where the chunk may be loaded.
+    /// The place of the log of the chunk's course, if the chunk may be loaded.
     fn place_for(&self, chunk: &Chunk) -> Result<usize, LoadFault>
         ensures ok { IfOk result (λ at. MayLoad self.now chunk.now × IsLoadPlace self.now chunk.now at) }
         ensures err { IfErr result (λ e. IsLoaded self.now chunk.now (Err e) self.now) }
@@ -127,8 +127,8 @@ impl Part {
         }
     }
 
-    /// Loads the keys of the chunk, whose course's log stands at the place, and takes the report. It
-    /// fails where an allocation fails, and then the partition is as it was.
+    /// Loads the keys of the chunk, and takes the report. `at` is the place of the log of its
+    /// course. An error means that an allocation failed. The partition is then unchanged.
     fn take_in(&mut self, at: usize, chunk: &Chunk, report: &Report) -> Result<(), AllocError>
         requires place { IsLoadPlace self.old chunk.now at }
         requires report { report.now ≡ load_report chunk.now }
@@ -140,12 +140,12 @@ impl Part {
         log.load(alloc, &mut self.board, &mut self.held, chunk.span(), report)
     }
 
-    /// Takes a chunk. The keys of it that it had not loaded under the chunk's number it loads and
-    /// holds now, and it reports the load of the whole chunk. A chunk that came before changes
-    /// nothing, even if its keys were given on since.
+    /// Takes a chunk. It loads, and then holds, those keys of the chunk that it has not loaded
+    /// under the chunk's number. It reports the load of the whole chunk. A chunk that came before
+    /// changes nothing, even if the partition has given its keys since.
     ///
-    /// `NotOpen`, `Stranger`, the first of these that is so; or `NoMemory`. After a fault the
-    /// partition is as it was.
+    /// `NotOpen`, `Stranger`, the first of these that is so; or `NoMemory`. A fault leaves the
+    /// partition unchanged.
     pub fn load(&mut self, chunk: &Chunk) -> Result<Load, LoadFault>
         ensures answer { IsLoaded self.old chunk.now result self.new }
     {

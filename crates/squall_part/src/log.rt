@@ -28,8 +28,8 @@ pub(crate) struct Log {
     pub(crate) course: Shared<Course>,
     pub(crate) given: SpanSet,
     pub(crate) loaded: SpanSet,
-    // The keys that come in to the partition by the course and are not loaded: none once all are,
-    // so that a course which is finished costs a search almost nothing.
+    // The keys that come in to the partition by the course and are not loaded. Once all are loaded
+    // it is empty, so a finished course costs a search almost nothing.
     awaited: SpanSet,
 }
 
@@ -44,7 +44,7 @@ impl Model for Log {
     ghost invariant = { λ l. IsAwaited l.part l.course l.loaded l.awaited };
 }
 
-/// The keys that come in to the partition by the course. It fails only if an allocation fails.
+/// The keys that come in to the partition by the course. An error means that an allocation failed.
 fn incoming_keys(alloc: Global, part: PartId, course: &Course) -> Result<SpanSet, AllocError>
     ensures { IfOk result (λ set. (k : ℕ) → has set k ≡ (moves course.now.old course.now.new k && (owner_of course.now.new k == part))) }
 {
@@ -58,8 +58,8 @@ fn incoming_keys(alloc: Global, part: PartId, course: &Course) -> Result<SpanSet
 }
 
 impl Log {
-    /// The partition's log of a course under which nothing was done. It fails only if an allocation
-    /// fails.
+    /// The partition's log of a course under which nothing was done. An error means that an
+    /// allocation failed.
     pub(crate) fn new(
         alloc: Global,
         part: PartId,
@@ -98,15 +98,15 @@ impl Log {
         if part == self.part {
             return self.awaited.has(key);
         }
-        // A partition asks its own logs alone. Of another one the plans tell, so that no caller owes
-        // a proof of whose log it is.
+        // A partition asks only its own logs. For another partition the plans give the answer, so a
+        // caller need not prove whose log it is.
         let owners = self.course().owners(key);
         owners.old != owners.new && owners.new == part && !self.loaded.has(key)
     }
 
-    /// Loads the keys of the span: the partition holds those that were not loaded, all are loaded,
-    /// none is awaited, and the board takes the report. It fails only if an allocation fails, and then
-    /// the log, the board and what is held are as they were.
+    /// Loads the keys of the span. The partition then holds those that were not loaded, and the
+    /// board has the report. All of them are loaded, and none is awaited. An error means that an
+    /// allocation failed. The log, the board and the keys held are then unchanged.
     pub(crate) fn load(
         &mut self,
         alloc: Global,
@@ -149,7 +149,7 @@ pub(crate) fn place_of(logs: &[Log], number: u32) -> Option<usize>
     logs.iter().position(|log| log.number() == number)
 }
 
-/// The number of the log, 0 where there is none.
+/// The number of the log, 0 if there is none.
 pub(crate) fn number_of(log: Option<&Log>) -> u32
     ensures { result ≡ number_in (option_copied log.entry) }
 {
@@ -159,7 +159,7 @@ pub(crate) fn number_of(log: Option<&Log>) -> u32
     }
 }
 
-/// The log where its number is above the given one.
+/// The log, if its number is above the given one.
 pub(crate) fn above(log: Option<&Log>, number: u32) -> Option<&Log>
     ensures some { IfSome result (λ l. (option_copied log.entry ≡ Some l.now) × (number < l.now.course.number)) }
     ensures none { IfNone result (number_in (option_copied log.entry) ≤ number) }

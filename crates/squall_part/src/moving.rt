@@ -11,8 +11,8 @@ use squall_span::{ReadySet, Span, SpanSet};
 use std::alloc::{AllocError, Global};
 use std::mem;
 
-/// Takes the set out, with room for so many edits. It fails where an allocation fails, and then
-/// the set stays as it was.
+/// Takes the set out, with room for `more` edits. An error means that an allocation failed. The set
+/// is then unchanged.
 fn made_ready(alloc: Global, set: &mut SpanSet, more: usize) -> Result<ReadySet, AllocError>
     ensures ok { IfOk result (λ r. (r.set ≡ set.old) × (more ≤ r.room)) }
     ensures err { OnErr result (set.new ≡ set.old) }
@@ -27,8 +27,8 @@ fn made_ready(alloc: Global, set: &mut SpanSet, more: usize) -> Result<ReadySet,
     }
 }
 
-/// Takes both sets out, the first with room for so many edits and the second for one. It fails
-/// where an allocation fails, and then both stay as they were.
+/// Takes both sets out, the first with room for `more` edits and the second for one. An error means
+/// that an allocation failed. Both sets are then unchanged.
 fn both_ready(
     alloc: Global,
     first: &mut SpanSet,
@@ -49,8 +49,8 @@ fn both_ready(
     }
 }
 
-/// Gives on the keys of a span: they are held no longer, and given. It fails where an allocation
-/// fails, and then both sets are as they were.
+/// Gives the keys of a span: they are held no longer, and given. An error means that an allocation
+/// failed. Both sets are then unchanged.
 pub(crate) fn hand_over(
     alloc: Global,
     held: &mut SpanSet,
@@ -82,7 +82,7 @@ fn insert_all(set: &mut ReadySet, spans: &[Span])
 }
 
 /// Loads the keys of a span: those that were not loaded are held, all are loaded, and the board
-/// takes the report. It fails where an allocation fails, and then all three are as they were.
+/// takes the report. An error means that an allocation failed. All three are then unchanged.
 fn load_keys(
     alloc: Global,
     board: &mut Board,
@@ -111,8 +111,8 @@ fn load_keys(
     taken
 }
 
-/// Loads the keys of a span as [`load_keys`] does, and then none of them is awaited. It fails only if
-/// an allocation fails, and then all four are as they were.
+/// Loads the keys of a span as [`load_keys`] does, and then none of them is awaited. An error means
+/// that an allocation failed. All four are then unchanged.
 pub(crate) fn load_awaited(
     alloc: Global,
     board: &mut Board,

@@ -18,9 +18,9 @@ use std::alloc::{AllocError, Global};
 use std::marker::Model;
 use std::sync::Arc;
 
-/// A partition: the keys that it holds, what it was told, and what it gave on and loaded under
-/// each course that it knows. It knows its first course, and each other one whose issue alone its
-/// board tells of under a number; it goes by the one of the greatest number.
+/// A partition: the keys that it holds, what it has heard, and what it gave and loaded under each
+/// course that it knows. It knows its first course, and the course of every number for which its
+/// board has exactly one issue. It uses the one of the greatest number.
 ///
 /// Contracts see a partition as its number, its first course, its board, the keys that it holds
 /// and its logs, one for each course.
@@ -73,9 +73,9 @@ fn append_ready(logs: &mut Vec<Log>, mut fresh: Vec<Log>)
 }
 
 impl Part {
-    /// A partition that has heard nothing: it knows the first course, and holds what the old plan
-    /// of that gives it. It fails where an allocation fails, or where the count of the course's
-    /// owners is full.
+    /// A partition that has heard nothing: it knows the first course, and holds the keys that the
+    /// course's old plan gives it. An error means that an allocation failed, or that the count of
+    /// the course's owners is full.
     pub fn new(alloc: Global, id: PartId, first: &Arc<Course>) -> Result<Part, AllocError>
         ensures { IfOk result (λ p. p ≡ new_part id (arc_value first.now)) }
     {
@@ -100,8 +100,8 @@ impl Part {
         let _logs = &self.logs;
     }
 
-    /// Takes all that the delta tells, and knows the courses that it tells of. It fails where an
-    /// allocation fails, or where a count of owners is full, and then the partition is as it was.
+    /// Takes every report of the delta, and knows the courses that it issues. An error means that
+    /// an allocation failed, or that a count of owners is full. The partition is then unchanged.
     pub fn absorb(&mut self, delta: &Delta) -> Result<(), AllocError>
         ensures takes { OnOk result (TakesBoard self.old.board delta.now self.new.board) }
         ensures same { self.new ≡ record self.old { board = self.new.board; logs = self.new.logs } }
@@ -133,7 +133,7 @@ impl Part {
         &self.held
     }
 
-    /// The keys that it gave on under the number. None where it does not know its course.
+    /// The keys that it gave under the number. None if it does not know the number's course.
     pub fn given(&self, number: u32) -> Option<&SpanSet>
         ensures { option_map (λ set. set.now) result ≡ option_map (λ course. given_by self.now number) (known_to self.now number) }
     {
@@ -142,7 +142,7 @@ impl Part {
         Some(&self.logs[at].given)
     }
 
-    /// The keys that it loaded under the number. None where it does not know its course.
+    /// The keys that it loaded under the number. None if it does not know the number's course.
     pub fn loaded(&self, number: u32) -> Option<&SpanSet>
         ensures { option_map (λ set. set.now) result ≡ option_map (λ course. loaded_by self.now number) (known_to self.now number) }
     {
@@ -151,7 +151,7 @@ impl Part {
         Some(&self.logs[at].loaded)
     }
 
-    /// What it was told, and what it told itself.
+    /// What it has heard, and what it reported itself.
     pub fn board(&self) -> &Board
         ensures { result.now ≡ self.now.board }
     {

@@ -53,7 +53,7 @@ impl Part {
         found
     }
 
-    /// The partition of the key by the old plan of the course that it goes by.
+    /// The partition of the key by the old plan of the newest course that it knows.
     fn newest_old_owner(&self, key: Key) -> PartId
         ensures { result ≡ owner_of (course_of_part self.now).old key }
     {
@@ -63,13 +63,13 @@ impl Part {
         }
     }
 
-    /// The reply to whoever asks for the key and followed a `Moved` of the number `after` to this
-    /// partition, or none where `after` is 0.
+    /// The reply to whoever asks for the key after following a `Moved` of the number `after` to
+    /// this partition. An `after` of 0 says that no move was followed.
     ///
-    /// `Held` where it holds the key. `Pending` where the key comes in by a course later than that
-    /// under which it last gave the key on, and is not loaded. `Moved` where it last gave the key
-    /// on under a number above `after`. `Behind` where `after` lies above every number that it
-    /// knows. Else `Elsewhere`.
+    /// `Held` if it holds the key. `Pending` if the key comes in by a course later than that under
+    /// which it last gave the key, and is not loaded. `Moved` if it last gave the key under a
+    /// number above `after`. `Behind` if `after` lies above every number that it knows. Else
+    /// `Elsewhere`. The first of these that is so.
     pub fn serve(&self, key: Key, after: u32) -> Reply
         ensures { IsReply self.now key after result }
     {

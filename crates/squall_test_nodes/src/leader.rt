@@ -1,6 +1,7 @@
 //! Leaders between plans whose moves were worked out by hand.
 
 mod clients;
+mod example;
 mod tolerant;
 
 use squall_board::Board;

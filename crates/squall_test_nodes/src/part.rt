@@ -1,6 +1,7 @@
 //! Partitions between plans whose moves were worked out by hand: 2:0 up to 3:0 goes from partition 1 to 3,
 //! and 6:0 up to 9:0 from 3 to 4, each in sub-plan 0.
 
+mod example;
 mod tolerant;
 
 use crate::example::{course, issued};
