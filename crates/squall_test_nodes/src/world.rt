@@ -3,6 +3,7 @@
 
 mod calls;
 mod clients;
+mod example;
 mod over;
 mod tolerant;
 

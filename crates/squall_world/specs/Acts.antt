@@ -1,4 +1,4 @@
--- What a node does to itself. Only private functions are told by these definitions.
+-- What a node does to itself. Only contracts of private functions use these definitions.
 use Rattle.std.specs.Prelude.{◌≡◌, ◌⊎◌, ℕ, List, Result, Ok, Err, Some}
 use Rattle.squall_plan.specs.declared.range.PlanRange.{PlanRange}
 use Rattle.squall_course.specs.Change.{Change}

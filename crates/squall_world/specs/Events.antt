@@ -1,5 +1,5 @@
--- What an event does to what a world keeps. Only private functions are told by these definitions; callers are told by the definition of a
--- step of the world.
+-- What an event does to what a world keeps. Only contracts of private functions use these definitions; those of public functions use the
+-- definition of a step of the world.
 use Rattle.std.specs.Prelude.{◌≡◌, ℕ, ◌+◌, ◌&&◌, ◌⊎◌, not, false, List, [], ◌∷◌, ◌++◌, length, map, Option, Some, None, is_some, Result, Ok, Err}
 use Rattle.std.specs.List.{filter, range_with_len, slice_get, AllByRecursion}
 use Rattle.std.specs.declared.alloc.AllocError.{AllocError}
@@ -38,7 +38,7 @@ use Rattle.squall_world.specs.declared.peer.Role.{Role}
 use Rattle.squall_world.specs.declared.peer.Role.TheVariants.{Leader as LeaderRole, Part as PartRole, Router as RouterRole}
 use Rattle.squall_world.specs.Nets.{PeerValue, NetValue, peer_with, new_peer, is_behind, news_to, raised, turned, reported, first_of, place_of, with_peer, ArePlaced, IsRole}
 
--- ---- faults as refusals: none where an allocation failed
+-- ---- faults as refusals: none if an allocation failed
 
 abbrev pub give_refusal : GiveFault → Option Refusal
 give_refusal GiveNotOpen = Some NotOpen
@@ -77,14 +77,14 @@ answer_of (Some e) r = r ≡ Ok (Refused e)
 
 -- ---- nodes
 
--- the partition of the number stands at the place
+-- the partition of the number is at the place
 pub record HasPart (n : NetValue) (p at : ℕ) (peer : PeerValue) (part : PartValue) : Type 0 where
   pub place : place_of n (Part p) ≡ Some at
   pub there : slice_get n.peers at ≡ Some peer
   pub role : peer.role ≡ PartRole part
   pub id : part.id ≡ p
 
--- the leader stands at 0
+-- the leader is at 0
 pub record HasLeader (n : NetValue) (peer : PeerValue) (leader : LeaderValue) : Type 0 where
   pub there : slice_get n.peers 0 ≡ Some peer
   pub role : peer.role ≡ LeaderRole leader
@@ -156,7 +156,7 @@ IsOpenIn n (Ok (Refused e)) m = (peer : PeerValue) × (a : LeaderValue) × (f : 
 IsOpenIn n (Ok _) m = ⊥
 IsOpenIn n (Err e) m = m ≡ n
 
--- the partitions that a plan names and that stand nowhere yet, in rising number
+-- the partitions that a plan names and that have no place yet, in rising number
 abbrev pub named_first : NetValue → List PlanRange → List ℕ
 named_first n plan = filter (λ p. names plan p && not (is_some (place_of n (Part p)))) (range_with_len 0 part_limit)
 
@@ -193,7 +193,7 @@ IsSendIn n node (Ok (Refused e)) m = IsNoSuch n node e m
 IsSendIn n node (Ok _) m = ⊥
 IsSendIn n node (Err e) m = m ≡ n
 
--- the node takes in a board, and stays what it was but for that
+-- the node takes in a board, and is else unchanged
 abbrev pub IsTold : Role → BoardValue → Role → Type 0
 IsTold (LeaderRole a) d (LeaderRole b) = (b ≡ record a { board = board_join a.board d }) × IsLeader b
 IsTold (PartRole a) d (PartRole b) =

@@ -1,4 +1,5 @@
--- What a world keeps: its nodes in one list, each with the reports that it made and how many it knows of each node's, and messages as such counts.
+-- What a world keeps: its nodes in one list, each with the reports that it made and how many it knows of each node's. Messages are such
+-- counts.
 use Rattle.std.specs.Prelude.{◌≡◌, ℕ, ◌+◌, ◌-◌, ◌<◌, ◌≤◌, ◌==◌, ◌||◌, nat_lt, Bool, true, false, zero, suc, List, [], ◌∷◌, ◌++◌, length, Option, Some, None, is_some, if◌then◌else◌, slice_index_or, take, drop}
 use Rattle.std.specs.List.{position, slice_get, AllByRecursion}
 use Rattle.squall_key.specs.Keys.{part_limit}
@@ -27,7 +28,7 @@ is_issue (DoneReport number sub part) = false
 is_issue (OpenedReport number sub) = false
 is_issue (IssuedReport number issue) = true
 
--- what reports tell together, beside a board
+-- the join of a board and of reports
 abbrev pub reports_to : BoardValue → List (ReportKind PlanPair) → BoardValue
 reports_to b [] = b
 reports_to b (r ∷ rs) = reports_to (board_join b (report_board r)) rs
@@ -50,7 +51,7 @@ peer_with role reports known = record { role = role; reports = reports; known = 
 abbrev pub new_peer : Role → PeerValue
 new_peer role = peer_with role [] []
 
--- what it was told, and told itself
+-- what it has heard, and reported itself
 abbrev pub role_board : Role → BoardValue
 role_board (LeaderRole l) = l.board
 role_board (PartRole p) = p.board
@@ -90,14 +91,14 @@ IsRole (LeaderRole l) = IsLeader l
 IsRole (PartRole p) = IsPart p
 IsRole (RouterRole r) = IsBoard r.board × ArePlans r.first.old r.first.new
 
--- it holds of each node, and what its reports tell are boards
+-- it holds of the node, and the board of each report that the node made is a board
 pub record IsPeer (p : PeerValue) : Type 0 where
   pub role : IsRole p.role
   pub reports : AllByRecursion (λ r. IsBoard (report_board r)) p.reports
 
 -- ---- counts
 
--- counts with another one at a place, and zeros up to it where they are too few
+-- counts with another one at a place, and zeros up to it if they are too few
 abbrev pub noted : ℕ → ℕ → List ℕ → List ℕ
 noted zero c [] = c ∷ []
 noted zero c (k ∷ ks) = c ∷ ks
@@ -116,26 +117,26 @@ is_behind ks [] = false
 is_behind [] (m ∷ ms) = nat_lt 0 m || is_behind [] ms
 is_behind (k ∷ ks) (m ∷ ms) = nat_lt k m || is_behind ks ms
 
--- what the first reports of each node tell, so many of each
+-- the join of the first reports of each node, as many as its count says
 abbrev pub told_from : List PeerValue → List ℕ → BoardValue
 told_from [] ks = empty_board
 told_from (p ∷ ps) [] = empty_board
 told_from (p ∷ ps) (k ∷ ks) = board_join (reports_board (take k p.reports)) (told_from ps ks)
 
--- what the reports tell from the first counts on up to the second ones, beside a board
+-- the join of a board and of the reports from the first counts up to the second ones
 abbrev pub news_to : BoardValue → List PeerValue → List ℕ → List ℕ → BoardValue
 news_to b [] ks ms = b
 news_to b (p ∷ ps) ks [] = b
 news_to b (p ∷ ps) [] (m ∷ ms) = news_to (reports_to b (take m p.reports)) ps [] ms
 news_to b (p ∷ ps) (k ∷ ks) (m ∷ ms) = news_to (reports_to b (take (m - k) (drop k p.reports))) ps ks ms
 
--- there are so many reports of each node
+-- each node has at least as many reports as its count says
 abbrev pub AreWithin : List PeerValue → List ℕ → Type 0
 AreWithin ps [] = Unit {0}
 AreWithin [] (k ∷ ks) = ⊥
 AreWithin (p ∷ ps) (k ∷ ks) = (k ≤ length p.reports) × AreWithin ps ks
 
--- the node at the place knows its own reports and of others' no more than there are, and was told just those
+-- the node at the place knows its own reports and of others' no more than there are, and its board is the join of just those
 pub record IsKnowing (ps : List PeerValue) (at : ℕ) (p : PeerValue) : Type 0 where
   pub within : AreWithin ps p.known
   pub board : role_board p.role ≡ told_from ps p.known
@@ -149,13 +150,13 @@ pub record NetValue : Type 0 where
   -- the leader, then the routers, then the partitions in the order in which plans named them
   pub peers : List PeerValue
   pub routers : ℕ
-  -- for each partition that there can be, where it stands among the nodes
+  -- for each partition that there can be, its place among the nodes
   pub places : List (Option ℕ)
-  -- how many of each node's reports each message tells
+  -- how many of each node's reports each message has
   pub messages : List (List ℕ)
   pub chunks : List ChunkValue
 
--- a course to stand where there is none
+-- a course for the case that there is none
 abbrev pub no_course : Change
 no_course = record { number = 0; old = []; new = [] }
 
@@ -167,7 +168,7 @@ first_of n = slice_index_or n.courses 0 no_course
 abbrev pub newest_of : NetValue → Change
 newest_of n = slice_index_or n.courses (length n.courses - 1) no_course
 
--- where a node stands
+-- the place of a node
 abbrev pub place_of : NetValue → Node → Option ℕ
 place_of n Leader = Some 0
 place_of n (Part p) = position (is_part_peer p) n.peers
@@ -205,7 +206,7 @@ abbrev pub IsChain : ℕ → List PlanRange → List Change → Type 0
 IsChain n plan [] = Unit {0}
 IsChain n plan (c ∷ cs) = (c.number ≡ n) × (c.old ≡ plan) × ArePlans c.old c.new × IsChain (n + 1) c.new cs
 
--- at 0 stands a leader, which goes by the course begun last
+-- the node at 0 is a leader, which uses the course begun last
 pub record IsLed (n : NetValue) : Type 0 where
   pub peer : PeerValue
   pub leader : LeaderValue
@@ -213,7 +214,7 @@ pub record IsLed (n : NetValue) : Type 0 where
   pub role : peer.role ≡ LeaderRole leader
   pub course : leader.course ≡ Some (newest_of n)
 
--- after it stand the routers, each with the first course
+-- after it are the routers, each with the first course
 pub record IsRouterAt (n : NetValue) (i : ℕ) : Type 0 where
   pub peer : PeerValue
   pub router : RouterValue
@@ -229,7 +230,7 @@ pub record IsPartAt (n : NetValue) (i : ℕ) : Type 0 where
   pub role : peer.role ≡ PartRole part
   pub first : part.first ≡ first_of n
   pub limit : part.id < part_limit
-  -- no other stands before it
+  -- no other is before it
   pub place : place_of n (Part part.id) ≡ Some i
 
 -- the places of partitions are noted

@@ -13,12 +13,12 @@ use Rattle.squall_world.specs.declared.peer.Role.{Role}
 use Rattle.squall_world.specs.declared.peer.Role.TheVariants.{Leader as LeaderRole, Part as PartRole, Router as RouterRole}
 use Rattle.squall_world.specs.Nets.{PeerValue, NetValue, told_from, role_board, leader_in, part_in, first_of, peer_of}
 
--- the plan of a number: the old plan of the first course, and after it the new plan of each; beyond the last, that of the first
+-- the plan of a number: the old plan of the first course, and after it the new plan of each course. Beyond the last, that of the first
 abbrev pub plan_at : NetValue → ℕ → List PlanRange
 plan_at n zero = (first_of n).old
 plan_at n (suc i) = (slice_index_or n.courses i (first_of n)).new
 
--- the numbers of the partitions, in the order in which they stand
+-- the numbers of the partitions, in the order of the nodes
 abbrev pub id_of : Role → List ℕ
 id_of (LeaderRole l) = []
 id_of (PartRole p) = p.id ∷ []
@@ -36,7 +36,7 @@ abbrev pub opened_in : Option PeerValue → ℕ
 opened_in None = 0
 opened_in (Some p) = opened_by (leader_in p.role)
 
--- a partition, where it is there
+-- a partition, if it is there
 abbrev pub part_of : Option PeerValue → Option PartValue
 part_of None = None
 part_of (Some p) = part_in p.role
@@ -53,12 +53,12 @@ abbrev pub loaded_under : Option PartValue → ℕ → ℕ → Bool
 loaded_under None n k = false
 loaded_under (Some p) n k = has (loaded_by p n) k
 
--- what a node was told and told itself, nothing where it is not there
+-- what a node has heard and reported itself, nothing if it is not there
 abbrev pub facts_of : Option PeerValue → Queries
 facts_of None = no_queries
 facts_of (Some p) = queries_of (role_board p.role)
 
--- what a message tells
+-- what the reports of a message say
 abbrev pub told_by_message : NetValue → List ℕ → Queries
 told_by_message n counts = queries_of (told_from n.peers counts)
 

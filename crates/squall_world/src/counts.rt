@@ -1,4 +1,4 @@
-//! Counts of the reports of each node, by place: none where the list is too short.
+//! Counts of the reports of each node, by place. The count is 0 beyond the end of the list.
 
 ghost use Rattle.std.specs.Prelude.{◌≡◌, ◌≤◌, ◌<◌, length, OnOk, vec_capacity, slice_index_or};
 ghost use Rattle.squall_world.specs.Nets.{noted, raised, is_behind};
@@ -53,7 +53,7 @@ pub(crate) fn note(known: &mut Vec<usize>, at: usize, count: usize)
     known[at] = count;
 }
 
-/// Of two counts at a place the greater one, in room that was made.
+/// Keeps the greater of two counts at the place, in room that was made.
 pub(crate) fn raise(known: &mut Vec<usize>, counts: &[usize])
     requires { length counts.now ≤ vec_capacity known.old }
     ensures { known.new.items ≡ raised known.old.items counts.now }

@@ -42,7 +42,7 @@ fn append_ready(peers: &mut Vec<Peer>, mut more: Vec<Peer>)
     let _done = peers.append(&mut more);
 }
 
-/// A course is begun, and nodes come, in room that was made. Their places are noted.
+/// Adds a course and nodes, in room that was made, and notes the places of the nodes.
 fn add(
     courses: &mut Vec<Shared<Course>>,
     peers: &mut Vec<Peer>,
@@ -86,8 +86,8 @@ impl Net {
         new_parts(self.alloc, self.courses[0].as_arc(), &named, &self.places)
     }
 
-    /// The leader begins a course from the newest plan to this one; the partitions come that the
-    /// plan is the first to name.
+    /// The leader begins a course from the newest plan to this one. The partitions that this plan
+    /// is the first to name are added.
     pub(crate) fn begin(&mut self, plan: &Plan) -> Result<Answer, AllocError>
         requires { IsNet self.old }
         ensures { IsBeginIn self.old plan.now result self.new }

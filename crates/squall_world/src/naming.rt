@@ -45,7 +45,7 @@ pub(crate) fn mark(named: &mut [bool], plan: &Plan)
     }
 }
 
-/// The node of a partition that knows the first course, and took in nothing.
+/// The node of a partition that knows the first course, and has heard nothing.
 fn part_node(alloc: Global, id: PartId, first: &Arc<Course>) -> Result<Peer, AllocError>
     ensures node { IfOk result (λ p. p ≡ new_peer (Part (new_part id (arc_value first.now)))) }
     ensures valid { IfOk result (λ p. IsRole p.role) }

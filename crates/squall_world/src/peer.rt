@@ -33,7 +33,8 @@ impl Role {
         }
     }
 
-    /// Takes all that the delta tells. It fails where an allocation fails, and then nothing changed.
+    /// Takes every report of the delta. An error means that an allocation failed. Nothing has then
+    /// changed.
     pub(crate) fn absorb(&mut self, delta: &Delta) -> Result<(), AllocError>
         ensures ok { OnOk result (IsTold self.old delta.now self.new) }
         ensures err { OnErr result (self.new ≡ self.old) }
@@ -66,7 +67,7 @@ impl Role {
 pub(crate) struct Peer {
     pub(crate) role: Role,
     pub(crate) reports: Vec<Report>,
-    /// By place; none where the list is too short.
+    /// By place; 0 beyond the end of the list.
     pub(crate) known: Vec<usize>,
 }
 
@@ -90,8 +91,8 @@ impl Peer {
         }
     }
 
-    /// Takes the news in, and knows as many reports as the counts say, or more. It fails where an
-    /// allocation fails, and then nothing changed.
+    /// Takes the news in, and knows as many reports as the counts say, or more. An error means that
+    /// an allocation failed. Nothing has then changed.
     pub(crate) fn hear(&mut self, news: &Board, counts: &[usize]) -> Result<(), AllocError>
         ensures ok { OnOk result (IsHearing self.old news.now counts.now self.new) }
         ensures err { OnErr result (self.new ≡ self.old) }

@@ -9,8 +9,8 @@ use squall_protocol::promises;
 
 impl World {
     /// What is promised of each world to which a run leads holds of this one, whatever happened in it:
-    /// `squall_protocol::promises` says it in words. The call does nothing, and tells this to one who
-    /// is only lent the world.
+    /// `squall_protocol::promises` says it in words. The call does nothing. It states this to a
+    /// caller who only borrows the world.
     pub fn promised(&self)
         ensures reached { IsReached (view self.now) }
         ensures one_carrier { OneCarrier (view self.now) }

@@ -29,7 +29,7 @@ pub(crate) fn again(report: &Report) -> Report
     made.unwrap()
 }
 
-/// Takes all that the reports tell.
+/// Takes all of the reports.
 fn take_all(board: &mut Board, reports: &[Report]) -> Result<(), AllocError>
     ensures { OnOk result (board.new ≡ reports_to board.old reports.now) }
 {
@@ -39,7 +39,7 @@ fn take_all(board: &mut Board, reports: &[Report]) -> Result<(), AllocError>
     Ok(())
 }
 
-/// Takes what the node's reports tell, from a number of them on up to another.
+/// Takes the node's reports from index `from` to before index `to`.
 fn take_between(board: &mut Board, peer: &Peer, from: usize, to: usize) -> Result<(), AllocError>
     requires from { from ≤ to }
     requires to { to ≤ length peer.now.reports }
@@ -48,7 +48,7 @@ fn take_between(board: &mut Board, peer: &Peer, from: usize, to: usize) -> Resul
     take_all(board, &peer.reports[from..to])
 }
 
-/// What the nodes' reports tell from the first counts on up to the second ones.
+/// The board of the nodes' reports from the first counts up to the second ones.
 pub(crate) fn news(
     alloc: Global,
     peers: &[Peer],

@@ -29,7 +29,7 @@ impl Net {
         Ok(Answer::Sent { index })
     }
 
-    /// The node takes in what the message tells: the reports that it does not know.
+    /// The node takes those reports of the message that it does not know.
     pub(crate) fn deliver(&mut self, index: usize, node: Node) -> Result<Answer, AllocError>
         requires { IsNet self.old }
         ensures { IsDeliverIn self.old index node result self.new }

@@ -80,7 +80,7 @@ fn first_parts(
     new_parts(alloc, first, &named, places)
 }
 
-/// The places of partitions while there is none.
+/// The places of partitions while there are none.
 fn no_places(alloc: Global) -> Result<Vec<Option<usize>>, AllocError>
     ensures { IfOk result (λ places. AreNoted [] places.items) }
 {
@@ -118,7 +118,7 @@ fn first_nodes(
 }
 
 impl Net {
-    /// The first course is begun, and each key lies where its old plan has it.
+    /// The first course is begun, and each key lies at its partition of the old plan.
     pub(crate) fn new(alloc: Global, first: &Arc<Course>, routers: u32) -> Result<Net, AllocError>
         requires { (arc_value first.now).number ≡ 1 }
         ensures { IfOk result (λ net. IsFirst (arc_value first.now) routers net) }

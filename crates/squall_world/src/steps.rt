@@ -62,9 +62,9 @@ fn first_course(alloc: Global, old: &Plan, new: &Plan) -> Result<Arc<Course>, Al
 }
 
 impl World {
-    /// The world in which the course 1, from the old plan to the new one, is begun, and each key
-    /// lies at its partition of the old plan. It has one partition node for each partition that a plan
-    /// names, and this many routers.
+    /// The world in which course 1, from the old plan to the new one, is begun. Each key lies at
+    /// its partition of the old plan. The world has one partition node for each partition that a
+    /// plan names, and this many routers.
     ///
     /// `TooManyRouters` above [`MOST_ROUTERS`], whatever memory there is; or `NoMemory`.
     pub fn new(alloc: Global, old: &Plan, new: &Plan, routers: u32) -> Result<World, WorldFault>
@@ -99,8 +99,9 @@ impl World {
     }
 
     /// The leader opens the next sub-plan of the course begun last: `Opened`. Refused as `NotDone`
-    /// while a partition is waited for, and as `NoMore` after the last. Like each call here it fails only
-    /// if an allocation fails, or if a count of owners is full. Nothing has changed then.
+    /// while a partition is waited for, and as `NoMore` after the last. As with each call here, an
+    /// error means that an allocation failed, or that a count of owners is full. Nothing has then
+    /// changed.
     pub fn open_next(&mut self) -> Result<Answer, AllocError>
         ensures ok { IfOk result (λ answer. OpenStep (view self.old) answer (view self.new)) }
         ensures err { OnErr result (self.new ≡ self.old) }
@@ -108,9 +109,9 @@ impl World {
         self.net.open_next()
     }
 
-    /// The leader begins a course from the newest plan to this one: `Begun`; the partitions come that
-    /// this plan is the first to name. Refused as `Running` while the course begun last is not over,
-    /// and as `NoNumber` where the greatest number is used.
+    /// The leader begins a course from the newest plan to this one: `Begun`. The partitions that
+    /// this plan is the first to name are added. Refused as `Running` while the course begun last
+    /// is not over, and as `NoNumber` if the greatest number is used.
     pub fn begin(&mut self, plan: &Plan) -> Result<Answer, AllocError>
         ensures ok { IfOk result (λ answer. BeginStep (view self.old) plan.now answer (view self.new)) }
         ensures err { OnErr result (self.new ≡ self.old) }
@@ -136,8 +137,8 @@ impl World {
         self.net.give_at(part, key)
     }
 
-    /// The chunk of that index comes to its destination: `Loaded`, or `Again` where each of its keys was
-    /// loaded before. Refused as `NoSuch`, `NotOpen` or `Stranger`.
+    /// The chunk of that index comes to its destination: `Loaded`, or `Again` if each of its keys
+    /// was loaded before. Refused as `NoSuch`, `NotOpen` or `Stranger`.
     pub fn load(&mut self, chunk: usize) -> Result<Answer, AllocError>
         ensures ok { IfOk result (λ answer. LoadStep (view self.old) chunk answer (view self.new)) }
         ensures err { OnErr result (self.new ≡ self.old) }
@@ -204,8 +205,8 @@ impl World {
         }
     }
 
-    /// Takes an event, and answers as the method of its name does. A run leads to the world then, as
-    /// to every world (`World::promised`).
+    /// Takes an event, and answers as the method of its name does. The world is then one to which a
+    /// run leads, as every world is (`World::promised`).
     pub fn step(&mut self, event: &Event) -> Result<Answer, AllocError>
         ensures ok { IfOk result (λ answer. Step (view self.old) event.now answer (view self.new)) }
         ensures err { OnErr result (self.new ≡ self.old) }
