@@ -18,7 +18,7 @@ counted false n = n
 abbrev pub IsCountedSince : ℕ → ℕ → Type 0
 IsCountedSince old new = (old < new) ⊎ (2 ^ 64 - 1 ≤ new)
 
--- a call that had so many bytes to move moved none, and did not fail
+-- a call that had `size` bytes to move, and at least one, moved none and did not fail
 abbrev pub is_idle : {E : Type 0} → ℕ → Result ℕ E → Bool
 is_idle size (Ok n) = nat_lt 0 size && (n == 0)
 is_idle size (Err e) = false

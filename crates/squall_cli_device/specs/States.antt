@@ -1,4 +1,4 @@
--- Where a source and a sink stand, and what became of one between an old state and a new one.
+-- The states of a source and of a sink, and what became of one between an old state and a new one.
 use Rattle.std.specs.Prelude.{◌≡◌, ◌⊎◌, ℕ, List, Option}
 use Rattle.std.specs.Io.KnownBytes.{Consumes, Appends, IsAtEnd}
 use Rattle.squall_cli_device.specs.Counts.{IsCountedSince}

@@ -1,8 +1,8 @@
 //! Readers and writers whose contracts count what happened: how many reads were made, how many
 //! calls failed, and how many gave or took no byte.
 //!
-//! A program that must say why it stopped needs these counts: "the writer failed" is then a fact
-//! about the writer, and not only about what the program answers.
+//! A program that must say why it stopped needs these counts. With them "the writer failed" is a
+//! fact about the writer, and not only about what the program answers.
 #![tactic(auto)]
 
 ghost use Rattle.std.specs.Prelude.{◌≡◌, ◌≤◌, length, IfOk, is_err};

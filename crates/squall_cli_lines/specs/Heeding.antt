@@ -1,4 +1,4 @@
--- What a call tells of the reads and the writes that it made, by what it returned.
+-- What a call says of the reads and the writes that it made, by what it returned.
 use Rattle.std.specs.Prelude.{◌≡◌, ◌≢◌, ◌⊎◌, ◌+◌, ◌≤◌, Result, Err}
 use Rattle.squall_cli_device.specs.Counts.{IsCountedSince, times_more}
 use Rattle.squall_cli_device.specs.States.{SourceState, SinkState, NoReadFails, OutputFails, NoWriteFails}

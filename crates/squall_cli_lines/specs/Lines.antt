@@ -6,8 +6,8 @@ use Rattle.std.specs.List.{onto_first}
 abbrev pub longest_line : ℕ
 longest_line = 1048576
 
--- the lines of a text: what stands before each LF since the one before it, and last what follows the
--- last LF, unless that is empty
+-- The lines of a text. Each LF ends a line, which begins right after the LF before it. The bytes after
+-- the last LF are one more line, unless there are none.
 abbrev pub lines_of : List ℕ → List (List ℕ)
 lines_of [] = []
 lines_of (b ∷ bs) = if b == 10 then [] ∷ lines_of bs else onto_first b (lines_of bs)

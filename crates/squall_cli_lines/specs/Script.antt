@@ -17,8 +17,8 @@ read_limit = 16777216
 abbrev pub block_size : ℕ
 block_size = 65536
 
--- The answers to some lines, one for each line in turn, which may be empty. Where a line is bad its answer is
--- the last one, and no later line has one.
+-- The answers to some lines, one for each line in turn, which may be empty. If a line is bad its answer is the
+-- last one, and no later line has one.
 pub record Script : Type 0 where
   pub answers : List (List ℕ)
   pub refused : Bool
@@ -35,9 +35,9 @@ after texts script = record { answers = texts ++ script.answers; refused = scrip
 abbrev pub last_word : List ℕ → Script
 last_word text = record { answers = text ∷ []; refused = true }
 
--- One line taken. A machine is given by the scripts that it may play to each list of lines. If the new machine may
--- play a script to some lines, then to the line and those the old one may play this text and then that script; or at
--- a bad line this text and nothing, whatever follows.
+-- One line taken. A machine is given by the scripts that it may play to each list of lines. Let the new machine
+-- play a script to some lines. Then the old one may play to the line and those lines this text, followed by that
+-- script. At a bad line it may play this text and nothing more, whatever follows.
 abbrev pub TakesLine : Flow → List ℕ → (List (List ℕ) → Script → Type 0) → (List (List ℕ) → Script → Type 0) → List ℕ → Type 0
 TakesLine On text old new line = (lines : List (List ℕ)) (s : Script) → new lines s → old (line ∷ lines) (after (text ∷ []) s)
 TakesLine End text old new line = (lines : List (List ℕ)) → old (line ∷ lines) (last_word text)

@@ -1,4 +1,4 @@
--- The words of a line: what stands between blanks. A blank is a space or a tab.
+-- The words of a line: the bytes between blanks. A blank is a space or a tab.
 use Rattle.std.specs.Prelude.{ℕ, ◌-◌, Bool, true, false, not, ◌||◌, List, [], ◌∷◌, length, take, drop}
 use Rattle.std.specs.Prelude.{Option, None, Some, slice_index, filter, ◌==◌, if◌then◌else◌}
 use Rattle.std.specs.List.{slice_split, before_first, position_or_len}
@@ -30,18 +30,18 @@ only_word (word ∷ []) = Some word
 only_word [] = None
 only_word (word ∷ other ∷ words) = None
 
--- the first word: past the blanks before it, what stands before the next blank
+-- the first word: the bytes after the first blanks, up to the next blank
 abbrev pub first_word : List ℕ → List ℕ
 first_word line = before_first is_blank (from_first is_letter line)
 
--- what stands right after the first word, from the blank on that ends it
+-- the rest right after the first word, from the blank on that ends it
 abbrev pub after_word : List ℕ → List ℕ
 after_word line = from_first is_blank (from_first is_letter line)
 
--- what stands after the first word and the blanks that follow it
+-- the rest after the first word and the blanks that follow it
 abbrev pub after_first_word : List ℕ → List ℕ
 after_first_word line = from_first is_letter (after_word line)
 
--- a line without the one CR that may stand at its end
+-- a line without the one CR that may be at its end
 abbrev pub without_cr : List ℕ → List ℕ
 without_cr line = if slice_index line (length line - 1) == 13 then take (length line - 1) line else line

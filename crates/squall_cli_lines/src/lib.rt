@@ -1,8 +1,8 @@
 //! Runs a machine over the lines of a source, and writes what the machine answers to a sink.
 //!
-//! The input is read in blocks. A line that lies whole in a block is given to the machine where it
-//! stands, and only a line that a block cuts is copied. The answers to a block are written before
-//! the next block is read, so that a reader who waits for an answer gets it.
+//! The input is read in blocks. The machine borrows a line that lies whole in a block, and only a
+//! line that a block cuts is copied. The answers to a block are written before the next block is
+//! read, so a reader who waits for an answer gets it.
 //!
 //! Its tests are in `crates/squall_test_lines/src/lines.rt`.
 #![tactic(auto)]
@@ -98,13 +98,13 @@ pub const MOST_READS: u32 = 16777216;
 /// How many bytes a line has at most, without its line end.
 pub const LONGEST_LINE: usize = 1048576;
 
-/// How many bytes are kept at most of a line whose LF did not come yet: a longest line, and a CR
-/// that may still be part of its line end. With one byte more the line is too long for certain,
-/// and goes to the machine at once.
+/// How many bytes are kept at most of a line whose LF did not come yet. They are a longest line,
+/// and a CR that may still be part of its line end. With one byte more the line is too long for
+/// certain, and goes to the machine at once.
 pub const LONGEST_PIECE: usize = LONGEST_LINE + 1;
 
 /// Runs the machine over the lines of what `reader` gives, and writes what it answers to `writer`.
-/// How far the answers have got is known by what the run returns:
+/// What the run returns says how many lines are answered:
 ///
 /// - `Fine`: the input was read to its end, and each line is answered.
 /// - `Refused`: a line was bad. It is answered, as is each line before it, and no read follows.

@@ -12,8 +12,8 @@ pub trait Machine {
     /// Whether it may play this script to the lines that come from here on.
     ghost plays: { Self → List (List ℕ) → Script → Type 0 };
 
-    /// Takes the next line, which stands here without its LF, and adds the answer to `out`.
-    /// `End` tells that the line was bad; a line of more than `LONGEST_PIECE` bytes always is.
+    /// Takes the next line, here without its LF, and adds the answer to `out`. `End` means that the
+    /// line was bad. A line of more than `LONGEST_PIECE` bytes always is bad.
     ///
     /// After a failed allocation nothing is known of the machine or of `out`.
     fn take(&mut self, line: &[u8], out: &mut String) -> Result<Flow, AllocError>
@@ -21,6 +21,6 @@ pub trait Machine {
             × TakesLine flow text (plays self.old) (plays self.new) line.now) }
         ensures long { LONGEST_PIECE < length line.now → IfOk result (λ flow. flow ≡ End) };
 
-    /// Where no line comes it may answer nothing.
+    /// If no line comes it may answer nothing.
     ghost silent_at_first: { (s : Self) → plays s [] silence };
 }

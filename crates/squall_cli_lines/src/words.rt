@@ -1,4 +1,4 @@
-//! Words of a line: what stands between spaces and tabs.
+//! Words of a line: the text between spaces and tabs.
 ghost use Rattle.std.specs.Prelude.{◌≡◌, ℕ, List, [], ◌∷◌, ◌<◌, false, length, IfSome, IfNone};
 ghost use Rattle.std.specs.List.{before_first};
 ghost use Rattle.std.specs.Option.{option_map};
@@ -23,7 +23,7 @@ pub fn after_blanks(line: &[u8]) -> &[u8]
     &[]
 }
 
-/// What stands before the first blank, and the rest from that blank on.
+/// The bytes before the first blank, and the rest from that blank on.
 fn split_word(line: &[u8]) -> (&[u8], &[u8])
     ensures word { result.0.now ≡ before_first is_blank line.now }
     ensures rest { result.1.now ≡ from_first is_blank line.now }
@@ -65,7 +65,7 @@ pub fn only_word(line: &[u8]) -> Option<&[u8]>
     }
 }
 
-/// The line without the one CR that may stand at its end.
+/// The line without the one CR that may be at its end.
 pub fn without_cr(line: &[u8]) -> &[u8]
     ensures { result.now ≡ without_cr line.now }
 {
