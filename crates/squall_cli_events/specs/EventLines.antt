@@ -22,7 +22,7 @@ use Rattle.squall_cli_events.specs.declared.words.EventWords.TheVariants as word
 use Rattle.squall_cli_events.specs.declared.events.Unfit.{Unfit}
 use Rattle.squall_cli_events.specs.declared.events.Unfit.TheVariants.{OverLimit, NoPlan}
 
--- an event as a line writes it, whatever its numbers are; of `begin` the text in which the plan stands
+-- an event as a line writes it, whatever its numbers are; that of `begin` has the text of its plan
 pub data EventLine : Type 0 where
   Open : EventLine
   Begin : List ℕ → EventLine
@@ -54,7 +54,7 @@ node_of word = if bytes_eq word (codes "l") then Some named.Leader
 
 -- ---- lines
 
--- the event, where no word is left
+-- the event, if no word is left
 abbrev pub alone : EventLine → List (List ℕ) → Option EventLine
 alone line [] = Some line
 alone line (word ∷ words) = None
@@ -91,7 +91,7 @@ deliver_line words = with_number (λ message word. option_map (Deliver message) 
 abbrev pub route_line : List (List ℕ) → Option EventLine
 route_line words = with_number (λ router word. option_map (Route router) (key_of word)) words
 
--- the number of the last move that was followed, 0 where no word is left
+-- the number of the last move that was followed, 0 if no word is left
 abbrev pub after_of : List (List ℕ) → Option ℕ
 after_of [] = Some 0
 after_of (word ∷ words) = option_and_then number_of (only_word (word ∷ words))
@@ -133,14 +133,14 @@ line_seen (words.Serve part key after) = Serve part key after
 
 -- ---- within limits
 
--- the event, where the partition lies within its limit
+-- the event, if the partition lies within its limit
 abbrev pub at_part : ℕ → Event → Result Event Unfit
 at_part part e = if nat_lt part part_limit then Ok e else Err OverLimit
 
 abbrev pub at_sub : ℕ → Result Event Unfit → Result Event Unfit
 at_sub sub e = if nat_lt sub part_limit then e else Err OverLimit
 
--- the event at a node, where a partition's number lies within its limit; a router that is not there is for the world to refuse
+-- the event at a node, if a partition's number lies within its limit; a router that is not there is for the world to refuse
 abbrev pub at_node : NodeWords → (Node → Event) → Result Event Unfit
 at_node named.Leader e = Ok (e node.Leader)
 at_node (named.Part part) e = at_part part (e (node.Part part))

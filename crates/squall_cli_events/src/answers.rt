@@ -67,7 +67,7 @@ fn add_report(made: &Report, out: &mut String) -> Result<(), AllocError>
     }
 }
 
-/// The key that the event asks for; the least key where it asks for none.
+/// The key that the event asks for; the least key if it asks for none.
 fn asked_key(event: &Event) -> Key
     ensures { result ≡ asked_key event.now }
 {

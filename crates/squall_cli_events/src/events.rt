@@ -34,7 +34,8 @@ fn begin_event(plan: Result<Plan, PlanFault>) -> Result<Event, Unfit>
     }
 }
 
-/// That the partition has all keys of the sub-plan. None where one of both is above 9999.
+/// That the partition has all keys of the sub-plan. None if the partition or the sub-plan is above
+/// 9999.
 fn finish_event(part: u32, sub: u32) -> Option<Event>
     ensures { ok_or result OverLimit ≡ at_sub sub (at_part part (Finish part sub)) }
 {
@@ -44,7 +45,7 @@ fn finish_event(part: u32, sub: u32) -> Option<Event>
     Some(Event::Finish(PartId::new(part)?, sub))
 }
 
-/// The node. None where a partition's number is above 9999.
+/// The node. None if a partition's number is above 9999.
 fn node_within(node: NodeWords) -> Option<Node>
     ensures { (event : Node → Event) → ok_or (option_map event result) OverLimit ≡ at_node node event }
 {

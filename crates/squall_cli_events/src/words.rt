@@ -75,7 +75,7 @@ pub enum EventWords<'a> {
         part: u32,
         /// The key.
         key: Key,
-        /// The number of the last move that was followed, 0 where none was.
+        /// The number of the last move that was followed, 0 if none was.
         after: u32,
     },
 }
@@ -141,7 +141,7 @@ fn route_line(rest: &[u8]) -> Option<EventWords<'static>>
     Some(EventWords::Route { router, key })
 }
 
-/// The number of the last move that was followed: the one word, or 0 where no word is left.
+/// The number of the last move that was followed: the one word, or 0 if no word is left.
 fn after_first(rest: &[u8]) -> Option<u32>
     ensures { result ≡ after_of (words_of rest.now) }
 {
@@ -162,8 +162,8 @@ fn serve_line(rest: &[u8]) -> Option<EventWords<'static>>
     Some(EventWords::Serve { part, key, after })
 }
 
-/// The event that a line writes whose first word is the name: None where the name is that of no
-/// event, or what stands after it has not that event's form.
+/// The event that a line writes whose first word is the name. None if the name is that of no event,
+/// or if the rest of the line does not have that event's form.
 pub fn event_line<'a>(name: &[u8], rest: &'a [u8]) -> Option<EventWords<'a>>
     ensures { option_map line_seen result ≡ event_line name.now (words_of rest.now) (from_first is_letter rest.now) }
 {

@@ -22,7 +22,7 @@ opening_lines os = flat_map opening_line os
 
 -- ---- issues
 
--- the line of what is issued under a number: one pair of plans, or different ones; none where nothing is
+-- the line of what is issued under a number: one pair of plans, or different ones; none if nothing is
 abbrev pub line_of_issue : ℕ → Flat PlanPair → List ℕ
 line_of_issue n Unknown = []
 line_of_issue n (One pair) = codes "issue " ++ (decimal n ++ codes " one\n")
@@ -66,6 +66,6 @@ text_of_lists os es cs =
     if (length os == 0) && ((length es == 0) && (length cs == 0)) then codes "empty\n"
     else opening_lines os ++ (issue_lines es ++ cell_lines cs)
 
--- what is opened, what is issued, and the cells, each by rising number; a board that tells nothing is empty
+-- what is opened, what is issued, and the cells, each by rising number; a board of no report is `empty`
 abbrev pub board_text : BoardValue → List ℕ
 board_text b = text_of_lists (openings_of b) (issues_of b) (cells_of b)

@@ -17,7 +17,7 @@ abbrev pub loaded_line : List (List ℕ) → Option ReportWords
 loaded_line words =
     option_and_then (λ (c : ℕ × ℕ × ℕ × List (List ℕ)). option_map (λ (b : ℕ × ℕ). Loaded c.0 c.1 c.2 b.0 b.1) (two_bounds c.3)) (cell_first words)
 
--- the report, where no word is left
+-- the report, if no word is left
 abbrev pub alone : ReportWords → List (List ℕ) → Option ReportWords
 alone report [] = Some report
 alone report (word ∷ words) = None
@@ -43,7 +43,7 @@ abbrev pub load_of : Option Interval → ℕ → ℕ → ℕ → Option (ReportK
 load_of None number sub part = None
 load_of (Some span) number sub part = loaded_of number sub part span
 
--- the report of the words, where their numbers lie within their limits and the span has a key
+-- the report of the words, if their numbers lie within their limits and the span has a key
 abbrev pub report_of : ReportWords → Option (ReportKind PlanPair)
 report_of (Loaded number sub part lo hi) = load_of (span_at lo hi) number sub part
 report_of (Done number sub part) = done_of number sub part

@@ -105,8 +105,8 @@ fn add_lists(
     add_cells(cells, out)
 }
 
-/// Adds what the board tells: a line for each number with openings, for each number under which
-/// plans are issued, and for each cell, or `empty`. It copies no keys.
+/// Adds the lines of the board: one for each number with openings, for each number under which
+/// plans are issued, and for each cell. An empty board is `empty`. It copies no keys.
 #[tactic(auto, using(crate::proofs::BoardLists::lists_tell_the_board))]
 pub fn add_board(board: &Board, out: &mut String) -> Result<(), AllocError>
     ensures { OnOk result (string_bytes out.new ≡ string_bytes out.old ++ board_text board.now) }

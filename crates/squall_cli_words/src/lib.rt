@@ -1,5 +1,5 @@
-//! What scenarios and races are written in: the words of their lines, reports as lines, why a line is
-//! bad, and how a board, a route and legs are shown.
+//! The text of scenarios and races: the words of their lines, and reports as lines. It also says
+//! why a line is bad, and how a board, a route and legs are shown.
 //!
 //! Its tests are in `crates/squall_test_lines/src/language.rt`.
 #![tactic(auto)]

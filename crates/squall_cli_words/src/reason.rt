@@ -12,9 +12,9 @@ use std::fmt;
 pub enum Reason {
     /// It has more than 1048576 bytes.
     Long,
-    /// Its first word names no kind of line, or the words after it have not that kind's form.
+    /// Its first word names no kind of line, or the words after it do not have that kind's form.
     Word,
-    /// A line of its kind may not stand here.
+    /// A line of its kind may not come here.
     Order,
     /// A value lies outside its limits, or the span has no key.
     Limit,

@@ -78,8 +78,8 @@ fn opened_line(rest: &[u8]) -> Option<ReportWords>
     Some(ReportWords::Opened { number, sub })
 }
 
-/// The report that a line writes whose first word is the name: None where the name is that of no
-/// report, or what stands after it has not that report's form.
+/// The report that a line writes whose first word is the name. None if the name is that of no
+/// report, or if the rest of the line does not have that report's form.
 pub fn report_line(name: &[u8], rest: &[u8]) -> Option<ReportWords>
     ensures { result ≡ report_line name.now (words_of rest.now) }
 {
@@ -95,7 +95,7 @@ pub fn report_line(name: &[u8], rest: &[u8]) -> Option<ReportWords>
     None
 }
 
-/// The report of a load, where its numbers lie within their limits and the span has a key.
+/// The report of a load, if its numbers lie within their limits and the span has a key.
 fn load_report(number: u32, sub: u32, part: u32, lo: Bound, hi: Bound) -> Option<Report>
     ensures { result ≡ load_of (span_at lo hi) number sub part }
 {
@@ -104,7 +104,7 @@ fn load_report(number: u32, sub: u32, part: u32, lo: Bound, hi: Bound) -> Option
 }
 
 impl ReportWords {
-    /// The report, where its numbers lie within their limits and its span has a key.
+    /// The report, if its numbers lie within their limits and its span has a key.
     pub fn report(self) -> Option<Report>
         ensures { result ≡ report_of self }
     {

@@ -8,7 +8,7 @@ ghost use Rattle.squall_cli_words.specs.Forms.{number_first, two_words, cell_fir
 use squall_cli_lines::words::{next_word, only_word};
 use squall_key::{Bound, read_number};
 
-/// None where a word is left.
+/// None if a word is left.
 pub fn no_word(rest: &[u8]) -> Option<()>
     ensures { IsSome result ↔ (words_of rest.now ≡ []) }
 {
@@ -18,7 +18,7 @@ pub fn no_word(rest: &[u8]) -> Option<()>
     }
 }
 
-/// The number that the first word writes, and what stands after it.
+/// The number that the first word writes, and the rest after it.
 pub fn number_first(rest: &[u8]) -> Option<(u32, &[u8])>
     ensures { option_map (λ r. (r.0, words_of r.1.now)) result ≡ number_first (words_of rest.now) }
 {
@@ -35,7 +35,7 @@ pub fn two_words(rest: &[u8]) -> Option<(&[u8], &[u8])>
     Some((first, second))
 }
 
-/// The numbers of a reconfiguration, a sub-plan and a partition, and what stands after them.
+/// The numbers of a reconfiguration, a sub-plan and a partition, and the rest after them.
 pub fn cell_first(rest: &[u8]) -> Option<(u32, u32, u32, &[u8])>
     ensures { option_map (λ r. (r.0, r.1, r.2, words_of r.3.now)) result ≡ cell_first (words_of rest.now) }
 {
