@@ -1,8 +1,8 @@
 //! The program: does what its words ask for, over the files of the system.
 //!
-//! Its status is 0 if all went well, 1 if the input was refused, 2 if the words ask for nothing
-//! that there is, 3 if a device failed and 4 if an allocation failed. What stopped it stands on
-//! standard error.
+//! Its status is 0 if all went well, and 1 if the input was refused. It is 2 if the words ask for
+//! nothing that there is, 3 if a device failed and 4 if an allocation failed. Standard error says
+//! what stopped it.
 #![tactic(auto)]
 
 ghost use Rattle.std.specs.Prelude.{◌≡◌, ◌≢◌, IfErr, IfOk, map, string_bytes};
@@ -94,7 +94,7 @@ fn status(done: &io::Result<u8>) -> u8
     }
 }
 
-/// Says what kept the words away. If standard error fails too, the status alone tells.
+/// Says what kept the words away. If standard error fails too, only the status says it.
 fn tell(rt: &HostRuntime, error: &io::Error) {
     let text = if error.kind() == ErrorKind::OutOfMemory {
         "squall: no memory"

@@ -22,9 +22,9 @@ pub data Plans : Type 0 where
   OldPlan : List PlanRange → Plans
   BothPlans : List PlanRange → List PlanRange → Plans
 
--- A race after some lines of its file: how many lines there were, skipped ones too; the plans; for how many letters the inbox has room
--- and how many readers there are, if a line said so; whether the number of senders is settled; what each sender posts, in order; and
--- the keys to route
+-- A race after some lines of its file. It has the count of lines, skipped ones too, and the plans. If a line said so, it has for how
+-- many letters the inbox has room, and how many readers there are. It has whether the number of senders is settled, what each sender
+-- posts, in order, and the keys to route.
 pub record RaceState : Type 0 where
   pub line : ℕ
   pub plans : Plans
@@ -34,7 +34,7 @@ pub record RaceState : Type 0 where
   pub lists : List Reports
   pub keys : List ℕ
 
--- that many senders that post nothing
+-- n senders that post nothing
 abbrev pub silent : ℕ → List Reports
 silent n = replicate n []
 

@@ -12,9 +12,9 @@ use Rattle.squall_cli_words.specs.ReportLines.{report_line}
 use Rattle.squall_cli_race.specs.declared.line.Item.{Item}
 use Rattle.squall_cli_race.specs.declared.line.Item.TheVariants.{Capacity, Readers, Senders, Post, Ask}
 
--- What a line says: nothing, if it has no word or is a remark; the old plan or the new one, by its text; an item of the race; or why the
--- line is bad. An item is the room of the inbox, the number of readers, that of senders, a report that the sender of a number posts, or
--- a key to route
+-- What a line says. It says nothing if it has no word or is a remark. Else it says the old plan or the new one, by its text; an item of
+-- the race; or why the line is bad. An item is the room of the inbox, the count of readers or of senders, a report of a sender, or a key
+-- to route.
 pub data RaceLine : Type 0 where
   Skip : RaceLine
   Old : List ℕ → RaceLine

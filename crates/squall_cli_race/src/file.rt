@@ -71,7 +71,7 @@ impl Model for RaceFile {
     ghost invariant = { λ s. IsFirstCourse s.stage × FitsCluster s.capacity s.readers (length s.lists.items) };
 }
 
-/// That many lists that have no report. It fails (memory).
+/// As many lists as senders, none of which has a report. It fails (memory).
 fn silent(alloc: Global, senders: u32) -> Result<Vec<Vec<Report>>, AllocError>
     ensures { IfOk result (λ lists. map (λ l. l.items) lists.items ≡ silent senders) }
 {

@@ -1,7 +1,8 @@
 //! Races by the lines of a file. The lines say which plans there are, how many senders and readers, what
 //! each sender posts, and which keys are routed. What is shown is the board that the race comes to.
 //!
-//! A call that "fails (memory)" does so only if an allocation fails, or if a count of owners is full.
+//! An error of a call that "fails (memory)" means that an allocation failed, or that a count of
+//! owners is full.
 //!
 //! Its tests are in `crates/squall_test_threads/src/race.rt`.
 #![tactic(auto)]

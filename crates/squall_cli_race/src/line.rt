@@ -39,7 +39,7 @@ pub(crate) enum LineWords<'a> {
     Bad(Reason),
 }
 
-/// The number that stands alone.
+/// The number that the only word writes.
 fn number_alone(rest: &[u8]) -> Option<u32>
     ensures { result ≡ number_alone (words_of rest.now) }
 {

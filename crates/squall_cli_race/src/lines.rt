@@ -14,7 +14,7 @@ use squall_cli_lines::words::without_cr;
 use squall_cli_words::Reason;
 use std::alloc::{AllocError, Global};
 
-/// Takes a line without its LF, or tells why it is bad.
+/// Takes a line without its LF, or says why it is bad.
 fn take_line(file: &mut RaceFile, line: &[u8]) -> Result<Option<Reason>, AllocError>
     ensures { Took result file.new (take_line file.old (race_line (without_cr line.now))) }
 {

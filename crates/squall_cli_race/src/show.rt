@@ -147,10 +147,10 @@ fn run_file<R: Threads + Wait + Sync>(
 /// that board. Each sender posts its reports in a thread of its own, and each reader routes each key in
 /// one. The owner of the cluster takes and publishes the reports in the caller's thread.
 ///
-/// It answers `Refused` if a line is bad, and `out` says why as in a scenario: a file that ends before
-/// both plans are read lacks a line. It also answers `Refused` if a seat or a look was refused to a
-/// reader, or if a thread could not be started: `out` says `refused NoPlace` or `refused NoThread`. No
-/// thread is left running.
+/// It answers `Refused` if a line is bad, and `out` says why as in a scenario. A file that ends
+/// before both plans are read lacks a line. It also answers `Refused` if a seat or a look was
+/// refused to a reader, or if a thread could not be started. Then `out` says `refused NoPlace` or
+/// `refused NoThread`. No thread is left running.
 ///
 /// It fails (memory), and nothing is known of `out` then. What is promised holds if the call returns,
 /// for it waits for threads.

@@ -1,4 +1,4 @@
--- What the code has done where it answers a line, for the functions that make up an answer.
+-- What the code has done when it answers a line, for the functions that make up an answer.
 use Rattle.std.specs.Prelude.{◌≡◌, ℕ, List, [], ◌++◌, Option, None, Some, Result, Ok, Err, codes}
 use Rattle.std.specs.declared.alloc.AllocError.{AllocError}
 use Rattle.squall_cli_lines.specs.declared.Flow.{Flow}
@@ -12,7 +12,7 @@ use Rattle.squall_cli_scenario.specs.State.{ScenarioState}
 use Rattle.squall_cli_scenario.specs.Requests.{Request, Skip, Old, New, Report, Issued, Route, Legs, Board, Hear, Frame, World, Happen, Bad}
 use Rattle.squall_cli_scenario.specs.Replies.{Reply, Goes, Happens, Ends, Happened}
 
--- the request that a command stands for
+-- the request of a command
 abbrev pub request_seen : Command → Request
 request_seen code.Skip = Skip
 request_seen (code.Old text) = Old text.now

@@ -20,7 +20,7 @@ heard_line (rows d) = codes "heard digest\n"
 abbrev pub heard_lines : List Body → List ℕ
 heard_lines bodies = flat_map heard_line bodies
 
--- and one for the fault, where there is one
+-- and one for the fault, if there is one
 abbrev pub fault_line : WireFault → List ℕ
 fault_line fault = codes "fault " ++ (text_of_fault fault ++ codes "\n")
 

@@ -37,8 +37,8 @@ use Rattle.squall_cli_scenario.specs.Requests.{Request, Skip, Old, New, Report, 
 use Rattle.squall_cli_scenario.specs.Frames.{text_of_heard, after_bodies, frame_text}
 use Rattle.squall_cli_scenario.specs.LegText.{legs_of_span}
 
--- what comes of a line: its answer and the scenario after it; or an event of the world, whose answer is one that may be given to it;
--- or why the line is bad
+-- What comes of a line. It is its answer and the scenario after it, or an event of the world, or why the line is bad. The answer to an
+-- event is one that the world may give to it.
 pub data Reply : Type 0 where
   Goes : List ℕ → ScenarioState → Reply
   Happens : WorldValue → Event → ScenarioState → Reply
@@ -72,7 +72,7 @@ new_reply s (OldPlan old) text = new_plan s old (plan_of_text text)
 new_reply s (BothPlans old new) text = Ends Order
 new_reply s (InWorld w) text = Ends Order
 
--- a report, which is taken where its numbers lie within their limits
+-- a report, which is taken if its numbers lie within their limits
 abbrev pub take_reply : ScenarioState → Option (ReportKind PlanPair) → Reply
 take_reply s (Some report) = Goes (codes "taken\n") (with_board s (board_join s.board (report_board report)))
 take_reply s None = Ends Limit
@@ -162,7 +162,7 @@ frame_reply s (InWorld w) = Ends Order
 abbrev pub world_text : List ℕ → ℕ → List ℕ
 world_text parts routers = codes "world " ++ (decimal (length parts) ++ (codes " " ++ (decimal routers ++ codes "\n")))
 
--- world R: a world of the course with so many routers, if there may be so many
+-- world R: a world of the course with R routers, if it may have as many
 abbrev pub world_of : ScenarioState → List PlanRange → List PlanRange → ℕ → Reply
 world_of s old new routers = Goes (world_text (first_parts old new) routers) (record s { stage = InWorld (start old new routers); board = empty_board })
 
@@ -172,7 +172,7 @@ world_reply s (OldPlan old) routers = Ends Order
 world_reply s (BothPlans old new) routers = limit_where (nat_lt most_routers routers) (world_of s old new routers)
 world_reply s (InWorld w) routers = Ends Order
 
--- an event of the world, where there is one; else why the line is none
+-- an event of the world, if the line is one; else why it is none
 abbrev pub event_reply : ScenarioState → WorldValue → Result Event Unfit → Reply
 event_reply s w (Ok event) = Happens w event s
 event_reply s w (Err OverLimit) = Ends Limit
@@ -214,7 +214,8 @@ reply_to_line s line = reply_to s (request_of (has_world s.stage) line)
 abbrev pub Happened : WorldValue → Event → ScenarioState → List ℕ → ScenarioState → Type 0
 Happened w event s text t = (answer : Answer) × (v : WorldValue) × Step w event answer v × (text ≡ answer_line event answer) × (t ≡ at_stage s (InWorld v))
 
--- the script is the answer to the line of that number, and then what a scenario in the state that it left may answer; no more after a bad line
+-- The script is the answer to the line of that number, and then what a scenario in the state that it left may answer. Nothing follows the
+-- answer to a bad line.
 abbrev pub Follows : ℕ → Reply → (ScenarioState → Script → Type 0) → Script → Type 0
 Follows line (Goes text t) then script = (rest : Script) × then t rest × (script ≡ after (text ∷ []) rest)
 Follows line (Happens w event s) then script =

@@ -13,9 +13,10 @@ use Rattle.squall_cli_words.specs.Forms.{number_first, two_bounds}
 use Rattle.squall_cli_words.specs.ReportLines.{report_line}
 use Rattle.squall_cli_events.specs.EventLines.{EventLine, event_line}
 
--- what a line asks for: nothing, where it has no word or is a remark; to take the plan that stands in a text, as the old one or
--- the new one; to take a report, or that of an issue, whose plan stands in a text; a route; the legs between two bounds; the board;
--- to hear the bytes that a text writes; the frame of the board; a world with so many routers; an event of the world. Or why it is bad.
+-- What a line asks for. It asks for nothing if it has no word or is a remark. Else it asks to take the plan of a text as the old one or
+-- the new one, to take a report, or to take an issue with the plan of a text. Or it asks for a route, the legs between two bounds, the
+-- board, or its frame. Or it asks to hear the bytes that a text writes. Or it asks for a world with a number of routers, or for an event
+-- of the world. Or it is bad, for a reason.
 pub data Request : Type 0 where
   Skip : Request
   Old : List ℕ → Request
@@ -31,12 +32,12 @@ pub data Request : Type 0 where
   Happen : EventLine → Request
   Bad : Reason → Request
 
--- the request, where no word is left
+-- the request, if no word is left
 abbrev pub alone : Request → List (List ℕ) → Option Request
 alone request [] = Some request
 alone request (word ∷ words) = None
 
--- issued N JSON: the text is what stands after the number
+-- issued N JSON: the text is the rest after the number
 abbrev pub issued_line : List (List ℕ) → List ℕ → Option Request
 issued_line words text = option_map (λ (n : ℕ × List (List ℕ)). Issued n.0 (after_first_word text)) (number_first words)
 
@@ -78,8 +79,8 @@ abbrev pub route_by : Bool → List ℕ → List (List ℕ) → List ℕ → Opt
 route_by true name words text = happen_line name words text
 route_by false name words text = route_line words
 
--- the request that the first word names: the words after it must have its form, but for `old`, `new` and `begin`, whose text is the
--- rest of the line, and for `issued`, whose text is the rest after its number
+-- The request that the first word names. The words after it must have its form. But the text of `old`, `new` and `begin` is the rest of
+-- the line, and that of `issued` is the rest after its number.
 abbrev pub request_by : Bool → List ℕ → List (List ℕ) → List ℕ → Option Request
 request_by in_world name words text = if bytes_eq name (codes "old") then Some (Old text)
     else (if bytes_eq name (codes "new") then Some (New text)
@@ -97,6 +98,6 @@ abbrev pub of_words : Bool → List (List ℕ) → List ℕ → Request
 of_words in_world [] text = Skip
 of_words in_world (name ∷ words) text = if slice_index name 0 == 35 then Skip else option_map_or (λ c. c) (request_by in_world name words text) (Bad Word)
 
--- what a line asks for, its line end taken off, where there is a world or none
+-- what a line asks for, its line end taken off, if there is a world or none
 abbrev pub request_of : Bool → List ℕ → Request
 request_of in_world line = if nat_lt longest_line (length line) then Bad Long else of_words in_world (words_of line) (after_first_word line)

@@ -5,15 +5,15 @@ use Rattle.squall_board.specs.Boards.{BoardValue, empty_board}
 use Rattle.squall_wire.specs.Hearing.{FeedValue, feed_with}
 use Rattle.squall_protocol.specs.Worlds.{WorldValue}
 
--- how far a scenario is, whose worlds are seen as a W: no plan is read; the old one is; both are; or a world takes events
+-- How far a scenario is, whose worlds are seen as a W. No plan is read, the old one is, both are, or a world takes events.
 pub data StageOf (W : Type 0) : Type 0 where
   NoPlan : StageOf W
   OldPlan : List PlanRange → StageOf W
   BothPlans : List PlanRange → List PlanRange → StageOf W
   InWorld : W → StageOf W
 
--- a scenario after some lines: how many lines there were, bad and skipped ones too, how far it is, the board of what
--- was reported, and the feed that hears frames. In a world both rest: its nodes have boards of their own.
+-- A scenario after some lines. It has the count of lines, bad and skipped ones too, and how far it is. It has the board of
+-- what was reported, and the feed that hears frames. In a world board and feed rest: its nodes have boards of their own.
 pub record ScenarioOf (W : Type 0) : Type 0 where
   pub line : ℕ
   pub stage : StageOf W

@@ -142,7 +142,7 @@ fn show_board(scenario: &Scenario, out: &mut String) -> Result<Option<Reason>, A
     Ok(None)
 }
 
-/// Does what the line asks for, and adds the answer to `out`, or tells why the line is bad.
+/// Does what the line asks for, and adds the answer to `out`, or says why the line is bad.
 fn reply(
     scenario: &mut Scenario,
     line: &[u8],
@@ -167,7 +167,7 @@ fn reply(
     }
 }
 
-/// Tells why the line of that number is bad.
+/// Adds to `out` why the line of that number is bad.
 fn end(number: u64, reason: Reason, out: &mut String) -> Result<Flow, AllocError>
     ensures { IfOk result (λ flow. (flow ≡ End) × (string_bytes out.new ≡ string_bytes out.old ++ (bad_line number reason ++ codes "\n"))) }
 {

@@ -28,8 +28,8 @@ pub(crate) enum Stage {
 /// A scenario after some lines: what they set up, and what answers the lines to come.
 ///
 /// Contracts see the lines counted, the plans that are read or the world, the board, and the feed.
-/// The board is that of the router: before both plans are read no line can report anything, and in a
-/// world each node has a board of its own. What the world keeps they see as a world.
+/// The board is that of the router. Before both plans are read no line can report anything, and in
+/// a world each node has a board of its own. What the world keeps they see as a world.
 #[derive(Drop)]
 pub struct Scenario {
     /// How many lines there were, bad and skipped ones too.

@@ -55,7 +55,7 @@ pub(crate) fn make_world(
     Ok(None)
 }
 
-/// Lets the event happen, once there is a world, or tells why the line is none.
+/// Lets the event happen, once there is a world, or says why the line is no event.
 pub(crate) fn happen(
     scenario: &mut Scenario,
     event: Result<Event, Unfit>,
