@@ -29,16 +29,17 @@ pub(crate) fn two_reports() -> Option<[Report; 2]> {
     Some([load("2:0", "3:0")?, Report::done(1, 0, 4)?])
 }
 
-/// The board of the two reports. None where an allocation fails.
+/// The board of the two reports. None if an allocation fails.
 pub(crate) fn board_of_two(alloc: Global) -> Option<Board> {
     let reports = two_reports()?;
     board_of(alloc, &reports).ok()
 }
 
-/// Takes the report, where there is one.
+/// Takes the report, if there is one.
 ///
-/// A helper of its own, as most here are: it owns no board. What a proof of a test costs grows with the values that
-/// the test owns, times the ways out of it: so a test makes its boards, and lends them to a function that looks at them.
+/// A helper of its own, as most here are: it owns no board. A proof of a test costs more with each
+/// value that the test owns, on each way out of it. So a test makes its boards, and lends them to a
+/// function that looks at them.
 pub(crate) fn take(board: &mut Board, report: Option<Report>) -> Result<(), Fail> {
     let report = report.ok_or("report")?;
     board.take(&report)?;

@@ -50,8 +50,8 @@ pub(crate) fn hex(alloc: Global, text: &str) -> Result<Vec<u8>, AllocError> {
 
 /// Whether the bytes are those that the text writes.
 ///
-/// What a proof of a test costs grows with the values that the test owns, times the ways out of it: so tests lend what
-/// they made to functions that own little, as this one.
+/// A proof of a test costs more with each value that the test owns, on each way out of it. So tests
+/// lend what they made to functions that own little, as this one.
 pub(crate) fn are_of(alloc: Global, bytes: &[u8], text: &str) -> Result<bool, AllocError> {
     let wanted = hex(alloc, text)?;
     Ok(*bytes == *wanted.as_slice())
@@ -73,7 +73,7 @@ pub(crate) fn is_framed_as(alloc: Global, board: &Board, text: &str) -> Result<b
     Ok(are_of(alloc, &bytes, text)?)
 }
 
-/// The frame of the board is still the one that the text writes. It looks only where no allocation
+/// The frame of the board is still the one that the text writes. It looks only if no allocation
 /// fails.
 pub(crate) fn is_still(rt: &impl Abort, alloc: Global, board: &Board, text: &str) {
     if let Ok(same) = is_framed_as(alloc, board, text) {

@@ -18,7 +18,7 @@ use squall_table::{Leg, Legs, RouteTable};
 use std::alloc::Global;
 use std::test::Fail;
 
-/// What a report says, in sub-plan 0 of number 1 where it says no other.
+/// What a report says, in sub-plan 0 of number 1 if it says no other.
 #[derive(Clone, Copy)]
 pub(crate) enum Said {
     /// Partition 3 has loaded the keys from a bound to another.
@@ -47,8 +47,8 @@ fn take(delta: &mut Delta, said: Said) -> Result<(), Fail> {
 
 /// The delta of what is said.
 ///
-/// What a proof of a test costs grows with the values that the test owns, times the ways out of it: so a function here
-/// makes one value, and lends it to another that looks at it or makes the next.
+/// A proof of a test costs more with each value that the test owns, on each way out of it. So a
+/// function here makes one value, and lends it to another that looks at it or makes the next.
 pub(crate) fn delta(alloc: Global, said: &[Said]) -> Result<Delta, Fail> {
     let mut delta = Board::new(alloc);
     for one in said {

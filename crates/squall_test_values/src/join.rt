@@ -25,8 +25,8 @@ pub(crate) fn map(alloc: Global, entries: &[(u32, u32)]) -> Result<JoinMap<u32, 
 
 /// Joins the entry into the map.
 ///
-/// What a proof of a test costs grows with the values that the test owns, times the ways out of it: so tests lend what
-/// they made to functions that own little, as this one.
+/// A proof of a test costs more with each value that the test owns, on each way out of it. So tests
+/// lend what they made to functions that own little, as this one.
 pub(crate) fn join_entry(
     alloc: Global,
     map: &mut JoinMap<u32, Max>,
@@ -106,7 +106,7 @@ fn flat(number: u32) -> Flat<u32> {
     }
 }
 
-/// What stands for the value in a table.
+/// The number by which a table of tests names the value.
 fn entry_of(value: &Flat<u32>) -> u32 {
     match value {
         Flat::Unknown => 0,

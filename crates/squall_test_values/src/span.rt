@@ -49,8 +49,8 @@ const TWO: [(&str, &str); 2] = [("0:0", "1:0"), ("2:0", "3:0")];
 
 /// The set of one span.
 ///
-/// What a proof of a test costs grows with the values that the test owns, times the ways out of it: so tests lend what
-/// they made to functions that own little, as the ones below.
+/// A proof of a test costs more with each value that the test owns, on each way out of it. So tests
+/// lend what they made to functions that own little, as the ones below.
 fn one(rt: &impl Abort, alloc: Global, lo: &str, hi: &str) -> Result<SpanSet, AllocError> {
     SpanSet::of(alloc, &span(rt, lo, hi))
 }

@@ -123,7 +123,7 @@ fn greater_openings(rt: &impl Abort, board: &Board, a: &[Report], b: &[Report], 
     assert!(rt; board.opened(number) == wanted);
 }
 
-/// The board tells what the list a tells beyond the list b.
+/// The board has what the list a has beyond the list b.
 fn tells_beyond(rt: &impl Abort, board: &Board, a: &[Report], b: &[Report]) {
     for number in 1..4u32 {
         rows_without(rt, board, number, a, b);
@@ -133,7 +133,7 @@ fn tells_beyond(rt: &impl Abort, board: &Board, a: &[Report], b: &[Report]) {
     }
 }
 
-/// What a repair of the list b sends of an issue, where the other list is a.
+/// What a repair of the list b sends of an issue, if the other list is a.
 fn issue_sent<'a>(a: &'a [Report], b: &'a [Report], number: u32) -> Flat<&'a Arc<Issue>> {
     let (first, second) = (plain::issuing(a, number), plain::issuing(b, number));
     if same_issue(&first, &second) {
@@ -143,8 +143,7 @@ fn issue_sent<'a>(a: &'a [Report], b: &'a [Report], number: u32) -> Flat<&'a Arc
     }
 }
 
-/// The board tells whole the rows of the number in the list b in which the list a tells anything
-/// else.
+/// The board has the whole rows of the number in the list b in which the list a has anything else.
 fn repairs_rows(rt: &impl Abort, board: &Board, a: &[Report], b: &[Report], number: u32) {
     for sub in 0..2u32 {
         let sent = if same_row(a, b, number, sub) {
@@ -156,8 +155,8 @@ fn repairs_rows(rt: &impl Abort, board: &Board, a: &[Report], b: &[Report], numb
     }
 }
 
-/// The board tells the openings, the issues and whole the rows of the list b in which the list a
-/// tells anything else.
+/// The board has the openings, the issues and the whole rows of the list b in which the list a has
+/// anything else.
 fn repairs(rt: &impl Abort, board: &Board, a: &[Report], b: &[Report]) {
     for number in 1..4u32 {
         repairs_rows(rt, board, a, b, number);
@@ -192,7 +191,7 @@ struct Taken<'a> {
     board: &'a Board,
 }
 
-/// The board is what that of a tells beyond that of b.
+/// The board is what that of a has beyond that of b.
 fn is_beyond(
     rt: &impl Abort,
     alloc: Global,
@@ -205,7 +204,7 @@ fn is_beyond(
     Ok(())
 }
 
-/// What the board of a tells beyond that of b.
+/// What the board of a has beyond that of b.
 fn try_beyond(rt: &impl Abort, alloc: Global, a: Taken<'_>, b: Taken<'_>) -> Result<(), Fail> {
     let rest = beyond(alloc, a.board, b.board)?;
     is_beyond(rt, alloc, &rest, a, b)
@@ -306,7 +305,7 @@ fn try_random(
     try_list(rt, alloc, &list, common)
 }
 
-/// The same for so many random lists.
+/// The same for this many random lists.
 fn try_lists(
     rt: &impl Abort,
     alloc: Global,

@@ -15,7 +15,7 @@ use std::alloc::{AllocError, Global};
 use std::process::Abort;
 use std::test::Fail;
 
-/// Where the reports send the key: by a board that takes all of them.
+/// The partition to which the reports send the key: by a board that takes all of them.
 fn routed(
     alloc: Global,
     course: &Course,
@@ -61,7 +61,7 @@ fn three_reports() -> Result<[Report; 3], Fail> {
     ])
 }
 
-/// Keys go where the reports send them, and before them where the old plan has them.
+/// Keys go to where the reports send them, and before the reports to where the old plan has them.
 fn keys_go(
     rt: &impl Abort,
     alloc: Global,
@@ -76,7 +76,7 @@ fn keys_go(
     Ok(())
 }
 
-/// Keys go where two reports send them.
+/// Keys go to where two reports send them.
 fn reports_route(rt: &impl Abort, alloc: Global, course: &Course) -> Result<(), Fail> {
     let reports = two_reports()?;
     keys_go(rt, alloc, course, &reports)
@@ -94,7 +94,7 @@ fn same_alone(alloc: Global, reports: &[Report]) -> Result<bool, Fail> {
     Ok(same_boards(alloc, reports, &alone)?)
 }
 
-/// The board tells the reports, in any order and number, and no fewer of them.
+/// The board has the reports, in any order and number, and no fewer of them.
 fn only_reports_count(rt: &impl Abort, alloc: Global, reports: &[Report]) -> Result<(), Fail> {
     assert!(rt; same_again(alloc, reports)?);
     assert!(rt; !same_alone(alloc, reports)?);

@@ -1,4 +1,4 @@
-//! What a list of reports tells, report by report: the slow program that boards are compared with.
+//! What a list of reports says, report by report: the slow program that boards are compared with.
 
 ghost use Rattle.std.specs.Prelude.{◌≡◌, IfSome, IfNone};
 ghost use Rattle.squall_report.specs.Cells.{place_at};

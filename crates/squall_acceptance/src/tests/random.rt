@@ -123,8 +123,8 @@ fn merge_list(alloc: Global, board: &mut Board, list: &[Report]) -> Result<(), A
     board.merge(&other)
 }
 
-/// The board takes the first reports of the list at once, merges the board of the rest, and takes every
-/// report again that stands at an even place.
+/// The board takes the first reports of the list at once, merges the board of the rest, and takes
+/// every report at an even place again.
 fn take_groups(
     alloc: Global,
     board: &mut Board,
@@ -194,7 +194,7 @@ pub(crate) fn same_issue(first: &Flat<&Arc<Issue>>, second: &Flat<&Arc<Issue>>) 
     }
 }
 
-/// The board tells what the list tells.
+/// The board has what the list says.
 fn tells_the_list(rt: &impl Abort, board: &Board, list: &[Report]) {
     for number in 1..5u32 {
         same_rows(rt, board, list, number);
@@ -219,7 +219,7 @@ fn is_in_groups(
     Ok(is_covered(board, &other))
 }
 
-/// The board tells what the list tells, and is that of the list in another order and in groups.
+/// The board has what the list says, and is that of the list in another order and in groups.
 fn try_board(
     rt: &impl Abort,
     alloc: Global,
@@ -258,7 +258,7 @@ fn try_list(
     try_orders(rt, alloc, random, &mut list, count / 2)
 }
 
-/// So many random lists.
+/// This many random lists.
 fn try_lists(
     rt: &impl Abort,
     alloc: Global,

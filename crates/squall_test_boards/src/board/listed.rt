@@ -116,7 +116,7 @@ fn take_more(alloc: Global, board: &mut Board) -> Option<()> {
     board.take(&Report::issued(2, still_issue(alloc)?)?).ok()
 }
 
-/// The board of the two reports, of an opening and of an issue. None where an allocation fails.
+/// The board of the two reports, of an opening and of an issue. None if an allocation fails.
 fn full(alloc: Global) -> Option<Board> {
     let mut board = board_of_two(alloc)?;
     take_more(alloc, &mut board)?;

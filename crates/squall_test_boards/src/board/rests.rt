@@ -1,4 +1,4 @@
-//! What boards tell beyond others.
+//! What boards have beyond others.
 
 use crate::board::{board_of, is_of, issued};
 use squall_board::Board;
@@ -8,13 +8,13 @@ use std::alloc::{AllocError, Global};
 use std::process::Abort;
 use std::test::Fail;
 
-/// What the board tells beyond that of these reports.
+/// What the board has beyond that of these reports.
 fn beyond(alloc: Global, first: &Board, reports: &[Report]) -> Result<Board, AllocError> {
     let second = board_of(alloc, reports)?;
     first.beyond(alloc, &second)
 }
 
-/// Whether the board tells what the wanted reports tell beyond the others.
+/// Whether the board has what the wanted reports say beyond the others.
 fn leaves(
     alloc: Global,
     first: &Board,

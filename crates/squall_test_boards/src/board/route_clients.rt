@@ -26,7 +26,7 @@ fn opened_by_reports(board: &Board, number: u32) -> u32
     board.opened(number)
 }
 
-/// The partition of the key by the newest course after the first one that the board tells of.
+/// The partition of the key by the newest course after the first one that the board knows.
 fn newest_route(
     alloc: Global,
     first: &Course,

@@ -1,4 +1,4 @@
-//! Where an allocation fails a board is as it was.
+//! If an allocation fails a board is unchanged.
 
 use crate::board::listed::{put_rows_of, still_issue};
 use crate::board::{board_of_two, has_one_issue, is_empty, two_reports};
@@ -11,7 +11,7 @@ use std::alloc::Global;
 use std::process::Abort;
 use std::test::Fail;
 
-/// Takes the report, where there is one. None also where an allocation fails.
+/// Takes the report, if there is one. None also if an allocation fails.
 fn take(board: &mut Board, report: Option<Report>) -> Option<()> {
     let report = report?;
     board.take(&report).ok()
@@ -30,7 +30,8 @@ fn small_board(alloc: Global) -> Option<Board> {
     Some(board)
 }
 
-/// The board tells what a small one does, and more only where it has grown. It looks only where no allocation fails.
+/// The board has what a small one has, and more only if it has grown. It looks only if no
+/// allocation fails.
 fn is_small_or_grown(rt: &impl Abort, alloc: Global, board: &Board, grown: bool) {
     if let Some(before) = small_board(alloc) {
         assert!(rt; board.covers(&before) && grown == (*board != before));
@@ -60,11 +61,11 @@ enum Step {
     Merge,
     /// It is copied.
     Copied,
-    /// What it tells beyond itself is made.
+    /// What it has beyond itself is made.
     Beyond,
 }
 
-/// Whether the board took another load, and whether it tells of it.
+/// Whether the board took another load, and whether it has it.
 fn takes_a_load(board: &mut Board) -> Result<(bool, bool), Fail> {
     let key = Key::read("4:0").ok_or("key")?;
     let report = load("4:0", "5:0").ok_or("load")?;
@@ -72,21 +73,22 @@ fn takes_a_load(board: &mut Board) -> Result<(bool, bool), Fail> {
     Ok((taken, board.says_loaded(1, 0, 3, key)))
 }
 
-/// Whether the board took a load and a completion, and whether it tells of the completion.
+/// Whether the board took a load and a completion, and whether it has the completion.
 fn takes_two(board: &mut Board) -> Result<(bool, bool), Fail> {
     let reports = two_reports().ok_or("reports")?;
     let taken = board.take_all(&reports).is_ok();
     Ok((taken, board.says_done(1, 0, 4)))
 }
 
-/// Whether the board took an issue, and whether it tells of it. None where no issue could be made.
+/// Whether the board took an issue, and whether it has it. None if no issue could be made.
 fn takes_issue(alloc: Global, board: &mut Board) -> Option<(bool, bool)> {
     let report = Report::issued(2, still_issue(alloc)?)?;
     let taken = board.take(&report).is_ok();
     Some((taken, has_one_issue(board, 2)))
 }
 
-/// Whether the board took a completion and an issue, and whether it tells of both. None where no issue could be made.
+/// Whether the board took a completion and an issue, and whether it has both. None if no issue
+/// could be made.
 fn takes_two_with_issue(alloc: Global, board: &mut Board) -> Option<(bool, bool)> {
     let reports = [
         Report::done(1, 0, 4)?,
@@ -97,7 +99,7 @@ fn takes_two_with_issue(alloc: Global, board: &mut Board) -> Option<(bool, bool)
     Some((taken, tells))
 }
 
-/// Whether an opening was put into the board, and whether the board tells of it.
+/// Whether an opening was put into the board, and whether the board has it.
 fn puts_three(board: &mut Board) -> (bool, bool) {
     let opening = Opening {
         number: 2,
@@ -107,20 +109,22 @@ fn puts_three(board: &mut Board) -> (bool, bool) {
     (put, board.opened(2) == 3)
 }
 
-/// Whether a clash was put into the board, and whether the board tells of it.
+/// Whether a clash was put into the board, and whether the board has it.
 fn puts_clash(board: &mut Board) -> (bool, bool) {
     let put = board.put_issue(3, &Flat::Clash).is_ok();
     (put, matches!(board.issuing(3), Flat::Clash))
 }
 
-/// Whether one issue was put into the board, and whether the board tells of it. None where no issue could be made.
+/// Whether one issue was put into the board, and whether the board has it. None if no issue could
+/// be made.
 fn puts_one(alloc: Global, board: &mut Board) -> Option<(bool, bool)> {
     let issue = Flat::One(still_issue(alloc)?);
     let put = board.put_issue(3, &issue).is_ok();
     Some((put, has_one_issue(board, 3)))
 }
 
-/// Whether the row of the other, a load and a completion, was put into the board, and whether the board tells of it.
+/// Whether the row of the other, a load and a completion, was put into the board, and whether the
+/// board has it.
 fn puts_row(board: &mut Board, other: &Board) -> (bool, bool) {
     let put = put_rows_of(other, board).is_ok();
     (put, board.covers(other))
@@ -142,18 +146,19 @@ fn put_row(rt: &impl Abort, alloc: Global, board: &mut Board) {
     }
 }
 
-/// The board tells what was put into it, or is a small one as it was: whether it was put, and whether it tells of it.
+/// The board has what was put into it, or is an unchanged small one. `put` says whether it was put,
+/// and whether the board has it.
 fn is_grown_or_not(rt: &impl Abort, alloc: Global, put: (bool, bool), board: &Board) {
     assert!(rt; put.0 == put.1);
     is_small_or_grown(rt, alloc, board, put.0);
 }
 
-/// The board is still a small one where there was nothing to put, and else it tells that or is a small one.
+/// The board is still a small one if there was nothing to put. Else it has that, or is a small one.
 fn is_grown_where_made(rt: &impl Abort, alloc: Global, put: Option<(bool, bool)>, board: &Board) {
     is_grown_or_not(rt, alloc, put.unwrap_or((false, false)), board);
 }
 
-/// Merges the other into the board, which has it then or is as it was.
+/// Merges the other into the board, which has it then or is unchanged.
 fn merges_or_not(rt: &impl Abort, alloc: Global, board: &mut Board, other: &Board) {
     let merged = board.merge(other).is_ok();
     assert!(rt; merged == board.covers(other));
@@ -180,7 +185,7 @@ fn is_copy(copy: &Board, board: &Board) -> bool {
     *copy == *board && copy.opened(1) == 1
 }
 
-/// A copy of the board is equal to it, where no allocation fails.
+/// A copy of the board is equal to it, if no allocation fails.
 fn look_at_copy(rt: &impl Abort, alloc: Global, board: &Board) {
     if let Ok(copy) = board.copied(alloc) {
         assert!(rt; is_copy(&copy, board));
@@ -193,7 +198,7 @@ fn has_rest(board: &Board, rest: &Board) -> bool {
     board.covers(rest) && rest.opened(1) == 0
 }
 
-/// Looks at what the board tells beyond itself, where no allocation fails.
+/// Looks at what the board has beyond itself, if no allocation fails.
 fn look_beyond(rt: &impl Abort, alloc: Global, board: &Board) {
     if let Ok(rest) = board.beyond(alloc, board) {
         assert!(rt; has_rest(board, &rest));
@@ -221,7 +226,7 @@ fn step_with(rt: &impl Abort, alloc: Global, board: &mut Board, step: Step) -> R
     Ok(())
 }
 
-/// Takes the step with a small board, where no allocation fails.
+/// Takes the step with a small board, if no allocation fails.
 fn step_with_small(rt: &impl Abort, alloc: Global, step: Step) -> Result<(), Fail> {
     match small_board(alloc) {
         Some(mut board) => step_with(rt, alloc, &mut board, step),

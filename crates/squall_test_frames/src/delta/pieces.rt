@@ -29,7 +29,7 @@ fn take_key(board: &mut Board, sub: u32, part: u32, rank: u64) -> Result<(), Fai
     Ok(())
 }
 
-/// Takes so many spans of one key each, all in one cell.
+/// Takes this many spans of one key each, all in one cell.
 fn take_spans(board: &mut Board, count: u32) -> Result<(), Fail> {
     for index in 0..count {
         take_key(board, 0, 3, 2 * u64::from(index))?;
@@ -45,7 +45,7 @@ fn take_cells(board: &mut Board) -> Result<(), Fail> {
     Ok(())
 }
 
-/// The frame of the first piece of the board. None where it has no piece.
+/// The frame of the first piece of the board. None if it has no piece.
 fn first_frame(alloc: Global, board: &Board) -> Result<Option<Vec<u8>>, EncodeFault>
     ensures { result ≢ Err TooLong }
 {
@@ -187,7 +187,7 @@ fn one_piece_of_two_cells(rt: HostRuntime) -> Result<(), Fail> {
     Ok(())
 }
 
-/// Cuts the board of the load, where no allocation fails.
+/// Cuts the board of the load, if no allocation fails.
 fn cut_tolerantly(rt: &impl Abort, alloc: Global, board: &Board) {
     if let Ok(is_one) = is_one_piece(alloc, board) {
         assert!(rt; is_one);

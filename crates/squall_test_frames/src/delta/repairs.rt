@@ -35,8 +35,8 @@ fn frames_of_digests(rt: HostRuntime) -> Result<(), Fail> {
 const BOTH: &str =
     "53510101 0000003a 00000000 00000002 00000001 00000000 00000003 00 00000001 0000000200000000 0000000300000000 00000001 00000001 00000004 01 00000000";
 
-/// The frames of a board, of another, of the repair of the other by the digest of the first, and
-/// of the first board once it has the repair.
+/// The frames of a board, of another, and of the repair of the other by the digest of the first.
+/// The last one is that of the first board once it has the repair.
 const REPAIRS: [(&str, &str, &str, &str); 4] = [
     // The load is shown, and not the completion.
     (
@@ -126,7 +126,7 @@ fn repairs_complete_boards(rt: HostRuntime) -> Result<(), Fail> {
     complete(&rt, rt.alloc(), &REPAIRS)
 }
 
-/// Makes a digest of the load and the completion, and a repair by that of the load, where no
+/// Makes a digest of the load and the completion, and a repair by that of the load, if no
 /// allocation fails.
 fn repair_tolerantly(rt: &impl Abort, alloc: Global, first: &Board, second: &Board) {
     if let Ok(delta) = repair_by(alloc, first, second) {

@@ -1,4 +1,4 @@
-//! Boards of one report, and of what one board tells beyond another.
+//! Boards of one report, and of what one board has beyond another.
 
 use crate::wire::{board_of, is_framed_as, is_still};
 use squall_board::Board;
@@ -27,7 +27,7 @@ const WHOLE: &str =
 const MIDDLE: &str =
     "53510101 00000031 00000001 00000001 00000001 00000001 00000001 00000000 00000003 00 00000001 0000000200000007 0000000200000009";
 
-/// What the first tells beyond the second.
+/// What the first has beyond the second.
 const ENDS: &str = concat!(
     "53510101 00000041 00000001 00000001 00000002 00000001 00000001 00000000 00000003 00 ",
     "00000002 0000000200000000 0000000200000007 0000000200000009 0000000300000000",
@@ -56,14 +56,14 @@ fn take_two(board: &mut Board, lo: &str, hi: &str, sub: u32) -> Result<(), Fail>
     Ok(())
 }
 
-/// What the board tells beyond that of the keys amid its load and of a lower opening.
+/// What the board has beyond that of the keys amid its load and of a lower opening.
 fn beyond_middle(alloc: Global, board: &Board) -> Result<Board, Fail> {
     let mut middle = Board::new(alloc);
     take_two(&mut middle, "2:7", "2:9", 0)?;
     Ok(beyond(alloc, board, &middle)?)
 }
 
-/// Whether the board tells the ends of its load, and its opening, beyond the other.
+/// Whether the board has the ends of its load, and its opening, beyond the other.
 fn has_ends_beyond_middle(alloc: Global, board: &Board) -> Result<bool, Fail> {
     let rest = beyond_middle(alloc, board)?;
     Ok(is_framed_as(alloc, &rest, ENDS)?)
@@ -77,14 +77,14 @@ fn a_load_and_an_opening_beyond_others(rt: HostRuntime) -> Result<(), Fail> {
     Ok(())
 }
 
-/// The plan by which partition 1 has all keys. None where an allocation fails.
+/// The plan by which partition 1 has all keys. None if an allocation fails.
 fn all_keys(alloc: Global) -> Option<Plan> {
     let span = Span::new(Bound::read("0:0")?, Bound::TOP)?;
     let part = PartId::new(1)?;
     Plan::from_ranges(alloc, &[PlanRange { span, part }]).ok()
 }
 
-/// The issue of number 1 from that plan to the same. None where an allocation fails.
+/// The issue of number 1 from that plan to the same. None if an allocation fails.
 fn issued(alloc: Global) -> Option<Report> {
     let plan = all_keys(alloc)?;
     let issue = Issue::new(alloc, &plan, &plan).ok()?;
@@ -107,7 +107,7 @@ fn tolerant_delta_of(rt: HostRuntime) {
     make_delta(&rt, rt.alloc(), issued(rt.alloc()), ISSUED);
 }
 
-/// Makes what the first board tells beyond the second, which both stay as they were.
+/// Makes what the first board has beyond the second. Both are unchanged.
 fn make_rest(rt: &impl Abort, alloc: Global, whole: &Board, middle: &Board) {
     if let Ok(rest) = beyond(alloc, whole, middle) {
         is_still(rt, alloc, &rest, ENDS);

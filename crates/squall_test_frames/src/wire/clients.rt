@@ -8,8 +8,8 @@ use squall_wire::laws::{faults_end_the_stream, pushes_are_one};
 use std::process::Abort;
 use std::test::Fail;
 
-/// Pushes one piece, and then the other where the first has no fault. What is heard is what the
-/// feed would hear in both as one piece.
+/// Pushes one piece, and then the other if the first has no fault. What is heard is what the feed
+/// would hear in both as one piece.
 fn push_both(feed: &mut Feed, first: &[u8], second: &[u8]) -> Result<Heard, FeedFault>
     ensures { IfOk result (λ heard. HearsOn feed.old (first.now ++ second.now) heard.messages.items heard.fault feed.new) }
 {

@@ -36,8 +36,8 @@ fn hear(
     Ok(None)
 }
 
-/// Whether a new feed hears the messages of the first so many bytes in the stream, cut into pieces
-/// of that length, and then finds the fault.
+/// Whether a new feed hears the messages of this many first bytes of the stream, in pieces of that
+/// length, and then finds the fault.
 pub(crate) fn hears(
     alloc: Global,
     stream: &[u8],

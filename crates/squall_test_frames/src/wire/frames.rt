@@ -177,14 +177,14 @@ fn prefixes(rt: HostRuntime) -> Result<(), Fail> {
     Ok(())
 }
 
-/// Whether a frame of that length stands first in the bytes, and its message has that frame.
+/// Whether a frame of that length is first in the bytes, and its message has that frame.
 fn is_written_again(alloc: Global, bytes: &[u8], length: usize) -> Result<bool, Fail> {
     let (message, used) = decode(alloc, bytes)?;
     let again = encode(alloc, &message)?;
     Ok(used == length && again.len() == length && bytes.starts_with(&again))
 }
 
-/// Whether a frame of that length stands first in the text, and its message has that frame.
+/// Whether a frame of that length is first in the text, and its message has that frame.
 fn comes_back(alloc: Global, text: &str, length: usize) -> Result<bool, Fail> {
     let bytes = hex(alloc, text)?;
     is_written_again(alloc, &bytes, length)
@@ -261,7 +261,7 @@ fn look_at_keys(rt: &impl Abort, board: &Board) -> Result<(), Fail> {
     Ok(())
 }
 
-/// The board says what the frame of each item tells of completions and openings, and no more.
+/// The board says what the frame of each item says of completions and openings, and no more.
 fn look_at_counts(rt: &impl Abort, board: &Board) {
     let last = u32::MAX;
     let counts = (board.opened(1), board.opened(2), board.opened(last));

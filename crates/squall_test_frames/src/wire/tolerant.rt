@@ -1,4 +1,4 @@
-//! Where an allocation fails nothing has changed.
+//! If an allocation fails nothing has changed.
 
 use super::digests::{CELLS, ISSUES, look_at_items};
 use super::frames::EACH;
@@ -64,7 +64,7 @@ fn tolerant_digest_of(rt: HostRuntime) {
     }
 }
 
-/// What the feed hears in the piece, which is pushed again where an allocation failed.
+/// What the feed hears in the piece, which is pushed again if an allocation failed.
 fn pushed(rt: &impl Abort, feed: &mut Feed, piece: &[u8]) -> Option<Heard> {
     match feed.push(piece) {
         Ok(heard) => Some(heard),
@@ -75,7 +75,8 @@ fn pushed(rt: &impl Abort, feed: &mut Feed, piece: &[u8]) -> Option<Heard> {
     }
 }
 
-/// The feed hears so many messages in the piece, and then finds the fault. None where allocations fail.
+/// The feed hears this many messages in the piece, and then finds the fault. None if allocations
+/// fail.
 fn hears_in(
     rt: &impl Abort,
     feed: &mut Feed,

@@ -21,14 +21,14 @@ use std::alloc::Global;
 use std::process::Abort;
 use std::test::Fail;
 
-/// The range of that index among so many: of partition 3 where the index is even, else of 4.
+/// The range of that index among this many: of partition 3 if the index is even, else of 4.
 fn range(index: u32, count: u32) -> Option<PlanRange> {
     let span = Span::new(begin(index, count)?, begin(index.checked_add(1)?, count)?)?;
     let part = PartId::new(if index % 2 == 0 { 3 } else { 4 })?;
     Some(PlanRange { span, part })
 }
 
-/// Adds such ranges, so many. None where an allocation fails.
+/// Adds this many such ranges. None if an allocation fails.
 fn push_ranges(ranges: &mut Vec<PlanRange>, count: u32) -> Option<()> {
     for index in 0..count {
         ranges.push(range(index, count)?).ok()?;
@@ -36,34 +36,34 @@ fn push_ranges(ranges: &mut Vec<PlanRange>, count: u32) -> Option<()> {
     Some(())
 }
 
-/// The plan of so many ranges, by turns of partitions 3 and 4. None where an allocation fails.
+/// The plan of this many ranges, by turns of partitions 3 and 4. None if an allocation fails.
 fn by_turns(alloc: Global, count: u32) -> Option<Plan> {
     let mut ranges = Vec::new(alloc);
     push_ranges(&mut ranges, count)?;
     Plan::from_ranges(alloc, &ranges).ok()
 }
 
-/// The plan in which partition 3 has all keys. None where an allocation fails.
+/// The plan in which partition 3 has all keys. None if an allocation fails.
 fn alone(alloc: Global) -> Option<Plan> {
     let span = Span::new(Bound::of_rank(0)?, Bound::TOP)?;
     let part = PartId::new(3)?;
     Plan::from_ranges(alloc, &[PlanRange { span, part }]).ok()
 }
 
-/// The course from the plan to partition 3 alone. None where an allocation fails.
+/// The course from the plan to partition 3 alone. None if an allocation fails.
 fn course_from(alloc: Global, old: &Plan) -> Option<Course> {
     let new = alone(alloc)?;
     Course::new(alloc, 1, old, &new).ok()
 }
 
-/// The course from so many ranges, the leg of each of which begins at three times its index and its
-/// index, to partition 3 alone. None where an allocation fails.
+/// The course from this many ranges to partition 3 alone. The leg of each range begins at the key
+/// of three times its index and its index. None if an allocation fails.
 fn many(alloc: Global, count: u32) -> Option<Course> {
     let old = by_turns(alloc, count)?;
     course_from(alloc, &old)
 }
 
-/// Whether the table is that which is built of the board, if it has so many legs.
+/// Whether the table is that which is built of the board, if it has this many legs.
 fn is_as_built(
     alloc: Global,
     course: &Course,
@@ -75,8 +75,8 @@ fn is_as_built(
     Ok(count(table.entries()) == legs && are_same(table.entries(), built.entries()))
 }
 
-/// Whether the table that has absorbed both deltas, one after the other, has so many legs, and is that
-/// which is built.
+/// Whether the table that has absorbed both deltas, one after the other, has this many legs, and is
+/// that which is built.
 fn absorbs_to(
     alloc: Global,
     course: &Course,
@@ -114,7 +114,7 @@ fn absorbs_both(
     absorbs_then(alloc, course, &first, second, legs)
 }
 
-/// Whether the table is patched for the delta, has so many legs then, and is that which is built.
+/// Whether the table is patched for the delta, has this many legs then, and is that which is built.
 fn patches_to(
     alloc: Global,
     course: &Course,
@@ -162,7 +162,7 @@ fn take_four(
     take(course, board, table, said[3])
 }
 
-/// Whether the table that has taken four reports has so many legs, and is that which is built.
+/// Whether the table that has taken four reports has this many legs, and is that which is built.
 fn is_taken(alloc: Global, course: &Course, said: &[Said; 4], legs: usize) -> Result<bool, Fail> {
     let mut board = Board::new(alloc);
     let mut table = RouteTable::build(alloc, course, &board)?;

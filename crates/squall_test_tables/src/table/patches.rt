@@ -88,8 +88,8 @@ fn metered(course: &Course, board: &Board, table: &mut RouteTable, set: &SpanSet
     (is_patched, meter.count())
 }
 
-/// Whether the table of the board could be patched for the delta, which the board takes, and what the
-/// meter has counted then. The error comes where an allocation failed before.
+/// Whether the table of the board could be patched for the delta, which the board takes, and what
+/// the meter has counted then. The error comes if an allocation failed before.
 pub(crate) fn patch(
     alloc: Global,
     course: &Course,

@@ -18,14 +18,14 @@ pub(crate) fn begin(index: u32, count: u32) -> Option<Bound> {
     Bound::new(index.checked_mul(3)?, index)
 }
 
-/// The range of that index among so many.
+/// The range of that index among this many.
 fn range(index: u32, count: u32) -> Option<PlanRange> {
     let span = Span::new(begin(index, count)?, begin(index.checked_add(1)?, count)?)?;
     let part = PartId::new(index % 7)?;
     Some(PlanRange { span, part })
 }
 
-/// A plan of so many ranges.
+/// A plan of this many ranges.
 fn plan(alloc: Global, count: u32) -> Result<Plan, Fail> {
     let mut ranges = Vec::new(alloc);
     for index in 0..count {
@@ -58,7 +58,7 @@ fn has_leg(table: &RouteTable, key: Key, leg: Option<Leg>) -> bool {
     }
 }
 
-/// Whether the table and the plain search answer alike at the rank, where it is that of a key.
+/// Whether the table and the plain search answer alike at the rank, if it is that of a key.
 fn agree(table: &RouteTable, legs: &[Leg], rank: u64) -> bool {
     match Key::of_rank(rank) {
         Some(key) => has_leg(table, key, plain(legs, key)),
@@ -78,15 +78,15 @@ fn agree_everywhere(table: &RouteTable, legs: &[Leg]) -> bool {
     agreed
 }
 
-/// Whether the table of the plan has its ranges as legs, so many, and finds each as the plain search
-/// does.
+/// Whether the table of the plan has its ranges as legs, this many, and finds each as the plain
+/// search does.
 fn finds_all(alloc: Global, plan: &Plan, count: usize) -> Result<bool, Fail> {
     let table = table(alloc, plan)?;
     let legs = plan.ranges();
     Ok(legs.len() == count && has_legs(table.entries(), legs) && agree_everywhere(&table, legs))
 }
 
-/// The same of a plan of so many ranges.
+/// The same of a plan of this many ranges.
 fn finds(alloc: Global, count: u32) -> Result<bool, Fail> {
     let plan = plan(alloc, count)?;
     finds_all(alloc, &plan, count as usize)

@@ -1,4 +1,4 @@
-//! Where an allocation fails, tables, boards and meters are unchanged.
+//! If an allocation fails, tables, boards and meters are unchanged.
 
 ghost use Rattle.squall_table.specs.Tables.{IsTable};
 
@@ -13,26 +13,26 @@ use std::alloc::{AllocError, Global};
 use std::process::Abort;
 use std::test::Fail;
 
-/// Takes the load. None where an allocation fails.
+/// Takes the load. None if an allocation fails.
 fn take_load(delta: &mut Delta) -> Option<()> {
     let report = load("2:0", "2:7")?;
     delta.take(&report).ok()
 }
 
-/// The delta of a load. None where an allocation fails.
+/// The delta of a load. None if an allocation fails.
 fn small_delta(alloc: Global) -> Option<Delta> {
     let mut delta = Board::new(alloc);
     take_load(&mut delta)?;
     Some(delta)
 }
 
-/// The table of the course before any report. None where an allocation fails.
+/// The table of the course before any report. None if an allocation fails.
 fn first_table(alloc: Global, course: &Course) -> Option<RouteTable> {
     let board = Board::new(alloc);
     RouteTable::build(alloc, course, &board).ok()
 }
 
-/// The table of the example course before any report. None where an allocation fails.
+/// The table of the example course before any report. None if an allocation fails.
 fn small_table(alloc: Global) -> Option<RouteTable> {
     let course = course(alloc)?;
     first_table(alloc, &course)
@@ -46,7 +46,7 @@ fn tolerant_build(rt: HostRuntime) -> Result<(), Fail> {
     Ok(())
 }
 
-/// How many legs the table has in the span. None where an allocation fails.
+/// How many legs the table has in the span. None if an allocation fails.
 fn count_legs(alloc: Global, table: &RouteTable, span: &Span) -> Option<usize> {
     let legs = table.legs(alloc, span).ok()?;
     Some(legs.len())
@@ -70,8 +70,8 @@ fn tolerant_legs(rt: HostRuntime) -> Result<(), Fail> {
     }
 }
 
-/// Whether the table of the board was patched for the delta, how many legs it has then, and what its
-/// meter has counted. The error comes where an allocation failed before.
+/// Whether the table of the board was patched for the delta, how many legs it has then, and what
+/// its meter has counted. The error comes if an allocation failed before.
 fn patch_and_count(
     alloc: Global,
     course: &Course,
@@ -86,7 +86,7 @@ fn patch_and_count(
 }
 
 /// Whether a table was patched for the delta, how many legs it has then, and what its meter has
-/// counted. The error comes where an allocation failed before.
+/// counted. The error comes if an allocation failed before.
 fn patched(
     alloc: Global,
     course: &Course,
@@ -97,7 +97,7 @@ fn patched(
     patch_and_count(alloc, course, &mut board, &mut table, delta)
 }
 
-/// The board and its table have absorbed the delta, or are as they were.
+/// The board and its table have absorbed the delta, or are unchanged.
 fn absorbs_or_not(
     rt: &impl Abort,
     course: &Course,
@@ -123,7 +123,7 @@ enum Step {
     Absorb,
 }
 
-/// How many keys the delta touches. None where an allocation fails.
+/// How many keys the delta touches. None if an allocation fails.
 fn count_touched(alloc: Global, course: &Course, delta: &Delta) -> Option<u64> {
     let set = touched(alloc, course, delta).ok()?;
     Some(set.count())
@@ -136,7 +136,7 @@ fn touches_or_not(rt: &impl Abort, alloc: Global, course: &Course, delta: &Delta
     }
 }
 
-/// The table is patched for the delta, or is as it was.
+/// The table is patched for the delta, or is unchanged.
 fn patches_or_not(rt: &impl Abort, alloc: Global, course: &Course, delta: &Delta) {
     if let Ok((is_patched, legs, count)) = patched(alloc, course, delta) {
         assert!(rt; legs == if is_patched { 6 } else { 4 });
@@ -144,7 +144,7 @@ fn patches_or_not(rt: &impl Abort, alloc: Global, course: &Course, delta: &Delta
     }
 }
 
-/// A board and its table absorb the delta, or are as they were.
+/// A board and its table absorb the delta, or are unchanged.
 fn first_absorbs_or_not(rt: &impl Abort, alloc: Global, course: &Course, delta: &Delta) {
     let mut board = Board::new(alloc);
     if let Ok(mut table) = RouteTable::build(alloc, course, &board) {
@@ -152,7 +152,7 @@ fn first_absorbs_or_not(rt: &impl Abort, alloc: Global, course: &Course, delta: 
     }
 }
 
-/// The step is taken with the course, where the delta can be made.
+/// The step is taken with the course, if the delta can be made.
 fn takes_with(rt: &impl Abort, alloc: Global, course: &Course, step: Step) {
     if let Some(delta) = small_delta(alloc) {
         match step {
@@ -163,7 +163,7 @@ fn takes_with(rt: &impl Abort, alloc: Global, course: &Course, step: Step) {
     }
 }
 
-/// The step is taken, where the course and the delta can be made.
+/// The step is taken, if the course and the delta can be made.
 fn takes(rt: &impl Abort, alloc: Global, step: Step) {
     if let Some(course) = course(alloc) {
         takes_with(rt, alloc, &course, step);

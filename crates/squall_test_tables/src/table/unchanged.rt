@@ -1,4 +1,4 @@
-//! Where an allocation fails, no report is taken and no table copied, and nothing changes.
+//! If an allocation fails, no report is taken and no table copied, and nothing changes.
 
 ghost use Rattle.squall_table.specs.Tables.{IsTable};
 
@@ -13,8 +13,8 @@ use std::alloc::{AllocError, Global};
 use std::process::Abort;
 use std::test::Fail;
 
-/// Whether the table has the legs of the old plan, and the board tells nothing: what both were before
-/// any report.
+/// Whether the table has the legs of the old plan, and the board has no report: what both were
+/// before any report.
 pub(crate) fn are_new(alloc: Global, course: &Course, board: &Board, table: &RouteTable) -> bool {
     let empty = Board::new(alloc);
     has_legs(table.entries(), course.old_plan().ranges()) && *board == empty
@@ -38,7 +38,7 @@ fn takes_or_not(
     }
 }
 
-/// A new board and its table take the report or not. Where an allocation fails before, nothing is
+/// A new board and its table take the report or not. If an allocation fails before, nothing is
 /// looked at.
 fn new_take_or_not(rt: &impl Abort, alloc: Global, course: &Course, report: &Report) {
     let mut board = Board::new(alloc);

@@ -31,7 +31,7 @@ fn join_row(rt: &impl Abort, alloc: Global, rows: &mut Rows, state: u32) -> Resu
     rows.join_in(alloc, &single)
 }
 
-/// Rows of so many pseudo-random cells.
+/// Rows of this many pseudo-random cells.
 fn rows(rt: &impl Abort, alloc: Global, seed: u32, count: u32) -> Result<Rows, AllocError> {
     let mut rows: Rows = JoinMap::empty(alloc);
     let mut state = seed;
@@ -42,7 +42,7 @@ fn rows(rt: &impl Abort, alloc: Global, seed: u32, count: u32) -> Result<Rows, A
     Ok(rows)
 }
 
-/// A map of so many pseudo-random numbers, at keys below 4,096.
+/// A map of this many pseudo-random numbers, at keys below 4,096.
 fn numbers(alloc: Global, seed: u32, count: u32) -> Result<JoinMap<u32, Max>, AllocError> {
     let mut map: JoinMap<u32, Max> = JoinMap::empty(alloc);
     let mut state = seed;
@@ -58,7 +58,7 @@ fn numbers(alloc: Global, seed: u32, count: u32) -> Result<JoinMap<u32, Max>, Al
     Ok(map)
 }
 
-/// A set of so many pseudo-random spans, some of which overlap.
+/// A set of this many pseudo-random spans, some of which overlap.
 fn spans(rt: &impl Abort, alloc: Global, seed: u32, count: u32) -> Result<SpanSet, AllocError> {
     let mut set = SpanSet::empty(alloc);
     let mut state = seed;
@@ -119,7 +119,7 @@ fn alike<J: Join>(rt: &impl Abort, alloc: Global, value: &J, other: &J) -> Resul
     becomes(rt, alloc, &mut copy, other, &apart)
 }
 
-/// Joins so many cells into the rows.
+/// Joins this many cells into the rows.
 fn alike_rows(
     rt: &impl Abort,
     alloc: Global,
@@ -140,7 +140,7 @@ fn rows_in_place(rt: HostRuntime) -> Result<(), AllocError> {
     Ok(())
 }
 
-/// Joins so many numbers into the map.
+/// Joins this many numbers into the map.
 fn alike_numbers(
     rt: &impl Abort,
     alloc: Global,
@@ -161,7 +161,7 @@ fn numbers_in_place(rt: HostRuntime) -> Result<(), AllocError> {
     Ok(())
 }
 
-/// Joins so many spans into the set.
+/// Joins this many spans into the set.
 fn alike_spans(
     rt: &impl Abort,
     alloc: Global,

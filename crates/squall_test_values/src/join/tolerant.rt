@@ -37,7 +37,7 @@ pub(crate) fn tries<J: Join>(rt: &impl Abort, alloc: Global, value: &mut J, othe
     }
 }
 
-/// The map of one number at the key 4 has that entry, and none where the number is 0.
+/// The map of one number at the key 4 has that entry, and none if the number is 0.
 fn look_at_single(rt: &impl Abort, alloc: Global, number: u32) {
     if let Ok(map) = JoinMap::single(alloc, 4, Max::new(number)) {
         assert!(rt; has_entry(&map, 0, 4, number) == (number != 0));
@@ -90,7 +90,7 @@ fn tolerant_join_in_of_many(rt: HostRuntime) -> Result<(), Fail> {
     Ok(())
 }
 
-/// The value is still that of one span. It looks only where no allocation fails.
+/// The value is still that of one span. It looks only if no allocation fails.
 fn is_as_before(rt: &impl Abort, alloc: Global, value: &Outer) {
     if let Ok(before) = one(rt, alloc, 1, 2, 10, 5) {
         assert!(rt; value.same(&before));

@@ -6,7 +6,7 @@ use squall_join::{Flag, Join, JoinMap, Update, UpdateAt};
 use std::alloc::{AllocError, Global};
 use std::process::Abort;
 
-/// Stands for a set flag.
+/// An update that sets the flag.
 #[derive(Clone, Copy)]
 struct Raised;
 

@@ -1,4 +1,4 @@
-//! Lists of boards if an allocation fails: the board stays as it was.
+//! Lists of boards if an allocation fails: the board is unchanged.
 
 use super::{complete, full, lends_cells_of_two};
 use squall_board::{Board, Cell};
@@ -91,7 +91,7 @@ fn tolerant_issues(rt: HostRuntime) -> Result<(), Fail> {
     Ok(())
 }
 
-/// Whether the board has the completion beside what it had before, or is as it was.
+/// Whether the board has the completion beside what it had before, or is unchanged.
 fn is_put_or_as_before(board: &Board, before: &Board, put: bool) -> bool {
     if put {
         board.says_done(2, 1, 3) && board.covers(before)

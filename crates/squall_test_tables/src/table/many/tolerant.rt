@@ -1,4 +1,4 @@
-//! Where an allocation fails, a table of several blocks and its board are unchanged.
+//! If an allocation fails, a table of several blocks and its board are unchanged.
 
 ghost use Rattle.squall_table.specs.Tables.{IsTable};
 
@@ -13,8 +13,8 @@ use squall_table::RouteTable;
 use std::alloc::{AllocError, Global};
 use std::process::Abort;
 
-/// The board and its table, which are new, absorb the delta, and the table has so many legs then; or
-/// the answer is a failed allocation, and they are as before.
+/// The board and its table, which are new, absorb the delta, and the table has this many legs then.
+/// Or the answer is a failed allocation, and they are unchanged.
 fn absorbs_or_not(
     rt: &impl Abort,
     alloc: Global,
@@ -32,7 +32,7 @@ fn absorbs_or_not(
     }
 }
 
-/// A new board and its table absorb the delta or not. Where an allocation fails before, nothing is
+/// A new board and its table absorb the delta or not. If an allocation fails before, nothing is
 /// looked at.
 fn new_absorbs_or_not(rt: &impl Abort, alloc: Global, course: &Course, delta: &Delta, legs: usize) {
     let mut board = Board::new(alloc);
@@ -41,13 +41,13 @@ fn new_absorbs_or_not(rt: &impl Abort, alloc: Global, course: &Course, delta: &D
     }
 }
 
-/// Takes the report of what is said. None where an allocation fails.
+/// Takes the report of what is said. None if an allocation fails.
 fn take(delta: &mut Delta, said: Said) -> Option<()> {
     let report = report(said)?;
     delta.take(&report).ok()
 }
 
-/// The delta of what is said. None where an allocation fails.
+/// The delta of what is said. None if an allocation fails.
 fn delta(alloc: Global, said: &[Said]) -> Option<Delta> {
     let mut delta = Board::new(alloc);
     for one in said {
@@ -77,8 +77,8 @@ fn tolerant_absorb(rt: HostRuntime) {
     }
 }
 
-/// The board and its table, which are new, take the report, and the table has so many legs then; or
-/// the answer is a failed allocation, and they are as before.
+/// The board and its table, which are new, take the report, and the table has this many legs then.
+/// Or the answer is a failed allocation, and they are unchanged.
 fn takes_or_not(
     rt: &impl Abort,
     alloc: Global,
@@ -96,7 +96,7 @@ fn takes_or_not(
     }
 }
 
-/// A new board and its table take the report or not. Where an allocation fails before, nothing is
+/// A new board and its table take the report or not. If an allocation fails before, nothing is
 /// looked at.
 fn new_takes_or_not(rt: &impl Abort, alloc: Global, course: &Course, report: &Report, legs: usize) {
     let mut board = Board::new(alloc);
