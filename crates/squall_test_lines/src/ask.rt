@@ -39,7 +39,7 @@ fn copies(alloc: Global, texts: &[&str]) -> Result<Vec<String>, AllocError> {
     Ok(copies)
 }
 
-/// What an inquiry brings about: the status, the output, and what is told on standard error.
+/// What an inquiry brings about: the status, the output, and the text on standard error.
 type Wanted = (u8, &'static [u8], &'static [u8]);
 
 /// Whether an inquiry by these words of these files brings that about, or memory is short. The error comes if an allocation

@@ -216,8 +216,9 @@ fn tolerant_inquiries(rt: HostRuntime) {
     }
 }
 
-/// Command lines, how many lines are shown for each at most, and pieces of these: help names each command with its files, that of
-/// `run` each line of a scenario, and that of `race` each line of a race.
+/// Command lines, how many lines are shown for each at most, and pieces of these. Help names each
+/// command with its files. That of `run` names each line of a scenario, and that of `race` each
+/// line of a race.
 static SHOWN: [(&[&str], usize, &[&str]); 12] = [
     (
         &["squall", "--help"],
@@ -319,7 +320,7 @@ static SHOWN: [(&[&str], usize, &[&str]); 12] = [
     ),
 ];
 
-/// Whether the text has each of the pieces, and at most so many lines.
+/// Whether the text has each of the pieces, and at most this many lines.
 fn has_all(text: &str, lines: usize, pieces: &[&str]) -> bool {
     for piece in pieces {
         if !text.contains(*piece) {

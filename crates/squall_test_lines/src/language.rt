@@ -21,7 +21,7 @@ fn words(rt: HostRuntime) {
     assert!(rt; bounds(b" 2:7 end") == Some((2, 7, 4294967295)));
 }
 
-/// Whether a line of a report makes one. None where it is no line of a report.
+/// Whether a line of a report makes one. None if it is no line of a report.
 fn makes_report(name: &[u8], rest: &[u8]) -> Option<bool> {
     let words = report_line(name, rest)?;
     Some(words.report().is_some())

@@ -65,7 +65,7 @@ impl Machine for Numbers {
     }
 }
 
-/// Gives at most so many bytes per read. After some reads it fails once, and then goes on.
+/// Gives at most this many bytes per read. After some reads it fails once, and then continues.
 #[derive(Drop)]
 struct Drip<'a> {
     bytes: &'a [u8],
@@ -87,7 +87,7 @@ impl Read for Drip<'_> {
     }
 }
 
-/// Takes one byte per write. After some writes it fails or takes nothing once, and then goes on.
+/// Takes one byte per write. After some writes it fails or takes nothing once, and then continues.
 #[derive(Drop)]
 struct Dropper {
     taken: Vec<u8>,
@@ -151,7 +151,7 @@ fn run_sample(alloc: Global, drip: Drip<'_>, dropper: &mut Dropper) -> Result<En
 /// How a run ends, and what it writes.
 type Outcome<'a> = (Result<Ended, RunFault>, &'a [u8]);
 
-/// Whether such a run over the bytes comes out so.
+/// Whether such a run over the bytes has this outcome.
 fn comes_out(alloc: Global, bytes: &[u8], way: Way, wanted: Outcome<'_>) -> bool {
     let mut dropper = Dropper {
         taken: Vec::new(alloc),
@@ -167,10 +167,10 @@ fn comes_out(alloc: Global, bytes: &[u8], way: Way, wanted: Outcome<'_>) -> bool
     ended == wanted.0 && dropper.taken.as_slice() == wanted.1
 }
 
-/// A piece so many times, and what follows it.
+/// A piece this many times, and what follows it.
 type Text<'a> = (&'a [u8], usize, &'a [u8]);
 
-/// Whether a run over the text, with so many bytes a read, comes out so.
+/// Whether a run over the text, with this many bytes a read, has this outcome.
 fn answers(
     alloc: Global,
     text: Text<'_>,
@@ -260,7 +260,7 @@ fn lines_are_numbered(rt: HostRuntime) {
     assert!(rt; ended == Ok(Ended::Fine) && out.as_slice() == b"1\n2\n3\n4\n".as_slice());
 }
 
-/// Whether reads of a byte give all bytes and then the end, of which one fails after so many.
+/// Whether reads of a byte give all bytes and then the end, if one read fails after this many.
 fn gives_all(alloc: Global, bytes: &[u8], reads_left: u64) -> Result<bool, RunFault> {
     let most = 1;
     let mut reader = Reader::new(Drip {
@@ -286,8 +286,8 @@ fn whole_inputs(rt: HostRuntime) {
     }
 }
 
-/// Whether the run comes out right where an allocation is refused. It writes to room that is there, so that it
-/// alone takes memory.
+/// Whether the run comes out right if an allocation is refused. It writes to room that is there, so
+/// that it alone takes memory.
 fn comes_out_tolerant(alloc: Global) -> Result<bool, AllocError> {
     let mut taken = Vec::with_capacity(alloc, OUTPUT.len())?;
     let mut machine = Sample;

@@ -25,10 +25,10 @@ enum Step {
     Open,
     /// To hear that the partition is done in sub-plan 0 of number 1.
     Hear(u32),
-    /// To tell how many sub-plans of number 1 are opened, and whether the course begun last is
+    /// To say how many sub-plans of number 1 are opened, and whether the course begun last is
     /// finished.
     Tell,
-    /// To tell what is issued under the number.
+    /// To say what is issued under the number.
     Issued(u32),
 }
 
@@ -46,11 +46,11 @@ fn write_begun(
     }
 }
 
-/// Begins the course to the plan of the text, and writes its number, or the fault. Like what follows,
-/// None where an allocation fails.
+/// Begins the course to the plan of the text, and writes its number, or the fault. Like what
+/// follows, None if an allocation fails.
 ///
-/// What a proof of a test costs grows with the values that the test owns, times the ways out of it: so a function here
-/// makes one value, and lends it to another.
+/// A proof of a test costs more with each value that the test owns, on each way out of it. So a
+/// function here makes one value, and lends it to another.
 fn begin(alloc: Global, leader: &mut Leader, text: &str, out: &mut String) -> Option<()> {
     let plan = plan(alloc, text)?;
     write_begun(out, leader.begin(&plan)).ok()
@@ -135,8 +135,7 @@ fn write_answers(
     Some(())
 }
 
-/// A leader of the old plan, where numbers up to `last` were used before. None where an allocation
-/// fails.
+/// A leader of the old plan, if numbers up to `last` were used before. None if an allocation fails.
 fn leader(alloc: Global, last: u32) -> Option<Leader> {
     let plan = plan(alloc, OLD)?;
     match last {
@@ -145,8 +144,8 @@ fn leader(alloc: Global, last: u32) -> Option<Leader> {
     }
 }
 
-/// Whether the steps of a leader of the old plan, where numbers up to `last` were used before, have
-/// these answers.
+/// Whether the steps of a leader of the old plan have these answers, if numbers up to `last` were
+/// used before.
 fn has_answers(alloc: Global, last: u32, steps: &[Step], wanted: &str) -> Result<bool, Fail> {
     let mut leader = leader(alloc, last).ok_or("a leader")?;
     let mut out = String::new(alloc);

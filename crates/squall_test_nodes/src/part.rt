@@ -1,5 +1,5 @@
-//! Partitions between plans whose moves were worked out by hand: 2:0 up to 3:0 goes from partition 1 to 3,
-//! and 6:0 up to 9:0 from 3 to 4, each in sub-plan 0.
+//! Partitions between plans whose moves were worked out by hand. The keys from 2:0 up to 3:0 go
+//! from partition 1 to 3, and those from 6:0 up to 9:0 from 3 to 4, each in sub-plan 0.
 
 mod example;
 mod tolerant;
@@ -35,7 +35,7 @@ fn hears_opening(alloc: Global, part: &mut Part, number: u32) -> Option<bool> {
     Some(hears(alloc, part, &opening))
 }
 
-/// Whether the partition has heard of the way back. None where an allocation failed before.
+/// Whether the partition has heard of the way back. None if an allocation failed before.
 fn hears_of_way_back(alloc: Global, part: &mut Part) -> Option<bool> {
     let report = issued(alloc, 2, NEW, OLD)?;
     Some(hears(alloc, part, &report))
@@ -67,7 +67,7 @@ fn write_gift(out: &mut String, given: Result<Chunk, GiveFault>) -> Result<(), A
     }
 }
 
-/// Writes what the report tells.
+/// Writes the report.
 fn write_report(out: &mut String, report: &Report) -> Result<(), AllocError> {
     match report.kind() {
         ReportKind::Loaded {
@@ -159,19 +159,19 @@ enum Step {
     Open(u32),
     /// To hear of the way back.
     Turn,
-    /// To give on so many keys at most.
+    /// To give at most this many keys.
     Give(u64),
-    /// To give on the first key of the root.
+    /// To give the first key of the root.
     GiveAt(u32),
     /// To load the keys from 2:0 to the bound, in a chunk of a number, sub-plan and source.
     Load(u32, u32, u32, &'static str),
     /// To finish sub-plan 0.
     Finish,
-    /// To serve the first key of root 2 to one who comes by a reply of that number.
+    /// To serve the first key of root 2 to one who followed a reply of that number.
     Serve(u32),
-    /// To tell which keys it holds.
+    /// To say which keys it holds.
     Hold,
-    /// To tell what it gave and loaded, and what its board says of loads.
+    /// To say what it gave and loaded, and what its board says of loads.
     Tell,
 }
 
@@ -230,7 +230,7 @@ const STEPS: [(u32, &[Step], &str); 7] = [
         &[Step::Tell, Step::Give(1), Step::GiveAt(2), Step::Finish],
         "1 gave  loaded , 2 unknown, ; NotOpen; NotOpen; NotOpen; ",
     ),
-    // What is given on goes in order, and each key once.
+    // Keys are given in order, and each key once.
     (
         1,
         &[

@@ -1,5 +1,6 @@
-//! Worlds between plans whose moves were worked out by hand: 2:0 up to 3:0 goes from partition 1 to 3, and 6:0
-//! up to 9:0 from 3 to 4, each in sub-plan 0. Longer runs stand among the cases of the built program.
+//! Worlds between plans whose moves were worked out by hand. The keys from 2:0 up to 3:0 go from
+//! partition 1 to 3, and those from 6:0 up to 9:0 from 3 to 4, each in sub-plan 0. Longer runs are
+//! among the cases of the built program.
 
 mod calls;
 mod clients;
@@ -34,7 +35,7 @@ fn range(range: Range) -> Option<PlanRange> {
     Some(PlanRange { span, part })
 }
 
-/// A plan of ranges of roots. None where an allocation fails.
+/// A plan of ranges of roots. None if an allocation fails.
 fn plan(alloc: Global, ranges: &[Range]) -> Option<Plan> {
     let mut listed = Vec::new(alloc);
     for each in ranges {
@@ -43,7 +44,7 @@ fn plan(alloc: Global, ranges: &[Range]) -> Option<Plan> {
     Plan::from_ranges(alloc, &listed).ok()
 }
 
-/// A world from the old plan to another one, with one router. None where an allocation fails.
+/// A world from the old plan to another one, with one router. None if an allocation fails.
 fn world_to(alloc: Global, new: &[Range]) -> Option<World> {
     let old = plan(alloc, &OLD)?;
     let new = plan(alloc, new)?;
@@ -82,7 +83,7 @@ enum Call {
     Serve(u32, (u32, u32), u32),
 }
 
-/// What the world answers to the call. None where an allocation fails.
+/// What the world answers to the call. None if an allocation fails.
 fn answer(alloc: Global, world: &mut World, call: Call) -> Option<Answer> {
     match call {
         Call::Open => world.open_next().ok(),
@@ -139,7 +140,7 @@ fn keys(span: Span) -> Keys {
     (lo.root(), lo.second(), hi.root(), hi.second())
 }
 
-/// The index of the chunk, its sub-plan, and where it goes.
+/// The index of the chunk, its sub-plan, and its destination.
 fn given(index: u64, chunk: &Chunk) -> Said {
     (
         "gave",

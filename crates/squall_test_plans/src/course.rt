@@ -66,8 +66,8 @@ fn plan_of_ranges(alloc: Global, ranges: &[PlanRange]) -> Option<Plan> {
 
 /// The plan of these ranges of roots.
 ///
-/// What a proof of a test costs grows with the values that the test owns, times the ways out of it: so tests lend what
-/// they made to functions that own little, as the ones below.
+/// A proof of a test costs more with each value that the test owns, on each way out of it. So tests
+/// lend what they made to functions that own little, as the ones below.
 fn plan(rt: &impl Abort, alloc: Global, listed: &[(u32, u32, u32)]) -> Result<Plan, Fail> {
     let ranges = ranges(rt, alloc, listed)?;
     Ok(plan_of_ranges(alloc, &ranges).ok_or("a plan")?)

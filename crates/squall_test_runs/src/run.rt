@@ -155,8 +155,8 @@ fn stops_at<R: Threads + Wait + Sync>(
         && comes_out(rt, alloc, task, input, takes_nothing, wanted)
 }
 
-/// Wherever the writer stops among the first so many bytes, it has those before that place. If it does not
-/// stop, the output is whole.
+/// Wherever the writer stops among this many first bytes, it has those before that place. If it
+/// does not stop, the output is whole.
 fn stops<R: Threads + Wait + Sync>(
     rt: &R,
     alloc: Global,
@@ -173,7 +173,7 @@ fn stops<R: Threads + Wait + Sync>(
     comes_out(rt, alloc, task, input, NEVER, (Ok(Ended::Fine), output))
 }
 
-/// Whether the job is done, and its writer may stop at the first so many places.
+/// Whether the job is done, and its writer may stop at this many first places.
 fn is_done<R: Threads + Wait + Sync>(
     rt: &R,
     alloc: Global,

@@ -168,7 +168,8 @@ const REFUSALS: [(&str, &str); 18] = [
     ("route 0 2:0", "no NoSuch\n"),
 ];
 
-/// The scenario answers each line by the text beside it, and ends where that says that the line is bad.
+/// The scenario answers each line by the text beside it, and ends if that says that the line is
+/// bad.
 fn answers(
     rt: &impl Abort,
     scenario: &mut Scenario,
@@ -197,7 +198,7 @@ fn plays(
     answers(rt, &mut scenario, others, out)
 }
 
-/// Bad lines, and why each is bad: where there is no plan, after both plans, and in a world.
+/// Bad lines, and why each is bad: before any plan, after both plans, and in a world.
 static BAD: [(&[(&str, &str)], &str, &str); 12] = [
     (&[], "world 1", "bad line 1: order\n"),
     (&PLANS, "world 1001", "bad line 3: limit\n"),

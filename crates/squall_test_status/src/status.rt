@@ -25,7 +25,7 @@ fn load(sub: u32, part: u32, lo: &str, hi: &str) -> Option<Report> {
     Report::loaded(1, sub, part, span(lo, hi)?)
 }
 
-/// Takes the report, where there is one.
+/// Takes the report, if there is one.
 fn take(board: &mut Board, report: Option<Report>) -> Result<(), Fail> {
     let report = report.ok_or("report")?;
     board.take(&report)?;

@@ -1,4 +1,4 @@
-//! Answers as lines. The other answers stand among the cases of the built program.
+//! Answers as lines. The other answers are among the cases of the built program.
 
 use squall_cli_events::add_answer;
 use squall_errand::Reply;

@@ -123,8 +123,8 @@ fn events(rt: HostRuntime) -> Result<(), Fail> {
     Ok(())
 }
 
-/// Names, what follows each, and why none of these lines is an event: a value is over its limit, a plan
-/// is none, the number of words is wrong, or one of them has another form.
+/// Names, what follows each, and why none of these lines is an event. A value is over its limit, a
+/// plan is none, the number of words is wrong, or one of them has another form.
 static OTHERS: [(&str, &[&str], &str); 23] = [
     ("give", &[" 10000 1"], "limit"),
     ("giveat", &[" 10000 2:0"], "limit"),

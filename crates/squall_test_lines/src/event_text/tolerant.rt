@@ -1,4 +1,4 @@
-//! Where an allocation fails, that is what is told.
+//! If an allocation fails, that is the answer.
 
 use squall_cli_events::{add_answer, event_line, event_of};
 use squall_protocol::{Answer, Event};

@@ -19,7 +19,7 @@ pub fn numbers_fit(leader: &Leader)
     leader.known();
 }
 
-/// Keys go to a partition that the leader waits for, and its board does not say it done; where it
+/// Keys go to a partition that the leader waits for, and its board does not say it done. If it
 /// waits for none, the board says each partition done to which keys go.
 pub fn waits_for_keys(leader: &Leader)
     ensures some { (c : Change) (sub part : ℕ) → leader.now.course ≡ Some c → waited_for c leader.now.board sub ≡ Some part

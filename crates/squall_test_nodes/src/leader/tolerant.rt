@@ -1,4 +1,4 @@
-//! Where an allocation fails the answer is NoMemory, and leader and arguments are what they were.
+//! If an allocation fails the answer is NoMemory, and leader and arguments are unchanged.
 
 use crate::leader::{Step, leader, write_answers};
 use squall_board::Board;
@@ -29,7 +29,7 @@ fn is_begun(rt: &impl Abort, leader: &mut Leader, new: &Plan) -> bool {
     begun.is_ok()
 }
 
-/// Whether the course to the plan is begun. The plan is what its copy is. None where an allocation
+/// Whether the course to the plan is begun. The plan is equal to its copy. None if an allocation
 /// failed before.
 fn begins_to(rt: &impl Abort, alloc: Global, leader: &mut Leader, new: &Plan) -> Option<bool> {
     let copy = new.copied(alloc).ok()?;
@@ -38,7 +38,7 @@ fn begins_to(rt: &impl Abort, alloc: Global, leader: &mut Leader, new: &Plan) ->
     Some(begun)
 }
 
-/// Whether the course to the new plan is begun. None where an allocation failed before.
+/// Whether the course to the new plan is begun. None if an allocation failed before.
 fn begins(rt: &impl Abort, alloc: Global, leader: &mut Leader) -> Option<bool> {
     let new = plan(alloc, NEW)?;
     begins_to(rt, alloc, leader, &new)
@@ -51,7 +51,7 @@ fn opens(rt: &impl Abort, leader: &mut Leader) -> bool {
     opened.is_ok()
 }
 
-/// Whether the leader absorbed the delta, which is what its copy is. None where an allocation failed
+/// Whether the leader absorbed the delta, which is equal to its copy. None if an allocation failed
 /// before.
 fn absorbs_delta(
     rt: &impl Abort,
@@ -65,14 +65,14 @@ fn absorbs_delta(
     Some(absorbed)
 }
 
-/// Whether the leader absorbed what the report tells. None where an allocation failed before.
+/// Whether the leader absorbed the report. None if an allocation failed before.
 fn absorbs(rt: &impl Abort, alloc: Global, leader: &mut Leader, report: &Report) -> Option<bool> {
     let mut delta = Board::new(alloc);
     delta.take(report).ok()?;
     absorbs_delta(rt, alloc, leader, &delta)
 }
 
-/// Whether the call was answered, and not by NoMemory. None where an allocation failed before it.
+/// Whether the call was answered, and not by NoMemory. None if an allocation failed before it.
 fn is_answered(rt: &impl Abort, alloc: Global, leader: &mut Leader, call: Call) -> Option<bool> {
     match call {
         Call::Begin => begins(rt, alloc, leader),
@@ -84,7 +84,7 @@ fn is_answered(rt: &impl Abort, alloc: Global, leader: &mut Leader, call: Call) 
     }
 }
 
-/// The leader takes the calls. None where an allocation fails.
+/// The leader takes the calls. None if an allocation fails.
 fn take_all(rt: &impl Abort, alloc: Global, leader: &mut Leader, calls: &[Call]) -> Option<()> {
     for call in calls {
         if !is_answered(rt, alloc, leader, *call)? {
@@ -105,14 +105,14 @@ const ROWS: [Row; 4] = [
     (0, &[Call::Begin, Call::Open], Call::Hear),
 ];
 
-/// The leader of the row, which has taken the first calls. None where an allocation fails.
+/// The leader of the row, which has taken the first calls. None if an allocation fails.
 fn leader_before(rt: &impl Abort, alloc: Global, row: &Row) -> Option<Leader> {
     let mut leader = leader(alloc, row.0)?;
     take_all(rt, alloc, &mut leader, row.1)?;
     Some(leader)
 }
 
-/// How a leader goes on.
+/// The calls that follow those that are tried.
 const GOING_ON: [Step; 11] = [
     Step::Tell,
     Step::Issued(1),
@@ -127,14 +127,14 @@ const GOING_ON: [Step; 11] = [
     Step::Issued(2),
 ];
 
-/// What the leader answers as it goes on. None where an allocation fails.
+/// What the leader answers to the calls that follow. None if an allocation fails.
 fn goes_on(alloc: Global, leader: &mut Leader) -> Option<String> {
     let mut says = String::new(alloc);
     write_answers(alloc, leader, &GOING_ON, &mut says)?;
     Some(says)
 }
 
-/// The leader goes on with these answers. None where an allocation fails.
+/// The leader has these answers to the calls that follow. None if an allocation fails.
 fn goes_on_so(rt: &impl Abort, alloc: Global, leader: &mut Leader, says: &str) -> Option<()> {
     let other = goes_on(alloc, leader)?;
     assert!(rt; other.as_str() == says);
@@ -172,13 +172,13 @@ fn takes_or_not(
     Some(answered)
 }
 
-/// Tries the call of the row beside a twin. None where an allocation fails before it.
+/// Tries the call of the row beside a twin. None if an allocation fails before it.
 fn try_beside(rt: &impl Abort, alloc: Global, row: &Row, twin: &mut Leader) -> Option<bool> {
     let mut leader = leader_before(rt, alloc, row)?;
     takes_or_not(rt, alloc, &mut leader, twin, row.2)
 }
 
-/// Tries the call of the row. None where an allocation fails before it.
+/// Tries the call of the row. None if an allocation fails before it.
 fn try_row(rt: &impl Abort, alloc: Global, row: &Row) -> Option<bool> {
     let mut twin = leader_before(rt, alloc, row)?;
     try_beside(rt, alloc, row, &mut twin)
@@ -217,7 +217,7 @@ fn makes_both(rt: &impl Abort, alloc: Global, plan: &Plan) -> bool {
     new && after
 }
 
-/// Tries to make leaders. The plan is what its copy is. None where an allocation fails before.
+/// Tries to make leaders. The plan is equal to its copy. None if an allocation fails before.
 fn try_new(rt: &impl Abort, alloc: Global) -> Option<bool> {
     let plan = plan(alloc, OLD)?;
     let copy = plan.copied(alloc).ok()?;

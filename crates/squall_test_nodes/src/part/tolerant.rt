@@ -1,4 +1,4 @@
-//! Where an allocation fails the answer is NoMemory, and partition and arguments are what they were.
+//! If an allocation fails the answer is NoMemory, and partition and arguments are unchanged.
 
 use crate::example::{course, issued};
 use crate::part::chunk;
@@ -30,7 +30,7 @@ fn did_the_same(one: &Part, other: &Part, number: u32) -> bool {
         && are_same(one.loaded(number), other.loaded(number))
 }
 
-/// Whether both partitions are one: in their number, what they hold, what they were told, and what
+/// Whether both partitions are one: in their number, what they hold, what they have heard, and what
 /// they gave and loaded.
 fn is_same(one: &Part, other: &Part) -> bool {
     one.id() == other.id()
@@ -47,9 +47,9 @@ enum Call {
     Open,
     /// To absorb the way back.
     Turn,
-    /// To give on the keys of root 2.
+    /// To give the keys of root 2.
     Give,
-    /// To give on the first key of root 2.
+    /// To give the first key of root 2.
     GiveAt,
     /// To load the keys of root 2.
     Load,
@@ -57,7 +57,7 @@ enum Call {
     Finish,
 }
 
-/// Whether the partition absorbed the delta, which is what its copy is. None where an allocation
+/// Whether the partition absorbed the delta, which is equal to its copy. None if an allocation
 /// failed before.
 fn absorbs_delta(rt: &impl Abort, alloc: Global, part: &mut Part, delta: &Board) -> Option<bool> {
     let copy = delta.copied(alloc).ok()?;
@@ -66,14 +66,14 @@ fn absorbs_delta(rt: &impl Abort, alloc: Global, part: &mut Part, delta: &Board)
     Some(absorbed)
 }
 
-/// Whether the partition absorbed what the report tells. None where an allocation failed before.
+/// Whether the partition absorbed the report. None if an allocation failed before.
 fn absorbs(rt: &impl Abort, alloc: Global, part: &mut Part, report: &Report) -> Option<bool> {
     let mut delta = Board::new(alloc);
     delta.take(report).ok()?;
     absorbs_delta(rt, alloc, part, &delta)
 }
 
-/// Whether keys were given on: there is no other fault than NoMemory.
+/// Whether keys were given: there is no other fault than NoMemory.
 fn gave(rt: &impl Abort, given: Result<Chunk, GiveFault>) -> bool {
     assert!(rt; matches!(given, Ok(_) | Err(GiveFault::NoMemory)));
     given.is_ok()
@@ -91,7 +91,7 @@ fn finished(rt: &impl Abort, done: Result<Report, FinishFault>) -> bool {
     done.is_ok()
 }
 
-/// Whether the call was answered, and not by NoMemory. None where an allocation failed before it.
+/// Whether the call was answered, and not by NoMemory. None if an allocation failed before it.
 fn is_answered(rt: &impl Abort, alloc: Global, part: &mut Part, call: Call) -> Option<bool> {
     match call {
         Call::Open => {
@@ -112,7 +112,7 @@ fn is_answered(rt: &impl Abort, alloc: Global, part: &mut Part, call: Call) -> O
     }
 }
 
-/// The partition takes the calls. None where an allocation fails.
+/// The partition takes the calls. None if an allocation fails.
 fn take_all(rt: &impl Abort, alloc: Global, part: &mut Part, calls: &[Call]) -> Option<()> {
     for call in calls {
         if !is_answered(rt, alloc, part, *call)? {
@@ -134,7 +134,7 @@ const ROWS: [Row; 6] = [
     (3, &[Call::Open, Call::Load], Call::Finish),
 ];
 
-/// The partition of the row, which has taken the first calls. None where an allocation fails.
+/// The partition of the row, which has taken the first calls. None if an allocation fails.
 fn part_before(rt: &impl Abort, alloc: Global, row: &Row) -> Option<Part> {
     let id = PartId::new(row.0)?;
     let course = course(alloc)?;
@@ -157,13 +157,13 @@ fn takes_or_not(
     Some(answered)
 }
 
-/// Tries the call of the row beside a twin. None where an allocation fails before it.
+/// Tries the call of the row beside a twin. None if an allocation fails before it.
 fn try_beside(rt: &impl Abort, alloc: Global, row: &Row, twin: &Part) -> Option<bool> {
     let mut part = part_before(rt, alloc, row)?;
     takes_or_not(rt, alloc, &mut part, twin, row.2)
 }
 
-/// Tries the call of the row. None where an allocation fails before it.
+/// Tries the call of the row. None if an allocation fails before it.
 fn try_row(rt: &impl Abort, alloc: Global, row: &Row) -> Option<bool> {
     let twin = part_before(rt, alloc, row)?;
     try_beside(rt, alloc, row, &twin)
@@ -210,7 +210,7 @@ fn makes_or_not(rt: &impl Abort, alloc: Global, course: &Arc<Course>) -> Option<
     }
 }
 
-/// Whether partition 1 is made of a course, which leads between both plans as before. None where an
+/// Whether partition 1 is made of a course, which leads between both plans as before. None if an
 /// allocation fails before.
 fn makes_between(rt: &impl Abort, alloc: Global, old: &Plan, new: &Plan) -> Option<bool> {
     let course = course(alloc)?;
@@ -219,13 +219,13 @@ fn makes_between(rt: &impl Abort, alloc: Global, old: &Plan, new: &Plan) -> Opti
     made
 }
 
-/// Whether partition 1 is made of a course from the plan. None where an allocation fails before.
+/// Whether partition 1 is made of a course from the plan. None if an allocation fails before.
 fn makes_from(rt: &impl Abort, alloc: Global, old: &Plan) -> Option<bool> {
     let new = plan(alloc, NEW)?;
     makes_between(rt, alloc, old, &new)
 }
 
-/// Tries to make partition 1. None where an allocation fails before.
+/// Tries to make partition 1. None if an allocation fails before.
 fn try_new(rt: &impl Abort, alloc: Global) -> Option<bool> {
     let old = plan(alloc, OLD)?;
     makes_from(rt, alloc, &old)

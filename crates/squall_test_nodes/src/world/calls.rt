@@ -72,7 +72,7 @@ static ENDS: [(Call, Said); 8] = [
     (Call::Finish(3, 0), ("done", (2, 0, 3), NO_KEYS)),
 ];
 
-/// The world answers to each of the calls as it should. None where an allocation fails.
+/// The world answers to each of the calls as it should. None if an allocation fails.
 fn told(rt: &impl Abort, alloc: Global, world: &mut World, lines: Lines) -> Option<()> {
     for (call, wanted) in lines {
         let answer = answer(alloc, world, *call)?;
@@ -104,7 +104,7 @@ fn routers_are_counted(rt: HostRuntime) -> Result<(), Fail> {
     Ok(())
 }
 
-/// A sub-plan is opened, a router asked, and a message told that nobody sent.
+/// A sub-plan is opened, a router is asked, and a message is delivered that nobody sent.
 const EVENTS_SAY: [Said; 3] = [
     ("opened", (0, 0, 0), NO_KEYS),
     ("route", (0, 1, 0), NO_KEYS),

@@ -1,4 +1,4 @@
-//! Where an allocation fails a world is what it was, and so are the arguments.
+//! If an allocation fails a world is unchanged, and so are the arguments.
 
 use crate::world::{Call, END, NEW, OLD, Range, Said, To, answer, plan, said, world_to};
 use squall_key::PartId;
@@ -7,8 +7,8 @@ use squall_world::{Answer, Event, Node, World, WorldFault};
 use std::alloc::Global;
 use std::process::Abort;
 
-/// All partitions have heard that sub-plan 0 is opened, partition 1 gave its keys to partition 3, which
-/// loaded one of two chunks, and messages are on their way.
+/// All partitions have heard that sub-plan 0 is opened. Partition 1 gave its keys to partition 3,
+/// which loaded one of two chunks. Messages are on their way.
 const MOVING: [Call; 10] = [
     Call::Open,
     Call::Send(To::Leader),
@@ -86,8 +86,8 @@ static CASES: [Case; 9] = [
     },
 ];
 
-/// What is asked of a world to see what it is: where keys are, what each node was told, which
-/// messages and chunks there are, and how it goes on.
+/// What is asked of a world to see its state: which partition has a key, what each node has heard,
+/// and which messages and chunks there are. The last calls are those of a course that follows.
 static ASKED: [Call; 38] = [
     Call::Route(0, (2, 0)),
     Call::Route(0, (2, 5)),
@@ -129,13 +129,13 @@ static ASKED: [Call; 38] = [
     Call::Serve(6, (6, 0), 0),
 ];
 
-/// What the world says to the call. None where an allocation fails.
+/// What the world says to the call. None if an allocation fails.
 fn says(alloc: Global, world: &mut World, call: Call) -> Option<Said> {
     Some(said(&answer(alloc, world, call)?))
 }
 
-/// Both worlds are one: they have as many partitions, and go on with the same answers. None where an
-/// allocation fails.
+/// Both worlds are one: they have as many partitions, and the same answers to the calls that
+/// follow. None if an allocation fails.
 fn are_same(rt: &impl Abort, alloc: Global, world: &mut World, twin: &mut World) -> Option<()> {
     assert!(rt; world.parts() == twin.parts());
     for call in &ASKED {
@@ -145,7 +145,7 @@ fn are_same(rt: &impl Abort, alloc: Global, world: &mut World, twin: &mut World)
     Some(())
 }
 
-/// The world takes the calls. None where an allocation fails.
+/// The world takes the calls. None if an allocation fails.
 fn take_all(alloc: Global, world: &mut World, calls: &[Call]) -> Option<()> {
     for call in calls {
         answer(alloc, world, *call)?;
@@ -153,15 +153,15 @@ fn take_all(alloc: Global, world: &mut World, calls: &[Call]) -> Option<()> {
     Some(())
 }
 
-/// A world in which these calls were taken. None where an allocation fails.
+/// A world in which these calls were taken. None if an allocation fails.
 fn world_after(alloc: Global, new: &[Range], calls: &[Call]) -> Option<World> {
     let mut world = world_to(alloc, new)?;
     take_all(alloc, &mut world, calls)?;
     Some(world)
 }
 
-/// Whether both worlds took the call with one answer. Where an allocation failed the first is what
-/// the second is. None where an allocation fails for the second.
+/// Whether both worlds took the call with one answer. If an allocation failed the first is equal to
+/// the second. None if an allocation fails for the second.
 fn take_or_not(
     rt: &impl Abort,
     alloc: Global,
@@ -177,7 +177,7 @@ fn take_or_not(
     Some(true)
 }
 
-/// Whether the worlds took each of the calls. None where an allocation fails for the second.
+/// Whether the worlds took each of the calls. None if an allocation fails for the second.
 fn try_calls(
     rt: &impl Abort,
     alloc: Global,
@@ -194,14 +194,14 @@ fn try_calls(
     Some(true)
 }
 
-/// Tries the calls of the case beside a second world. None where an allocation fails before, or for
+/// Tries the calls of the case beside a second world. None if an allocation fails before, or for
 /// that world.
 fn try_beside(rt: &impl Abort, alloc: Global, case: &Case, twin: &mut World) -> Option<bool> {
     let mut world = world_after(alloc, case.new, case.before)?;
     try_calls(rt, alloc, &mut world, twin, case.tried)
 }
 
-/// Tries the calls of the case. None where an allocation fails before, or for the second world.
+/// Tries the calls of the case. None if an allocation fails before, or for the second world.
 fn try_case(rt: &impl Abort, alloc: Global, case: &Case) -> Option<bool> {
     let mut twin = world_after(alloc, case.new, case.before)?;
     try_beside(rt, alloc, case, &mut twin)
@@ -233,7 +233,7 @@ fn events() -> Option<[Event; 5]> {
     ])
 }
 
-/// The world takes the events one by one. None where an allocation fails.
+/// The world takes the events one by one. None if an allocation fails.
 fn step_all(world: &mut World, events: &[Event]) -> Option<()> {
     for event in events {
         world.step(event).ok()?;
@@ -241,8 +241,8 @@ fn step_all(world: &mut World, events: &[Event]) -> Option<()> {
     Some(())
 }
 
-/// How many answers the world gives to the events in one run, which fails where it does not answer all.
-/// Then it is what its twin is, which takes as many of the events one by one. None where an
+/// How many answers the world gives to the events in one run, which fails if it does not answer
+/// all. Then it is equal to its twin, which takes as many of the events one by one. None if an
 /// allocation fails for the twin.
 fn runs(
     rt: &impl Abort,
@@ -281,8 +281,8 @@ fn events_run(rt: HostRuntime) {
     assert!(rt; runs_moving(&rt, rt.alloc()) == Some(5));
 }
 
-/// Whether the world took the event, as its twin does. Where an allocation failed it is what its
-/// twin is. None where an allocation fails for the twin.
+/// Whether the world took the event, as its twin does. If an allocation failed it is equal to its
+/// twin. None if an allocation fails for the twin.
 fn steps_or_not(
     rt: &impl Abort,
     alloc: Global,
@@ -298,7 +298,7 @@ fn steps_or_not(
     Some(true)
 }
 
-/// Whether the worlds took each of the events one by one. None where an allocation fails for the
+/// Whether the worlds took each of the events one by one. None if an allocation fails for the
 /// second.
 fn steps_alike(
     rt: &impl Abort,
@@ -351,7 +351,7 @@ fn is_made(rt: &impl Abort, alloc: Global, old: &Plan, new: &Plan) -> bool {
     }
 }
 
-/// The same, and the new plan is what its copy is. None where an allocation fails before.
+/// The same, and the new plan is equal to its copy. None if an allocation fails before.
 fn keeps_new(rt: &impl Abort, alloc: Global, old: &Plan, new: &Plan) -> Option<bool> {
     let copy = new.copied(alloc).ok()?;
     let made = is_made(rt, alloc, old, new);
@@ -359,7 +359,7 @@ fn keeps_new(rt: &impl Abort, alloc: Global, old: &Plan, new: &Plan) -> Option<b
     Some(made)
 }
 
-/// The same, and the old plan is what its copy is. None where an allocation fails before.
+/// The same, and the old plan is equal to its copy. None if an allocation fails before.
 fn keeps_old(rt: &impl Abort, alloc: Global, old: &Plan, new: &Plan) -> Option<bool> {
     let copy = old.copied(alloc).ok()?;
     let made = keeps_new(rt, alloc, old, new);
@@ -367,13 +367,13 @@ fn keeps_old(rt: &impl Abort, alloc: Global, old: &Plan, new: &Plan) -> Option<b
     made
 }
 
-/// The same, with the new plan. None where an allocation fails before.
+/// The same, with the new plan. None if an allocation fails before.
 fn try_from(rt: &impl Abort, alloc: Global, old: &Plan) -> Option<bool> {
     let new = plan(alloc, &NEW)?;
     keeps_old(rt, alloc, old, &new)
 }
 
-/// Tries to make a world. None where an allocation fails before.
+/// Tries to make a world. None if an allocation fails before.
 fn try_new(rt: &impl Abort, alloc: Global) -> Option<bool> {
     let old = plan(alloc, &OLD)?;
     try_from(rt, alloc, &old)

@@ -87,10 +87,11 @@ fn status<R: Threads + Wait + Sync, S: Source + Drop>(
     )
 }
 
-/// How many bytes the output takes, the status, the output, and the first of what is told of faults.
+/// How many bytes the output takes, the status, the output, and the beginning of the text on
+/// standard error.
 pub(super) type Wanted = (usize, u8, &'static str, &'static str);
 
-/// Stands for any output at all.
+/// Means any output at all.
 pub(super) const SOME: &str = "some";
 
 /// A writer that stops at that write.
@@ -119,7 +120,7 @@ fn brings<R: Threads + Wait + Sync, S: Source + Drop>(
         && err.taken.is_empty() == wanted.3.is_empty()
 }
 
-/// Whether that is the output, or just some output where that is all that is wanted.
+/// Whether that is the output, or just some output if that is all that is wanted.
 fn is_shown(output: &[u8], wanted: &str) -> bool {
     if wanted == SOME {
         !output.is_empty()
@@ -241,7 +242,7 @@ fn inquiries(rt: HostRuntime) -> Result<(), Fail> {
     Ok(())
 }
 
-/// The second `-` is empty, also where a reader would give more after its end.
+/// The second `-` is empty, also if a reader would give more after its end.
 #[test]
 fn standard_input_is_read_once(rt: HostRuntime) -> Result<(), Fail> {
     let again = Again {
@@ -266,8 +267,8 @@ fn standard_input_that_fails(rt: HostRuntime) -> Result<(), Fail> {
     Ok(())
 }
 
-/// Words that bring about a text on standard error, by how many bytes the output takes: the status, the
-/// output, and the first of what is told.
+/// Words that bring about a text on standard error, by how many bytes the output takes: the status,
+/// the output, and the beginning of that text.
 static TOLD: [(&[&str], Wanted); 7] = [
     (&["squall", "course", "x", "y"], (ALL, 3, "", NO_X)),
     (&["squall", "check", "-"], (ALL, 3, "", NO_READ)),
@@ -281,8 +282,8 @@ static TOLD: [(&[&str], Wanted); 7] = [
     (&["squall", "--help"], (0, 3, "", NO_WRITE)),
 ];
 
-/// Whether the words bring that about on a standard error of which one write fails, or takes nothing:
-/// the first bytes stand there, and nothing of what follows.
+/// Whether the words bring that about on a standard error of which one write fails, or takes
+/// nothing. It has the first bytes, and nothing of what follows.
 fn tells_first<R: Threads + Wait + Sync>(
     rt: &R,
     alloc: Global,
@@ -341,7 +342,8 @@ fn roomy(alloc: Global, room: usize) -> Result<Drops, AllocError> {
     })
 }
 
-/// Whether the check of a plan is written whole, or else no memory is told by status and text.
+/// Whether the check of a plan is written whole, or else status and text say that there was no
+/// memory.
 fn checks<R: Threads + Wait + Sync>(rt: &R, alloc: Global) -> Result<bool, AllocError> {
     let mut out = roomy(alloc, NEW_CHECKED.len())?;
     let mut err = roomy(alloc, NO_MEMORY.len())?;

@@ -9,7 +9,7 @@ use squall_status::{CourseStatus, Shown, add_status};
 use std::alloc::Global;
 use std::process::Abort;
 
-/// Takes the report, where there is one. None also where an allocation fails.
+/// Takes the report, if there is one. None also if an allocation fails.
 fn take(board: &mut Board, report: Option<Report>) -> Option<()> {
     let report = report?;
     board.take(&report).ok()
@@ -20,7 +20,7 @@ fn take_two(board: &mut Board) -> Option<()> {
     take(board, Report::done(1, 0, 4))
 }
 
-/// A board of a load and a completion. None where an allocation fails.
+/// A board of a load and a completion. None if an allocation fails.
 fn board(alloc: Global) -> Option<Board> {
     let mut board = Board::new(alloc);
     take_two(&mut board)?;

@@ -97,15 +97,16 @@ fn ends_at_once(rt: HostRuntime) -> Result<(), Fail> {
     Ok(())
 }
 
-/// Where two seats send a key.
+/// The partitions to which two seats send a key.
 type Routes = (Option<PartId>, Option<PartId>);
 
-/// Where both seats send the key.
+/// The partitions to which both seats send the key.
 fn routes<J: Constants, K: Constants>(near: &mut Seat<J>, far: &mut Seat<K>, key: Key) -> Routes {
     (near.route(key), far.route(key))
 }
 
-/// Where a seat of the cluster, which is let go, and another seat send 2:0, before that and after.
+/// The partitions to which a seat of the cluster, which is let go, and another seat send 2:0,
+/// before that and after.
 fn let_go<J: Constants, K: Constants, R: Wait>(
     one: Pair<J, &R>,
     far: &mut Seat<K>,
@@ -117,7 +118,8 @@ fn let_go<J: Constants, K: Constants, R: Wait>(
     Some((before, routes(&mut near, far, key)))
 }
 
-/// Where a seat of a cluster that is let go, and another seat send 2:0, before that and after.
+/// The partitions to which a seat of a cluster that is let go, and another seat send 2:0, before
+/// that and after.
 fn beside<J: Constants, K: Constants, R: Wait>(
     rt: &R,
     alloc: Global,
@@ -131,8 +133,8 @@ fn beside<J: Constants, K: Constants, R: Wait>(
     let_go(one, &mut far)
 }
 
-/// Where two clusters at once send 2:0, each by its own board, and then once the first was let go. None
-/// if an allocation fails.
+/// The partitions to which two clusters at once send 2:0, each by its own board, and then once the
+/// first was let go. None if an allocation fails.
 fn asked<J: Constants, K: Constants, R: Wait>(
     rt: &R,
     alloc: Global,
@@ -158,7 +160,7 @@ fn two_at_once(rt: HostRuntime) -> Result<(), Fail> {
     Ok(())
 }
 
-/// Adds 64 seats of the cluster. None if there are not so many, or if an allocation fails.
+/// Adds 64 seats of the cluster. None if there are fewer, or if an allocation fails.
 fn push_seats<K: Constants>(cluster: &Cluster<K>, seats: &mut Vec<Seat<K>>) -> Option<()> {
     for _ in 0..64 {
         seats.push(cluster.seat().ok()?).ok()?;

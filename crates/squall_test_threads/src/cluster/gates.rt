@@ -188,7 +188,7 @@ fn setting_routes<R: Threads + Wait + Sync>(
     (routes, gate.late.is_set())
 }
 
-/// A reader sees a turn that has ended, and before that what was published then. The load stands in one
+/// A reader sees a turn that has ended, and before that what was published then. The load is in one
 /// list; a second list is empty.
 #[test]
 fn readers_see_what_was_published(rt: HostRuntime) -> Result<(), Fail> {

@@ -29,7 +29,7 @@ pub(super) enum Told {
     Done,
 }
 
-/// The report that tells it.
+/// The report that says it.
 fn report(told: Told) -> Option<Report> {
     match told {
         Told::Load(lo, hi) => {
@@ -81,8 +81,8 @@ pub(super) const LOAD: Told = Told::Load((2, 0), (3, 0));
 /// The first half of that load.
 const HALF: Told = Told::Load((2, 0), (2, 7));
 
-/// The load in two halves, and its first half again with the completion: they tell what the load and
-/// the completion tell.
+/// The load in two halves, and its first half again with the completion: they say what the load and
+/// the completion say.
 const TWO_LISTS: [&[Told]; 2] = [&[HALF, Told::Load((2, 7), (3, 0))], &[HALF, Told::Done]];
 
 /// The keys 2:0, 6:0 and 9:0.
@@ -111,19 +111,19 @@ pub(super) fn setting_of(alloc: Global, lists: Vec<Vec<Report>>, wanted: Board) 
     })
 }
 
-/// The same for lists and a board of reports that are told. None if an allocation fails.
+/// The same for lists and a board of reports. None if an allocation fails.
 pub(super) fn told_setting(alloc: Global, lists: &[&[Told]], wanted: &[Told]) -> Option<Setting> {
     let lists = lists_of(alloc, lists)?;
     setting_with(alloc, lists, wanted)
 }
 
-/// The same for lists, and a board of reports that are told. None if an allocation fails.
+/// The same for lists, and a board of reports. None if an allocation fails.
 fn setting_with(alloc: Global, lists: Vec<Vec<Report>>, wanted: &[Told]) -> Option<Setting> {
     let wanted = board_of(alloc, wanted)?;
     setting_of(alloc, lists, wanted)
 }
 
-/// The board takes what is told. None if an allocation fails.
+/// The board takes these reports. None if an allocation fails.
 fn take_all(board: &mut Board, told: &[Told]) -> Option<()> {
     for each in told {
         board.take(&report(*each)?).ok()?;
@@ -131,7 +131,7 @@ fn take_all(board: &mut Board, told: &[Told]) -> Option<()> {
     Some(())
 }
 
-/// The board of what is told. None if an allocation fails.
+/// The board of these reports. None if an allocation fails.
 fn board_of(alloc: Global, told: &[Told]) -> Option<Board> {
     let mut board = Board::new(alloc);
     take_all(&mut board, told)?;
@@ -172,8 +172,8 @@ impl Setting {
         raced.board == self.wanted && raced.routes.len() == readers
     }
 
-    /// Whether a race of the two lists ended as it has to: with that many lists of three routes, and
-    /// with the wanted board, which sends the keys on.
+    /// Whether a race of the two lists ended as it has to. It ends with that many lists of three
+    /// routes, and with the wanted board, which sends the keys to new partitions.
     pub(super) fn ended_well(&self, raced: &Raced, keys: &[Key; 3], readers: usize) -> bool {
         self.gave_wanted(raced, readers)
             && self.sends_all_on(&raced.board, keys)

@@ -42,7 +42,7 @@ fn post_and_get_back<K: Constants, R: Wait>(
     }
 }
 
-/// Whether the seat sends 2:0 where it moves to, once it learns.
+/// Whether the seat sends 2:0 to partition 3, to which it moves, once it learns.
 fn sees_new<K: Constants>(seat: &mut Seat<K>, notice: &Notice<K>) -> Option<()> {
     seat.learn(notice);
     let sees = seat.route(moving_key()?) == PartId::new(3);
@@ -74,7 +74,7 @@ fn turn_for_nothing<K: Constants, R: Wait + Drop>(owner: &mut Owner<K, R>) -> Op
     (!turn.took).then_some(())
 }
 
-/// Whether the seat sends 2:0 where it moves from or to.
+/// Whether the seat sends 2:0 to partition 1, from which it moves, or to partition 3.
 fn sees_either<K: Constants>(seat: &mut Seat<K>) -> Option<()> {
     let part = seat.route(moving_key()?)?;
     (part.get() == 1 || part.get() == 3).then_some(())

@@ -1,4 +1,4 @@
-//! Where an allocation fails nothing is lost.
+//! If an allocation fails nothing is lost.
 
 ghost use Rattle.std.specs.Prelude.{◌≡◌, None};
 ghost use Rattle.squall_cluster_desk.specs.Start.{IsStartOf};
@@ -20,8 +20,8 @@ fn sends_to<K: Constants>(seat: &mut Seat<K>, part: u32) -> bool {
     }
 }
 
-/// Whether a turn takes the letter that was posted, at the first or at the second try, and the seat then
-/// sees it, but not after a first try that failed.
+/// Whether a turn takes the letter that was posted, at the first or at the second try. The seat
+/// then sees it, but not after a first try that failed.
 fn turns<K: Constants, R: Wait + Drop>(owner: &mut Owner<K, R>, seat: &mut Seat<K>) -> bool
     ensures inbox { owner.new.inbox ≡ owner.old.inbox }
     ensures senders { (owner.new.made ≡ owner.old.made) × (owner.new.vouched ≡ owner.old.vouched) }
