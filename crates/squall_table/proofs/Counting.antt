@@ -19,7 +19,7 @@ count_no p xs a (suc n) d w is =
     let e : a + n + 1 ≡ a + suc n = omega arith in
     ap (λ i. count_by p (take i xs)) (sym e) ∙ one ∙ before
 
--- where each from one place to another passes, or none
+-- if each from one place to another passes, or none
 pub count_all : {X : Type 0} (p : X → Bool) (xs : List X) (a b : ℕ) (d : X) → a ≤ b → b ≤ length xs → ((j : ℕ) → a ≤ j → j < b → p (get_or xs j d) ≡ true) → count_by p (take b xs) ≡ count_by p (take a xs) + (b - a)
 count_all p xs a b d le w is =
     let e : a + (b - a) ≡ b = omega arith in

@@ -60,7 +60,7 @@ legs_border f a b (x ∷ y ∷ ys) (suc (suc i)) k d t lt le e =
 pub owner_at : (f : ℕ → ℕ) (a b k : ℕ) (xs : List PlanRange) (i : ℕ) (d : PlanRange) → Legs f a b xs → IsAt xs k i → f k ≡ (get_or xs i d).part
 owner_at f a b k xs i d t at = (legs_at f a b xs i d t at.within).routes k (at.from d) (at.below d)
 
--- the legs from the key lo to the bound hi, where they stand at different places
+-- the legs from the key lo to the bound hi, if these are in different legs
 pub grows_kept : (g : ℕ → ℕ) (legs : List PlanRange) (lo hi i j : ℕ) (d : PlanRange) (x y z w : List PlanRange) → Legs g 0 top legs → lo < hi → hi ≤ top → IsAt legs lo i → EndsAt legs hi j → i < j
     → Grows (λ _. (get_or legs i d).part) lo (get_or legs i d).span.hi x y
     → z ≡ y ++ take (j - (i + 1)) (drop (i + 1) legs)
@@ -90,7 +90,7 @@ grows_kept g legs lo hi i j d x y z w t lt high at end less p e q f from is l =
     short : j - (i + 1) < length (drop (i + 1) legs)
     short = omega (arith, less, length-drop (i + 1) legs, end.within)
 
--- the keys from lo to hi where they stand in one leg
+-- the keys from lo to hi if these are in one leg
 pub grows_one : (g : ℕ → ℕ) (legs : List PlanRange) (lo hi i j : ℕ) (d : PlanRange) (x w : List PlanRange) → Legs g 0 top legs → IsAt legs lo i → EndsAt legs hi j → j ≤ i
     → Grows (λ _. (get_or legs i d).part) lo hi x w → Grows g lo hi x w
 grows_one g legs lo hi i j d x w t at end le p =

@@ -84,7 +84,7 @@ first_is xs bound i w p = record {
   after = λ j d le lt. leb-false _ _ (p.1 j d le lt);
 }
 
--- what stands from a place on, at keys from a bound on
+-- what is from a place on, at keys from a bound on
 pub first_routes : (old : List PlanRange) (xs : List Move) (cs : Said) (bound i : ℕ) → FirstMove xs bound i → (k : ℕ) → bound ≤ k → route old xs cs k ≡ route old (drop i xs) cs k
 first_routes old xs cs bound zero p k le = refl
 first_routes old [] cs bound (suc i) p k le = refl

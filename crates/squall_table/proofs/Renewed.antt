@@ -81,7 +81,7 @@ patched_legs c b set ls new ms are was l = legs_as _ (route c (says b)) 0 top ne
 pub others_keep : (r own : ℕ → ℕ) (set : List Interval) (new : List PlanRange) (k : ℕ) → Legs (renewed set r own) 0 top new → k < top → has set k ≡ false → owner_of new k ≡ own k
 others_keep r own set new k l lt out = owner_is (renewed set r own) 0 top k new l (omega arith) lt ∙ ap (λ b. cond b (r k) (own k)) out
 
--- where all has come, a key goes to its new partition
+-- if all has come, a key goes to its new partition
 all_come : (c : Change) (said : Fact → Bool) (k : ℕ) → has_come c said k ≡ true → route c said k ≡ owner_of c.new k
 all_come c said k e = ap (λ t. cond (not (moves c.old c.new k) || t) (owner_of c.new k) (owner_of c.old k)) e ∙ at (moves c.old c.new k)
   where
@@ -106,7 +106,7 @@ absorbed_legs c before after d set ls new ms said are all is touched both change
     either false false true d e = refl
     either false false false d e = e
 
--- where a delta touches no key, the table stays
+-- if a delta touches no key, the table stays
 pub absorbed_none : (c : Change) (before after : BoardValue) (set : List Interval) (ls : List PlanRange) → set ≡ [] → ChangesWithin c before after set → IsTable c before ls → IsTable c after ls
 absorbed_none c before after set ls e changes is = record {
   tiles = is.tiles;

@@ -160,7 +160,7 @@ cells_touch c b ms subs k are m is =
     ∙ ap (λ o. cell_has_come (found_in (owner_of c.new k) (found_in (sub_of c.old c.new k) o)) k) is
     ∙ sym (cell_says_what_came b (place_of_key c k) k))
 
--- where the delta has no cell of the course's number it touches no key
+-- if the delta has no cell of the course's number it touches no key
 pub none_touched : (c : Change) (b : BoardValue) (k : ℕ) → None ≡ find nat_cmp c.number (cells_in b) → false ≡ is_touched c (says b) k
 none_touched c b k is = sym (ap (λ t. moves_at c k && t) (cell_says_what_came b (place_of_key c k) k ∙ ap (λ o. cell_has_come (found_in (owner_of c.new k) (found_in (sub_of c.old c.new k) o)) k) (sym is)) ∙ and_none (moves_at c k))
   where

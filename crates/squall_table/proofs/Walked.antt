@@ -96,7 +96,7 @@ near_behind set lo m (x ∷ es) e = elim (cases_lt m x.0) [
       rw (beyond_next m x es past) (omega (arith, rest, more))
 ]
 
--- so many are counted up to a bound, and these entries come behind it
+-- that many are counted up to a bound, and these entries come behind it
 pub record Counted (set : List Interval) (es rest : List (ℕ × ℕ)) (reach count : ℕ) : Type 0 where
   pub small : count ≤ reach
   pub rest_is : rest ≡ beyond reach es

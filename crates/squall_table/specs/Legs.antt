@@ -23,8 +23,8 @@ abbrev pub Legs : (ℕ → ℕ) → ℕ → ℕ → List PlanRange → Type 0
 Legs f from to [] = from ≡ to
 Legs f from to (l ∷ ls) = (l.span.lo ≡ from) × (l.span.lo < l.span.hi) × ((k : ℕ) → l.span.lo ≤ k → k < l.span.hi → f k ≡ l.part) × Differs l.part ls × Legs f l.span.hi to ls
 
--- a list that is the legs of a route up to lo, with what is added at its end is the legs of that route up to hi, where that route
--- is g from lo to hi
+-- the new list goes on from lo to hi with the legs of g. Take any route that is g from lo to hi: if the old list is its legs up
+-- to lo, the new one is its legs up to hi
 abbrev pub Grows : (ℕ → ℕ) → ℕ → ℕ → List PlanRange → List PlanRange → Type 0
 Grows g lo hi old new = (f : ℕ → ℕ) (from : ℕ) → ((k : ℕ) → lo ≤ k → k < hi → f k ≡ g k) → Legs f from lo old → Legs f from hi new
 
@@ -36,7 +36,7 @@ pub record IsAt (ls : List PlanRange) (k i : ℕ) : Type 0 where
   pub from : (d : PlanRange) → (slice_index_or ls i d).span.lo ≤ k
   pub below : (d : PlanRange) → k < (slice_index_or ls i d).span.hi
 
--- one of so many legs from a place on has the key
+-- one of `size` legs from the index `base` on has the key
 pub record IsAmong (ls : List PlanRange) (k base size : ℕ) : Type 0 where
   pub some : 0 < size
   pub within : base + size ≤ length ls
@@ -62,13 +62,13 @@ abbrev pub MovesRise : ℕ → List Move → Type 0
 MovesRise from [] = from ≤ top
 MovesRise from (m ∷ ms) = (from ≤ m.span.lo) × (m.span.lo < m.span.hi) × MovesRise m.span.hi ms
 
--- the first place of a move that ends beyond the bound
+-- the index of the first move that ends beyond the bound
 pub record FirstMove (ms : List Move) (bound i : ℕ) : Type 0 where
   pub within : i ≤ length ms
   pub before : (j : ℕ) (d : Move) → j < i → (slice_index_or ms j d).span.hi ≤ bound
   pub after : (j : ℕ) (d : Move) → i ≤ j → j < length ms → bound < (slice_index_or ms j d).span.hi
 
--- from the first place on, the place of the first move that begins at the bound or later
+-- the index of the first move, from the index `first` on, that begins at the bound or later
 pub record EndMove (ms : List Move) (bound first i : ℕ) : Type 0 where
   pub from : first ≤ i
   pub within : i ≤ length ms

@@ -11,7 +11,8 @@ use Rattle.squall_board.specs.MovesRoute.{route_by_moves}
 use Rattle.squall_blocks.specs.Entries.{last_from, up_to}
 use Rattle.squall_table.specs.Legs.{Legs}
 
--- what goes when the keys from a to b are renewed begins and ends at a bound at which an entry ends, or at the least; the keys beside them lie between, too
+-- the bounds of what goes when the keys from a to b are renewed. Each is a bound at which an entry ends, or the least one. The
+-- keys right beside those from a to b lie between them, too
 pub record IsReach (es : List (ℕ × ℕ)) (a b lo hi : ℕ) : Type 0 where
   pub begins : last_from 0 (up_to lo es) ≡ lo
   pub ends : last_from 0 (up_to hi es) ≡ hi
@@ -30,6 +31,7 @@ StartsFrom bound (s ∷ ss) = bound ≤ s.lo
 abbrev pub renewed : List Interval → (ℕ → ℕ) → (ℕ → ℕ) → ℕ → ℕ
 renewed set inside outside k = if has set k then inside k else outside k
 
--- the legs of all keys once those of a set are renewed: their routes are by the moves of the course and what is said of them, the routes of the others as among the old legs
+-- the legs of all keys once those of a set are renewed. Keys of the set have their routes by the moves of the course and what is
+-- said of them. The others have their routes as among the old legs
 abbrev pub IsRenewed : Change → (Fact → Bool) → List Interval → List PlanRange → List PlanRange → Type 0
 IsRenewed c heard set old new = Legs (renewed set (route_by_moves c.number c.old (moves_of c.old c.new) heard) (owner_of old)) 0 top new

@@ -58,7 +58,7 @@ key_by_key f lo hi ls le = (
 
 -- ---- routes
 
--- where each moving key has come, a key's route is its new owner
+-- if each moving key has come, a key's route is its new owner
 come : (c : Change) (b : BoardValue) (k : ℕ) → (moves c.old c.new k ≡ true → has_come c (says b) k ≡ true) → route c (says b) k ≡ owner_of c.new k
 come c b k in_ = by (moves c.old c.new k) refl
   where

@@ -14,7 +14,7 @@ use squall_blocks::{BlocksRef, Entries};
 use squall_key::{Bound, PartId};
 use std::alloc::{AllocError, Global};
 
-/// The entries of legs. It fails only if an allocation fails.
+/// The entries of legs. An error means that an allocation failed.
 pub(crate) fn entries_of(alloc: Global, legs: &[Leg]) -> Result<Entries<PartId>, AllocError>
     ensures { IfOk result (λ es. es ≡ entries_of legs.now) }
 {
@@ -25,7 +25,7 @@ pub(crate) fn entries_of(alloc: Global, legs: &[Leg]) -> Result<Entries<PartId>,
     Ok(entries)
 }
 
-/// Adds what a table has from `lo` to `hi` at the end. After an error the list may have changed.
+/// Adds the legs of a table from `lo` to `hi` at the end. After an error the list may have changed.
 pub(crate) fn copy_entries(
     out: &mut Vec<Leg>,
     table: &BlocksRef<'_, PartId>,
@@ -52,15 +52,15 @@ pub(crate) fn copy_entries(
     Ok(())
 }
 
-/// The bound before a bound, the least before itself.
+/// The bound before `bound`. For the least bound it is that bound itself.
 pub(crate) fn bound_before(bound: Bound) -> Bound
     ensures { result ≡ bound - 1 }
 {
     Bound::of_rank(bound.rank().saturating_sub(1)).unwrap_or(bound)
 }
 
-/// The bounds of what goes when the keys from `low` to `high` are renewed: where the leg begins that
-/// has the key before `low`, and where the leg ends that has the key `high`.
+/// The bounds of the legs that are replaced when the keys from `low` to `high` are renewed. They
+/// are the start of the leg with the key before `low`, and the end of the leg with the key `high`.
 pub(crate) fn reach_of(table: &BlocksRef<'_, PartId>, low: Bound, high: Bound) -> (Bound, Bound)
     requires canonical { IsCanonical (legs_from 0 table.now) }
     requires order { low < high }

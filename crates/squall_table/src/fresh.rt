@@ -1,4 +1,4 @@
-//! Legs to be put in the place of others.
+//! Legs that replace others.
 
 ghost use Rattle.std.specs.Prelude.{◌≡◌, ◌<◌, ◌≤◌, ◌^◌, [], length, IfOk};
 ghost use Rattle.squall_key.specs.Keys.{top};
@@ -22,9 +22,9 @@ use squall_key::{Bound, PartId};
 use squall_span::Span;
 use std::alloc::{AllocError, Global};
 
-/// Legs for the keys from `lo` to `hi`: those of the set by their routes, the others as in the table;
-/// and how many moves share a key with the set. A move counts once, though it may share keys with
-/// more than one span.
+/// Legs for the keys from `lo` to `hi`: by their routes for keys of the set, and as in the table
+/// for the others. With them comes the number of moves that share a key with the set. A move counts
+/// once, even if it shares keys with several spans.
 fn fresh_legs(
     alloc: Global,
     routes: Routes,
@@ -73,8 +73,8 @@ pub(crate) fn know_moves(course: &Course)
     let _new = course.new_plan().ranges();
 }
 
-/// What renews the keys of a set in a table: the legs between two bounds go, and fresh ones come in
-/// their place.
+/// The replacement that renews the keys of a set in a table: fresh legs for those between two
+/// bounds.
 #[derive(Drop)]
 pub(crate) struct Renewal {
     pub(crate) lo: Bound,
@@ -84,8 +84,8 @@ pub(crate) struct Renewal {
     pub(crate) moves: usize,
 }
 
-/// What renews the keys of the set, which has one. The legs that go begin at the first that shares
-/// a key with the set or borders on it, and end at the last, so no others need be joined.
+/// The replacement for the legs from the first to the last that share a key with the set or border
+/// on it. The set is not empty. No other legs need be joined with the fresh ones.
 pub(crate) fn renew(
     alloc: Global,
     table: &BlocksRef<'_, PartId>,

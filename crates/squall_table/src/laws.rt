@@ -24,14 +24,14 @@ pub fn legs_are_key_by_key()
     ensures { (f : ℕ → ℕ) (lo hi : ℕ) (ls : List PlanRange) → lo ≤ hi → AreLegs f lo hi ls ↔ (ls ≡ legs_between f lo hi) }
 {}
 
-/// Where each moving key has come, the table is the list of the new plan's ranges.
+/// If each moving key has come, the table is the list of the new plan's ranges.
 pub fn all_in_is_the_new_plan()
     ensures { (c : Change) (b : BoardValue) (ls : List PlanRange) → IsCanonical c.new
         → ((k : ℕ) → k < top → moves c.old c.new k ≡ true → has_come c (says b) k ≡ true) → IsTable c b ls → ls ≡ c.new }
 {}
 
 /// The table of an older board, whose routes differ at most in a set, has the route of each key
-/// outside the set; and a key that does not move has its one owner.
+/// outside the set. A key that does not move has its one owner.
 pub fn older_tables_stay_outside()
     ensures outside { (c : Change) (b : BoardValue) (set : List Interval) (ls : List PlanRange) (k : ℕ) → WasTable c b set ls → k < top
         → has set k ≡ false → owner_of ls k ≡ route c (says b) k }
@@ -39,7 +39,7 @@ pub fn older_tables_stay_outside()
         → moves c.old c.new k ≡ false → owner_of ls k ≡ owner_of c.new k }
 {}
 
-/// A key is touched where some cell of the course's number touches it.
+/// A key is touched exactly if some cell of the course's number touches it.
 pub fn touched_by_cells()
     ensures { (c : Change) (says : Fact → Bool) (k : ℕ) → (is_touched c says k ≡ true) ↔ ((sub : ℕ) × (part : ℕ) × (cell_touches c says sub part k ≡ true)) }
 {}

@@ -10,7 +10,7 @@ use squall_key::{Bound, PartId};
 use squall_span::Span;
 use std::alloc::AllocError;
 
-/// Adds the keys from `lo` on, below `hi`, at the end: they join the last leg where it has the same
+/// Adds the keys from `lo` on, below `hi`, at the end. They join the last leg if it has the same
 /// partition. After an error the list may have changed.
 pub(crate) fn push_leg(
     out: &mut Vec<Leg>,
@@ -38,7 +38,7 @@ pub(crate) fn push_leg(
     Ok(())
 }
 
-/// Adds what a plan has from `lo` to `hi` at the end. After an error the list may have changed.
+/// Adds the legs of a plan from `lo` to `hi` at the end. After an error the list may have changed.
 pub(crate) fn copy_legs(
     out: &mut Vec<Leg>,
     legs: &[Leg],

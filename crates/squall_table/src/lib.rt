@@ -1,13 +1,35 @@
 //! Route tables: the legs of all keys, each with the partition to ask, built from a course and a
 //! board and patched for what a delta changed.
 //!
-//! A table has, by rising key, one leg for each longest run of keys that are asked for at one
-//! partition. So a course and a board have one table, however it came to be.
+//! A table has one leg for each longest run of keys that are asked for at one partition, by rising
+//! key. So a course and a board have one table, however it came to be.
 //!
-//! Legs are kept in blocks, each leg as the bound at which it ends and its partition. So a patch
-//! moves what stands in the blocks that it changes, however many legs there are.
+//! Legs are kept in blocks, each as the bound at which it ends, with its partition. So a patch
+//! moves only entries of the blocks that it changes, however many legs there are.
 //!
 //! Its tests are in `crates/squall_test_tables/src/table.rt`.
+//!
+//! # Example
+//!
+//! `course` moves the keys from 2:0 to 3:0 from partition 1 to 3, and `load` reports that they are
+//! loaded.
+//!
+//! ```rust
+//! fn takes_a_load(
+//!     rt: &impl Abort,
+//!     alloc: Global,
+//!     course: &Course,
+//!     load: &Report,
+//! ) -> Result<(), Fail> {
+//!     let key = Key::read("2:0").ok_or("a key")?;
+//!     let mut board = Board::new(alloc);
+//!     let mut table = RouteTable::build(alloc, course, &board)?;
+//!     assert!(rt; table.owner(key).get() == 1);
+//!     table.take(course, &mut board, load)?;
+//!     assert!(rt; table.owner(key).get() == 3);
+//!     Ok(())
+//! }
+//! ```
 #![tactic(auto)]
 
 mod entries;

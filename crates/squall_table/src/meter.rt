@@ -4,8 +4,8 @@ ghost use Rattle.std.specs.Prelude.{◌≡◌};
 
 use std::marker::Model;
 
-/// Counts what patches of a table take up: moves of the course and entries of the table before the
-/// patch, each at most once a patch. Contracts see a meter as that count.
+/// Counts what patches of a table take up: moves of the course, and entries of the table before the
+/// patch. Each counts at most once a patch. Contracts see a meter as that count.
 #[derive(Debug, Drop)]
 pub struct Meter {
     pub(crate) count: u64,

@@ -12,8 +12,8 @@ use squall_blocks::BlocksRef;
 use squall_key::{Bound, PartId};
 use squall_span::SpanSet;
 
-/// Whether the keys from `lo` to `hi` share one with the set, or border on a span of it: what is
-/// answered so is so.
+/// Whether the keys from `lo` to `hi` share one with the set, or border on a span of it. Only the
+/// answer `true` is certain.
 fn is_near(set: &SpanSet, lo: Bound, hi: Bound) -> bool
     requires order { lo ≤ hi }
     ensures { IsTrue result → is_near set.now (interval lo hi) ≡ true }
@@ -27,8 +27,8 @@ fn is_near(set: &SpanSet, lo: Bound, hi: Bound) -> bool
     span.lo().rank() <= hi.rank() && lo.rank() <= span.hi().rank()
 }
 
-/// How many legs from `from` to `to` are taken up for the set: each of them shares a key with it,
-/// or borders on a span of it, and is counted once.
+/// How many legs from `from` to `to` are taken up for the set. Each of them shares a key with the
+/// set, or borders on a span of it, and is counted once.
 pub(crate) fn near_count(
     table: &BlocksRef<'_, PartId>,
     set: &SpanSet,

@@ -13,12 +13,12 @@ use std::alloc::AllocError;
 pub(crate) enum News<'a> {
     /// What a delta tells.
     Delta(&'a Delta),
-    /// What one report tells, of which no board is made.
+    /// What one report tells. No board of it is made.
     Report(&'a Report),
 }
 
-/// The board takes the news. It fails where an allocation fails, or where the count of an issue's
-/// owners is full, and then the board is unchanged.
+/// The board takes the news. An error means that an allocation failed, or that the count of an
+/// issue's owners is full: the board is then unchanged.
 pub(crate) fn take_news(board: &mut Board, news: News) -> Result<(), AllocError>
     ensures takes { OnOk result (TakesBoard board.old (news_board news.entry) board.new) }
     ensures err { OnErr result (board.new ≡ board.old) }

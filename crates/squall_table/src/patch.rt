@@ -29,14 +29,16 @@ use std::alloc::AllocError;
 use std::mem::replace;
 
 impl RouteTable {
-    /// Makes the table that of the board, where it is that of an older board whose routes differ at
-    /// most in the set: searches for the legs about the set, and puts others in their place. The
-    /// meter counts the moves that share a key with the set, and of the old entries some that share
-    /// one or border on a span of it. It fails only where an allocation fails, and then table and
-    /// meter are as they were.
+    /// Makes the table that of the board. Before, it has to be that of an older board, whose routes
+    /// differ from those of the board at most in the set. The call searches for the legs about the
+    /// set, and replaces them.
     ///
-    /// [`RouteTable::build`] and this call say whose table it is, [`touched`](crate::touched) that
-    /// routes change at most in its set.
+    /// The meter counts the moves that share a key with the set. It also counts some of the old
+    /// entries that share one, or border on a span of the set. An error means that an allocation
+    /// failed: table and meter are then unchanged.
+    ///
+    /// [`RouteTable::build`] and this call say whose table it is. [`touched`](crate::touched) says
+    /// that routes change at most in its set.
     pub fn patch(
         &mut self,
         course: &Course,
@@ -68,8 +70,8 @@ impl RouteTable {
         Ok(())
     }
 
-    /// The board whose table this is takes the news, and the table is patched for the spans, whose keys
-    /// are those that the news touch: both, or neither if an allocation fails.
+    /// The board whose table this is takes the news, and the table is patched for the spans. Their
+    /// keys are those that the news touch. Both change, or neither if an allocation fails.
     fn absorb_touched(
         &mut self,
         course: &Course,
@@ -103,9 +105,9 @@ impl RouteTable {
         }
     }
 
-    /// Merges the delta into the board whose table this is, and patches the table for what the delta
-    /// touches: both, or neither if an allocation fails. The table is patched first. If the board
-    /// then fails, the patch is undone, which needs no memory. Neither is ever copied.
+    /// Merges the delta into the board whose table this is, and patches the table for what the
+    /// delta touches. Both change, or neither if an allocation fails. The table is patched first.
+    /// If the merge then fails, the patch is undone, which needs no memory. Neither is ever copied.
     pub fn absorb(
         &mut self,
         course: &Course,
@@ -125,12 +127,14 @@ impl RouteTable {
         self.absorb_touched(course, board, News::Delta(delta), set.spans())
     }
 
-    /// Takes the report into the board whose table this is, and patches the table for what the report
-    /// touches: of a load the keys that its place awaits, of a completion all that its place awaits,
-    /// and of other reports none. Board and table change together, or neither does: if an allocation
-    /// fails, or the count of an issue's owners is full, both are unchanged.
+    /// Takes the report into the board whose table this is, and patches the table for what the
+    /// report touches. Under the course's number a load touches those of its keys that come in to
+    /// its cell, and a completion all keys that come in there. Other reports touch none. An error
+    /// means that an allocation failed, or that the count of an issue's owners is full: board and
+    /// table are then unchanged.
     ///
-    /// It does what [`RouteTable::absorb`] does of the report's board, which is not made.
+    /// It does what [`RouteTable::absorb`] does with the board of the report, and makes no such
+    /// board.
     pub fn take(
         &mut self,
         course: &Course,

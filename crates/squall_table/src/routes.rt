@@ -29,9 +29,10 @@ pub(crate) enum Heard<'a> {
     All,
 }
 
-/// Makes room for the legs of the keys from `lo` to `hi`, where many spans share one with them: two
-/// for each, so that a list that becomes long is not copied again and again, and an eighth more, so
-/// that it isn't at the next patch. Few spans, or keys without the middle one, are not counted.
+/// Makes room for the legs of the keys from `lo` to `hi`, if many spans share a key with them. It
+/// reserves two legs a span, so a list that becomes long is not copied again and again. An eighth
+/// more spares a copy at the next patch. It does nothing if the spans are few, or if the middle one
+/// does not begin among these keys.
 fn make_room(out: &mut Vec<Leg>, set: &SpanSet, lo: Bound, hi: Bound) -> Result<(), AllocError>
     ensures { out.new.items ≡ out.old.items }
 {
@@ -47,8 +48,8 @@ fn make_room(out: &mut Vec<Leg>, set: &SpanSet, lo: Bound, hi: Bound) -> Result<
     out.reserve(2 * count + count / 4)
 }
 
-/// Adds the keys from `lo` to `hi`: those of the spans to `dest`, the others to `source`. The first
-/// span is the first that ends beyond `lo`.
+/// Adds the keys from `lo` to `hi`: those of the spans to `dest`, the others to `source`. `first`
+/// is the index of the first span that ends beyond `lo`.
 fn push_picked(
     out: &mut Vec<Leg>,
     spans: &[Span],
@@ -117,7 +118,7 @@ fn push_move(
     push_picked(out, set.spans(), first, moved.dest, moved.source, lo, hi)
 }
 
-/// Where the first move stands that ends beyond a bound, by a binary search.
+/// Index of the first move that ends beyond `bound`, by a binary search.
 pub(crate) fn first_move(moves: &[Move], bound: Bound) -> usize
     requires { MovesRise 0 moves.now }
     ensures { FirstMove moves.now bound result }
@@ -125,8 +126,8 @@ pub(crate) fn first_move(moves: &[Move], bound: Bound) -> usize
     moves.partition_point(|moved| moved.span.hi() <= bound)
 }
 
-/// What tells the route of each key: the moves of the course of that number and what is heard of
-/// their keys; for keys of no move the legs.
+/// What decides the route of each key. For a key of a move it is the course's number, the move, and
+/// what is heard of its keys. For a key of no move it is the legs.
 #[derive(Clone, Copy)]
 pub(crate) struct Routes<'a> {
     pub(crate) legs: &'a [Leg],
@@ -135,9 +136,9 @@ pub(crate) struct Routes<'a> {
     pub(crate) heard: Heard<'a>,
 }
 
-/// Adds the keys from `lo` to `hi` by their routes. The first move is the first that ends beyond
-/// `lo`. The result is the index after the last move that begins below `hi`. After an error the list
-/// may have changed.
+/// Adds the keys from `lo` to `hi` by their routes. `first` is the index of the first move that
+/// ends beyond `lo`. The result is the index after the last move that begins below `hi`. After an
+/// error the list may have changed.
 pub(crate) fn push_routes(
     out: &mut Vec<Leg>,
     routes: Routes,

@@ -20,8 +20,9 @@ use squall_key::PartId;
 use squall_span::Span;
 use std::alloc::{AllocError, Global};
 
-/// Where the run ends that begins at a place: its spans end in the block in which the first begins. So
-/// what lies between two of them is little, and all of it is made anew at once.
+/// Index after the last span of the run that begins at the index `at`. The spans of a run end in
+/// the block in which the first of them begins. So few legs lie between them, and all of these are
+/// made anew at once.
 fn run_end(table: &BlocksRef<'_, PartId>, spans: &[Span], at: usize) -> usize
     requires { at < length spans.now }
     ensures some { at < result }
@@ -35,8 +36,8 @@ fn run_end(table: &BlocksRef<'_, PartId>, spans: &[Span], at: usize) -> usize
     end
 }
 
-/// Renews the legs for the keys of the spans, each of which has come, run by run. It fails only if an
-/// allocation fails: some runs are then renewed.
+/// Renews the legs for the keys of the spans, run by run. Each of these keys has come. An error
+/// means that an allocation failed: some runs are then renewed.
 fn renew_runs(
     alloc: Global,
     draft: &mut Draft<PartId>,
@@ -59,8 +60,8 @@ fn renew_runs(
     Ok(())
 }
 
-/// Renews the legs for the keys of the spans, each of which has come once the board has taken the news,
-/// which it does then. An error leaves the board as it was.
+/// Renews the legs for the keys of the spans, as if each of them had come. Then the board takes the
+/// news, by which they have come. An error leaves the board unchanged.
 pub(crate) fn renew_and_take(
     draft: &mut Draft<PartId>,
     course: &Course,

@@ -8,7 +8,7 @@ ghost use Rattle.squall_table.specs.Legs.{IsAt, IsAmong, EndsAt};
 use crate::table::Leg;
 use squall_key::Bound;
 
-/// A step where the bound is beyond the key, else nothing, without a branch on the key.
+/// The step if the bound is beyond the key, and else 0, without a branch on the key.
 #[inline(always)]
 fn back(step: usize, bound: Bound, key: Bound) -> usize
     ensures beyond { key < bound → result ≡ step }
@@ -17,7 +17,7 @@ fn back(step: usize, bound: Bound, key: Bound) -> usize
     bound.step_beyond(key, step)
 }
 
-/// One of two parts.
+/// Narrows the search to one of two parts.
 #[inline(always)]
 fn half(legs: &[Leg], base: usize, size: usize, step: usize, key: Bound) -> usize
     requires canonical { IsCanonical legs.now }
@@ -30,7 +30,7 @@ fn half(legs: &[Leg], base: usize, size: usize, step: usize, key: Bound) -> usiz
     first - back(step, legs[first].span.lo(), key)
 }
 
-/// One of three parts.
+/// Narrows the search to one of three parts.
 #[inline(always)]
 fn third(legs: &[Leg], base: usize, size: usize, step: usize, key: Bound) -> usize
     requires canonical { IsCanonical legs.now }
@@ -44,7 +44,7 @@ fn third(legs: &[Leg], base: usize, size: usize, step: usize, key: Bound) -> usi
     second - back(step, legs[first].span.lo(), key) - back(step, legs[second].span.lo(), key)
 }
 
-/// One of four parts: three bounds are read side by side.
+/// Narrows the search to one of four parts. Three bounds are read side by side.
 #[inline(always)]
 fn quarter(legs: &[Leg], base: usize, size: usize, step: usize, key: Bound) -> usize
     requires canonical { IsCanonical legs.now }
@@ -62,7 +62,7 @@ fn quarter(legs: &[Leg], base: usize, size: usize, step: usize, key: Bound) -> u
         - back(step, legs[third].span.lo(), key)
 }
 
-/// Where the leg of a key stands, one of so many from a place on.
+/// Index of the leg of a key, which is among the `count` legs from the index `first` on.
 #[inline(always)]
 pub(crate) fn place_among(legs: &[Leg], first: usize, count: usize, key: Bound) -> usize
     requires canonical { IsCanonical legs.now }
@@ -84,7 +84,7 @@ pub(crate) fn place_among(legs: &[Leg], first: usize, count: usize, key: Bound) 
     }
 }
 
-/// Where the leg of a key stands.
+/// Index of the leg of a key.
 pub(crate) fn place_of(legs: &[Leg], key: Bound) -> usize
     requires canonical { IsCanonical legs.now }
     requires below { key < top }
@@ -93,7 +93,7 @@ pub(crate) fn place_of(legs: &[Leg], key: Bound) -> usize
     place_among(legs, 0, legs.len(), key)
 }
 
-/// Where the leg of the key before a bound stands.
+/// Index of the leg of the key before `bound`.
 pub(crate) fn end_of(legs: &[Leg], bound: Bound) -> usize
     requires canonical { IsCanonical legs.now }
     requires above { 0 < bound }

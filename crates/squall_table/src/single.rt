@@ -1,5 +1,5 @@
-//! Loads, alone in a delta or as a report, all of whose keys one move brings: what they touch needs no
-//! set.
+//! Fast path: one load, alone in a delta or as a report, all of whose keys one move brings. What it
+//! touches needs no set.
 
 ghost use Rattle.std.specs.Prelude.{◌≡◌, ℕ, ◌&&◌, true, false, List, [], ◌∷◌, IsTrue, IfSome};
 ghost use Rattle.squall_span.specs.Spans.{has, span_has, IsSet};
@@ -59,8 +59,9 @@ fn is_brought(moves: &[Move], sub: u32, part: u32, span: Span) -> bool
     within && one.sub == sub && one.dest.get() == part
 }
 
-/// The keys that the delta touches, where of the course's number it tells one load alone, all of whose
-/// keys one move brings there. None says nothing.
+/// The keys that the delta touches, as one span. It is found if the delta tells one load alone
+/// under the course's number, and one move brings all keys of that load to its cell. `None` means:
+/// use `touched`.
 pub(crate) fn touched_span(course: &Course, delta: &Delta) -> Option<Span>
     ensures set { IfSome result (λ s. IsSet (s ∷ [])) }
     ensures keys { IfSome result (λ s. (k : ℕ) → has (s ∷ []) k ≡ is_touched course.now (says delta.now) k) }
@@ -74,8 +75,9 @@ pub(crate) fn touched_span(course: &Course, delta: &Delta) -> Option<Span>
     }
 }
 
-/// The keys that the report touches, where it is a load under the course's number, all of whose keys
-/// one move brings there. None says nothing.
+/// The keys that the report touches, as one span. It is found if the report is a load under the
+/// course's number, and one move brings all of its keys to its cell. `None` means: use
+/// `touched_by_report`.
 pub(crate) fn reported_span(course: &Course, report: &Report) -> Option<Span>
     ensures set { IfSome result (λ s. IsSet (s ∷ [])) }
     ensures keys { IfSome result (λ s. (k : ℕ) → has (s ∷ []) k ≡ is_touched course.now (report_says report.now) k) }

@@ -17,11 +17,11 @@ use squall_span::Span;
 use std::alloc::{AllocError, Global};
 use std::marker::Model;
 
-/// The keys of a span, and the partition to ask for them: what a range of a plan is, and the same
-/// type.
+/// The keys of a span, and the partition to ask for them. It is the same type as a range of a plan.
 pub type Leg = PlanRange;
 
-/// Where to ask for each key: legs by rising key, without hole, neighbours of different partitions.
+/// Which partition to ask for each key: legs by rising key, without a hole. Neighbours have
+/// different partitions.
 ///
 /// Contracts see a table as the list of its legs.
 #[derive(Drop)]
@@ -50,7 +50,7 @@ pub(crate) fn bottom() -> Bound
 }
 
 impl RouteTable {
-    /// The table of the course and the board. It fails only where an allocation fails.
+    /// The table of the course and the board. An error means that an allocation failed.
     pub fn build(alloc: Global, course: &Course, board: &Board) -> Result<RouteTable, AllocError>
         ensures table { IfOk result (IsTable course.now board.now) }
     {
@@ -89,7 +89,7 @@ impl RouteTable {
         Legs::over(bottom(), self.legs.iter())
     }
 
-    /// The legs by rising key, from that of a key on, by a binary search.
+    /// The legs by rising key, from the leg of a key on. A binary search finds that leg.
     pub fn entries_from(&self, key: Key) -> Legs<'_>
         ensures legs { result ≡ legs_beyond key self.now }
         ensures canonical { IsCanonical self.now }
@@ -99,7 +99,7 @@ impl RouteTable {
         Legs::over(from, self.legs.iter_from(key))
     }
 
-    /// A table with the same legs. It fails only where an allocation fails.
+    /// A table with the same legs. An error means that an allocation failed.
     pub fn copied(&self, alloc: Global) -> Result<RouteTable, AllocError>
         ensures { IfOk result (λ t. t ≡ self.now) }
     {
@@ -107,7 +107,7 @@ impl RouteTable {
         Ok(RouteTable { legs })
     }
 
-    /// The legs cut to a span. It fails only where an allocation fails.
+    /// The legs cut to a span. An error means that an allocation failed.
     pub fn legs(&self, alloc: Global, span: &Span) -> Result<Vec<Leg>, AllocError>
         ensures { IfOk result (λ legs. AreLegs (owner_of self.now) span.now.lo span.now.hi legs.items) }
     {

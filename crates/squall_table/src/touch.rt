@@ -1,4 +1,7 @@
 //! The keys that a delta or a report touches.
+//!
+//! A function has one loop at most. So a walk over the cells of a delta takes a function for each
+//! level.
 
 ghost use Rattle.std.specs.Prelude.{◌≡◌, ℕ, ◌||◌, ◌&&◌, max, min, IfOk, OnOk};
 ghost use Rattle.squall_span.specs.Spans.{has, span_has, span_at};
@@ -19,7 +22,7 @@ use squall_report::{CellId, Report, ReportKind};
 use squall_span::{Span, SpanSet};
 use std::alloc::{AllocError, Global};
 
-/// The keys of both spans. None where they share none.
+/// The keys that are in both spans. `None` if they share none.
 fn shared(span: Span, other: Span) -> Option<Span>
     ensures { result ≡ span_at (max span.lo other.lo) (min span.hi other.hi) }
 {
@@ -45,8 +48,8 @@ fn add_shared(
     }
 }
 
-/// Adds the keys of the span that moves bring to the partition in the sub-plan: of the first moves,
-/// those that begin before the span's end.
+/// Adds the keys of the span that moves bring to the partition in the sub-plan. It looks only at
+/// the first moves, those that begin before the span's end.
 fn add_first(
     out: &mut SpanSet,
     moves: &[Move],
@@ -66,8 +69,8 @@ fn add_first(
     Ok(())
 }
 
-/// Adds the keys of the span that moves bring to the partition in the sub-plan. The first of them
-/// is searched for.
+/// Adds the keys of the span that moves bring to the partition in the sub-plan. A binary search
+/// finds the first move that ends beyond the span's start.
 fn add_span(
     out: &mut SpanSet,
     moves: &[Move],
@@ -82,7 +85,7 @@ fn add_span(
     add_first(out, &moves[first..], sub, part, span)
 }
 
-/// Adds the keys that go to the partition in the sub-plan, of all moves.
+/// Adds the keys of all moves to the partition in the sub-plan.
 fn add_moves(out: &mut SpanSet, moves: &[Move], sub: u32, part: u32) -> Result<(), AllocError>
     ensures { OnOk result ((k : ℕ) → has out.new k ≡ (has out.old k || brought sub part moves.now k)) }
 {
@@ -94,7 +97,7 @@ fn add_moves(out: &mut SpanSet, moves: &[Move], sub: u32, part: u32) -> Result<(
     Ok(())
 }
 
-/// Adds the keys of the spans that go to the partition in the sub-plan.
+/// Adds those keys of the spans that moves bring to the partition in the sub-plan.
 fn add_spans(
     out: &mut SpanSet,
     moves: &[Move],
@@ -111,8 +114,8 @@ fn add_spans(
     Ok(())
 }
 
-/// Adds the keys that the cell touches: those that go to it, all of them where it is complete, and
-/// else those that were loaded.
+/// Adds the keys that the cell touches. If it is complete, these are all keys that come in to it.
+/// If not, they are those that come in and were loaded.
 fn add_cell(
     out: &mut SpanSet,
     moves: &[Move],
@@ -160,10 +163,10 @@ fn add_subs(
     Ok(())
 }
 
-/// The keys that the delta touches: of each cell of the course's number its spans that are incoming
-/// there, and all that is incoming there where the cell is complete. So it has each key whose route
-/// changes where the delta is merged into a board, whatever the board told before. It fails only
-/// where an allocation fails.
+/// The keys that the delta touches. Only cells of the course's number touch keys. A complete cell
+/// touches all keys that come in to it, and any other cell those of them that were loaded. So each
+/// key whose route changes when the delta is merged into a board is among them, whatever the board
+/// told before. An error means that an allocation failed.
 pub fn touched(alloc: Global, course: &Course, delta: &Delta) -> Result<SpanSet, AllocError>
     ensures keys { IfOk result (λ set. (k : ℕ) → has set k ≡ is_touched course.now (says delta.now) k) }
     ensures changed { IfOk result (λ set. (before after : BoardValue) → TellsBoth (told after) (told before) (told delta.now)
@@ -178,8 +181,8 @@ pub fn touched(alloc: Global, course: &Course, delta: &Delta) -> Result<SpanSet,
     Ok(set)
 }
 
-/// The keys that a load of the span at the place touches: those that moves bring there, where its
-/// number is the course's.
+/// The keys that a load of the span at the cell touches: those that moves bring there, if the
+/// cell's number is the course's, and else none.
 fn touched_by_load(
     alloc: Global,
     course: &Course,
@@ -202,8 +205,8 @@ fn touched_by_load(
     Ok(set)
 }
 
-/// The keys that a completion at the place touches: all that moves bring there, where its number is
-/// the course's.
+/// The keys that a completion of the cell touches: all that moves bring there, if the cell's number
+/// is the course's, and else none.
 fn touched_by_completion(
     alloc: Global,
     course: &Course,
@@ -217,8 +220,9 @@ fn touched_by_completion(
     course.incoming(alloc, cell.sub(), cell.part())
 }
 
-/// The keys that the report touches: of a load under the course's number those that its place awaits,
-/// of a completion all that its place awaits. It fails only where an allocation fails.
+/// The keys that the report touches. Under the course's number a load touches those of its keys
+/// that come in to its cell, and a completion all keys that come in to its cell. Other reports
+/// touch none. An error means that an allocation failed.
 pub(crate) fn touched_by_report(
     alloc: Global,
     course: &Course,

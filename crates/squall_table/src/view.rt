@@ -11,7 +11,7 @@ use squall_key::{Bound, PartId};
 use squall_span::Span;
 use std::marker::Model;
 
-/// Legs of a table, by rising key, that were not yet given.
+/// The legs of a table that are still to come, by rising key.
 ///
 /// Contracts see the list of these legs.
 #[derive(Drop)]
@@ -34,7 +34,7 @@ impl<'a> Model for Legs<'a> {
 }
 
 impl<'a> Legs<'a> {
-    /// The legs of the entries, the first from a bound on.
+    /// The legs of the entries. The first begins at `from`.
     pub(crate) fn over(from: Bound, rest: Iter<'a, PartId>) -> Legs<'a>
         requires { RiseFrom from rest }
         ensures { result ≡ legs_from from rest.entry }

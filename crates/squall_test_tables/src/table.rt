@@ -1,6 +1,7 @@
 //! Queries of route tables: their rows were worked out by hand.
 
 mod absorbs;
+mod example;
 mod legs;
 mod many;
 mod patches;
