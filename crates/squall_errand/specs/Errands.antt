@@ -1,5 +1,5 @@
 -- Errands: a key is brought to its partition by the partitions' replies (this project; that a partition which no longer has a key
--- sends on to the next: Squall, SIGMOD 2015).
+-- names the next one: Squall, SIGMOD 2015).
 use Rattle.std.specs.Prelude.{ℕ, nat_lt, List, [], ◌∷◌, Option, None, Some, if◌then◌else◌}
 use Rattle.squall_errand.specs.declared.errand.Reply.{Reply}
 use Rattle.squall_errand.specs.declared.errand.Reply.TheVariants.{Held, Moved, Pending, Behind, Elsewhere}
@@ -28,13 +28,13 @@ pub record Step : Type 0 where
 abbrev pub goes_on : Next → ErrandValue → Step
 goes_on next after = record { next = next; after = after }
 
--- it ends so
+-- it ends with this answer
 abbrev pub ends : Next → ErrandValue → Step
 ends next e = record { next = next; after = errand_with e.asked e.number (Some next) }
 
--- while it has not ended: a key that is held is served; a key that has moved under a greater number than that of the last move is
--- asked for where it went, and under no greater number it is lost; where it is awaited, or the partition has not heard of the last
--- move, the same partition is asked again; a key that was never there is lost
+-- while it has not ended: a key that is held is served. If the key has moved under a greater number than that of the last move,
+-- the partition to which it went is asked; under no greater number it is lost. If the key is awaited, or the partition has not
+-- heard of the last move, the same partition is asked again. A key that was never there is lost
 abbrev pub step_on : ErrandValue → Reply → Step
 step_on e Held = ends Served e
 step_on e (Moved dest number) = if nat_lt e.number number then goes_on (Ask dest) (errand_with dest number None) else ends Lost e
@@ -42,7 +42,7 @@ step_on e (Pending source) = goes_on (Again e.asked) e
 step_on e Behind = goes_on (Again e.asked) e
 step_on e (Elsewhere dest) = ends Lost e
 
--- once it has ended its answer stays, whatever is replied
+-- once it has ended its answer stays, whatever the replies are
 abbrev pub step_from : ErrandValue → Option Next → Reply → Step
 step_from e None reply = step_on e reply
 step_from e (Some next) reply = goes_on next e

@@ -95,8 +95,8 @@ impl Errand {
         self.asked
     }
 
-    /// The number of the last `Moved` that was followed, 0 before the first. A partition that is
-    /// asked is told it: one that has not heard of that reconfiguration replies `Behind`.
+    /// The number of the last `Moved` that was followed, 0 before the first. Send it with the
+    /// question: a partition that has not heard of that reconfiguration replies `Behind`.
     pub fn number(&self) -> u32
         ensures { result ≡ self.now.number }
     {
@@ -110,8 +110,8 @@ impl Errand {
         self.ended
     }
 
-    /// Takes the reply of the partition that was asked, and says what to do. After `Served` or
-    /// `Lost` it says the same for ever.
+    /// Takes the reply of the partition that was asked, and says what to do. Once it has said
+    /// `Served` or `Lost`, it says the same for ever.
     pub fn heed(&mut self, reply: Reply) -> Next
         ensures next { result ≡ (step_of self.old reply).next }
         ensures after { self.new ≡ (step_of self.old reply).after }
@@ -125,7 +125,7 @@ impl Errand {
         next
     }
 
-    /// The errand, ended so.
+    /// The errand, ended by `next`.
     fn ending(self, next: Next) -> Errand
         ensures { result ≡ errand_with self.asked self.number (Some next) }
     {
@@ -136,7 +136,7 @@ impl Errand {
         }
     }
 
-    /// What comes next after the reply, where the errand has not ended, and the errand after it.
+    /// What comes next after the reply, and the errand then, if the errand has not ended.
     fn step(self, reply: Reply) -> (Next, Errand)
         ensures next { result.0 ≡ (step_on self reply).next }
         ensures after { result.1 ≡ (step_on self reply).after }
@@ -149,8 +149,9 @@ impl Errand {
         }
     }
 
-    /// What comes next where the key went to `dest` in the reconfiguration of that number. A number
-    /// that is no greater than the last contradicts it: a key moves on under greater numbers only.
+    /// What comes next after a reply that the key went to `dest` in the reconfiguration of that
+    /// number. It has to be greater than the last number, since a key moves on under greater
+    /// numbers only. If it is not, the replies contradict each other.
     fn sent_on(self, dest: PartId, number: u32) -> (Next, Errand)
         ensures next { result.0 ≡ (step_on self (Moved dest number)).next }
         ensures after { result.1 ≡ (step_on self (Moved dest number)).after }

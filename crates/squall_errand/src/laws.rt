@@ -5,8 +5,8 @@ ghost use Rattle.squall_errand.specs.declared.errand.Reply.{Reply};
 ghost use Rattle.squall_errand.specs.declared.errand.Next.TheVariants.{Served, Lost};
 ghost use Rattle.squall_errand.specs.Errands.{ErrandValue, step_of, answers_of};
 
-/// Once an errand answers that the key is served, or lost, it answers the same for ever, whatever is
-/// replied.
+/// Once an errand has answered `Served` or `Lost`, it answers the same for ever, whatever the
+/// replies are.
 pub fn ends_are_for_ever()
     ensures served { (e : ErrandValue) (reply : Reply) (replies : List Reply) → (step_of e reply).next ≡ Served
         → answers_of (step_of e reply).after replies ≡ map (λ _. Served) replies }

@@ -112,7 +112,7 @@ both_course first b news x is_b is_news newest = ap (course_by first)
     (one_newest (λ n. both_issued (issued b n) (issued news n)) first.number x (newest_of (board_join b news) first.number) newest
     (newest_same (issued (board_join b news)) (λ n. both_issued (issued b n) (issued news n)) first.number (newest_of (board_join b news) first.number) (tells_both b news is_b.nested is_news.nested).issues (newest_is_greatest (board_join b news) first.number (join_is b news is_b is_news))))
 
--- of the router that a proof has open: a course of the news that is newer, where the board issues nothing under its number
+-- of the router that a proof has open: a course of the news that is newer, if the board issues nothing under its number
 pub turns_to_news : (s : RouterValue) (first d e g : Change) (b news : BoardValue) (n m : ℕ) (c : Change) (x : Option (ℕ × PlanPair)) → router_with first b ≡ s → IsBoard b → IsBoard news → d ≡ first → IsNewest (issued news) d.number x
     → e ≡ first → n ≡ (course_by e x).number → g ≡ course_of_board first b → m ≡ g.number → m < n → issued b n ≡ Unknown → c ≡ course_by first x → c ≡ course_of_board s.first (board_join s.board news)
 turns_to_news s first d e g b news n m c x view is_b is_news at_d is at_e by_n at_g by_m lt none by =
@@ -125,7 +125,7 @@ turns_to_news s first d e g b news n m c x view is_b is_news at_d is at_e by_n a
     by ∙ both_course first b news x is_b is_news (second_newest first (issued b) (issued news) (newest_of b first.number) x greatest newest newer silent (least_number first (issued b) (newest_of b first.number) greatest))
     ∙ ap (λ (r : RouterValue). course_of_board r.first (board_join r.board news)) view
 
--- none that is newer, where the news issue nothing under the number of the router's course
+-- none that is newer, if the news issue nothing under the number of the router's course
 pub stays_by_number : (s : RouterValue) (first d e g : Change) (b news : BoardValue) (n m : ℕ) (x : Option (ℕ × PlanPair)) → router_with first b ≡ s → IsBoard b → IsBoard news → d ≡ first → IsNewest (issued news) d.number x
     → e ≡ first → n ≡ (course_by e x).number → g ≡ course_of_board first b → m ≡ g.number → n ≤ m → issued news m ≡ Unknown → course_of_router s ≡ course_of_board s.first (board_join s.board news)
 stays_by_number s first d e g b news n m x view is_b is_news at_d is at_e by_n at_g by_m le none =

@@ -14,7 +14,7 @@ pub record RouterValue : Type 0 where
 abbrev pub router_with : Change → BoardValue → RouterValue
 router_with first board = record { first = first; board = board }
 
--- the course that it goes by: the newest that it has heard of, or the first
+-- the course that it uses: the newest that it has heard of, or the first
 abbrev pub course_of_router : RouterValue → Change
 course_of_router r = course_of_board r.first r.board
 

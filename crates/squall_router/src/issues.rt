@@ -15,8 +15,8 @@ use squall_report::{Issue, Report, ReportKind};
 use std::alloc::{AllocError, Global};
 use std::sync::Arc;
 
-/// Puts in each of the issues under its number. It fails where an allocation fails, or where the
-/// count of an issue's owners is full.
+/// Puts in each of the issues under its number. An error means that an allocation failed, or that
+/// the count of an issue's owners is full.
 fn put_entries(board: &mut Board, entries: &[(u32, Flat<Arc<Issue>>)]) -> Result<(), AllocError>
     requires { AllByRecursion (λ e. 1 ≤ e.0) entries.now }
     ensures { OnOk result ((n : ℕ)
@@ -28,8 +28,8 @@ fn put_entries(board: &mut Board, entries: &[(u32, Flat<Arc<Issue>>)]) -> Result
     Ok(())
 }
 
-/// Puts in what the other board issues, and nothing else. It fails where an allocation fails, or
-/// where the count of an issue's owners is full.
+/// Puts in what the other board issues, and nothing else. An error means that an allocation failed,
+/// or that the count of an issue's owners is full.
 fn put_issues(board: &mut Board, from: &Board) -> Result<(), AllocError>
     ensures { OnOk result ((n : ℕ) → issued board.new n ≡ both_issued (issued board.old n) (issued from.now n)) }
 {
@@ -44,8 +44,8 @@ pub(crate) fn issues_nothing(board: &Board, number: u32) -> bool
     matches!(board.issuing(number), Flat::Unknown)
 }
 
-/// A board that issues what both issue, and says nothing. It fails where an allocation fails, or
-/// where the count of an issue's owners is full.
+/// A board that issues what both issue, and says nothing. An error means that an allocation failed,
+/// or that the count of an issue's owners is full.
 pub(crate) fn both_issues(alloc: Global, first: &Board, second: &Board) -> Result<Board, AllocError>
     ensures { IfOk result (λ b. (n : ℕ) → issued b n ≡ both_issued (issued first.now n) (issued second.now n)) }
 {
@@ -55,8 +55,8 @@ pub(crate) fn both_issues(alloc: Global, first: &Board, second: &Board) -> Resul
     Ok(board)
 }
 
-/// The board that has taken the report alone. It fails if an allocation fails, or if the count of an
-/// issue's owners is full.
+/// The board that has taken the report alone. An error means that an allocation failed, or that the
+/// count of an issue's owners is full.
 pub(crate) fn issue_alone(alloc: Global, report: &Report) -> Result<Delta, AllocError>
     ensures { IfOk result (λ d. d ≡ report_board report.now) }
 {

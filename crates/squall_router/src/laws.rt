@@ -15,8 +15,8 @@ ghost use Rattle.squall_router.specs.Routers.{course_of_router, route_of_router,
 use crate::router::Router;
 pub use squall_errand::laws::ends_are_for_ever;
 
-/// A router whose board has taken a list of reports goes by the course of the reports, and sends
-/// each key where they do.
+/// A router whose board has taken a list of reports uses the course of these reports, and sends
+/// each key where they send it.
 pub fn routers_follow_reports(router: &Router)
     ensures course { (rs : List (ReportKind PlanPair)) → HasTaken router.now.board rs → course_of_router router.now ≡ course_of_reports router.now.first rs }
     ensures route { (rs : List (ReportKind PlanPair)) (k : ℕ) → HasTaken router.now.board rs

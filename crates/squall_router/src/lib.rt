@@ -2,6 +2,28 @@
 //! partition by what partitions reply, start at a router.
 //!
 //! Its tests are in `crates/squall_test_nodes/src/router.rt`.
+//!
+//! # Example
+//!
+//! `course` moves the keys from 2:0 to 3:0 from partition 1 to 3, and `load` reports that they are
+//! loaded.
+//!
+//! ```rust
+//! fn takes_a_load(
+//!     rt: &impl Abort,
+//!     alloc: Global,
+//!     course: &Arc<Course>,
+//!     load: &Report,
+//! ) -> Result<(), Fail> {
+//!     let key = Key::read("2:0").ok_or("a key")?;
+//!     let mut router = Router::new(alloc, course)?;
+//!     assert!(rt; router.route(key).get() == 1);
+//!     router.take(load)?;
+//!     assert!(rt; router.route(key).get() == 3);
+//!     assert!(rt; router.course().number() == 1);
+//!     Ok(())
+//! }
+//! ```
 #![tactic(auto)]
 
 mod issues;

@@ -26,10 +26,10 @@ use std::alloc::{AllocError, Global};
 use std::marker::Model;
 use std::sync::Arc;
 
-/// So many spans are few.
+/// The most spans of a cell that count as few.
 const FEW: usize = 4;
 
-/// A router: it takes boards as messages bring them, in any order and any number of times, and
+/// A router: it takes boards as messages bring them, in any order and any number of times. It
 /// answers each key from a sorted table, which it patches for what changed.
 ///
 /// Contracts see a router as its first course and its board: what it answers is determined by both.
@@ -52,10 +52,10 @@ impl Model for Router {
     ghost invariant = { λ r. InStep (router_with r.first r.board) r.course r.table };
 }
 
-/// The newest issue after a first course, where there is one, with its number.
+/// The newest issue after a first course, with its number. `None` if there is none.
 type Newest<'a> = Option<(u32, &'a Arc<Issue>)>;
 
-/// The number of the newest course, or of the first where none is newer.
+/// The number of the newest course, or of the first if none is newer.
 fn number_of(first: &Course, newest: &Newest<'_>) -> u32
     ensures { result ≡ (course_by first.now (option_map (λ e. (e.0, arc_value e.1.now)) newest.now)).number }
 {
@@ -65,8 +65,8 @@ fn number_of(first: &Course, newest: &Newest<'_>) -> u32
     }
 }
 
-/// The newest course, or the first again where none is newer. It fails where an allocation fails,
-/// or where the count of the first's owners is full.
+/// The newest course, or the first again if none is newer. An error means that an allocation
+/// failed, or that the count of the first's owners is full.
 fn course_of(
     alloc: Global,
     first: &Shared<Course>,
@@ -84,13 +84,13 @@ fn course_of(
     }
 }
 
-/// The one item of a list that has no other.
+/// The item of a list of one. `None` for other lists.
 fn only<T>(list: &[T]) -> Option<&T> {
     if list.len() == 1 { list.first() } else { None }
 }
 
-/// Whether a delta is of one cell with few spans, which is sooner taken than compared with what a
-/// board has of it. What is taken twice changes nothing, so either answer is right.
+/// Whether a delta is of one cell with few spans. To take such a delta is faster than to compare it
+/// with what a board has. A delta that is taken twice changes nothing, so either answer is right.
 fn is_small(delta: &Delta) -> bool {
     let Some((_, subs)) = only(delta.cell_map().entries()) else {
         return false;
@@ -105,9 +105,9 @@ fn is_small(delta: &Delta) -> bool {
 }
 
 impl Router {
-    /// A router that has heard nothing: it goes by the first course, and sends each key to its old
-    /// partition. It fails where an allocation fails, or where the count of the course's owners is
-    /// full.
+    /// A router that has heard nothing: it uses the first course, and sends each key to its old
+    /// partition. An error means that an allocation failed, or that the count of the course's
+    /// owners is full.
     pub fn new(alloc: Global, first: &Arc<Course>) -> Result<Router, AllocError>
         ensures { IfOk result (λ r. r ≡ router_with (arc_value first.now) empty_board) }
     {
@@ -135,11 +135,12 @@ impl Router {
         let _course = self.course.as_arc().old_plan();
     }
 
-    /// Takes all that the delta tells, and answers from then on by both: it patches its table where
-    /// its course stays the newest, and builds it where another is. It fails where an allocation
-    /// fails, or where a count of owners is full, and then the router is as it was.
+    /// Takes all that the delta tells, and answers from then on by all that it has heard. It
+    /// patches its table if its course stays the newest, and builds one if another course becomes
+    /// the newest. An error means that an allocation failed, or that a count of owners is full: the
+    /// router is then unchanged.
     ///
-    /// Its board is not copied, and while its course stays its table is not either.
+    /// Its board is not copied. Its table is not copied either, if its course stays.
     pub fn absorb(&mut self, delta: &Delta) -> Result<(), AllocError>
         ensures first { self.new.first ≡ self.old.first }
         ensures takes { OnOk result (TakesBoard self.old.board delta.now self.new.board) }
@@ -155,12 +156,12 @@ impl Router {
         self.take_up(&news)
     }
 
-    /// Takes the report, and answers from then on by it too, as after [`Router::absorb`] of its board.
-    /// It patches its table where the report moves keys, and builds it where the report makes another
-    /// course the newest. It fails where an allocation fails, or where a count of owners is full, and
-    /// then the router is unchanged.
+    /// Takes the report, and answers from then on by it too, as after [`Router::absorb`] of its
+    /// board. The router patches its table if the report moves keys, and builds one if the report
+    /// makes another course the newest. An error means that an allocation failed, or that a count
+    /// of owners is full: the router is then unchanged.
     ///
-    /// The report goes into board and table in place: a board of it is made only where it is an issue.
+    /// The report goes into board and table in place. A board of it is made only if it is an issue.
     pub fn take(&mut self, report: &Report) -> Result<(), AllocError>
         ensures first { self.new.first ≡ self.old.first }
         ensures takes { OnOk result (TakesReport self.old.board report.now self.new.board) }
@@ -199,9 +200,10 @@ impl Router {
         }
     }
 
-    /// The course that the router has to go by once it takes the news, where that is another than it
-    /// goes by. What is issued decides it, so nothing else of the board is looked at; and no more than
-    /// the newest of both, if the other one issues nothing under the number of that.
+    /// The course that the router has to use once it takes the news. `None` if that is the course
+    /// that it uses now. Issues alone decide this, so the call looks at nothing else of the board.
+    /// It looks only at the newest issue of both, if the other one issues nothing under that
+    /// number.
     fn other_course(&self, news: &Delta) -> Result<Option<Shared<Course>>, AllocError>
         ensures { IfOk result (λ other. unwrap_or other (course_of_router self.now) ≡ course_of_board self.now.first (board_join self.now.board news.now)) }
     {
@@ -222,8 +224,8 @@ impl Router {
         self.other_by_all(news)
     }
 
-    /// The same where both may issue under one number, so that plans may clash: by a board of all
-    /// that they issue.
+    /// The same if both may issue under one number, so that plans may clash. It makes a board of
+    /// all that they issue.
     fn other_by_all(&self, news: &Delta) -> Result<Option<Shared<Course>>, AllocError>
         ensures { IfOk result (λ other. unwrap_or other (course_of_router self.now) ≡ course_of_board self.now.first (board_join self.now.board news.now)) }
     {
@@ -238,7 +240,7 @@ impl Router {
         Ok(Some(course_of(self.alloc, &self.first, &newest)?))
     }
 
-    /// Takes the news, and goes by the course from then on. The board is not copied: the course's
+    /// Takes the news, and uses the course from then on. The board is not copied: the course's
     /// table is built of what it has, and both take the news in place.
     fn turn_to(&mut self, course: Shared<Course>, news: &Delta) -> Result<(), AllocError>
         requires { course ≡ course_of_board self.old.first (board_join self.old.board news.now) }
@@ -259,24 +261,24 @@ impl Router {
         self.first.as_arc()
     }
 
-    /// The course that it goes by: the newest that its board tells of, or the first.
+    /// The course that it uses: the newest that its board tells of, or the first.
     pub fn course(&self) -> &Arc<Course>
         ensures { arc_value result.now ≡ course_of_router self.now }
     {
         self.course.as_arc()
     }
 
-    /// The partition to ask for the key, by a binary search: its new one by the router's course
-    /// where it does not move, or where its load there or that partition's completion was heard,
-    /// and else its old one.
+    /// The partition to ask for the key, by a binary search. It is the key's new partition by the
+    /// router's course, if the key does not move, or if its load there or that partition's
+    /// completion was heard. Otherwise it is the key's old partition.
     pub fn route(&self, key: Key) -> PartId
         ensures { result ≡ route_of_router self.now key }
     {
         self.table.owner(key)
     }
 
-    /// The legs of the span: its keys by rising key, with the partition to ask for them. It fails
-    /// only where an allocation fails.
+    /// The legs of the span: its keys by rising key, with the partition to ask for them. An error
+    /// means that an allocation failed.
     pub fn route_span(&self, alloc: Global, span: &Span) -> Result<Vec<Leg>, AllocError>
         ensures legs { IfOk result (λ legs. AreLegs (route_of_router self.now) span.now.lo span.now.hi legs.items) }
         ensures value { IfOk result (λ legs. legs.items ≡ legs_between (route_of_router self.now) span.now.lo span.now.hi) }
@@ -294,7 +296,7 @@ impl Router {
         &self.board
     }
 
-    /// What it has heard, of which nothing is copied.
+    /// What it has heard. Nothing is copied.
     pub fn into_board(self) -> Board
         ensures { result ≡ self.board }
     {

@@ -2,6 +2,8 @@
 #![tactic(auto)]
 
 #[cfg(test)]
+mod errand;
+#[cfg(test)]
 mod example;
 #[cfg(test)]
 mod leader;

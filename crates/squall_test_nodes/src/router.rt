@@ -2,6 +2,7 @@
 
 mod clients;
 mod errands;
+mod example;
 mod legs;
 mod routers;
 mod takes;
