@@ -106,7 +106,7 @@ piece_brings sent old new piece coming ms fault before after on heard taken =
       };
     }
 
--- where no byte is to come, no message is on its way
+-- if no byte is to come, no message is on its way
 pub none_coming : (sent : List Sent) (feed : FeedValue) → AreComing sent feed [] → sent ≡ []
 none_coming [] feed on = refl
 none_coming (s ∷ ss) feed on =

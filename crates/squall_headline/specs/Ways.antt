@@ -79,8 +79,9 @@ TakesIn [] before after = before ≡ after
 TakesIn (Delta delta ∷ ms) before after = (middle : BoardValue) × TellsBoth (told middle) (told before) (told delta) × TakesIn ms middle after
 TakesIn (Digest digest ∷ ms) before after = TakesIn ms before after
 
--- A feed took pieces, one after the other, and the deltas that it gave were taken in. The feed may be in any state: of the bytes that
--- waited in it and those of the pieces the first are the frames of what was sent, and the rest begins no frame, and waits or is faulty.
+-- A feed took pieces, one after the other, and the deltas that it gave were taken in. The feed may be in any state: the bytes
+-- that waited in it, and then those of the pieces, begin with the frames of what was sent. The rest begins no frame, and waits or
+-- is faulty.
 pub record IsStreamed (sent : List Sent) (pieces : List (List ℕ)) (before after : BoardValue) : Type 0 where
   pub packed : ArePacked sent
   pub old : FeedValue
@@ -136,8 +137,8 @@ pub record Brings (sent : List Sent) (piece coming : List ℕ) (before after : B
 
 -- ---- where a key is sent
 
--- the key goes to its new partition where its load, or that partition's completion, is told for the key's own sub-plan of the course's
--- number, and else to its old one
+-- the key goes to its new partition if its load, or that partition's completion, is told for the key's own sub-plan of the
+-- course's number. Otherwise it goes to its old one
 pub record IsSent (c : Change) (says : Fact → Bool) (k part : ℕ) : Type 0 where
   pub come : has_come c says k ≡ true → part ≡ owner_of c.new k
   pub not_come : has_come c says k ≡ false → part ≡ owner_of c.old k

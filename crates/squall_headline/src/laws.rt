@@ -1,4 +1,4 @@
-//! What pieces of a stream bring, the contract of a function that does nothing.
+//! The law of what pieces of a stream bring: the contract of a function that does nothing.
 
 ghost use Rattle.std.specs.Prelude.{◌≡◌, ℕ, ◌++◌, List, [], Option};
 ghost use Rattle.squall_board.specs.Boards.{BoardValue};
@@ -7,9 +7,9 @@ ghost use Rattle.squall_wire.specs.declared.message.Message.{Message};
 ghost use Rattle.squall_wire.specs.Hearing.{FeedValue, HearsOn};
 ghost use Rattle.squall_headline.specs.Ways.{Sent, TakesIn, AreComing, Brings};
 
-/// Where messages are on their way to a feed, a piece of their stream brings the first of them, those
-/// whose frames it ends, and the others stay on their way; once all bytes have come, none is. So
-/// between two pieces there may be pieces for other feeds and any other calls.
+/// If messages are on their way to a feed, a piece of their stream brings the first of them: those
+/// whose frames it ends. The others stay on their way. Once all bytes have come, no message is on
+/// its way. So between two pieces there may be pieces for other feeds, and any other calls.
 pub fn pieces_bring_messages()
     ensures piece { (sent : List Sent) (old new : FeedValue) (piece coming : List ℕ) (messages : List Message)
         (fault : Option WireFault) (before after : BoardValue)

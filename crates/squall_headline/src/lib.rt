@@ -1,7 +1,7 @@
 //! What squall promises, in one place: start here to see what the proofs are for.
 //!
-//! [`headline`] is the promise. The definitions that it cites are in `specs/`: `Ways.antt` says by which
-//! calls reports come, and its last lines to which partition a key goes.
+//! [`headline`] is the promise. The definitions that it cites are in `specs/`. `Ways.antt` says by
+//! which calls reports come, and its last lines say to which partition a key goes.
 //!
 //! Its tests are in `crates/squall_test_nodes`.
 #![tactic(auto)]
@@ -23,18 +23,23 @@ pub mod laws;
 use squall_board::Board;
 use squall_router::Router;
 
-/// Whatever calls bring the same reports to two boards, one by one, in lists, in merged boards, or
-/// in frames that were encoded, among digests, cut anywhere, pushed into feeds in any state and
-/// absorbed, in whatever order and however often: the boards are equal and have the same frame;
-/// routers with these boards and one first course have the same table; and a router sends each key to
-/// its new partition exactly where its load, or that partition's completion, is told for the key's
-/// own sub-plan of the newest course's number, and else to its old one.
+/// What holds of two boards to which the same reports came, by whatever calls, in whatever order
+/// and however often. The reports may come one by one, in lists, in merged boards, or in frames.
+/// Frames that were encoded may come among digests and cut anywhere. They are pushed into feeds in
+/// any state, and what these give is absorbed.
 ///
-/// A call's own contract says that it leads from the board before it to the board after it: the
-/// clauses `takes` of [`Board::take`], [`Board::take_all`], [`Board::merge`], [`Router::take`] and
-/// [`Router::absorb`], and `heard` of `Feed::push`. Which messages a piece of a stream brings, if other
-/// calls come between the pieces, is the law [`pieces_bring_messages`]. That a merge loses
-/// nothing and adds nothing is the clause `takes` of [`Board::merge`].
+/// - The boards are equal, and have the same frame.
+/// - Routers with these boards and one first course have the same table.
+/// - A router sends a key to its new partition exactly if its load, or that partition's completion,
+///   is reported for the key's own sub-plan under the newest course's number. Otherwise it sends
+///   the key to its old partition.
+///
+/// A call's own contract says that it leads from the board before it to the board after it. These
+/// are the clauses `takes` of [`Board::take`], [`Board::take_all`], [`Board::merge`],
+/// [`Router::take`] and [`Router::absorb`], and `heard` of `Feed::push`. The law
+/// [`pieces_bring_messages`] says which messages a piece of a stream brings, if other calls come
+/// between the pieces. The clause `takes` of [`Board::merge`] says that a merge loses nothing and
+/// adds nothing.
 pub fn headline(a: &Board, b: &Board, one: &Router, other: &Router)
     // Nothing is lost and nothing added: a board tells what the reports tell that came to it.
     ensures reports { (ws : List Way) → LeadTo ws a.now → HasTaken a.now (reports_of ws) }

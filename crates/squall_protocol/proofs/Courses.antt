@@ -1,4 +1,4 @@
--- The courses of a world: who owns a key by them, in which sub-plan it moves, and what holds of that where plans are plans.
+-- The courses of a world: who owns a key by them, in which sub-plan it moves, and what holds of that if plans are plans.
 use Rattle.std.proofs.Common.{◌≡◌, ◌≢◌, ℕ, ◌-◌, ◌<◌, ◌≤◌, ◌==◌, ◌&&◌, true, List, [], ◌∷◌, refl, sym, ◌∙◌, arith, inl, inr}
 use Rattle.std.proofs.lemmas.Bool.{cases_lt, eqb-true, eqb-false, eq-eqb, ne_eqb, and_parts, and_from, not-true, not_from_false}
 use Rattle.squall_key.specs.Keys.{top}

@@ -1,4 +1,4 @@
--- The course that a partition goes by is one, and so is the sub-plan opened last under it.
+-- The course that a partition uses is one, and so is the sub-plan opened last under it.
 use Rattle.std.proofs.Common.{◌≡◌, ℕ, ◌+◌, sym, ap, ap₂, ◌∙◌, subst, arith}
 use Rattle.squall_course.specs.Change.{Change}
 use Rattle.squall_board.specs.CourseRouteLaws.{one_course}
@@ -21,7 +21,7 @@ at_current p c d s t a b P h = let e : (c ≡ d) × (s ≡ t) = one_current p c 
     pair : Change → ℕ → Change × ℕ
     pair x y = (x, y)
 
--- where no sub-plan is opened there is none that was opened last
+-- if no sub-plan is opened there is none that was opened last
 pub none_current : (p : PartQueries) (c : Change) (s : ℕ) → NoneOpen p → IsCurrent p c s → ⊥
 none_current p c s none at = apart (p.told.opened c.number) (sym (ap (λ (x : Change). p.told.opened x.number) course) ∙ none.2) at.1
   where

@@ -34,7 +34,7 @@ pub record TrueFacts (w : WorldValue) (f : Queries) : Type 0 where
   pub opened : (n t : ℕ) → t < f.opened n → t < opened_of w n
   pub issued : (n : ℕ) → (f.issued n ≡ Unknown) ⊎ (WasBegun w n × (f.issued n ≡ One (pair_at w n)))
 
--- who holds a key: its new partition where it stays or is loaded, its old one where it moves and is not given
+-- who holds a key: its new partition if it stays or is loaded, its old one if it moves and is not given
 abbrev pub Holds : WorldValue → ℕ → ℕ → Type 0
 Holds w p k =
     ((p ≡ new_owner w w.last k) × (Moves w w.last k → w.loaded w.last p k ≡ true))

@@ -1,4 +1,4 @@
--- A partition that is to give on its first keys has one answer.
+-- A partition that is to give its first keys has one answer.
 use Rattle.std.proofs.Common.{◌≡◌, ℕ, ◌+◌, ◌<◌, Bool, true, false, length, refl, sym, ◌∙◌, subst, arith, le_refl}
 use Rattle.std.proofs.lemmas.Bool.{both_ways}
 use Rattle.squall_span.specs.Spans.{Interval, interval, span_has}
@@ -29,7 +29,7 @@ one_gift p c s x y a b span some =
       span = span i;
     }
 
--- the same where the courses by which they are given are both current
+-- the same if the courses by which they are given are both current
 pub gift_of_current : (p : PartQueries) (c d : Change) (s t : ℕ) (x y : ChunkValue) → IsCurrent p c s → IsCurrent p d t → IsGift p c s x → IsGift p d t y → x.span ≡ y.span → span_has x.span x.span.lo ≡ true → x ≡ y
 gift_of_current p c d s t x y at now gift other span some = one_gift p d t x y (at_current p c d s t at now (λ e n. IsGift p e n x) gift) other span some
 
@@ -51,7 +51,7 @@ one_chunk p most c d s t x y at now keys others gift other =
     (one_first (is_left p d t) most x.span y.span (at_current p c d s t at now (λ e n. AreFirst (is_left p e n) most x.span) keys) others)
     (first_in x.span keys.some)
 
--- where no key is left none is
+-- if no key is left none is
 none_left : (p : PartQueries) (c d : Change) (s t k : ℕ) → IsCurrent p c s → IsCurrent p d t → ((j : ℕ) → is_left p c s j ≡ false) → is_left p d t k ≡ true → ⊥
 none_left p c d s t k at now none left = both_ways (is_left p d t k) (at_current p c d s t at now (λ e n. is_left p e n k ≡ false) (none k)) left
 
@@ -59,15 +59,15 @@ none_left p c d s t k at now none left = both_ways (is_left p d t k) (at_current
 first_left : (p : PartQueries) (c : Change) (s most : ℕ) (x : Interval) → AreFirst (is_left p c s) most x → is_left p c s x.lo ≡ true
 first_left p c s most x keys = keys.keys x.lo (le_refl x.lo) keys.some
 
--- there is no first key where none is asked for
+-- there is no first key if none is asked for
 none_asked : (test : ℕ → Bool) (most : ℕ) (s : Interval) → AreFirst test most s → most ≡ 0 → ⊥
 none_asked test most s keys zero = omega (arith, keys.some, keys.few, zero)
 
--- the answers are one, where the chunk is
+-- the answers are one, if the chunk is
 pub same_gift : (w v u : WorldValue) (i j n : ℕ) (x y : ChunkValue) → i ≡ n → j ≡ n → x ≡ y → SameWorld v (after_give w x) → SameWorld u (after_give w y) → Once (Gave i x) (Gave j y) v u
 same_gift w v u i j n x y first second e a b = (λ t. Gave ((first ∙ sym second) t) (e t), agree v u (after_give w y) (subst (λ z. SameWorld v (after_give w z)) e a) b)
 
--- to give on the first keys
+-- to give the first keys
 pub one_give : (w v u : WorldValue) (p most : ℕ) (a b : Answer) → GiveStep w p most a v → GiveStep w p most b u → Once a b v u
 one_give w v u p most (Gave i x) (Gave j y) h g = same_gift w v u i j (length w.chunks) x y h.1 g.1 (one_chunk (part_in w p) most h.2.0 g.2.0 h.2.1 g.2.1 x y h.2.2 g.2.2 h.2.3 g.2.3 h.2.4 g.2.4) h.3 g.3
 one_give w v u p most (Gave i x) (Refused NoSuch) h g = absurd (both_ways (is_part w p) g.0 h.0)

@@ -1,4 +1,4 @@
--- A partition that is to give one key on has one answer.
+-- A partition that is to give one key has one answer.
 use Rattle.std.proofs.Common.{◌≡◌, ℕ, ◌+◌, true, false, length, refl, sym, ◌∙◌}
 use Rattle.std.proofs.lemmas.Bool.{both_ways}
 use Rattle.squall_span.specs.Spans.{interval}
@@ -26,7 +26,7 @@ not_out p c d s t k at now stays goes = both_ways (goes_out p d t k) (at_current
 not_given_yet : (w : WorldValue) (p : ℕ) (c d : Change) (s t k : ℕ) → IsCurrent (part_in w p) c s → IsCurrent (part_in w p) d t → w.given c.number p k ≡ false → w.given d.number p k ≡ true → ⊥
 not_given_yet w p c d s t k at now none given = both_ways (w.given d.number p k) (at_current (part_in w p) c d s t at now (λ (e : Change) (n : ℕ). w.given e.number p k ≡ false) none) given
 
--- to give on one key
+-- to give one key
 pub one_give_at : (w v u : WorldValue) (p k : ℕ) (a b : Answer) → GiveAtStep w p k a v → GiveAtStep w p k b u → Once a b v u
 one_give_at w v u p k (Gave i x) (Gave j y) h g = same_gift w v u i j (length w.chunks) x y h.1 g.1 (one_key (part_in w p) h.2.0 g.2.0 h.2.1 g.2.1 k x y h.2.2 g.2.2 h.2.6 g.2.6 h.2.7 g.2.7) h.3 g.3
 one_give_at w v u p k (Gave i x) (Refused NoSuch) h g = absurd (both_ways (is_part w p) g.0 h.0)

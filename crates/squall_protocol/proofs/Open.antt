@@ -16,7 +16,7 @@ use Rattle.squall_protocol.proofs.Tell.{keeps_told}
 abbrev pub AllDone : WorldValue → Type 0
 AllDone w = (k : ℕ) → Moves w w.last k → sub_in w w.last k + 1 ≡ w.opened → (w.facts Leader).done (place_at w.last (sub_in w w.last k) (new_owner w w.last k)) ≡ true
 
--- where it waits for none, it was
+-- if it waits for none, it was
 pub all_done : (w : WorldValue) → NoneWanting w → AllDone w
 all_done w none k m e = true_from_ne_false ((w.facts Leader).done (place_at w.last (sub_in w w.last k) (new_owner w w.last k))) (λ waiting.
     none (sub_in w w.last k) (new_owner w w.last k) (record { last = e; due = (k, incoming_is (w.plan (w.last - 1)) (w.plan w.last) (sub_in w w.last k) (new_owner w w.last k) k m refl refl); waiting = waiting }))

@@ -35,7 +35,7 @@ came w f n k t m h = ⊎_elim
     (λ d. t.done (cell_in w n k) d k m refl refl)
     (or_cases (f.loaded (cell_in w n k) k) (f.done (cell_in w n k)) h)
 
--- a key goes to its new partition where it stays or is loaded there, and else to its old one
+-- a key goes to its new partition if it stays or is loaded there, and else to its old one
 route_cases : (w : WorldValue) (f : Queries) (n k p : ℕ) (A : Type 0) → TrueFacts w f → p ≡ route (course_at w n) (queries_say f) k
     → (p ≡ new_owner w n k → (old_owner w n k ≡ new_owner w n k) ⊎ (w.loaded n (new_owner w n k) k ≡ true) → A) → (p ≡ old_owner w n k → A) → A
 route_cases w f n k p A t is new old =
@@ -65,7 +65,7 @@ routed_had w kept r k p (c, course, is) =
     less : (n m : ℕ) → 1 ≤ n → n ≤ m → n - 1 < m
     less n m a b = omega arith
 
--- and where it is not the old partition, it has loaded it
+-- and if it is not the old partition, it has loaded it
 pub routed_is_loaded : (w : WorldValue) → Kept w → RoutedIsLoaded w
 routed_is_loaded w kept r k p c course (d, course_d, is) other =
     let known : NewestCourse w (w.facts (Router r)) c = newest_course w (w.facts (Router r)) c kept.first (kept.facts (Router r)) course in

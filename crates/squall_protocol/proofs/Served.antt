@@ -90,7 +90,7 @@ moved_sent w kept p k after d n moved = ⊎_elim
 sent_in_run : (w : WorldValue) → Kept w → (p k after d n : ℕ) → Serves (part_in w p) k after (Moved d n) → (events : List Event) (answers : List Answer) (v : WorldValue) → Run w events answers v → SentTo v n d k
 sent_in_run w kept p k after d n moved events answers v run = sent_later w v (later_run w events answers v kept run) n d k (moved_sent w kept p k after d n moved)
 
--- where it does not wait for the key, and has given it under no later number, it has not heard of that course
+-- if it does not wait for the key, and has given it under no later number, it has not heard of that course
 stuck : (w : WorldValue) → Kept w → (d k n : ℕ) → SentTo w n d k → w.held d k ≡ false → (g m : ℕ) → IsLastGiven (part_in w d) k g → IsLastComing (part_in w d) k m → m ≤ g → g ≤ n
     → (h : ℕ) → IsNewest (w.facts (Part d)) h → h ≤ w.last → n ≤ h → ⊥
 stuck w kept d k n sent away g m given coming le at_most h newest h_most reached = ⊎_elim

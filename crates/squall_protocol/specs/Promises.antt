@@ -61,9 +61,9 @@ OneCarrier w = (k : ℕ) → k < top → (x : Carrier) × Carries w k x × ((y :
 abbrev pub opened_of : WorldValue → ℕ → ℕ
 opened_of w n = if n == w.last then w.opened else subplan_count (course_at w n).old (course_at w n).new
 
--- what is told happened: a key that is told loaded is loaded; if a partition is told to have all keys of a sub-plan, each of them is loaded
--- there; a sub-plan that is told to be opened is; the numbers of all these were begun; and under a number either nothing is issued, or the
--- number was begun and both plans of its course are issued, so that nothing clashes
+-- what is told did happen. A key that is told loaded is loaded. If a partition is told to have all keys of a sub-plan, each of
+-- them is loaded there. A sub-plan that is told opened is opened. The numbers of all these were begun. Under a number either
+-- nothing is issued, or the number was begun and both plans of its course are issued. So nothing clashes
 pub record Happened (w : WorldValue) (f : Queries) : Type 0 where
   pub loaded_begun : (c : CellPlace) (k : ℕ) → f.loaded c k ≡ true → WasBegun w c.number
   pub loaded : (c : CellPlace) (k : ℕ) → f.loaded c k ≡ true → w.loaded c.number c.part k ≡ true
@@ -73,11 +73,11 @@ pub record Happened (w : WorldValue) (f : Queries) : Type 0 where
   pub opened : (n t : ℕ) → t < f.opened n → t < opened_of w n
   pub issued : (n : ℕ) → (f.issued n ≡ Unknown) ⊎ (WasBegun w n × (f.issued n ≡ One (pair_at w n)))
 
--- whatever a node was told happened
+-- all that a node was told did happen
 abbrev pub TrueReports : WorldValue → Type 0
 TrueReports w = (node : Node) → Happened w (w.facts node)
 
--- a key that a router sends to another partition than the old one of the course by which it goes is loaded there
+-- a key that a router sends to another partition than the old one of the course that it uses is loaded there
 abbrev pub RoutedIsLoaded : WorldValue → Type 0
 RoutedIsLoaded w =
     (r k p : ℕ) (c : Change) → IsCourseBy (first_course w) (w.facts (Router r)) c → IsRoutedBy (first_course w) (w.facts (Router r)) k p → p ≢ owner_of c.old k → w.loaded c.number p k ≡ true

@@ -111,7 +111,8 @@ after_give w x =
       chunks = w.chunks ++ x ∷ [];
     }
 
--- a partition gives on the first keys, at most so many, of those that go out in the sub-plan opened last and that it still holds
+-- a partition gives the first of those keys that go out in the sub-plan opened last and that it still holds, at most `most` of
+-- them
 abbrev pub GiveStep : WorldValue → ℕ → ℕ → Answer → WorldValue → Type 0
 GiveStep w p most (Gave index x) v =
     (is_part w p ≡ true) × (index ≡ length w.chunks)
@@ -124,7 +125,7 @@ GiveStep w p most (Refused ZeroMax) v =
     (is_part w p ≡ true) × ((c : Change) × (s : ℕ) × IsCurrent (part_in w p) c s × ((k : ℕ) × (is_left (part_in w p) c s k ≡ true))) × (most ≡ 0) × SameWorld v w
 GiveStep w p most _ v = ⊥
 
--- a partition gives on one key
+-- a partition gives one key
 abbrev pub GiveAtStep : WorldValue → ℕ → ℕ → Answer → WorldValue → Type 0
 GiveAtStep w p k (Gave index x) v =
     (is_part w p ≡ true) × (index ≡ length w.chunks)
@@ -144,7 +145,7 @@ GiveAtStep w p k _ v = ⊥
 
 -- ---- loads
 
--- the chunk stands under the index, and its destination is there
+-- the chunk is the one of that index, and its destination is there
 pub record IsArriving (w : WorldValue) (i : ℕ) (x : ChunkValue) : Type 0 where
   pub chunk : slice_get w.chunks i ≡ Some x
   pub dest : is_part w x.dest ≡ true
@@ -218,7 +219,7 @@ RouteStep w r k (Routed p) v = (is_node w (Router r) ≡ true) × IsRoutedBy (fi
 RouteStep w r k (Refused NoSuch) v = (is_node w (Router r) ≡ false) × SameWorld v w
 RouteStep w r k _ v = ⊥
 
--- a partition replies where it is asked for a key, with the number of the last move that was followed
+-- a partition replies when it is asked for a key, with the number of the last move that was followed
 abbrev pub ServeStep : WorldValue → ℕ → ℕ → ℕ → Answer → WorldValue → Type 0
 ServeStep w p k after (Served reply) v = (is_part w p ≡ true) × Serves (part_in w p) k after reply × SameWorld v w
 ServeStep w p k after (Refused NoSuch) v = (is_part w p ≡ false) × SameWorld v w

@@ -1,6 +1,6 @@
 -- Worlds: a leader, partitions and routers, and the messages and chunks on their way between them (a leader that starts
--- reconfigurations, and partitions that give keys on and report what they loaded: Squall, SIGMOD 2015; routers, messages that may be lost,
--- repeated and reordered, and several reconfigurations are this project's).
+-- reconfigurations, and partitions that give keys and report what they loaded: Squall, SIGMOD 2015; routers, messages that may be
+-- lost, repeated and reordered, and several reconfigurations are this project's).
 use Rattle.std.specs.Prelude.{◌≡◌, ℕ, ◌-◌, ◌==◌, ◌≤◌, ◌&&◌, ◌||◌, nat_lt, Bool, true, false, List, [], if◌then◌else◌}
 use Rattle.std.specs.List.{filter, list_any, range_with_len}
 use Rattle.squall_key.specs.Keys.{top, part_limit}

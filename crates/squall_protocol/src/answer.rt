@@ -13,8 +13,8 @@ pub enum Refusal {
     /// A node, chunk or message that the event names, or a chunk's destination, is not there.
     #[error("NoSuch")]
     NoSuch,
-    /// The partition did not report that it has all keys of the sub-plan opened last: the least such
-    /// partition.
+    /// A partition did not report that it has all keys of the sub-plan opened last. The least such
+    /// partition is named.
     #[error("NotDone {sub} {part}")]
     NotDone {
         /// The sub-plan opened last.
@@ -52,7 +52,7 @@ pub enum Refusal {
     /// The destination does not know the chunk's course, or the chunk does not fit it.
     #[error("Stranger")]
     Stranger,
-    /// Keys of the sub-plan are missing: the first span of them.
+    /// Keys of the sub-plan are missing. The first span of them is named.
     #[error("NotAll {0}")]
     NotAll(Span),
     /// No key comes in, in that sub-plan.
@@ -60,7 +60,7 @@ pub enum Refusal {
     NothingDue,
 }
 
-/// What came of an event.
+/// The answer to an event.
 #[derive(Drop)]
 pub enum Answer {
     /// The leader opened the sub-plan.
@@ -75,14 +75,15 @@ pub enum Answer {
         /// How many partitions there are now.
         parts: usize,
     },
-    /// A partition gave keys on.
+    /// A partition gave keys.
     Gave {
         /// The chunk's index.
         index: usize,
         /// The chunk.
         chunk: Chunk,
     },
-    /// The chunk's keys that were not loaded are held now; its destination reports the load.
+    /// The chunk's destination now holds those of its keys that were not loaded before, and reports
+    /// the load.
     Loaded(Report),
     /// Each key of the chunk was loaded before.
     Again,
@@ -93,7 +94,7 @@ pub enum Answer {
         /// Its index.
         index: usize,
     },
-    /// The node was told what the message tells.
+    /// The node has heard what the message tells.
     Delivered,
     /// The router sends the key to the partition.
     Routed(PartId),

@@ -21,21 +21,21 @@ pub enum Event {
     OpenNext,
     /// The leader begins a course from the newest plan to this one.
     Begin(Plan),
-    /// A partition gives on the first keys, at most so many, that are to go and are still there.
+    /// A partition gives the first keys that are to go and are still there, at most that many.
     Give(PartId, u64),
-    /// A partition gives on one key.
+    /// A partition gives one key.
     GiveAt(PartId, Key),
     /// The chunk of that index, from 0, comes to its destination.
     Load(usize),
     /// A partition reports that it has all keys of a sub-plan.
     Finish(PartId, u32),
-    /// A node sends what it was told and told itself.
+    /// A node sends what it has heard and what it has reported itself.
     Send(Node),
     /// The message of that index, from 0, comes to a node.
     Deliver(usize, Node),
     /// A router is asked where to send a key.
     Route(u32, Key),
-    /// A partition is asked for a key, with the number of the last move that was followed, 0 where
-    /// none was.
+    /// A partition is asked for a key, with the number of the last move that was followed, or 0 if
+    /// there was none.
     Serve(PartId, Key, u32),
 }

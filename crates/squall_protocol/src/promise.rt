@@ -6,14 +6,16 @@ ghost use Rattle.squall_protocol.specs.Promises.{RoutesAreServed, MovesAreServed
 
 /// What holds at every moment of every run, whatever is lost, repeated or reordered.
 ///
-/// Each key has one carrier: a partition that holds it, or one chunk on its way. Whatever a node was
-/// told happened, in a course that was begun, so that a key that a router sends to another than its
-/// old partition is loaded there. What it was told is issued under a number is unknown, or both plans
-/// of the course begun under it. What a source sends and is not loaded goes to one destination, in
-/// the sub-plan opened last. A partition to which a router sends a key holds it, waits for it, or has
-/// given it and says to whom; and so does whom it names, or it has not heard of that course yet.
-/// While there is one course the first holds it or has given it, and whom it names holds it or waits
-/// for it.
+/// Each key has one carrier: a partition that holds it, or one chunk on its way. All that a node
+/// has heard did happen, in a course that was begun. So a key that a router sends to another
+/// partition than its old one is loaded there. What a node has heard of the issues under a number
+/// is either nothing, or both plans of the course that was begun under it. The keys that a source
+/// has sent, and that are not loaded, go to one destination, in the sub-plan opened last.
+///
+/// A partition to which a router sends a key holds it, waits for it, or has given it and names the
+/// partition to which it went. The partition that is named does the same, or has not heard of that
+/// course yet. While there is one course, the first partition holds the key or has given it, and
+/// the one that it names holds it or waits for it.
 pub fn promises()
     ensures one_carrier { (w : WorldValue) → IsReached w → OneCarrier w }
     ensures true_reports { (w : WorldValue) → IsReached w → TrueReports w }

@@ -10,6 +10,8 @@ mod leader;
 #[cfg(test)]
 mod part;
 #[cfg(test)]
+mod protocol;
+#[cfg(test)]
 mod router;
 #[cfg(test)]
 mod world;
