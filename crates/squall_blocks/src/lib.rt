@@ -9,7 +9,6 @@
 //! One entry has the keys below 2:0, and another one all others (`Bound` is of `squall_key`).
 //!
 //! ```rust
-//! #[test]
 //! fn entries_above_a_key(rt: HostRuntime) -> Result<(), Fail> {
 //!     let zero = Bound::new(0, 0).expect(&rt, "a bound");
 //!     let two = Bound::new(2, 0).expect(&rt, "a bound");

@@ -6,7 +6,6 @@
 //! `squall_example`).
 //!
 //! ```rust
-//! #[test]
 //! fn owners_of_a_key(rt: HostRuntime) -> Result<(), Fail> {
 //!     let key = Key::new(2, 7).expect(&rt, "a key");
 //!     let old = plan(rt.alloc(), OLD).ok_or("a plan")?;

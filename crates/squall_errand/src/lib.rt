@@ -8,7 +8,6 @@
 //! Partition 1 gave the key to partition 3, in reconfiguration 1.
 //!
 //! ```rust
-//! #[test]
 //! fn follows_the_replies(rt: HostRuntime) -> Result<(), Fail> {
 //!     let source = PartId::new(1).ok_or("a partition")?;
 //!     let dest = PartId::new(3).ok_or("a partition")?;

@@ -10,7 +10,6 @@
 //! A map of greatest numbers takes another one, and a second time without a change.
 //!
 //! ```rust
-//! #[test]
 //! fn joins_maps(rt: HostRuntime) -> Result<(), AllocError> {
 //!     let mut map = JoinMap::single(rt.alloc(), 1u32, Max::new(3))?;
 //!     let other = JoinMap::single(rt.alloc(), 2u32, Max::new(5))?;

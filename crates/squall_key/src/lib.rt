@@ -9,7 +9,6 @@
 //! A key is read from text, and compared with other keys and with bounds.
 //!
 //! ```rust
-//! #[test]
 //! fn keys_and_bounds(rt: HostRuntime) {
 //!     let key = Key::read("2:7").expect(&rt, "a key");
 //!     assert!(rt; (key.root(), key.second()) == (2, 7));

@@ -12,7 +12,6 @@
 //! A plan is read from text, and names the partition of a key (`Key` is of `squall_key`).
 //!
 //! ```rust
-//! #[test]
 //! fn plan_of_two_ranges(rt: HostRuntime) -> Result<(), Fail> {
 //!     let text = concat!(
 //!         r#"{"plan":[{"part":3,"from":[2,0],"to":"end"},"#,

@@ -9,7 +9,6 @@
 //! `squall_example`).
 //!
 //! ```rust
-//! #[test]
 //! fn chunk_of_a_move(rt: HostRuntime) -> Result<(), Fail> {
 //!     let source = PartId::new(1).ok_or("a partition")?;
 //!     let dest = PartId::new(3).ok_or("a partition")?;

@@ -6,7 +6,6 @@
 //! Partition 3 reports a load in sub-plan 0 of reconfiguration 1 (`span` is of `squall_example`).
 //!
 //! ```rust
-//! #[test]
 //! fn reports_of_a_load(rt: HostRuntime) -> Result<(), Fail> {
 //!     let keys = span("2:0", "3:0").ok_or("a span")?;
 //!     let load = Report::loaded(1, 0, 3, keys).ok_or("a load")?;

@@ -8,7 +8,6 @@
 //! A set gets two spans, and then the keys between them (`Bound` and `Key` are of `squall_key`).
 //!
 //! ```rust
-//! #[test]
 //! fn set_of_two_spans(rt: HostRuntime) -> Result<(), Fail> {
 //!     let two = Bound::new(2, 0).expect(&rt, "a bound");
 //!     let five = Bound::new(5, 0).expect(&rt, "a bound");
