@@ -1,7 +1,5 @@
 //! Boards: what was reported, and to which partition that sends each key.
 //!
-//! Its tests are in `crates/squall_test_boards/src/board.rt`.
-//!
 //! # Example
 //!
 //! A board takes a load, which moves a key of the course from partition 1 to 3. The course and the
@@ -18,6 +16,8 @@
 //!     Ok(())
 //! }
 //! ```
+//!
+//! Its tests are in `crates/squall_test_boards/src/board.rt`.
 #![tactic(auto)]
 
 mod beyond;

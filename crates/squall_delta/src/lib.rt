@@ -4,8 +4,6 @@
 //! All of these are boards or digests of boards. Whoever merges the boards, in any order and any
 //! number of times, has the same board in the end.
 //!
-//! Its tests are in `crates/squall_test_frames/src/delta.rt`.
-//!
 //! # Example
 //!
 //! A node sends a digest of its board, and merges the repair that another node answers with.
@@ -25,6 +23,8 @@
 //!     Ok(())
 //! }
 //! ```
+//!
+//! Its tests are in `crates/squall_test_frames/src/delta.rt`.
 #![tactic(auto)]
 
 mod cut;

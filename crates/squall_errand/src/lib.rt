@@ -1,8 +1,6 @@
 //! Errands: each finds the partition that holds a key, by the replies of the partitions that it
 //! asks.
 //!
-//! Its tests are in `crates/squall_test_nodes`.
-//!
 //! # Example
 //!
 //! Partition 1 gave the key to partition 3, in reconfiguration 1.
@@ -20,6 +18,8 @@
 //!     Ok(())
 //! }
 //! ```
+//!
+//! Its tests are in `crates/squall_test_nodes`.
 #![tactic(auto)]
 
 mod errand;

@@ -3,8 +3,6 @@
 //! A join of two values is the least value that has all that either has. Values that are joined in
 //! any order, and any number of times, give the same value.
 //!
-//! Its tests are in `crates/squall_test_values/src/join.rt`.
-//!
 //! # Example
 //!
 //! A map of greatest numbers takes another one, and a second time without a change.
@@ -21,6 +19,8 @@
 //!     Ok(())
 //! }
 //! ```
+//!
+//! Its tests are in `crates/squall_test_values/src/join.rt`.
 #![tactic(auto)]
 
 mod basic;

@@ -1,7 +1,5 @@
 //! A reconfiguration as a picture in SVG: both plans, the moves between them, and how far each has come.
 //!
-//! Its tests are in `crates/squall_test_status/src/picture.rt`.
-//!
 //! # Example
 //!
 //! The picture of a course shows each move, with a title that says how far it has come.
@@ -20,6 +18,8 @@
 //!     Ok(())
 //! }
 //! ```
+//!
+//! Its tests are in `crates/squall_test_status/src/picture.rt`.
 #![tactic(auto)]
 
 mod axis;

@@ -1,8 +1,6 @@
 //! Routers, which answer for each key which partition to ask. Errands, which bring a key to its
 //! partition by what partitions reply, start at a router.
 //!
-//! Its tests are in `crates/squall_test_nodes/src/router.rt`.
-//!
 //! # Example
 //!
 //! `course` moves the keys from 2:0 to 3:0 from partition 1 to 3, and `load` reports that they are
@@ -24,6 +22,8 @@
 //!     Ok(())
 //! }
 //! ```
+//!
+//! Its tests are in `crates/squall_test_nodes/src/router.rt`.
 #![tactic(auto)]
 
 mod issues;

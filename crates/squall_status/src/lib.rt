@@ -1,7 +1,5 @@
 //! How far a reconfiguration has come: what is loaded and what is missing, by a course and a board.
 //!
-//! Its tests are in `crates/squall_test_status/src/status.rt`.
-//!
 //! # Example
 //!
 //! A course has two moves, of a quarter and of three quarters of the keys. The second is complete
@@ -22,6 +20,8 @@
 //!     Ok(())
 //! }
 //! ```
+//!
+//! Its tests are in `crates/squall_test_status/src/status.rt`.
 #![tactic(auto)]
 
 pub mod laws;

@@ -7,8 +7,6 @@
 //! Legs are kept in blocks, each as the bound at which it ends, with its partition. So a patch
 //! moves only entries of the blocks that it changes, however many legs there are.
 //!
-//! Its tests are in `crates/squall_test_tables/src/table.rt`.
-//!
 //! # Example
 //!
 //! `course` moves the keys from 2:0 to 3:0 from partition 1 to 3, and `load` reports that they are
@@ -30,6 +28,8 @@
 //!     Ok(())
 //! }
 //! ```
+//!
+//! Its tests are in `crates/squall_test_tables/src/table.rt`.
 #![tactic(auto)]
 
 mod entries;

@@ -3,8 +3,6 @@
 //! A frame holds one message: a delta, which is a board, or a digest of one. Each message has one
 //! frame, and no frame begins another. So a stream of frames may be cut anywhere.
 //!
-//! Its tests are in `crates/squall_test_frames/src/wire.rt`.
-//!
 //! # Example
 //!
 //! A board is encoded into a frame, and the frame decodes to the same board.
@@ -18,6 +16,8 @@
 //!     Ok(())
 //! }
 //! ```
+//!
+//! Its tests are in `crates/squall_test_frames/src/wire.rt`.
 #![tactic(auto)]
 
 mod build;
