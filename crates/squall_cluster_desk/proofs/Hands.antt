@@ -39,7 +39,7 @@ pub waits_said : (b : Bool) (pend : List Entry) (h : Option Entry) → (IsTrue b
 waits_said true pend h f g s le = waits_pending pend h le (f refl)
 waits_said false pend h f g s le = waits_none pend h (λ lt. true≢false (sym (g lt))) s
 
--- one letter more in hand, where none was
+-- one letter more in hand, if none was
 pub alone : (pend : List Entry) (e : Entry) → pend ≡ [] → letters (pend ++ e ∷ []) ≡ e.letter ∷ []
 alone pend e empty = ap (λ (p : List Entry). letters (p ++ e ∷ [])) empty
 

@@ -16,8 +16,8 @@ pub record Seen : Type 0 where
 abbrev pub nothing_seen : Seen
 nothing_seen = record { seen = []; known = [] }
 
--- a look gave this partition for the key, and this list of letters: the list is of this book, its letters are allowed, and the partition is that of a
--- router of the first course after them
+-- a look gave this partition for the key, and this list of letters. The list is of this book, and its letters are allowed. The
+-- partition is that of a router of the first course after them
 abbrev pub IsLook : Allowance → Book → Change → BoardValue → ℕ → ℕ × Run → Type 0
 IsLook allowed book first opening key look =
     (look.1.book ≡ book) × (look.0 ≡ route_by_newest first (board_after opening look.1.log) key) × AreLetters allowed look.1.log

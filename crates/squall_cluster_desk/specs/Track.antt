@@ -8,12 +8,12 @@ use Rattle.squall_board.specs.Boards.{BoardValue}
 pub record IsKept (cells : List Cell) (log : List BoardValue) : Type 0 where
   pub words : cells ≡ (length log, true) ∷ (0, true) ∷ []
 
--- a beginning of the list of a book
+-- a prefix of the list of a book
 pub record Run : Type 0 where
   pub book : Book
   pub log : List BoardValue
 
--- both are beginnings of one list: one of them begins the other
+-- both are prefixes of one list: one of them begins the other
 abbrev pub AreOfOneList : List BoardValue → List BoardValue → Type 0
 AreOfOneList xs ys = IsPrefix xs ys ⊎ IsPrefix ys xs
 

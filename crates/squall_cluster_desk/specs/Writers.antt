@@ -19,7 +19,8 @@ module _ {V P A S : Type 0} {g : Ghosts Shown Entry S} where
   abbrev pub unshown : Writer Shown Entry V P A S g → List Entry
   unshown writer = drop writer.behind writer.log.items
 
-  -- readers see the entry that waited, and none waits: its letter stands behind the list, and what is shown is all of that list, which is of this book
+  -- readers see the entry that waited, and none waits. Its letter is added at the end of the list. What is shown is all of that
+  -- list, which is of this book
   abbrev pub HasShown : Allowance → Book → Change → BoardValue → Writer Shown Entry V P A S g → Writer Shown Entry V P A S g → Type 0
   HasShown allowed book first opening before after =
       (unshown after ≡ []) × ((shown after).prefix.log ≡ (shown before).prefix.log ++ letters (unshown before))

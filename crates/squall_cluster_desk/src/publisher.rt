@@ -46,8 +46,8 @@ impl<K: Constants, R: Wait + Drop> Model for Publisher<K, R> {
         × ShowsAll K.allowed K.first K.opening (shown p.writer) };
 }
 
-/// The list with the letter behind. The publisher alone lengthens the list, so the first attempt adds
-/// the letter.
+/// The list with the letter at its end. The publisher alone lengthens the list, so the first
+/// attempt adds the letter.
 fn lengthened<R: Wait>(rt: &R, track: &Track, before: &Prefix, letter: &Letter) -> Prefix
     requires { track.now ≡ before.now.book }
     ensures { (result.book ≡ before.now.book) × (result.log ≡ before.now.log ++ letter.now ∷ []) }
@@ -80,7 +80,7 @@ fn settle<K: Constants>(
     Ok(())
 }
 
-/// Shows readers the letter that is pending. At `Err` they see what they saw.
+/// Shows readers the letter that is pending. At `Err` they see what they saw before.
 fn show<K: Constants, R: Wait>(
     rt: &R,
     writer: DeskWriter<K>,
@@ -125,8 +125,9 @@ impl<K: Constants, R: Wait + Drop> Publisher<K, R> {
         Ok((publisher, places))
     }
 
-    /// Changes nothing: after it a proof knows that each published letter is one that the cluster allows,
-    /// that a count of 64 bits holds their number, and that at most one letter is in hand.
+    /// Changes nothing: after it a proof knows that each published letter is one that the cluster
+    /// allows, and that at most one letter is in hand. It also knows that a count of 64 bits holds
+    /// the number of published letters.
     pub fn known(&self)
         ensures letters { AreLetters K.allowed self.now.published }
         ensures count { length self.now.published < 2 ^ 64 }

@@ -72,9 +72,9 @@ fn look<K: Constants>(reader: DeskReader<K>, key: Key) -> (DeskReader<K>, Option
     }
 }
 
-/// A seat: a reader of the desk, with a place of its own. Contracts see two beginnings of the published
-/// list: the letters that were published at its last look, and those that it knows from that look and
-/// from notices.
+/// A seat: a reader of the desk, with a place of its own. Contracts see two prefixes of the
+/// published list: the letters that were published at its last look, and those that it knows from
+/// that look and from notices.
 ///
 /// A seat that is dropped gives its place back.
 #[derive(Drop)]
@@ -105,9 +105,9 @@ impl<K: Constants> Seat<K> {
         }
     }
 
-    /// The partition to ask for the key, by a look at the desk: a router that has taken the letters then
-    /// seen gives it. `None` if the owner of the desk is gone, and then nothing changed. `None` also for
-    /// a look at less than the seat knows, which no desk gives.
+    /// The partition to ask for the key, by a look at the desk. It is the route of a router that
+    /// has taken the letters then seen. `None` if the owner of the desk is gone, and then nothing
+    /// changed. `None` also if the look shows less than the seat knows, which no desk does.
     ///
     /// It waits for nobody and allocates nothing.
     pub fn route(&mut self, key: Key) -> Option<PartId>
@@ -156,8 +156,8 @@ impl<K: Constants> Seat<K> {
     }
 }
 
-/// The seats of a cluster see one list: what two of them have seen or know are beginnings of one list.
-/// It changes nothing, and a proof knows this after it.
+/// The seats of a cluster see one list: what two of them have seen or know are prefixes of one
+/// list. It changes nothing, and a proof knows this after it.
 pub fn one_list<K: Constants>(one: &Seat<K>, other: &Seat<K>)
     ensures seen { AreOfOneList one.now.seen other.now.seen }
     ensures known { AreOfOneList one.now.known other.now.known }
@@ -168,7 +168,7 @@ pub fn one_list<K: Constants>(one: &Seat<K>, other: &Seat<K>)
     one.seen.beside(&other.known);
 }
 
-/// A notice of a cluster tells a beginning of the list that its seats see. It changes nothing, and a
+/// A notice of a cluster tells a prefix of the list that its seats see. It changes nothing, and a
 /// proof knows this after it.
 pub fn one_list_of_notice<K: Constants>(seat: &Seat<K>, notice: &Notice<K>)
     ensures seen { AreOfOneList seat.now.seen notice.now }

@@ -66,7 +66,7 @@ impl Model for Track {
     ghost invariant = { λ t. t.head ≡ head_of t.head.book };
 }
 
-/// A beginning of the list.
+/// A prefix of the list.
 #[derive(Drop)]
 pub struct Prefix {
     count: u64,
@@ -98,7 +98,7 @@ impl Prefix {
         self.count
     }
 
-    /// The same beginning once more.
+    /// The same prefix once more.
     pub fn again(&self) -> Prefix
         ensures { result ≡ self.now }
     {
@@ -120,7 +120,7 @@ impl Prefix {
         self.count <= other.count
     }
 
-    /// Changes nothing: after it a proof knows that both are beginnings of one list.
+    /// Changes nothing: after it a proof knows that both are prefixes of one list.
     pub fn beside(&self, other: &Prefix)
         requires { other.now.book ≡ self.now.book }
         ensures { AreOfOneList self.now.log other.now.log }

@@ -37,7 +37,7 @@ pub record Taking : Type 0 where
   pub made : ℕ
   pub vouched : List (ℕ × List BoardValue)
 
--- a taker that took nothing, after so many senders were made
+-- a taker that took nothing, after that many senders were made
 abbrev pub taking_with : TableId → ℕ → Taking
 taking_with inbox made = record { inbox = inbox; taken = []; made = made; vouched = [] }
 

@@ -47,11 +47,11 @@ abbrev pub live : (ℕ → ℕ) → ℕ → ℕ
 live seat zero = 0
 live seat (suc n) = live seat n + present (seat n)
 
--- a live sender has one pass, which knows what it posted (seat p is 0 where p has ended or never was, and else the pass plus 1)
+-- a live sender has one pass, which knows what it posted (seat p is 0 if p has ended or never was, and else the pass plus 1)
 abbrev pub FitsSender : (ℕ → ℕ) → (ℕ → List BoardValue) → ℕ → Knows → Type 0
 FitsSender seat sent pass v = v.sends ≡ true → (seat v.from ≡ pass + 1) × (v.put ≡ sent v.from)
 
--- the one taker knows what was taken, and vouches for what those posted that have ended
+-- the one taker knows what was taken, and vouches for what each sender posted that has ended
 abbrev pub FitsTaker : ℕ → (ℕ → ℕ) → (ℕ → List BoardValue) → List Parcel → ℕ → Knows → Type 0
 FitsTaker keeper seat sent taken pass v =
     v.owns ≡ true

@@ -11,7 +11,7 @@ use Rattle.squall_cluster_inbox.specs.declared.letter.Parcel.{Parcel}
 abbrev pub Allowance : Type 0
 Allowance = Option (List (List (ReportKind PlanPair)))
 
--- the list of number p, and the empty one where there is none
+-- the list of number p, and the empty one if there is none
 abbrev pub list_at : {A : Type 0} → ℕ → List (List A) → List A
 list_at p [] = []
 list_at zero (l ∷ ls) = l

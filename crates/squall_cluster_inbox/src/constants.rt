@@ -8,11 +8,12 @@ ghost use Rattle.squall_cluster_inbox.specs.Letters.{Allowance};
 
 use std::marker::Brand;
 
-/// What is fixed for one cluster: its first course, the board that it opens with, the letters that
-/// may be posted in it, and the book in which the proofs keep the list of those that are published.
+/// What is fixed for one cluster: its first course, the board that it opens with, and the letters
+/// that may be posted in it. It also has the book in which the proofs keep the list of published
+/// letters.
 ///
-/// No value of it is made. A program picks these where it calls, with [`Brand`] as the type
-/// argument, a function over a `K: Constants`, and it may pick others at each call.
+/// No value of it is made. A program picks these when it calls a function over a `K: Constants`,
+/// with [`Brand`] as the type argument. It may pick others at each call.
 pub trait Constants {
     ghost book: { Book };
 

@@ -17,6 +17,6 @@ pub struct Knows {
     pub taken: LinkedList<Parcel>,
     /// How many senders were made.
     pub made: u64,
-    /// What each sender posted whose pass the taker joined to its own.
+    /// What each sender posted, for those whose pass the taker joined to its own.
     pub vouched: LinkedList<(u64, LinkedList<Letter>)>,
 }

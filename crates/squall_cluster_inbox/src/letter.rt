@@ -6,7 +6,7 @@ ghost use Rattle.squall_board.specs.Boards.{IsBoard};
 use squall_board::Delta;
 use std::marker::Model;
 
-/// A board that is posted, for the cluster's own board to be joined with. Contracts see a letter as
+/// A board that is posted, to be joined with the cluster's own board. Contracts see a letter as
 /// that board.
 #[derive(Drop)]
 pub struct Letter {

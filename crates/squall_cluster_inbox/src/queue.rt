@@ -11,8 +11,8 @@ use crossbeam_queue::protocol::{Join, Lesson, Outcome, Protocol, Split};
 use crossbeam_queue::{Pass, RuledArrayQueue};
 use std::marker::PhantomData;
 
-/// The rule: what each sender posted is what was taken of it and then what the queue holds of it, and
-/// the queue holds letters that the cluster allows.
+/// The rule: what each sender posted is what was taken of it, and then what the queue still holds
+/// of it. The queue holds only letters that the cluster allows.
 pub struct InOrder<K> {
     of: PhantomData<K>,
 }
@@ -42,7 +42,7 @@ impl Join<Knows> for Retires {
 }
 
 /// A push: the list of what the sender posted grows by the letter. A push that is refused changes
-/// nothing, and tells that of this sender's letters the last ones wait.
+/// nothing. It shows that the letters of this sender that wait are the last that it posted.
 pub struct Posts;
 
 impl Outcome<Parcel, Knows> for Posts {
@@ -53,8 +53,8 @@ impl Lesson<Parcel, Knows> for Posts {
     ghost fact = { λ v items. AreLast (of v.from items) v.put };
 }
 
-/// A pop: the list of what was taken grows by the parcel. A pop that finds nothing changes nothing,
-/// and tells that nothing is left of the senders whose passes are all joined.
+/// A pop: the list of what was taken grows by the parcel. A pop that finds nothing changes nothing.
+/// If the passes of all senders are joined, it shows that all that they posted is taken.
 pub struct Takes<K> {
     of: PhantomData<K>,
 }

@@ -57,8 +57,9 @@ impl<K: Constants> Sender<K> {
         Sender { inbox, hand, from }
     }
 
-    /// Posts a letter at the back of the inbox. It answers [`Full`], with the letter, if at one moment
-    /// of the call as many letters waited as the inbox has room for, and then nothing was posted.
+    /// Posts a letter at the back of the inbox. It answers [`Full`], with the letter, if the inbox
+    /// was full at one moment of the call: as many letters waited as it has room for. Then nothing
+    /// was posted.
     ///
     /// It may wait while another thread is inside a call on the inbox.
     pub fn post<R: Wait>(&mut self, rt: &R, letter: Letter) -> Result<(), Full>
@@ -81,7 +82,7 @@ impl<K: Constants> Sender<K> {
         }
     }
 
-    /// Ends the sender. The cluster is closed with what comes back.
+    /// Ends the sender. What comes back is needed to close the cluster.
     pub fn end(self) -> Spent
         ensures { result ≡ self }
     {

@@ -14,11 +14,11 @@ use std::alloc::{AllocError, Global};
 use std::marker::Model;
 use std::sync::{Arc, Wait};
 
-/// So many senders may be made.
+/// The most senders that may be made.
 const MOST: u64 = 1 << 62;
 
-/// The one end of the inbox that takes. Contracts see the inbox, the parcels taken in order, how many
-/// senders were made, and what each of those posted that were joined to it.
+/// The one end of the inbox that takes. Contracts see the inbox, the parcels taken in order, and
+/// how many senders were made. They also see what each sender posted that was joined to it.
 #[derive(Drop)]
 pub struct Taker<K: Constants> {
     inbox: Arc<Queue<K>>,
@@ -39,7 +39,8 @@ impl<K: Constants> Model for Taker<K> {
 }
 
 impl<K: Constants> Taker<K> {
-    /// The taker of a new inbox, with room for so many letters. It fails where an allocation fails.
+    /// The taker of a new inbox, with room for `capacity` letters. An error means that an
+    /// allocation failed.
     pub fn open(alloc: Global, capacity: usize) -> Result<Taker<K>, AllocError>
         requires { 0 < capacity }
         ensures new { IfOk result (λ t. t ≡ taking_with t.inbox 0) }
@@ -61,8 +62,8 @@ impl<K: Constants> Taker<K> {
         let _hand = &self.hand;
     }
 
-    /// A new sender, of the least number that none has. It fails where the count of the inbox's owners
-    /// is full, and then nothing changed.
+    /// A new sender, with the least number that none has. An error means that the count of the
+    /// inbox's owners is full, or that 2^62 senders were made: the taker is then unchanged.
     pub fn hire(&mut self) -> Result<Sender<K>, AllocError>
         ensures sender { IfOk result (λ s. s ≡ posting_of self.old.inbox self.old.made []) }
         ensures made { OnOk result (self.new ≡ record self.old { made = self.old.made + 1 }) }
@@ -78,8 +79,9 @@ impl<K: Constants> Taker<K> {
         Ok(Sender::<K>::of_parts(inbox, hand, from))
     }
 
-    /// Takes the parcel at the front of the inbox. None where the inbox was empty, and then nothing
-    /// changed, and once all senders are joined to the taker, all that they posted is taken.
+    /// Takes the first parcel of the inbox. `None` means that the inbox was empty, and then nothing
+    /// changed. If all senders are joined to the taker, it also means that all that they posted is
+    /// taken.
     ///
     /// It may wait while another thread is inside a call on the inbox.
     pub fn take<R: Wait>(&mut self, rt: &R) -> Option<Parcel>

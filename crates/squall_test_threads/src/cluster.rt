@@ -58,7 +58,7 @@ fn letter(alloc: Global, report: &Report) -> Option<Letter> {
 }
 
 /// The letter of the load. None if an allocation fails.
-fn load_letter(alloc: Global) -> Option<Letter> {
+pub(crate) fn load_letter(alloc: Global) -> Option<Letter> {
     let report = load()?;
     letter(alloc, &report)
 }
@@ -103,14 +103,14 @@ fn is_board_of_both(alloc: Global, board: &Board) -> Option<bool> {
 
 /// What a cluster begins with: its course and its opening board.
 #[derive(Drop)]
-struct Origin {
+pub(crate) struct Origin {
     first: Arc<Course>,
     opening: Board,
 }
 
 impl Origin {
     /// The start of a cluster that begins with this.
-    fn start(&self) -> Start
+    pub(crate) fn start(&self) -> Start
         ensures first { result.first ≡ arc_value self.now.first }
         ensures board { result.board ≡ self.now.opening }
     {
@@ -119,7 +119,7 @@ impl Origin {
 }
 
 /// Course 1 and the board of no report. None if an allocation fails.
-fn empty_origin(alloc: Global) -> Option<Origin> {
+pub(crate) fn empty_origin(alloc: Global) -> Option<Origin> {
     let first = course(alloc)?;
     let opening = Board::new(alloc);
     Some(Origin { first, opening })

@@ -4,4 +4,8 @@
 #[cfg(test)]
 mod cluster;
 #[cfg(test)]
+mod cluster_desk;
+#[cfg(test)]
+mod cluster_inbox;
+#[cfg(test)]
 mod race;

@@ -1,0 +1,3 @@
+//! Queries of the desk alone.
+
+mod example;

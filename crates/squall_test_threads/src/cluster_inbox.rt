@@ -1,0 +1,3 @@
+//! Queries of the inbox alone.
+
+mod example;
