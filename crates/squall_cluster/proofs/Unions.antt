@@ -41,18 +41,18 @@ are_append : (xs ys : List BoardValue) → AllByRecursion IsBoard xs → AllByRe
 are_append [] ys h g = g
 are_append (x ∷ xs) ys h g = (h.0, are_append xs ys h.1 g)
 
--- all are boards where those of each list are
+-- all are boards if those of each list are
 are_all : (lists : List Reports) → ((p : ℕ) → AllByRecursion IsBoard (boards_of (list_at p lists))) → AllByRecursion IsBoard (boards_of (all_of lists))
 are_all [] h = tt
 are_all (l ∷ ls) h = subst (AllByRecursion IsBoard) (sym (boards_append l (all_of ls))) (are_append (boards_of l) (boards_of (all_of ls)) (h 0) (are_all ls (λ p. h (suc p))))
 
--- what stands in one list stands in all
+-- what is in one list is in all
 in_all : (x : BoardValue) (p : ℕ) (lists : List Reports) → Contains (boards_of (list_at p lists)) x → Contains (boards_of (all_of lists)) x
 in_all x p [] i = absurd (stands_nowhere x i)
 in_all x zero (l ∷ ls) i = subst (λ l. Contains l x) (sym (boards_append l (all_of ls))) (Contains-append_left (boards_of l) (boards_of (all_of ls)) x i)
 in_all x (suc p) (l ∷ ls) i = subst (λ l. Contains l x) (sym (boards_append l (all_of ls))) (Contains-append_right (boards_of l) (boards_of (all_of ls)) x (in_all x p ls i))
 
--- what stands in all stands in one of them
+-- what is in all is in one of them
 in_one : (x : BoardValue) (lists : List Reports) → Contains (boards_of (all_of lists)) x → (p : ℕ) × Contains (boards_of (list_at p lists)) x
 in_one x [] i = absurd (stands_nowhere x i)
 in_one x (l ∷ ls) i = ⊎_elim (λ a. (0, a)) (λ b. let t = in_one x ls b in (suc t.0, t.1)) (Contains-append_cases (boards_of l) (boards_of (all_of ls)) x (subst (λ l. Contains l x) (boards_append l (all_of ls)) i))

@@ -8,7 +8,7 @@ use Rattle.squall_cluster.specs.declared.cluster.ClusterFault.TheVariants.{BadSe
 abbrev pub InLimits : Sizes → Type 0
 InLimits sizes = (1 ≤ sizes.senders) × (sizes.senders ≤ 64) × (sizes.readers ≤ 64) × (1 ≤ sizes.capacity) × (sizes.capacity ≤ 65536)
 
--- each fault is told only of its cause, and want of memory only within the limits
+-- each fault comes only of its cause, and want of memory only within the limits
 abbrev pub FaultOf : Sizes → ClusterFault → Type 0
 FaultOf sizes BadSenders = (sizes.senders ≡ 0) ⊎ (64 < sizes.senders)
 FaultOf sizes BadReaders = (1 ≤ sizes.senders) × (sizes.senders ≤ 64) × (64 < sizes.readers)

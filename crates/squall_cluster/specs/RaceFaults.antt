@@ -10,7 +10,7 @@ use Rattle.squall_cluster.specs.declared.halt.RaceFault.{RaceFault}
 use Rattle.squall_cluster.specs.declared.halt.RaceFault.TheVariants.{BadSenders, BadReaders, BadCapacity, NoPlace, NoThread, NoMemory}
 use Rattle.squall_cluster.specs.Faults.{InLimits, FaultOf}
 
--- a size out of its limits is told as by a cluster, and any other fault only within the limits
+-- a size out of its limits has the fault that a cluster has of it, and any other fault comes only within the limits
 abbrev pub RaceFaultOf : Sizes → RaceFault → Type 0
 RaceFaultOf sizes BadSenders = FaultOf sizes Cluster.BadSenders
 RaceFaultOf sizes BadReaders = FaultOf sizes Cluster.BadReaders

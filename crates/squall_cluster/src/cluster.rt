@@ -108,8 +108,8 @@ fn hire_all<K: Constants, R: Wait + Drop>(
 impl<K: Constants> Cluster<K> {
     /// A new cluster, with that start and these sizes.
     ///
-    /// It answers the first of the faults that is there, in their order. With 0 readers it keeps one
-    /// place, which is never handed out.
+    /// If several faults apply, it answers the first of them, in the order of [`ClusterFault`].
+    /// With 0 readers it keeps one place, which is never handed out.
     pub fn new<R: Wait + Drop>(
         rt: R,
         alloc: Global,

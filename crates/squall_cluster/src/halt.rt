@@ -47,7 +47,7 @@ impl From<ClusterFault> for RaceFault {
     }
 }
 
-/// Why a race was called off: the faults that one of its threads may tell.
+/// Why a race was called off: the faults that one of its threads may report.
 #[derive(Clone, Copy, Debug, PartialEq)]
 pub(crate) enum Stop {
     NoPlace,
@@ -97,7 +97,7 @@ impl Halt {
         }
     }
 
-    /// Calls the race off, unless it is off already: the cause that was told first stays.
+    /// Calls the race off, unless it is off already. The cause that was given first stays.
     pub(crate) fn stop(&self, cause: Stop) -> Off {
         let _told = self.cause.try_set(cause);
         Off
@@ -111,7 +111,7 @@ impl Halt {
         }
     }
 
-    /// The cause that was told first, once all threads of a race that is off have ended.
+    /// The cause that was given first, once all threads of a race that is off have ended.
     pub(crate) fn cause(&self) -> Stop {
         match self.cause.get() {
             Some(cause) => *cause,

@@ -24,9 +24,9 @@ pub fn letters_are_joined(opening: &Board)
     opening.known();
 }
 
-/// Publishing a letter has the effect of one router that absorbs it, as a message delivered to it: the
-/// desk then shows the router that it showed before, with the letter absorbed. A look at the desk is
-/// that router's route.
+/// Publishing a letter has the effect of one router that absorbs it, as a message delivered to it.
+/// The desk then shows the router that it showed before, with the letter absorbed. A look at the
+/// desk is that router's route.
 pub fn publishing_is_absorbing()
     ensures absorbed { (first : Change) (opening : BoardValue) (published : List BoardValue) (letter : BoardValue)
         → HasAbsorbed (shown_router first opening published) letter (shown_router first opening (published ++ letter ∷ [])) }

@@ -4,6 +4,29 @@
 //! A call that "fails (memory)" does so only if an allocation fails, or if a count of owners is full.
 //!
 //! Its tests are in `crates/squall_test_threads/src/cluster.rt`.
+//!
+//! # Example
+//!
+//! The first course moves the key 2:0 from partition 1 to 3, and `letter` brings the report that it
+//! is loaded.
+//!
+//! ```rust
+//! fn routes_by_a_letter<K: Constants, R: Abort + Wait>(
+//!     rt: &R,
+//!     sender: &mut Sender<K>,
+//!     owner: &mut Owner<K, &R>,
+//!     seat: &mut Seat<K>,
+//!     letter: Letter,
+//! ) -> Result<(), Fail>
+//!     requires { K.allowed ≡ None }
+//! {
+//!     let key = Key::new(2, 0).ok_or("a key")?;
+//!     assert!(rt; sender.post(rt, letter).is_ok());
+//!     seat.learn(&owner.turn()?.notice);
+//!     assert!(rt; seat.route(key) == PartId::new(3));
+//!     Ok(())
+//! }
+//! ```
 #![tactic(auto)]
 
 mod closing;

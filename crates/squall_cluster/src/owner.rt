@@ -84,7 +84,8 @@ impl<K: Constants, R: Wait + Drop> Owner<K, R> {
         self.publisher.known();
     }
 
-    /// Takes the letter at the front of the inbox in hand, if none is in hand. It says whether one is.
+    /// Takes the first letter of the inbox in hand, if none is in hand. It answers whether one is
+    /// in hand then.
     fn take(&mut self) -> bool
         ensures same { (self.new.published ≡ self.old.published) × SameSenders self.old self.new }
         ensures hand { MatchBool result (length self.new.hand ≡ 1) (self.new.hand ≡ []) }

@@ -160,7 +160,7 @@ fn run_all<K: Constants + Send + Sync, G: Gate + Sync, R: Threads + Wait + Sync,
 pub struct Raced {
     /// What was reported: the join of the opening board and of all reports of the lists.
     pub board: Board,
-    /// For each reader the partitions to which it was sent, one a key.
+    /// For each reader the partitions to which it was sent, one for each key.
     pub routes: Vec<Vec<PartId>>,
 }
 
@@ -243,13 +243,13 @@ fn race_in<K: Constants + Send + Sync, G: Gate + Sync, R: Threads + Wait + Sync>
 /// each of these steps.
 ///
 /// The board that it gives tells what the opening board and all reports of the lists tell, whatever
-/// the schedule. Each reader's routes are by the first course and by boards that only grow: the opening
-/// board joined with letters, each of which brings a report of the lists.
+/// the schedule. Each reader's routes are by the first course and by boards that only grow. Such a
+/// board is the opening board joined with letters, each of which brings a report of the lists.
 ///
-/// The faults of the sizes are tried in this order. `BadSenders` is told unless there are 1 to 64
-/// lists, `BadReaders` for more than 64 readers, and `BadCapacity` unless the inbox has room for 1 to
-/// 65536 letters. Then come `NoPlace` if a seat or a look is refused, `NoThread` if a thread cannot be
-/// started, and `NoMemory`. No thread of the call is left running.
+/// The faults of the sizes are tried in this order. `BadSenders` comes unless there are 1 to 64
+/// lists, and `BadReaders` if there are more than 64 readers. `BadCapacity` comes unless the inbox
+/// has room for 1 to 65536 letters. Then come `NoPlace` if a seat or a look is refused, `NoThread`
+/// if a thread cannot be started, and `NoMemory`. No thread of the call is left running.
 pub fn race<G: Gate + Sync, R: Threads + Wait + Sync>(
     rt: &R,
     alloc: Global,

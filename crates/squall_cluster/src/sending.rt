@@ -29,9 +29,9 @@ fn letter_of(alloc: Global, report: &Report) -> Result<Letter, AllocError>
     Ok(Letter::new(delta))
 }
 
-/// Leaves the processor to other threads that many times. It says how many times to do so if the inbox
-/// is full again: twice as many, up to 64. A sender that tried again at once would take the inbox's
-/// words in memory from the owner, which alone can make room.
+/// Leaves the processor to other threads that many times. It answers how many times to do so if the
+/// inbox is full again: twice as many, up to 64. A sender that tried again at once would take the
+/// inbox's words in memory from the owner, which alone can make room.
 fn pause(times: u32) -> u32 {
     for _ in 0..times {
         thread::yield_now();

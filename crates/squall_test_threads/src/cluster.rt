@@ -8,6 +8,7 @@ ghost use Rattle.squall_cluster.specs.Owners.{owning_with, IsBoardOfPosted};
 ghost use Rattle.squall_cluster.specs.CloseFaults.{owner_of, spent_of};
 
 mod clusters;
+mod example;
 mod gates;
 mod made;
 mod numbered;

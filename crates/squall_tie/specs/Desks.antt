@@ -24,8 +24,8 @@ pub record StandsFor (w : WorldValue) (r : ℕ) (first : Change) (opening : Boar
 abbrev pub IsMessageOf : WorldValue → ℕ → BoardValue → Type 0
 IsMessageOf w i letter = (message : Queries) × (slice_get w.messages i ≡ Some message) × SameQueries message (queries_of letter)
 
--- to publish is to deliver: in each world in which a router stands for what is published, and a message for the letter, the message may be delivered
--- to that router; once it is, the router stands for what is published with the letter behind
+-- to publish is to deliver: take a world in which a router stands for what is published, and a message for the letter. The
+-- message may be delivered to that router. Once it is, the router stands for the published list with the letter at its end
 abbrev pub PublishesByDelivery : BoardValue → Type 0
 PublishesByDelivery opening =
     (allowed : Allowance) (first : Change) (published : List BoardValue) (letter : BoardValue) → AreLetters allowed published → IsLetter allowed letter
@@ -33,8 +33,8 @@ PublishesByDelivery opening =
     → ((v : WorldValue) × DeliverStep w i (Router r) Delivered v)
     × ((v : WorldValue) → DeliverStep w i (Router r) Delivered v → StandsFor v r first opening (published ++ letter ∷ []))
 
--- to look is to route: in each world in which a router stands for what a seat has seen, that router may send a key just to where the look does, and
--- nothing changes
+-- to look is to route: take a world in which a router stands for what a seat has seen. That router may send a key exactly to the
+-- partition that the look gives, and nothing changes
 abbrev pub LooksByRoute : BoardValue → Type 0
 LooksByRoute opening =
     (allowed : Allowance) (first : Change) (seen : List BoardValue) → AreLetters allowed seen
