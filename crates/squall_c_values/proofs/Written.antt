@@ -1,4 +1,4 @@
--- Items that are written one by one to the front of a room.
+-- Items that are written one by one at the start of a room.
 use Rattle.std.proofs.Common.{◌≡◌, ℕ, zero, suc, ◌<◌, min, List, [], ◌∷◌, length, take, map, get_or, set, refl, sym, ap, ◌∙◌, arith, length-take-le, inl, inr}
 use Rattle.std.proofs.lemmas.Bool.{cases_lt}
 use Rattle.std.proofs.lemmas.List.{take_all, length-map}

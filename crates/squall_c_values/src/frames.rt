@@ -26,7 +26,7 @@ fn put_frame(frame: &[u8], room: &mut [u8]) -> usize
     count
 }
 
-/// The frame of the report alone. It fails only if an allocation fails, or if the count of an
+/// The frame of the report alone. An error means that an allocation failed, or that the count of an
 /// issue's owners is full.
 fn report_frame(alloc: Global, report: &Report) -> Result<Vec<u8>, AllocError>
     ensures { IfOk result (λ frame. frame.items ≡ spell (DeltaMessage (report_board report.now))) }
@@ -38,9 +38,9 @@ fn report_frame(alloc: Global, report: &Report) -> Result<Vec<u8>, AllocError>
     }
 }
 
-/// Writes the frame of the report alone into the room, if that holds it, and answers how many bytes it
-/// has. The answer is 0 if there is no report, and [`NO_COUNT`] if an allocation fails. If the room is
-/// too short, nothing is written.
+/// Writes the frame of the report alone into the room, if that holds it, and answers how many bytes
+/// it has. The answer is 0 if there is no report, and [`NO_COUNT`] if an allocation fails. If the
+/// room is too short, nothing is written.
 pub fn put_report(alloc: Global, report: Option<Report>, room: &mut [u8]) -> usize
     ensures { PutsReport report room.old room.new result }
 {

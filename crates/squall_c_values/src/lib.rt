@@ -2,7 +2,24 @@
 //!
 //! Its tests are in `crates/squall_test_tables/src/rooms.rt`.
 //!
-//! A *room* is a list that the caller lends. What fits is written to its front, and the rest of it stays.
+//! A *room* is a list that the caller lends. What fits is written from its start on, and the rest
+//! of it stays.
+//!
+//! # Example
+//!
+//! In sub-plan 0 of the course, keys move to partitions 3 and 4.
+//!
+//! ```rust
+//! fn writes_receivers(rt: &impl Abort, alloc: Global, course: &Course) -> Result<(), Fail> {
+//!     let mut room = [7, 7, 7];
+//!     assert!(rt; put_receivers(alloc, course, 0, &mut room)? == 2);
+//!     assert!(rt; room[0] == 3 && room[1] == 4 && room[2] == 7);
+//!     let mut short = [7];
+//!     assert!(rt; put_receivers(alloc, course, 0, &mut short)? == 1);
+//!     assert!(rt; short[0] == 3);
+//!     Ok(())
+//! }
+//! ```
 #![tactic(auto)]
 
 mod frames;

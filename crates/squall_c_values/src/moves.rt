@@ -71,9 +71,9 @@ fn put_parts(parts: &[PartId], room: &mut [u32]) -> usize
     count
 }
 
-/// Writes the partitions to which keys move in the sub-plan, in rising number, into the
-/// room, as many as it holds, and answers how many. It fails if an allocation fails, and then
-/// nothing is written.
+/// Writes the partitions to which keys move in the sub-plan, in rising number, into the room, as
+/// many as it holds, and answers how many. An error means that an allocation failed: nothing is
+/// then written.
 pub fn put_receivers(
     alloc: Global,
     course: &Course,

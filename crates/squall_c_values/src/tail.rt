@@ -2,7 +2,7 @@
 
 ghost use Rattle.std.specs.Prelude.{◌≡◌, drop};
 
-/// What follows the first `from` items. None where there are no more.
+/// The items after the first `from`. The list is empty if there are no more.
 pub(crate) fn tail_from<T>(items: &[T], from: usize) -> &[T]
     ensures { result.now ≡ drop from items.now }
 {

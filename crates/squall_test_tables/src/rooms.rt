@@ -1,5 +1,7 @@
 //! What C sees of the course of the example plans, written into rooms: worked out by hand.
 
+mod example;
+
 use squall_board::Board;
 use squall_c_values::{
     CLeg, CMove, CPlace, NO_COUNT, put_moves, put_places, put_ranges, put_receivers, put_report,
