@@ -1,7 +1,5 @@
 //! What C sees of moves, legs, places and frames of reports, and how they are written into rooms.
 //!
-//! Its tests are in `crates/squall_test_tables/src/rooms.rt`.
-//!
 //! A *room* is a list that the caller lends. What fits is written from its start on, and the rest
 //! of it stays.
 //!
@@ -20,6 +18,8 @@
 //!     Ok(())
 //! }
 //! ```
+//!
+//! Its tests are in `crates/squall_test_tables/src/rooms.rt`.
 #![tactic(auto)]
 
 mod frames;

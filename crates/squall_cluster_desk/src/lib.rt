@@ -3,8 +3,6 @@
 //!
 //! A call that "fails (memory)" does so only if an allocation fails, or if a count of owners is full.
 //!
-//! Its tests are in `crates/squall_test_threads`.
-//!
 //! # Example
 //!
 //! The first course moves the key 2:0 from partition 1 to 3, and `letter` brings the report that it
@@ -27,6 +25,8 @@
 //!     Ok(())
 //! }
 //! ```
+//!
+//! Its tests are in `crates/squall_test_threads`.
 #![tactic(auto)]
 
 pub mod laws;

@@ -1,7 +1,5 @@
 //! The inbox of a cluster: many senders post boards to one taker, through a queue with limited room.
 //!
-//! Its tests are in `crates/squall_test_threads`.
-//!
 //! # Example
 //!
 //! A sender posts a letter into an inbox with room for one.
@@ -22,6 +20,8 @@
 //!     Ok(())
 //! }
 //! ```
+//!
+//! Its tests are in `crates/squall_test_threads`.
 #![tactic(auto)]
 
 mod constants;

@@ -1,4 +1,4 @@
-//! The example on the first page of the crate.
+//! The example of the crate's first page.
 
 use squall_board::Board;
 use squall_course::Course;
