@@ -39,7 +39,7 @@ fn part_by_reports(router: &Router, key: Key) -> PartId
     router.route(key)
 }
 
-/// The legs of both tables: one list, where the routers began alike and heard the same.
+/// The legs of both tables: one list, if the routers began alike and heard the same.
 fn both_entries<'a>(one: &'a Router, other: &'a Router) -> (Legs<'a>, Legs<'a>)
     ensures { one.now.first ≡ other.now.first → SameTold (told one.now.board) (told other.now.board) → result.0 ≡ result.1 }
 {
@@ -47,7 +47,7 @@ fn both_entries<'a>(one: &'a Router, other: &'a Router) -> (Legs<'a>, Legs<'a>)
     (one.table().entries(), other.table().entries())
 }
 
-/// The partitions to ask for the key: one, where the routers began alike and heard the same.
+/// The partitions to ask for the key: one, if the routers began alike and heard the same.
 fn both_parts(one: &Router, other: &Router, key: Key) -> (PartId, PartId)
     ensures { one.now.first ≡ other.now.first → SameTold (told one.now.board) (told other.now.board) → result.0 ≡ result.1 }
 {

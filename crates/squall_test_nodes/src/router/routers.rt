@@ -31,8 +31,8 @@ fn has_plan(alloc: Global, router: &Router, text: &str) -> Result<bool, Fail> {
     Ok(is_list(router.table().entries(), plan.ranges()))
 }
 
-/// The router goes by the course of that number, has the plan as its table where one is given, and
-/// asks the partitions for the keys.
+/// The router uses the course of that number, has the plan as its table if one is given, and asks
+/// the partitions for the keys.
 fn look_at_router(
     rt: &impl Abort,
     alloc: Global,
@@ -52,8 +52,8 @@ fn look_at_router(
     Ok(())
 }
 
-/// What a router hears, the number of the course that it goes by then, the plan that its table is,
-/// where it is one, and whom it asks for keys.
+/// What a router hears, the number of the course that it then uses, its table if that is a plan, and
+/// the partitions that it asks for keys.
 const ROUTERS: [(&[Said], u32, Option<&str>, &[(&str, u32)]); 18] = [
     (&[], 1, Some(OLD), &[("2:0", 1)]),
     // An opening moves no key, nor does a load in a sub-plan that brings the partition none.

@@ -13,7 +13,7 @@ fn take(alloc: Global, router: &mut Router, said: Said) -> Option<()> {
     router.take(&report).ok()
 }
 
-/// A router that begins with course 1 and has taken so many reports.
+/// A router that begins with course 1 and has taken these reports.
 pub(crate) fn taken(alloc: Global, said: &[Said]) -> Option<Router> {
     let mut router = router(alloc)?;
     for one in said {
@@ -29,13 +29,13 @@ fn are_alike(one: &Router, other: &Router) -> bool {
         && are_same(one.table().entries(), other.table().entries())
 }
 
-/// Whether the router is alike one that has absorbed the boards of so many reports.
+/// Whether the router is alike one that has absorbed the boards of these reports.
 fn is_as_absorbed(alloc: Global, router: &Router, said: &[Said]) -> Option<bool> {
     let other = heard(alloc, said)?;
     Some(are_alike(router, &other))
 }
 
-/// Whether a router that has taken so many reports is alike one that has absorbed their boards.
+/// Whether a router that has taken these reports is alike one that has absorbed their boards.
 fn ends_as_absorbed(alloc: Global, said: &[Said]) -> Option<bool> {
     let router = taken(alloc, said)?;
     is_as_absorbed(alloc, &router, said)

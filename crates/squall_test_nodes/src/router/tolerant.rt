@@ -1,4 +1,4 @@
-//! Where an allocation fails a router is unchanged, or there is none.
+//! If an allocation fails, a router is unchanged, or there is none.
 
 use super::legs::is_list;
 use super::{Said, delta, heard, report};
@@ -47,7 +47,7 @@ fn look(alloc: Global, router: &Router) -> Result<Seen, AllocError> {
     })
 }
 
-/// Whether the router is as it was seen.
+/// Whether the router is unchanged since it was seen.
 fn is_as_seen(router: &Router, seen: &Seen) -> bool {
     *router.board() == seen.board
         && router.course().number() == seen.number
@@ -92,7 +92,7 @@ fn takes_all_or_nothing(
     has_all_or_nothing(router, seen, next, answer)
 }
 
-/// Whether the router has all or nothing of the report. Also where its board could not be made.
+/// Whether the router has all or nothing of the report. Also if its board could not be made.
 fn comes_to(
     alloc: Global,
     router: &mut Router,
@@ -107,7 +107,7 @@ fn comes_to(
     }
 }
 
-/// Whether the router has all or nothing of what is said. Also where an allocation failed before.
+/// Whether the router has all or nothing of what is said. Also if an allocation failed before.
 fn hears_all_or_nothing(alloc: Global, router: &mut Router, said: Said, come: Come) -> bool {
     let Ok(seen) = look(alloc, router) else {
         return true;
@@ -127,7 +127,7 @@ fn hears_each(alloc: Global, router: &mut Router, all: &[Said], come: Come) -> b
     right
 }
 
-/// A load, of which a half was told, a completion, an opening, and an issue.
+/// A load of which a half was heard before, a completion, an opening, and an issue.
 const REPORTS: [Said; 4] = [Said::Load, Said::Done, Said::Opened, Said::Back(2)];
 
 #[test]
@@ -146,8 +146,8 @@ fn tolerant_take(rt: HostRuntime) -> Result<(), Fail> {
     Ok(())
 }
 
-/// A router is made that has heard nothing and goes by the course, or the answer is a failed
-/// allocation; and the course stays.
+/// A router is made that has heard nothing and uses the course, or the answer is a failed
+/// allocation. The course stays.
 fn is_made_or_not(rt: &impl Abort, alloc: Global, course: &Arc<Course>, before: &[Leg]) {
     match Router::new(alloc, course) {
         Ok(router) => assert!(rt; is_list(router.table().entries(), before)),
