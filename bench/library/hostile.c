@@ -1,0 +1,214 @@
+/* Frames of a megabyte that are made to cost most. A router hears each by itself. Prints for each how long that took, how
+ * much memory the router then keeps, and how much there was at most meanwhile, as `NAME: VALUE UNIT` a line. */
+#define _POSIX_C_SOURCE 200809L
+#include "squall.h"
+
+#include <malloc.h>
+#include <stdbool.h>
+#include <stdio.h>
+#include <stdlib.h>
+#include <string.h>
+#include <time.h>
+
+enum { BODY = 1048576, RANGES = 4096, PARTS = 10000 };
+
+static const char OLD[] = "{\"plan\":[{\"part\":1,\"from\":[0,0],\"to\":\"end\"}]}";
+static const char NEW[] = "{\"plan\":[{\"part\":2,\"from\":[0,0],\"to\":\"end\"}]}";
+
+static uint8_t frame[BODY + 8];
+static size_t filled;
+
+static void put(uint64_t value, int bytes) {
+    for (int i = bytes - 1; i >= 0; i--) {
+        frame[filled++] = (uint8_t)(value >> (8 * i));
+    }
+}
+
+static void begin(int version) {
+    filled = 0;
+    put(0x5351, 2);
+    put((uint64_t)version, 1);
+    put(1, 1);
+    put(0, 4);
+}
+
+static void finish(void) {
+    size_t whole = filled;
+    filled = 4;
+    put(whole - 8, 4);
+    filled = whole;
+}
+
+/* How many items of so many bytes still fit, if so many bytes follow them. */
+static uint32_t that_fit(size_t size, size_t after) {
+    return (uint32_t)((BODY + 8 - filled - after) / size);
+}
+
+/* ---- the frames */
+
+static void one_cell_of_spans(void) {
+    begin(1);
+    put(0, 4);
+    put(1, 4);
+    uint32_t spans = that_fit(16, 17);
+    put(1, 4), put(0, 4), put(2, 4), put(0, 1), put(spans, 4);
+    for (uint32_t i = 0; i < spans; i++) {
+        put(10 * (uint64_t)i, 8), put(10 * (uint64_t)i + 1, 8);
+    }
+    finish();
+}
+
+static void cells_that_are_done(bool is_by_number) {
+    begin(1);
+    put(0, 4);
+    uint32_t cells = that_fit(17, 4);
+    put(cells, 4);
+    for (uint32_t i = 0; i < cells; i++) {
+        put(is_by_number ? i + 1 : 1, 4), put(is_by_number ? 0 : i / PARTS, 4);
+        put(is_by_number ? 0 : i % PARTS, 4), put(1, 1), put(0, 4);
+    }
+    finish();
+}
+
+static void cells_of_one_course(void) {
+    cells_that_are_done(false);
+}
+
+static void cells_of_own_courses(void) {
+    cells_that_are_done(true);
+}
+
+static void loads_of_own_courses(void) {
+    begin(1);
+    put(0, 4);
+    uint32_t cells = that_fit(33, 4);
+    put(cells, 4);
+    for (uint32_t i = 0; i < cells; i++) {
+        put(i + 1, 4), put(0, 4), put(0, 4), put(0, 1), put(1, 4), put(0, 8), put(1, 8);
+    }
+    finish();
+}
+
+static void openings(void) {
+    begin(1);
+    uint32_t count = that_fit(8, 8);
+    put(count, 4);
+    for (uint32_t i = 0; i < count; i++) {
+        put(i + 1, 4), put(1, 4);
+    }
+    put(0, 4);
+    finish();
+}
+
+static void clashes(void) {
+    begin(2);
+    put(0, 4);
+    uint32_t count = that_fit(5, 8);
+    put(count, 4);
+    for (uint32_t i = 0; i < count; i++) {
+        put(i + 1, 4), put(2, 1);
+    }
+    put(0, 4);
+    finish();
+}
+
+/* A plan of so many ranges, whose partitions begin at `part`. */
+static void put_plan(uint32_t ranges, uint32_t part) {
+    put(ranges, 4);
+    for (uint32_t i = 0; i < ranges; i++) {
+        put(i + 1 == ranges ? SQUALL_TOP : (i + 1) * UINT64_C(1000000), 8), put((part + i) % PARTS, 4);
+    }
+}
+
+static void issues_of(uint32_t ranges) {
+    begin(2);
+    put(0, 4);
+    uint32_t count = that_fit(5 + 2 * (4 + 12 * (size_t)ranges), 8);
+    put(count, 4);
+    for (uint32_t i = 0; i < count; i++) {
+        put(i + 2, 4), put(1, 1);
+        put_plan(ranges, i), put_plan(ranges, i + 1);
+    }
+    put(0, 4);
+    finish();
+}
+
+static void small_issues(void) {
+    issues_of(1);
+}
+
+static void large_issues(void) {
+    issues_of(RANGES);
+}
+
+/* ---- what they cost */
+
+static double now(void) {
+    struct timespec time;
+    clock_gettime(CLOCK_MONOTONIC, &time);
+    return (double)time.tv_sec * 1e3 + (double)time.tv_nsec * 1e-6;
+}
+
+/* A figure of this process in KB, and the file that sets the greatest back to the present one. */
+static long figure(const char *name) {
+    FILE *file = fopen("/proc/self/status", "r");
+    char line[256];
+    long found = 0;
+    while (file != NULL && fgets(line, sizeof line, file) != NULL) {
+        if (strncmp(line, name, strlen(name)) == 0) {
+            found = atol(line + strlen(name));
+        }
+    }
+    if (file != NULL) {
+        fclose(file);
+    }
+    return found;
+}
+
+static void forget_the_greatest(void) {
+    FILE *file = fopen("/proc/self/clear_refs", "w");
+    if (file != NULL) {
+        fputs("5", file);
+        fclose(file);
+    }
+}
+
+static double kept(void) {
+    struct mallinfo2 info = mallinfo2();
+    return (double)(info.uordblks + info.hblkhd) / 1e6;
+}
+
+static void measure(const char *name, void (*make)(void)) {
+    make();
+    squall_router *router = malloc(squall_router_size());
+    if (router == NULL) {
+        exit(2);
+    }
+    squall_router_open(1, (const uint8_t *)OLD, sizeof OLD - 1, (const uint8_t *)NEW, sizeof NEW - 1, router);
+    malloc_trim(0);
+    forget_the_greatest();
+    long resident = figure("VmRSS:");
+    double before = kept(), begun = now();
+    if (squall_router_hear(router, frame, filled) != SQUALL_OK) {
+        printf("the frame of %s was refused\n", name);
+        exit(1);
+    }
+    double took = now() - begun;
+    printf("%s, hear: %.1f ms\n", name, took);
+    printf("%s, kept: %.1f MB\n", name, kept() - before);
+    printf("%s, at most: %.1f MB\n", name, (double)(figure("VmHWM:") - resident) / 1e3);
+    squall_router_close(router);
+    free(router);
+}
+
+int main(void) {
+    measure("one cell of 65,534 spans", one_cell_of_spans);
+    measure("61,680 cells of one course", cells_of_one_course);
+    measure("61,680 cells, each of a course of its own", cells_of_own_courses);
+    measure("31,774 loads, each of a course of its own", loads_of_own_courses);
+    measure("131,071 openings", openings);
+    measure("209,712 clashes", clashes);
+    measure("28,339 courses of one range", small_issues);
+    measure("10 courses of 4,096 ranges", large_issues);
+    return 0;
+}
