@@ -1,0 +1,152 @@
+"""Worlds of random events, for tools/model."""
+from model_draw import Lines, Trial
+from plain import PLACES, bound
+from plain_world import Refused, World
+
+EVENTS = 5000
+KEPT = 32
+
+
+class Events:
+    """The events of a world, one after the other, and what they answer."""
+
+    def __init__(self, draw):
+        self.draw, self.lines, self.asked = draw, Lines(), []
+        old, new = draw.plan(6, 2), draw.plan(6, 2)
+        self.lines.begin(draw, old, new)
+        self.world = World(old, new, draw.randrange(4))
+        self.ask(f"world {self.world.routers}", lambda: f"world {len(self.world.held)} {self.world.routers}")
+
+    def ask(self, line, step, *words):
+        """The line answers what the step does; afterwards each promise holds."""
+        try:
+            answer = step(*words)
+        except Refused as why:
+            answer = f"no {why}"
+        self.lines.ask(line, answer)
+        broken = self.world.broken()
+        if broken:
+            raise AssertionError(f"after {line}: {broken}")
+        return answer
+
+    def part(self):
+        return self.draw.choice([*range(7), *range(7), 9999])
+
+    def node(self):
+        return self.draw.choice(["l", "l", f"p{self.part()}", f"p{self.part()}", "r0", f"r{self.draw.randrange(5)}"])
+
+    def index(self, count):
+        """One of the last of so many, or any, or one that is not there."""
+        late = max(0, count - 1 - self.draw.randrange(8))
+        return late if self.draw.random() < 0.6 else self.draw.randrange(count + 2)
+
+    def drawn(self):
+        """Any event."""
+        world, draw = self.world, self.draw
+        part, place, most = self.part(), draw.randrange(PLACES), draw.choice([0, 0, 1, 3, 18446744073709551615])
+        kind = draw.randrange(9)
+        if kind == 0:
+            self.ask(f"give {part} {most}", world.give, part, most)
+        elif kind == 1:
+            self.ask(f"giveat {part} {bound(place)}", world.giveat, part, place)
+        elif kind in (2, 3):
+            chunk = self.index(len(world.chunks))
+            self.ask(f"load {chunk}", world.load, chunk)
+        elif kind == 4:
+            sub = draw.randrange(4)
+            self.ask(f"finish {part} {sub}", world.finish, part, sub)
+        elif kind == 5:
+            node = self.node()
+            self.ask(f"send {node}", world.send, node)
+        elif kind == 6:
+            message, node = self.index(len(world.messages)), self.node()
+            self.ask(f"deliver {message} {node}", world.deliver, message, node)
+        elif kind == 7:
+            self.follow(draw.randrange(5), place)
+            if self.asked:
+                self.next_of(*draw.choice(self.asked))
+        else:
+            self.ask_for(part, place, draw.choice([0, 0, draw.randrange(8)]))
+
+    def ask_for(self, part, place, after):
+        """Asks a partition for a key: the kind of its reply, and what it names."""
+        key = self.draw.key(place)
+        try:
+            word, told = self.world.serve(part, place, after)
+            answer = " ".join(map(str, [word, *told]))
+        except Refused as why:
+            word, told, answer = "no", (), f"no {why}"
+        self.lines.ask(f"serve {part} {key}" + (f" {after}" if after or self.draw.random() < 0.5 else ""), answer)
+        return word, told
+
+    def follow(self, router, place):
+        """Asks a router for a key, and then the partitions that are named, until one has it or waits for it."""
+        key, after = self.draw.key(place), 0
+        try:
+            part = self.world.route(router, place)
+        except Refused as why:
+            self.lines.ask(f"route {router} {key}", f"no {why}")
+            return
+        self.lines.ask(f"route {router} {key}", f"route {key} {part}")
+        if not self.world.may_be_sent(router, place, part):
+            raise AssertionError(f"a router's key {key} has not been loaded at {part}")
+        while part is not None:
+            part, after = self.next_of(part, place, after)
+
+    def next_of(self, part, place, after):
+        """Asks a partition that a router or a move named: whom the reply names next, if it says that the key moved. It
+        may be asked again later."""
+        word, told = self.ask_for(part, place, after)
+        wrong = ["elsewhere", "no", *([] if after else ["behind"])]
+        if self.world.last == 1:
+            wrong += ["behind", "moved" if after else "pending"]
+        if word in wrong or (word == "moved" and told[1] <= after):
+            raise AssertionError(f"the key {bound(place)} is neither held nor waited for nor sent on: {word} {told}")
+        self.asked = [*self.asked[-KEPT:], (part, place, after)]
+        return told if word == "moved" else (None, after)
+
+    def ask_all(self):
+        """Each router is asked for each key, and what was asked before once more."""
+        for part, place, after in self.asked:
+            self.next_of(part, place, after)
+        for router in range(self.world.routers):
+            for place in range(PLACES):
+                self.follow(router, place)
+
+    def tell(self, sender, receivers):
+        """A node sends what it knows; one message in 24 is lost."""
+        self.ask(f"send {sender}", self.world.send, sender)
+        message = len(self.world.messages) - 1
+        for node in receivers:
+            if self.draw.randrange(24):
+                self.ask(f"deliver {message} {node}", self.world.deliver, message, node)
+
+    def drive(self):
+        """The next sub-plan, or the next course, from its opening to the last report."""
+        world, draw, parts = self.world, self.draw, sorted(self.world.held)
+        if world.is_over() == bool(draw.randrange(6)):
+            plan = draw.plan(7, 2)
+            self.ask(f"begin {draw.text(draw.entries(plan))}", world.begin, plan)
+        self.ask("open", world.open)
+        self.tell("l", [f"p{part}" for part in parts])
+        for part in parts * 3:
+            most = draw.randint(1, 9)
+            self.ask(f"give {part} {most}", world.give, part, most)
+        for chunk in range(max(0, len(world.chunks) - 24), len(world.chunks)):
+            self.ask(f"load {chunk}", world.load, chunk)
+        for part in parts:
+            sub = max(world.opened - 1, 0)
+            self.ask(f"finish {part} {sub}", world.finish, part, sub)
+            self.tell(f"p{part}", ["l", *([f"r{draw.randrange(world.routers)}"] if world.routers else [])])
+
+
+def world(draw):
+    """A world of random events, now and then a round by which courses get done."""
+    events = Events(draw)
+    while len(events.lines) < EVENTS:
+        if draw.randrange(40):
+            events.drawn()
+        else:
+            events.drive()
+            events.ask_all()
+    return Trial.of([], events.lines)

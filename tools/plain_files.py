@@ -1,0 +1,171 @@
+"""The commands over files as docs/SCENARIOS.md says: what they write, and their status."""
+from plain_board import Board, Change, Refused, bound, number_of, plan_of, rank_of, span
+from plain_frames import MOST, TOP, Fault, decoded, digest_frame
+
+NO_REPORT = "error: the words are no report: see squall help report"
+
+
+class Files:
+    """The files by name; the first file named - is standard input, and each other one of that name is empty."""
+
+    def __init__(self, files, text):
+        self.files, self.text = files, text
+
+    def read(self, name):
+        if name != "-":
+            return self.files[name]
+        text, self.text = self.text, b""
+        return text
+
+    def messages(self, name, kind, data):
+        """The messages of the file, all of which have to be of one kind."""
+        while data:
+            try:
+                message, length = decoded(data)
+                if message.kind != kind:
+                    raise Fault("Kind")
+            except Fault as fault:
+                raise Refused(f"refused {name} {fault}") from None
+            yield message
+            data = data[length:]
+
+    def board(self, *names):
+        """What the files tell."""
+        board = Board()
+        for name in names:
+            for message in self.messages(name, "delta", self.read(name)):
+                board.join(message.openings, message.issues, message.cells)
+        return board
+
+    def digest(self, name):
+        """The digest of which the file has the frame, and nothing else."""
+        data = self.read(name)
+        message = next(self.messages(name, "digest", data), None)
+        if message is None:
+            raise Refused(f"refused {name} Short")
+        if len(data) > decoded(data)[1]:
+            raise Refused(f"refused {name} Spare")
+        return message
+
+    def plan(self, which, name):
+        try:
+            return plan_of(self.read(name))
+        except Refused as why:
+            raise Refused(f"refused {which} {why.line}") from None
+
+
+def report(words, files):
+    """The frame of a report."""
+    board, kind, told = Board(), words[0], [number_of(it) for it in words[1:4]]
+    forms = {"loaded": 6, "done": 4, "opened": 3, "issued": 4}
+    if len(words) != forms.get(kind) or told[0] in (None, 0):
+        raise Refused(NO_REPORT, 2)
+    if kind == "issued":
+        board.issue(told[0], (files.plan("old", words[2]), files.plan("new", words[3])))
+    elif None in told or max(told[1:]) > 9999:
+        raise Refused(NO_REPORT, 2)
+    elif kind == "opened":
+        board.open(told[0], told[1] + 1)
+    elif kind == "done":
+        board.done.add(tuple(told))
+    else:
+        lo, hi = map(rank_of, words[4:])
+        if lo is None or hi is None or lo >= hi:
+            raise Refused(NO_REPORT, 2)
+        board.load(tuple(told), [(lo, hi)])
+    return board.pieces()
+
+
+def routed(words, files, boards):
+    """The newest change, by the plans of the first two words and the boards, and what the boards tell."""
+    first = Change(1, files.plan("old", words[0]), files.plan("new", words[1]))
+    board = files.board(*boards)
+    return board.newest(first), board
+
+
+def route(words, files, boards):
+    change, board = routed(words, files, boards)
+    legs_of_all, shown = board.legs(change), []
+    for at, word in enumerate(words[2:], 1):
+        rank = rank_of(word)
+        if rank in (None, TOP):
+            raise Refused("\n".join([*shown, f"bad line {at}: word"]))
+        part = next(part for lo, hi, part in legs_of_all if lo <= rank < hi)
+        shown.append(f"route {bound(rank)} {part}")
+    return shown
+
+
+def legs(words, files, boards):
+    change, board = routed(words, files, boards)
+    bounds = [rank_of(it) for it in words[2:]] or [0, TOP]
+    if len(bounds) != 2 or None in bounds:
+        raise Refused("bad line 1: word")
+    lo, hi = bounds
+    if lo >= hi:
+        raise Refused("bad line 1: limit")
+    cut = [(max(low, lo), min(high, hi), part) for low, high, part in board.legs(change)]
+    return [f"leg {span(low, high)} {part}" for low, high, part in cut if low < high]
+
+
+def status(words, files, is_waiting):
+    change, board = routed(words, files, words[2:])
+    return board.status(change, is_waiting)
+
+
+def beyond(words, files):
+    one, other = (files.board(it) for it in words)
+    return one.beyond(other).pieces()
+
+
+def digest(words, files):
+    frame = digest_frame(*files.board(*words).listed())
+    if len(frame) > 8 + MOST:
+        raise Refused("no TooLong")
+    return [frame]
+
+
+def repair(words, files):
+    board = files.board(words[0])
+    return board.repair(files.digest(words[1])).pieces()
+
+
+def parsed(words):
+    """The words of a command without its options, the files of `--board`, and the other options."""
+    plain, boards, flags = [], [], set()
+    left = iter(words)
+    for word in left:
+        if word.startswith("--board"):
+            boards.append(word.partition("=")[2] or next(left))
+        elif word.startswith("--"):
+            flags.add(word)
+        else:
+            plain.append(word)
+    return plain, boards, flags
+
+
+def found(command, words, files, boards, flags):
+    """The lines or the frames that a command writes."""
+    return {
+        "report": lambda: report(words, files),
+        "board": lambda: files.board(*words).lines(),
+        "status": lambda: status(words, files, "--waiting" in flags),
+        "route": lambda: route(words, files, boards),
+        "legs": lambda: legs(words, files, boards),
+        "merge": lambda: files.board(*words).pieces(),
+        "beyond": lambda: beyond(words, files),
+        "digest": lambda: digest(words, files),
+        "repair": lambda: repair(words, files),
+    }[command]()
+
+
+def answer(words, files):
+    """What the program writes to standard output and standard error, and its status."""
+    plain, boards, flags = parsed(words[1:])
+    try:
+        told = list(found(words[0], plain, files, boards, flags))
+    except Refused as why:
+        line = f"{why.line}\n".encode()
+        return (b"", line, why.status) if why.status == 2 else (line, b"", why.status)
+    if "--quiet" in flags:
+        return b"", b"", int(bool(told))
+    return b"".join(it if isinstance(it, bytes) else f"{it}\n".encode() for it in told), b"", 0

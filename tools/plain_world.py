@@ -1,0 +1,211 @@
+"""Worlds as docs/SCENARIOS.md says, beside which tools/model runs those of the program: what each event answers."""
+from plain import PLACES, Course, Facts, spans_of, span
+
+
+class Refused(Exception):
+    """Why an event does nothing."""
+
+
+class World:
+    """A leader, partitions and routers, from the beginning of course 1 on."""
+
+    def __init__(self, old, new, routers):
+        self.courses = {1: Course(1, old, new)}
+        self.last, self.opened, self.routers = 1, 0, routers
+        self.held, self.given, self.loaded = {}, {}, {}
+        self.facts = {"l": Facts(), **{f"r{it}": Facts() for it in range(routers)}}
+        self.messages, self.chunks = [], []
+        self.add_parts(old, new)
+        for place, part in enumerate(old):
+            self.held[part].add(place)
+        self.facts["l"].issue(1, old, new)
+
+    def add_parts(self, *plans):
+        for part in sorted({part for plan in plans for part in plan}):
+            self.held.setdefault(part, set())
+            self.facts.setdefault(f"p{part}", Facts())
+
+    def node(self, name):
+        if name not in self.facts:
+            raise Refused("NoSuch")
+        return self.facts[name]
+
+    def knows(self, name, number):
+        return number == 1 or number in self.node(name).issued
+
+    def newest(self, name):
+        return self.node(name).newest(self.courses[1])
+
+    # ---- the leader
+
+    def waited_for(self):
+        """The least partition that has not reported to the leader that it has all of the sub-plan opened last."""
+        course, sub = self.courses[self.last], self.opened - 1
+        due = [it for it in sorted(self.held) if self.opened and course.incoming(sub, it)]
+        return next((it for it in due if (self.last, sub, it) not in self.facts["l"].done), None)
+
+    def is_over(self):
+        return self.opened == self.courses[self.last].count and self.waited_for() is None
+
+    def open(self):
+        part = self.waited_for()
+        if part is not None:
+            raise Refused(f"NotDone {self.opened - 1} {part}")
+        if self.opened == self.courses[self.last].count:
+            raise Refused("NoMore")
+        self.facts["l"].open(self.last, self.opened)
+        self.opened += 1
+        return f"opened {self.opened - 1}"
+
+    def begin(self, plan):
+        if not self.is_over():
+            raise Refused("Running")
+        old = self.courses[self.last].new
+        self.last, self.opened = self.last + 1, 0
+        self.courses[self.last] = Course(self.last, old, plan)
+        self.add_parts(plan)
+        self.facts["l"].issue(self.last, old, plan)
+        return f"begun {self.last} {len(self.held)}"
+
+    # ---- keys that go
+
+    def going(self, part):
+        """The course and the sub-plan by which the partition sends keys on."""
+        course = self.newest(f"p{part}")
+        opened = self.facts[f"p{part}"].opened.get(course.number, 0)
+        if not opened:
+            raise Refused("NotOpen")
+        return course, opened - 1
+
+    def gave(self, part, course, sub, lo, hi):
+        self.held[part] -= set(range(lo, hi))
+        self.given.setdefault((course.number, part), set()).update(range(lo, hi))
+        self.chunks.append((course.number, sub, part, course.new[lo], lo, hi))
+        return f"chunk {len(self.chunks) - 1} sub {sub} {part} to {course.new[lo]} {span(lo, hi)}"
+
+    def give(self, part, most):
+        course, sub = self.going(part)
+        left = course.outgoing(sub, part) & self.held[part]
+        if not left:
+            raise Refused("NothingLeft")
+        if not most:
+            raise Refused("ZeroMax")
+        lo, hi = spans_of(left)[0]
+        return self.gave(part, course, sub, lo, min(hi, lo + most))
+
+    def giveat(self, part, place):
+        course, sub = self.going(part)
+        if place not in course.outgoing(sub, part):
+            raise Refused("NotOutgoing")
+        if place in self.given.get((course.number, part), ()):
+            raise Refused("Given")
+        if place not in self.held[part]:
+            raise Refused("NotHeld")
+        return self.gave(part, course, sub, place, place + 1)
+
+    # ---- keys that come
+
+    def in_flight(self, chunk):
+        """The keys of the chunk that its destination has not loaded in its course."""
+        number, _, _, dest, lo, hi = chunk
+        return set(range(lo, hi)) - self.loaded.get((number, dest), set())
+
+    def load(self, index):
+        if index >= len(self.chunks):
+            raise Refused("NoSuch")
+        number, sub, _, dest, lo, hi = self.chunks[index]
+        facts = self.node(f"p{dest}")
+        if not self.knows(f"p{dest}", number):
+            raise Refused("Stranger")
+        if facts.opened.get(number, 0) <= sub:
+            raise Refused("NotOpen")
+        missing = self.in_flight(self.chunks[index])
+        if not missing:
+            return "again"
+        self.held[dest] |= missing
+        self.loaded.setdefault((number, dest), set()).update(missing)
+        facts.load((number, sub, dest), range(lo, hi))
+        return f"loaded {dest} {span(lo, hi)}"
+
+    def finish(self, part, sub):
+        course = self.newest(f"p{part}")
+        if self.facts[f"p{part}"].opened.get(course.number, 0) <= sub:
+            raise Refused("NotOpen")
+        due = course.incoming(sub, part)
+        missing = due - self.loaded.get((course.number, part), set())
+        if missing:
+            raise Refused(f"NotAll {span(*spans_of(missing)[0])}")
+        if not due:
+            raise Refused("NothingDue")
+        self.facts[f"p{part}"].done.add((course.number, sub, part))
+        return f"done {sub} {part}"
+
+    # ---- messages and questions
+
+    def send(self, name):
+        self.messages.append(self.node(name).copied())
+        return f"sent {len(self.messages) - 1}"
+
+    def deliver(self, index, name):
+        facts = self.node(name)
+        if index >= len(self.messages):
+            raise Refused("NoSuch")
+        facts.join(self.messages[index])
+        return "delivered"
+
+    def route(self, router, place):
+        facts = self.node(f"r{router}")
+        return facts.route(facts.newest(self.courses[1]), place)
+
+    def serve(self, part, place, after):
+        """What the partition replies for the key: the kind of the reply, and what it names."""
+        name = f"p{part}"
+        self.node(name)
+        known = [it for it in self.courses if self.knows(name, it)]
+        gave = max((it for it in known if place in self.given.get((it, part), ())), default=0)
+        courses = [self.courses[it] for it in known]
+        due = [it for it in courses if it.moves(place) and it.new[place] == part]
+        comes = max((it.number for it in due if place not in self.loaded.get((it.number, part), ())), default=0)
+        if place in self.held[part]:
+            return "held", ()
+        if comes > gave:
+            return "pending", (self.courses[comes].old[place],)
+        if gave > after:
+            return "moved", (self.courses[gave].new[place], gave)
+        if after > max(known):
+            return "behind", ()
+        return "elsewhere", (self.courses[max(known)].old[place],)
+
+    # ---- what is promised
+
+    def broken(self):
+        """The promise that does not hold now, if there is one."""
+        if any(not {source, dest} <= self.held.keys() for _, _, source, dest, _, _ in self.chunks):
+            return "both ends of each chunk are there"
+        flying = [(chunk, self.in_flight(chunk)) for chunk in self.chunks]
+        carried = sorted(place for keys in [*self.held.values(), *(keys for _, keys in flying)] for place in keys)
+        if carried != list(range(PLACES)):
+            return "each key has one carrier"
+        moving = [chunk for chunk, keys in flying if keys]
+        if len({chunk[2] for chunk in moving}) != len({(chunk[2], chunk[3]) for chunk in moving}):
+            return "a source feeds one destination at a time"
+        if any(chunk[:2] != (self.last, self.opened - 1) for chunk in moving):
+            return "keys on their way are of the sub-plan opened last"
+        for name, facts in self.facts.items():
+            if not self.happened(facts):
+                return f"what {name} was told happened"
+        return None
+
+    def may_be_sent(self, router, place, part):
+        """Whether the partition to which a router sends the key is the old one, or has loaded it."""
+        course = self.newest(f"r{router}")
+        return part == course.old[place] or place in self.loaded.get((course.number, part), ())
+
+    def happened(self, facts):
+        """Whether all that is told happened."""
+        counts = {it: self.opened if it == self.last else course.count for it, course in self.courses.items()}
+        loads = all(keys <= self.loaded.get((cell[0], cell[2]), set()) for cell, keys in facts.loaded.items())
+        due = [(self.courses[it].incoming(sub, part), it, part) for it, sub, part in facts.done]
+        dones = all(keys <= self.loaded.get((it, part), set()) for keys, it, part in due)
+        opened = all(count <= counts.get(it, 0) for it, count in facts.opened.items())
+        return loads and dones and opened and all(it in self.courses for it in facts.issued)
