@@ -1,4 +1,5 @@
-# Installs squall: the program, the library with its header, the documents and the sources of the bindings.
+# Installs squall: the program with its man page and completions for shells, the library with its header, the documents
+# and the sources of the bindings.
 #
 #   make install [PREFIX=/usr/local] [DESTDIR=]    copies; nothing is built
 #   make uninstall ..                              removes what that copied, with the same words
@@ -12,6 +13,9 @@ BINDIR = $(PREFIX)/bin
 LIBDIR = $(PREFIX)/lib
 INCLUDEDIR = $(PREFIX)/include
 DATADIR = $(PREFIX)/share
+BASHDIR = $(DATADIR)/bash-completion/completions
+ZSHDIR = $(DATADIR)/zsh/site-functions
+FISHDIR = $(DATADIR)/fish/vendor_completions.d
 
 FROM := $(if $(wildcard libsquall.a),.,$(shell tools/released all))
 SONAME := $(shell cd "$(FROM)" 2> /dev/null && echo libsquall.so.*)
@@ -27,6 +31,12 @@ install:
 	  "$(DESTDIR)$(DATADIR)/man/man1"
 	install -m 755 "$(FROM)/squall" "$(DESTDIR)$(BINDIR)/squall"
 	install -m 644 "$(FROM)/docs/squall.1" "$(DESTDIR)$(DATADIR)/man/man1/squall.1"
+	if [ -d "$(FROM)/completions" ]; then \
+	  install -d "$(DESTDIR)$(BASHDIR)" "$(DESTDIR)$(ZSHDIR)" "$(DESTDIR)$(FISHDIR)" && \
+	  install -m 644 "$(FROM)/completions/squall" "$(DESTDIR)$(BASHDIR)/squall" && \
+	  install -m 644 "$(FROM)/completions/_squall" "$(DESTDIR)$(ZSHDIR)/_squall" && \
+	  install -m 644 "$(FROM)/completions/squall.fish" "$(DESTDIR)$(FISHDIR)/squall.fish"; \
+	fi
 	install -m 644 "$(FROM)/squall.h" "$(DESTDIR)$(INCLUDEDIR)/squall.h"
 	install -m 644 "$(FROM)/libsquall.a" "$(FROM)/$(SONAME)" "$(DESTDIR)$(LIBDIR)/"
 	ln -sfn "$(SONAME)" "$(DESTDIR)$(LIBDIR)/libsquall.so"
@@ -44,5 +54,6 @@ uninstall:
 	@test -n "$(FROM)"
 	rm -f "$(DESTDIR)$(BINDIR)/squall" "$(DESTDIR)$(INCLUDEDIR)/squall.h" "$(DESTDIR)$(LIBDIR)/pkgconfig/squall.pc"
 	rm -f "$(DESTDIR)$(DATADIR)/man/man1/squall.1"
+	rm -f "$(DESTDIR)$(BASHDIR)/squall" "$(DESTDIR)$(ZSHDIR)/_squall" "$(DESTDIR)$(FISHDIR)/squall.fish"
 	rm -f "$(DESTDIR)$(LIBDIR)/libsquall.a" "$(DESTDIR)$(LIBDIR)/libsquall.so" "$(DESTDIR)$(LIBDIR)/$(SONAME)"
 	rm -rf "$(DESTDIR)$(DATADIR)/doc/squall" "$(DESTDIR)$(DATADIR)/squall"

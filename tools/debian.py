@@ -23,6 +23,7 @@ ABOUT = """ A partitioned main-memory database keeps each row in the memory of o
 """
 COMMON = "/usr/share/common-licenses"
 MODULES = "usr/lib/python3/dist-packages"
+SHELLS = ["usr/share/bash-completion", "usr/share/zsh", "usr/share/fish"]
 # Debian's own programs that make and remove the compiled modules, for each version that is installed.
 SCRIPTS = {"postinst": "py3compile", "prerm": "py3clean"}
 
@@ -43,14 +44,14 @@ class Package:
         return "\n".join(lines) + f"\n{ABOUT} .\n {self.more}\n"
 
 
-def package_list(version, glibc, soname, has_python):
-    """The packages, the last of which takes what is left."""
+def package_list(version, glibc, soname, shells, has_python):
+    """The packages, the last of which takes what is left. `shells` has the folders of completions."""
     number = soname.rpartition(".")[2]
     libc = f"libc6 (>= {glibc})"
     same = "Multi-Arch: same"
     yield Package(
         "squall", "database", "says where keys are while partitions move", "This package has the program.",
-        ["usr/bin", "usr/share/man", "usr/share/doc/squall"], f"Depends: {libc}",
+        ["usr/bin", "usr/share/man", "usr/share/doc/squall", *shells], f"Depends: {libc}",
     )
     yield Package(
         f"libsquall{number}", "libs", "partition routing while data moves - shared library",
@@ -168,14 +169,16 @@ def packages(top, to, version, date):
     with tempfile.TemporaryDirectory() as room:
         whole = Path(room, "whole")
         make = ["make", "-s", "-C", folder, "install", f"DESTDIR={whole}", "PREFIX=/usr", f"LIBDIR=/{LIBRARIES}"]
-        subprocess.run(make, check=True)
+        # Debian's zsh looks there.
+        subprocess.run([*make, "ZSHDIR=/usr/share/zsh/vendor-completions"], check=True)
         notices = copyright_of((folder / "NOTICES").read_text(encoding="utf-8"))
         (whole / "usr/share/doc/squall/NOTICES").unlink()
         page = whole / "usr/share/man/man1/squall.1"
         add(whole, "usr/share/man/man1/squall.1.gz", gzip.compress(page.read_bytes(), 9, mtime=0))
         page.unlink()
         has_python = add_python(whole, version)
-        for package in package_list(version, said["glibc"], soname, has_python):
+        shells = [it for it in SHELLS if (whole / it).is_dir()]
+        for package in package_list(version, said["glibc"], soname, shells, has_python):
             stage = Path(room, package.name)
             move(whole, stage, package.paths)
             add_documents(stage, package, notices, version, date)
