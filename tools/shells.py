@@ -95,13 +95,14 @@ def read(text, name=""):
 
 
 def entries_of(lines):
-    """The entries of a list, of which a line that is indented further goes on."""
+    """The entries of a list. A line that is indented by more than eight blanks goes on with the entry above."""
     found = []
     for line in lines:
-        form, about = ENTRY.match(line).groups()
-        if about is None and found:
-            found[-1] = (found[-1][0], f"{found[-1][1]} {form.strip()}")
+        if line.startswith(" " * 9):
+            form, about = found.pop()
+            found.append((form, f"{about} {line.strip()}".strip()))
         else:
+            form, about = ENTRY.match(line).groups()
             found.append((form.strip(), about or ""))
     return found
 
