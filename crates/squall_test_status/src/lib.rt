@@ -5,3 +5,5 @@
 mod picture;
 #[cfg(test)]
 mod status;
+#[cfg(test)]
+mod tally;
