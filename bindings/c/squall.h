@@ -169,6 +169,20 @@ typedef struct squall_move {
     uint32_t sub;
 } squall_move;
 
+/* The keys from lo on, below hi. */
+typedef struct squall_span {
+    uint64_t lo;
+    uint64_t hi;
+} squall_span;
+
+/* How much a router heard. A number that does not fit is the greatest one that does. */
+typedef struct squall_counts {
+    uint64_t cells;  /* of how many partitions in a sub-plan of a course something was reported */
+    uint64_t spans;  /* the spans of keys that were loaded, over all cells */
+    uint64_t opened; /* the sub-plans that are opened, over all courses */
+    uint64_t issues; /* the numbers under which plans were issued */
+} squall_counts;
+
 /* The rank of root:second. */
 static inline uint64_t squall_rank(uint32_t root, uint32_t second) {
     return ((uint64_t)root << 32) | second;
@@ -288,6 +302,23 @@ uint32_t squall_router_gather_repair(squall_router *router);
  * Allocates nothing. */
 size_t squall_router_frame(squall_router *router, uint8_t *out, size_t room);
 
+/* Whether the router heard of different pairs of plans under a number above that of its course: such a
+ * number has no course. Answers 1 if it did, and 0 if not, or if there is no router; SQUALL_NO_COUNT if
+ * an allocation fails. Allocates. */
+size_t squall_router_clashed(const squall_router *router);
+
+/* Writes how much the router heard into `out`, and answers 1: 0 if there is no router, or room is 0;
+ * SQUALL_NO_COUNT if an allocation fails. At all but 1 nothing is written. Allocates. */
+size_t squall_router_counts(const squall_router *router, squall_counts *out, size_t room);
+
+/* Writes how far the router's course has come into `out`, in the lines of the command `squall status`,
+ * and answers how many bytes they have: 0 if there is no router; SQUALL_NO_COUNT if an allocation fails.
+ * If the room is too short, nothing is written. No 0 byte ends the text. Allocates. */
+size_t squall_router_status_text(const squall_router *router, uint8_t *out, size_t room);
+
+/* The same with a picture of it, in SVG, as `squall picture` draws it. Allocates. */
+size_t squall_router_picture(const squall_router *router, uint8_t *out, size_t room);
+
 /* Closes the router, and frees what it has allocated. The room is plain memory again. */
 void squall_router_close(squall_router *router);
 
@@ -331,6 +362,14 @@ size_t squall_view_legs(const squall_view *view, uint64_t lo, uint64_t hi, squal
 
 /* As squall_router_number, of that moment. Allocates nothing. */
 uint32_t squall_view_number(const squall_view *view);
+
+/* Writes the spans of the keys from lo on, below hi, for which the two views have different routes, into
+ * `out`, by rising key, as many as there is room for, and answers how many. Each span is as long as can
+ * be. If there is no more room, the rest begins at the hi of the last one. A key from lo to
+ * there, or to hi if there is room for more, lies in one of the spans exactly if squall_view_route
+ * answers differently for it. The handles are two different ones. Allocates nothing. */
+size_t squall_view_changes(const squall_view *before, const squall_view *after, uint64_t lo, uint64_t hi,
+                           squall_span *out, size_t room);
 
 /* Closes the view. The last one that shares a table frees it. */
 void squall_view_close(squall_view *view);

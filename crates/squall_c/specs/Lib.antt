@@ -5,6 +5,9 @@ pub use Rattle.squall_course.specs.Change
 pub use Rattle.squall_report.specs.Facts
 pub use Rattle.squall_board.specs.Boards
 pub use Rattle.squall_board.specs.CourseRoute
+pub use Rattle.squall_status.specs.Summary
+pub use Rattle.squall_status.specs.Texts
+pub use Rattle.squall_picture.specs.Picture
 pub use Rattle.squall_wire.specs.Messages
 pub use Rattle.squall_wire.specs.Reading
 pub use Rattle.squall_wire.specs.Hearing
@@ -17,6 +20,8 @@ pub use Rattle.squall_errand.specs.Errands
 pub use Rattle.squall_c_values.specs.Rooms
 pub use Rattle.squall_c_values.specs.Values
 pub use Rattle.squall_c_values.specs.ReportFrames
+pub use Rattle.squall_tally.specs.Tallies
+pub use Rattle.squall_changes.specs.Changes
 pub mod Status
 pub mod Opening
 pub mod Reporting
@@ -27,4 +32,5 @@ pub mod Showing
 pub mod Views
 pub mod Courses
 pub mod ErrandSlots
+pub mod Telling
 pub mod Handles

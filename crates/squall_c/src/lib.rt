@@ -5,6 +5,7 @@
 //! pointers into borrows and says that contract again.
 #![tactic(auto)]
 
+mod changes;
 mod course_exports;
 mod courses;
 mod errand_exports;
@@ -19,6 +20,9 @@ mod report_exports;
 mod reports;
 mod router;
 mod status;
+mod tallies;
+mod texts;
+mod told_exports;
 mod twin_feed;
 mod view_exports;
 mod views;

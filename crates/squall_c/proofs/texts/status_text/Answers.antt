@@ -1,0 +1,15 @@
+use Rattle.std.specs.Prelude.{◌≡◌, length, Option, string_bytes}
+use Rattle.std.proofs.Common.{ap, sym, subst, ◌∙◌, arith}
+use Rattle.squall_c_values.specs.ReportFrames.{room_with}
+use Rattle.squall_c.specs.declared.router.Station.{Station}
+use Rattle.squall_c.specs.Telling.{PutsStatus}
+use Rattle.squall_c.proofs.texts.status_text.Goals as goal
+
+pub returns-in-Ok : goal.returns-in-Ok
+returns-in-Ok c =
+    let count : c.put_bytes.result ≡ length (string_bytes c.in-Ok.text) = c.put_bytes.ensures.count ∙ ap length c.as_bytes.ensures.value in
+    subst (λ (s : Option Station). PutsStatus s c.args.room.now c.put_bytes.new.room c.put_bytes.result) (sym c.in-Some.is)
+    (record {
+      put = λ _. (string_bytes c.in-Ok.text, c.in-Ok.ensures, c.put_bytes.ensures.room ∙ ap (λ bytes. room_with bytes c.args.room.now) c.as_bytes.ensures.value, count);
+      memory = λ bad. absurd (omega (arith, bad, c.put_bytes.ensures.count, c.as_bytes.ensures.len));
+    })

@@ -1,0 +1,86 @@
+//! What a router says of itself as text: how far its newest course has come, and the picture of it.
+
+ghost use Rattle.std.specs.Prelude.{◌≡◌, IfOk, length, string_bytes};
+ghost use Rattle.squall_board.specs.Boards.{says};
+ghost use Rattle.squall_c_values.specs.ReportFrames.{room_with};
+ghost use Rattle.squall_c.specs.Telling.{AreLinesOf, IsStatusText, IsPicture, PutsStatus, PutsPicture};
+
+use crate::router::{RouterSlot, Station};
+use squall_board::Board;
+use squall_c_values::NO_COUNT;
+use squall_course::Course;
+use squall_picture::picture;
+use squall_status::{CourseStatus, Shown, add_status};
+use std::alloc::{AllocError, Global};
+
+/// Writes the bytes into the room, if that holds them, and answers how many they are.
+fn put_bytes(bytes: &[u8], room: &mut [u8]) -> usize
+    ensures room { room.new ≡ room_with bytes.now room.old }
+    ensures count { result ≡ length bytes.now }
+{
+    let count = bytes.len();
+    if count <= room.len() {
+        room[..count].copy_from_slice(bytes);
+    }
+    count
+}
+
+/// The lines of how far the course has come, as the board says. It fails only if an allocation fails.
+fn lines_of(alloc: Global, course: &Course, board: &Board) -> Result<String, AllocError>
+    ensures { IfOk result (λ text. AreLinesOf course.now (says board.now) (string_bytes text)) }
+{
+    let status = CourseStatus::of(alloc, course, board)?;
+    let mut text = String::new(alloc);
+    add_status(&status, Shown::EachMove, &mut text)?;
+    Ok(text)
+}
+
+/// The lines of how far the router's newest course has come. It fails only if an allocation fails.
+fn status_of(station: &Station) -> Result<String, AllocError>
+    ensures { IfOk result (λ text. IsStatusText station.now.router (string_bytes text)) }
+{
+    lines_of(
+        station.alloc,
+        station.router.course(),
+        station.router.board(),
+    )
+}
+
+/// The picture of the router's newest course. It fails only if an allocation fails.
+fn picture_of(station: &Station) -> Result<String, AllocError>
+    ensures { IfOk result (λ text. IsPicture station.now.router (string_bytes text)) }
+{
+    picture(
+        station.alloc,
+        station.router.course(),
+        station.router.board(),
+    )
+}
+
+/// Writes the lines of how far the router's newest course has come into the room, if that holds them, and
+/// answers how many bytes they have: 0 if there is no router, `NO_COUNT` if an allocation fails.
+pub(crate) fn status_text(slot: &RouterSlot, room: &mut [u8]) -> usize
+    ensures { PutsStatus slot.now.station room.old room.new result }
+{
+    let Some(station) = &slot.station else {
+        return 0;
+    };
+    match status_of(station) {
+        Ok(text) => put_bytes(text.as_bytes(), room),
+        Err(_) => NO_COUNT,
+    }
+}
+
+/// Writes the picture of the router's newest course into the room, if that holds it, and answers how many
+/// bytes it has: 0 if there is no router, `NO_COUNT` if an allocation fails.
+pub(crate) fn router_picture(slot: &RouterSlot, room: &mut [u8]) -> usize
+    ensures { PutsPicture slot.now.station room.old room.new result }
+{
+    let Some(station) = &slot.station else {
+        return 0;
+    };
+    match picture_of(station) {
+        Ok(text) => put_bytes(text.as_bytes(), room),
+        Err(_) => NO_COUNT,
+    }
+}
