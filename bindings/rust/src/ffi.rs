@@ -4,6 +4,7 @@ use std::ffi::c_char;
 
 use crate::course::{Move, Place};
 use crate::key::Leg;
+use crate::told::{Counts, Span};
 
 /// What stands in the room of a router: nobody looks into it here.
 #[repr(C)]
@@ -80,6 +81,22 @@ unsafe extern "C" {
     pub(crate) fn squall_router_gather_digest(router: *mut RawRouter) -> u32;
     pub(crate) fn squall_router_gather_repair(router: *mut RawRouter) -> u32;
     pub(crate) fn squall_router_frame(router: *mut RawRouter, out: *mut u8, room: usize) -> usize;
+    pub(crate) fn squall_router_clashed(router: *const RawRouter) -> usize;
+    pub(crate) fn squall_router_counts(
+        router: *const RawRouter,
+        out: *mut Counts,
+        room: usize,
+    ) -> usize;
+    pub(crate) fn squall_router_status_text(
+        router: *const RawRouter,
+        out: *mut u8,
+        room: usize,
+    ) -> usize;
+    pub(crate) fn squall_router_picture(
+        router: *const RawRouter,
+        out: *mut u8,
+        room: usize,
+    ) -> usize;
     pub(crate) fn squall_router_close(router: *mut RawRouter);
 
     pub(crate) safe fn squall_view_size() -> usize;
@@ -109,6 +126,14 @@ unsafe extern "C" {
         room: usize,
     ) -> usize;
     pub(crate) fn squall_view_number(view: *const RawView) -> u32;
+    pub(crate) fn squall_view_changes(
+        before: *const RawView,
+        after: *const RawView,
+        lo: u64,
+        hi: u64,
+        out: *mut Span,
+        room: usize,
+    ) -> usize;
     pub(crate) fn squall_view_close(view: *mut RawView);
 
     pub(crate) safe fn squall_course_size() -> usize;

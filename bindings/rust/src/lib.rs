@@ -54,6 +54,7 @@ pub mod frame;
 mod key;
 mod room;
 mod router;
+mod told;
 mod view;
 
 pub use course::{Course, Move, Place};
@@ -61,6 +62,7 @@ pub use errand::{Errand, Next, Reply};
 pub use error::{Error, FrameFault, PlanFault};
 pub use key::{Leg, Rank};
 pub use router::{Frames, Router};
+pub use told::{Counts, Span};
 pub use view::View;
 
 /// The version of the library that is linked, as `0.1.0`.

@@ -14,7 +14,7 @@ use std::ops::Range;
 /// Reports may come in any order and more than once: routers that took the same reports say the
 /// same.
 pub struct Router {
-    room: Room<RawRouter>,
+    pub(crate) room: Room<RawRouter>,
 }
 
 impl Router {

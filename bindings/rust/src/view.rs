@@ -12,7 +12,7 @@ use std::ops::Range;
 ///
 /// A clone shares the table, so that each of many reading threads can have one of its own.
 pub struct View {
-    room: Room<RawView>,
+    pub(crate) room: Room<RawView>,
 }
 
 impl View {

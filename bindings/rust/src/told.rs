@@ -1,0 +1,140 @@
+//! What a router says of itself, and what changes between two views.
+
+use crate::error::Error;
+use crate::ffi;
+use crate::frame;
+use crate::key::Rank;
+use crate::router::Router;
+use crate::view::View;
+use std::ops::Range;
+use std::ptr;
+
+/// How much a router heard. A number that does not fit is the greatest one that does.
+#[repr(C)]
+#[derive(Clone, Copy, Debug, Default, PartialEq, Eq)]
+pub struct Counts {
+    /// Of how many partitions in a sub-plan of a course something was reported.
+    pub cells: u64,
+    /// The spans of keys that were loaded, over all cells.
+    pub spans: u64,
+    /// The sub-plans that are opened, over all courses.
+    pub opened: u64,
+    /// The numbers under which plans were issued.
+    pub issues: u64,
+}
+
+/// The keys from `lo` on, below `hi`.
+#[repr(C)]
+#[derive(Clone, Copy, Debug, PartialEq, Eq)]
+pub struct Span {
+    /// The first key.
+    pub lo: Rank,
+    /// Where the keys end.
+    pub hi: Rank,
+}
+
+/// How many spans are asked for in one call.
+const AT_ONCE: usize = 64;
+
+impl Router {
+    /// Whether it heard of different pairs of plans under a number above that of its course. Such a
+    /// number has no course.
+    ///
+    /// # Errors
+    ///
+    /// [`Error::NoMemory`].
+    pub fn clashed(&self) -> Result<bool, Error> {
+        // SAFETY: the router was opened.
+        match unsafe { ffi::squall_router_clashed(self.room.get()) } {
+            usize::MAX => Err(Error::NoMemory),
+            answer => Ok(answer == 1),
+        }
+    }
+
+    /// How much it heard.
+    ///
+    /// # Errors
+    ///
+    /// [`Error::NoMemory`].
+    pub fn counts(&self) -> Result<Counts, Error> {
+        let mut counts = Counts::default();
+        // SAFETY: the router was opened, and there is one place to write to.
+        match unsafe { ffi::squall_router_counts(self.room.get(), &mut counts, 1) } {
+            usize::MAX => Err(Error::NoMemory),
+            _ => Ok(counts),
+        }
+    }
+
+    /// How far its course has come, in the lines of the command `squall status`.
+    ///
+    /// ```
+    /// use squall::Router;
+    ///
+    /// let plan = br#"{"plan":[{"part":1,"from":[0,0],"to":"end"}]}"#;
+    /// let router = Router::open(1, plan, plan)?;
+    /// let line = "course 1 moves 0 sub-plans 0 open none loaded 0 of 0 keys 1000/1000\n";
+    /// assert_eq!(router.status_text()?, line);
+    /// # Ok::<(), squall::Error>(())
+    /// ```
+    ///
+    /// # Errors
+    ///
+    /// [`Error::NoMemory`].
+    pub fn status_text(&self) -> Result<String, Error> {
+        let bytes = frame::written(Error::NoMemory, |out, room| {
+            // SAFETY: the router was opened, and the places are writable.
+            unsafe { ffi::squall_router_status_text(self.room.get(), out, room) }
+        })?;
+        Ok(text_of(bytes))
+    }
+
+    /// A picture of how far its course has come, in SVG.
+    ///
+    /// # Errors
+    ///
+    /// [`Error::NoMemory`].
+    pub fn picture(&self) -> Result<String, Error> {
+        let bytes = frame::written(Error::NoMemory, |out, room| {
+            // SAFETY: the router was opened, and the places are writable.
+            unsafe { ffi::squall_router_picture(self.room.get(), out, room) }
+        })?;
+        Ok(text_of(bytes))
+    }
+}
+
+/// The text of these bytes, which are ASCII.
+fn text_of(bytes: Vec<u8>) -> String {
+    String::from_utf8(bytes).expect("a text of the library is ASCII")
+}
+
+impl View {
+    /// The spans of the keys for which this view and a later one have different routes, by rising key,
+    /// each as long as can be.
+    pub fn changes(&self, after: &View, keys: Range<Rank>) -> Vec<Span> {
+        let mut spans = Vec::new();
+        if ptr::eq(self.room.get(), after.room.get()) {
+            // One handle serves one call, and a view has no changes to itself.
+            return spans;
+        }
+        let mut lo = keys.start;
+        let mut block = [Span { lo, hi: lo }; AT_ONCE];
+        loop {
+            // SAFETY: both views were opened, their handles differ, and the places are writable.
+            let count = unsafe {
+                ffi::squall_view_changes(
+                    self.room.get(),
+                    after.room.get(),
+                    lo.0,
+                    keys.end.0,
+                    block.as_mut_ptr(),
+                    block.len(),
+                )
+            };
+            spans.extend_from_slice(&block[..count]);
+            if count < block.len() {
+                return spans;
+            }
+            lo = block[count - 1].hi;
+        }
+    }
+}
