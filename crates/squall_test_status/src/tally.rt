@@ -1,5 +1,7 @@
 //! Boards in numbers, and issues that clash.
 
+mod example;
+
 use squall_board::Board;
 use squall_example::{NEW, OLD, issue, load};
 use squall_report::Report;

@@ -1,5 +1,7 @@
 //! The keys for which two tables of the example course differ, worked out by hand.
 
+mod example;
+
 use squall_board::Board;
 use squall_changes::{CSpan, put_changes, put_each_key};
 use squall_course::Course;
