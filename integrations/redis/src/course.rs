@@ -2,9 +2,10 @@
 
 use crate::fault::Done;
 use crate::keymap::hex;
-use squall::Course;
 pub use squall::Move;
+use squall::{Course, Leg, Rank};
 use std::collections::BTreeSet;
+use std::ops::Range;
 
 /// A plan, as its text and as its ranges.
 pub struct Plan {
@@ -39,10 +40,40 @@ pub fn issue(number: u32, old: &Plan, new: &Plan) -> Done<(Vec<Move>, Vec<u8>)> 
     Ok((course.moves(), course.frame()?))
 }
 
+/// How far a course is, in numbers of keys.
+#[derive(Clone, Copy, Debug, PartialEq)]
+pub struct Progress {
+    /// The course's number.
+    pub number: u32,
+    /// How many moves it has.
+    pub moves: usize,
+    /// How many keys move.
+    pub moving: u64,
+    /// How many of these are loaded, as far as is known.
+    pub loaded: u64,
+}
+
+impl Progress {
+    /// That of a course, by the legs of a router or a view of it.
+    pub fn of(course: &Course, legs: impl Fn(Range<Rank>) -> Vec<Leg>) -> Progress {
+        let moves = course.moves();
+        let loaded = |it: &Move| -> u64 {
+            let all = legs(it.lo..it.hi).into_iter();
+            all.filter(|leg| leg.part == it.dest).map(|leg| leg.hi.0 - leg.lo.0).sum()
+        };
+        Progress {
+            number: course.number(),
+            moves: moves.len(),
+            moving: moves.iter().map(|it| it.hi.0 - it.lo.0).sum(),
+            loaded: moves.iter().map(loaded).sum(),
+        }
+    }
+}
+
 #[cfg(test)]
 mod tests {
     use super::*;
-    use squall::{Rank, Router};
+    use squall::Router;
 
     const OLD: &str = r#"{"plan":[{"part":1,"from":[0,0],"to":"end"}]}"#;
     const NEW: &str = r#"{"plan":[{"part":1,"from":[0,0],"to":[2,0]},{"part":3,"from":[2,0],"to":"end"}]}"#;
@@ -67,7 +98,13 @@ mod tests {
         assert_eq!((moves[0].source, moves[0].dest, moves[0].sub), (1, 3, 0));
         let mut router = Router::open(1, OLD.as_bytes(), OLD.as_bytes()).unwrap();
         router.hear(&frame).unwrap();
-        assert_eq!(router.course().unwrap().moves(), moves);
+        let course = router.course().unwrap();
+        assert_eq!(course.moves(), moves);
+        router.opened(2, 0).unwrap();
+        router.loaded(2, 0, 3, Rank::new(2, 0)..Rank::new(2, 7)).unwrap();
+        let progress = Progress::of(&course, |keys| router.legs(keys));
+        let moving = Rank::END.0 - Rank::new(2, 0).0;
+        assert_eq!(progress, Progress { number: 2, moves: 1, moving, loaded: 7 });
         assert!(issue(0, &plan(OLD), &plan(NEW)).is_err());
     }
 }

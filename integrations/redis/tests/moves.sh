@@ -74,6 +74,58 @@ test_serving() {
   deploy && serves 1
 }
 
+# What the port of the status page shows of a path, into $run/page.
+page() {
+  local head
+  exec 3<> "/dev/tcp/127.0.0.1/$http" || return
+  printf 'GET /%s HTTP/1.1\r\nHost: squall\r\n\r\n' "$1" >&3
+  while read -r head <&3 && [ "$head" != $'\r' ]; do echo "$head"; done > "$run/head"
+  cat <&3 > "$run/page"
+  exec 3>&-
+  grep -q ' 200 OK' "$run/head"
+}
+
+# Whether a number that Prometheus reads is that one.
+counts() {
+  grep -qx "$1 $2" "$run/page" || { echo "not $1 $2"; grep "^${1%%\{*}" "$run/page"; return 1; }
+}
+
+# The page and the metrics say what the program says of the same board.
+test_status_page() {
+  local program http id limits
+  if program=$("$top/tools/released" program 2> /dev/null); then
+    program=$program/squall
+  elif "$top/tools/is-built"; then
+    program=$top/squall
+  else
+    echo "there is no program squall"
+    return 1
+  fi
+  deploy || return
+  free_port
+  http=$port
+  limits=(--metrics "127.0.0.1:$http" --program "$program")
+  run_proxy 0 env || return
+  redis-cli -p "$port" set 400:0 x && redis-cli -p "$port" hset 600:0 f v && redis-cli -p "$port" set 400:1 x || return
+  page metrics && counts squall_course 1 && counts squall_moving_keys 0 || return
+  counts 'squall_commands_by_kind_total{kind="text"}' 2 && counts 'squall_commands_by_kind_total{kind="hash"}' 1 || return
+  # After the first chunks it waits.
+  start_move 2 old new --chunk 1 --pause 600000
+  agrees 3 2 && sleep 0.2 || return
+  page board && cp "$run/page" "$run/board" && "$program" status "$run/old.json" "$run/old.json" "$run/board" > "$run/status"
+  cat "$run/status"
+  local words loaded moving
+  read -r -a words < "$run/status"
+  loaded=$(sed -n '1s/.* loaded \([0-9]*\) of .*/\1/p' "$run/status")
+  moving=$(sed -n '1s/.* loaded [0-9]* of \([0-9]*\) .*/\1/p' "$run/status")
+  [ "${words[*]:0:2}" = "course 2" ] && [ "$loaded" -gt 0 ] || return
+  page metrics && counts squall_course 2 && counts squall_moving_keys "$moving" && counts squall_loaded_keys "$loaded" || return
+  page status && cmp "$run/page" "$run/status" || return
+  "$program" picture "$run/old.json" "$run/old.json" "$run/board" > "$run/picture"
+  page picture.svg && cmp "$run/page" "$run/picture" || return
+  page '' && grep -q '<svg' "$run/page" && grep -q 'http-equiv="refresh"' "$run/page" && ! page nothing
+}
+
 # The same while all keys move. After their first chunks the movers of both sources wait.
 test_serving_by_guard() {
   local limits=(--client-memory 1 --clients 20) id key

@@ -3,6 +3,7 @@
 use super::entry::{Entry, Places, Streams};
 use super::outbox;
 use crate::conn::{Conn, Server};
+use crate::course::Progress;
 use crate::dice::Dice;
 use crate::fault::Done;
 use crate::faults;
@@ -146,6 +147,25 @@ impl Node {
         (view.clone(), self.views())
     }
 
+    /// How far the newest course is.
+    ///
+    /// # Errors
+    ///
+    /// There is no memory.
+    pub fn progress(&self) -> Done<Progress> {
+        let router = lock(&self.router);
+        Ok(Progress::of(&router.course()?, |keys| router.legs(keys)))
+    }
+
+    /// The frames of all that this node knows.
+    ///
+    /// # Errors
+    ///
+    /// There is no memory.
+    pub fn board(&self) -> Done<Vec<Vec<u8>>> {
+        Ok(lock(&self.router).board()?.collect())
+    }
+
     /// Shows at once what this node knows, for others to tell it the rest.
     pub fn ask(&self) {
         lock(&self.agenda).is_wanted = true;
@@ -171,7 +191,7 @@ impl Node {
 
     /// Sends all that this node knows. A stream that is trimmed then has it at its end.
     pub fn tell_all(&self) -> Done<()> {
-        let frames: Vec<_> = lock(&self.router).board()?.collect();
+        let frames = self.board()?;
         self.send(|streams, conn| streams.write(conn, &self.name, &frames, None))
     }
 

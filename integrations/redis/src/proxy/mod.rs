@@ -2,10 +2,13 @@
 
 mod client;
 mod commands;
+mod counts;
 mod follow;
+mod http;
 mod link;
 mod local;
 mod metrics;
+mod page;
 mod plan;
 mod serve;
 mod socket;
@@ -46,6 +49,7 @@ pub const USAGE: Usage = Usage {
         "clients",
         "client-memory",
         "metrics",
+        "program",
     ],
     flags: &[],
 };
@@ -59,8 +63,9 @@ pub fn run(args: &Args) -> Done<()> {
     let shared = Arc::new(share(args, threads)?);
     if let Some(addr) = args.get("metrics") {
         let listener = TcpListener::bind(addr).trying(|| format!("--metrics {addr}"))?;
-        let shared = shared.clone();
-        thread::spawn(move || metrics::serve(&listener, &shared));
+        let page =
+            page::Page::new(shared.clone(), args.get("program").unwrap_or("squall"), args.need("first")?);
+        thread::spawn(move || http::serve(&listener, &Arc::new(page)));
     }
     let most = args.number("clients", 10_000, 1, 1_000_000)? as usize;
     let wakers = start(&shared)?;
@@ -85,7 +90,7 @@ fn share(args: &Args, threads: usize) -> Done<Shared> {
         memory: args.number("client-memory", 64, 1, 4096)? as usize * (1 << 20),
         clients: AtomicUsize::new(0),
         arrivals: (0..threads).map(|_| Mutex::default()).collect(),
-        counts: (0..threads).map(|_| metrics::Counts::default()).collect(),
+        counts: (0..threads).map(|_| counts::Counts::default()).collect(),
         began: Instant::now(),
     })
 }

@@ -1,6 +1,7 @@
 //! What becomes of a client's commands, one after another.
 
 use super::client::Client;
+use super::commands::Kind;
 use super::local;
 use super::plan::{Plan, Words};
 use super::upstream::InFlight;
@@ -114,7 +115,7 @@ impl Worker {
         let words = Words { bytes: &client.input[client.next..], places: client.parser.words() };
         let shared = self.shared.clone();
         let local = local::answer(words, client.is_resp3, &self.view, || shared.info());
-        self.commands += 1;
+        self.turn.count(Kind::Own);
         match local {
             None => {
                 self.counts().refused.fetch_add(1, Relaxed);
@@ -131,6 +132,7 @@ impl Worker {
 
     /// Sends all requests of a command, or none if one of them has to wait.
     fn send(&mut self, at: usize, client: &mut Client, plan: Plan) -> Flow {
+        let kind = plan.command().kind;
         let targets = if client.keeps_order(self.views, self.view.number()) {
             self.targets(client, &plan)
         } else {
@@ -150,7 +152,7 @@ impl Worker {
                 client.add(plan);
             }
         }
-        self.commands += 1;
+        self.turn.count(kind);
         Flow::On
     }
 

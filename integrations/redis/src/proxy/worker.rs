@@ -4,7 +4,8 @@
 //! each, and what these answer is sent back in the same way.
 
 use super::client::Client;
-use super::metrics::{Counts, Shared};
+use super::counts::{Counts, Turn};
+use super::metrics::Shared;
 use super::socket::{receive, Received};
 use super::upstream::{InFlight, State, Upstream};
 use mio::net::TcpStream;
@@ -12,7 +13,7 @@ use mio::{Events, Interest, Poll, Token};
 use squall::View;
 use std::collections::HashMap;
 use std::io;
-use std::sync::atomic::Ordering::{Relaxed, SeqCst};
+use std::sync::atomic::Ordering::SeqCst;
 use std::sync::{Arc, PoisonError};
 use std::time::{Duration, Instant};
 
@@ -44,7 +45,7 @@ pub struct Worker {
     dirty_upstreams: Vec<usize>,
     pub(super) block: Vec<u8>,
     /// Commands since the last turn of the loop.
-    pub(super) commands: u64,
+    pub(super) turn: Turn,
 }
 
 /// The tokens of clients are even, and those of connections to partitions odd.
@@ -77,7 +78,7 @@ impl Worker {
             dirty_clients: Vec::new(),
             dirty_upstreams: Vec::new(),
             block: vec![0; BLOCK],
-            commands: 0,
+            turn: Turn::default(),
         }
     }
 
@@ -115,8 +116,7 @@ impl Worker {
             self.watch();
             self.go_on();
             self.flush();
-            self.counts().commands.fetch_add(self.commands, Relaxed);
-            self.commands = 0;
+            self.shared.counts[self.own].add(&mut self.turn);
         }
     }
 

@@ -1,0 +1,115 @@
+//! The status page. What it says of the course are the words and the picture of the program `squall`.
+
+use super::metrics::Shared;
+use crate::fault::{Done, Fault, Trying};
+use std::io::Write;
+use std::process::{Command, Stdio};
+use std::sync::{Arc, Mutex, PoisonError};
+
+/// The page, without what changes.
+const HTML: &str = include_str!("page.html");
+
+/// What the port of the status page shows.
+pub struct Page {
+    shared: Arc<Shared>,
+    /// The program `squall`, and the file of the plan of course 1.
+    program: String,
+    first: String,
+    /// What the program said last, by its command.
+    said: Mutex<[Said; 2]>,
+}
+
+/// What the program said of a board.
+#[derive(Default)]
+struct Said {
+    board: Vec<u8>,
+    text: String,
+}
+
+/// A command of the program.
+#[derive(Clone, Copy)]
+enum Asked {
+    Status,
+    Picture,
+}
+
+impl Page {
+    /// The page of a proxy, which asks that program.
+    pub fn new(shared: Arc<Shared>, program: &str, first: &str) -> Page {
+        Page { shared, program: program.into(), first: first.into(), said: Mutex::default() }
+    }
+
+    /// All that Prometheus reads.
+    pub fn metrics(&self) -> Done<String> {
+        self.shared.metrics()
+    }
+
+    /// The frames of the board, one after another.
+    pub fn board(&self) -> Done<Vec<u8>> {
+        Ok(self.shared.node.board()?.concat())
+    }
+
+    /// The lines of the course.
+    pub fn status(&self) -> Done<String> {
+        self.ask(Asked::Status)
+    }
+
+    /// The picture of the course.
+    pub fn picture(&self) -> Done<String> {
+        self.ask(Asked::Picture)
+    }
+
+    /// The page for people.
+    pub fn html(&self) -> Done<String> {
+        let or_why = |said: Done<String>| said.unwrap_or_else(|fault| escaped(&fault.to_string()));
+        let status = self.status().map(|text| escaped(&text));
+        let info = self.shared.info();
+        let mut words = info.split(' ');
+        let mut rows = String::new();
+        while let (Some(name), Some(value)) = (words.next(), words.next()) {
+            rows.push_str(&format!("<tr><th>{}</th><td>{value}</td></tr>\n", name.replace('_', " ")));
+        }
+        let page = HTML.replace("@rows@", &rows).replace("@status@", &or_why(status));
+        Ok(page.replace("@picture@", &or_why(self.picture())))
+    }
+
+    /// What the program says of the board. It is asked again if the board has changed.
+    fn ask(&self, asked: Asked) -> Done<String> {
+        let board = self.board()?;
+        let mut said = self.said.lock().unwrap_or_else(PoisonError::into_inner);
+        let last = &mut said[asked as usize];
+        if last.text.is_empty() || last.board != board {
+            let text = self.run(asked, &board)?;
+            *last = Said { board, text };
+        }
+        Ok(last.text.clone())
+    }
+
+    fn run(&self, asked: Asked, board: &[u8]) -> Done<String> {
+        let name = match asked {
+            Asked::Status => "status",
+            Asked::Picture => "picture",
+        };
+        let mut child = Command::new(&self.program)
+            .args([name, &self.first, &self.first, "-"])
+            .stdin(Stdio::piped())
+            .stdout(Stdio::piped())
+            .stderr(Stdio::piped())
+            .spawn()
+            .trying(|| format!("--program {}", self.program))?;
+        if let Some(mut input) = child.stdin.take() {
+            // If it ends before it has read all, its output says why.
+            let _ = input.write_all(board);
+        }
+        let output = child.wait_with_output()?;
+        if !output.status.success() {
+            let why = String::from_utf8_lossy(&output.stderr).into_owned();
+            return Err(Fault::new(format!("{} {name}: {}", self.program, why.trim_end())));
+        }
+        Ok(String::from_utf8_lossy(&output.stdout).into_owned())
+    }
+}
+
+fn escaped(text: &str) -> String {
+    text.replace('&', "&amp;").replace('<', "&lt;")
+}
