@@ -114,6 +114,21 @@ redis.register_function('squall_do', function(_, args)
   return exact(redis.pcall(unpack(args, first)), args[first], args[first + 1], args[first + 2])
 end)
 
+-- NUMBER RANK..: whether all keys of these ranks are here, or where they are. A transaction that watches
+-- squall:number and squall:edge before it asks, and is done, was done while they were here.
+redis.register_function({
+  function_name = 'squall_check',
+  flags = { 'no-writes', 'allow-oom' },
+  callback = function(_, args)
+    local course = known()
+    if args[1] ~= course.number then
+      return refuse('COURSE ' .. course.number)
+    end
+    local said = say_all(course, args, 2, #args)
+    return said and refuse(said) or redis.status_reply('here')
+  end,
+})
+
 -- NUMBER [PLAN]: each move of that course as LO HI ROLE PEER EDGE FORGOT, if the course ends at that plan.
 redis.register_function({
   function_name = 'squall_moves',

@@ -97,6 +97,49 @@ fn several_keys_have_one_reply() {
 
 #[test]
 #[ignore = "needs a server"]
+fn a_check_says_where_keys_are() {
+    let mut it = moving();
+    it.call("squall_give", &["2", "0000000200000000", "0000000200000005"]);
+    let (moved, here) = ("0000000200000001", "0000000200000009");
+    for (ranks, wanted) in [
+        (&[here][..], "here"),
+        (&[here, "0000000100000000"], "here"),
+        (&[moved], "SQUALL MOVED 3 2"),
+        (&[here, moved], "SQUALL SPLIT"),
+        (&["0000000500000000"], "SQUALL PENDING 4"),
+        (&["0000000700000001"], "SQUALL ELSEWHERE 6"),
+    ] {
+        assert_eq!(it.call("squall_check", &[&["2"], ranks].concat()), wanted, "{ranks:?}");
+    }
+    assert_eq!(it.call("squall_check", &["1", here]), "SQUALL COURSE 2");
+}
+
+/// A transaction after a check is not done if keys were given, loaded, or a course begun in between.
+#[test]
+#[ignore = "needs a server"]
+fn what_changes_after_a_check_ends_a_transaction() {
+    let give = ["FCALL", "squall_give", "0", "2", "0000000200000000", "0000000200000005"];
+    let load = ["FCALL", "squall_load", "0", "2", "0000000500000000", "0000000500000005"];
+    for (change, wanted) in [(&["PING"][..], "OK"), (&give, ""), (&load, ""), (&["GET", "x"], "OK")] {
+        let mut it = moving();
+        it.ask(&["WATCH", "squall:number", "squall:edge"]);
+        assert_eq!(it.call("squall_check", &["2", "0000000200000001"]), "here");
+        let addr = std::env::var("SQUALL_REDIS").unwrap();
+        let mut other =
+            Partition(Conn::open(&Server { addr: addr.parse().unwrap(), password: None }).unwrap());
+        other.ask(change);
+        it.ask(&["MULTI"]);
+        it.ask(&["SET", "x", "done"]);
+        it.0.put(&["EXEC"]);
+        it.0.flush().unwrap();
+        let done = it.0.hear().unwrap().list();
+        let said = done.into_iter().next().map_or(String::new(), |value| value.text());
+        assert_eq!(said, wanted, "{change:?}");
+    }
+}
+
+#[test]
+#[ignore = "needs a server"]
 fn commands_of_another_course_are_refused() {
     let mut it = moving();
     let ask = ["1", "2", "1", "0000000100000000", "SET", "x", "late"];

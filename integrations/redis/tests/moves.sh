@@ -156,6 +156,60 @@ test_missed_frames() {
   end_load && has_moved && agrees 3 4
 }
 
+# Waits for keys that move: each ends at the new place, with what was put there, or in time with nothing.
+test_waits_while_keys_move() {
+  local key id waits=() began
+  deploy || return
+  for key in 400:0 600:0; do
+    launch "$run" "wait.$key" redis-cli -p "${proxies[0]}" blpop "$key:q" 30
+    waits+=("$id")
+  done
+  launch "$run" wait.none redis-cli -p "${proxies[1]}" blpop 400:1:q 410:1:q 2
+  waits+=("$id")
+  launch "$run" wait.stays redis-cli -p "${proxies[1]}" blpop 1:0:q 30
+  waits+=("$id")
+  sleep 0.2
+  # Waits begin before the course, in it, and after it.
+  redis-cli -p "${servers[0]}" client list | grep -c 'cmd=blpop' | grep -qx 3 || return
+  for key in $(seq 330 499); do echo "set $key:0 x"; done | redis-cli -p "${proxies[0]}" > "$run/set"
+  start_move 2 old new --chunk 5 --pause 20
+  sleep 0.3
+  launch "$run" wait.later redis-cli -p "${proxies[1]}" blpop 410:0:q 30
+  waits+=("$id")
+  agrees 3 2 490:0 || return
+  sleep 0.2
+  for key in 400:0 600:0 410:0 1:0; do redis-cli -p "${proxies[1]}" rpush "$key:q" "of $key" || return; done
+  for id in "${waits[@]}"; do wait "$id"; done
+  tail -n 3 "$run"/wait.*
+  for key in 400:0 600:0; do grep -qx "of $key" "$run/wait.$key" || return; done
+  grep -qx "of 410:0" "$run/wait.later" && grep -qx "of 1:0" "$run/wait.stays" && ! grep -q "of " "$run/wait.none" || return
+  # None is left, and nothing was taken twice.
+  redis-cli -p "${proxies[0]}" del 400:0:q 600:0:q 410:0:q 1:0:q | grep -qx 0
+}
+
+# Names all keys again and again while they move: none is ever missed.
+test_scan_while_keys_move() {
+  deploy && scans_find_all
+}
+
+scans_find_all() {
+  local number plans=(old new) scans=0 id
+  for number in $(seq 0 1999); do echo "set $((number % 1000)):$number:s x"; done > "$run/sets"
+  redis-cli -p "${proxies[0]}" < "$run/sets" > "$run/set"
+  cut -d' ' -f2 "$run/sets" | sort > "$run/wanted"
+  for number in 2 3 4; do
+    start_move "$number" "${plans[number % 2]}" "${plans[1 - number % 2]}" --chunk 10 --pause 4
+    while kill -0 "$id" 2> /dev/null; do
+      redis-cli -p "${proxies[scans % 2]}" --scan | sort -u > "$run/found" || return
+      cmp "$run/found" "$run/wanted" || return
+      scans=$((scans + 1))
+    done
+    wait "$id" || return
+  done
+  echo "$scans scans"
+  [ "$scans" -gt 5 ]
+}
+
 # Kills the mover of course N again and again until it has moved all.
 move_killed() {
   local kills=0 id
@@ -332,6 +386,11 @@ test_mutant_without_fence() {
   sleep 0.1
   SQUALL_FAULT=no-fence move 2 old new --pause 10 || return
   caught
+}
+
+# A walk that visits no partition twice misses keys.
+test_mutant_of_scans() {
+  deploy SQUALL_FAULT=scan-once && ! scans_find_all && [ -s "$run/found" ] && [ -z "$(comm -13 "$run/wanted" "$run/found")" ]
 }
 
 # With the fence, proxies that hear nothing do nothing wrong: they answer no more.

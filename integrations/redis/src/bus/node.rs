@@ -7,7 +7,7 @@ use crate::course::Progress;
 use crate::dice::Dice;
 use crate::fault::Done;
 use crate::faults;
-use squall::{Error, Router, View};
+use squall::{Course, Error, Router, View};
 use std::sync::atomic::{AtomicU64, Ordering::Relaxed, Ordering::SeqCst};
 use std::sync::{Arc, Condvar, Mutex, MutexGuard, PoisonError};
 use std::thread;
@@ -153,8 +153,19 @@ impl Node {
     ///
     /// There is no memory.
     pub fn progress(&self) -> Done<Progress> {
+        self.course().map(|(_, progress)| progress)
+    }
+
+    /// The newest course, and how far it is.
+    ///
+    /// # Errors
+    ///
+    /// There is no memory.
+    pub fn course(&self) -> Done<(Course, Progress)> {
         let router = lock(&self.router);
-        Ok(Progress::of(&router.course()?, |keys| router.legs(keys)))
+        let course = router.course()?;
+        let progress = Progress::of(&course, |keys| router.legs(keys));
+        Ok((course, progress))
     }
 
     /// The frames of all that this node knows.

@@ -9,6 +9,39 @@ use crate::{user, GUARD};
 use squall::Rank;
 use std::collections::HashMap;
 
+/// What a router's user may do. It reads the partition's own keys, and writes all others: a pattern for
+/// each letter at which a name can differ from `squall:`. A script can't change database.
+const RIGHTS: &[&str] = &[
+    "~",
+    "~[^s]*",
+    "~s",
+    "~s[^q]*",
+    "~sq",
+    "~sq[^u]*",
+    "~squ",
+    "~squ[^a]*",
+    "~squa",
+    "~squa[^l]*",
+    "~squal",
+    "~squal[^l]*",
+    "~squall",
+    "~squall[^:]*",
+    "%R~squall:*",
+    "+@all",
+    "-@admin",
+    "-@dangerous",
+    "-select",
+    "-move",
+    "-@scripting",
+    "+fcall",
+    "+fcall_ro",
+    "+eval",
+    "+eval_ro",
+    "+evalsha",
+    "+evalsha_ro",
+    "+script|load",
+];
+
 /// A partition, as its operator.
 pub struct Partition {
     /// Its number.
@@ -83,8 +116,7 @@ impl Partition {
     pub fn admit(&mut self, secret: &str) -> Done<()> {
         let name = user(&self.number);
         let secret = format!(">{secret}");
-        let rights = ["~*", "+@all", "-@admin", "-@dangerous", "-@scripting", "+fcall"];
-        let words = [&["ACL", "SETUSER", &name, "reset", "on", &secret][..], &rights].concat();
+        let words = [&["ACL", "SETUSER", &name, "reset", "on", &secret][..], RIGHTS].concat();
         self.in_course(&[words])
     }
 
@@ -98,7 +130,22 @@ impl Partition {
             .filter(|name| name.starts_with(&user("")) && *name != own)
             .collect();
         let resets: Vec<_> = others.iter().map(|name| vec!["ACL", "SETUSER", name, "reset"]).collect();
-        self.in_course(&resets)
+        self.in_course(&resets)?;
+        self.end_waits(&own)
+    }
+
+    /// Ends the waits of all routers' users but one. A command that waits was let in before the fence,
+    /// and could take from a key that is only on its way back here.
+    fn end_waits(&mut self, own: &str) -> Done<()> {
+        let clients = self.ask(&["CLIENT", "LIST"])?.text();
+        for line in clients.lines() {
+            let field = |name| line.split(' ').find_map(|word| word.strip_prefix(name));
+            let is_other = field("user=").is_some_and(|name| name.starts_with(&user("")) && name != own);
+            if let Some(id) = field("id=").filter(|_| is_other) {
+                self.ask(&["CLIENT", "UNBLOCK", id, "ERROR"])?;
+            }
+        }
+        Ok(())
     }
 
     /// Does commands at once, if the partition is in this course. Else a late mover would let in

@@ -3,6 +3,7 @@
 use super::commands::Split;
 use super::plan::{Plan, Words};
 use super::socket::Out;
+use super::task::{Queue, Task, Watch};
 use crate::resp::{Parser, Value};
 use mio::net::TcpStream;
 use squall::{Errand, Reply};
@@ -83,6 +84,11 @@ pub struct Client {
     pub chase: Option<Chase>,
     /// Since when the next command waits for its partition.
     pub waits_since: Option<Instant>,
+    /// What it has queued since MULTI, and which keys it watches.
+    pub queue: Option<Queue>,
+    pub watch: Option<Watch>,
+    /// Its next command, if it is done on a connection of its own.
+    pub task: Option<Task>,
     /// Whether it speaks RESP3.
     pub is_resp3: bool,
     /// Whether it is closed after the last answer.
@@ -114,6 +120,9 @@ impl Client {
             diverted: Vec::new(),
             chase: None,
             waits_since: None,
+            queue: None,
+            watch: None,
+            task: None,
             is_resp3: false,
             is_ending: false,
             is_dirty: false,
@@ -124,7 +133,8 @@ impl Client {
 
     /// How many bytes it holds.
     pub fn memory(&self) -> usize {
-        self.input.len() + self.out.len() + self.held
+        let queued = self.queue.as_ref().map_or(0, |queue| queue.bytes.len());
+        self.input.len() + self.out.len() + self.held + queued
     }
 
     /// Whether it may have another command in flight.
@@ -144,6 +154,22 @@ impl Client {
     /// Whether all its commands are answered.
     pub fn is_answered(&self) -> bool {
         self.window.is_empty()
+    }
+
+    /// The words of the command that was read.
+    pub fn words(&self) -> Words<'_> {
+        Words { bytes: &self.input[self.next..], places: self.parser.words() }
+    }
+
+    /// Whether that connection watches its keys.
+    pub fn watches_on(&self, upstream: Option<usize>) -> bool {
+        upstream.is_some() && self.watch.as_ref().is_some_and(|watch| watch.upstream == upstream)
+    }
+
+    /// The answer to a transaction that was not done, since keys that are watched have changed.
+    pub fn nil_list(&self) -> Vec<u8> {
+        let nil: &[u8] = if self.is_resp3 { b"_\r\n" } else { b"*-1\r\n" };
+        nil.to_vec()
     }
 
     /// The number of the next command.

@@ -1,8 +1,10 @@
 //! The commands that a proxy passes on.
 //!
-//! A command that is not in the table is refused. Left out are those that wait, that belong to a
-//! connection or a transaction, scripts, subscriptions, the administration of a server, and those whose
-//! keys are found in another way. `MOVE` would take a key to a database that no mover knows.
+//! A command that is not in the [table](COMMANDS) is refused. Left out are those that belong to a
+//! connection, subscriptions, the administration of a server, and those whose keys are found in another
+//! way. `MOVE` would take a key to a database that no mover knows.
+
+use super::table::COMMANDS;
 
 /// The places of a command's keys, as indices of its words.
 #[derive(Clone, Copy, Debug, PartialEq)]
@@ -11,6 +13,8 @@ pub enum Keys {
     Range(usize, isize, usize),
     /// The word at the index says how many keys follow it. If the index is 2, the first word is a key too.
     Counted(usize),
+    /// The word at the index says how many keys follow it, and no word before it is a key.
+    Named(usize),
 }
 
 /// Whether a server can do the command by its guard, which is a script, without a change of its reply.
@@ -22,7 +26,8 @@ pub enum Guard {
     Two,
     /// For clients of RESP2 alone.
     Resp2,
-    /// Not at all, since a script rounds numbers in lists.
+    /// Not at all: it is a script itself, it waits, or a script rounds numbers in its list. It is
+    /// guarded on a connection of the client's own.
     Never,
 }
 
@@ -60,13 +65,36 @@ pub enum Kind {
     Stream,
     /// A key of any type.
     Key,
+    /// A script or a function.
+    Script,
+    /// Waits for a key.
+    Blocking,
+    /// A transaction, and what belongs to one.
+    Transaction,
+    /// Walks over all keys.
+    Scan,
     /// What the proxy answers itself, or refuses.
     Own,
 }
 
 /// The names of all kinds, in their order.
-pub const KINDS: [&str; 11] =
-    ["text", "bitmap", "hash", "list", "set", "sorted_set", "geo", "hyperloglog", "stream", "key", "own"];
+pub const KINDS: [&str; 15] = [
+    "text",
+    "bitmap",
+    "hash",
+    "list",
+    "set",
+    "sorted_set",
+    "geo",
+    "hyperloglog",
+    "stream",
+    "key",
+    "script",
+    "blocking",
+    "transaction",
+    "scan",
+    "own",
+];
 
 /// A command.
 #[derive(Debug)]
@@ -83,169 +111,10 @@ pub struct Command {
     pub split: Option<Split>,
 }
 
-const fn row(name: &'static str, kind: Kind, keys: Keys, guard: Guard, split: Option<Split>) -> Command {
+/// A row of the table.
+pub const fn row(name: &'static str, kind: Kind, keys: Keys, guard: Guard, split: Option<Split>) -> Command {
     Command { name, kind, keys, guard, split }
 }
-
-/// All commands, by name.
-#[rustfmt::skip]
-const COMMANDS: &[Command] = &[
-    row("APPEND", Kind::Text, Keys::Range(1, 1, 1), Guard::Both, None),
-    row("BITCOUNT", Kind::Bitmap, Keys::Range(1, 1, 1), Guard::Both, None),
-    row("BITFIELD", Kind::Bitmap, Keys::Range(1, 1, 1), Guard::Never, None),
-    row("BITFIELD_RO", Kind::Bitmap, Keys::Range(1, 1, 1), Guard::Never, None),
-    row("BITOP", Kind::Bitmap, Keys::Range(2, -1, 1), Guard::Both, None),
-    row("BITPOS", Kind::Bitmap, Keys::Range(1, 1, 1), Guard::Both, None),
-    row("COPY", Kind::Key, Keys::Range(1, 2, 1), Guard::Both, None),
-    row("DECR", Kind::Text, Keys::Range(1, 1, 1), Guard::Both, None),
-    row("DECRBY", Kind::Text, Keys::Range(1, 1, 1), Guard::Both, None),
-    row("DEL", Kind::Key, Keys::Range(1, -1, 1), Guard::Both, Some(Split::Sum)),
-    row("DUMP", Kind::Key, Keys::Range(1, 1, 1), Guard::Both, None),
-    row("EXISTS", Kind::Key, Keys::Range(1, -1, 1), Guard::Both, Some(Split::Sum)),
-    row("EXPIRE", Kind::Key, Keys::Range(1, 1, 1), Guard::Both, None),
-    row("EXPIREAT", Kind::Key, Keys::Range(1, 1, 1), Guard::Both, None),
-    row("EXPIRETIME", Kind::Key, Keys::Range(1, 1, 1), Guard::Both, None),
-    row("GEOADD", Kind::Geo, Keys::Range(1, 1, 1), Guard::Both, None),
-    row("GEODIST", Kind::Geo, Keys::Range(1, 1, 1), Guard::Both, None),
-    row("GEOHASH", Kind::Geo, Keys::Range(1, 1, 1), Guard::Two, None),
-    row("GEOPOS", Kind::Geo, Keys::Range(1, 1, 1), Guard::Resp2, None),
-    row("GEORADIUSBYMEMBER_RO", Kind::Geo, Keys::Range(1, 1, 1), Guard::Both, None),
-    row("GEORADIUS_RO", Kind::Geo, Keys::Range(1, 1, 1), Guard::Both, None),
-    row("GEOSEARCH", Kind::Geo, Keys::Range(1, 1, 1), Guard::Both, None),
-    row("GEOSEARCHSTORE", Kind::Geo, Keys::Range(1, 2, 1), Guard::Both, None),
-    row("GET", Kind::Text, Keys::Range(1, 1, 1), Guard::Both, None),
-    row("GETBIT", Kind::Bitmap, Keys::Range(1, 1, 1), Guard::Both, None),
-    row("GETDEL", Kind::Text, Keys::Range(1, 1, 1), Guard::Both, None),
-    row("GETEX", Kind::Text, Keys::Range(1, 1, 1), Guard::Both, None),
-    row("GETRANGE", Kind::Text, Keys::Range(1, 1, 1), Guard::Both, None),
-    row("GETSET", Kind::Text, Keys::Range(1, 1, 1), Guard::Both, None),
-    row("HDEL", Kind::Hash, Keys::Range(1, 1, 1), Guard::Both, None),
-    row("HEXISTS", Kind::Hash, Keys::Range(1, 1, 1), Guard::Both, None),
-    row("HGET", Kind::Hash, Keys::Range(1, 1, 1), Guard::Both, None),
-    row("HGETALL", Kind::Hash, Keys::Range(1, 1, 1), Guard::Both, None),
-    row("HINCRBY", Kind::Hash, Keys::Range(1, 1, 1), Guard::Both, None),
-    row("HINCRBYFLOAT", Kind::Hash, Keys::Range(1, 1, 1), Guard::Both, None),
-    row("HKEYS", Kind::Hash, Keys::Range(1, 1, 1), Guard::Both, None),
-    row("HLEN", Kind::Hash, Keys::Range(1, 1, 1), Guard::Both, None),
-    row("HMGET", Kind::Hash, Keys::Range(1, 1, 1), Guard::Two, None),
-    row("HMSET", Kind::Hash, Keys::Range(1, 1, 1), Guard::Both, None),
-    row("HRANDFIELD", Kind::Hash, Keys::Range(1, 1, 1), Guard::Both, None),
-    row("HSCAN", Kind::Hash, Keys::Range(1, 1, 1), Guard::Both, None),
-    row("HSET", Kind::Hash, Keys::Range(1, 1, 1), Guard::Both, None),
-    row("HSETNX", Kind::Hash, Keys::Range(1, 1, 1), Guard::Both, None),
-    row("HSTRLEN", Kind::Hash, Keys::Range(1, 1, 1), Guard::Both, None),
-    row("HVALS", Kind::Hash, Keys::Range(1, 1, 1), Guard::Both, None),
-    row("INCR", Kind::Text, Keys::Range(1, 1, 1), Guard::Both, None),
-    row("INCRBY", Kind::Text, Keys::Range(1, 1, 1), Guard::Both, None),
-    row("INCRBYFLOAT", Kind::Text, Keys::Range(1, 1, 1), Guard::Both, None),
-    row("LCS", Kind::Text, Keys::Range(1, 2, 1), Guard::Both, None),
-    row("LINDEX", Kind::List, Keys::Range(1, 1, 1), Guard::Both, None),
-    row("LINSERT", Kind::List, Keys::Range(1, 1, 1), Guard::Both, None),
-    row("LLEN", Kind::List, Keys::Range(1, 1, 1), Guard::Both, None),
-    row("LMOVE", Kind::List, Keys::Range(1, 2, 1), Guard::Both, None),
-    row("LMPOP", Kind::List, Keys::Counted(1), Guard::Both, None),
-    row("LPOP", Kind::List, Keys::Range(1, 1, 1), Guard::Both, None),
-    row("LPOS", Kind::List, Keys::Range(1, 1, 1), Guard::Both, None),
-    row("LPUSH", Kind::List, Keys::Range(1, 1, 1), Guard::Both, None),
-    row("LPUSHX", Kind::List, Keys::Range(1, 1, 1), Guard::Both, None),
-    row("LRANGE", Kind::List, Keys::Range(1, 1, 1), Guard::Both, None),
-    row("LREM", Kind::List, Keys::Range(1, 1, 1), Guard::Both, None),
-    row("LSET", Kind::List, Keys::Range(1, 1, 1), Guard::Both, None),
-    row("LTRIM", Kind::List, Keys::Range(1, 1, 1), Guard::Both, None),
-    row("MEMORY", Kind::Key, Keys::Range(2, 2, 1), Guard::Both, None),
-    row("MGET", Kind::Text, Keys::Range(1, -1, 1), Guard::Two, Some(Split::List)),
-    row("MSET", Kind::Text, Keys::Range(1, -1, 2), Guard::Both, Some(Split::Done)),
-    row("MSETNX", Kind::Text, Keys::Range(1, -1, 2), Guard::Both, None),
-    row("OBJECT", Kind::Key, Keys::Range(2, 2, 1), Guard::Both, None),
-    row("PERSIST", Kind::Key, Keys::Range(1, 1, 1), Guard::Both, None),
-    row("PEXPIRE", Kind::Key, Keys::Range(1, 1, 1), Guard::Both, None),
-    row("PEXPIREAT", Kind::Key, Keys::Range(1, 1, 1), Guard::Both, None),
-    row("PEXPIRETIME", Kind::Key, Keys::Range(1, 1, 1), Guard::Both, None),
-    row("PFADD", Kind::HyperLogLog, Keys::Range(1, 1, 1), Guard::Both, None),
-    row("PFCOUNT", Kind::HyperLogLog, Keys::Range(1, -1, 1), Guard::Both, None),
-    row("PFMERGE", Kind::HyperLogLog, Keys::Range(1, -1, 1), Guard::Both, None),
-    row("PSETEX", Kind::Text, Keys::Range(1, 1, 1), Guard::Both, None),
-    row("PTTL", Kind::Key, Keys::Range(1, 1, 1), Guard::Both, None),
-    row("RENAME", Kind::Key, Keys::Range(1, 2, 1), Guard::Both, None),
-    row("RENAMENX", Kind::Key, Keys::Range(1, 2, 1), Guard::Both, None),
-    row("RPOP", Kind::List, Keys::Range(1, 1, 1), Guard::Both, None),
-    row("RPOPLPUSH", Kind::List, Keys::Range(1, 2, 1), Guard::Both, None),
-    row("RPUSH", Kind::List, Keys::Range(1, 1, 1), Guard::Both, None),
-    row("RPUSHX", Kind::List, Keys::Range(1, 1, 1), Guard::Both, None),
-    row("SADD", Kind::Set, Keys::Range(1, 1, 1), Guard::Both, None),
-    row("SCARD", Kind::Set, Keys::Range(1, 1, 1), Guard::Both, None),
-    row("SDIFF", Kind::Set, Keys::Range(1, -1, 1), Guard::Both, None),
-    row("SDIFFSTORE", Kind::Set, Keys::Range(1, -1, 1), Guard::Both, None),
-    row("SET", Kind::Text, Keys::Range(1, 1, 1), Guard::Both, None),
-    row("SETBIT", Kind::Bitmap, Keys::Range(1, 1, 1), Guard::Both, None),
-    row("SETEX", Kind::Text, Keys::Range(1, 1, 1), Guard::Both, None),
-    row("SETNX", Kind::Text, Keys::Range(1, 1, 1), Guard::Both, None),
-    row("SETRANGE", Kind::Text, Keys::Range(1, 1, 1), Guard::Both, None),
-    row("SINTER", Kind::Set, Keys::Range(1, -1, 1), Guard::Both, None),
-    row("SINTERCARD", Kind::Set, Keys::Counted(1), Guard::Both, None),
-    row("SINTERSTORE", Kind::Set, Keys::Range(1, -1, 1), Guard::Both, None),
-    row("SISMEMBER", Kind::Set, Keys::Range(1, 1, 1), Guard::Both, None),
-    row("SMEMBERS", Kind::Set, Keys::Range(1, 1, 1), Guard::Both, None),
-    row("SMISMEMBER", Kind::Set, Keys::Range(1, 1, 1), Guard::Both, None),
-    row("SMOVE", Kind::Set, Keys::Range(1, 2, 1), Guard::Both, None),
-    row("SPOP", Kind::Set, Keys::Range(1, 1, 1), Guard::Both, None),
-    row("SRANDMEMBER", Kind::Set, Keys::Range(1, 1, 1), Guard::Both, None),
-    row("SREM", Kind::Set, Keys::Range(1, 1, 1), Guard::Both, None),
-    row("SSCAN", Kind::Set, Keys::Range(1, 1, 1), Guard::Both, None),
-    row("STRLEN", Kind::Text, Keys::Range(1, 1, 1), Guard::Both, None),
-    row("SUBSTR", Kind::Text, Keys::Range(1, 1, 1), Guard::Both, None),
-    row("SUNION", Kind::Set, Keys::Range(1, -1, 1), Guard::Both, None),
-    row("SUNIONSTORE", Kind::Set, Keys::Range(1, -1, 1), Guard::Both, None),
-    row("TOUCH", Kind::Key, Keys::Range(1, -1, 1), Guard::Both, Some(Split::Sum)),
-    row("TTL", Kind::Key, Keys::Range(1, 1, 1), Guard::Both, None),
-    row("TYPE", Kind::Key, Keys::Range(1, 1, 1), Guard::Both, None),
-    row("UNLINK", Kind::Key, Keys::Range(1, -1, 1), Guard::Both, Some(Split::Sum)),
-    row("XACK", Kind::Stream, Keys::Range(1, 1, 1), Guard::Both, None),
-    row("XADD", Kind::Stream, Keys::Range(1, 1, 1), Guard::Both, None),
-    row("XAUTOCLAIM", Kind::Stream, Keys::Range(1, 1, 1), Guard::Both, None),
-    row("XCLAIM", Kind::Stream, Keys::Range(1, 1, 1), Guard::Both, None),
-    row("XDEL", Kind::Stream, Keys::Range(1, 1, 1), Guard::Both, None),
-    row("XGROUP", Kind::Stream, Keys::Range(2, 2, 1), Guard::Both, None),
-    row("XINFO", Kind::Stream, Keys::Range(2, 2, 1), Guard::Resp2, None),
-    row("XLEN", Kind::Stream, Keys::Range(1, 1, 1), Guard::Both, None),
-    row("XPENDING", Kind::Stream, Keys::Range(1, 1, 1), Guard::Two, None),
-    row("XRANGE", Kind::Stream, Keys::Range(1, 1, 1), Guard::Both, None),
-    row("XREVRANGE", Kind::Stream, Keys::Range(1, 1, 1), Guard::Both, None),
-    row("XSETID", Kind::Stream, Keys::Range(1, 1, 1), Guard::Both, None),
-    row("XTRIM", Kind::Stream, Keys::Range(1, 1, 1), Guard::Both, None),
-    row("ZADD", Kind::SortedSet, Keys::Range(1, 1, 1), Guard::Both, None),
-    row("ZCARD", Kind::SortedSet, Keys::Range(1, 1, 1), Guard::Both, None),
-    row("ZCOUNT", Kind::SortedSet, Keys::Range(1, 1, 1), Guard::Both, None),
-    row("ZDIFF", Kind::SortedSet, Keys::Counted(1), Guard::Both, None),
-    row("ZDIFFSTORE", Kind::SortedSet, Keys::Counted(2), Guard::Both, None),
-    row("ZINCRBY", Kind::SortedSet, Keys::Range(1, 1, 1), Guard::Both, None),
-    row("ZINTER", Kind::SortedSet, Keys::Counted(1), Guard::Both, None),
-    row("ZINTERCARD", Kind::SortedSet, Keys::Counted(1), Guard::Both, None),
-    row("ZINTERSTORE", Kind::SortedSet, Keys::Counted(2), Guard::Both, None),
-    row("ZLEXCOUNT", Kind::SortedSet, Keys::Range(1, 1, 1), Guard::Both, None),
-    row("ZMPOP", Kind::SortedSet, Keys::Counted(1), Guard::Both, None),
-    row("ZMSCORE", Kind::SortedSet, Keys::Range(1, 1, 1), Guard::Resp2, None),
-    row("ZPOPMAX", Kind::SortedSet, Keys::Range(1, 1, 1), Guard::Both, None),
-    row("ZPOPMIN", Kind::SortedSet, Keys::Range(1, 1, 1), Guard::Both, None),
-    row("ZRANDMEMBER", Kind::SortedSet, Keys::Range(1, 1, 1), Guard::Both, None),
-    row("ZRANGE", Kind::SortedSet, Keys::Range(1, 1, 1), Guard::Both, None),
-    row("ZRANGEBYLEX", Kind::SortedSet, Keys::Range(1, 1, 1), Guard::Both, None),
-    row("ZRANGEBYSCORE", Kind::SortedSet, Keys::Range(1, 1, 1), Guard::Both, None),
-    row("ZRANGESTORE", Kind::SortedSet, Keys::Range(1, 2, 1), Guard::Both, None),
-    row("ZRANK", Kind::SortedSet, Keys::Range(1, 1, 1), Guard::Both, None),
-    row("ZREM", Kind::SortedSet, Keys::Range(1, 1, 1), Guard::Both, None),
-    row("ZREMRANGEBYLEX", Kind::SortedSet, Keys::Range(1, 1, 1), Guard::Both, None),
-    row("ZREMRANGEBYRANK", Kind::SortedSet, Keys::Range(1, 1, 1), Guard::Both, None),
-    row("ZREMRANGEBYSCORE", Kind::SortedSet, Keys::Range(1, 1, 1), Guard::Both, None),
-    row("ZREVRANGE", Kind::SortedSet, Keys::Range(1, 1, 1), Guard::Both, None),
-    row("ZREVRANGEBYLEX", Kind::SortedSet, Keys::Range(1, 1, 1), Guard::Both, None),
-    row("ZREVRANGEBYSCORE", Kind::SortedSet, Keys::Range(1, 1, 1), Guard::Both, None),
-    row("ZREVRANK", Kind::SortedSet, Keys::Range(1, 1, 1), Guard::Both, None),
-    row("ZSCAN", Kind::SortedSet, Keys::Range(1, 1, 1), Guard::Both, None),
-    row("ZSCORE", Kind::SortedSet, Keys::Range(1, 1, 1), Guard::Both, None),
-    row("ZUNION", Kind::SortedSet, Keys::Counted(1), Guard::Both, None),
-    row("ZUNIONSTORE", Kind::SortedSet, Keys::Counted(2), Guard::Both, None),
-];
 
 /// No name of a command is longer.
 const MOST: usize = 24;
@@ -260,7 +129,34 @@ pub fn find(name: &[u8]) -> Option<&'static Command> {
     at.ok().map(|at| &COMMANDS[at])
 }
 
+const FEW: &str = "wrong number of arguments";
+const NO_KEY: &str = "numkeys is 0, and only a key says which partition to ask,";
+
+/// Where the keys end whose count the word at that index is.
+fn counted<'a>(count: usize, at: usize, word: impl Fn(usize) -> &'a [u8]) -> Result<usize, &'static str> {
+    if count <= at {
+        return Err(FEW);
+    }
+    let keys = std::str::from_utf8(word(at)).ok().and_then(|word| word.parse().ok());
+    let keys: usize = keys.ok_or("numkeys is no number")?;
+    (at + 1).checked_add(keys).ok_or(FEW)
+}
+
 impl Command {
+    /// Whether it waits for a key.
+    pub fn waits(&self) -> bool {
+        self.kind == Kind::Blocking
+    }
+
+    /// The index of the word that says how long a command of `count` words waits.
+    pub fn timeout_at(&self, count: usize) -> usize {
+        if matches!(self.keys, Keys::Named(_)) {
+            1
+        } else {
+            count - 1
+        }
+    }
+
     /// The indices of its keys, if it has `count` words.
     ///
     /// # Errors
@@ -271,21 +167,16 @@ impl Command {
         count: usize,
         word: impl Fn(usize) -> &'a [u8],
     ) -> Result<impl Iterator<Item = usize>, &'static str> {
-        const FEW: &str = "wrong number of arguments";
         let (first, end, step, apart) = match self.keys {
             Keys::Range(first, last, step) => {
                 let last = if last < 0 { count.checked_add_signed(last) } else { Some(last as usize) };
                 (first, last.ok_or(FEW)? + 1, step, 0..0)
             }
-            Keys::Counted(at) => {
-                if count <= at {
-                    return Err(FEW);
-                }
-                let keys = std::str::from_utf8(word(at)).ok().and_then(|word| word.parse().ok());
-                let keys: usize = keys.ok_or("numkeys is no number")?;
-                let end = (at + 1).checked_add(keys).ok_or(FEW)?;
-                (at + 1, end, 1, 1..at)
-            }
+            Keys::Counted(at) => (at + 1, counted(count, at, word)?, 1, 1..at),
+            Keys::Named(at) => match counted(count, at, word)? {
+                end if end == at + 1 => return Err(NO_KEY),
+                end => (at + 1, end, 1, 0..0),
+            },
         };
         let most = if self.name == "COPY" { 4 } else { count };
         if end <= first || end > count || (end - first) % step != 0 {
@@ -320,7 +211,7 @@ mod tests {
         for name in ["get", "GET", "gEt", "zremrangebyscore"] {
             assert!(find(name.as_bytes()).is_some(), "{name}");
         }
-        for name in ["", "KEYS", "EVAL", "FLUSHALL", "MULTI", "BLPOP", "MOVE", "FCALL", "SORT", "AUTH"] {
+        for name in ["", "KEYS", "FLUSHALL", "MULTI", "SCAN", "MOVE", "SORT", "AUTH"] {
             assert!(find(name.as_bytes()).is_none(), "{name}");
         }
     }
@@ -336,6 +227,10 @@ mod tests {
         assert_eq!(places("ZINTER 2 a b WITHSCORES"), Ok(vec![2, 3]));
         assert_eq!(places("OBJECT ENCODING a"), Ok(vec![2]));
         assert_eq!(places("COPY a b REPLACE"), Ok(vec![1, 2]));
+        assert_eq!(places("EVAL x 2 a b c"), Ok(vec![3, 4]));
+        assert_eq!(places("BLPOP a b 0"), Ok(vec![1, 2]));
+        assert_eq!(places("BLMOVE a b LEFT RIGHT 0"), Ok(vec![1, 2]));
+        assert_eq!(places("BZMPOP 0 1 a MIN"), Ok(vec![3]));
     }
 
     #[test]
@@ -353,6 +248,11 @@ mod tests {
             "ZUNIONSTORE d",
             "OBJECT HELP",
             "COPY a b DB 1",
+            "EVAL x 0",
+            "EVAL x 2 a",
+            "FCALL f",
+            "BLPOP a",
+            "BLMPOP 0 0 LEFT",
         ] {
             assert!(places(line).is_err(), "{line}");
         }

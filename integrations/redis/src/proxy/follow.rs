@@ -1,6 +1,7 @@
 //! Where requests go, and what becomes of those that a partition refuses.
 
 use super::client::{Chase, Client, Diverted};
+use super::deeds::is_fence;
 use super::plan::Plan;
 use super::upstream::{InFlight, Role};
 use super::worker::Worker;
@@ -20,6 +21,8 @@ pub enum Targets {
     One([(usize, bool); 1]),
     /// Of a command that is split.
     Many(Vec<(usize, bool)>),
+    /// A connection of the client's own.
+    Own,
 }
 
 impl Targets {
@@ -28,12 +31,13 @@ impl Targets {
         match self {
             Targets::One(one) => one,
             Targets::Many(many) => many,
+            Targets::Own => &[],
         }
     }
 }
 
 /// What a partition answered to a request.
-enum Said {
+pub enum Said {
     /// This is the answer.
     Answer,
     /// It lets this proxy in no longer, or was asked by the number of another course.
@@ -50,7 +54,10 @@ impl Worker {
     pub(super) fn targets(&mut self, client: &Client, plan: &Plan) -> Result<Option<Targets>, Vec<u8>> {
         if plan.len() == 1 {
             let target = self.target(client, plan, 0)?;
-            return Ok(target.map(|target| Targets::One([target])));
+            let is_own = |is_guarded| is_guarded && !plan.may_be_guarded(client.is_resp3);
+            return Ok(
+                target.map(|target| if is_own(target.1) { Targets::Own } else { Targets::One([target]) })
+            );
         }
         let mut targets = Vec::with_capacity(plan.len());
         for part in 0..plan.len() {
@@ -85,15 +92,16 @@ impl Worker {
         if faults::is_on("never-guard") {
             is_guarded = false;
         }
-        if is_guarded && !plan.may_be_guarded(client.is_resp3) {
-            return Ok(None);
-        }
         Ok(Some((at, is_guarded)))
     }
 
     /// What is answered to a command whose keys are at several partitions: they may be on their way to
     /// one.
-    fn apart(&mut self, client: &Client, ranks: &[squall::Rank]) -> Result<Option<(usize, bool)>, Vec<u8>> {
+    pub(super) fn apart(
+        &mut self,
+        client: &Client,
+        ranks: &[squall::Rank],
+    ) -> Result<Option<(usize, bool)>, Vec<u8>> {
         let mut are_moving = false;
         for &rank in ranks {
             let part = self.view.route(rank).unwrap_or_default();
@@ -152,7 +160,7 @@ impl Worker {
         self.wake(sent.client);
     }
 
-    fn count(&self, said: &Said) {
+    pub(super) fn count(&self, said: &Said) {
         let counts = self.counts();
         let counter = match said {
             Said::Elsewhere(Reply::Moved { .. }) => &counts.moved,
@@ -211,7 +219,22 @@ impl Worker {
         let Some(upstream) = self.ready(asked, client.is_resp3_of(seq)) else {
             return false;
         };
+        if let Some(answer) = self.apart_of(client, (seq, part), upstream) {
+            client.chase = None;
+            client.diverted.remove(0);
+            client.answer(seq, part, &answer);
+            return false;
+        }
         self.send_chased((at, upstream), client, (seq, part), asked)
+    }
+
+    /// What is answered to a request if one of its keys can't come to the partition that is asked: only
+    /// some of its keys have moved.
+    fn apart_of(&self, client: &Client, (seq, part): (u64, u32), upstream: usize) -> Option<Vec<u8>> {
+        let ranks = client.with(seq, |plan, _, _| plan.ranks(part as usize).to_vec())?;
+        let (to, view) = (&self.upstreams[upstream], &self.view);
+        let are_apart = to.are_apart(&ranks, |rank| view.route(rank));
+        are_apart.then(|| error("TRYAGAIN the keys are at several partitions, and some of them move"))
     }
 
     /// Begins the errand of a request. It is begun anew if its key is routed to another partition, or
@@ -302,8 +325,8 @@ fn heed(client: &mut Client, said: Said, now: std::time::Instant) {
 }
 
 /// What an error says: the partition's own words come of guarded requests alone.
-fn read(reply: &[u8], is_guarded: bool) -> Said {
-    if reply.starts_with(b"-NOPERM") {
+pub fn read(reply: &[u8], is_guarded: bool) -> Said {
+    if is_fence(reply) {
         return Said::Fenced;
     }
     let line = reply.strip_prefix(b"-SQUALL ").filter(|_| is_guarded);

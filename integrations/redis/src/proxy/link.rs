@@ -20,12 +20,18 @@ impl Worker {
                 at
             }
         };
+        self.ready_at(at)
+    }
+
+    /// The same of a connection.
+    pub(super) fn ready_at(&mut self, at: usize) -> Option<usize> {
         if self.upstreams[at].is_ready(self.view.number()) {
             return Some(at);
         }
         match self.upstreams[at].state {
             State::Down(again) if self.now >= again => self.connect(at),
             State::Refused(again) if self.now >= again => self.enter(at),
+            State::Ready => self.enter(at),
             _ => {}
         }
         None
@@ -56,7 +62,7 @@ impl Worker {
             State::Refused(again) => self.now >= again || upstream.number != number,
             _ => false,
         };
-        if may_enter && upstream.sent.is_empty() {
+        if may_enter && !upstream.is_held() {
             upstream.enter(number, &self.shared.secret, &self.shared.first);
             upstream.progress = self.now;
             self.counts().logins.fetch_add(1, Relaxed);
@@ -113,6 +119,10 @@ impl Worker {
     /// Takes one reply: whether one was due.
     fn take_reply(&mut self, at: usize, reply: &[u8]) -> bool {
         let upstream = &mut self.upstreams[at];
+        if let Some(own) = upstream.own.as_mut().filter(|own| own.skip > 0) {
+            own.skip -= 1;
+            return true;
+        }
         if matches!(upstream.state, State::Entering(..)) {
             if upstream.entered(reply, self.now) {
                 if upstream.state != State::Ready {
@@ -121,6 +131,9 @@ impl Worker {
                 self.wake_blocked();
             }
             return true;
+        }
+        if upstream.own.is_some() {
+            return self.take_own(at, reply);
         }
         let Some(sent) = upstream.sent.pop_front() else {
             return false;
@@ -137,11 +150,16 @@ impl Worker {
         let part = self.upstreams[at].part;
         let sent = self.upstreams[at].drop_stream(self.now);
         self.counts().lost.fetch_add(1, Relaxed);
-        let text = format!("ERR partition {part} did not answer: whether this was done is not known");
-        let unknown = error(&text);
+        self.lose_own(at);
+        let unknown = unknown(part);
         for sent in sent {
             self.deliver(&sent, &unknown);
         }
         self.wake_blocked();
     }
+}
+
+/// What is answered if a connection was lost while a command was under way on it.
+pub fn unknown(part: u32) -> Vec<u8> {
+    error(&format!("ERR partition {part} did not answer: whether this was done is not known"))
 }

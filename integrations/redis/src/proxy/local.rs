@@ -1,6 +1,6 @@
 //! Commands that the proxy answers itself.
 
-use super::plan::{shown, Words};
+use super::plan::Words;
 use crate::keymap;
 use crate::resp::error;
 use squall::View;
@@ -42,14 +42,8 @@ pub fn answer(words: Words, is_resp3: bool, view: &View, info: impl FnOnce() -> 
             (Some(b"ROUTE"), 3) => Local::new(bulk(route(words.at(2), view).as_bytes())),
             _ => Local::new(error("ERR SQUALL INFO, or SQUALL ROUTE key")),
         },
-        b"MULTI" | b"EXEC" | b"DISCARD" | b"WATCH" | b"UNWATCH" => {
-            Local::new(error(&format!("ERR this proxy serves no transactions: '{}'", shown(words.at(0)))))
-        }
-        b"BLPOP" | b"BRPOP" | b"BLMOVE" | b"BRPOPLPUSH" | b"BLMPOP" | b"BZPOPMIN" | b"BZPOPMAX"
-        | b"BZMPOP" | b"WAIT" => Local::new(error(&format!(
-            "ERR this proxy serves no commands that wait: '{}'",
-            shown(words.at(0))
-        ))),
+        b"SCRIPT" => Local::new(error("ERR this proxy serves SCRIPT LOAD alone")),
+        b"WAIT" => Local::new(error("ERR this proxy serves no WAIT: partitions have no replicas here")),
         _ => return None,
     })
 }

@@ -3,15 +3,21 @@
 mod client;
 mod commands;
 mod counts;
+mod deeds;
 mod follow;
 mod http;
 mod link;
 mod local;
 mod metrics;
+mod multi;
+mod own;
 mod page;
 mod plan;
+mod scan;
 mod serve;
 mod socket;
+mod table;
+mod task;
 mod upstream;
 mod worker;
 

@@ -54,6 +54,10 @@ impl Plan {
             return Err(error(&format!("ERR this proxy does not serve the command '{}'", shown(name))));
         };
         let wrong = |why| error(&format!("ERR {why} for '{}' command", shown(name)));
+        let is_function = command.name.starts_with("FCALL") && words.count() > 1;
+        if is_function && words.at(1).starts_with(b"squall_") {
+            return Err(error("ERR functions that begin with 'squall_' are the partition's own"));
+        }
         let places = command.places(words.count(), |at| words.at(at));
         let mut places = places.map_err(wrong)?;
         let first = places.next().ok_or_else(|| wrong("wrong number of arguments"))?;
@@ -84,6 +88,11 @@ impl Plan {
         match self {
             Plan::One(command, _) | Plan::Joint(command, _) | Plan::Parts(command, _, _) => command,
         }
+    }
+
+    /// The ranks of all its keys.
+    pub fn all_ranks(&self) -> Vec<Rank> {
+        (0..self.len()).flat_map(|part| self.ranks(part)).copied().collect()
     }
 
     /// How many requests it takes.

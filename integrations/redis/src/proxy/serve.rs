@@ -2,6 +2,7 @@
 
 use super::client::Client;
 use super::commands::Kind;
+use super::follow::Targets;
 use super::local;
 use super::plan::{Plan, Words};
 use super::upstream::InFlight;
@@ -11,7 +12,7 @@ use std::sync::atomic::Ordering::Relaxed;
 
 /// What a client's next command came to.
 #[derive(PartialEq)]
-enum Flow {
+pub enum Flow {
     /// It was sent or answered.
     On,
     /// Its bytes are not all there, or the client has too much in flight.
@@ -28,7 +29,9 @@ impl Worker {
         };
         let mut stands = true;
         loop {
-            let flow = if client.diverted.is_empty() {
+            let flow = if client.task.is_some() {
+                self.go_on_task(at, &mut client)
+            } else if client.diverted.is_empty() {
                 self.next_command(at, &mut client)
             } else {
                 self.chase(at, &mut client)
@@ -103,11 +106,17 @@ impl Worker {
         if client.in_flight > 0 && words.at(0).eq_ignore_ascii_case(b"HELLO") {
             return Flow::Idle;
         }
-        let plan = match Plan::of(words) {
-            Ok(plan) => plan,
-            Err(refused) => return self.answer_here(client, refused),
-        };
-        self.send(at, client, plan)
+        if client.queue.is_some() {
+            return self.queue(client);
+        }
+        match Plan::of(words) {
+            Ok(plan) if plan.command().waits() => self.start_wait(client, &plan),
+            Ok(plan) => self.send(at, client, plan),
+            Err(refused) => match self.special(client) {
+                Some(flow) => flow,
+                None => self.answer_here(client, refused),
+            },
+        }
     }
 
     /// Answers a command that is not passed on.
@@ -123,6 +132,11 @@ impl Worker {
             }
             Some(local) => {
                 client.add_answer(local.answer);
+                // The connection that watches its keys speaks the other protocol.
+                let is_other = local.proto.is_some_and(|proto| client.is_resp3 != (proto == 3));
+                if let Some(watch) = client.watch.as_mut().filter(|_| is_other) {
+                    watch.is_broken = true;
+                }
                 client.is_resp3 = local.proto.map_or(client.is_resp3, |proto| proto == 3);
                 client.is_ending |= local.is_end;
             }
@@ -141,6 +155,7 @@ impl Worker {
         match targets {
             Err(refused) => client.add_answer(refused),
             Ok(None) => return self.wait(client),
+            Ok(Some(Targets::Own)) => return self.start_one(client, &plan),
             Ok(Some(targets)) => {
                 if let Some(since) = client.waits_since.take() {
                     self.counts().waited(self.now - since);

@@ -84,6 +84,21 @@ pub struct Upstream {
     pub progress: Instant,
     /// Whether it is in the list of those that have something to send.
     pub is_dirty: bool,
+    /// What it is to the client whose own it is, if it is no connection of all clients.
+    pub own: Option<Own>,
+}
+
+/// A connection that serves one client at a time.
+#[derive(Default)]
+pub struct Own {
+    /// The client's place and its number, if one has it.
+    pub client: Option<(usize, u64)>,
+    /// Whether the client's command is under way on it, or the client's keys are watched.
+    pub is_held: bool,
+    /// How many answers come first that nobody waits for.
+    pub skip: usize,
+    /// When the connection is given up, unless the client has its answers.
+    pub due: Option<Instant>,
 }
 
 impl Upstream {
@@ -104,6 +119,7 @@ impl Upstream {
             sent: VecDeque::new(),
             progress: now,
             is_dirty: false,
+            own: None,
         }
     }
 
@@ -123,6 +139,9 @@ impl Upstream {
         self.stream = None;
         self.state = State::Down(now + AGAIN);
         self.number = 0;
+        if let Some(own) = &mut self.own {
+            *own = Own { client: own.client, ..Own::default() };
+        }
         std::mem::take(&mut self.sent)
     }
 
@@ -166,6 +185,36 @@ impl Upstream {
             None => State::Refused(now + AGAIN),
         };
         true
+    }
+
+    /// Whether it waits for answers that have to come before it may log in anew.
+    pub fn is_held(&self) -> bool {
+        !self.sent.is_empty() || self.own.as_ref().is_some_and(|own| own.is_held)
+    }
+
+    /// Whether answers are late.
+    pub fn is_late(&self, now: Instant, most: Duration) -> bool {
+        let is_asked = !self.sent.is_empty() || matches!(self.state, State::Entering(..));
+        let is_due = self.own.as_ref().and_then(|own| own.due).is_some_and(|due| now > due);
+        is_due || is_asked && now - self.progress > most
+    }
+
+    /// Whether keys stay there until the next course: none of them moves, or its load is known.
+    pub fn are_settled(&self, ranks: &[Rank], route: impl Fn(Rank) -> Option<u32>) -> bool {
+        ranks.iter().all(|&rank| match self.role(rank) {
+            Some(Role::In) | None => route(rank) == Some(self.part),
+            Some(_) => false,
+        })
+    }
+
+    /// Whether these keys can't be there together in this course: one is elsewhere, and no move brings
+    /// it.
+    pub fn are_apart(&self, ranks: &[Rank], route: impl Fn(Rank) -> Option<u32>) -> bool {
+        let is_elsewhere = |&rank: &Rank| {
+            let may_be_here = matches!(self.role(rank), Some(Role::Out | Role::In));
+            !may_be_here && route(rank) != Some(self.part)
+        };
+        ranks.len() > 1 && ranks.iter().any(is_elsewhere)
     }
 
     /// Whether a command of that course may be sent.

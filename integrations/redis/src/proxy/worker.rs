@@ -7,7 +7,7 @@ use super::client::Client;
 use super::counts::{Counts, Turn};
 use super::metrics::Shared;
 use super::socket::{receive, Received};
-use super::upstream::{InFlight, State, Upstream};
+use super::upstream::{InFlight, Upstream};
 use mio::net::TcpStream;
 use mio::{Events, Interest, Poll, Token};
 use squall::View;
@@ -38,6 +38,8 @@ pub struct Worker {
     last_id: u64,
     pub(super) upstreams: Vec<Upstream>,
     pub(super) by_part: HashMap<(u32, bool), usize>,
+    /// Connections of clients' own that no client has.
+    pub(super) spare: HashMap<(u32, bool), Vec<usize>>,
     /// Clients that are to go on, clients that wait for time or news, and what has something to send.
     woken: Vec<usize>,
     pub(super) blocked: Vec<usize>,
@@ -73,6 +75,7 @@ impl Worker {
             last_id: 0,
             upstreams: Vec::new(),
             by_part: HashMap::new(),
+            spare: HashMap::new(),
             woken: Vec::new(),
             blocked: Vec::new(),
             dirty_clients: Vec::new(),
@@ -182,12 +185,13 @@ impl Worker {
         received != Received::End
     }
 
-    pub(super) fn put_back(&mut self, at: usize, client: Box<Client>, stands: bool) {
+    pub(super) fn put_back(&mut self, at: usize, mut client: Box<Client>, stands: bool) {
         let is_over = client.is_ending && client.is_answered() && client.out.len() == 0;
         if stands && !is_over && client.memory() <= self.shared.memory * 2 + BLOCK {
             self.clients[at] = Some(client);
             return;
         }
+        self.abandon(&mut client);
         drop(client);
         self.free.push(at);
         self.shared.clients.fetch_sub(1, SeqCst);
@@ -228,9 +232,7 @@ impl Worker {
             self.wake_blocked();
         }
         for at in 0..self.upstreams.len() {
-            let upstream = &self.upstreams[at];
-            let is_asked = !upstream.sent.is_empty() || matches!(upstream.state, State::Entering(..));
-            if is_asked && self.now - upstream.progress > self.shared.answer {
+            if self.upstreams[at].is_late(self.now, self.shared.answer) {
                 self.lose(at);
             }
         }

@@ -1,0 +1,265 @@
+//! What tasks ask of partitions, and what the answers mean.
+
+use super::client::Client;
+use super::follow::{read, Said};
+use super::own::Outcome;
+use super::task::{Deed, Step, Task, Watch};
+use super::worker::Worker;
+use crate::faults;
+use crate::keymap;
+use crate::resp::{error, push};
+use squall::Next;
+use std::sync::atomic::Ordering::Relaxed;
+use std::time::Instant;
+
+/// No wait is sent on that is shorter: 0 has no end.
+const SHORTEST: f64 = 0.001;
+
+impl Worker {
+    /// Asks a partition for the first time, or again.
+    pub(super) fn begin(&mut self, client: &Client, task: &mut Task, at: usize) {
+        let view = &self.view;
+        let are_settled = self.upstreams[at].are_settled(&task.ranks, |rank| view.route(rank));
+        let is_plain = are_settled || faults::is_on("never-guard");
+        match task.deed {
+            Deed::Scan(_) | Deed::Load(_) => self.ask_plain(client, task, at, None),
+            Deed::Wait { until, .. } if is_plain => self.ask_plain(client, task, at, Some(until)),
+            Deed::Exec(_) | Deed::One if is_plain => self.ask_to_do(client, task, at),
+            _ => self.ask_where(client, task, at),
+        }
+    }
+
+    /// Notes that so many answers are due on a connection.
+    fn expect_own(&mut self, task: &mut Task, at: usize, step: Step, due: (usize, Option<Instant>)) {
+        task.step = step;
+        task.replies.clear();
+        task.due = due.0;
+        let it = &mut self.upstreams[at];
+        it.progress = self.now;
+        if let Some(own) = &mut it.own {
+            own.is_held = true;
+            own.due = due.1;
+        }
+        self.mark_upstream(at);
+    }
+
+    /// Watches what says where keys are, or the keys themselves, and asks whether these are there.
+    fn ask_where(&mut self, client: &Client, task: &mut Task, at: usize) {
+        let it = &mut self.upstreams[at];
+        let mut watched: Vec<&[u8]> = vec![b"WATCH"];
+        let words = client.words();
+        if let Deed::Watch = task.deed {
+            watched.extend((1..words.count()).map(|at| words.at(at)));
+        } else {
+            watched.extend([&b"squall:number"[..], b"squall:edge"]);
+        }
+        push(&mut it.out.bytes, &watched);
+        let head = ["FCALL", "squall_check", "0"].map(String::from);
+        let ranks = task.ranks.iter().map(|&rank| keymap::hex(rank));
+        let all: Vec<String> = head.into_iter().chain([it.number.to_string()]).chain(ranks).collect();
+        push(&mut it.out.bytes, &all);
+        let until = self.now + self.shared.answer;
+        self.expect_own(task, at, Step::Checking, (2, Some(until)));
+    }
+
+    /// Asks to do all in one piece.
+    fn ask_to_do(&mut self, client: &Client, task: &mut Task, at: usize) {
+        let out = &mut self.upstreams[at].out.bytes;
+        push(out, &["MULTI"]);
+        let count = match &task.deed {
+            Deed::Exec(queue) => {
+                out.extend_from_slice(&queue.bytes);
+                queue.count
+            }
+            _ => {
+                out.extend_from_slice(&client.words().bytes[..client.parser.len()]);
+                1
+            }
+        };
+        push(out, &["EXEC"]);
+        let until = self.now + self.shared.answer;
+        self.expect_own(task, at, Step::Doing, (count + 2, Some(until)));
+    }
+
+    /// Asks by a plain command. One that waits does so until then.
+    fn ask_plain(&mut self, client: &Client, task: &mut Task, at: usize, until: Option<Option<Instant>>) {
+        let words = client.words();
+        let mut all: Vec<Vec<u8>> = (0..words.count()).map(|at| words.at(at).to_vec()).collect();
+        if let Deed::Scan(cursor) = &task.deed {
+            all[1] = cursor.at.to_string().into_bytes();
+        }
+        if let Some(until) = until {
+            let seconds = until.map(|until| (until - self.now).as_secs_f64().max(SHORTEST));
+            let place = super::commands::find(words.at(0)).map_or(1, |it| it.timeout_at(words.count()));
+            all[place] = format!("{:.3}", seconds.unwrap_or(0.0)).into_bytes();
+        }
+        push(&mut self.upstreams[at].out.bytes, &all);
+        let due = until.unwrap_or(Some(self.now)).map(|until| until + self.shared.answer);
+        self.expect_own(task, at, Step::Asking, (1, due));
+    }
+
+    /// What the answers mean; none if the partition is to be asked again, or another one.
+    pub(super) fn judge(&mut self, client: &mut Client, task: &mut Task) -> Option<Outcome> {
+        let step = std::mem::replace(&mut task.step, Step::Idle);
+        if std::mem::take(&mut task.is_lost) {
+            return self.judge_lost(task, step);
+        }
+        let at = task.upstream?;
+        let is_watched = client.watches_on(Some(at));
+        if let Some(own) = &mut self.upstreams[at].own {
+            (own.is_held, own.due) = (is_watched, None);
+        }
+        let replies = std::mem::take(&mut task.replies);
+        match step {
+            Step::Checking => self.judge_check(client, task, &replies),
+            Step::Doing => self.judge_done(client, task, &replies),
+            _ => self.judge_asked(task, &replies[0]),
+        }
+    }
+
+    /// Whether the keys are there.
+    fn judge_check(&mut self, client: &mut Client, task: &mut Task, replies: &[Vec<u8>]) -> Option<Outcome> {
+        let at = task.upstream?;
+        let Some(refusal) = replies.iter().find(|reply| reply.first() == Some(&b'-')) else {
+            if !matches!(task.deed, Deed::Watch) {
+                self.ask_to_do(client, task, at);
+                return Some(Outcome::Wait);
+            }
+            self.note_watch(client, task, at);
+            return Some(Outcome::Answer(b"+OK\r\n".to_vec()));
+        };
+        let is_watched = client.watches_on(Some(at));
+        if let Some(watch) = client.watch.as_mut().filter(|_| is_watched) {
+            // What was watched here may change elsewhere.
+            watch.is_broken = true;
+            return Some(Outcome::Answer(match task.deed {
+                Deed::Watch => b"+OK\r\n".to_vec(),
+                _ => client.nil_list(),
+            }));
+        }
+        self.forget_watches(at);
+        match read(refusal, true) {
+            Said::Answer => return Some(Outcome::Answer(refusal.clone())),
+            Said::Fenced => self.fenced(task, at),
+            said => self.heed_own(task, said),
+        }
+        None
+    }
+
+    fn note_watch(&mut self, client: &mut Client, task: &Task, at: usize) {
+        let it = &mut self.upstreams[at];
+        if let Some(own) = &mut it.own {
+            own.is_held = true;
+        }
+        let (part, number) = (it.part, it.number);
+        let watch = client.watch.get_or_insert_with(|| Watch {
+            upstream: Some(at),
+            part,
+            number,
+            ranks: Vec::new(),
+            is_broken: false,
+        });
+        watch.ranks.extend(&task.ranks);
+    }
+
+    /// The partition lets this proxy in no longer: the connection logs in anew.
+    fn fenced(&mut self, task: &mut Task, at: usize) {
+        self.counts().fenced.fetch_add(1, Relaxed);
+        self.upstreams[at].number = 0;
+        self.shared.node.ask();
+        task.later(self.now);
+    }
+
+    /// The keys are elsewhere, or on their way.
+    fn heed_own(&mut self, task: &mut Task, said: Said) {
+        self.count(&said);
+        task.later(self.now);
+        let Said::Elsewhere(reply) = said else {
+            return;
+        };
+        match task.errand.as_mut().map(|(errand, _)| errand.heed(reply)) {
+            Some(Ok(Next::Ask(_))) => task.again = self.now,
+            Some(Ok(Next::Again(_))) => {}
+            _ => task.errand = None,
+        }
+    }
+
+    /// Whether it was done in one piece.
+    fn judge_done(&mut self, client: &mut Client, task: &mut Task, replies: &[Vec<u8>]) -> Option<Outcome> {
+        let at = task.upstream?;
+        let (done, queued) = replies.split_last()?;
+        let is_watched = client.watches_on(Some(at));
+        let refusal = queued.iter().find(|reply| reply.first() == Some(&b'-'));
+        let is_fenced = is_fence(refusal.unwrap_or(done)) || is_fence(element(done));
+        if is_fenced || is_nil(done) {
+            if is_watched {
+                return Some(Outcome::Answer(client.nil_list()));
+            }
+            if is_fenced {
+                self.fenced(task, at);
+            }
+            // Else keys were given since it was asked where they are: it is asked again.
+            return None;
+        }
+        match (&task.deed, refusal) {
+            (Deed::Exec(_), _) => Some(Outcome::Answer(done.clone())),
+            (_, Some(refusal)) => Some(Outcome::Answer(refusal.clone())),
+            (Deed::Wait { .. }, _) if is_nil(element(done)) => {
+                task.look_again(self.now);
+                None
+            }
+            _ => Some(Outcome::Answer(element(done).to_vec())),
+        }
+    }
+
+    /// What a plain command has come to.
+    fn judge_asked(&mut self, task: &mut Task, reply: &[u8]) -> Option<Outcome> {
+        let at = task.upstream?;
+        if is_fence(reply) {
+            self.fenced(task, at);
+            return None;
+        }
+        let it = &self.upstreams[at];
+        let (part, number) = (it.part, it.number);
+        match &mut task.deed {
+            Deed::Wait { .. } if reply.starts_with(b"-UNBLOCKED") => {
+                // The fence of the next course has ended the wait.
+                (task.since, task.is_refused) = (self.now, true);
+                self.shared.node.ask();
+                None
+            }
+            Deed::Scan(cursor) if reply.first() != Some(&b'-') => {
+                let is_known = self.view.number() == number;
+                let view = &self.view;
+                let ground = self.ground()?;
+                let route = |rank| if is_known { view.route(rank) } else { Some(part) };
+                let answer = cursor.answer(reply, it, route, &ground);
+                let large = || error("ERR the partition's cursor is too large");
+                Some(Outcome::Answer(answer.unwrap_or_else(large)))
+            }
+            Deed::Load(from) if reply.first() != Some(&b'-') => {
+                *from = part + 1;
+                let is_last = self.ground()?.part_from(part + 1).is_none();
+                is_last.then(|| Outcome::Answer(reply.to_vec()))
+            }
+            _ => Some(Outcome::Answer(reply.to_vec())),
+        }
+    }
+}
+
+/// The one element of a list.
+fn element(list: &[u8]) -> &[u8] {
+    let begin = list.iter().position(|&byte| byte == b'\n').map_or(0, |at| at + 1);
+    &list[begin..]
+}
+
+fn is_nil(reply: &[u8]) -> bool {
+    [&b"*-1\r"[..], b"$-1\r", b"_\r"].iter().any(|nil| reply.starts_with(nil))
+}
+
+/// Whether a command was refused by the fence. A script that was, has not begun; one that asks for what
+/// its user may not do has, and says so.
+pub fn is_fence(reply: &[u8]) -> bool {
+    let is_refused = reply.starts_with(b"-NOPERM");
+    is_refused && !reply.windows(7).any(|word| word == b" script")
+}
