@@ -1,6 +1,7 @@
 //! The load of one connection.
 
-use super::key::{text, Act, Held, Key, Loose};
+use super::command::Command;
+use super::key::{Act, Held, Key, Loose, Use};
 use crate::conn::{Conn, Server};
 use crate::dice::Dice;
 use crate::resp::Value;
@@ -79,26 +80,17 @@ pub struct Load<'a> {
     pub tally: &'a Tally,
 }
 
-/// A command: its words, and what it does to each of its keys.
-struct Command {
-    words: Vec<String>,
-    acts: Vec<(usize, Act)>,
-}
-
 /// One connection.
-struct Session<'a> {
-    load: &'a Load<'a>,
+pub(super) struct Session<'a> {
+    pub(super) load: &'a Load<'a>,
     own: u64,
-    dice: Dice,
+    pub(super) dice: Dice,
     conn: Option<Conn>,
     opened: usize,
-    keys: Vec<Key>,
+    pub(super) keys: Vec<Key>,
     loose: Vec<Loose>,
-    version: u64,
+    pub(super) version: u64,
 }
-
-/// Keys of a command that has many.
-const MANY: usize = 5;
 
 impl Load<'_> {
     /// All that one connection does.
@@ -121,25 +113,17 @@ impl Load<'_> {
         }
         session.verify();
     }
-
-    /// A key that no other connection has. One of four is mapped by a hash, the others by a pair.
-    fn key(&self, own: u64, at: usize) -> Key {
-        let place = at as u64 * 1009 + own;
-        let stem = if at % 4 == 3 {
-            format!("{}{own}:{at}", self.prefix)
-        } else {
-            format!("{}:{}:{}{own}", place % self.roots, place / self.roots, self.prefix)
-        };
-        Key { stem, turn: 0, is_count: at % 8 == 5, held: Held::Nothing }
-    }
 }
 
 impl Session<'_> {
     /// Sends some commands at once, and judges their answers: how many there were.
     fn round(&mut self) -> usize {
         let commands: Vec<Command> = (0..self.load.depth).map(|_| self.command()).collect();
-        let words: Vec<&Vec<String>> = commands.iter().map(|it| &it.words).collect();
-        let answers = self.ask(&words);
+        let words: Vec<&Vec<String>> = commands.iter().flat_map(|it| &it.lines).collect();
+        let mut answers = self.ask(&words).into_iter();
+        // The last line of a command has its answer.
+        let ends = commands.iter().map_while(|it| answers.nth(it.lines.len() - 1));
+        let answers: Vec<Value> = ends.collect();
         self.load.tally.commands.fetch_add(answers.len() as u64, Relaxed);
         let missing = commands.len() - answers.len();
         if missing > 0 {
@@ -195,57 +179,6 @@ impl Session<'_> {
         self.conn.as_mut()
     }
 
-    /// The next command.
-    fn command(&mut self) -> Command {
-        let key = self.dice.below(self.keys.len() as u64) as usize;
-        match self.dice.below(100) {
-            0..=2 => self.many("MGET"),
-            3..=5 => self.many("MSET"),
-            kind => {
-                let act = match kind {
-                    6..=39 => Act::Get,
-                    40..=47 => Act::Del,
-                    _ if self.keys[key].is_count => Act::Incr,
-                    _ => Act::Set(self.next_version()),
-                };
-                let name = self.keys[key].name();
-                let words = match act {
-                    Act::Get => vec!["GET".into(), name],
-                    Act::Del => vec!["DEL".into(), name],
-                    Act::Incr => vec!["INCR".into(), name],
-                    Act::Set(version) => vec!["SET".into(), name, text(version, &self.load.padding)],
-                };
-                Command { words, acts: vec![(key, act)] }
-            }
-        }
-    }
-
-    fn next_version(&mut self) -> u64 {
-        self.version += 1;
-        self.version
-    }
-
-    /// A command on several keys that hold texts.
-    fn many(&mut self, name: &str) -> Command {
-        let mut words = vec![name.to_string()];
-        let mut acts: Vec<(usize, Act)> = Vec::new();
-        while acts.len() < MANY {
-            let key = self.dice.below(self.keys.len() as u64) as usize;
-            if self.keys[key].is_count || acts.iter().any(|&(other, _)| other == key) {
-                continue;
-            }
-            words.push(self.keys[key].name());
-            let mut act = Act::Get;
-            if name == "MSET" {
-                let version = self.next_version();
-                words.push(text(version, &self.load.padding));
-                act = Act::Set(version);
-            }
-            acts.push((key, act));
-        }
-        Command { words, acts }
-    }
-
     /// Judges an answer, and notes what the keys hold after it: whether it is not known what was done.
     fn judge(&mut self, command: &Command, answer: &Value) -> bool {
         let tally = self.load.tally;
@@ -253,38 +186,23 @@ impl Session<'_> {
             if self.load.is_tolerant {
                 tally.errors.fetch_add(1, Relaxed);
             } else {
-                let words = || format!("error: {} {}: {error}", command.words[0], command.words[1]);
-                tally.fault(&tally.errors, words);
+                tally.fault(&tally.errors, || format!("error: {}: {error}", command.name()));
             }
-            // A command on one key that was refused was not done.
-            return !error.starts_with("TRYAGAIN") || command.acts.len() > 1;
+            // A command that was refused in one piece was not done.
+            return !error.starts_with("TRYAGAIN") || command.is_split();
         }
-        let is_right = self.is_right(command, answer);
-        if !is_right {
+        let Some(after) = command.judge(answer, &self.load.padding, |key| &self.keys[key].held) else {
             tally.fault(&tally.wrong, || {
                 let held: Vec<_> = command.acts.iter().map(|&(key, _)| &self.keys[key].held).collect();
-                format!("wrong: {} {}: {answer:.60?}, held {held:?}", command.words[0], command.words[1])
+                format!("wrong: {}: {answer:.60?}, held {held:?}", command.name())
             });
+            // A count that is wrong once would be wrong for ever.
+            return true;
+        };
+        for (key, held) in after {
+            self.keys[key].held = held;
         }
-        for &(key, act) in &command.acts {
-            self.keys[key].held = self.keys[key].held.after(act);
-        }
-        // A count that is wrong once would be wrong for ever.
-        !is_right
-    }
-
-    /// Whether a command may be answered this.
-    fn is_right(&self, command: &Command, answer: &Value) -> bool {
-        let padding = &self.load.padding;
-        let fits = |&(key, act): &(usize, Act), value| self.keys[key].held.answers(act, value, padding);
-        match (command.words[0].as_str(), answer) {
-            ("MGET", Value::List(values)) => {
-                let mut all = command.acts.iter().zip(values);
-                values.len() == command.acts.len() && all.all(|(act, value)| fits(act, value))
-            }
-            ("MSET", answer) => *answer == Value::Status("OK".into()),
-            _ => fits(&command.acts[0], answer),
-        }
+        false
     }
 
     /// Gives up keys of which it is not known what was done, or when it will be, for new ones.
@@ -295,7 +213,7 @@ impl Session<'_> {
                 continue;
             }
             let key = &mut self.keys[at];
-            self.loose.push(Loose::new(key.name(), key.held.clone(), &acts));
+            self.loose.push(Loose::new(key, &acts));
             key.turn += 1;
             key.held = Held::Nothing;
         }
@@ -306,12 +224,12 @@ impl Session<'_> {
         let known: Vec<Loose> = self
             .keys
             .iter()
-            .map(|key| Loose { name: key.name(), may_hold: vec![key.held.clone()] })
+            .map(|key| Loose { name: key.name(), purpose: key.purpose, may_hold: vec![key.held.clone()] })
             .chain(std::mem::take(&mut self.loose))
             .collect();
         for key in known {
             let tally = self.load.tally;
-            match self.read(&key.name) {
+            match self.read(&key) {
                 None => tally.fault(&tally.unread, || format!("unread: {}", key.name)),
                 Some(value) => {
                     let padding = &self.load.padding;
@@ -326,8 +244,12 @@ impl Session<'_> {
     }
 
     /// What a key holds, once it is answered.
-    fn read(&mut self, name: &str) -> Option<Value> {
-        let words = vec!["GET".to_string(), name.to_string()];
+    fn read(&mut self, key: &Loose) -> Option<Value> {
+        let words: &[&str] = match key.purpose {
+            Use::List => &["LRANGE", &key.name, "0", "-1"],
+            _ => &["GET", &key.name],
+        };
+        let words = words.to_vec();
         for _ in 0..self.load.reads {
             match self.ask(&[&words]).pop() {
                 Some(Value::Error(_)) => thread::sleep(Duration::from_millis(20)),

@@ -1,5 +1,6 @@
 //! A load that knows each right answer, for tests.
 
+mod command;
 mod key;
 mod load;
 

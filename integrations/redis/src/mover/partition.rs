@@ -5,7 +5,7 @@ use crate::course::Move;
 use crate::fault::{Done, Fault, Trying};
 use crate::keymap::hex;
 use crate::resp::Value;
-use crate::{user, GUARD};
+use crate::{faults, user, GUARD};
 use squall::Rank;
 use std::collections::HashMap;
 
@@ -137,6 +137,9 @@ impl Partition {
     /// Ends the waits of all routers' users but one. A command that waits was let in before the fence,
     /// and could take from a key that is only on its way back here.
     fn end_waits(&mut self, own: &str) -> Done<()> {
+        if faults::is_on("leave-waits") {
+            return Ok(());
+        }
         let clients = self.ask(&["CLIENT", "LIST"])?.text();
         for line in clients.lines() {
             let field = |name| line.split(' ').find_map(|word| word.strip_prefix(name));

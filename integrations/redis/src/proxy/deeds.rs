@@ -23,7 +23,7 @@ impl Worker {
         let is_plain = are_settled || faults::is_on("never-guard");
         match task.deed {
             Deed::Scan(_) | Deed::Load(_) => self.ask_plain(client, task, at, None),
-            Deed::Wait { until, .. } if is_plain => self.ask_plain(client, task, at, Some(until)),
+            Deed::Wait(until) if is_plain => self.ask_plain(client, task, at, Some(until)),
             Deed::Exec(_) | Deed::One if is_plain => self.ask_to_do(client, task, at),
             _ => self.ask_where(client, task, at),
         }
@@ -31,7 +31,7 @@ impl Worker {
 
     /// Notes that so many answers are due on a connection.
     fn expect_own(&mut self, task: &mut Task, at: usize, step: Step, due: (usize, Option<Instant>)) {
-        task.step = step;
+        (task.step, task.again) = (step, self.now);
         task.replies.clear();
         task.due = due.0;
         let it = &mut self.upstreams[at];
@@ -89,7 +89,8 @@ impl Worker {
             all[1] = cursor.at.to_string().into_bytes();
         }
         if let Some(until) = until {
-            let seconds = until.map(|until| (until - self.now).as_secs_f64().max(SHORTEST));
+            let seconds =
+                until.map(|until| until.saturating_duration_since(self.now).as_secs_f64().max(SHORTEST));
             let place = super::commands::find(words.at(0)).map_or(1, |it| it.timeout_at(words.count()));
             all[place] = format!("{:.3}", seconds.unwrap_or(0.0)).into_bytes();
         }
@@ -204,8 +205,12 @@ impl Worker {
         match (&task.deed, refusal) {
             (Deed::Exec(_), _) => Some(Outcome::Answer(done.clone())),
             (_, Some(refusal)) => Some(Outcome::Answer(refusal.clone())),
-            (Deed::Wait { .. }, _) if is_nil(element(done)) => {
-                task.look_again(self.now);
+            (&Deed::Wait(until), _) if is_nil(element(done)) => {
+                // It was looked for after the end of the wait.
+                if until.is_some_and(|until| task.again >= until) {
+                    return Some(Outcome::Answer(client.nil_list()));
+                }
+                task.look_again(self.now, until);
                 None
             }
             _ => Some(Outcome::Answer(element(done).to_vec())),
@@ -222,7 +227,7 @@ impl Worker {
         let it = &self.upstreams[at];
         let (part, number) = (it.part, it.number);
         match &mut task.deed {
-            Deed::Wait { .. } if reply.starts_with(b"-UNBLOCKED") => {
+            Deed::Wait(_) if reply.starts_with(b"-UNBLOCKED") => {
                 // The fence of the next course has ended the wait.
                 (task.since, task.is_refused) = (self.now, true);
                 self.shared.node.ask();

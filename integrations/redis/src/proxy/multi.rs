@@ -153,8 +153,7 @@ impl Worker {
             Some(0.0) => None,
             Some(seconds) => Some(self.now + Duration::from_secs_f64(seconds)),
         };
-        let deed = Deed::Wait { until, nil: client.nil_list() };
-        self.start(client, Kind::Blocking, deed, plan.all_ranks())
+        self.start(client, Kind::Blocking, Deed::Wait(until), plan.all_ranks())
     }
 
     /// Begins a command that can only be guarded on a connection of the client's own.

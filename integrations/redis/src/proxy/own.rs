@@ -84,12 +84,7 @@ impl Worker {
     }
 
     /// What is answered if it takes too long.
-    fn over(&mut self, task: &mut Task) -> Option<Vec<u8>> {
-        if let Deed::Wait { until: Some(until), nil } = &mut task.deed {
-            if self.now >= *until {
-                return Some(std::mem::take(nil));
-            }
-        }
+    fn over(&self, task: &Task) -> Option<Vec<u8>> {
         if self.now - task.since < self.shared.wait {
             return None;
         }

@@ -51,8 +51,8 @@ pub enum Deed {
     Exec(Queue),
     /// Does a command in one step with its guard.
     One,
-    /// Waits for a key until then, if there is an end, with the answer after that.
-    Wait { until: Option<Instant>, nil: Vec<u8> },
+    /// Waits for a key until then, if there is an end. Only a partition says that there was none.
+    Wait(Option<Instant>),
     /// Reads names of keys.
     Scan(Cursor),
     /// Gives a script to each partition from this one on.
@@ -87,7 +87,8 @@ pub struct Task {
     pub is_lost: bool,
     /// The errand of its first key, and the view by which it was begun.
     pub errand: Option<(Errand, u64)>,
-    /// When it began, since when no partition serves it, and when to ask again.
+    /// When it began, since when no partition serves it, and when to ask again or, while it waits for
+    /// answers, when it has asked.
     pub began: Instant,
     pub since: Instant,
     pub again: Instant,
@@ -133,9 +134,10 @@ impl Task {
         self.pause = (self.pause * 2).min(LAST);
     }
 
-    /// A partition has served it, and it found nothing: it looks again soon.
-    pub fn look_again(&mut self, now: Instant) {
-        (self.since, self.again, self.pause) = (now, now + LOOK, FIRST);
+    /// A partition has served it, and it found nothing: it looks again soon, and in the end.
+    pub fn look_again(&mut self, now: Instant, until: Option<Instant>) {
+        let again = until.map_or(now + LOOK, |until| until.min(now + LOOK));
+        (self.since, self.again, self.pause) = (now, again, FIRST);
     }
 
     /// Whether it has something to do now.
