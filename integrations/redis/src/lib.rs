@@ -12,6 +12,7 @@ pub mod course;
 pub mod dice;
 pub mod fault;
 pub mod faults;
+pub mod keeper;
 pub mod keymap;
 pub mod mover;
 pub mod proxy;

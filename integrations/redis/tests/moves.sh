@@ -90,9 +90,8 @@ counts() {
   grep -qx "$1 $2" "$run/page" || { echo "not $1 $2"; grep "^${1%%\{*}" "$run/page"; return 1; }
 }
 
-# The page and the metrics say what the program says of the same board.
-test_status_page() {
-  local program http id limits
+# Sets `program` to the program squall.
+set_program() {
   if program=$("$top/tools/released" program 2> /dev/null); then
     program=$program/squall
   elif "$top/tools/is-built"; then
@@ -101,7 +100,12 @@ test_status_page() {
     echo "there is no program squall"
     return 1
   fi
-  deploy || return
+}
+
+# The page and the metrics say what the program says of the same board.
+test_status_page() {
+  local program http id limits
+  set_program && deploy || return
   free_port
   http=$port
   limits=(--metrics "127.0.0.1:$http" --program "$program")
@@ -158,15 +162,18 @@ test_missed_frames() {
 
 # Waits for keys that move: each ends at the new place, with what was put there, or in time with nothing.
 test_waits_while_keys_move() {
-  local key id waits=() began
-  deploy || return
+  deploy && waits_end_in_time 30
+}
+
+waits_end_in_time() {
+  local key id waits=() seconds=$1
   for key in 400:0 600:0; do
-    launch "$run" "wait.$key" redis-cli -p "${proxies[0]}" blpop "$key:q" 30
+    launch "$run" "wait.$key" redis-cli -p "${proxies[0]}" blpop "$key:q" "$seconds"
     waits+=("$id")
   done
   launch "$run" wait.none redis-cli -p "${proxies[1]}" blpop 400:1:q 410:1:q 2
   waits+=("$id")
-  launch "$run" wait.stays redis-cli -p "${proxies[1]}" blpop 1:0:q 30
+  launch "$run" wait.stays redis-cli -p "${proxies[1]}" blpop 1:0:q "$seconds"
   waits+=("$id")
   sleep 0.2
   # Waits begin before the course, in it, and after it.
@@ -174,7 +181,7 @@ test_waits_while_keys_move() {
   for key in $(seq 330 499); do echo "set $key:0 x"; done | redis-cli -p "${proxies[0]}" > "$run/set"
   start_move 2 old new --chunk 5 --pause 20
   sleep 0.3
-  launch "$run" wait.later redis-cli -p "${proxies[1]}" blpop 410:0:q 30
+  launch "$run" wait.later redis-cli -p "${proxies[1]}" blpop 410:0:q "$seconds"
   waits+=("$id")
   agrees 3 2 490:0 || return
   sleep 0.2
@@ -295,6 +302,54 @@ test_two_movers() {
   end_load && has_moved && agrees 3 2
 }
 
+# Starts a node whose board is in $run/board, into `node`.
+run_node() {
+  local id
+  launch "$run" node "$bin/squall-redis-node" --first old.json --bus "127.0.0.1:$bus" --board board --every 3
+  node=$id
+}
+
+# A node is killed again and again while keys move: what it had written is there each time. In the end it alone knows the
+# course, and tells new proxies over a new bus.
+test_node() {
+  local program node id moving kills=0 key at
+  set_program && deploy || return
+  for key in $(seq 330 2 670); do echo "set $key:0 x"; done | redis-cli -p "${proxies[0]}" > "$run/set"
+  run_node
+  start_move 2 old new --chunk 2 --pause 25
+  moving=$id
+  while kill -0 "$moving" 2> /dev/null; do
+    sleep "0.0$((RANDOM % 90 + 10))"
+    kill -KILL "$node"
+    wait "$node"
+    [ -e "$run/board" ] || { run_node; continue; }
+    cp "$run/board" "$run/before"
+    run_node
+    kills=$((kills + 1))
+    "$program" beyond --quiet "$run/before" "$run/board" || { echo "kill $kills: something is lost"; return 1; }
+  done 2> /dev/null
+  wait "$moving" || return
+  echo "the node was killed $kills times"
+  [ "$kills" -gt 5 ] || return
+  for _ in $(seq 100); do
+    "$program" status "$run/old.json" "$run/old.json" "$run/board" | grep -q "^course 2 .* 1000/1000" && break
+    sleep 0.05
+  done
+  kill -KILL "$node"
+  wait "$node"
+  for at in "${proxies[@]}" "$bus"; do stop "$at"; done
+  run_redis "$bus" || return
+  run_node
+  for at in "${proxies[@]}"; do run_proxy "$at" env || return; done
+  agrees 3 2 || return
+  # A board that is damaged is refused.
+  kill -KILL "$node"
+  wait "$node"
+  printf x >> "$run/board"
+  run_node
+  ! wait "$node" && grep -q "is damaged" "$run/node"
+}
+
 # Runs a mover that is to be refused with these words.
 refused() {
   local words=$1
@@ -381,11 +436,18 @@ test_mutant_without_guard() {
 }
 
 test_mutant_without_fence() {
+  local patience=50
   deploy SQUALL_MISS=100 || return
   start_load 20000 --pause 1000 --tolerant
   sleep 0.1
   SQUALL_FAULT=no-fence move 2 old new --pause 10 || return
   caught
+}
+
+# A fence that ends no waits leaves them at a partition to which nothing comes.
+test_mutant_of_waits() {
+  deploy || return
+  ! SQUALL_FAULT=leave-waits waits_end_in_time 4 && grep -q "of 1:0" "$run/wait.stays" && ! grep -q "of " "$run/wait.400:0"
 }
 
 # A walk that visits no partition twice misses keys.

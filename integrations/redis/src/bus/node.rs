@@ -30,6 +30,8 @@ pub struct Options {
     pub kind: &'static str,
     /// The text of the plan of course 1.
     pub plan: Vec<u8>,
+    /// Frames that it knows from before.
+    pub known: Vec<Vec<u8>>,
 }
 
 /// What a node has counted.
@@ -90,9 +92,10 @@ impl Node {
     ///
     /// # Errors
     ///
-    /// The text is no plan. That the bus can't be reached is none: the node tries on.
+    /// The text is no plan, or one of the frames that it knows is none. That the bus can't be reached is none: the node tries on.
     pub fn join(options: Options) -> Done<Arc<Node>> {
-        let router = Router::open(1, &options.plan, &options.plan)?;
+        let mut router = Router::open(1, &options.plan, &options.plan)?;
+        options.known.iter().try_for_each(|frame| router.hear(frame))?;
         let view = router.view()?;
         let node = Arc::new(Node {
             server: options.server,

@@ -116,6 +116,7 @@ impl Mover {
             streams: args.get("streams").unwrap_or("squall").to_string(),
             kind: "mover",
             plan: args.file("first")?,
+            known: Vec::new(),
         })?;
         let progress = Progress::new();
         let job = Job {

@@ -85,6 +85,7 @@ fn share(args: &Args, threads: usize) -> Done<Shared> {
         streams: args.get("streams").unwrap_or("squall").to_string(),
         kind: "proxy",
         plan: args.file("first")?,
+        known: Vec::new(),
     })?;
     Ok(Shared {
         node,
