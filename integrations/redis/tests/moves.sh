@@ -63,85 +63,6 @@ E2
   return 1
 }
 
-# What one client sees of the first proxy in that course.
-serves() {
-  SQUALL_COURSE=$1 SQUALL_PROXY=127.0.0.1:${proxies[0]} cargo test "${cargo[@]}" --features faults --test serving \
-    -- --ignored --test-threads 1
-}
-
-test_serving() {
-  local limits=(--client-memory 1 --clients 20)
-  deploy && serves 1
-}
-
-# What the port of the status page shows of a path, into $run/page.
-page() {
-  local head
-  exec 3<> "/dev/tcp/127.0.0.1/$http" || return
-  printf 'GET /%s HTTP/1.1\r\nHost: squall\r\n\r\n' "$1" >&3
-  while read -r head <&3 && [ "$head" != $'\r' ]; do echo "$head"; done > "$run/head"
-  cat <&3 > "$run/page"
-  exec 3>&-
-  grep -q ' 200 OK' "$run/head"
-}
-
-# Whether a number that Prometheus reads is that one.
-counts() {
-  grep -qx "$1 $2" "$run/page" || { echo "not $1 $2"; grep "^${1%%\{*}" "$run/page"; return 1; }
-}
-
-# Sets `program` to the program squall.
-set_program() {
-  if program=$("$top/tools/released" program 2> /dev/null); then
-    program=$program/squall
-  elif "$top/tools/is-built"; then
-    program=$top/squall
-  else
-    echo "there is no program squall"
-    return 1
-  fi
-}
-
-# The page and the metrics say what the program says of the same board.
-test_status_page() {
-  local program http id limits
-  set_program && deploy || return
-  free_port
-  http=$port
-  limits=(--metrics "127.0.0.1:$http" --program "$program")
-  run_proxy 0 env || return
-  redis-cli -p "$port" set 400:0 x && redis-cli -p "$port" hset 600:0 f v && redis-cli -p "$port" set 400:1 x || return
-  page metrics && counts squall_course 1 && counts squall_moving_keys 0 || return
-  counts 'squall_commands_by_kind_total{kind="text"}' 2 && counts 'squall_commands_by_kind_total{kind="hash"}' 1 || return
-  # After the first chunks it waits.
-  start_move 2 old new --chunk 1 --pause 600000
-  agrees 3 2 && sleep 0.2 || return
-  page board && cp "$run/page" "$run/board" && "$program" status "$run/old.json" "$run/old.json" "$run/board" > "$run/status"
-  cat "$run/status"
-  local words loaded moving
-  read -r -a words < "$run/status"
-  loaded=$(sed -n '1s/.* loaded \([0-9]*\) of .*/\1/p' "$run/status")
-  moving=$(sed -n '1s/.* loaded [0-9]* of \([0-9]*\) .*/\1/p' "$run/status")
-  [ "${words[*]:0:2}" = "course 2" ] && [ "$loaded" -gt 0 ] || return
-  page metrics && counts squall_course 2 && counts squall_moving_keys "$moving" && counts squall_loaded_keys "$loaded" || return
-  page status && cmp "$run/page" "$run/status" || return
-  "$program" picture "$run/old.json" "$run/old.json" "$run/board" > "$run/picture"
-  page picture.svg && cmp "$run/page" "$run/picture" || return
-  page '' && grep -q '<svg' "$run/page" && grep -q 'http-equiv="refresh"' "$run/page" && ! page nothing
-}
-
-# The same while all keys move. After their first chunks the movers of both sources wait.
-test_serving_by_guard() {
-  local limits=(--client-memory 1 --clients 20) id key
-  deploy || return
-  echo '{"plan":[{"part":3,"from":[0,0],"to":"end"}]}' > "$run/all.json"
-  for key in 0:0 0:1 500:0 500:1; do redis-cli -p "${proxies[0]}" set "$key" x || return; done
-  start_move 2 old all --chunk 1 --pause 600000
-  agrees 1 2 && sleep 0.1 && serves 2 || return
-  # Thousands of commands were guarded.
-  redis-cli -p "${servers[0]}" info commandstats | grep -q 'cmdstat_fcall:calls=[0-9][0-9][0-9][0-9]'
-}
-
 test_plain_move() {
   deploy || return
   start_load 60000 --pause 200
@@ -158,63 +79,6 @@ test_missed_frames() {
   sleep 0.2
   move 2 old new && move 3 new old && move 4 old new || return
   end_load && has_moved && agrees 3 4
-}
-
-# Waits for keys that move: each ends at the new place, with what was put there, or in time with nothing.
-test_waits_while_keys_move() {
-  deploy && waits_end_in_time 30
-}
-
-waits_end_in_time() {
-  local key id waits=() seconds=$1
-  for key in 400:0 600:0; do
-    launch "$run" "wait.$key" redis-cli -p "${proxies[0]}" blpop "$key:q" "$seconds"
-    waits+=("$id")
-  done
-  launch "$run" wait.none redis-cli -p "${proxies[1]}" blpop 400:1:q 410:1:q 2
-  waits+=("$id")
-  launch "$run" wait.stays redis-cli -p "${proxies[1]}" blpop 1:0:q "$seconds"
-  waits+=("$id")
-  sleep 0.2
-  # Waits begin before the course, in it, and after it.
-  redis-cli -p "${servers[0]}" client list | grep -c 'cmd=blpop' | grep -qx 3 || return
-  for key in $(seq 330 499); do echo "set $key:0 x"; done | redis-cli -p "${proxies[0]}" > "$run/set"
-  start_move 2 old new --chunk 5 --pause 20
-  sleep 0.3
-  launch "$run" wait.later redis-cli -p "${proxies[1]}" blpop 410:0:q "$seconds"
-  waits+=("$id")
-  agrees 3 2 490:0 || return
-  sleep 0.2
-  for key in 400:0 600:0 410:0 1:0; do redis-cli -p "${proxies[1]}" rpush "$key:q" "of $key" || return; done
-  for id in "${waits[@]}"; do wait "$id"; done
-  tail -n 3 "$run"/wait.*
-  for key in 400:0 600:0; do grep -qx "of $key" "$run/wait.$key" || return; done
-  grep -qx "of 410:0" "$run/wait.later" && grep -qx "of 1:0" "$run/wait.stays" && ! grep -q "of " "$run/wait.none" || return
-  # None is left, and nothing was taken twice.
-  redis-cli -p "${proxies[0]}" del 400:0:q 600:0:q 410:0:q 1:0:q | grep -qx 0
-}
-
-# Names all keys again and again while they move: none is ever missed.
-test_scan_while_keys_move() {
-  deploy && scans_find_all
-}
-
-scans_find_all() {
-  local number plans=(old new) scans=0 id
-  for number in $(seq 0 1999); do echo "set $((number % 1000)):$number:s x"; done > "$run/sets"
-  redis-cli -p "${proxies[0]}" < "$run/sets" > "$run/set"
-  cut -d' ' -f2 "$run/sets" | sort > "$run/wanted"
-  for number in 2 3 4; do
-    start_move "$number" "${plans[number % 2]}" "${plans[1 - number % 2]}" --chunk 10 --pause 4
-    while kill -0 "$id" 2> /dev/null; do
-      redis-cli -p "${proxies[scans % 2]}" --scan | sort -u > "$run/found" || return
-      cmp "$run/found" "$run/wanted" || return
-      scans=$((scans + 1))
-    done
-    wait "$id" || return
-  done
-  echo "$scans scans"
-  [ "$scans" -gt 5 ]
 }
 
 # Kills the mover of course N again and again until it has moved all.
@@ -442,17 +306,6 @@ test_mutant_without_fence() {
   sleep 0.1
   SQUALL_FAULT=no-fence move 2 old new --pause 10 || return
   caught
-}
-
-# A fence that ends no waits leaves them at a partition to which nothing comes.
-test_mutant_of_waits() {
-  deploy || return
-  ! SQUALL_FAULT=leave-waits waits_end_in_time 4 && grep -q "of 1:0" "$run/wait.stays" && ! grep -q "of " "$run/wait.400:0"
-}
-
-# A walk that visits no partition twice misses keys.
-test_mutant_of_scans() {
-  deploy SQUALL_FAULT=scan-once && ! scans_find_all && [ -s "$run/found" ] && [ -z "$(comm -13 "$run/wanted" "$run/found")" ]
 }
 
 # With the fence, proxies that hear nothing do nothing wrong: they answer no more.

@@ -125,7 +125,9 @@ impl Worker {
         part: u32,
     ) -> Option<usize> {
         let is_resp3 = client.is_resp3;
-        if let Some(at) = client.watch.as_ref().and_then(|it| it.upstream).filter(|_| task.is_transaction()) {
+        let number = self.view.number();
+        let watch = client.watch.as_ref().filter(|watch| task.is_transaction() && !watch.is_over(number));
+        if let Some(at) = watch.and_then(|watch| watch.upstream) {
             task.upstream = Some(at);
         }
         if let Some(at) = task.upstream {

@@ -1,0 +1,63 @@
+//! A client, whose proxy `tools/integrations` names in SQUALL_PROXY.
+
+use squall_redis::resp::{push, Scan};
+use std::io::{Read, Write};
+use std::net::TcpStream;
+use std::time::Duration;
+
+/// A client of a proxy.
+pub struct Client {
+    /// Its connection.
+    pub stream: TcpStream,
+    heard: Vec<u8>,
+}
+
+impl Client {
+    pub fn new() -> Client {
+        let addr = std::env::var("SQUALL_PROXY").expect("SQUALL_PROXY");
+        let stream = TcpStream::connect(addr).unwrap();
+        stream.set_read_timeout(Some(Duration::from_secs(20))).unwrap();
+        stream.set_nodelay(true).unwrap();
+        Client { stream, heard: Vec::new() }
+    }
+
+    pub fn send(&mut self, bytes: &[u8]) {
+        self.stream.write_all(bytes).unwrap();
+    }
+
+    /// The bytes of the next reply; none if the proxy has closed.
+    pub fn hear(&mut self) -> Option<Vec<u8>> {
+        loop {
+            if let Some(len) = Scan::default().read(&self.heard).unwrap() {
+                return Some(self.heard.drain(..len).collect());
+            }
+            let mut block = [0; 65536];
+            match self.stream.read(&mut block) {
+                Ok(0) | Err(_) => return None,
+                Ok(got) => self.heard.extend_from_slice(&block[..got]),
+            }
+        }
+    }
+
+    pub fn text(&mut self) -> String {
+        String::from_utf8(self.hear().expect("a reply")).unwrap()
+    }
+
+    pub fn ask(&mut self, line: &str) -> String {
+        self.send(&command(line));
+        self.text()
+    }
+}
+
+/// Whether all keys move.
+pub fn is_moving() -> bool {
+    std::env::var("SQUALL_COURSE").is_ok_and(|course| course == "2")
+}
+
+/// The bytes of a command.
+pub fn command(line: &str) -> Vec<u8> {
+    let words: Vec<&str> = line.split(' ').collect();
+    let mut out = Vec::new();
+    push(&mut out, &words);
+    out
+}
