@@ -159,6 +159,35 @@ test_keys_that_part() {
   [ "$(redis-cli -p "${servers[2]}" exists 700:0)" = 0 ]
 }
 
+# Queues that many clients share, over both proxies, while their lists move to and fro.
+queues_keep_all() {
+  local number id queue status plans=(old new)
+  cargo test "${cargo[@]}" --features faults --test queue --no-run || return
+  touch "$run/moving"
+  launch "$run" queue env -C "$package" SQUALL_PROXIES="127.0.0.1:${proxies[0]} 127.0.0.1:${proxies[1]}" SQUALL_WHILE="$run/moving" \
+    cargo test "${cargo[@]}" --features faults --test queue -- --ignored --nocapture
+  queue=$id
+  sleep 0.3
+  for number in 2 3 4; do
+    move "$number" "${plans[number % 2]}" "${plans[1 - number % 2]}" --chunk 1 --pause 60 || return
+    sleep 0.2
+  done
+  rm "$run/moving"
+  wait "$queue"
+  status=$?
+  grep -E "^pushed|^lost|^error|panicked|answered" "$run/queue"
+  return "$status"
+}
+
+test_queues() {
+  deploy && queues_keep_all
+}
+
+# A proxy that never guards waits, transactions and scripts loses what is pushed, or it is taken twice.
+test_mutant_of_queues() {
+  deploy SQUALL_FAULT=never-guard && ! queues_keep_all && grep -q "twice or never pushed" "$run/queue"
+}
+
 # A fence that ends no waits leaves them at a partition to which nothing comes.
 test_mutant_of_waits() {
   deploy || return
