@@ -1,0 +1,89 @@
+"""What is tested of each bus that keeps frames."""
+
+from __future__ import annotations
+
+import subprocess
+import sys
+import threading
+from typing import Any, List
+
+from squall import Rank, Router, frame
+from squall_bus import Message, Node, open_bus
+from squall_bus.pieces import ANY, joined
+
+from .programs import BUS, OLD, CourseTest, plan, until
+
+FRAMES = [frame.loaded(2, 0, 3, Rank(at, 0), Rank(at, 1)) for at in range(200)]
+
+
+class Kept(CourseTest):
+    """Tests with the server of a class below."""
+
+    #: The bus of this test.
+    url = ""
+    #: More words of a merge.
+    words: List[str] = []
+
+    def bus(self) -> Any:
+        """One that is connected."""
+        bus = open_bus(self.url)
+        self.addCleanup(bus.close)
+        bus.connect()
+        return bus
+
+    def node(self) -> Node:
+        """A node of the test's bus."""
+        node = Node(open_bus(self.url), plan(OLD))
+        self.addCleanup(node.bus.close)
+        return node
+
+    def write(self, frames: List[bytes]) -> None:
+        """What a writer does."""
+        bus = self.bus()
+        for it in frames:
+            bus.send(it)
+
+    def works_in_spite_of_mishaps(self) -> None:
+        """The server goes without a word, and comes back. Then all frames are replaced."""
+        merged: List[str] = []
+
+        def mishap() -> None:
+            self.server.end()
+            self.server.start()
+            words = [sys.executable, *BUS, "merge", self.server.url(), *self.words]
+            merged.append(subprocess.run(words, check=True, capture_output=True, text=True).stdout)
+
+        nodes = self.work(mishap)
+        self.assertRegex(merged[0], "^([2-9]|[0-9]{2}) frames are now 1; 0 were none\n$")
+        self.assertTrue(any("bus: " in it.said() for it in nodes[1:]), "nobody missed the server")
+        print(f"measured: {merged[0].split(';')[0]}")
+
+    def writers_and_merges_lose_nothing(self) -> None:
+        """Four writers, two that merge, and a reader, all at once."""
+        reader = self.node()
+        writers = [threading.Thread(target=self.write, args=[FRAMES[at::4]]) for at in range(4)]
+        for it in writers:
+            it.start()
+        mergers, merges = [self.bus(), self.bus()], 0
+        while any(it.is_alive() for it in writers):
+            reader.turn(0.01)
+            merges += mergers[merges % 2].merge().before > 1
+        wanted = joined(FRAMES)
+        until("the reader has all", lambda: reader.turn(0.05) or reader.router.board() == wanted)
+        mergers[0].merge()
+        self.assertEqual(mergers[1].merge(), (1, 0, 1))
+        self.assertGreater(merges, 0)
+        self.assertEqual(self.bus().hear(1), [Message(it) for it in wanted])
+
+    def what_is_no_frame_goes_with_a_merge(self) -> None:
+        """Neither readers nor a merge stop at it."""
+        bus, node = self.bus(), self.node()
+        with Router(1, ANY, ANY) as router:
+            bad = [b"", b"no frame", FRAMES[1][:-1], router.digest()]
+        for it in (*bad, FRAMES[0], FRAMES[2]):
+            bus.send(it)
+        while node.taken < 2:
+            node.turn(0.1)
+        self.assertEqual(node.refused, 3)
+        self.assertEqual(bus.merge(), (6, 4, 1))
+        self.assertEqual(self.bus().hear(1), [Message(it) for it in joined([FRAMES[0], FRAMES[2]])])

@@ -1,0 +1,182 @@
+"""Servers of NATS, PostgreSQL and etcd on loopback, in a temporary folder."""
+
+from __future__ import annotations
+
+import os
+import pwd
+import shutil
+import signal
+import socket
+import subprocess
+import tempfile
+import time
+from contextlib import closing
+from pathlib import Path
+from typing import List, Optional
+
+_PATIENCE = 15.0
+#: A program that is started so is ended with the tests, however they end.
+_WITH_US = ["setpriv", "--pdeathsig", "KILL"]
+
+
+def free_port() -> int:
+    """A port on which nobody listens now."""
+    with closing(socket.socket()) as it:
+        it.bind(("127.0.0.1", 0))
+        port: int = it.getsockname()[1]
+        return port
+
+
+def find(name: str) -> Optional[str]:
+    """Where the program is, also if it is PostgreSQL's."""
+    folders = sorted(Path("/usr/lib/postgresql").glob("*/bin"), reverse=True)
+    path = os.pathsep.join([os.environ["PATH"], "/usr/sbin", *map(str, folders)])
+    return shutil.which(name, path=path)
+
+
+class Server:
+    """A server that may be ended and started again, with its data."""
+
+    #: Its program.
+    name = ""
+
+    def __init__(self) -> None:
+        self.folder = Path(tempfile.mkdtemp(prefix="squall."))
+        self.folder.chmod(0o711)
+        self.port = free_port()
+        self._process: Optional[subprocess.Popen[bytes]] = None
+
+    def words(self) -> List[str]:
+        """What follows the program's name."""
+        raise NotImplementedError
+
+    def url(self) -> str:
+        """The address of a bus there."""
+        raise NotImplementedError
+
+    def start(self) -> None:
+        """Starts it, and waits until it listens."""
+        program = find(self.name)
+        assert program is not None
+        with open(self.folder / "log", "ab") as log:
+            self._process = subprocess.Popen(  # pylint: disable=consider-using-with
+                [*self._before(), program, *self.words()],
+                cwd=self.folder,
+                stdout=log,
+                stderr=log,
+            )
+        until = time.monotonic() + _PATIENCE
+        while not self._answers():
+            if self._process.poll() is not None or time.monotonic() > until:
+                raise AssertionError((self.folder / "log").read_text("utf-8", "replace")[-2000:])
+            time.sleep(0.02)
+
+    def _before(self) -> List[str]:
+        return _WITH_US
+
+    def _answers(self) -> bool:
+        with closing(socket.socket()) as it:
+            return it.connect_ex(("127.0.0.1", self.port)) == 0
+
+    def end(self, number: int = signal.SIGKILL) -> None:
+        """Ends it by a signal."""
+        if self._process is not None:
+            self._process.send_signal(number)
+            self._process.wait()
+            self._process = None
+
+    def remove(self) -> None:
+        """Ends it, and removes its folder."""
+        self.end()
+        shutil.rmtree(self.folder, ignore_errors=True)
+
+
+class Nats(Server):
+    """A NATS server, which keeps nothing."""
+
+    name = "nats-server"
+
+    def __init__(self, *words: str) -> None:
+        super().__init__()
+        self._more = words
+
+    def words(self) -> List[str]:
+        return ["-a", "127.0.0.1", "-p", str(self.port), *self._more]
+
+    def url(self) -> str:
+        return f"nats://127.0.0.1:{self.port}"
+
+
+class NatsWith(Nats):
+    """A NATS server with a file of settings."""
+
+    def __init__(self, settings: str) -> None:
+        super().__init__("-c", "settings")
+        (self.folder / "settings").write_text(settings, "ascii")
+
+
+class Postgres(Server):
+    """A PostgreSQL server, which root starts as the user postgres."""
+
+    name = "postgres"
+
+    def __init__(self) -> None:
+        super().__init__()
+        data = self.folder / "data"
+        data.mkdir(0o700)
+        if os.geteuid() == 0:
+            user = pwd.getpwnam("postgres")
+            os.chown(data, user.pw_uid, user.pw_gid)
+        initdb = find("initdb")
+        assert initdb is not None
+        words = ["-D", str(data), "-U", "squall", "-A", "trust", "-E", "UTF8", "--no-sync"]
+        subprocess.run(
+            [*self._before(), initdb, *words, "--locale", "C"],
+            cwd=data,
+            check=True,
+            stdout=subprocess.DEVNULL,
+        )
+
+    def _before(self) -> List[str]:
+        if os.geteuid() != 0:
+            return _WITH_US
+        return [*_WITH_US, "--reuid", "postgres", "--regid", "postgres", "--clear-groups"]
+
+    def words(self) -> List[str]:
+        return [
+            *("-D", str(self.folder / "data")),
+            *("-p", str(self.port), "-c", "listen_addresses=127.0.0.1"),
+            *("-c", "unix_socket_directories="),
+            *("-c", "shared_buffers=16MB", "-c", "fsync=off"),
+        ]
+
+    def url(self) -> str:
+        return f"postgres://squall@127.0.0.1:{self.port}/postgres"
+
+    def _answers(self) -> bool:
+        ready = find("pg_isready")
+        assert ready is not None
+        words = [ready, "-q", "-h", "127.0.0.1", "-p", str(self.port)]
+        return subprocess.run(words, check=False).returncode == 0
+
+
+class Etcd(Server):
+    """An etcd server of its own."""
+
+    name = "etcd"
+
+    def __init__(self) -> None:
+        super().__init__()
+        self._peers = free_port()
+
+    def words(self) -> List[str]:
+        here, peers = f"http://127.0.0.1:{self.port}", f"http://127.0.0.1:{self._peers}"
+        return [
+            *("--data-dir", str(self.folder / "data"), "--log-level", "error"),
+            *("--listen-client-urls", here, "--advertise-client-urls", here),
+            *("--listen-peer-urls", peers, "--initial-advertise-peer-urls", peers),
+            *("--initial-cluster", f"default={peers}"),
+        ]
+
+    def url(self) -> str:
+        return f"etcd://127.0.0.1:{self.port}"

@@ -1,0 +1,148 @@
+"""Frames as keys of etcd, and the numbers of courses."""
+
+from __future__ import annotations
+
+import threading
+import unittest
+from itertools import count
+from typing import Any, ClassVar, Dict, List
+
+from squall import END, Course, Plan, Router
+from squall_bus import BusError, TooLarge, open_bus
+from squall_bus.pieces import ANY, joined
+
+from . import kept
+from .kept import FRAMES
+from .programs import until
+from .servers import Etcd, find
+
+NAMES = count()
+
+
+@unittest.skipUnless(find("etcd"), "no etcd")
+class EtcdTest(kept.Kept):
+    """All over one server. Each test has names of its own."""
+
+    server: ClassVar[Etcd]  # type: ignore[misc]
+    words = ["--compact"]
+
+    @classmethod
+    def setUpClass(cls) -> None:
+        cls.server = Etcd()
+        cls.addClassCleanup(cls.server.remove)
+        cls.server.start()
+
+    def setUp(self) -> None:
+        self.url = f"{self.server.url()}/{next(NAMES)}"
+
+    def hear(self, bus: Any, least: int) -> List[bytes]:
+        """At least so many frames."""
+        found: List[bytes] = []
+
+        def is_all() -> bool:
+            found.extend(it.frame for it in bus.hear(0.1))
+            return len(found) >= least
+
+        until(f"{least} frames", is_all)
+        return found
+
+    def test_a_reader_reads_on_after_all_mishaps(self) -> None:
+        self.works_in_spite_of_mishaps()
+
+    def test_writers_and_merges_lose_nothing(self) -> None:
+        self.writers_and_merges_lose_nothing()
+
+    def test_what_is_no_frame_goes_with_a_merge(self) -> None:
+        self.what_is_no_frame_goes_with_a_merge()
+
+    def test_eight_at_once_draw_each_number_once(self) -> None:
+        drawn: Dict[int, List[int]] = {at: [] for at in range(8)}
+        refused: List[int] = []
+        gate = threading.Barrier(8)
+
+        def mover(at: int) -> None:
+            bus = self.bus()
+            new = Plan.of([(0, END, at)])
+            gate.wait()
+            for _ in range(5):
+                drawn[at].append(bus.draw(lambda number: Course(number, ANY, new).frame()))
+            refused.append(bus.refused)
+
+        threads = [threading.Thread(target=mover, args=[at]) for at in drawn]
+        for it in threads:
+            it.start()
+        for it in threads:
+            it.join()
+        numbers = sorted(number for it in drawn.values() for number in it)
+        self.assertEqual(numbers, list(range(2, 42)))
+        # If no transaction was refused, they did not meet.
+        self.assertGreater(sum(refused), 0)
+        print(f"measured: 40 numbers drawn, {sum(refused)} transactions refused")
+        # Each number has one issue, that of who has drawn it.
+        with Router(1, ANY, ANY) as router:
+            for data in self.hear(self.bus(), 40):
+                router.hear(data)
+            last = next(at for at, it in drawn.items() if 41 in it)
+            with router.course() as newest:
+                self.assertEqual((newest.number, newest.new_plan()[0].part), (41, last))
+
+    def test_reports_are_kept_once(self) -> None:
+        one, two = self.bus(), self.bus()
+        self.assertEqual(one.hear(0.0), [])
+        for data in (FRAMES[0], FRAMES[1], FRAMES[0]):
+            two.send(data)
+        self.assertEqual(self.hear(one, 3), [FRAMES[0], FRAMES[1], FRAMES[0]])
+        self.assertEqual(sorted(self.hear(self.bus(), 2)), FRAMES[:2])
+
+    def test_a_reader_that_missed_the_history_reads_all(self) -> None:
+        reader, writer = self.bus(), self.bus()
+        writer.send(FRAMES[0])
+        self.assertEqual(self.hear(reader, 1), [FRAMES[0]])
+        reader.close()
+        for data in FRAMES[1:150]:
+            writer.send(data)
+        self.assertEqual(writer.merge(), (150, 0, 1))
+        writer.compact()
+        reader.connect()
+        self.assertEqual(self.hear(reader, 1), joined(FRAMES[:150]))
+        writer.send(FRAMES[150])
+        self.assertEqual(self.hear(reader, 1), [FRAMES[150]])
+
+    def test_a_reader_reads_on_from_its_place(self) -> None:
+        reader, writer = self.bus(), self.bus()
+        writer.send(FRAMES[0])
+        self.assertEqual(self.hear(reader, 1), [FRAMES[0]])
+        reader.close()
+        writer.send(FRAMES[1])
+        late = self.bus()
+        late.place = reader.place
+        self.assertEqual(self.hear(late, 1), [FRAMES[1]])
+        # A server of which the data is older than the place.
+        lost = self.bus()
+        lost.place = 1 << 40
+        self.assertEqual(sorted(self.hear(lost, 2)), FRAMES[:2])
+
+    def test_the_longest_frames_fit(self) -> None:
+        boards = []
+        for part in range(6):
+            with Router(1, ANY, ANY) as router:
+                for at in range(65534 if part == 0 else 60000):
+                    router.loaded(2, 0, part, 2 * at, 2 * at + 1)
+                boards += router.board()
+        bus = self.bus()
+        for it in boards:
+            bus.send(it)
+        # Six megabytes in one answer.
+        self.assertEqual(sorted(self.hear(self.bus(), 6)), sorted(boards))
+
+    def test_what_is_too_large_is_named(self) -> None:
+        bus = self.bus()
+        with self.assertRaisesRegex(TooLarge, "large"):
+            bus.send(bytes(2 << 20))
+        bus.send(FRAMES[0])
+
+    def test_a_server_that_is_not_there_is_named(self) -> None:
+        bus = open_bus("etcd://127.0.0.1:1")
+        bus.connect()
+        with self.assertRaisesRegex(BusError, "127.0.0.1:1: .*refused"):
+            bus.send(FRAMES[0])
