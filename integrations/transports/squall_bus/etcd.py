@@ -3,10 +3,11 @@
 from __future__ import annotations
 
 import json
+import os
+import socket
 from base64 import b64decode, b64encode
 from hashlib import sha256
 from http.client import HTTPConnection, HTTPException
-from secrets import token_bytes
 from typing import Any, Callable, Dict, Iterator, List, Optional
 from urllib.parse import SplitResult
 
@@ -103,9 +104,10 @@ class EtcdBus(KeepingBus):
         """Draws the number of the next course, which no other program draws.
 
         `issue` gives the frame of the course of that number. It is sent in the same transaction.
-        Raises `BusError`. Then a number may have been drawn, with its issue.
+        The number's key says which host and process has drawn it. Raises `BusError`. Then a number
+        may have been drawn, with its issue.
         """
-        mine = token_bytes(16)
+        mine = f"{socket.gethostname()} {os.getpid()}".encode()
         while True:
             number = self._newest() + 1
             key = self._course(number)

@@ -3,7 +3,6 @@
 from __future__ import annotations
 
 import json
-import select
 import socket
 from secrets import token_hex
 from typing import Any, Dict, List, Optional
@@ -12,7 +11,7 @@ from urllib.parse import SplitResult, unquote
 from .bus import Bus, BusError, Message
 from .nats_text import Op, Parser
 from .pieces import cut, refuse
-from .sockets import give_up_after
+from .sockets import give_up_after, is_readable
 
 _PORT = 4222
 #: How long a server may take to answer, or to take bytes.
@@ -91,7 +90,7 @@ class NatsBus(Bus):
         self._publish(reply, frame)
 
     def hear(self, seconds: float) -> List[Message]:
-        if not self._ready and select.select([self._open()], [], [], seconds)[0]:
+        if not self._ready and is_readable(self._open(), seconds):
             self._read()
         ready, self._ready = self._ready, []
         return ready

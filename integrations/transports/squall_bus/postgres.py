@@ -2,7 +2,6 @@
 
 from __future__ import annotations
 
-import select
 from contextlib import contextmanager
 from pathlib import Path
 from typing import Any, Iterator, List
@@ -11,6 +10,7 @@ import psycopg2
 
 from .bus import BusError, KeepingBus, Merged, Message, TooLarge
 from .pieces import is_delta, joined
+from .sockets import is_readable
 
 _SETUP = Path(__file__).with_name("postgres.sql")
 #: How many frames are read at once.
@@ -33,6 +33,8 @@ class PostgresBus(KeepingBus):
         """A bus in the database of this address, as libpq reads it: `postgres://..`."""
         self._url = url
         self._connection: Any = None
+        #: Whether nothing was read over this connection.
+        self._is_new = True
 
     def connect(self) -> None:
         if self._connection is None:
@@ -40,6 +42,7 @@ class PostgresBus(KeepingBus):
                 self._connection = psycopg2.connect(self._url, **_OPTIONS)
                 self._connection.autocommit = True
                 self._do("listen squall_frames")
+                self._is_new = True
 
     def close(self) -> None:
         if self._connection is not None:
@@ -85,7 +88,11 @@ class PostgresBus(KeepingBus):
             self._connection.autocommit = True
 
     def _rows(self) -> List[Any]:
-        """The next rows."""
+        """The next rows. If the table is older than the place, they are its first ones."""
+        if self._is_new:
+            ((newest,),) = self._ask("select coalesce(max(id), 0) from squall_frames")
+            self.place = self.place if self.place <= newest else 0
+            self._is_new = False
         return self._ask(
             "select id, frame from squall_frames where id > %s order by id limit %s",
             self.place,
@@ -96,7 +103,7 @@ class PostgresBus(KeepingBus):
         """Whether a transaction has notified within the time."""
         connection = self._connection
         if not connection.notifies:
-            select.select([connection], [], [], seconds)
+            is_readable(connection, seconds)
             connection.poll()
         woken = bool(connection.notifies)
         connection.notifies.clear()
@@ -121,4 +128,5 @@ def _faults() -> Iterator[None]:
     except psycopg2.errors.ProgramLimitExceeded as error:
         raise TooLarge(str(error).strip()) from error
     except psycopg2.Error as error:
-        raise BusError(str(error).strip() or "the server has ended the connection") from error
+        lines = str(error).splitlines()
+        raise BusError(lines[0] if lines else "the server has ended the connection") from error

@@ -1,8 +1,17 @@
-"""Connections that notice when the other end is gone without a word."""
+"""What connections of several buses need."""
 
 from __future__ import annotations
 
+import select
 import socket
+from typing import Any
+
+
+def is_readable(connection: Any, seconds: float) -> bool:
+    """Whether something comes within the time. `connection` has a `fileno`."""
+    poll = select.poll()
+    poll.register(connection, select.POLLIN)
+    return bool(poll.poll(seconds * 1000))
 
 
 def give_up_after(connection: socket.socket, seconds: float) -> None:

@@ -4,6 +4,7 @@ from __future__ import annotations
 
 import os
 import pwd
+import random
 import shutil
 import signal
 import socket
@@ -20,11 +21,12 @@ _WITH_US = ["setpriv", "--pdeathsig", "KILL"]
 
 
 def free_port() -> int:
-    """A port on which nobody listens now."""
-    with closing(socket.socket()) as it:
-        it.bind(("127.0.0.1", 0))
-        port: int = it.getsockname()[1]
-        return port
+    """A port on which nobody listens now, and none that the system gives to clients."""
+    while True:
+        port = random.randrange(20000, 32000)
+        with closing(socket.socket()) as it:
+            if it.connect_ex(("127.0.0.1", port)) != 0:
+                return port
 
 
 def find(name: str) -> Optional[str]:

@@ -2,6 +2,8 @@
 
 from __future__ import annotations
 
+import subprocess
+import sys
 import threading
 import unittest
 from itertools import count
@@ -13,7 +15,7 @@ from squall_bus.pieces import ANY, joined
 
 from . import kept
 from .kept import FRAMES
-from .programs import until
+from .programs import BUS, NEW, OLD, course, until
 from .servers import Etcd, find
 
 NAMES = count()
@@ -85,6 +87,22 @@ class EtcdTest(kept.Kept):
             last = next(at for at, it in drawn.items() if 41 in it)
             with router.course() as newest:
                 self.assertEqual((newest.number, newest.new_plan()[0].part), (41, last))
+
+    def test_the_program_draws_and_issues(self) -> None:
+        for number in ("2\n", "3\n"):
+            words = [sys.executable, *BUS, "draw", self.url, str(OLD), str(NEW)]
+            done = subprocess.run(words, check=True, capture_output=True, text=True)
+            self.assertEqual(done.stdout, number)
+        with course() as it:
+            self.assertIn(it.frame(), self.hear(self.bus(), 2))
+        # Reports of its input.
+        words = [sys.executable, *BUS, "publish", self.url, "--first", str(OLD)]
+        lines = "opened 3 0\nloaded 3 0 3 2:0 2:5\n"
+        done = subprocess.run(words, check=True, capture_output=True, text=True, input=lines)
+        self.assertEqual(done.stdout, "sent 2 reports and 0 repairs\n")
+        done = subprocess.run(words, check=False, capture_output=True, text=True, input="gone 3\n")
+        self.assertEqual((done.returncode, done.stderr), (1, "squall-bus: gone is no report\n"))
+        self.assertEqual(len(self.hear(self.bus(), 4)), 4)
 
     def test_reports_are_kept_once(self) -> None:
         one, two = self.bus(), self.bus()

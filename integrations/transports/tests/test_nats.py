@@ -3,6 +3,7 @@
 from __future__ import annotations
 
 import re
+import threading
 import unittest
 from typing import List, Tuple
 
@@ -164,6 +165,27 @@ class Messages(NatsTest):
         self.assertEqual(peer.router.board(), node.router.board())
         for it in (node, peer):
             it.bus.close()
+
+    def test_a_publisher_waits_until_another_knows(self) -> None:
+        url = self.serve(Nats()).url()
+        publisher, other = Node(open_bus(url, True), FIRST, 0.05), Node(open_bus(url), FIRST, 0.05)
+        self.addCleanup(publisher.bus.close)
+        self.addCleanup(other.bus.close)
+        publisher.tell(frame.done(2, 0, 3))
+        self.assertFalse(publisher.settle(0.1, 0.5))
+        done = threading.Event()
+
+        def follow() -> None:
+            while not done.is_set():
+                other.turn(0.02)
+
+        follower = threading.Thread(target=follow)
+        follower.start()
+        is_settled = publisher.settle(0.2, 10.0)
+        done.set()
+        follower.join()
+        self.assertTrue(is_settled)
+        self.assertEqual(other.router.board(), publisher.router.board())
 
     def test_what_is_no_frame_changes_nothing(self) -> None:
         url = self.serve(Nats()).url()

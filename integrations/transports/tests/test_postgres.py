@@ -98,6 +98,18 @@ class PostgresTest(kept.Kept):
         bus.send(board)
         self.assertEqual(self.bus().hear(1), [Message(board)])
 
+    def test_a_reader_reads_on_from_its_place(self) -> None:
+        reader, writer = self.bus(), self.bus()
+        writer.send(FRAMES[0])
+        self.assertEqual(reader.hear(1), [Message(FRAMES[0])])
+        writer.send(FRAMES[1])
+        late, lost = self.bus(), self.bus()
+        late.place = reader.place
+        self.assertEqual(late.hear(1), [Message(FRAMES[1])])
+        # A table that is older than the place.
+        lost.place = 1000000
+        self.assertEqual(lost.hear(1), [Message(FRAMES[0]), Message(FRAMES[1])])
+
     def test_a_table_that_is_not_there_is_named(self) -> None:
         with self.raw() as connection, connection.cursor() as cursor:
             cursor.execute("drop table squall_frames")
