@@ -74,6 +74,9 @@ class Merged(NamedTuple):
 class KeepingBus(Bus):
     """A bus of which the server keeps all frames."""
 
+    def setup(self) -> None:
+        """Makes what the bus needs at the server, if it is not there. Raises `BusError`."""
+
     @abstractmethod
     def merge(self) -> Merged:
         """Puts the frames of one board into the place of all frames. The bus is connected.

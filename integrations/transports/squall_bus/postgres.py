@@ -50,7 +50,7 @@ class PostgresBus(KeepingBus):
             self._connection = None
 
     def setup(self) -> None:
-        """Makes the table and its procedures, if they are not there. Raises `BusError`."""
+        """Makes the table and its procedures."""
         self.connect()
         with _faults():
             self._do(_SETUP.read_text("utf-8"))

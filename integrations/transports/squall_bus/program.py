@@ -88,7 +88,10 @@ def _plan(path: str) -> Plan:
 
 
 def _key(text: str) -> Rank:
-    return Rank.parse(text)
+    try:
+        return Rank.parse(text)
+    except SquallError as error:
+        raise argparse.ArgumentTypeError(str(error)) from error
 
 
 def _follow(bus: Bus, options: Any) -> int:
@@ -117,24 +120,23 @@ def _publish(bus: Bus, options: Any) -> int:
 
 
 def _setup(bus: Bus, _options: Any) -> int:
-    # Only who has this bus needs psycopg2.
-    from .postgres import PostgresBus  # pylint: disable=import-outside-toplevel
-
-    if not isinstance(bus, PostgresBus):
-        raise ValueError("only PostgreSQL needs this")
-    bus.setup()
+    _keeping(bus).setup()
     return 0
 
 
 def _merge(bus: Bus, options: Any) -> int:
-    if not isinstance(bus, KeepingBus):
-        raise ValueError("this bus keeps no frames")
     bus.connect()
-    done = bus.merge()
+    done = _keeping(bus).merge()
     if options.compact and isinstance(bus, EtcdBus):
         bus.compact()
     print(f"{done.before} frames are now {done.after}; {done.bad} were none")
     return 0
+
+
+def _keeping(bus: Bus) -> KeepingBus:
+    if not isinstance(bus, KeepingBus):
+        raise ValueError("this bus keeps no frames")
+    return bus
 
 
 def _draw(bus: Bus, options: Any) -> int:
