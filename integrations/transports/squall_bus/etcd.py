@@ -8,12 +8,14 @@ import socket
 from base64 import b64decode, b64encode
 from hashlib import sha256
 from http.client import HTTPConnection, HTTPException
+from itertools import cycle
 from typing import Any, Callable, Dict, Iterator, List, Optional
 from urllib.parse import SplitResult
 
 from .bus import BusError, KeepingBus, Merged, Message, TooLarge
 from .etcd_watch import Watch
 from .pieces import is_delta, joined
+from .sockets import Server, servers
 
 Json = Dict[str, Any]
 
@@ -33,8 +35,12 @@ class EtcdBus(KeepingBus):
     """
 
     def __init__(self, url: SplitResult) -> None:
-        """A bus by an address `etcd://HOST[:PORT][/NAME]`."""
-        self._server = url.hostname or "127.0.0.1", url.port or _PORT
+        """A bus by an address `etcd://HOST[:PORT][,..][/NAME]`.
+
+        It connects to the first server, and after a fault to the next one.
+        """
+        self._servers = cycle(servers(url, _PORT))
+        self._server: Server = ("", 0)
         name = url.path.strip("/") or "squall"
         self._frames, self._courses = f"{name}/frames/".encode(), f"{name}/courses/".encode()
         self._connection: Optional[HTTPConnection] = None
@@ -44,6 +50,7 @@ class EtcdBus(KeepingBus):
 
     def connect(self) -> None:
         if self._connection is None:
+            self._server = next(self._servers)
             self._connection = HTTPConnection(*self._server, timeout=_PATIENCE)
 
     def close(self) -> None:

@@ -7,18 +7,21 @@ import socket
 from http.client import HTTPConnection, HTTPException
 from queue import Empty, SimpleQueue
 from threading import Thread
-from typing import Any, Dict, Optional, Tuple, Union
+from typing import Any, Dict, Optional, Union
 
 from .bus import BusError
-from .sockets import give_up_after
+from .sockets import Server, give_up_after
 
 Json = Dict[str, Any]
+
+#: Asks for an end of the watch if the member has lost its leader.
+_HEADERS = {"Grpc-Metadata-hasleader": "true"}
 
 
 class Watch:
     """Hears of changes of keys, in a thread that waits for the server."""
 
-    def __init__(self, server: Tuple[str, int], patience: float, keys: Json, revision: int) -> None:
+    def __init__(self, server: Server, patience: float, keys: Json, revision: int) -> None:
         """Watches these keys from a revision on. Raises `BusError`."""
         self._answers: SimpleQueue[Union[Json, BusError]] = SimpleQueue()
         self._connection = HTTPConnection(*server, timeout=patience)
@@ -28,7 +31,7 @@ class Watch:
             self._socket.settimeout(None)
             give_up_after(self._socket, patience)
             body = {"create_request": {**keys, "start_revision": str(revision)}}
-            self._connection.request("POST", "/v3/watch", json.dumps(body))
+            self._connection.request("POST", "/v3/watch", json.dumps(body), _HEADERS)
         except (OSError, HTTPException) as error:
             self._connection.close()
             raise BusError(f"{server[0]}:{server[1]}: {error}") from error
@@ -61,10 +64,16 @@ class Watch:
             for line in self._connection.getresponse():
                 answer = json.loads(line)
                 if "result" not in answer:
-                    raise BusError(str(answer.get("error", answer)))
+                    raise BusError(_fault(answer))
                 self._answers.put(answer["result"])
             self._answers.put(BusError("the server has ended the watch"))
         except BusError as error:
             self._answers.put(error)
         except (OSError, HTTPException, ValueError, AttributeError) as error:
             self._answers.put(BusError(f"the watch: {error}"))
+
+
+def _fault(answer: Json) -> str:
+    """What the server says is wrong."""
+    error = answer.get("error", answer)
+    return str(error.get("message", error) if isinstance(error, dict) else error)

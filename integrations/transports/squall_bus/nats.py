@@ -4,6 +4,7 @@ from __future__ import annotations
 
 import json
 import socket
+from itertools import cycle
 from secrets import token_hex
 from typing import Any, Dict, List, Optional
 from urllib.parse import SplitResult, unquote
@@ -11,7 +12,7 @@ from urllib.parse import SplitResult, unquote
 from .bus import Bus, BusError, Message
 from .nats_text import Op, Parser
 from .pieces import cut, refuse
-from .sockets import give_up_after, is_readable
+from .sockets import give_up_after, is_readable, servers
 
 _PORT = 4222
 #: How long a server may take to answer, or to take bytes.
@@ -31,12 +32,14 @@ class NatsBus(Bus):
     loses = True
 
     def __init__(self, url: SplitResult, hears_all: bool = False) -> None:
-        """A bus by an address `nats://[USER[:PASSWORD]@]HOST[:PORT][/NAME]`.
+        """A bus by an address `nats://[USER[:PASSWORD]@]HOST[:PORT][,..][/NAME]`.
+
+        It connects to the first server, and after a fault to the next one.
 
         Of all nodes that do not hear all, the server gives each digest to one. A node that hears
         all gets each digest too.
         """
-        self._host, self._port = url.hostname or "127.0.0.1", url.port or _PORT
+        self._servers = cycle(servers(url, _PORT))
         self._login = _login(url)
         self._name = url.path.strip("/") or "squall"
         self._hears_all = hears_all
@@ -49,14 +52,14 @@ class NatsBus(Bus):
 
     def connect(self) -> None:
         if self._socket is None:
+            server = next(self._servers)
             try:
-                place = self._host, self._port
-                self._socket = socket.create_connection(place, _PATIENCE)
+                self._socket = socket.create_connection(server, _PATIENCE)
                 give_up_after(self._socket, _PATIENCE)
                 self._greet()
             except (OSError, BusError) as error:
                 self.close()
-                raise BusError(f"{self._host}:{self._port}: {error}") from error
+                raise BusError(f"{server[0]}:{server[1]}: {error}") from error
 
     def _greet(self) -> None:
         """Says who this is and what it wants to hear, once the server has said what it can."""

@@ -4,7 +4,21 @@ from __future__ import annotations
 
 import select
 import socket
-from typing import Any
+from typing import Any, List, Tuple
+from urllib.parse import SplitResult, urlsplit
+
+#: A host and a port.
+Server = Tuple[str, int]
+
+
+def servers(url: SplitResult, port: int) -> List[Server]:
+    """The servers of an address `..://[LOGIN@]HOST[:PORT][,HOST[:PORT]]..`.
+
+    Raises `ValueError` if a port is none.
+    """
+    hosts = url.netloc.rpartition("@")[2].split(",")
+    found = [urlsplit(f"//{it}") for it in hosts]
+    return [(it.hostname or "127.0.0.1", it.port or port) for it in found]
 
 
 def is_readable(connection: Any, seconds: float) -> bool:

@@ -169,15 +169,20 @@ class Etcd(Server):
 
     def __init__(self) -> None:
         super().__init__()
-        self._peers = free_port()
+        #: Where other members of its cluster find it.
+        self.peers = f"http://127.0.0.1:{free_port()}"
+        #: All members.
+        self.members = [self]
 
     def words(self) -> List[str]:
-        here, peers = f"http://127.0.0.1:{self.port}", f"http://127.0.0.1:{self._peers}"
+        here, peers = f"http://127.0.0.1:{self.port}", self.peers
+        all_of_them = [f"{it.port}={it.peers}" for it in self.members]
         return [
+            *("--name", str(self.port), "--initial-cluster", ",".join(all_of_them)),
+            *("--heartbeat-interval", "50", "--election-timeout", "500"),
             *("--data-dir", str(self.folder / "data"), "--log-level", "error"),
             *("--listen-client-urls", here, "--advertise-client-urls", here),
             *("--listen-peer-urls", peers, "--initial-advertise-peer-urls", peers),
-            *("--initial-cluster", f"default={peers}"),
         ]
 
     def url(self) -> str:

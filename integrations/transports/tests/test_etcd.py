@@ -9,16 +9,47 @@ import unittest
 from itertools import count
 from typing import Any, ClassVar, Dict, List
 
-from squall import END, Course, Plan, Router
-from squall_bus import BusError, TooLarge, open_bus
+from squall import END, FRAME_BYTES, Course, Plan, Router
+from squall_bus import BusError, Node, TooLarge, open_bus
 from squall_bus.pieces import ANY, joined
 
 from . import kept
 from .kept import FRAMES
-from .programs import BUS, NEW, OLD, course, until
+from .programs import BUS, NEW, OLD, course, plan, until
 from .servers import Etcd, find
 
 NAMES = count()
+
+
+@unittest.skipUnless(find("etcd"), "no etcd")
+class Cluster(unittest.TestCase):
+    """Three members, of which one goes, and then another."""
+
+    def test_a_node_goes_to_the_next_member(self) -> None:
+        members = [Etcd() for _ in range(3)]
+        for it in members:
+            it.members = members
+            self.addCleanup(it.remove)
+        for it in members:
+            it.start()
+        hosts = ",".join(f"127.0.0.1:{it.port}" for it in members)
+        node, writer = (Node(open_bus(f"etcd://{hosts}"), plan(OLD)) for _ in range(2))
+        self.addCleanup(node.bus.close)
+        self.addCleanup(writer.bus.close)
+        writer.tell(FRAMES[0])
+        until("the node hears", lambda: node.turn(0.1))
+        members[0].end()
+        writer.tell(FRAMES[1])
+        until("the node hears again", lambda: node.turn(0.1))
+        self.assertEqual(node.router.board(), joined(FRAMES[:2]))
+        # The last one has no leader. It says so, and does not leave the watch waiting.
+        alone = open_bus(members[2].url())
+        self.addCleanup(alone.close)
+        alone.connect()
+        alone.hear(0.1)
+        members[1].end()
+        with self.assertRaisesRegex(BusError, "no leader"):
+            until("a fault", lambda: alone.hear(0.5) is None)
 
 
 @unittest.skipUnless(find("etcd"), "no etcd")
@@ -141,12 +172,13 @@ class EtcdTest(kept.Kept):
         self.assertEqual(sorted(self.hear(lost, 2)), FRAMES[:2])
 
     def test_the_longest_frames_fit(self) -> None:
-        boards = []
-        for part in range(6):
-            with Router(1, ANY, ANY) as router:
-                for at in range(65534 if part == 0 else 60000):
-                    router.loaded(2, 0, part, 2 * at, 2 * at + 1)
-                boards += router.board()
+        with Router(1, ANY, ANY) as router:
+            for at in range(65534):
+                router.loaded(2, 0, 0, 2 * at, 2 * at + 1)
+            (board,) = router.board()
+        self.assertGreater(len(board), FRAME_BYTES - 16)
+        # The same of six partitions: where the cell has its partition, FORMATS.md says.
+        boards = [board[:24] + part.to_bytes(4, "big") + board[28:] for part in range(6)]
         bus = self.bus()
         for it in boards:
             bus.send(it)

@@ -166,6 +166,12 @@ class Messages(NatsTest):
         for it in (node, peer):
             it.bus.close()
 
+    def test_the_next_server_is_tried(self) -> None:
+        server = self.serve(Nats("--user", "squall", "--pass", "p"))
+        node = Node(open_bus(f"nats://squall:p@127.0.0.1:1,127.0.0.1:{server.port}"), FIRST)
+        self.addCleanup(node.bus.close)
+        node.tell(frame.done(2, 0, 3))
+
     def test_a_publisher_waits_until_another_knows(self) -> None:
         url = self.serve(Nats()).url()
         publisher, other = Node(open_bus(url, True), FIRST, 0.05), Node(open_bus(url), FIRST, 0.05)
