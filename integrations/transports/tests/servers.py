@@ -2,6 +2,7 @@
 
 from __future__ import annotations
 
+import json
 import os
 import pwd
 import random
@@ -12,6 +13,7 @@ import subprocess
 import tempfile
 import time
 from contextlib import closing
+from http.client import HTTPConnection
 from pathlib import Path
 from typing import List, Optional
 
@@ -187,3 +189,10 @@ class Etcd(Server):
 
     def url(self) -> str:
         return f"etcd://127.0.0.1:{self.port}"
+
+    def leads(self) -> bool:
+        """Whether it is the leader of its cluster."""
+        with closing(HTTPConnection("127.0.0.1", self.port, timeout=_PATIENCE)) as it:
+            it.request("POST", "/v3/maintenance/status", "{}")
+            found = json.loads(it.getresponse().read())
+        return bool(found.get("leader") == found["header"]["member_id"])

@@ -28,10 +28,13 @@ class Cluster(unittest.TestCase):
     def test_a_node_goes_to_the_next_member(self) -> None:
         members = [Etcd() for _ in range(3)]
         for it in members:
-            it.members = members
+            it.members = list(members)
             self.addCleanup(it.remove)
         for it in members:
             it.start()
+        until("one leads", lambda: any(it.leads() for it in members))
+        # While there is no leader, requests wait for some seconds. So it is the last to be left.
+        members.sort(key=Etcd.leads)
         hosts = ",".join(f"127.0.0.1:{it.port}" for it in members)
         node, writer = (Node(open_bus(f"etcd://{hosts}"), plan(OLD)) for _ in range(2))
         self.addCleanup(node.bus.close)
