@@ -10,7 +10,7 @@ from hashlib import sha256
 from http.client import HTTPConnection, HTTPException
 from itertools import cycle
 from typing import Any, Callable, Dict, Iterator, List, Optional
-from urllib.parse import SplitResult
+from urllib.parse import SplitResult, unquote
 
 from .bus import BusError, KeepingBus, Merged, Message, TooLarge
 from .etcd_watch import Watch
@@ -35,12 +35,14 @@ class EtcdBus(KeepingBus):
     """
 
     def __init__(self, url: SplitResult) -> None:
-        """A bus by an address `etcd://HOST[:PORT][,..][/NAME]`.
+        """A bus by an address `etcd://[USER:PASSWORD@]HOST[:PORT][,..][/NAME]`.
 
         It connects to the first server, and after a fault to the next one.
         """
         self._servers = cycle(servers(url, _PORT))
         self._server: Server = ("", 0)
+        self._login = unquote(url.username or ""), unquote(url.password or "")
+        self._headers: Dict[str, str] = {}
         name = url.path.strip("/") or "squall"
         self._frames, self._courses = f"{name}/frames/".encode(), f"{name}/courses/".encode()
         self._connection: Optional[HTTPConnection] = None
@@ -52,6 +54,18 @@ class EtcdBus(KeepingBus):
         if self._connection is None:
             self._server = next(self._servers)
             self._connection = HTTPConnection(*self._server, timeout=_PATIENCE)
+            self._headers = {}
+            if self._login[0]:
+                self._log_in()
+
+    def _log_in(self) -> None:
+        """Gets a token, which all requests of this connection show."""
+        try:
+            answer = self._ask("auth/authenticate", dict(zip(("name", "password"), self._login)))
+        except BusError:
+            self.close()
+            raise
+        self._headers = {"Authorization": str(answer["token"])}
 
     def close(self) -> None:
         if self._connection is not None:
@@ -86,7 +100,8 @@ class EtcdBus(KeepingBus):
         if not 0 < self.place <= now:
             messages = [Message(_value(it)) for it in self._list(now)]
             self.place = now
-        self._watch = Watch(self._server, _PATIENCE, _range(self._frames), self.place + 1)
+        keys = {**_range(self._frames), "start_revision": str(self.place + 1)}
+        self._watch = Watch(self._server, _PATIENCE, keys, self._headers)
         return messages
 
     def merge(self) -> Merged:
@@ -169,7 +184,7 @@ class EtcdBus(KeepingBus):
         if self._connection is None:
             raise BusError("there is no connection")
         try:
-            self._connection.request("POST", f"/v3/{path}", json.dumps(body))
+            self._connection.request("POST", f"/v3/{path}", json.dumps(body), self._headers)
             response = self._connection.getresponse()
             answer: Json = json.loads(response.read())
         except (OSError, HTTPException, ValueError) as error:

@@ -21,8 +21,10 @@ _HEADERS = {"Grpc-Metadata-hasleader": "true"}
 class Watch:
     """Hears of changes of keys, in a thread that waits for the server."""
 
-    def __init__(self, server: Server, patience: float, keys: Json, revision: int) -> None:
-        """Watches these keys from a revision on. Raises `BusError`."""
+    def __init__(
+        self, server: Server, patience: float, keys: Json, headers: Dict[str, str]
+    ) -> None:
+        """Watches these keys from a revision on, which `keys` has too. Raises `BusError`."""
         self._answers: SimpleQueue[Union[Json, BusError]] = SimpleQueue()
         self._connection = HTTPConnection(*server, timeout=patience)
         try:
@@ -30,8 +32,8 @@ class Watch:
             self._socket: socket.socket = self._connection.sock
             self._socket.settimeout(None)
             give_up_after(self._socket, patience)
-            body = {"create_request": {**keys, "start_revision": str(revision)}}
-            self._connection.request("POST", "/v3/watch", json.dumps(body), _HEADERS)
+            body = {"create_request": keys}
+            self._connection.request("POST", "/v3/watch", json.dumps(body), {**_HEADERS, **headers})
         except (OSError, HTTPException) as error:
             self._connection.close()
             raise BusError(f"{server[0]}:{server[1]}: {error}") from error

@@ -15,7 +15,7 @@ import time
 from contextlib import closing
 from http.client import HTTPConnection
 from pathlib import Path
-from typing import List, Optional
+from typing import Any, Dict, List, Optional
 
 _PATIENCE = 15.0
 #: A program that is started so is ended with the tests, however they end.
@@ -190,9 +190,14 @@ class Etcd(Server):
     def url(self) -> str:
         return f"etcd://127.0.0.1:{self.port}"
 
+    def ask(self, path: str, body: Dict[str, str]) -> Dict[str, Any]:
+        """What it answers to a request."""
+        with closing(HTTPConnection("127.0.0.1", self.port, timeout=_PATIENCE)) as it:
+            it.request("POST", f"/v3/{path}", json.dumps(body))
+            answer: Dict[str, Any] = json.loads(it.getresponse().read())
+        return answer
+
     def leads(self) -> bool:
         """Whether it is the leader of its cluster."""
-        with closing(HTTPConnection("127.0.0.1", self.port, timeout=_PATIENCE)) as it:
-            it.request("POST", "/v3/maintenance/status", "{}")
-            found = json.loads(it.getresponse().read())
+        found = self.ask("maintenance/status", {})
         return bool(found.get("leader") == found["header"]["member_id"])

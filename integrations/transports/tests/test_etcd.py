@@ -10,7 +10,7 @@ from itertools import count
 from typing import Any, ClassVar, Dict, List
 
 from squall import END, FRAME_BYTES, Course, Plan, Router
-from squall_bus import BusError, Node, TooLarge, open_bus
+from squall_bus import BusError, Message, Node, TooLarge, open_bus
 from squall_bus.pieces import ANY, joined
 
 from . import kept
@@ -53,6 +53,42 @@ class Cluster(unittest.TestCase):
         members[1].end()
         with self.assertRaisesRegex(BusError, "no leader"):
             until("a fault", lambda: alone.hear(0.5) is None)
+
+
+@unittest.skipUnless(find("etcd"), "no etcd")
+class Login(unittest.TestCase):
+    """A server that asks who it is."""
+
+    def test_a_login_is_asked_for(self) -> None:
+        server = Etcd()
+        self.addCleanup(server.remove)
+        server.start()
+        until("it leads", server.leads)
+        steps: Dict[str, Dict[str, str]] = {
+            "user/add": {"name": "root", "password": "p w"},
+            "role/add": {"name": "root"},
+            "user/grant": {"user": "root", "role": "root"},
+            "enable": {},
+        }
+        for path, body in steps.items():
+            self.assertNotIn("error", server.ask(f"auth/{path}", body))
+        host = f"127.0.0.1:{server.port}"
+        reader, writer = (open_bus(f"etcd://root:p%20w@{host}") for _ in range(2))
+        for it in (reader, writer):
+            self.addCleanup(it.close)
+            it.connect()
+        self.assertEqual(reader.hear(0.1), [])
+        writer.send(FRAMES[0])
+        until("the reader hears", lambda: reader.hear(0.1) == [Message(FRAMES[0])])
+        with self.assertRaisesRegex(BusError, "authentication failed"):
+            open_bus(f"etcd://root:other@{host}").connect()
+        stranger = open_bus(f"etcd://{host}")
+        self.addCleanup(stranger.close)
+        stranger.connect()
+        with self.assertRaisesRegex(BusError, "user name is empty"):
+            stranger.send(FRAMES[1])
+        with self.assertRaisesRegex(BusError, "user name is empty"):
+            stranger.hear(0.1)
 
 
 @unittest.skipUnless(find("etcd"), "no etcd")
