@@ -7,7 +7,7 @@ import time
 from functools import partial
 from typing import Callable, Optional
 
-from squall import FrameError, Plan, Router
+from squall import FrameError, Plan, Router, TooLongError
 
 from .bus import Bus, BusError, Message, TooLarge
 from .pieces import is_digest
@@ -92,7 +92,9 @@ class Node:
     def _hear(self, seconds: float) -> None:
         if self.bus.loses and time.monotonic() >= self._next:
             self._next = time.monotonic() + self._pace
-            self._fitting(lambda: self.bus.ask(self.router.digest()))
+            digest = self._digest()
+            if digest is not None:
+                self._fitting(partial(self.bus.ask, digest))
         for message in self.bus.hear(seconds):
             self._take(message)
 
@@ -110,7 +112,7 @@ class Node:
 
     def _repair(self, message: Message) -> None:
         """Answers the digest that was heard."""
-        if message.frame == self.router.digest():
+        if message.frame == self._digest():
             self.equal = time.monotonic()
             return
         self.differed = time.monotonic()
@@ -119,6 +121,14 @@ class Node:
             for frame in self.router.repair():
                 self._fitting(partial(self.bus.answer, reply, frame))
                 self.repairs += 1
+
+    def _digest(self) -> Optional[bytes]:
+        """The router's digest, or None if it is longer than a frame may be."""
+        try:
+            return self.router.digest()
+        except TooLongError as error:
+            self._say(str(error))
+            return None
 
     def _fitting(self, act: Callable[[], None]) -> None:
         """Does this, and says if the bus takes no message of this length."""
