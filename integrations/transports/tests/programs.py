@@ -82,7 +82,7 @@ class CourseTest(unittest.TestCase):
     server: Server
     #: How many of a hundred messages the followers miss.
     percent = 0
-    chunks = 12
+    chunks = 20
     pause = 0.06
 
     def start(self, name: str, words: List[str], percent: int) -> Program:

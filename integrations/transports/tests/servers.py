@@ -32,9 +32,11 @@ def free_port() -> int:
 
 
 def find(name: str) -> Optional[str]:
-    """Where the program is, also if it is PostgreSQL's."""
-    folders = sorted(Path("/usr/lib/postgresql").glob("*/bin"), reverse=True)
-    path = os.pathsep.join([os.environ["PATH"], "/usr/sbin", *map(str, folders)])
+    """Where the program is. Those of PostgreSQL are of one version, the newest."""
+    folders = sorted(Path("/usr/lib/postgresql").glob("*/bin/postgres"), reverse=True)
+    path = os.pathsep.join(
+        [*(str(it.parent) for it in folders[:1]), os.environ["PATH"], "/usr/sbin"]
+    )
     return shutil.which(name, path=path)
 
 
