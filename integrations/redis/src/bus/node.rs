@@ -2,6 +2,7 @@
 
 use super::entry::{Entry, Places, Streams};
 use super::outbox;
+use crate::args::{resolve, Args};
 use crate::conn::{Conn, Server};
 use crate::course::Progress;
 use crate::dice::Dice;
@@ -32,6 +33,16 @@ pub struct Options {
     pub plan: Vec<u8>,
     /// Frames that it knows from before.
     pub known: Vec<Vec<u8>>,
+}
+
+impl Options {
+    /// What the words of the command line say of a node of that kind, which knows nothing from before.
+    pub fn of(args: &Args, kind: &'static str) -> Done<Options> {
+        let server =
+            Server { addr: resolve(args.need("bus")?)?, password: args.password("bus-password-file")? };
+        let streams = args.get("streams").unwrap_or("squall").to_string();
+        Ok(Options { server, streams, kind, plan: args.file("first")?, known: Vec::new() })
+    }
 }
 
 /// What a node has counted.

@@ -2,9 +2,8 @@
 
 mod file;
 
-use crate::args::{resolve, Args, Usage};
+use crate::args::{Args, Usage};
 use crate::bus::{Node, Options};
-use crate::conn::Server;
 use crate::fault::Done;
 use file::BoardFile;
 use std::sync::mpsc;
@@ -26,17 +25,11 @@ const AGAIN: Duration = Duration::from_secs(1);
 pub fn run(args: &Args) -> Done<()> {
     let file = BoardFile::new(args.need("board")?);
     let every = Duration::from_millis(args.number("every", 100, 1, 3_600_000)?);
-    let plan = args.file("first")?;
-    let known = file.read(&plan)?;
+    let options = Options::of(args, "node")?;
+    let known = file.read(&options.plan)?;
     // A file that can't be written is noticed at once.
     file.write(&known.concat())?;
-    let node = Node::join(Options {
-        server: Server { addr: resolve(args.need("bus")?)?, password: args.password("bus-password-file")? },
-        streams: args.get("streams").unwrap_or("squall").to_string(),
-        kind: "node",
-        plan,
-        known,
-    })?;
+    let node = Node::join(Options { known, ..options })?;
     let (news, heard) = mpsc::sync_channel(1);
     node.on_news(move || {
         // If one waits already, it is as good.

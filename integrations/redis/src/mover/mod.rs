@@ -108,16 +108,7 @@ impl Mover {
 
     /// Moves all, from wherever an earlier run has stopped.
     fn run(&self, args: &Args) -> Done<()> {
-        let bus = Node::join(Options {
-            server: Server {
-                addr: crate::args::resolve(args.need("bus")?)?,
-                password: args.password("bus-password-file")?,
-            },
-            streams: args.get("streams").unwrap_or("squall").to_string(),
-            kind: "mover",
-            plan: args.file("first")?,
-            known: Vec::new(),
-        })?;
+        let bus = Node::join(Options::of(args, "mover")?)?;
         let progress = Progress::new();
         let job = Job {
             number: self.number,

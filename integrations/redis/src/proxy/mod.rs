@@ -21,9 +21,8 @@ mod task;
 mod upstream;
 mod worker;
 
-use crate::args::{resolve, Args, Usage};
+use crate::args::{Args, Usage};
 use crate::bus::{Node, Options};
-use crate::conn::Server;
 use crate::course::Plan;
 use crate::fault::{Done, Fault, Trying};
 use crate::DEFAULT_SECRET;
@@ -80,13 +79,7 @@ pub fn run(args: &Args) -> Done<()> {
 }
 
 fn share(args: &Args, threads: usize) -> Done<Shared> {
-    let node = Node::join(Options {
-        server: Server { addr: resolve(args.need("bus")?)?, password: args.password("bus-password-file")? },
-        streams: args.get("streams").unwrap_or("squall").to_string(),
-        kind: "proxy",
-        plan: args.file("first")?,
-        known: Vec::new(),
-    })?;
+    let node = Node::join(Options::of(args, "proxy")?)?;
     Ok(Shared {
         node,
         parts: args.parts()?,
