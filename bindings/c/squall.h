@@ -189,6 +189,19 @@ static inline uint64_t squall_rank(uint32_t root, uint32_t second) {
 }
 
 
+/* KEYS OF ROWS */
+
+/* The rank of the key to which a row belongs whose own key is these bytes. All programs of a
+ * deployment have to map a row to the same key, and this is the map. Bytes that begin with two
+ * numbers, as `2:7` or `2:7:cart`, belong to the key of these numbers. A number has 1 to 10 decimal
+ * digits and is at most 4294967295, the first one at most 4294967294. All other bytes belong to the
+ * key of a hash. It is that of the bytes between the first `{` and the next `}` after it, if there
+ * is at least one, or else that of all bytes. So `cart{17}` and `basket{17}` have one key. The answer
+ * is below SQUALL_TOP. No handle is needed, and any number of calls may run at once. Allocates
+ * nothing. */
+uint64_t squall_key_of(const uint8_t *bytes, size_t len);
+
+
 /* ROUTERS */
 
 /* How many bytes the room of a router has. */

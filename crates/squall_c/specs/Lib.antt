@@ -1,5 +1,6 @@
 -- what the clauses here cite of the crates below
 pub use Rattle.squall_key.specs.Keys
+pub use Rattle.squall_keymap.specs.KeyMap
 pub use Rattle.squall_plan.specs.Form
 pub use Rattle.squall_course.specs.Change
 pub use Rattle.squall_report.specs.Facts

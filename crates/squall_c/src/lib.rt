@@ -15,6 +15,7 @@ mod feeding;
 mod frames;
 mod handles;
 mod hearing;
+mod keymap_exports;
 mod legs;
 mod report_exports;
 mod reports;
