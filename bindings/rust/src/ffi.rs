@@ -34,6 +34,7 @@ pub(crate) struct RawCourse {
 pub(crate) const NOWHERE: u32 = u32::MAX;
 
 unsafe extern "C" {
+    pub(crate) fn squall_key_of(bytes: *const u8, len: usize) -> u64;
     pub(crate) safe fn squall_router_size() -> usize;
     pub(crate) fn squall_router_open(
         number: u32,

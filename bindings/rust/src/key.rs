@@ -1,5 +1,6 @@
 //! Keys, bounds and legs.
 
+use crate::ffi;
 use std::fmt;
 
 /// The rank of a key or a bound, which is what keys are ordered by: that of root:second is
@@ -27,6 +28,25 @@ impl fmt::Display for Rank {
             write!(f, "{}:{}", self.0 >> 32, self.0 & 0xffff_ffff)
         }
     }
+}
+
+/// The key to which a row belongs whose own key is these bytes. All programs of a deployment have to map
+/// a row to the same key, and this is the map.
+///
+/// Bytes that begin with two numbers, as `2:7` or `2:7:cart`, belong to the key of these numbers. A
+/// number has 1 to 10 decimal digits and is at most 4294967295, the first one at most 4294967294. All
+/// other bytes belong to the key of a hash. It is that of the bytes between the first `{` and the next
+/// `}` after it, if there is at least one, or else that of all bytes.
+///
+/// ```
+/// use squall::{Rank, key_of};
+///
+/// assert_eq!(key_of(b"2:7:cart"), Rank::new(2, 7));
+/// assert_eq!(key_of(b"cart{17}"), key_of(b"basket{17}"));
+/// ```
+pub fn key_of(row: &[u8]) -> Rank {
+    // SAFETY: the bytes of a slice are readable, and do not change while it is borrowed.
+    Rank(unsafe { ffi::squall_key_of(row.as_ptr(), row.len()) })
 }
 
 /// The keys from `lo` on, below `hi`, are to be asked for at the partition.

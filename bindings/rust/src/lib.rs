@@ -60,7 +60,7 @@ mod view;
 pub use course::{Course, Move, Place};
 pub use errand::{Errand, Next, Reply};
 pub use error::{Error, FrameFault, PlanFault};
-pub use key::{Leg, Rank};
+pub use key::{Leg, Rank, key_of};
 pub use router::{Frames, Router};
 pub use told::{Counts, Span};
 pub use view::View;

@@ -2,6 +2,7 @@
 
 use squall::{
     Course, Error, FrameFault, Leg, Move, Next, Place, PlanFault, Rank, Reply, Router, View, frame,
+    key_of,
 };
 use std::io;
 use std::sync::Mutex;
@@ -40,6 +41,22 @@ fn the_worked_scenario() -> Result<(), Error> {
 #[test]
 fn the_library_has_the_version_of_the_crate() {
     assert_eq!(squall::version(), env!("CARGO_PKG_VERSION"));
+}
+
+#[test]
+fn rows_have_the_keys_of_the_vectors() {
+    let bytes = |hex: &str| -> Vec<u8> {
+        let digits = hex.trim_start_matches('-');
+        let byte = |at| u8::from_str_radix(&digits[at..at + 2], 16).unwrap();
+        (0..digits.len()).step_by(2).map(byte).collect()
+    };
+    let vectors = include_str!("../../../integrations/keymap.txt");
+    let lines: Vec<&str> = vectors.lines().filter(|it| !it.starts_with('#')).collect();
+    assert!(lines.len() >= 50);
+    for line in lines {
+        let words: Vec<&str> = line.split_whitespace().collect();
+        assert_eq!(key_of(&bytes(words[0])).to_string(), words[1], "{line}");
+    }
 }
 
 #[test]
