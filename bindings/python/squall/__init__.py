@@ -38,7 +38,7 @@ from .errors import (
     StreamError,
     TooLongError,
 )
-from .keys import END, NOWHERE, Leg, Rank
+from .keys import END, NOWHERE, Leg, Rank, key_of
 from .plan import Plan
 from .router import FRAME_BYTES, Router
 from .view import View
@@ -73,5 +73,6 @@ __all__ = [
     "View",
     "__version__",
     "frame",
+    "key_of",
     "version",
 ]

@@ -76,6 +76,10 @@ def _slow(name: str, answer: Any, *takes: Any) -> Any:
     return _bind(_long, name, answer, takes)
 
 
+# Keys of rows.
+
+key_of: Callable[[Bytes, int], int] = _quick("key_of", _U64, _ADDRESS, _SIZE)
+
 # Routers.
 
 router_size: Callable[[], int] = _quick("router_size", _SIZE)

@@ -4,9 +4,15 @@ from __future__ import annotations
 
 import operator
 import re
-from typing import NamedTuple, Tuple
+from typing import TYPE_CHECKING, NamedTuple, Tuple
 
+from . import _library as lib
+from ._buffers import Lent
+from ._fork import REFUSED, refuse
 from .errors import NumberError
+
+if TYPE_CHECKING:
+    from _typeshed import ReadableBuffer
 
 _WORD = 0xFFFFFFFF
 _RANK = 0xFFFFFFFFFFFFFFFF
@@ -95,6 +101,29 @@ END = Rank(0xFFFFFFFF, 0)
 
 #: No partition: what `View.routes` writes for a rank that is no key's.
 NOWHERE = 0xFFFFFFFF
+
+
+def key_of(row: ReadableBuffer) -> Rank:
+    """The key to which a row belongs whose own key is these bytes.
+
+    All programs of a deployment have to map a row to the same key, and this is the map. Bytes that
+    begin with two numbers, as `2:7` or `2:7:cart`, belong to the key of these numbers. A number has
+    1 to 10 decimal digits and is at most 4294967295, the first one at most 4294967294. All other
+    bytes belong to the key of a hash. It is that of the bytes between the first `{` and the next
+    `}` after it, if there is at least one, or else that of all bytes.
+
+    >>> key_of(b"2:7:cart")
+    Rank(2, 7)
+    >>> key_of(b"cart{17}") == key_of(b"basket{17}")
+    True
+
+    Raises `TypeError` if the object has no bytes, as a `str`, and `BufferError` or `ValueError` if
+    they do not follow each other in memory.
+    """
+    if REFUSED:
+        refuse()
+    with Lent(row) as lent:
+        return Rank.of(lib.key_of(lent.at, lent.size))
 
 
 class Leg(NamedTuple):

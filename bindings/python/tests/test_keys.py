@@ -3,8 +3,11 @@
 import copy
 import pickle
 import unittest
+from pathlib import Path
 
-from squall import END, Leg, NumberError, Rank
+from squall import END, Leg, NumberError, Rank, key_of
+
+VECTORS = Path(__file__).resolve().parents[3] / "integrations" / "keymap.txt"
 
 
 class Ranks(unittest.TestCase):
@@ -65,6 +68,28 @@ class Ranks(unittest.TestCase):
         leg = Leg(Rank(5, 0), END, 2)
         self.assertEqual(leg, (Rank(5, 0), END, 2))
         self.assertEqual(str(leg), "[5:0,end) 2")
+
+
+class Rows(unittest.TestCase):
+    """The function `key_of`."""
+
+    def test_vectors(self) -> None:
+        lines = [it for it in VECTORS.read_text("utf-8").splitlines() if it[0] != "#"]
+        self.assertGreaterEqual(len(lines), 50)
+        for line in lines:
+            digits, key = line.split()[:2]
+            row = bytes.fromhex(digits.lstrip("-"))
+            with self.subTest(row=row):
+                self.assertEqual(str(key_of(row)), key)
+                self.assertEqual(key_of(bytearray(row)), key_of(memoryview(row)))
+                self.assertIs(type(key_of(row)), Rank)
+
+    def test_what_has_no_bytes(self) -> None:
+        for row in ["2:7", 7, None]:
+            with self.subTest(row=row), self.assertRaises(TypeError):
+                key_of(row)  # type: ignore[arg-type]
+        with self.assertRaises((BufferError, ValueError)):
+            key_of(memoryview(b"2:7:cart")[::2])
 
 
 if __name__ == "__main__":
