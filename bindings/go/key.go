@@ -31,6 +31,18 @@ func (r Rank) String() string {
 	return fmt.Sprintf("%d:%d", uint64(r)>>32, uint32(r))
 }
 
+// KeyOf is the key to which a row belongs whose own key is these bytes. All programs of a deployment have to
+// map a row to the same key, and this is the map.
+//
+// Bytes that begin with two numbers, as 2:7 or 2:7:cart, belong to the key of these numbers. A number has 1
+// to 10 decimal digits and is at most 4294967295, the first one at most 4294967294. All other bytes belong to
+// the key of a hash. It is that of the bytes between the first { and the next } after it, if there is at
+// least one, or else that of all bytes.
+func KeyOf(row []byte) Rank {
+	at, count := bytesOf(row)
+	return Rank(C.squall_key_of(at, count))
+}
+
 // Leg says that the keys from Lo on, below Hi, are to be asked for at Part. Neighbouring legs have
 // different partitions.
 type Leg struct {
