@@ -3,57 +3,17 @@
 
 use squall::Rank;
 
-/// The rank of the key to which a Redis key belongs.
+/// The rank of the key to which a Redis key belongs, as the library maps it.
 ///
 /// `r:s` and `r:s:anything` belong to the key r:s. Every other one belongs to the key of its hash.
 /// If it has a tag, as `cart{17}`, only the tag is hashed.
 pub fn rank(key: &[u8]) -> Rank {
-    pair(key).unwrap_or_else(|| hashed(tag(key).unwrap_or(key)))
+    squall::key_of(key)
 }
 
 /// Sixteen hexadecimal digits. Their order as texts is the order of the ranks.
 pub fn hex(rank: Rank) -> String {
     format!("{:016x}", rank.0)
-}
-
-fn pair(key: &[u8]) -> Option<Rank> {
-    let mut words = key.splitn(3, |&byte| byte == b':');
-    let root = number(words.next()?)?;
-    let second = number(words.next()?)?;
-    (root != u32::MAX).then_some(Rank::new(root, second))
-}
-
-/// A number of 1 to 10 decimal digits, below 2^32.
-fn number(word: &[u8]) -> Option<u32> {
-    if word.is_empty() || word.len() > 10 {
-        return None;
-    }
-    let mut number = 0_u64;
-    for &byte in word {
-        if !byte.is_ascii_digit() {
-            return None;
-        }
-        number = number * 10 + u64::from(byte - b'0');
-    }
-    u32::try_from(number).ok()
-}
-
-/// What is between the first `{` and the next `}`, if it is not empty.
-fn tag(key: &[u8]) -> Option<&[u8]> {
-    let from = key.iter().position(|&byte| byte == b'{')? + 1;
-    let len = key[from..].iter().position(|&byte| byte == b'}')?;
-    (len > 0).then(|| &key[from..from + len])
-}
-
-/// FNV-1a of 64 bits, mixed, and scaled below the end of all keys.
-fn hashed(bytes: &[u8]) -> Rank {
-    let mut hash = bytes.iter().fold(0xcbf2_9ce4_8422_2325_u64, |hash, &byte| {
-        (hash ^ u64::from(byte)).wrapping_mul(0x0100_0000_01b3)
-    });
-    hash ^= hash >> 32;
-    hash = hash.wrapping_mul(0x9e37_79b9_7f4a_7c15);
-    hash ^= hash >> 29;
-    Rank(((u128::from(hash) * u128::from(Rank::END.0)) >> 64) as u64)
 }
 
 #[cfg(test)]
