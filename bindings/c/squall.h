@@ -22,11 +22,18 @@
  *    Between the two the host neither reads nor writes nor copies nor moves the room: its address is
  *    a handle, which it passes to functions of this header that take one of that kind, and to
  *    nothing else. After the close the room is plain memory again, and may be opened again.
- * 3. One call at a time. Each handle serves one call at a time, also where the call only reads and
- *    its pointer is to const. Calls with different handles may run at the same time, also with views
- *    or courses that were made from one another.
- * 4. Threads. A handle may pass from one thread to another where a lock, the start or the join of a
- *    thread, or a sequentially consistent atomic orders the calls. No function starts a thread,
+ * 3. One call at a time. Each handle serves one call at a time, also if the call only reads and its
+ *    pointer is to const. Views are the exception, for the calls that only read them:
+ *    squall_view_status, _route, _routes, _locate, _legs and _number, and squall_errand_start_at. Any
+ *    number of these may run at once with one view, and no other call with it meanwhile. Calls with
+ *    different handles may run at the same time, also with views or courses that were made from one
+ *    another.
+ *    What the contracts promise rests on one call at a time. That the exception changes nothing of it is
+ *    trusted and not proved, for this reason: these calls take the view by a shared borrow and change no
+ *    count of owners, and nothing else in a view can change behind a shared borrow.
+ * 4. Threads. A handle may pass from one thread to another if a lock, the start or the join of a
+ *    thread, or a sequentially consistent atomic orders the calls. The same orders the opening of a
+ *    view before the calls that share it, and those before its close. No function starts a thread,
  *    takes a lock or waits.
  * 5. Bytes. A pointer and a length name that many bytes, which are readable and do not change while
  *    the call runs. The pointer is not null, even for length 0.

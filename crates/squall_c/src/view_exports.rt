@@ -1,5 +1,5 @@
 //! Views as C calls them: what a router answered at one moment. All views of a moment share one
-//! table, and each reading thread has a view of its own.
+//! table. Reading threads share a view, or each has one of its own.
 
 ghost use Rattle.std.specs.Prelude.{◌≡◌, length};
 ghost use Rattle.std.specs.Borrow.{sem};
