@@ -30,12 +30,17 @@
 //!
 //! # Threads
 //!
-//! Each handle serves one call at a time, so all of them are `Send` and none is `Sync`. Threads that
-//! route at the same time have a clone of a [`View`] each, which costs no copy of its table:
+//! A [`Router`], a [`Course`] and an [`Errand`] serve one call at a time: they are `Send` and not `Sync`.
+//! A [`View`] is both. So threads that route at the same time share one, and wait for nothing:
+//!
+//! ```
+//! fn shared_by_threads<T: Send + Sync>() {}
+//! shared_by_threads::<squall::View>();
+//! ```
 //!
 //! ```compile_fail
-//! fn shared_by_threads<T: Sync>() {}
-//! shared_by_threads::<squall::View>();
+//! fn shared_by_threads<T: Send + Sync>() {}
+//! shared_by_threads::<squall::Router>();
 //! ```
 //!
 //! # Memory

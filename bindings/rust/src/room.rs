@@ -67,7 +67,8 @@ struct Block([MaybeUninit<u8>; 16]);
 
 /// A room in which something was opened. It is closed when the room is dropped.
 ///
-/// It is not `Sync`, since each handle serves one call at a time.
+/// It is not `Sync`, since a handle serves one call at a time. Only calls that read a view may share one,
+/// which is why a `View` is `Sync`.
 pub(crate) struct Room<H: Handle> {
     at: NonNull<H>,
     blocks: usize,

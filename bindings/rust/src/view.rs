@@ -7,13 +7,23 @@ use crate::ffi::{self, RawView};
 use crate::key::{Leg, Rank, all_legs};
 use crate::room::Room;
 use std::ops::Range;
+use std::sync::{Mutex, PoisonError};
 
 /// What a router said at one moment. It stays as it is, whatever the router takes later.
 ///
-/// A clone shares the table, so that each of many reading threads can have one of its own.
+/// Any number of threads may route by one view at once, by `&View` or an `Arc`. They share nothing that
+/// a call changes, so no call waits for another one. A clone shares the table, and is dropped by itself.
 pub struct View {
+    /// What the calls ask that only read a view.
     pub(crate) room: Room<RawView>,
+    /// One more view of the same, from which clones are made: that call needs a view alone.
+    spare: Mutex<Room<RawView>>,
 }
+
+// SAFETY: by rule 3 of the header any number of the calls that only read a view may run at once with
+// one. With `room` no other call is made by a shared borrow. `spare` is behind a lock, and both are
+// closed when the view is dropped, so that nobody borrows it.
+unsafe impl Sync for View {}
 
 impl View {
     /// No partition: what [`View::routes`] writes for a rank that is no key's.
@@ -26,10 +36,26 @@ impl View {
     /// As for [`Room::new`].
     pub(crate) unsafe fn open(open: impl FnOnce(*mut RawView)) -> Result<View, Error> {
         // SAFETY: the caller keeps it.
+        let room = unsafe { View::checked(open) }?;
+        // SAFETY: the view was opened, and nobody else has it yet.
+        let spare = unsafe { View::checked(|spare| ffi::squall_view_again(room.get(), spare)) }?;
+        Ok(View {
+            room,
+            spare: Mutex::new(spare),
+        })
+    }
+
+    /// The room of the view that `open` opens.
+    ///
+    /// # Safety
+    ///
+    /// As for [`Room::new`].
+    unsafe fn checked(open: impl FnOnce(*mut RawView)) -> Result<Room<RawView>, Error> {
+        // SAFETY: the caller keeps it.
         let room = unsafe { Room::new(open) };
         // SAFETY: the view was opened.
         Error::check(unsafe { ffi::squall_view_status(room.get()) }, u64::MAX)?;
-        Ok(View { room })
+        Ok(room)
     }
 
     /// The partition to ask for the key of that rank; none where the rank is no key's.
@@ -109,8 +135,10 @@ impl View {
 /// One more view of the same. No table is copied.
 impl Clone for View {
     fn clone(&self) -> View {
-        // SAFETY: the view was opened.
-        let again = unsafe { View::open(|room| ffi::squall_view_again(self.room.get(), room)) };
+        // A call with the spare one does not panic, so a lock that is poisoned says nothing of it.
+        let spare = self.spare.lock().unwrap_or_else(PoisonError::into_inner);
+        // SAFETY: the view was opened, and the lock keeps other calls from it.
+        let again = unsafe { View::open(|room| ffi::squall_view_again(spare.get(), room)) };
         // The status of a view that stands is passed on; no memory is asked for.
         again.expect("more views of one table than can be counted")
     }

@@ -43,6 +43,55 @@ fn the_library_has_the_version_of_the_crate() {
     assert_eq!(squall::version(), env!("CARGO_PKG_VERSION"));
 }
 
+/// All that a view says of twelve keys.
+#[derive(Debug, PartialEq)]
+struct Said {
+    number: u32,
+    alone: Vec<Option<u32>>,
+    parts: [u32; 12],
+    places: [Place; 12],
+    asked: Vec<u32>,
+    legs: Vec<Leg>,
+}
+
+fn said_by(view: &View) -> Said {
+    let keys: Vec<Rank> = (0..12).map(key).collect();
+    let mut parts = [0; 12];
+    let mut places = [Place::NO_KEY; 12];
+    assert_eq!(view.routes(&keys, &mut parts), 12);
+    assert_eq!(view.locate(&keys, &mut places), 12);
+    let errand = |it: &Rank| view.errand(*it).unwrap();
+    Said {
+        number: view.number(),
+        alone: keys.iter().map(|it| view.route(*it)).collect(),
+        parts,
+        places,
+        asked: keys.iter().map(|it| errand(it).asked()).collect(),
+        legs: view.legs(Rank(0)..Rank::END),
+    }
+}
+
+#[test]
+fn eight_threads_share_a_view() -> Result<(), Error> {
+    let mut router = fresh();
+    router.loaded(1, 0, 3, key(2)..key(3))?;
+    let view = router.view()?;
+    drop(router);
+    let wanted = said_by(&view);
+    assert_eq!(view.route(key(2)), Some(3));
+    thread::scope(|scope| {
+        for _ in 0..8 {
+            scope.spawn(|| {
+                for _ in 0..50 {
+                    assert_eq!(said_by(&view), wanted);
+                    assert_eq!(said_by(&view.clone()), wanted);
+                }
+            });
+        }
+    });
+    Ok(())
+}
+
 #[test]
 fn rows_have_the_keys_of_the_vectors() {
     let bytes = |hex: &str| -> Vec<u8> {
