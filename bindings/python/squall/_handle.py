@@ -19,7 +19,7 @@ class Handle:
     """Something that was opened in a room, with a lock: the library serves one call at a time.
 
     The lock lets in a signal handler of the thread that has it. That is no call at the same time:
-    Python runs handlers before or after a call of C.
+    Python runs handlers before or after a call of C. Calls that only read a view need no lock.
     """
 
     __slots__ = ("_room", "_lock", "__weakref__")
@@ -50,13 +50,22 @@ class Handle:
 
     def _ask_for(self, handle: Type[H], call: Callable[..., None], *args: object) -> H:
         """A handle of this type, which the call opens by what was opened here."""
-        made = handle.__new__(handle)
-        room = handle._kind.make()
-        self._ask(call, *args, room)
+        return handle._opened(lambda room: self._ask(call, *args, room))
+
+    @classmethod
+    def _opened(cls: Type[H], opens: Callable[[Any], None]) -> H:
+        """A handle of a room in which something is opened."""
+        made = cls.__new__(cls)
+        room = cls._kind.make()
+        opens(room)
         room.is_open = True
-        check(handle._call_status(room))
+        check(cls._call_status(room))
         made._room = room
+        made._prepare()
         return made
+
+    def _prepare(self) -> None:
+        """Does what is left to do once it was opened, while no other thread has it."""
 
     @property
     def closed(self) -> bool:

@@ -3,18 +3,24 @@
 from __future__ import annotations
 
 from array import array
+from functools import partial
 from sys import byteorder
-from typing import TYPE_CHECKING, Callable, List, Optional
+from typing import TYPE_CHECKING, Callable, List, Optional, TypeVar
 
 from . import _library as lib
 from ._buffers import numbers
+from ._fork import REFUSED, refuse
 from ._room import PlaceRecord, ViewRoom
 from ._routes import Routes
+from ._status import check
 from .course import Place, places_of
+from .errors import ClosedError
 from .keys import rank
 
 if TYPE_CHECKING:
     from ._buffers import ReadableArray, WritableArray
+
+T = TypeVar("T")
 
 #: How many keys are routed in one call. What a batch needs beside its answers stays small.
 _AT_ONCE = 1 << 16
@@ -23,11 +29,14 @@ _AT_ONCE = 1 << 16
 class View(Routes):
     """What a router said at one moment. It stays the same, whatever the router takes later.
 
-    `Router.view` opens one. Threads may share a view, but its calls wait for each other. So give
-    each thread a `clone` of its own.
+    `Router.view` opens one. Threads may share a view: its calls do not wait for each other.
     """
 
-    __slots__ = ()
+    # A view that only `clone` calls, with the lock: that call needs a view alone. All other calls
+    # only read the room, and any number of them may do so at once.
+    __slots__ = ("_spare",)
+
+    _spare: Optional[ViewRoom]
 
     _kind = ViewRoom
     _call_status = lib.view_status
@@ -36,15 +45,51 @@ class View(Routes):
     _call_number = lib.view_number
     _call_errand = lib.errand_start_at
 
+    def __new__(cls, *_args: object, **_names: object) -> View:
+        self = super().__new__(cls)
+        self._spare = None
+        return self
+
     def __init__(self) -> None:
         raise TypeError("Router.view opens views")
 
+    def _prepare(self) -> None:
+        spare = ViewRoom.make()
+        self._ask(lib.view_again, spare)
+        spare.is_open = True
+        check(lib.view_status(spare))
+        self._spare = spare
+
+    def _ask(self, call: Callable[..., T], *args: object) -> T:
+        """What a call answers that only reads. It keeps the room, also if `close` is called."""
+        if REFUSED:
+            refuse()
+        room = self._room
+        if room is None:
+            raise ClosedError("this View is closed")
+        return call(room, *args)
+
     def clone(self) -> View:
-        """One more view of the same, for one more thread. No table is copied.
+        """One more view of the same, which is closed by itself. No table is copied.
 
         Raises `NoMemory` if a table has more views than can be counted, and `ClosedError`.
         """
-        return self._ask_for(View, lib.view_again)
+        if REFUSED:
+            refuse()
+        with self._lock:
+            spare = self._spare
+            if spare is None:
+                raise ClosedError("this View is closed")
+            return View._opened(partial(lib.view_again, spare))
+
+    def close(self) -> None:
+        """Frees the memory, once the calls of other threads that run have returned.
+
+        Each later call but `close` and `closed` raises `ClosedError`. To close it twice is no
+        error. What is not closed is closed by the garbage collector.
+        """
+        super().close()
+        self._spare = None
 
     def routes(self, keys: ReadableArray) -> array[int]:
         """The partitions to ask for many keys: an array of as many unsigned 32-bit numbers.

@@ -134,6 +134,67 @@ class Shared(unittest.TestCase):
         self.assertEqual(errand.asked, 1)
 
 
+class SharedViews(unittest.TestCase):
+    """One view and several threads: its calls do not wait for each other."""
+
+    def test_eight_threads_share_a_view(self) -> None:
+        router = Router(1, wide_plan(400, 0), wide_plan(400, 1))
+        router.loaded(1, 0, 1, key(0), key(1))
+        view = router.view()
+        router.close()
+        keys = array("Q", range(0, 400 << 32, 1 << 31))
+
+        def said() -> List[object]:
+            alone = [(view.route(it), view.place(it), view.errand(it).asked) for it in keys[:20]]
+            return [alone, view.routes(keys), view.locate(keys), view.legs(0, END), view.number]
+
+        wanted = said()
+        self.assertEqual(view.route(key(0)), 1)
+
+        def read() -> None:
+            for _ in range(5):
+                self.assertEqual(said(), wanted)
+                self.assertEqual(view.clone().routes(keys), wanted[1])
+
+        together(*[read] * 8)
+
+    def test_calls_run_at_the_same_time(self) -> None:
+        view = fresh().view()
+        both = threading.Barrier(2)
+        call = lib.view_routes
+
+        def waiting(*words: Any) -> int:
+            both.wait(60)
+            answer: int = call(*words)
+            return answer
+
+        keys = array("Q", [key(2), END])
+        with mock.patch.object(lib, "view_routes", waiting):
+            together(*[lambda: self.assertEqual(view.routes(keys)[0], 1)] * 2)
+
+    def test_closing_while_a_call_runs(self) -> None:
+        view = fresh().view()
+        begun, closed = threading.Event(), threading.Event()
+        call = lib.view_routes
+
+        def waiting(*words: Any) -> int:
+            begun.set()
+            closed.wait(60)
+            answer: int = call(*words)
+            return answer
+
+        def close() -> None:
+            begun.wait(60)
+            view.close()
+            closed.set()
+
+        with mock.patch.object(lib, "view_routes", waiting):
+            together(lambda: self.assertEqual(view.routes(array("Q", [key(2)]))[0], 1), close)
+        for asked in (lambda: view.route(0), view.clone):
+            with self.assertRaises(ClosedError):
+                asked()
+
+
 class Readers(unittest.TestCase):
     """A view for each thread."""
 
