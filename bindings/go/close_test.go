@@ -41,10 +41,7 @@ func TestAViewThatIsClosed(t *testing.T) {
 	succeeds(t, closed.Close())
 	succeeds(t, closed.Close())
 	for _, view := range []*squall.View{closed, nil, new(squall.View)} {
-		// Twice, since a view keeps a hint which handle was used last.
-		for i := 0; i < 2; i++ {
-			routes(t, view, squall.Key(2, 0), squall.Nowhere)
-		}
+		routes(t, view, squall.Key(2, 0), squall.Nowhere)
 		parts := []squall.Part{7}
 		equals(t, view.Routes([]squall.Rank{0}, parts), 0)
 		equals(t, parts, []squall.Part{7})

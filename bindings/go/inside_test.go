@@ -3,6 +3,7 @@ package squall
 import (
 	"os"
 	"testing"
+	"time"
 )
 
 func exampleView(t *testing.T) *View {
@@ -23,34 +24,33 @@ func exampleView(t *testing.T) *View {
 	return view
 }
 
-// A call never uses a handle that another one has taken, also if that is the one it has last seen.
-func TestHandlesThatAreTaken(t *testing.T) {
+// Calls that read do not wait for each other, and Close waits for all of them.
+func TestCloseWaitsForCallsThatRead(t *testing.T) {
 	view := exampleView(t)
-	defer view.Close()
-	var taken []*handle
-	for count := 1; count <= 5; count++ {
-		h := view.take()
-		view.last.Put(h)
-		for _, it := range taken {
-			if it == h {
-				t.Error("a handle was taken twice")
-			}
-		}
-		if taken = append(taken, h); len(view.handles) != count {
-			t.Errorf("%d handles for %d calls", len(view.handles), count)
+	for n := 0; n < 5; n++ {
+		if view.read() == nil {
+			t.Fatal("the view is closed")
 		}
 	}
 	if part, ok := view.Route(Key(3, 0)); part != 2 || !ok {
 		t.Error(part, ok)
 	}
-	for _, it := range taken {
-		view.give(it)
+	closed := make(chan struct{})
+	go func() {
+		view.Close()
+		close(closed)
+	}()
+	for n := 0; n < 5; n++ {
+		select {
+		case <-closed:
+			t.Fatal("the view was closed while a call read it")
+		case <-time.After(10 * time.Millisecond):
+		}
+		view.done()
 	}
-	for n := 0; n < 100; n++ {
-		view.Route(0)
-	}
-	if len(view.handles) != 6 {
-		t.Errorf("%d handles for 6 calls", len(view.handles))
+	<-closed
+	if view.read() != nil {
+		t.Error("a closed view is read")
 	}
 }
 

@@ -37,26 +37,26 @@ func (v *View) Locate(keys []Rank, places []Place) int {
 	if len(keys) == 0 || len(places) == 0 {
 		return 0
 	}
-	h := v.take()
-	if h == nil {
+	at := v.read()
+	if at == nil {
 		return 0
 	}
 	// The fields of a Place are those of a squall_place.
 	ranks, out := (*C.uint64_t)(unsafe.Pointer(&keys[0])), (*C.squall_place)(unsafe.Pointer(&places[0]))
-	count := C.squall_view_locate(h.at, ranks, C.size_t(len(keys)), out, C.size_t(len(places)))
-	v.give(h)
+	count := C.squall_view_locate(at, ranks, C.size_t(len(keys)), out, C.size_t(len(places)))
+	v.done()
 	return int(count)
 }
 
 // Place is where one key is. Its partitions are [Nowhere], its Sub is [NoSub], and the second result is
 // false, if the rank is no key's, or if the view is closed.
 func (v *View) Place(key Rank) (Place, bool) {
-	h := v.take()
-	if h == nil {
+	at := v.read()
+	if at == nil {
 		return noPlace, false
 	}
-	it := C.place_of(h.at, C.uint64_t(key))
-	v.give(h)
+	it := C.place_of(at, C.uint64_t(key))
+	v.done()
 	place := Place{Part(it.part), Part(it.source), Part(it.dest), uint32(it.sub)}
 	return place, place != noPlace
 }

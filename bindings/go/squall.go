@@ -24,8 +24,8 @@
 // # Goroutines
 //
 // Any number of goroutines may use one router, view, errand or course. Calls of one router, of one errand
-// or of one course wait for each other. Those of a view do not: it has several handles of one table, and
-// each call takes one that is free.
+// or of one course wait for each other. Those of a view do not: they only read it, and any number of them
+// may do so at once.
 //
 // # Closing
 //

@@ -13,23 +13,16 @@ import (
 // after the router was closed. Any number of goroutines may route by one view, and do not wait for each
 // other.
 type View struct {
-	// Each handle of the library serves one call at a time. So a view has several handles, which share
-	// one table. A call takes one that is free, and opens one more if there is none, which copies no
-	// table. Close can reach them all. A route from eight goroutines on four processors takes 70 ns so.
-	// By one handle behind a lock it took 170 ns, and by a sync.Pool of handles 90.
-	mu      sync.Mutex
-	first   *C.squall_view // the handle from which others are opened; nil once the view is closed
-	handles []*handle      // those that calls take
-	last    sync.Pool      // handles that calls of this processor have given back, as a hint
-}
-
-// handle is one handle of a view's table.
-type handle struct {
-	mu sync.Mutex
+	// The calls that only read a view of the library may run at once with one. They hold the lock for
+	// reading, which only keeps Close from them.
+	mu sync.RWMutex
 	at *C.squall_view // nil once the view is closed
+	// One more view of the same, from which others are opened: that call needs a view alone.
+	cloning sync.Mutex
+	spare   *C.squall_view
 }
 
-// openHandle opens a handle of a view in a room of its own.
+// openHandle opens a view of the library in a room of its own.
 func openHandle(open func(room *C.squall_view)) (*C.squall_view, error) {
 	room := (*C.squall_view)(C.calloc(1, C.squall_view_size()))
 	if room == nil {
@@ -48,68 +41,39 @@ func closeHandle(at *C.squall_view) {
 	C.free(unsafe.Pointer(at))
 }
 
-// openView opens a view with one handle for calls, so that there always is one.
+// openView opens a view and its spare one.
 func openView(open func(room *C.squall_view)) (*View, error) {
-	first, err := openHandle(open)
+	at, err := openHandle(open)
 	if err != nil {
 		return nil, err
 	}
-	view := &View{first: first}
-	if err := view.add(); err != nil {
-		closeHandle(first)
+	spare, err := openHandle(func(room *C.squall_view) { C.squall_view_again(at, room) })
+	if err != nil {
+		closeHandle(at)
 		return nil, err
 	}
+	view := &View{at: at, spare: spare}
 	runtime.SetFinalizer(view, (*View).Close)
 	return view, nil
 }
 
-// add opens one more handle. The view is locked, or nobody else has it yet.
-func (v *View) add() error {
-	at, err := openHandle(func(room *C.squall_view) { C.squall_view_again(v.first, room) })
-	if err == nil {
-		v.handles = append(v.handles, &handle{at: at})
-	}
-	return err
-}
-
-// take locks a handle that is free. It is nil if the view is closed.
-func (v *View) take() *handle {
+// read gives what a call reads, and keeps Close from it until done. It is nil if the view is closed, and
+// then there is nothing to be done.
+func (v *View) read() *C.squall_view {
 	if v == nil {
 		return nil
 	}
-	h, _ := v.last.Get().(*handle)
-	if h == nil || !h.mu.TryLock() {
-		return v.search()
-	}
-	if h.at == nil {
-		h.mu.Unlock()
+	v.mu.RLock()
+	if v.at == nil {
+		v.mu.RUnlock()
 		return nil
 	}
-	return h
+	return v.at
 }
 
-// search locks a handle that is free, or a new one, or waits for one if there is no memory.
-func (v *View) search() *handle {
-	v.mu.Lock()
-	defer v.mu.Unlock()
-	if v.first == nil {
-		return nil
-	}
-	for _, h := range v.handles {
-		if h.mu.TryLock() {
-			return h
-		}
-	}
-	_ = v.add()
-	h := v.handles[len(v.handles)-1]
-	h.mu.Lock()
-	return h
-}
-
-// give unlocks a handle that was taken.
-func (v *View) give(h *handle) {
-	h.mu.Unlock()
-	v.last.Put(h)
+// done says that a call has read.
+func (v *View) done() {
+	v.mu.RUnlock()
 }
 
 // Close closes the view, once the calls that run have returned. The table is freed with the last view
@@ -118,19 +82,16 @@ func (v *View) Close() error {
 	if v == nil {
 		return nil
 	}
+	v.cloning.Lock()
+	defer v.cloning.Unlock()
 	v.mu.Lock()
 	defer v.mu.Unlock()
-	if v.first == nil {
+	if v.at == nil {
 		return nil
 	}
-	for _, h := range v.handles {
-		h.mu.Lock()
-		closeHandle(h.at)
-		h.at = nil
-		h.mu.Unlock()
-	}
-	closeHandle(v.first)
-	v.first, v.handles = nil, nil
+	closeHandle(v.at)
+	closeHandle(v.spare)
+	v.at, v.spare = nil, nil
 	runtime.SetFinalizer(v, nil)
 	return nil
 }
@@ -142,23 +103,23 @@ func (v *View) Clone() (*View, error) {
 	if v == nil {
 		return nil, ErrClosed
 	}
-	v.mu.Lock()
-	defer v.mu.Unlock()
-	if v.first == nil {
+	v.cloning.Lock()
+	defer v.cloning.Unlock()
+	if v.spare == nil {
 		return nil, ErrClosed
 	}
-	return openView(func(room *C.squall_view) { C.squall_view_again(v.first, room) })
+	return openView(func(room *C.squall_view) { C.squall_view_again(v.spare, room) })
 }
 
 // Route is the partition to ask for the key. It is [Nowhere] and false if the rank is no key's, or if
 // the view is closed.
 func (v *View) Route(key Rank) (Part, bool) {
-	h := v.take()
-	if h == nil {
+	at := v.read()
+	if at == nil {
 		return Nowhere, false
 	}
-	part := Part(C.squall_view_route(h.at, C.uint64_t(key)))
-	v.give(h)
+	part := Part(C.squall_view_route(at, C.uint64_t(key)))
+	v.done()
 	return part, part != Nowhere
 }
 
@@ -169,47 +130,47 @@ func (v *View) Routes(keys []Rank, parts []Part) int {
 	if len(keys) == 0 || len(parts) == 0 {
 		return 0
 	}
-	h := v.take()
-	if h == nil {
+	at := v.read()
+	if at == nil {
 		return 0
 	}
 	ranks, out := (*C.uint64_t)(unsafe.Pointer(&keys[0])), (*C.uint32_t)(unsafe.Pointer(&parts[0]))
-	count := C.squall_view_routes(h.at, ranks, C.size_t(len(keys)), out, C.size_t(len(parts)))
-	v.give(h)
+	count := C.squall_view_routes(at, ranks, C.size_t(len(keys)), out, C.size_t(len(parts)))
+	v.done()
 	return int(count)
 }
 
 // Legs are the legs of the keys from lo on, below hi, by rising key. There are none if there are no
 // keys, if a rank is above [End], or if the view is closed.
 func (v *View) Legs(lo, hi Rank) []Leg {
-	h := v.take()
-	if h == nil {
+	at := v.read()
+	if at == nil {
 		return nil
 	}
-	defer v.give(h)
+	defer v.done()
 	return allLegs(lo, hi, func(lo Rank, out *C.squall_leg) C.size_t {
-		return C.squall_view_legs(h.at, C.uint64_t(lo), C.uint64_t(hi), out, atOnce)
+		return C.squall_view_legs(at, C.uint64_t(lo), C.uint64_t(hi), out, atOnce)
 	})
 }
 
 // Number is the number of the course by which routes are. It is 0 if the view is closed.
 func (v *View) Number() uint32 {
-	h := v.take()
-	if h == nil {
+	at := v.read()
+	if at == nil {
 		return 0
 	}
-	defer v.give(h)
-	return uint32(C.squall_view_number(h.at))
+	defer v.done()
+	return uint32(C.squall_view_number(at))
 }
 
 // Errand opens an errand for the key, which begins at the partition to which the view routes it.
 //
 // Errors: [ErrLimit] if the rank is no key's; [ErrNoMemory]; [ErrClosed].
 func (v *View) Errand(key Rank) (*Errand, error) {
-	h := v.take()
-	if h == nil {
+	at := v.read()
+	if at == nil {
 		return nil, ErrClosed
 	}
-	defer v.give(h)
-	return newErrand(C.start_errand(nil, h.at, C.uint64_t(key)))
+	defer v.done()
+	return newErrand(C.start_errand(nil, at, C.uint64_t(key)))
 }
