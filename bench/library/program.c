@@ -1,4 +1,5 @@
-/* Routes from C by views, in one to four threads and many keys a call, and frames. Prints `NAME: VALUE UNIT` a line. */
+/* Routes from C by views, in one to four threads with a view each and in eight with one view, and many keys a call,
+ * and frames. Prints `NAME: VALUE UNIT` a line. */
 #define _POSIX_C_SOURCE 200809L
 #include "squall.h"
 
@@ -8,7 +9,7 @@
 #include <string.h>
 #include <time.h>
 
-enum { KEYS = 20000, ROUNDS = 100, MOST_THREADS = 4, SMALL_FRAMES = 20000, AT_ONCE = 16 };
+enum { KEYS = 20000, ROUNDS = 100, MOST_THREADS = 4, SHARING_THREADS = 8, SMALL_FRAMES = 20000, AT_ONCE = 16 };
 
 /* All loads lie below this rank, and so do the keys that are asked for. */
 static const uint64_t REACH = UINT64_C(1) << 62;
@@ -112,15 +113,19 @@ static void *read_on(void *argument) {
     return NULL;
 }
 
-static void measure_routes(squall_view *view, uint32_t legs, int count, int waits) {
-    struct reader readers[MOST_THREADS];
-    pthread_t threads[MOST_THREADS];
+/* In so many threads, each with a view of its own, or all with one. */
+static void measure_routes(squall_view *view, uint32_t legs, int count, int waits, int shared) {
+    struct reader readers[SHARING_THREADS];
+    pthread_t threads[SHARING_THREADS];
     pthread_barrier_t start;
     double sum = 0;
     pthread_barrier_init(&start, NULL, (unsigned)count);
     for (int i = 0; i < count; i++) {
-        squall_view *mine = room_of(squall_view_size());
-        squall_view_again(view, mine);
+        squall_view *mine = view;
+        if (!shared) {
+            mine = room_of(squall_view_size());
+            squall_view_again(view, mine);
+        }
         readers[i] = (struct reader){&start, mine, (uint64_t)i + 1, waits, 0, 0};
         demand(pthread_create(&threads[i], NULL, read_on, &readers[i]) == 0);
     }
@@ -128,12 +133,15 @@ static void measure_routes(squall_view *view, uint32_t legs, int count, int wait
         pthread_join(threads[i], NULL);
         sum += readers[i].least;
         demand(readers[i].sum >= (uint64_t)KEYS * ROUNDS);
-        squall_view_close(readers[i].view);
-        free(readers[i].view);
+        if (!shared) {
+            squall_view_close(readers[i].view);
+            free(readers[i].view);
+        }
     }
     pthread_barrier_destroy(&start);
-    printf("route, %u legs, %s, %d threads: %.1f ns\n", legs,
-           waits ? "each key from the last answer" : "keys on their own", count, sum / count / KEYS * 1e9);
+    printf("route, %u legs, %s, %d threads%s: %.1f ns\n", legs,
+           waits ? "each key from the last answer" : "keys on their own", count, shared ? " with one view" : "",
+           sum / count / KEYS * 1e9);
 }
 
 /* Keys that do not wait for one another, in calls of 16: their routes, and where they stand. */
@@ -184,8 +192,9 @@ static void measure_views(uint32_t legs) {
     demand(squall_view_status(view) == SQUALL_OK && squall_view_route(view, 0) == 2);
     for (int waits = 0; waits < 2; waits++) {
         for (int count = 1; count <= MOST_THREADS; count++) {
-            measure_routes(view, legs, count, waits);
+            measure_routes(view, legs, count, waits, 0);
         }
+        measure_routes(view, legs, SHARING_THREADS, waits, 1);
     }
     measure_batches(view, legs);
     squall_view_close(view);
