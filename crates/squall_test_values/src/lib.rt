@@ -1,4 +1,4 @@
-//! Tests of keys, spans, lists in blocks and values with a join, over public names alone. There is nothing here to call.
+//! Tests of keys, the keys of rows, spans, lists in blocks and values with a join, over public names alone. There is nothing here to call.
 #![tactic(auto)]
 
 #[cfg(test)]
@@ -7,5 +7,7 @@ mod blocks;
 mod join;
 #[cfg(test)]
 mod key;
+#[cfg(test)]
+mod keymap;
 #[cfg(test)]
 mod span;
