@@ -1,0 +1,4 @@
+mod Edits
+mod Same
+mod Alike
+mod Grown

@@ -1,0 +1,64 @@
+-- Calls of a partition, and logs of them (this project; that a node is rebuilt by its log of calls: state machine replication, Schneider 1990).
+use Rattle.std.specs.Prelude.{◌≡◌, ℕ, ◌<◌, List, [], ◌∷◌, length, take, Ok}
+use Rattle.squall_board.specs.Boards.{BoardValue}
+use Rattle.squall_board.specs.Takes.{TakesBoard}
+use Rattle.squall_part.specs.declared.loading.Load.TheVariants.{Loaded as LoadedNow, Again as LoadedBefore}
+use Rattle.squall_part.specs.Parts.{PartValue, IsPart, given_by, loaded_by}
+use Rattle.squall_part.specs.Giving.{IsGiven, IsGivenAt}
+use Rattle.squall_part.specs.Loading.{IsLoaded, IsFinished}
+use Rattle.squall_replay.specs.declared.call.Call.{Call}
+use Rattle.squall_replay.specs.declared.call.Call.TheVariants.{Absorb, Give, GiveAt, Load, Finish}
+use Rattle.squall_replay.specs.declared.call.Answer.{Answer}
+use Rattle.squall_replay.specs.declared.call.Answer.TheVariants.{Absorbed, Gave, Loaded, Again, Finished}
+
+-- ---- one call
+
+-- the partition has absorbed the delta: its board takes that, and it holds, gave and loaded what it did before
+pub record Absorbs (p : PartValue) (delta : BoardValue) (q : PartValue) : Type 0 where
+  pub takes : TakesBoard p.board delta q.board
+  pub same : q ≡ record p { board = q.board; logs = q.logs }
+  pub given : (n : ℕ) → given_by q n ≡ given_by p n
+  pub loaded : (n : ℕ) → loaded_by q n ≡ loaded_by p n
+
+-- the partition answers the call so, and is the second one then
+abbrev pub Happens : PartValue → Call → Answer → PartValue → Type 0
+Happens p (Absorb delta) Absorbed q = Absorbs p delta q
+Happens p (Absorb delta) _ q = ⊥
+Happens p (Give most) (Gave chunk) q = IsGiven p most (Ok chunk) q
+Happens p (Give most) _ q = ⊥
+Happens p (GiveAt key) (Gave chunk) q = IsGivenAt p key (Ok chunk) q
+Happens p (GiveAt key) _ q = ⊥
+Happens p (Load chunk) (Loaded report) q = IsLoaded p chunk (Ok (LoadedNow report)) q
+Happens p (Load chunk) Again q = IsLoaded p chunk (Ok LoadedBefore) q
+Happens p (Load chunk) _ q = ⊥
+Happens p (Finish sub) (Finished report) q = IsFinished p sub (Ok report) q
+Happens p (Finish sub) _ q = ⊥
+
+-- ---- a log of calls
+
+-- the calls, one after the other, have these answers, and lead from the first partition to the second
+abbrev pub Replays : PartValue → List Call → List Answer → PartValue → Type 0
+Replays p [] [] q = q ≡ p
+Replays p [] (a ∷ rest) q = ⊥
+Replays p (c ∷ cs) [] q = ⊥
+Replays p (c ∷ cs) (a ∷ rest) q = (r : PartValue) × IsPart r × Happens p c a r × Replays r cs rest q
+
+-- the calls lead from the first partition to the second, with some answers
+abbrev pub Leads : PartValue → List Call → PartValue → Type 0
+Leads p calls q = (answers : List Answer) × Replays p calls answers q
+
+-- the first calls lead there, and not all of them
+abbrev pub StopsIn : PartValue → List Call → PartValue → Type 0
+StopsIn p calls q = (n : ℕ) × (n < length calls) × Leads p (take n calls) q
+
+-- ---- partitions that are one
+
+-- no call tells the partitions apart: they have one number, one first course and one board, hold the same keys, and gave and loaded the
+-- same keys under each number
+pub record IsSamePart (p q : PartValue) : Type 0 where
+  pub id : p.id ≡ q.id
+  pub first : p.first ≡ q.first
+  pub board : p.board ≡ q.board
+  pub held : p.held ≡ q.held
+  pub given : (n : ℕ) → given_by p n ≡ given_by q n
+  pub loaded : (n : ℕ) → loaded_by p n ≡ loaded_by q n
