@@ -14,7 +14,7 @@ use squall_report::Report;
 pub enum Call {
     /// It absorbs the delta.
     Absorb(Delta),
-    /// It gives the first keys, at most so many.
+    /// It gives the first keys, up to that number of keys.
     Give(u64),
     /// It gives one key.
     GiveAt(Key),

@@ -1,0 +1,24 @@
+-- what the clauses here cite of the crates below
+pub use Rattle.squall_key.specs.Keys
+pub use Rattle.squall_span.specs.Spans
+pub use Rattle.squall_course.specs.Change
+pub use Rattle.squall_board.specs.Boards
+pub use Rattle.squall_wire.specs.Messages
+pub use Rattle.squall_wire.specs.Reading
+pub use Rattle.squall_delta.specs.Pieces
+pub use Rattle.squall_delta.specs.Hashes
+pub use Rattle.squall_delta.specs.Repairs
+pub use Rattle.squall_protocol.specs.Chunks
+pub use Rattle.squall_part.specs.Parts
+pub use Rattle.squall_part.specs.Giving
+pub use Rattle.squall_part.specs.Loading
+pub use Rattle.squall_part.specs.Serving
+pub use Rattle.squall_replay.specs.Calls
+pub use Rattle.squall_c_values.specs.Rooms
+pub use Rattle.squall_c_values.specs.Values
+pub mod PartStatus
+pub mod PartValues
+pub mod Nodes
+pub mod PartCalls
+pub mod PartHearing
+pub mod PartFrames

@@ -1,0 +1,79 @@
+-- The numbers by which calls of a partition of the C library say how they ended (this project).
+use Rattle.std.specs.Prelude.{ℕ, Result, Ok, Err}
+use Rattle.squall_report.specs.declared.report.ReportKind.{ReportKind}
+use Rattle.squall_report.specs.Issues.{PlanPair}
+use Rattle.squall_wire.specs.declared.fault.WireFault.{WireFault}
+use Rattle.squall_wire.specs.declared.fault.WireFault.TheVariants.{Magic, Version, Kind, TooLong, Short, Count, Range, Order, Spare, NoMemory as NoMemoryForFrame}
+use Rattle.squall_protocol.specs.Chunks.{ChunkValue}
+use Rattle.squall_part.specs.declared.giving.GiveFault.{GiveFault}
+use Rattle.squall_part.specs.declared.giving.GiveFault.TheVariants.{NotOpen, NothingLeft, ZeroMax, NotOutgoing, Given, NotHeld, NoMemory}
+use Rattle.squall_part.specs.declared.loading.Load.{Load}
+use Rattle.squall_part.specs.declared.loading.Load.TheVariants.{Again, Loaded}
+use Rattle.squall_part.specs.declared.loading.LoadFault.{LoadFault}
+use Rattle.squall_part.specs.declared.loading.LoadFault.TheVariants.{NotOpen as NotOpenToLoad, Stranger, NoMemory as NoMemoryToLoad}
+use Rattle.squall_part.specs.declared.finishing.FinishFault.{FinishFault}
+use Rattle.squall_part.specs.declared.finishing.FinishFault.TheVariants.{NotOpen as NotOpenToFinish, NotAll, NothingDue, NoMemory as NoMemoryToFinish}
+
+-- it was done
+abbrev pub ok : ℕ
+ok = 0
+
+-- an allocation failed
+abbrev pub no_memory : ℕ
+no_memory = 1
+
+-- a number or a rank lies outside its limits, or a span has no key
+abbrev pub limit : ℕ
+limit = 2
+
+-- it does not fit a frame
+abbrev pub too_long : ℕ
+too_long = 5
+
+-- no digest was heard
+abbrev pub no_digest : ℕ
+no_digest = 6
+
+-- as far as the partition knows, the sub-plan is not opened
+abbrev pub not_open : ℕ
+not_open = 71
+
+-- the number of the answer to a demand for keys
+abbrev pub give_status : Result ChunkValue GiveFault → ℕ
+give_status (Ok chunk) = ok
+give_status (Err NotOpen) = not_open
+give_status (Err NothingLeft) = 72
+give_status (Err ZeroMax) = 73
+give_status (Err NotOutgoing) = 74
+give_status (Err Given) = 75
+give_status (Err NotHeld) = 76
+give_status (Err NoMemory) = no_memory
+
+-- of the answer to a chunk; 80 says that each of its keys was loaded before
+abbrev pub load_status : Result Load LoadFault → ℕ
+load_status (Ok (Loaded report)) = ok
+load_status (Ok Again) = 80
+load_status (Err NotOpenToLoad) = not_open
+load_status (Err Stranger) = 77
+load_status (Err NoMemoryToLoad) = no_memory
+
+-- of the answer when a sub-plan is to be finished
+abbrev pub finish_status : Result (ReportKind PlanPair) FinishFault → ℕ
+finish_status (Ok report) = ok
+finish_status (Err NotOpenToFinish) = not_open
+finish_status (Err (NotAll span)) = 78
+finish_status (Err NothingDue) = 79
+finish_status (Err NoMemoryToFinish) = no_memory
+
+-- of a fault of a frame
+abbrev pub wire_status : WireFault → ℕ
+wire_status Magic = 51
+wire_status Version = 52
+wire_status Kind = 53
+wire_status TooLong = 54
+wire_status Short = 55
+wire_status Count = 56
+wire_status Range = 57
+wire_status Order = 58
+wire_status Spare = 59
+wire_status NoMemoryForFrame = no_memory

@@ -1,0 +1,79 @@
+//! What a partition gives, loads, finishes and replies.
+
+ghost use Rattle.std.specs.Prelude.{◌≡◌};
+ghost use Rattle.squall_c_parts.specs.PartStatus.{give_status};
+ghost use Rattle.squall_c_parts.specs.PartCalls.{chunk_after, Gives, GivesAt, LoadsChunk, Loads, Finishes, Serves};
+
+use crate::chunks::{CAnswer, CChunk, c_answer, c_chunk, chunk_in};
+use crate::node::Node;
+use crate::status::{LIMIT, OK, finish_status, give_status, load_status};
+use squall_key::Key;
+use squall_part::{Chunk, GiveFault};
+
+/// Writes the chunk that was given, if one was, and answers how it ended.
+fn write_gift(answer: &Result<Chunk, GiveFault>, out: &mut CChunk) -> u32
+    ensures chunk { out.new ≡ chunk_after answer.now out.old }
+    ensures told { result ≡ give_status answer.now }
+{
+    if let Ok(chunk) = answer {
+        *out = c_chunk(chunk);
+    }
+    give_status(answer)
+}
+
+impl Node {
+    /// Gives the first keys, at most `max`, that are left in the sub-plan opened last, and writes their
+    /// chunk. Any other status than `OK` says why not: then nothing changes, and nothing is written.
+    pub fn give(&mut self, max: u64, out: &mut CChunk) -> u32
+        ensures { Gives max self.old out.old self.new out.new result }
+    {
+        write_gift(&self.part.give(max), out)
+    }
+
+    /// Gives the key of that rank, and writes its chunk. `LIMIT` if the rank is no key's.
+    pub fn give_at(&mut self, rank: u64, out: &mut CChunk) -> u32
+        ensures { GivesAt rank self.old out.old self.new out.new result }
+    {
+        match Key::of_rank(rank) {
+            Some(key) => write_gift(&self.part.give_at(key), out),
+            None => LIMIT,
+        }
+    }
+
+    /// Loads the chunk.
+    fn load_chunk(&mut self, chunk: &Chunk) -> u32
+        ensures { LoadsChunk chunk.now self.old self.new result }
+    {
+        load_status(&self.part.load(chunk))
+    }
+
+    /// Loads the chunk. A status of its own says that each of its keys was loaded before. `LIMIT` if the
+    /// numbers are no chunk's.
+    pub fn load(&mut self, chunk: &CChunk) -> u32
+        ensures { Loads chunk.now self.old self.new result }
+    {
+        match chunk_in(chunk) {
+            Some(chunk) => self.load_chunk(&chunk),
+            None => LIMIT,
+        }
+    }
+
+    /// Finishes the sub-plan: each key that comes in is loaded, and the partition reports so.
+    pub fn finish(&mut self, sub: u32) -> u32
+        ensures { Finishes sub self.old self.new result }
+    {
+        finish_status(&self.part.finish(sub))
+    }
+
+    /// Writes the reply to a request for the key of that rank. The request followed a `Moved` of the
+    /// number `after` to this partition, or none if `after` is 0. `LIMIT` if the rank is no key's.
+    pub fn serve(&self, rank: u64, after: u32, out: &mut CAnswer) -> u32
+        ensures { Serves rank after self.now out.old out.new result }
+    {
+        let Some(key) = Key::of_rank(rank) else {
+            return LIMIT;
+        };
+        *out = c_answer(self.part.serve(key, after));
+        OK
+    }
+}

@@ -1,0 +1,17 @@
+//! Partitions for C: what a node of one partition keeps, and what each call of it does. The handles
+//! are in `squall_c`.
+//!
+//! Its tests are in `crates/squall_test_parts/src/c_parts.rt`.
+#![tactic(auto)]
+
+mod calls;
+mod chunks;
+mod frames;
+mod hearing;
+mod node;
+mod spans;
+mod status;
+
+pub use chunks::{CAnswer, CChunk};
+pub use node::Node;
+pub use spans::CSpan;
