@@ -18,14 +18,14 @@ pub use types.Part.{whole, sub, agg}
 pub use types.ByLocal.{alloc_all, pass_all, free_all, look_at, look_in_at, get, get_in, through, sets, lands_as}
 pub use types.SemTy.{Body}
 pub use types.Tokens.{lft_new, lft_end, lent_back}
-pub use denote.Builtin.{u8, u32, u64, usize, unit, SliceRefOf}
+pub use denote.Builtin.{u8, u32, u64, usize, unit, SliceRefOf, RefOf}
 pub use denote.Exit.{yes}
 pub use denote.Laws.{Is, shows}
 pub use denote.Lend.{lends_ref, ref_back, lends_shr}
 pub use denote.Memory.{mem, lone}
 pub use denote.Plain.{uint_vals, uint_Tells, uint_Makes, uint_Lawful}
 pub use denote.RawPtr.{Ptr, RawPtr, block_ptr, lies_at, room_at, in_a_block, rawptr_vals, rawptr_Tells}
-pub use denote.Ref.{Bor, MutRef, ShrRef, mut_vals, shr_vals}
+pub use denote.Ref.{Bor, MutRef, ShrRef, mut_vals, shr_vals, mut_Tells, shr_Tells}
 pub use denote.Signature.{Slot, plain}
 pub use denote.Slice.{ShrSlice, MutSlice, shr_slice_vals, shr_slice_Tells, shr_slice_Lawful, mut_slice_vals, mut_slice_Tells, mut_slice_Lawful}
 pub use denote.Steps.{nothing, owned, heard, peeks, only}
@@ -34,4 +34,4 @@ pub use denote.Triple.Clauses.{Lasts, lasts}
 pub use denote.Triple.Entry.{on_entry}
 pub use denote.Triple.Spec.{triple_of}
 pub use denote.Triple.Table.{framed}
-pub use denote.Triple.Walked.{Stays, walk_of, says, stay_dropped, gave_slice, Goes-dropped, Goes-gave_slice, ends_at}
+pub use denote.Triple.Walked.{Stays, walk_of, says, stay_dropped, gave_slice, gave_ref, Goes-dropped, Goes-gave_slice, Goes-gave_ref, ends_at}

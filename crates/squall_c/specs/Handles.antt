@@ -9,10 +9,12 @@ use Rattle.squall_c.specs.contracts.router.RouterSlot.{the_row as router_row}
 use Rattle.squall_c.specs.contracts.views.ViewSlot.{the_row as view_row}
 use Rattle.squall_c.specs.contracts.courses.CourseSlot.{the_row as course_row}
 use Rattle.squall_c.specs.contracts.errands.ErrandSlot.{the_row as errand_row}
+use Rattle.squall_c.specs.contracts.parts.PartSlot.{the_row as part_row}
 use Rattle.squall_c.specs.declared.router.RouterSlot.{RouterSlot}
 use Rattle.squall_c.specs.declared.views.ViewSlot.{ViewSlot}
 use Rattle.squall_c.specs.declared.courses.CourseSlot.{CourseSlot}
 use Rattle.squall_c.specs.declared.errands.ErrandSlot.{ErrandSlot}
+use Rattle.squall_c.specs.declared.parts.PartSlot.{PartSlot}
 
 -- ---- routers
 
@@ -73,3 +75,17 @@ errand_at p s = lies_at errand_row full_share p s
 
 abbrev pub errand_such : Ptr → (ErrandSlot → Type 0) → Fml
 errand_such p P = fex ErrandSlot (λ s. fsep (errand_at p s) (fex (P s) (λ _. ftrue)))
+
+-- ---- partitions, likewise
+
+abbrev pub part_bytes : ℕ
+part_bytes = capped (size (layout part_row))
+
+abbrev pub part_room : Ptr → Fml
+part_room p = room_at part_row p
+
+abbrev pub part_at : Ptr → PartSlot → Fml
+part_at p s = lies_at part_row full_share p s
+
+abbrev pub part_such : Ptr → (PartSlot → Type 0) → Fml
+part_such p P = fex PartSlot (λ s. fsep (part_at p s) (fex (P s) (λ _. ftrue)))

@@ -23,6 +23,12 @@ pub use Rattle.squall_c_values.specs.Values
 pub use Rattle.squall_c_values.specs.ReportFrames
 pub use Rattle.squall_tally.specs.Tallies
 pub use Rattle.squall_changes.specs.Changes
+pub use Rattle.squall_part.specs.Parts
+pub use Rattle.squall_c_parts.specs.Nodes
+pub use Rattle.squall_c_parts.specs.PartCalls
+pub use Rattle.squall_c_parts.specs.PartHearing
+pub use Rattle.squall_c_parts.specs.PartFrames
+pub use Rattle.squall_c_parts.specs.PartValues
 pub mod Status
 pub mod Opening
 pub mod Reporting
@@ -34,4 +40,5 @@ pub mod Views
 pub mod Courses
 pub mod ErrandSlots
 pub mod Telling
+pub mod PartSlots
 pub mod Handles

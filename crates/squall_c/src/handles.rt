@@ -32,3 +32,10 @@ pub struct CCourse {
 pub struct CErrand {
     _hidden: u8,
 }
+
+/// What C sees of a partition.
+#[repr(C)]
+#[derive(Drop)]
+pub struct CPart {
+    _hidden: u8,
+}

@@ -1,0 +1,62 @@
+-- What lies at the handle is lent to `give` for a lifetime that is made for the call, and lies there again once it is over. What is written goes on to it for good.
+use Rattle.squall_c.proofs.Steps.{ℕ, [], ◌∷◌, ◌++◌, refl, w32, w64, MutBor, proved, full_share, id⊢, ftrue, flft, flent, fex, fsep, named, vptr, fact, tables, WpFn, ‵, raw, ◌⊛◌, some, later, prop, ◌$◌, ◌∵◌, !, qed, done, move, keep, drop, use1, use3, split, join, fsplit, fjoin, fpack, pick, await, regoal, suffices, group, enter, of_opd, addr, stop, no_more, and_then, returns, alloc_all, pass_all, free_all, look_at, get, through, sets, lands_as, Body, lft_new, lft_end, u32, u64, yes, Is, shows, lends_ref, ref_back, mem, uint_vals, uint_Tells, uint_Makes, uint_Lawful, Ptr, RawPtr, block_ptr, lies_at, in_a_block, rawptr_vals, rawptr_Tells, MutRef, mut_vals, mut_Tells, plain, nothing, owned, heard, peeks, calls_at, Lasts, lasts, triple_of, framed, Stays, walk_of, stay_dropped, gave_ref, Goes-dropped, Goes-gave_ref, ends_at}
+use Rattle.squall_c.specs.declared.parts.PartSlot as declared
+use Rattle.squall_c.specs.contracts.parts.PartSlot.{the_row as R}
+use Rattle.squall_c_parts.specs.contracts.chunks.CChunk.{the_row as Chunk}
+use Rattle.squall_c.specs.PartSlots.{PartGives}
+use Rattle.squall_c.specs.contracts.part_exports.squall_part_give as f
+use Rattle.squall_c.proofs.part_exports.squall_part_give.Statement.{statement}
+use Rattle.squall_c.proofs.part_exports.squall_part_give.Code as code
+use Rattle.squall_c.specs.contracts.parts.give as g
+use Rattle.squall_c.proofs.parts.give.Met.{met}
+
+abbrev stayed : Stays f.ended.signature.params f.ended.kept
+stayed = (stay_dropped _ yes, (stay_dropped _ yes, (gave_ref (0 ∷ []) tt (plain (λ _. Chunk)), tt)))
+
+pub squall_part_give_spec : {M : Type 1} → statement M
+squall_part_give_spec 𝓤 𝓛 𝓜 𝓡 wired =
+    let c = f.clauses 𝓛 𝓜.mem 𝓡.returns in let W = walk_of 𝓛 f.ended stayed c in let 𝓣 = tables 𝓤 𝓛.H 𝓜 𝓡 𝓡.env in
+    proved 𝓛 f.ended stayed c 𝓜 𝓡 (Goes-dropped 𝓛 1 (plain (λ _. RawPtr)) yes (λ κs x w. refl), (Goes-dropped 𝓛 1 (plain (λ _. u64)) yes (λ κs x w. refl), (Goes-gave_ref 𝓛 1 0 tt (plain (λ _. Chunk)), tt)))
+    f.Key.name code.function (code.unfolded 𝓤 𝓛.H 𝓜 𝓡 wired)
+    (λ κs. (rawptr_vals, (uint_vals w64, (mut_vals, tt)))) (λ κs. (rawptr_Tells, (uint_Tells w64, (mut_Tells (named 0) κs.0 Chunk, tt)))) (λ κs qs bounds a n are.
+    let κ0 = κs.0 in let q0 = qs.0 in
+    let most = a.1.0 in
+    let out = a.1.1.0 in let out_vals = mut_vals out in
+    let y : Ptr → W.Ghost = λ p. ((κs, qs, bounds, (p, (most, (out, tt))), (rawptr_vals p, (uint_vals w64 most, (out_vals, tt)))), n) in
+    qed 𝓛 (((‵ (flft κ0 q0) ⊛ ‵ ftrue) ⊛ ‵ (RawPtr.own_val a.0 (rawptr_vals a.0)) ⊛ ‵ (u64.own_val most (uint_vals w64 most)) ⊛ ‵ ((MutRef (named 0) κ0 Chunk).own_val out out_vals) ⊛ ‵ ftrue) ∷ ‵ (lies_at R full_share a.0 n) ∷ []) ∵
+    split ! $ split ! $ move ! (1 ∷ []) $ drop ! $ move ! (1 ∷ []) $ split ! $ drop ! $ split ! $ drop ! $ split ! $ move ! (1 ∷ []) $ drop ! $ move ! (2 ∷ []) $
+    in_a_block ! a.0 (λ p. lies_at R full_share p n) (id⊢ 𝓤 _) (λ b o e.
+    regoal ! (λ p. prop (WpFn 𝓤 𝓛.H 𝓣.C 𝓣.Λ code.function (rawptr_vals p ++ (uint_vals w64 most ++ (out_vals ++ ([])))) (W.post (y p)))) e refl $
+    -- the parameters are stored, and the pointers followed: [memory; out; token 0]
+    enter ! _ _ _ _ _ $ alloc_all ! (λ l. pass_all ! refl ((tt, tt), ((tt, record { fits = are.1.0.1 }), ((tt, tt), tt))) $
+    sets ! (of_opd ! (get ! refl)) refl (tt, tt) $ sets ! (addr ! (through ! refl (stop !))) refl (tt, tt) $
+    sets ! (addr ! (through ! refl (stop !))) refl (tt, tt) $
+    lft_new ! tt (λ α. move ! (1 ∷ []) $
+    use1 𝓛 (later (some (λ (γ : ℕ). ‵ ((MutRef (named 0) (α ∷ []) R).own_val (record { ref_ptr = (b, o); ghost_name = γ; now = n }) (vptr b o ∷ [])) ⊛ ‵ (flent (α ∷ []) (Body (mem R) b o γ)))))
+    (lends_ref 𝓛 R (named 0) (α ∷ []) n b o) $ await ! tt $ pick ! (λ γ. split ! $
+    -- lent: [the loan; what the lender keeps; α; out; token 0]
+    let r : MutBor declared.PartSlot = record { ref_ptr = (b, o); ghost_name = γ; now = n } in
+    let G = triple_of 𝓛 g.signature (g.spec 𝓛 𝓜.mem 𝓡.returns) in
+    let z : G.Ghost = (((α ∷ [], (κ0, tt)), (full_share, (q0, tt)), tt, (r, (most, (out, tt))), (mut_vals r, (uint_vals w64 most, (out_vals, tt)))), tt) in
+    nothing ! $ move ! (4 ∷ 0 ∷ []) $ join ! $ owned ! u64 (Is u64) (uint_Makes 𝓛 w64) most _ (refl, are.1.0.1) $ join ! $ move ! (1 ∷ 0 ∷ []) $ join ! $ nothing ! $ move ! (4 ∷ 0 ∷ []) $ join ! $ move ! (3 ∷ 0 ∷ []) $ join ! $ join ! $ nothing ! $ move ! (1 ∷ 0 ∷ []) $ join ! $
+    -- the call
+    use1 𝓛 (raw (G.pre z)) (id⊢ 𝓤 _) $
+    calls_at ! (framed 𝓤 𝓛.H 𝓜 (tables 𝓤 𝓛.H 𝓜 𝓡 𝓡.env)) G (met 𝓤 𝓛 𝓜 𝓡 (code.calls-squall_c::parts::give 𝓡.env wired)) z
+    (and_then ! (get ! refl) (and_then ! (get ! refl) (and_then ! (get ! refl) (no_more !)))) (λ v.
+    use1 𝓛 (later (some (λ (u : ℕ). ((‵ (flft (α ∷ []) full_share) ⊛ ‵ (flft κ0 q0) ⊛ ‵ ftrue) ⊛ ‵ (u32.own_val u (v ∷ []))) ⊛
+    some (λ (ws : Lasts g.ended z.0.0 z.0.3). ‵ (lasts g.ended z.0.0 z.0.3 ws) ⊛ raw (fact 𝓤 (PartGives most n out.now ws.0 ws.1.1.0 u)))))) (id⊢ 𝓤 _) $
+    await ! tt $ pick ! (λ u. split ! $ split ! $ split ! $ move ! (1 ∷ []) $ split ! $ move ! (1 ∷ []) $ drop ! $ move ! (1 ∷ []) $ lft_end ! tt $ move ! (2 ∷ []) $
+    peeks ! u32 (Is u32) (shows 𝓛 u32) u (v ∷ []) (λ is. lands_as ! refl refl ((uint_Lawful 𝓛 w32).typed u _ is).0 $
+    -- what the call said
+    move ! (3 ∷ []) $ pick ! (λ ws. split ! $ move ! (1 ∷ []) $ heard ! _ (λ h0.
+    fsplit ! $ fsplit ! $ move ! (1 ∷ []) $ drop ! $ move ! (1 ∷ []) $ fsplit ! $ drop ! $ fsplit ! $ move ! (1 ∷ []) $ drop ! $
+    move ! (3 ∷ 5 ∷ 1 ∷ []) $
+    use3 𝓛 (later (‵ (lies_at R full_share (block_ptr b o) ws.0))) (ref_back 𝓛 R (α ∷ []) γ ws.0 b o) $ await ! tt $
+    -- the loan is over: [memory; left of out; result; token 0]
+    returns ! (look_at ! 0 refl) $ free_all ! refl $
+    -- what lies at the handle
+    nothing ! $ fpack ! (PartGives most n out.now ws.0 ws.1.1.0 u) (λ _. ftrue) h0 $ move ! (1 ∷ 0 ∷ []) $ fjoin ! $
+    fpack ! declared.PartSlot (λ now. fsep (lies_at R full_share (block_ptr b o) now) (fex (PartGives most n out.now now ws.1.1.0 u) (λ _. ftrue))) ws.0 $
+    -- the end
+    suffices ! _ (ends_at 𝓛 f.ended stayed c (y (block_ptr b o)) v u (tt, (tt, (ws.1.1.0, tt))) (tt, (tt, (tt, tt)))) $
+    nothing ! $ move ! (2 ∷ 0 ∷ []) $ join ! $ nothing ! $ join ! $ nothing ! $ join ! $ nothing ! $ move ! (4 ∷ 0 ∷ []) $ join ! $ keep ! (0 ∷ 1 ∷ 3 ∷ 2 ∷ []) $ group ! 3 $ done !))))))))))

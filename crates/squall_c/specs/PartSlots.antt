@@ -1,0 +1,115 @@
+-- Partitions of the C library behind their handles (this project).
+use Rattle.std.specs.Prelude.{◌≡◌, ◌≢◌, ℕ, nat_lt, Bool, true, false, List, [], Option, None, Some}
+use Rattle.squall_key.specs.Keys.{part_limit}
+use Rattle.squall_course.specs.Change.{Change}
+use Rattle.squall_c_parts.specs.declared.chunks.CChunk.{CChunk}
+use Rattle.squall_c_parts.specs.declared.chunks.CAnswer.{CAnswer}
+use Rattle.squall_c_parts.specs.declared.spans.CSpan.{CSpan}
+use Rattle.squall_c_parts.specs.PartValues.{spans_that_fit}
+use Rattle.squall_c_parts.specs.Nodes.{NodeValue, new_node, given_spans, loaded_spans}
+use Rattle.squall_c_parts.specs.PartCalls.{Gives, GivesAt, Loads, Finishes, Serves}
+use Rattle.squall_c_parts.specs.PartHearing.{HearsFrame}
+use Rattle.squall_c_parts.specs.PartFrames.{GathersBoard, GathersDigest, GathersRepair, node_after}
+use Rattle.squall_c.specs.declared.courses.HeldCourse.{HeldCourse}
+use Rattle.squall_c.specs.declared.parts.PartSlot.{PartSlot}
+use Rattle.squall_c.specs.Status.{ok, no_memory, limit, closed}
+
+-- ---- opening
+
+-- no partition, and why
+abbrev pub no_part : ℕ → PartSlot
+no_part status = record { status = status; node = None }
+
+-- the slot with another node
+abbrev pub with_node : PartSlot → NodeValue → PartSlot
+with_node slot n = record slot { node = Some n }
+
+-- the partition has heard nothing and holds what the old plan of the course gives it; or an allocation failed, and there is none
+pub record IsPartOf (id : ℕ) (first : Change) (slot : PartSlot) : Type 0 where
+  pub opened : slot.status ≢ no_memory → (slot.status ≡ ok) × (slot.node ≡ Some (new_node id first))
+  pub memory : slot.status ≡ no_memory → slot.node ≡ None
+
+abbrev pub opens_if : Bool → ℕ → Change → PartSlot → Type 0
+opens_if true id first slot = IsPartOf id first slot
+opens_if false id first slot = slot ≡ no_part limit
+
+abbrev pub opens_with : Option HeldCourse → ℕ → PartSlot → Type 0
+opens_with None id slot = slot ≡ no_part closed
+opens_with (Some held) id slot = opens_if (nat_lt id part_limit) id held.course slot
+
+-- the slot that is opened: of the partition of that number, unless there is no course, or no such partition
+abbrev pub IsPartOpened : ℕ → Option HeldCourse → PartSlot → Type 0
+IsPartOpened id course slot = opens_with course id slot
+
+-- ---- calls
+
+-- the node does this, if there is one; else the status says that there is none, nothing changes, and what is written stays
+abbrev pub through : (NodeValue → NodeValue → ℕ → Type 0) → Type 0 → PartSlot → Option NodeValue → PartSlot → ℕ → Type 0
+through Does Stays old None new status = (status ≡ closed) × (new ≡ old) × Stays
+through Does Stays old (Some n) new status = (m : NodeValue) × Does n m status × (new ≡ with_node old m)
+
+-- a slot after a frame came to it
+abbrev pub PartHears : List ℕ → PartSlot → PartSlot → ℕ → Type 0
+PartHears frame old new status = through (HearsFrame frame) (Unit {0}) old old.node new status
+
+-- after a demand for the first keys, and for one key
+abbrev pub PartGives : ℕ → PartSlot → CChunk → PartSlot → CChunk → ℕ → Type 0
+PartGives most old before new after status = through (λ n m s. Gives most n before m after s) (after ≡ before) old old.node new status
+
+abbrev pub PartGivesAt : ℕ → PartSlot → CChunk → PartSlot → CChunk → ℕ → Type 0
+PartGivesAt rank old before new after status = through (λ n m s. GivesAt rank n before m after s) (after ≡ before) old old.node new status
+
+-- after a chunk came to it
+abbrev pub PartLoads : CChunk → PartSlot → PartSlot → ℕ → Type 0
+PartLoads chunk old new status = through (Loads chunk) (Unit {0}) old old.node new status
+
+-- after a sub-plan was to be finished
+abbrev pub PartFinishes : ℕ → PartSlot → PartSlot → ℕ → Type 0
+PartFinishes sub old new status = through (Finishes sub) (Unit {0}) old old.node new status
+
+-- the reply to a request for a key
+abbrev pub node_serves : Option NodeValue → ℕ → ℕ → CAnswer → CAnswer → ℕ → Type 0
+node_serves None rank number before after status = (status ≡ closed) × (after ≡ before)
+node_serves (Some n) rank number before after status = Serves rank number n before after status
+
+abbrev pub PartServes : ℕ → ℕ → PartSlot → CAnswer → CAnswer → ℕ → Type 0
+PartServes rank number slot before after status = node_serves slot.node rank number before after status
+
+-- ---- what it shows
+
+-- the spans of what it holds, gave and loaded, as many as the room holds
+abbrev pub held_in : Option NodeValue → ℕ → List CSpan → List CSpan
+held_in None from room = []
+held_in (Some n) from room = spans_that_fit n.part.held from room
+
+abbrev pub given_in : Option NodeValue → ℕ → ℕ → List CSpan → List CSpan
+given_in None number from room = []
+given_in (Some n) number from room = spans_that_fit (given_spans n number) from room
+
+abbrev pub loaded_in : Option NodeValue → ℕ → ℕ → List CSpan → List CSpan
+loaded_in None number from room = []
+loaded_in (Some n) number from room = spans_that_fit (loaded_spans n number) from room
+
+-- ---- frames
+
+abbrev pub PartGathersBoard : PartSlot → PartSlot → ℕ → Type 0
+PartGathersBoard old new status = through GathersBoard (Unit {0}) old old.node new status
+
+abbrev pub PartGathersDigest : PartSlot → PartSlot → ℕ → Type 0
+PartGathersDigest old new status = through GathersDigest (Unit {0}) old old.node new status
+
+abbrev pub PartGathersRepair : PartSlot → PartSlot → ℕ → Type 0
+PartGathersRepair old new status = through GathersRepair (Unit {0}) old old.node new status
+
+-- the frames that wait
+abbrev pub part_frames : Option NodeValue → List (List ℕ)
+part_frames None = []
+part_frames (Some n) = n.frames
+
+-- the slot after the first frame that waits was to be put into the room
+abbrev pub slot_after_frame : PartSlot → Option NodeValue → List ℕ → PartSlot
+slot_after_frame old None room = old
+slot_after_frame old (Some n) room = with_node old (node_after n room)
+
+abbrev pub part_after : PartSlot → List ℕ → PartSlot
+part_after old room = slot_after_frame old old.node room
