@@ -3,7 +3,8 @@
  * A router knows an old and a new partition plan and takes reports of what was loaded where. It
  * says for each key which partition to ask. A view is what a router said at one moment, for threads
  * that only read. An errand follows the replies of partitions until a key is found. A course says
- * which keys move, from which partition to which.
+ * which keys move, from which partition to which. A partition holds keys, gives and loads them while
+ * they move, and replies to requests for them.
  *
  * Link with libsquall.a or libsquall.so (tools/library makes both). docs/EMBEDDING.md is a
  * walk through all of this; docs/FORMATS.md has the text of a plan and the bytes of a frame.
@@ -14,9 +15,10 @@
  * What the library's contracts promise holds for a host that keeps these rules. Nothing can check
  * them: where one is broken, the behaviour is undefined.
  *
- * 1. Rooms. Routers, views, errands and courses live in memory that the host gives: a room. A room
- *    has at least as many bytes as squall_router_size(), squall_view_size(), squall_errand_size()
- *    or squall_course_size() answers, is writable and is aligned to 16, as memory of malloc is.
+ * 1. Rooms. Routers, views, errands, courses and partitions live in memory that the host gives: a
+ *    room. A room has at least as many bytes as squall_router_size(), squall_view_size(),
+ *    squall_errand_size(), squall_course_size() or squall_part_size() answers, is writable and is
+ *    aligned to 16, as memory of malloc is.
  * 2. Open once, close once. Each squall_.._open, _again, _start, _start_at, _newest and _first is
  *    followed by one close of the same kind, also if the status says that nothing was opened.
  *    Between the two the host neither reads nor writes nor copies nor moves the room: its address is
@@ -111,7 +113,19 @@ enum squall_status {
     SQUALL_FRAME_COUNT = 56,
     SQUALL_FRAME_RANGE = 57,
     SQUALL_FRAME_ORDER = 58,
-    SQUALL_FRAME_SPARE = 59
+    SQUALL_FRAME_SPARE = 59,
+
+    /* Why a partition does not give, load or finish. docs/SCENARIOS.md has the same names. */
+    SQUALL_NOT_OPEN = 71,     /* as far as the partition knows, the sub-plan is not opened */
+    SQUALL_NOTHING_LEFT = 72, /* it holds no key that goes out in the sub-plan opened last */
+    SQUALL_ZERO_MAX = 73,     /* no key was asked for */
+    SQUALL_NOT_OUTGOING = 74, /* the key does not go out in the sub-plan opened last */
+    SQUALL_GIVEN = 75,        /* the key was given under this course before */
+    SQUALL_NOT_HELD = 76,     /* the key goes out, and is neither given nor held */
+    SQUALL_STRANGER = 77,     /* the course does not bring these keys to this partition so */
+    SQUALL_NOT_ALL = 78,      /* keys that come in are missing */
+    SQUALL_NOTHING_DUE = 79,  /* no key comes in, in that sub-plan */
+    SQUALL_LOADED_BEFORE = 80 /* each key of the chunk was loaded before */
 };
 
 /* What a partition replies to an errand. */
@@ -149,6 +163,7 @@ typedef struct squall_router squall_router;
 typedef struct squall_view squall_view;
 typedef struct squall_errand squall_errand;
 typedef struct squall_course squall_course;
+typedef struct squall_part squall_part;
 
 /* The keys from lo on, below hi, are to be asked for at the partition. */
 typedef struct squall_leg {
@@ -189,6 +204,24 @@ typedef struct squall_counts {
     uint64_t opened; /* the sub-plans that are opened, over all courses */
     uint64_t issues; /* the numbers under which plans were issued */
 } squall_counts;
+
+/* The keys from lo on, below hi, on their way from a partition to another in a sub-plan of the course
+ * of that number. The host sends their rows and these numbers to `dest`. */
+typedef struct squall_chunk {
+    uint64_t lo;
+    uint64_t hi;
+    uint32_t number;
+    uint32_t sub;
+    uint32_t source;
+    uint32_t dest;
+} squall_chunk;
+
+/* The reply of a partition: what squall_errand_heed takes. */
+typedef struct squall_answer {
+    uint32_t reply; /* one of squall_reply */
+    uint32_t part;  /* the partition that it names; 0 if none */
+    uint32_t number; /* the number that it names; 0 if none */
+} squall_answer;
 
 /* The rank of root:second. */
 static inline uint64_t squall_rank(uint32_t root, uint32_t second) {
@@ -499,6 +532,101 @@ uint32_t squall_errand_heed(squall_errand *errand, uint32_t reply, uint32_t part
 
 /* Closes the errand. */
 void squall_errand_close(squall_errand *errand);
+
+
+/* PARTITIONS
+ *
+ * A partition keeps which keys it holds, gave and loaded, and not their rows: these stay with the host.
+ * The host makes each call in the transaction in which it moves the rows, or keeps a log of the calls
+ * that were answered SQUALL_OK. The same calls, made of a new partition of the same course, lead to the
+ * same partition. */
+
+/* How many bytes the room of a partition has. */
+size_t squall_part_size(void);
+
+/* Opens partition `id` with the keys that the old plan of the course gives it, and nothing heard.
+ * squall_part_status then says whether there is one:
+ *   SQUALL_OK         there is
+ *   SQUALL_CLOSED     there is no course
+ *   SQUALL_LIMIT      the id is above 9999
+ *   SQUALL_NO_MEMORY  an allocation failed, or the course has more owners than can be counted
+ * Counts as a call with both handles. Allocates. */
+void squall_part_open(uint32_t id, const squall_course *course, squall_part *room);
+
+/* How the opening ended. Never changes. */
+uint32_t squall_part_status(const squall_part *part);
+
+/* Takes one whole frame, as squall_router_hear does: a delta is absorbed, and a digest kept for
+ * squall_part_gather_repair. Answers as squall_router_hear does, and SQUALL_CLOSED if there is no
+ * partition. At all but SQUALL_OK nothing changed. Allocates. */
+uint32_t squall_part_hear(squall_part *part, const uint8_t *frame, size_t len);
+
+/* Gives the first keys, at most `max`, of those that go out in the sub-plan opened last and that the
+ * partition still holds: writes their chunk to `out`, and holds them no longer. Answers
+ *   SQUALL_OK            the chunk is written
+ *   SQUALL_NOT_OPEN      no sub-plan of its newest course is opened
+ *   SQUALL_NOTHING_LEFT  no such key is held
+ *   SQUALL_ZERO_MAX      `max` is 0
+ *   SQUALL_NO_MEMORY     an allocation failed
+ *   SQUALL_CLOSED        there is no partition
+ * At all but SQUALL_OK nothing changed, and nothing is written. Allocates. */
+uint32_t squall_part_give(squall_part *part, uint64_t max, squall_chunk *out);
+
+/* Gives the key of that rank, likewise. Answers SQUALL_LIMIT if the rank is no key's; SQUALL_CLOSED; or
+ * the first of these that is so: SQUALL_NOT_OPEN, SQUALL_NOT_OUTGOING, SQUALL_GIVEN, SQUALL_NOT_HELD,
+ * SQUALL_NO_MEMORY. Allocates. */
+uint32_t squall_part_give_at(squall_part *part, uint64_t rank, squall_chunk *out);
+
+/* Takes a chunk. Its keys that were not loaded under its number are loaded and held now, and the
+ * partition's board has the report of the whole chunk. Answers
+ *   SQUALL_OK             that was done
+ *   SQUALL_LOADED_BEFORE  each of its keys was loaded before, even if it was given since
+ *   SQUALL_NOT_OPEN       its sub-plan is not opened under its course
+ *   SQUALL_STRANGER       its course is not known, or does not bring these keys from `source` to this
+ *                         partition in that sub-plan
+ *   SQUALL_LIMIT          a number 0, a sub-plan or partition above 9999, a rank above SQUALL_TOP, or lo
+ *                         not below hi
+ *   SQUALL_NO_MEMORY      an allocation failed
+ *   SQUALL_CLOSED         there is no partition
+ * At all but SQUALL_OK nothing changed. squall_frame_loaded writes the frame of that report. Allocates. */
+uint32_t squall_part_load(squall_part *part, const squall_chunk *chunk);
+
+/* Reports that the partition has all keys that the sub-plan of its newest course brings it. A repeat
+ * reports the same. Answers SQUALL_OK, SQUALL_CLOSED, or the first of these that is so: SQUALL_NOT_OPEN,
+ * SQUALL_NOT_ALL, SQUALL_NOTHING_DUE; or SQUALL_NO_MEMORY. At all but SQUALL_OK nothing changed.
+ * squall_frame_done writes the frame of that report. Allocates. */
+uint32_t squall_part_finish(squall_part *part, uint32_t sub);
+
+/* Writes the reply to a request for the key of that rank to `out`. The request followed a SQUALL_MOVED of
+ * the number `after` to this partition; `after` is 0 if it followed none, and what
+ * squall_errand_number says. Answers SQUALL_OK; SQUALL_LIMIT if the rank is no key's; or SQUALL_CLOSED: then
+ * nothing is written. Allocates nothing. */
+uint32_t squall_part_serve(const squall_part *part, uint64_t rank, uint32_t after, squall_answer *out);
+
+/* Writes the spans of the keys that the partition holds, by rising key, from the span `from` on, counted
+ * from 0, to the front of `out`, as many as there is room for, and answers how many: 0 if there are no
+ * more, or no partition. Neighbours do not touch. Allocates nothing. */
+size_t squall_part_held(const squall_part *part, size_t from, squall_span *out, size_t room);
+
+/* The same of the keys that it gave under the number: none if it does not know the course. */
+size_t squall_part_given(const squall_part *part, uint32_t number, size_t from, squall_span *out,
+                         size_t room);
+
+/* The same of the keys that it loaded under the number. */
+size_t squall_part_loaded(const squall_part *part, uint32_t number, size_t from, squall_span *out,
+                          size_t room);
+
+/* Makes the frames of all that the partition knows and reports, of a digest of that, or of what the
+ * digest that was heard last does not show, as the calls of a router do. Allocates. */
+uint32_t squall_part_gather_board(squall_part *part);
+uint32_t squall_part_gather_digest(squall_part *part);
+uint32_t squall_part_gather_repair(squall_part *part);
+
+/* Writes the next frame that waits, as squall_router_frame does. Allocates nothing. */
+size_t squall_part_frame(squall_part *part, uint8_t *out, size_t room);
+
+/* Closes the partition, and frees what it has allocated. The room is plain memory again. */
+void squall_part_close(squall_part *part);
 
 
 /* THE LIBRARY */

@@ -6,17 +6,21 @@
 
 enum { TEXT_CALLS = 192 * 1024, OTHER_CALLS = 64 * 1024, DEEPEST = 126, SPANS = 20000 };
 
-static void in_thread(size_t stack, void *(*run)(void *)) {
+static void in_thread_with(size_t stack, void *(*run)(void *), void *argument) {
     pthread_attr_t attributes;
     pthread_t thread;
     CHECK(pthread_attr_init(&attributes) == 0);
     CHECK(pthread_attr_setstacksize(&attributes, stack) == 0);
-    if (pthread_create(&thread, &attributes, run, NULL) == 0) {
+    if (pthread_create(&thread, &attributes, run, argument) == 0) {
         CHECK(pthread_join(thread, NULL) == 0);
     } else {
         CHECK(!"a thread starts");
     }
     pthread_attr_destroy(&attributes);
+}
+
+static void in_thread(size_t stack, void *(*run)(void *)) {
+    in_thread_with(stack, run, NULL);
 }
 
 /* ---- texts */
@@ -114,11 +118,56 @@ static void *look(void *unused) {
     return NULL;
 }
 
+/* Each call of a partition, over a board of many spans. */
+static void *hold(void *room) {
+    squall_part *part = (squall_part *)room;
+    uint8_t opening[24];
+    squall_span spans[4];
+    squall_answer answer;
+    squall_chunk chunk = {squall_rank(2, 0), squall_rank(3, 0), 1, 0, 1, 3};
+    CHECK(squall_router_gather_board(opened) == SQUALL_OK);
+    size_t len = squall_router_frame(opened, frames, SQUALL_FRAME_BYTES);
+    CHECK(squall_part_hear(part, frames, len) == SQUALL_OK);
+    CHECK(squall_part_hear(part, opening, squall_frame_opened(1, 0, opening, sizeof opening))
+          == SQUALL_OK);
+    CHECK(squall_part_load(part, &chunk) == SQUALL_OK);
+    CHECK(squall_part_finish(part, 0) == SQUALL_OK);
+    for (uint32_t i = 0; i < SPANS / 10; i++) {
+        CHECK(squall_part_give_at(part, squall_rank(6, 2 * i), &chunk) == SQUALL_OK);
+    }
+    CHECK(squall_part_give(part, UINT64_MAX, &chunk) == SQUALL_OK);
+    CHECK(squall_part_serve(part, squall_rank(6, 0), 0, &answer) == SQUALL_OK);
+    CHECK(squall_part_held(part, 0, spans, 4) == 4);
+    CHECK(squall_part_given(part, 1, 0, spans, 4) == 4);
+    CHECK(squall_part_loaded(part, 1, 0, spans, 4) == 1);
+    CHECK(squall_part_gather_digest(part) == SQUALL_OK);
+    len = squall_part_frame(part, frames, SQUALL_FRAME_BYTES);
+    CHECK(squall_part_hear(part, frames, len) == SQUALL_OK);
+    CHECK(squall_part_gather_repair(part) == SQUALL_OK);
+    CHECK(squall_part_gather_board(part) == SQUALL_OK);
+    return NULL;
+}
+
+static void *opening_of_a_part(void *room) {
+    squall_course *course = (squall_course *)room_of(squall_course_size());
+    squall_course_first(opened, course);
+    squall_part_open(3, course, (squall_part *)room);
+    CHECK(squall_part_status((squall_part *)room) == SQUALL_OK);
+    squall_course_close(course);
+    free(course);
+    return NULL;
+}
+
 static void calls_over_many_spans(void) {
     frames = (uint8_t *)room_of(SQUALL_FRAME_BYTES);
     opened = router_of(1, OLD, NEW);
     in_thread(OTHER_CALLS, take_and_tell);
     in_thread(OTHER_CALLS, look);
+    squall_part *part = (squall_part *)room_of(squall_part_size());
+    in_thread_with(OTHER_CALLS, opening_of_a_part, part);
+    in_thread_with(OTHER_CALLS, hold, part);
+    squall_part_close(part);
+    free(part);
     drop_router(opened);
     free(frames);
 }

@@ -1,0 +1,408 @@
+/* Tests of partitions, with a heap of the host's own in the place of heap.c, so that each allocation of a
+ * call can be refused. Expected values are worked out by hand from the plans of examples/. The last line
+ * is `N passed, M failed`. */
+#include "check.h"
+
+/* ---- the heap */
+
+struct tried {
+    bool ok;
+    void *block;
+};
+
+struct tried rattle_alloc(size_t size, size_t align);
+struct tried rattle_realloc(void *block, size_t kept, size_t size, size_t align);
+void rattle_dealloc(void *block);
+
+static char nowhere[16];
+static long blocks;  /* that are allocated now */
+static long asked;   /* allocations since the count began */
+static long refused; /* the number of the one to refuse, or 0 */
+
+static bool is_refused(void) {
+    return ++asked == refused;
+}
+
+static struct tried tried(void *block) {
+    return (struct tried){block != NULL, block != NULL ? block : nowhere};
+}
+
+struct tried rattle_alloc(size_t size, size_t align) {
+    struct tried answer = tried(is_refused() ? NULL : malloc(size != 0 ? size : align));
+    blocks += answer.ok;
+    return answer;
+}
+
+struct tried rattle_realloc(void *block, size_t kept, size_t size, size_t align) {
+    (void)kept;
+    return tried(is_refused() ? NULL : realloc(block, size != 0 ? size : align));
+}
+
+void rattle_dealloc(void *block) {
+    blocks--;
+    free(block);
+}
+
+/* ---- partitions of the course of the examples */
+
+static const squall_chunk NO_CHUNK = {7, 7, 7, 7, 7, 7};
+static const squall_answer NO_ANSWER = {7, 7, 7};
+
+static uint64_t key(uint32_t root) {
+    return squall_rank(root, 0);
+}
+
+static squall_part *part_of(uint32_t id) {
+    squall_course *course = (squall_course *)room_of(squall_course_size());
+    squall_part *part = (squall_part *)room_of(squall_part_size());
+    squall_course_open(1, bytes_of(OLD), strlen(OLD), bytes_of(NEW), strlen(NEW), course);
+    squall_part_open(id, course, part);
+    squall_course_close(course);
+    free(course);
+    return part;
+}
+
+static void drop_part(squall_part *part) {
+    squall_part_close(part);
+    free(part);
+}
+
+/* The frame of the report that sub-plan 0 of course 1 is opened. */
+static uint8_t opening[24];
+
+static uint32_t hear_opening(squall_part *part) {
+    return squall_part_hear(part, opening, sizeof opening);
+}
+
+/* A partition that has heard that sub-plan 0 is opened. */
+static squall_part *open_part(uint32_t id) {
+    squall_part *part = part_of(id);
+    CHECK(hear_opening(part) == SQUALL_OK);
+    return part;
+}
+
+static squall_chunk chunk_of(uint64_t lo, uint64_t hi) {
+    squall_chunk chunk = {lo, hi, 1, 0, 1, 3};
+    return chunk;
+}
+
+static bool is_chunk(squall_chunk one, squall_chunk other) {
+    return memcmp(&one, &other, sizeof one) == 0;
+}
+
+static bool is_answer(squall_answer answer, uint32_t reply, uint32_t part, uint32_t number) {
+    return answer.reply == reply && answer.part == part && answer.number == number;
+}
+
+/* ---- what they answer */
+
+static void openings(void) {
+    squall_part *part = part_of(1);
+    squall_span spans[2];
+    CHECK(squall_part_status(part) == SQUALL_OK);
+    CHECK(squall_part_held(part, 0, spans, 2) == 1);
+    CHECK(spans[0].lo == 0 && spans[0].hi == key(3));
+    drop_part(part);
+    part = part_of(9999);
+    CHECK(squall_part_status(part) == SQUALL_OK);
+    CHECK(squall_part_held(part, 0, spans, 2) == 0);
+    drop_part(part);
+    CHECK(blocks == 0);
+}
+
+/* Each call of what is no partition. */
+static void has_no_partition(squall_part *part) {
+    squall_chunk chunk = NO_CHUNK;
+    squall_answer answer = NO_ANSWER;
+    squall_span spans[1];
+    uint8_t out[8];
+    CHECK(hear_opening(part) == SQUALL_CLOSED);
+    CHECK(squall_part_give(part, 1, &chunk) == SQUALL_CLOSED);
+    CHECK(squall_part_give_at(part, 0, &chunk) == SQUALL_CLOSED);
+    CHECK(is_chunk(chunk, NO_CHUNK));
+    CHECK(squall_part_load(part, &chunk) == SQUALL_CLOSED);
+    CHECK(squall_part_finish(part, 0) == SQUALL_CLOSED);
+    CHECK(squall_part_serve(part, 0, 0, &answer) == SQUALL_CLOSED);
+    CHECK(is_answer(answer, 7, 7, 7));
+    CHECK(squall_part_held(part, 0, spans, 1) == 0);
+    CHECK(squall_part_given(part, 1, 0, spans, 1) == 0);
+    CHECK(squall_part_loaded(part, 1, 0, spans, 1) == 0);
+    CHECK(squall_part_gather_board(part) == SQUALL_CLOSED);
+    CHECK(squall_part_gather_digest(part) == SQUALL_CLOSED);
+    CHECK(squall_part_gather_repair(part) == SQUALL_CLOSED);
+    CHECK(squall_part_frame(part, out, sizeof out) == 0);
+}
+
+static void partitions_that_are_none(void) {
+    squall_part *part = part_of(10000);
+    CHECK(squall_part_status(part) == SQUALL_LIMIT);
+    has_no_partition(part);
+    squall_part_close(part);
+    squall_course *course = (squall_course *)room_of(squall_course_size());
+    squall_course_open(0, bytes_of(""), 0, bytes_of(""), 0, course);
+    squall_part_open(1, course, part);
+    CHECK(squall_part_status(part) == SQUALL_CLOSED);
+    has_no_partition(part);
+    drop_part(part);
+    squall_course_close(course);
+    free(course);
+    CHECK(blocks == 0);
+}
+
+static void gifts(void) {
+    squall_part *part = part_of(1);
+    squall_chunk chunk = NO_CHUNK;
+    squall_span spans[2];
+    CHECK(squall_part_give(part, 1, &chunk) == SQUALL_NOT_OPEN);
+    CHECK(squall_part_give_at(part, key(2), &chunk) == SQUALL_NOT_OPEN);
+    CHECK(hear_opening(part) == SQUALL_OK);
+    CHECK(squall_part_give(part, 0, &chunk) == SQUALL_ZERO_MAX);
+    CHECK(squall_part_give_at(part, SQUALL_TOP, &chunk) == SQUALL_LIMIT);
+    CHECK(squall_part_give_at(part, 0, &chunk) == SQUALL_NOT_OUTGOING);
+    CHECK(is_chunk(chunk, NO_CHUNK));
+    CHECK(squall_part_give_at(part, key(2) + 1, &chunk) == SQUALL_OK);
+    CHECK(is_chunk(chunk, chunk_of(key(2) + 1, key(2) + 2)));
+    CHECK(squall_part_give_at(part, key(2) + 1, &chunk) == SQUALL_GIVEN);
+    CHECK(squall_part_give(part, 9, &chunk) == SQUALL_OK);
+    CHECK(is_chunk(chunk, chunk_of(key(2), key(2) + 1)));
+    CHECK(squall_part_give(part, UINT64_MAX, &chunk) == SQUALL_OK);
+    CHECK(is_chunk(chunk, chunk_of(key(2) + 2, key(3))));
+    CHECK(squall_part_give(part, 1, &chunk) == SQUALL_NOTHING_LEFT);
+    CHECK(squall_part_held(part, 0, spans, 2) == 1);
+    CHECK(spans[0].lo == 0 && spans[0].hi == key(2));
+    CHECK(squall_part_given(part, 1, 0, spans, 2) == 1);
+    CHECK(spans[0].lo == key(2) && spans[0].hi == key(3));
+    CHECK(squall_part_given(part, 1, 1, spans, 2) == 0 && squall_part_given(part, 2, 0, spans, 2) == 0);
+    drop_part(part);
+    CHECK(blocks == 0);
+}
+
+static void loads(void) {
+    squall_part *part = part_of(3);
+    squall_chunk chunk = chunk_of(key(2), key(3));
+    squall_chunk other = chunk_of(key(2), key(3) + 1);
+    squall_span spans[2];
+    CHECK(squall_part_load(part, &chunk) == SQUALL_NOT_OPEN);
+    CHECK(squall_part_finish(part, 0) == SQUALL_NOT_OPEN);
+    CHECK(hear_opening(part) == SQUALL_OK);
+    CHECK(squall_part_finish(part, 0) == SQUALL_NOT_ALL);
+    CHECK(squall_part_load(part, &other) == SQUALL_STRANGER);
+    CHECK(squall_part_load(part, &NO_CHUNK) == SQUALL_LIMIT);
+    CHECK(squall_part_load(part, &chunk) == SQUALL_OK);
+    CHECK(squall_part_load(part, &chunk) == SQUALL_LOADED_BEFORE);
+    CHECK(squall_part_finish(part, 0) == SQUALL_OK);
+    CHECK(squall_part_finish(part, 0) == SQUALL_OK);
+    CHECK(squall_part_held(part, 0, spans, 2) == 2);
+    CHECK(spans[0].lo == key(2) && spans[1].lo == key(5) && spans[1].hi == key(9));
+    CHECK(squall_part_loaded(part, 1, 0, spans, 2) == 1 && spans[0].hi == key(3));
+    drop_part(part);
+    part = open_part(2);
+    CHECK(squall_part_finish(part, 0) == SQUALL_NOTHING_DUE);
+    drop_part(part);
+    CHECK(blocks == 0);
+}
+
+/* An errand follows the replies of partitions to a key that moves. */
+static void replies_for_errands(void) {
+    squall_part *source = open_part(1);
+    squall_part *dest = open_part(3);
+    squall_router *router = router_of(1, OLD, NEW);
+    squall_errand *errand = (squall_errand *)room_of(squall_errand_size());
+    squall_answer answer = NO_ANSWER;
+    squall_chunk chunk;
+    CHECK(squall_part_serve(source, SQUALL_TOP, 0, &answer) == SQUALL_LIMIT);
+    CHECK(is_answer(answer, 7, 7, 7));
+    CHECK(squall_part_give(source, UINT64_MAX, &chunk) == SQUALL_OK);
+    squall_errand_start(router, key(2), errand);
+    CHECK(squall_errand_asked(errand) == 1);
+    CHECK(squall_part_serve(source, key(2), 0, &answer) == SQUALL_OK);
+    CHECK(is_answer(answer, SQUALL_MOVED, 3, 1));
+    CHECK(squall_errand_heed(errand, answer.reply, answer.part, answer.number) == SQUALL_ASK);
+    CHECK(squall_part_serve(dest, key(2), squall_errand_number(errand), &answer) == SQUALL_OK);
+    CHECK(is_answer(answer, SQUALL_PENDING, 1, 0));
+    CHECK(squall_errand_heed(errand, answer.reply, answer.part, answer.number) == SQUALL_AGAIN);
+    CHECK(squall_part_load(dest, &chunk) == SQUALL_OK);
+    CHECK(squall_part_serve(dest, key(2), squall_errand_number(errand), &answer) == SQUALL_OK);
+    CHECK(is_answer(answer, SQUALL_HELD, 0, 0));
+    CHECK(squall_errand_heed(errand, answer.reply, answer.part, answer.number) == SQUALL_SERVED);
+    CHECK(squall_part_serve(source, key(9), 0, &answer) == SQUALL_OK);
+    CHECK(is_answer(answer, SQUALL_ELSEWHERE, 4, 0));
+    squall_errand_close(errand);
+    free(errand);
+    drop_router(router);
+    drop_part(source);
+    drop_part(dest);
+    CHECK(blocks == 0);
+}
+
+/* What one partition reports reaches another one, and a router, in frames. */
+static void frames(void) {
+    squall_part *one = open_part(3);
+    squall_part *other = part_of(1);
+    squall_router *router = router_of(1, OLD, NEW);
+    squall_chunk chunk = chunk_of(key(2), key(3));
+    uint8_t out[1024];
+    CHECK(squall_part_gather_repair(one) == SQUALL_NO_DIGEST);
+    CHECK(squall_part_load(one, &chunk) == SQUALL_OK);
+    CHECK(squall_part_gather_digest(other) == SQUALL_OK);
+    size_t len = squall_part_frame(other, out, sizeof out);
+    CHECK(squall_part_hear(one, out, len) == SQUALL_OK);
+    CHECK(squall_part_gather_repair(one) == SQUALL_OK);
+    len = squall_part_frame(one, out, 1);
+    CHECK(len > 1 && squall_part_frame(one, out, sizeof out) == len);
+    CHECK(squall_part_frame(one, out, sizeof out) == 0);
+    CHECK(squall_router_route(router, key(2)) == 1);
+    CHECK(squall_router_hear(router, out, len) == SQUALL_OK);
+    CHECK(squall_router_route(router, key(2)) == 3);
+    CHECK(squall_part_hear(other, out, len) == SQUALL_OK);
+    CHECK(squall_part_give(other, 1, &chunk) == SQUALL_OK);
+    CHECK(squall_part_hear(other, out, len - 1) == SQUALL_FRAME_SHORT);
+    CHECK(squall_part_gather_board(one) == SQUALL_OK);
+    CHECK(squall_part_frame(one, out, sizeof out) == len);
+    drop_router(router);
+    drop_part(one);
+    drop_part(other);
+    CHECK(blocks == 0);
+}
+
+/* ---- allocations that are refused */
+
+static uint32_t give_some(squall_part *part) {
+    squall_chunk chunk;
+    return squall_part_give(part, 2, &chunk);
+}
+
+static uint32_t give_one(squall_part *part) {
+    squall_chunk chunk;
+    return squall_part_give_at(part, key(6) + 2, &chunk);
+}
+
+static uint32_t load_some(squall_part *part) {
+    squall_chunk chunk = chunk_of(key(2) + 9, key(3));
+    return squall_part_load(part, &chunk);
+}
+
+static uint32_t finish(squall_part *part) {
+    squall_chunk chunk = chunk_of(key(2), key(3));
+    uint32_t status = squall_part_load(part, &chunk);
+    return status == SQUALL_OK || status == SQUALL_LOADED_BEFORE ? squall_part_finish(part, 0) : status;
+}
+
+static const uint8_t EMPTY_DIGEST[] = {0x53, 0x51, 1, 2, 0, 0, 0, 8, 0, 0, 0, 0, 0, 0, 0, 0};
+
+static uint32_t repair(squall_part *part) {
+    uint32_t status = squall_part_hear(part, EMPTY_DIGEST, sizeof EMPTY_DIGEST);
+    return status == SQUALL_OK ? squall_part_gather_repair(part) : status;
+}
+
+/* How many spans it holds, gave and loaded. */
+static size_t spans_of(const squall_part *part) {
+    squall_span spans[8];
+    return squall_part_held(part, 0, spans, 8) + squall_part_given(part, 1, 0, spans, 8)
+           + squall_part_loaded(part, 1, 0, spans, 8);
+}
+
+/* How often the test that runs now was answered SQUALL_NO_MEMORY. */
+static int answered;
+
+/* The call with the allocation of that number refused; whether it made so many. */
+static bool refuse_one(long number, uint32_t (*call)(squall_part *)) {
+    squall_part *part = open_part(3);
+    size_t before = spans_of(part);
+    asked = 0;
+    refused = number;
+    uint32_t status = call(part);
+    bool was_refused = asked >= number;
+    refused = 0;
+    CHECK(status == SQUALL_OK || (was_refused && status == SQUALL_NO_MEMORY));
+    if (status == SQUALL_NO_MEMORY) {
+        answered++;
+        CHECK(call == finish || spans_of(part) == before);
+        CHECK(call(part) == SQUALL_OK);
+    }
+    drop_part(part);
+    CHECK(blocks == 0);
+    return was_refused;
+}
+
+static void refuse_each(uint32_t (*call)(squall_part *)) {
+    long number = 1;
+    answered = 0;
+    while (refuse_one(number, call)) {
+        number++;
+    }
+    CHECK(answered > 0);
+}
+
+static void refused_allocations(void) {
+    refuse_each(hear_opening);
+    refuse_each(give_some);
+    refuse_each(give_one);
+    refuse_each(load_some);
+    refuse_each(finish);
+    refuse_each(squall_part_gather_board);
+    refuse_each(squall_part_gather_digest);
+    refuse_each(repair);
+}
+
+/* The opening with the allocation of that number refused; whether it made so many. */
+static bool refuse_in_opening(const squall_course *course, squall_part *part, long number) {
+    asked = 0;
+    refused = number;
+    squall_part_open(3, course, part);
+    bool was_refused = asked >= number;
+    refused = 0;
+    uint32_t status = squall_part_status(part);
+    CHECK(status == SQUALL_OK || (was_refused && status == SQUALL_NO_MEMORY));
+    squall_part_close(part);
+    return was_refused;
+}
+
+static void refused_openings(void) {
+    squall_course *course = (squall_course *)room_of(squall_course_size());
+    squall_part *part = (squall_part *)room_of(squall_part_size());
+    squall_course_open(1, bytes_of(OLD), strlen(OLD), bytes_of(NEW), strlen(NEW), course);
+    long before = blocks;
+    long number = 1;
+    while (refuse_in_opening(course, part, number)) {
+        CHECK(blocks == before);
+        number++;
+    }
+    CHECK(number > 1);
+    free(part);
+    squall_course_close(course);
+    free(course);
+    CHECK(blocks == 0);
+}
+
+/* What the header says of each call that allocates nothing. */
+static void calls_that_allocate_nothing(void) {
+    squall_part *part = open_part(3);
+    squall_answer answer;
+    uint8_t out[1024];
+    CHECK(squall_part_gather_board(part) == SQUALL_OK);
+    asked = 0;
+    CHECK(squall_part_serve(part, key(5), 0, &answer) == SQUALL_OK);
+    CHECK(spans_of(part) == 1);
+    CHECK(squall_part_frame(part, out, sizeof out) != 0);
+    CHECK(asked == 0);
+    drop_part(part);
+    CHECK(blocks == 0);
+}
+
+static const struct test TESTS[] = {
+    TEST(openings),
+    TEST(partitions_that_are_none),
+    TEST(gifts),
+    TEST(loads),
+    TEST(replies_for_errands),
+    TEST(frames),
+    TEST(refused_allocations),
+    TEST(refused_openings),
+    TEST(calls_that_allocate_nothing),
+};
+
+int main(void) {
+    CHECK(squall_frame_opened(1, 0, opening, sizeof opening) == sizeof opening);
+    return run_tests(TESTS, sizeof TESTS / sizeof TESTS[0]);
+}
