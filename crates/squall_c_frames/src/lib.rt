@@ -1,0 +1,12 @@
+//! Frames that wait behind handles until they are fetched, and single frames that come in whole.
+//!
+//! Its tests are in `crates/squall_test_nodes/src/leader_nodes.rt`.
+#![tactic(auto)]
+
+mod boards;
+mod frames;
+mod single;
+
+pub use boards::{board_frames, digest_frame, repair_frames};
+pub use frames::Frames;
+pub use single::whole;
