@@ -125,7 +125,14 @@ enum squall_status {
     SQUALL_STRANGER = 77,     /* the course does not bring these keys to this partition so */
     SQUALL_NOT_ALL = 78,      /* keys that come in are missing */
     SQUALL_NOTHING_DUE = 79,  /* no key comes in, in that sub-plan */
-    SQUALL_LOADED_BEFORE = 80 /* each key of the chunk was loaded before */
+    SQUALL_LOADED_BEFORE = 80, /* each key of the chunk was loaded before */
+
+    /* Why a leader does not go on. */
+    SQUALL_RUNNING = 91,   /* the course begun last is not over */
+    SQUALL_NO_NUMBER = 92, /* the greatest number is used */
+    SQUALL_IDLE = 93,      /* no course is begun */
+    SQUALL_NOT_DONE = 94,  /* a partition has not reported that it has all keys of a sub-plan */
+    SQUALL_NO_MORE = 95    /* all sub-plans are opened, and the last one is done */
 };
 
 /* What a partition replies to an errand. */
@@ -164,6 +171,7 @@ typedef struct squall_view squall_view;
 typedef struct squall_errand squall_errand;
 typedef struct squall_course squall_course;
 typedef struct squall_part squall_part;
+typedef struct squall_leader squall_leader;
 
 /* The keys from lo on, below hi, are to be asked for at the partition. */
 typedef struct squall_leg {
@@ -627,6 +635,95 @@ size_t squall_part_frame(squall_part *part, uint8_t *out, size_t room);
 
 /* Closes the partition, and frees what it has allocated. The room is plain memory again. */
 void squall_part_close(squall_part *part);
+
+
+/* LEADERS
+ *
+ * A leader begins one course after another and opens their sub-plans, one at a time. It hears from
+ * partitions what is done, and sends all that it knows. The rules above hold for it as for a router:
+ * squall_leader_open and squall_leader_resume open a room, and squall_leader_close closes it.
+ * squall_leader_open and squall_leader_begin have 192 KiB of stack. */
+
+/* How many bytes the room of a leader has. */
+size_t squall_leader_size(void);
+
+/* Opens a leader in the room: the keys lie as the plan says, and no course is begun. Its first course
+ * has the number `last` plus 1; give 0 if no number was used before. squall_leader_status then says
+ * whether there is one:
+ *   SQUALL_OK         there is
+ *   SQUALL_PLAN_..    the text is no plan
+ *   SQUALL_NO_MEMORY  an allocation failed
+ * If there is none, the other functions answer as they say below, and the room is closed in the same
+ * way. Allocates. */
+void squall_leader_open(const uint8_t *plan, size_t len, uint32_t last, squall_leader *room);
+
+/* Opens a leader that has begun this course. It is as if squall_leader_begin had just begun it, and it
+ * has heard nothing else. squall_leader_status then says SQUALL_OK, SQUALL_CLOSED if there is no course,
+ * or SQUALL_NO_MEMORY. The course is shared. Counts as a call with both handles. Allocates. */
+void squall_leader_resume(const squall_course *course, squall_leader *room);
+
+/* How the opening ended. Never changes. */
+uint32_t squall_leader_status(const squall_leader *leader);
+
+/* Where the plan fault lies that was answered last, of an opening or of squall_leader_begin, as
+ * squall_router_fault_at says it. */
+uint64_t squall_leader_fault_at(const squall_leader *leader);
+
+/* Takes one whole frame, as squall_router_hear does, and answers as that does. A delta is taken as
+ * reports. A digest is kept for squall_leader_gather_repair. Allocates. */
+uint32_t squall_leader_hear(squall_leader *leader, const uint8_t *frame, size_t len);
+
+/* Begins the course from the newest plan to this one. Its number is the last one plus 1, and its plan is
+ * the newest one then. The leader takes the report of it, which squall_leader_gather_board sends.
+ * Answers
+ *   SQUALL_OK           the course is begun; squall_leader_course opens it
+ *   SQUALL_NEW_PLAN_..  the text is no plan; squall_leader_fault_at says where
+ *   SQUALL_RUNNING      the course begun last is not over
+ *   SQUALL_NO_NUMBER    the greatest number is used
+ *   SQUALL_NO_MEMORY    an allocation failed
+ *   SQUALL_CLOSED       there is no leader
+ * At all but SQUALL_OK nothing changed but squall_leader_fault_at. Allocates. */
+uint32_t squall_leader_begin(squall_leader *leader, const uint8_t *plan, size_t len);
+
+/* Opens the course that the leader began last. squall_course_status then says SQUALL_OK, SQUALL_CLOSED
+ * if it has begun none, or SQUALL_NO_MEMORY if the course has more owners than can be counted. The room
+ * is closed by squall_course_close. Counts as a call with both handles. Allocates nothing. */
+void squall_leader_course(const squall_leader *leader, squall_course *room);
+
+/* Opens the next sub-plan of the course begun last. The leader takes the report of it. Answers
+ *   SQUALL_OK         the sub-plan is opened: out[0]
+ *   SQUALL_NOT_DONE   out[1] is the least partition that has not reported that it has all keys of
+ *                     sub-plan out[0], which was opened last
+ *   SQUALL_NO_MORE    all sub-plans are opened, and the last one is done
+ *   SQUALL_IDLE       no course is begun
+ *   SQUALL_NO_MEMORY  an allocation failed
+ *   SQUALL_CLOSED     there is no leader
+ * At all but SQUALL_OK nothing changed. Writes as many numbers as there is room for: 2 are
+ * enough. Allocates. */
+uint32_t squall_leader_open_next(squall_leader *leader, uint32_t *out, size_t room);
+
+/* 1 if all sub-plans of the course begun last are opened and the last one is done; 0 if not, if no
+ * course is begun, or if there is no leader. Allocates nothing. */
+uint32_t squall_leader_finished(const squall_leader *leader);
+
+/* Makes the frames of all that the leader heard and reported itself, as squall_router_gather_board
+ * does. Answers as that does. Allocates. */
+uint32_t squall_leader_gather_board(squall_leader *leader);
+
+/* Makes the frame of a digest of that, as squall_router_gather_digest does. Answers as that does.
+ * Allocates. */
+uint32_t squall_leader_gather_digest(squall_leader *leader);
+
+/* Makes the frames of what the digest that was heard last does not show, as squall_router_gather_repair
+ * does. Answers as that does. Allocates. */
+uint32_t squall_leader_gather_repair(squall_leader *leader);
+
+/* Writes the next frame that waits into `out`, as squall_router_frame does, and answers as that
+ * does. Allocates nothing. */
+size_t squall_leader_frame(squall_leader *leader, uint8_t *out, size_t room);
+
+/* Closes the leader, and frees what it has allocated. The room is plain memory again. */
+void squall_leader_close(squall_leader *leader);
 
 
 /* THE LIBRARY */

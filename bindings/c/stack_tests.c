@@ -40,8 +40,23 @@ static void nest(int depth, const char *begin, const char *end) {
     strcat(nested, ",\"plan\":[{\"part\":1,\"from\":[0,0],\"to\":\"end\"}]}");
 }
 
+/* The text as the first plan of a leader, and as the plan of its next course. */
+static void lead_by_texts(void) {
+    squall_leader *leader = (squall_leader *)room_of(squall_leader_size());
+    squall_leader_open(bytes_of(nested), strlen(nested), 0, leader);
+    uint32_t status = squall_leader_status(leader);
+    CHECK(status == SQUALL_OK || status == SQUALL_PLAN_JSON);
+    squall_leader_close(leader);
+    squall_leader_open(bytes_of(OLD), strlen(OLD), 0, leader);
+    status = squall_leader_begin(leader, bytes_of(nested), strlen(nested));
+    CHECK(status == SQUALL_OK || status == SQUALL_NEW_PLAN_JSON);
+    squall_leader_close(leader);
+    free(leader);
+}
+
 static void *read_texts(void *unused) {
     (void)unused;
+    lead_by_texts();
     squall_router *router = router_of(1, nested, nested);
     uint32_t status = squall_router_status(router);
     CHECK(status == SQUALL_OK || status == SQUALL_PLAN_JSON);
@@ -158,6 +173,32 @@ static void *opening_of_a_part(void *room) {
     return NULL;
 }
 
+/* A leader in the midst of the course hears all that the router knows. */
+static void *lead(void *unused) {
+    (void)unused;
+    squall_course *course = (squall_course *)room_of(squall_course_size());
+    squall_leader *leader = (squall_leader *)room_of(squall_leader_size());
+    uint32_t out[2];
+    squall_course_newest(opened, course);
+    squall_leader_resume(course, leader);
+    squall_course_close(course);
+    CHECK(squall_router_gather_board(opened) == SQUALL_OK);
+    size_t len = squall_router_frame(opened, frames, SQUALL_FRAME_BYTES);
+    CHECK(squall_leader_hear(leader, frames, len) == SQUALL_OK);
+    CHECK(squall_leader_open_next(leader, out, 2) == SQUALL_OK);
+    CHECK(squall_leader_gather_board(leader) == SQUALL_OK);
+    CHECK(squall_leader_gather_digest(leader) == SQUALL_OK);
+    len = squall_leader_frame(leader, frames, SQUALL_FRAME_BYTES);
+    CHECK(squall_leader_hear(leader, frames, len) == SQUALL_OK);
+    CHECK(squall_leader_gather_repair(leader) == SQUALL_OK);
+    squall_leader_course(leader, course);
+    squall_course_close(course);
+    squall_leader_close(leader);
+    free(leader);
+    free(course);
+    return NULL;
+}
+
 static void calls_over_many_spans(void) {
     frames = (uint8_t *)room_of(SQUALL_FRAME_BYTES);
     opened = router_of(1, OLD, NEW);
@@ -168,6 +209,7 @@ static void calls_over_many_spans(void) {
     in_thread_with(OTHER_CALLS, hold, part);
     squall_part_close(part);
     free(part);
+    in_thread(OTHER_CALLS, lead);
     drop_router(opened);
     free(frames);
 }

@@ -29,6 +29,9 @@ pub use Rattle.squall_c_parts.specs.PartCalls
 pub use Rattle.squall_c_parts.specs.PartHearing
 pub use Rattle.squall_c_parts.specs.PartFrames
 pub use Rattle.squall_c_parts.specs.PartValues
+pub use Rattle.squall_leader.specs.Leaders
+pub use Rattle.squall_c_frames.specs.Queues
+pub use Rattle.squall_c_leaders.specs.Nodes
 pub mod Status
 pub mod Opening
 pub mod Reporting
@@ -42,3 +45,5 @@ pub mod ErrandSlots
 pub mod Telling
 pub mod PartSlots
 pub mod Handles
+pub mod LeaderSlots
+pub mod LeaderHandles

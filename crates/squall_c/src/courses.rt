@@ -38,7 +38,7 @@ pub struct CourseSlot {
 }
 
 /// The slot of the course, or of why there is none.
-fn slot_with(alloc: Global, course: Result<Shared<Course>, Cause>) -> CourseSlot
+pub(crate) fn slot_with(alloc: Global, course: Result<Shared<Course>, Cause>) -> CourseSlot
     ensures { IsSlotWith course result }
 {
     match course {
@@ -91,7 +91,7 @@ fn again(course: &Arc<Course>) -> Result<Shared<Course>, AllocError>
 }
 
 /// The same, or that there was no memory for it.
-fn share(course: &Arc<Course>) -> Result<Shared<Course>, Cause>
+pub(crate) fn share(course: &Arc<Course>) -> Result<Shared<Course>, Cause>
     ensures course { GivesSeen (λ c. c) result (course_seen (arc_value course.now)) }
     ensures place { PlacesMemory result }
 {

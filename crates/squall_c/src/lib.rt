@@ -1,6 +1,6 @@
-//! Routers, views and errands for C.
+//! Routers, views, courses, errands and leaders for C.
 //!
-//! Each handle that C holds leads to a slot: a router, a view or an errand, or why there is none.
+//! Each handle that C holds leads to a slot: what was opened, or why there is none.
 //! What a call does is a function over slots, which has its whole contract; an export only turns
 //! pointers into borrows and says that contract again.
 #![tactic(auto)]
@@ -16,6 +16,9 @@ mod frames;
 mod handles;
 mod hearing;
 mod keymap_exports;
+mod leader_exports;
+mod leaders;
+mod leading;
 mod legs;
 mod part_exports;
 mod parts;
@@ -34,6 +37,8 @@ pub use courses::{CourseSlot, HeldCourse, course_may_cross};
 pub use errands::{ErrandSlot, errand_may_cross};
 pub use handles::{CCourse, CErrand, CPart, CRouter, CView};
 pub use hearing::heard_as_if_fed;
+pub use leader_exports::CLeader;
+pub use leaders::{LeaderSlot, leader_may_cross};
 pub use parts::{PartSlot, part_may_cross};
 pub use router::{RouterSlot, Station, slot_may_cross};
 pub use status::Cause;

@@ -1,0 +1,279 @@
+/* Tests of leaders with a heap of the host's own in the place of heap.c: each call once for each
+ * allocation that it makes, with that one refused. The call then answers SQUALL_NO_MEMORY, nothing has
+ * changed, and the same call succeeds afterwards. At the end each block was freed. The last line is
+ * `N passed, M failed`. */
+#include "check.h"
+
+/* ---- the heap */
+
+struct tried {
+    bool ok;
+    void *block;
+};
+
+struct tried rattle_alloc(size_t size, size_t align);
+struct tried rattle_realloc(void *block, size_t kept, size_t size, size_t align);
+void rattle_dealloc(void *block);
+
+static char nowhere[16];
+static long blocks;  /* that are allocated now */
+static long asked;   /* allocations since the count began */
+static long refused; /* the number of the one to refuse, or 0 */
+static bool refuses_all;
+
+static struct tried tried(void *block) {
+    return (struct tried){block != NULL, block != NULL ? block : nowhere};
+}
+
+static bool is_refused(void) {
+    return ++asked == refused || refuses_all;
+}
+
+struct tried rattle_alloc(size_t size, size_t align) {
+    struct tried answer = tried(is_refused() ? NULL : malloc(size != 0 ? size : align));
+    blocks += answer.ok;
+    return answer;
+}
+
+struct tried rattle_realloc(void *block, size_t kept, size_t size, size_t align) {
+    (void)kept;
+    return tried(is_refused() ? NULL : realloc(block, size != 0 ? size : align));
+}
+
+void rattle_dealloc(void *block) {
+    blocks--;
+    free(block);
+}
+
+/* ---- leaders */
+
+static const uint8_t EMPTY_DIGEST[] = {0x53, 0x51, 1, 2, 0, 0, 0, 8, 0, 0, 0, 0, 0, 0, 0, 0};
+
+static squall_leader *leader_of(const char *plan, uint32_t last) {
+    squall_leader *leader = (squall_leader *)room_of(squall_leader_size());
+    squall_leader_open(bytes_of(plan), strlen(plan), last, leader);
+    return leader;
+}
+
+static void drop_leader(squall_leader *leader) {
+    squall_leader_close(leader);
+    free(leader);
+}
+
+static uint32_t begin(squall_leader *leader) {
+    return squall_leader_begin(leader, bytes_of(NEW), strlen(NEW));
+}
+
+static uint32_t open_next(squall_leader *leader) {
+    uint32_t out[2] = {7, 7};
+    uint32_t status = squall_leader_open_next(leader, out, 2);
+    CHECK(out[0] == (status == SQUALL_OK ? 0 : 7) && out[1] == 7);
+    return status;
+}
+
+static uint32_t hear(squall_leader *leader) {
+    uint8_t frame[64];
+    long kept = refused;
+    bool all = refuses_all;
+    long count = asked;
+    refused = 0;
+    refuses_all = false;
+    size_t len = squall_frame_done(3, 0, 3, frame, sizeof frame);
+    refused = kept;
+    refuses_all = all;
+    asked = count;
+    return squall_leader_hear(leader, frame, len);
+}
+
+/* A leader that has begun nothing, was told something, has heard a digest and has a frame that waits. */
+static squall_leader *idle_leader(void) {
+    squall_leader *leader = leader_of(OLD, 6);
+    CHECK(squall_leader_status(leader) == SQUALL_OK);
+    CHECK(hear(leader) == SQUALL_OK);
+    CHECK(squall_leader_hear(leader, EMPTY_DIGEST, sizeof EMPTY_DIGEST) == SQUALL_OK);
+    CHECK(squall_leader_gather_board(leader) == SQUALL_OK);
+    return leader;
+}
+
+/* The same, in the midst of a course. */
+static squall_leader *busy_leader(void) {
+    squall_leader *leader = idle_leader();
+    CHECK(begin(leader) == SQUALL_OK);
+    CHECK(squall_leader_gather_board(leader) == SQUALL_OK);
+    return leader;
+}
+
+/* What a caller can see: the frame that waits, the frame of the board, and the course. */
+struct seen {
+    size_t waits;
+    size_t len;
+    uint8_t board[2048];
+    uint32_t number;
+    uint32_t finished;
+};
+
+static struct seen seen_of(squall_leader *leader) {
+    struct seen seen;
+    memset(&seen, 0, sizeof seen);
+    squall_course *course = (squall_course *)room_of(squall_course_size());
+    squall_leader_course(leader, course);
+    seen.number = squall_course_number(course);
+    squall_course_close(course);
+    free(course);
+    seen.finished = squall_leader_finished(leader);
+    seen.waits = squall_leader_frame(leader, seen.board, sizeof seen.board);
+    CHECK(squall_leader_gather_board(leader) == SQUALL_OK);
+    seen.len = squall_leader_frame(leader, seen.board, sizeof seen.board);
+    CHECK(squall_leader_gather_board(leader) == SQUALL_OK);
+    return seen;
+}
+
+/* How often the test that runs now was answered SQUALL_NO_MEMORY. */
+static int answered;
+
+/* Whether the status fits: no lack of memory if nothing was refused. */
+static bool fits(uint32_t status, bool was_refused) {
+    answered += status == SQUALL_NO_MEMORY;
+    return status == SQUALL_OK || (was_refused && status == SQUALL_NO_MEMORY);
+}
+
+typedef uint32_t leader_call(squall_leader *);
+
+/* The call with the allocation of that number refused; whether it made so many. */
+static bool refuse_one(long number, squall_leader *leader, leader_call *call) {
+    struct seen before = seen_of(leader);
+    asked = 0;
+    refused = number;
+    uint32_t status = call(leader);
+    bool was_refused = asked >= number;
+    refused = 0;
+    CHECK(fits(status, was_refused));
+    if (status == SQUALL_NO_MEMORY) {
+        struct seen after = seen_of(leader);
+        CHECK(memcmp(&before, &after, sizeof before) == 0);
+        CHECK(call(leader) == SQUALL_OK);
+    }
+    drop_leader(leader);
+    return was_refused;
+}
+
+static void refuse_each(squall_leader *(*made)(void), leader_call *call) {
+    long number = 1;
+    answered = 0;
+    while (refuse_one(number, made(), call)) {
+        number++;
+    }
+    CHECK(number > 1 && answered > 0);
+    CHECK(blocks == 0);
+}
+
+static void courses_begin(void) {
+    refuse_each(idle_leader, begin);
+}
+
+static void subplans_open(void) {
+    refuse_each(busy_leader, open_next);
+}
+
+static void frames_are_heard(void) {
+    refuse_each(busy_leader, hear);
+}
+
+static void boards(void) {
+    refuse_each(busy_leader, squall_leader_gather_board);
+}
+
+static void digests(void) {
+    refuse_each(busy_leader, squall_leader_gather_digest);
+}
+
+static void repairs(void) {
+    refuse_each(busy_leader, squall_leader_gather_repair);
+}
+
+/* An opening with the allocation of that number refused; whether it made so many. */
+static bool refuse_in_opening(long number) {
+    asked = 0;
+    refused = number;
+    squall_leader *leader = leader_of(OLD, 0);
+    bool was_refused = asked >= number;
+    refused = 0;
+    CHECK(fits(squall_leader_status(leader), was_refused));
+    CHECK(squall_leader_fault_at(leader) == SQUALL_NO_PLACE);
+    drop_leader(leader);
+    return was_refused;
+}
+
+static void openings(void) {
+    long number = 1;
+    answered = 0;
+    while (refuse_in_opening(number)) {
+        number++;
+    }
+    CHECK(number > 1 && answered > 0);
+    CHECK(blocks == 0);
+}
+
+/* The same of a leader in the midst of a course. */
+static bool refuse_in_resuming(const squall_course *course, long number) {
+    squall_leader *leader = (squall_leader *)room_of(squall_leader_size());
+    asked = 0;
+    refused = number;
+    squall_leader_resume(course, leader);
+    bool was_refused = asked >= number;
+    refused = 0;
+    CHECK(fits(squall_leader_status(leader), was_refused));
+    drop_leader(leader);
+    return was_refused;
+}
+
+static void resumptions(void) {
+    squall_course *course = (squall_course *)room_of(squall_course_size());
+    squall_course_open(7, bytes_of(OLD), strlen(OLD), bytes_of(NEW), strlen(NEW), course);
+    long number = 1;
+    answered = 0;
+    while (refuse_in_resuming(course, number)) {
+        number++;
+    }
+    CHECK(number > 1 && answered > 0);
+    squall_course_close(course);
+    free(course);
+    CHECK(blocks == 0);
+}
+
+static void calls_that_allocate_nothing(void) {
+    squall_leader *leader = busy_leader();
+    squall_course *course = (squall_course *)room_of(squall_course_size());
+    uint8_t frame[2048];
+    asked = 0;
+    refuses_all = true;
+    CHECK(squall_leader_finished(leader) == 0);
+    CHECK(squall_leader_status(leader) == SQUALL_OK);
+    CHECK(squall_leader_fault_at(leader) == SQUALL_NO_PLACE);
+    squall_leader_course(leader, course);
+    CHECK(squall_course_number(course) == 7);
+    CHECK(squall_leader_frame(leader, frame, sizeof frame) != 0);
+    squall_course_close(course);
+    CHECK(squall_leader_size() > 0);
+    CHECK(asked == 0);
+    refuses_all = false;
+    free(course);
+    drop_leader(leader);
+    CHECK(blocks == 0);
+}
+
+static const struct test TESTS[] = {
+    TEST(courses_begin),
+    TEST(subplans_open),
+    TEST(frames_are_heard),
+    TEST(boards),
+    TEST(digests),
+    TEST(repairs),
+    TEST(openings),
+    TEST(resumptions),
+    TEST(calls_that_allocate_nothing),
+};
+
+int main(void) {
+    return run_tests(TESTS, sizeof TESTS / sizeof TESTS[0]);
+}

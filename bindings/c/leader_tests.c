@@ -1,0 +1,265 @@
+/* Tests of leaders. Expected values are worked out by hand from the plans of examples/. The last line
+ * is `N passed, M failed`. */
+#include "check.h"
+
+static squall_leader *room_for_leader(void) {
+    return (squall_leader *)room_of(squall_leader_size());
+}
+
+static squall_leader *leader_of(const char *plan, uint32_t last) {
+    squall_leader *leader = room_for_leader();
+    squall_leader_open(bytes_of(plan), strlen(plan), last, leader);
+    return leader;
+}
+
+static void drop_leader(squall_leader *leader) {
+    squall_leader_close(leader);
+    free(leader);
+}
+
+static squall_course *begun_by(const squall_leader *leader) {
+    squall_course *course = (squall_course *)room_of(squall_course_size());
+    squall_leader_course(leader, course);
+    return course;
+}
+
+static void drop_course(squall_course *course) {
+    squall_course_close(course);
+    free(course);
+}
+
+static uint32_t begin(squall_leader *leader, const char *plan) {
+    return squall_leader_begin(leader, bytes_of(plan), strlen(plan));
+}
+
+/* The leader hears that the partition is done in the sub-plan. */
+static uint32_t hear_done(squall_leader *leader, uint32_t number, uint32_t sub, uint32_t part) {
+    uint8_t frame[64];
+    size_t len = squall_frame_done(number, sub, part, frame, sizeof frame);
+    return squall_leader_hear(leader, frame, len);
+}
+
+/* ---- leading */
+
+static void there_and_back(void) {
+    squall_leader *leader = leader_of(OLD, 0);
+    uint32_t out[3] = {7, 7, 7};
+    CHECK(squall_leader_status(leader) == SQUALL_OK);
+    CHECK(squall_leader_fault_at(leader) == SQUALL_NO_PLACE);
+    CHECK(squall_leader_finished(leader) == 0);
+    CHECK(squall_leader_open_next(leader, out, 3) == SQUALL_IDLE);
+    squall_course *course = begun_by(leader);
+    CHECK(squall_course_status(course) == SQUALL_CLOSED);
+    drop_course(course);
+    CHECK(begin(leader, NEW) == SQUALL_OK);
+    CHECK(begin(leader, OLD) == SQUALL_RUNNING);
+    CHECK(squall_leader_open_next(leader, out, 3) == SQUALL_OK);
+    CHECK(out[0] == 0 && out[1] == 7);
+    CHECK(squall_leader_open_next(leader, out, 3) == SQUALL_NOT_DONE);
+    CHECK(out[0] == 0 && out[1] == 3 && out[2] == 7);
+    CHECK(hear_done(leader, 1, 0, 3) == SQUALL_OK);
+    out[1] = 7;
+    CHECK(squall_leader_open_next(leader, out, 1) == SQUALL_NOT_DONE && out[1] == 7);
+    CHECK(squall_leader_open_next(leader, out, 2) == SQUALL_NOT_DONE && out[1] == 4);
+    CHECK(squall_leader_finished(leader) == 0);
+    CHECK(hear_done(leader, 1, 0, 4) == SQUALL_OK);
+    CHECK(squall_leader_finished(leader) == 1);
+    CHECK(squall_leader_open_next(leader, out, 0) == SQUALL_NO_MORE);
+    CHECK(begin(leader, OLD) == SQUALL_OK);
+    CHECK(squall_leader_finished(leader) == 0);
+    course = begun_by(leader);
+    drop_leader(leader);
+    squall_move moves[3];
+    CHECK(squall_course_status(course) == SQUALL_OK && squall_course_number(course) == 2);
+    CHECK(squall_course_moves(course, 0, moves, 3) == 2);
+    CHECK(moves[0].source == 3 && moves[0].dest == 1 && moves[1].source == 4);
+    drop_course(course);
+}
+
+static void numbers_end(void) {
+    squall_leader *leader = leader_of(OLD, 4294967294u);
+    CHECK(begin(leader, OLD) == SQUALL_OK);
+    CHECK(squall_leader_finished(leader) == 1);
+    CHECK(begin(leader, NEW) == SQUALL_NO_NUMBER);
+    squall_course *course = begun_by(leader);
+    CHECK(squall_course_number(course) == 4294967295u);
+    drop_course(course);
+    drop_leader(leader);
+}
+
+static void a_course_is_resumed(void) {
+    squall_course *course = (squall_course *)room_of(squall_course_size());
+    squall_leader *leader = room_for_leader();
+    uint32_t out[2];
+    squall_course_open(7, bytes_of(OLD), strlen(OLD), bytes_of(NEW), strlen(NEW), course);
+    squall_leader_resume(course, leader);
+    drop_course(course);
+    CHECK(squall_leader_status(leader) == SQUALL_OK);
+    CHECK(begin(leader, OLD) == SQUALL_RUNNING);
+    CHECK(squall_leader_open_next(leader, out, 2) == SQUALL_OK && out[0] == 0);
+    CHECK(hear_done(leader, 7, 0, 3) == SQUALL_OK && hear_done(leader, 7, 0, 4) == SQUALL_OK);
+    CHECK(begin(leader, OLD) == SQUALL_OK);
+    course = begun_by(leader);
+    CHECK(squall_course_number(course) == 8);
+    drop_course(course);
+    drop_leader(leader);
+}
+
+/* ---- leaders that are none, and texts that are no plans */
+
+/* What a handle without a leader answers. */
+static void answers_closed(squall_leader *leader) {
+    uint32_t out[2] = {7, 7};
+    uint8_t frame[8] = {7};
+    CHECK(begin(leader, NEW) == SQUALL_CLOSED);
+    CHECK(squall_leader_open_next(leader, out, 2) == SQUALL_CLOSED && out[0] == 7);
+    CHECK(squall_leader_finished(leader) == 0);
+    CHECK(squall_leader_hear(leader, frame, sizeof frame) == SQUALL_CLOSED);
+    CHECK(squall_leader_gather_board(leader) == SQUALL_CLOSED);
+    CHECK(squall_leader_gather_digest(leader) == SQUALL_CLOSED);
+    CHECK(squall_leader_gather_repair(leader) == SQUALL_CLOSED);
+    CHECK(squall_leader_frame(leader, frame, sizeof frame) == 0 && frame[0] == 7);
+    squall_course *course = begun_by(leader);
+    CHECK(squall_course_status(course) == SQUALL_CLOSED);
+    drop_course(course);
+}
+
+static void leaders_that_are_none(void) {
+    squall_leader *leader = leader_of("", 0);
+    CHECK(squall_leader_status(leader) == SQUALL_PLAN_JSON);
+    CHECK(squall_leader_fault_at(leader) == SQUALL_NO_PLACE);
+    answers_closed(leader);
+    drop_leader(leader);
+    leader = leader_of("{\"plan\":[{\"part\":1,\"from\":[0,0],\"to\":[3,0]}]}", 0);
+    CHECK(squall_leader_status(leader) == SQUALL_PLAN_GAP);
+    CHECK(squall_leader_fault_at(leader) == squall_rank(3, 0));
+    drop_leader(leader);
+    squall_course *none = (squall_course *)room_of(squall_course_size());
+    squall_course_open(0, bytes_of(OLD), strlen(OLD), bytes_of(NEW), strlen(NEW), none);
+    leader = room_for_leader();
+    squall_leader_resume(none, leader);
+    CHECK(squall_leader_status(leader) == SQUALL_CLOSED);
+    answers_closed(leader);
+    drop_leader(leader);
+    drop_course(none);
+}
+
+static void texts_that_are_no_plans(void) {
+    squall_leader *leader = leader_of(OLD, 0);
+    CHECK(begin(leader, "{\"plan\":[{\"part\":1,\"from\":[0,0],\"to\":[3,0]}]}") == SQUALL_NEW_PLAN_GAP);
+    CHECK(squall_leader_fault_at(leader) == squall_rank(3, 0));
+    CHECK(begin(leader, "{}") == SQUALL_NEW_PLAN_SHAPE);
+    CHECK(squall_leader_fault_at(leader) == SQUALL_NO_PLACE);
+    CHECK(squall_leader_status(leader) == SQUALL_OK);
+    CHECK(begin(leader, NEW) == SQUALL_OK);
+    drop_leader(leader);
+}
+
+/* ---- frames */
+
+/* The frames that wait in the leader, joined; how many bytes they have. */
+static size_t frames_of(squall_leader *leader, uint8_t *out, size_t room) {
+    size_t total = 0;
+    size_t len;
+    while ((len = squall_leader_frame(leader, out + total, room - total)) != 0) {
+        total += len;
+    }
+    return total;
+}
+
+/* The one frame that waits in a leader is heard by another. */
+static void pass(squall_leader *from, squall_leader *to) {
+    uint8_t frame[2048];
+    size_t len = squall_leader_frame(from, frame, sizeof frame);
+    CHECK(len != 0 && squall_leader_hear(to, frame, len) == SQUALL_OK);
+    CHECK(squall_leader_frame(from, frame, sizeof frame) == 0);
+}
+
+static bool know_the_same(squall_leader *one, squall_leader *other) {
+    uint8_t a[2048];
+    uint8_t b[2048];
+    CHECK(squall_leader_gather_board(one) == SQUALL_OK);
+    CHECK(squall_leader_gather_board(other) == SQUALL_OK);
+    size_t len = frames_of(one, a, sizeof a);
+    return len == frames_of(other, b, sizeof b) && memcmp(a, b, len) == 0;
+}
+
+static void a_standby_catches_up(void) {
+    squall_leader *leader = leader_of(OLD, 0);
+    squall_leader *standby = leader_of(OLD, 0);
+    uint32_t out[2];
+    CHECK(begin(leader, NEW) == SQUALL_OK);
+    CHECK(squall_leader_open_next(leader, out, 2) == SQUALL_OK);
+    CHECK(hear_done(leader, 1, 0, 3) == SQUALL_OK);
+    CHECK(!know_the_same(leader, standby));
+    CHECK(squall_leader_gather_repair(leader) == SQUALL_NO_DIGEST);
+    CHECK(squall_leader_gather_digest(standby) == SQUALL_OK);
+    pass(standby, leader);
+    CHECK(squall_leader_gather_repair(leader) == SQUALL_OK);
+    pass(leader, standby);
+    CHECK(know_the_same(leader, standby));
+    drop_leader(standby);
+    drop_leader(leader);
+}
+
+/* A router that knows the old plan alone follows the leader by its frames. */
+static void a_router_follows(void) {
+    squall_leader *leader = leader_of(OLD, 1);
+    squall_router *router = router_of(1, OLD, OLD);
+    uint8_t frame[2048];
+    CHECK(begin(leader, NEW) == SQUALL_OK);
+    CHECK(squall_leader_gather_board(leader) == SQUALL_OK);
+    size_t len = squall_leader_frame(leader, frame, sizeof frame);
+    CHECK(squall_router_hear(router, frame, len) == SQUALL_OK);
+    CHECK(squall_router_number(router) == 2);
+    CHECK(squall_router_route(router, squall_rank(2, 0)) == 1);
+    CHECK(hear_done(leader, 2, 0, 3) == SQUALL_OK);
+    CHECK(squall_leader_gather_board(leader) == SQUALL_OK);
+    len = squall_leader_frame(leader, frame, sizeof frame);
+    CHECK(squall_router_hear(router, frame, len) == SQUALL_OK);
+    CHECK(squall_router_route(router, squall_rank(2, 0)) == 3);
+    drop_router(router);
+    drop_leader(leader);
+}
+
+static void what_is_no_frame(void) {
+    squall_leader *leader = leader_of(OLD, 0);
+    uint8_t frame[64];
+    size_t len = squall_frame_done(1, 0, 3, frame, sizeof frame);
+    frame[len] = 0;
+    CHECK(squall_leader_hear(leader, frame, 0) == SQUALL_FRAME_SHORT);
+    CHECK(squall_leader_hear(leader, frame, len - 1) == SQUALL_FRAME_SHORT);
+    CHECK(squall_leader_hear(leader, frame, len + 1) == SQUALL_FRAME_SPARE);
+    frame[0] = 0;
+    CHECK(squall_leader_hear(leader, frame, len) == SQUALL_FRAME_MAGIC);
+    CHECK(squall_leader_gather_board(leader) == SQUALL_OK);
+    CHECK(squall_leader_frame(leader, frame, sizeof frame) == 0);
+    drop_leader(leader);
+}
+
+static void a_frame_waits_for_room(void) {
+    squall_leader *leader = leader_of(OLD, 0);
+    uint8_t frame[64];
+    memset(frame, 7, sizeof frame);
+    CHECK(squall_leader_gather_digest(leader) == SQUALL_OK);
+    CHECK(squall_leader_frame(leader, frame, 3) == 16 && frame[0] == 7);
+    CHECK(squall_leader_frame(leader, frame, 16) == 16 && frame[0] == 0x53 && frame[16] == 7);
+    CHECK(squall_leader_frame(leader, frame, sizeof frame) == 0);
+    drop_leader(leader);
+}
+
+static const struct test TESTS[] = {
+    TEST(there_and_back),
+    TEST(numbers_end),
+    TEST(a_course_is_resumed),
+    TEST(leaders_that_are_none),
+    TEST(texts_that_are_no_plans),
+    TEST(a_standby_catches_up),
+    TEST(a_router_follows),
+    TEST(what_is_no_frame),
+    TEST(a_frame_waits_for_room),
+};
+
+int main(void) {
+    return run_tests(TESTS, sizeof TESTS / sizeof TESTS[0]);
+}

@@ -1,0 +1,211 @@
+//! Leaders behind handles: what they hear, begin, open and send.
+
+ghost use Rattle.std.specs.Prelude.{◌≡◌, length, take};
+ghost use Rattle.squall_c_frames.specs.Queues.{room_after, first_length};
+ghost use Rattle.squall_c_values.specs.Rooms.{over};
+ghost use Rattle.squall_c.specs.LeaderSlots.{leader_number, hear_number, begin_number, open_number, board_number, repair_number, encode_number};
+ghost use Rattle.squall_c.specs.LeaderSlots.{numbers_told, frames_of_leader, leader_slot_after};
+ghost use Rattle.squall_c.specs.LeaderSlots.{LeaderHears, LeaderBegins, LeaderOpens, LeaderGathersBoard, LeaderGathersDigest, LeaderGathersRepair};
+
+use crate::leaders::LeaderSlot;
+use crate::router::read_plan;
+use crate::status::{CLOSED, IN_NEW_PLAN, NO_DIGEST, NO_MEMORY, OK, TOO_LONG, wire_status};
+use squall_c_leaders::{LeaderNode, RepairFault};
+use squall_leader::LeaderFault;
+use squall_plan::Plan;
+use squall_wire::{EncodeFault, WireFault};
+use std::alloc::AllocError;
+
+/// The course begun last is not over.
+const RUNNING: u32 = 91;
+
+/// The greatest number is used.
+const NO_NUMBER: u32 = 92;
+
+/// No course is begun.
+const IDLE: u32 = 93;
+
+/// A partition has not reported that it has all keys of the sub-plan opened last.
+const NOT_DONE: u32 = 94;
+
+/// All sub-plans are opened, and the last one is done.
+const NO_MORE: u32 = 95;
+
+/// The number of why a leader does not go on.
+fn leader_number(fault: &LeaderFault) -> u32
+    ensures { result ≡ leader_number fault.now }
+{
+    match fault {
+        LeaderFault::Running => RUNNING,
+        LeaderFault::NoNumber => NO_NUMBER,
+        LeaderFault::Idle => IDLE,
+        LeaderFault::NotDone { .. } => NOT_DONE,
+        LeaderFault::NoMore => NO_MORE,
+        LeaderFault::NoMemory => NO_MEMORY,
+    }
+}
+
+/// How it ended that a leader was to hear a frame.
+fn hear_number(answer: Result<(), WireFault>) -> u32
+    ensures { result ≡ hear_number answer }
+{
+    match answer {
+        Ok(()) => OK,
+        Err(fault) => wire_status(fault),
+    }
+}
+
+/// Hears one whole frame: its message is taken, or the status tells its fault and nothing changes.
+pub(crate) fn leader_hear(slot: &mut LeaderSlot, frame: &[u8]) -> u32
+    ensures { LeaderHears frame.now slot.old slot.new result }
+{
+    match &mut slot.node {
+        Some(node) => hear_number(node.hear(frame)),
+        None => CLOSED,
+    }
+}
+
+/// How it ended that a leader was to begin a course.
+fn begin_number(answer: Result<(), LeaderFault>) -> u32
+    ensures { result ≡ begin_number answer }
+{
+    match answer {
+        Ok(()) => OK,
+        Err(fault) => leader_number(&fault),
+    }
+}
+
+/// Begins the course to the plan of the text. The fault of the text if it is no plan, whose place the
+/// slot keeps, and else why the leader does not begin it.
+pub(crate) fn leader_begin(slot: &mut LeaderSlot, text: &[u8]) -> u32
+    ensures { LeaderBegins text.now slot.old slot.new result }
+{
+    let Some(node) = &mut slot.node else {
+        return CLOSED;
+    };
+    match read_plan(node.allocator(), text, IN_NEW_PLAN) {
+        Ok(plan) => begin_number(node.begin(&plan)),
+        Err(cause) => {
+            if cause.status != NO_MEMORY {
+                slot.fault_at = cause.at;
+            }
+            cause.status
+        }
+    }
+}
+
+/// Writes the numbers into the room from its start on, as many as it holds.
+fn put_numbers(numbers: &[u32], room: &mut [u32])
+    ensures { room.new ≡ over (take (length room.old) numbers.now) room.old }
+{
+    let count = numbers.len().min(room.len());
+    room[..count].copy_from_slice(&numbers[..count]);
+}
+
+/// How it ended that a leader was to open a sub-plan. The room gets the sub-plan that was opened, or
+/// the one that is not done and the partition that is waited for.
+fn tell_opening(answer: Result<u32, LeaderFault>, room: &mut [u32]) -> u32
+    ensures status { result ≡ open_number answer }
+    ensures room { room.new ≡ over (take (length room.old) (numbers_told answer)) room.old }
+{
+    match answer {
+        Ok(sub) => {
+            put_numbers(&[sub], room);
+            OK
+        }
+        Err(fault) => {
+            if let LeaderFault::NotDone { sub, part } = &fault {
+                put_numbers(&[*sub, part.get()], room);
+            }
+            leader_number(&fault)
+        }
+    }
+}
+
+/// Opens the next sub-plan. The room gets its number, as far as it holds it.
+pub(crate) fn leader_open_next(slot: &mut LeaderSlot, room: &mut [u32]) -> u32
+    ensures { LeaderOpens slot.old room.old slot.new room.new result }
+{
+    match &mut slot.node {
+        Some(node) => tell_opening(node.open_next(), room),
+        None => CLOSED,
+    }
+}
+
+/// How it ended that the frames of a board were to be made.
+fn board_number(answer: Result<(), AllocError>) -> u32
+    ensures { result ≡ board_number answer }
+{
+    match answer {
+        Ok(()) => OK,
+        Err(_) => NO_MEMORY,
+    }
+}
+
+/// Has the frames of all that the leader heard and reported itself wait, in place of those that waited
+/// before.
+pub(crate) fn leader_gather_board(slot: &mut LeaderSlot) -> u32
+    ensures { LeaderGathersBoard slot.old slot.new result }
+{
+    match &mut slot.node {
+        Some(node) => board_number(node.gather_board()),
+        None => CLOSED,
+    }
+}
+
+/// How it ended that the frame of a digest was to be made.
+fn encode_number(answer: Result<(), EncodeFault>) -> u32
+    ensures { result ≡ encode_number answer }
+{
+    match answer {
+        Ok(()) => OK,
+        Err(EncodeFault::TooLong) => TOO_LONG,
+        Err(EncodeFault::NoMemory) => NO_MEMORY,
+    }
+}
+
+/// Has the frame of the digest of that wait, in place of the frames that waited before. `TOO_LONG` if
+/// the digest has more rows than fit a frame.
+pub(crate) fn leader_gather_digest(slot: &mut LeaderSlot) -> u32
+    ensures { LeaderGathersDigest slot.old slot.new result }
+{
+    match &mut slot.node {
+        Some(node) => encode_number(node.gather_digest()),
+        None => CLOSED,
+    }
+}
+
+/// How it ended that the frames of a repair were to be made.
+fn repair_number(answer: Result<(), RepairFault>) -> u32
+    ensures { result ≡ repair_number answer }
+{
+    match answer {
+        Ok(()) => OK,
+        Err(RepairFault::NoDigest) => NO_DIGEST,
+        Err(RepairFault::NoMemory) => NO_MEMORY,
+    }
+}
+
+/// Has the frames of what the digest heard last does not show wait, in place of those that waited
+/// before. `NO_DIGEST` if none was heard.
+pub(crate) fn leader_gather_repair(slot: &mut LeaderSlot) -> u32
+    ensures { LeaderGathersRepair slot.old slot.new result }
+{
+    match &mut slot.node {
+        Some(node) => repair_number(node.gather_repair()),
+        None => CLOSED,
+    }
+}
+
+/// Writes the first frame that waits into the room from its start on, if that has as many bytes, and it
+/// waits no longer then. Answers how long it is, and 0 if none waits.
+pub(crate) fn leader_frame(slot: &mut LeaderSlot, room: &mut [u8]) -> usize
+    ensures room { room.new ≡ room_after (frames_of_leader slot.old.node) room.old }
+    ensures slot { slot.new ≡ leader_slot_after slot.old room.old }
+    ensures count { result ≡ first_length (frames_of_leader slot.old.node) }
+{
+    match &mut slot.node {
+        Some(node) => node.next_frame(room),
+        None => 0,
+    }
+}
