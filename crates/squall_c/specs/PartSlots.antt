@@ -4,8 +4,8 @@ use Rattle.squall_key.specs.Keys.{part_limit}
 use Rattle.squall_course.specs.Change.{Change}
 use Rattle.squall_c_parts.specs.declared.chunks.CChunk.{CChunk}
 use Rattle.squall_c_parts.specs.declared.chunks.CAnswer.{CAnswer}
-use Rattle.squall_c_parts.specs.declared.spans.CSpan.{CSpan}
-use Rattle.squall_c_parts.specs.PartValues.{spans_that_fit}
+use Rattle.squall_c_values.specs.declared.spans.CSpan.{CSpan}
+use Rattle.squall_c_values.specs.Values.{spans_that_fit}
 use Rattle.squall_c_parts.specs.Nodes.{NodeValue, new_node, given_spans, loaded_spans}
 use Rattle.squall_c_parts.specs.PartCalls.{Gives, GivesAt, Loads, Finishes, Serves}
 use Rattle.squall_c_parts.specs.PartHearing.{HearsFrame}

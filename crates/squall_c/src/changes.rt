@@ -5,7 +5,8 @@ ghost use Rattle.squall_changes.specs.Changes.{PutsChanges};
 ghost use Rattle.squall_c.specs.Views.{seen};
 
 use crate::views::{View, ViewSlot};
-use squall_changes::{CSpan, owners_are_partitions, put_changes, put_each_key};
+use squall_c_values::CSpan;
+use squall_changes::{owners_are_partitions, put_changes, put_each_key};
 
 /// The changes between two views.
 fn both_changes(before: &View, after: &View, lo: u64, hi: u64, room: &mut [CSpan]) -> usize

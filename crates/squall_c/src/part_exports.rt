@@ -17,7 +17,8 @@ use crate::parts::{
     PartSlot, close_part, finish, give, give_at, given, held, load, loaded, open_part, part_board,
     part_digest, part_frame, part_hear, part_repair, part_status, serve,
 };
-use squall_c_parts::{CAnswer, CChunk, CSpan};
+use squall_c_parts::{CAnswer, CChunk};
+use squall_c_values::CSpan;
 use std::alloc::Global;
 
 /// How many bytes the room of a partition has at least. It is aligned to 16.

@@ -9,7 +9,7 @@ ghost use Rattle.squall_c.specs.PartSlots.{held_in, given_in, loaded_in, PartGat
 use crate::courses::CourseSlot;
 use crate::router::may_cross;
 use crate::status::{CLOSED, LIMIT, NO_MEMORY, OK};
-use squall_c_parts::{CAnswer, CChunk, CSpan, Node};
+use squall_c_parts::{CAnswer, CChunk, Node};
 use squall_key::PartId;
 use std::alloc::Global;
 

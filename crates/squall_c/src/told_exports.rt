@@ -14,7 +14,7 @@ use crate::router::RouterSlot;
 use crate::tallies::{clashed, counts};
 use crate::texts::{router_picture, status_text};
 use crate::views::ViewSlot;
-use squall_changes::CSpan;
+use squall_c_values::CSpan;
 use squall_tally::Tally;
 
 /// 1 if the router heard of different pairs of plans under a number above that of its course, else 0:

@@ -1,3 +1,2 @@
-mod Written
 mod PieceFrames
 mod Keys

@@ -1,4 +1,4 @@
--- What C sees of spans, chunks and replies (this project).
+-- What C sees of chunks and replies (this project).
 use Rattle.std.specs.Prelude.{ℕ, nat_lt, nat_le, ◌&&◌, List, drop, Option, None, if◌then◌else◌}
 use Rattle.std.specs.Option.{option_and_then}
 use Rattle.squall_key.specs.Keys.{top, part_limit}
@@ -9,16 +9,6 @@ use Rattle.squall_protocol.specs.Chunks.{ChunkValue, chunk_of}
 use Rattle.squall_c_values.specs.Values.{firsts_that_fit}
 use Rattle.squall_c_parts.specs.declared.chunks.CChunk.{CChunk}
 use Rattle.squall_c_parts.specs.declared.chunks.CAnswer.{CAnswer}
-use Rattle.squall_c_parts.specs.declared.spans.CSpan.{CSpan}
-
--- ---- spans
-
-abbrev pub c_span : Interval → CSpan
-c_span s = record { lo = s.lo; hi = s.hi }
-
--- the spans from a place on, as many as the room holds
-abbrev pub spans_that_fit : List Interval → ℕ → List CSpan → List CSpan
-spans_that_fit spans from room = firsts_that_fit c_span (drop from spans) room
 
 -- ---- chunks
 

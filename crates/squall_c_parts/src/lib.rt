@@ -9,9 +9,7 @@ mod chunks;
 mod frames;
 mod hearing;
 mod node;
-mod spans;
 mod status;
 
 pub use chunks::{CAnswer, CChunk};
 pub use node::Node;
-pub use spans::CSpan;

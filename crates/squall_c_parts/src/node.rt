@@ -4,11 +4,11 @@ ghost use Rattle.std.specs.Prelude.{◌≡◌, IfOk, length};
 ghost use Rattle.std.specs.Arc.{arc_value};
 ghost use Rattle.std.specs.Option.{option_map};
 ghost use Rattle.squall_c_values.specs.Rooms.{over};
-ghost use Rattle.squall_c_parts.specs.PartValues.{spans_that_fit};
+ghost use Rattle.squall_c_values.specs.Values.{spans_that_fit};
 ghost use Rattle.squall_c_parts.specs.Nodes.{new_node, spans_in, given_spans, loaded_spans};
 
 use crate::frames::Frames;
-use crate::spans::{CSpan, put_spans};
+use squall_c_values::{CSpan, put_spans};
 use squall_course::Course;
 use squall_key::PartId;
 use squall_part::Part;

@@ -1,6 +1,7 @@
--- What C sees of ranges, moves, receivers and places (this project).
+-- What C sees of ranges, moves, receivers, spans and places (this project).
 use Rattle.std.specs.Prelude.{ℕ, nat_lt, List, map, length, take, drop, Option, None, Some, if◌then◌else◌}
 use Rattle.squall_key.specs.Keys.{top}
+use Rattle.squall_span.specs.Spans.{Interval}
 use Rattle.squall_plan.specs.declared.range.PlanRange.{PlanRange}
 use Rattle.squall_plan.specs.Ranges.{owner_of}
 use Rattle.squall_course.specs.Change.{Change}
@@ -10,6 +11,7 @@ use Rattle.squall_course.specs.Moves.{moves_of, receivers_of}
 use Rattle.squall_c_values.specs.declared.legs.CLeg.{CLeg}
 use Rattle.squall_c_values.specs.declared.moves.CMove.{CMove}
 use Rattle.squall_c_values.specs.declared.places.CPlace.{CPlace}
+use Rattle.squall_c_values.specs.declared.spans.CSpan.{CSpan}
 
 -- as many of the items, each seen so, as the room holds
 abbrev pub firsts_that_fit : {X Y : Type 0} → (X → Y) → List X → List Y → List Y
@@ -24,6 +26,14 @@ c_leg r = record { lo = r.span.lo; hi = r.span.hi; part = r.part }
 -- the ranges from a place on
 abbrev pub ranges_that_fit : List PlanRange → ℕ → List CLeg → List CLeg
 ranges_that_fit ranges from room = firsts_that_fit c_leg (drop from ranges) room
+
+-- a span
+abbrev pub c_span : Interval → CSpan
+c_span s = record { lo = s.lo; hi = s.hi }
+
+-- the spans from a place on
+abbrev pub spans_that_fit : List Interval → ℕ → List CSpan → List CSpan
+spans_that_fit spans from room = firsts_that_fit c_span (drop from spans) room
 
 -- a move
 abbrev pub c_move : Move → CMove

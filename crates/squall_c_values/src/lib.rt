@@ -1,4 +1,4 @@
-//! What C sees of moves, legs, places and frames of reports, and how they are written into rooms.
+//! What C sees of moves, legs, spans, places and frames of reports, and how they are written into rooms.
 //!
 //! A *room* is a list that the caller lends. What fits is written from its start on, and the rest
 //! of it stays.
@@ -26,9 +26,11 @@ mod frames;
 mod legs;
 mod moves;
 mod places;
+mod spans;
 mod tail;
 
 pub use frames::{NO_COUNT, put_report};
 pub use legs::{CLeg, put_ranges};
 pub use moves::{CMove, put_moves, put_receivers};
 pub use places::{CPlace, put_places};
+pub use spans::{CSpan, put_spans};

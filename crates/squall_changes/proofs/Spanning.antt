@@ -9,10 +9,11 @@ use Rattle.squall_key.specs.Keys.{top}
 use Rattle.squall_span.specs.Spans.{Interval, interval, span_has, has, Beyond, IsCanonical, EndsBy, insert_span}
 use Rattle.squall_span.specs.SpanLaws.{inside, outside_below, outside_above, has_below, has_first, canonical-insert, has-insert, has-append, canonical-append, ends_by_keys, beyond_by_keys}
 use Rattle.squall_c_values.specs.Rooms.{over}
-use Rattle.squall_changes.specs.declared.put.CSpan.{CSpan}
+use Rattle.squall_c_values.specs.declared.spans.CSpan.{CSpan}
 use Rattle.squall_plan.specs.Ranges.{owner_of}
 use Rattle.squall_changes.specs.Walks.{WalkValue, walk_at, IsNextChange}
-use Rattle.squall_changes.specs.Changes.{differs, AreChanges, PutsChanges, c_span, given, keys_of, last_end, reached}
+use Rattle.squall_changes.specs.Changes.{differs, AreChanges, PutsChanges, given, keys_of, last_end, reached}
+use Rattle.squall_c_values.specs.Values.{c_span}
 
 -- ---- there are changes between any two ranks
 

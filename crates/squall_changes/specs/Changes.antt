@@ -2,7 +2,8 @@
 use Rattle.std.specs.Prelude.{◌≡◌, ℕ, nat_lt, ◌==◌, Bool, not, ◌&&◌, List, [], ◌∷◌, map, length, take, if◌then◌else◌}
 use Rattle.squall_span.specs.Spans.{Interval, interval, span_has, has, IsCanonical}
 use Rattle.squall_c_values.specs.Rooms.{over}
-use Rattle.squall_changes.specs.declared.put.CSpan.{CSpan}
+use Rattle.squall_c_values.specs.Values.{firsts_that_fit, c_span}
+use Rattle.squall_c_values.specs.declared.spans.CSpan.{CSpan}
 
 -- the routes of the key differ
 abbrev pub differs : (ℕ → ℕ) → (ℕ → ℕ) → ℕ → Bool
@@ -14,20 +15,12 @@ pub record AreChanges (before after : ℕ → ℕ) (lo hi : ℕ) (spans : List I
   pub longest : IsCanonical spans
   pub keys : (k : ℕ) → has spans k ≡ (span_has (interval lo hi) k && differs before after k)
 
--- a span as C sees it
-abbrev pub c_span : Interval → CSpan
-c_span s = record { lo = s.lo; hi = s.hi }
-
--- as many spans as a room holds
-abbrev pub spans_that_fit : List Interval → List CSpan → List CSpan
-spans_that_fit spans room = take (length room) (map c_span spans)
-
 -- the room was filled with the changes of the routes, as far as they fit
 pub record PutsChanges (before after : ℕ → ℕ) (lo hi : ℕ) (old new : List CSpan) (count : ℕ) : Type 0 where
   pub all : List Interval
   pub changes : AreChanges before after lo hi all
-  pub put : new ≡ over (spans_that_fit all old) old
-  pub counted : count ≡ length (spans_that_fit all old)
+  pub put : new ≡ over (firsts_that_fit c_span all old) old
+  pub counted : count ≡ length (firsts_that_fit c_span all old)
 
 -- ---- what was given
 

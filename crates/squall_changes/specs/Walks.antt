@@ -3,7 +3,7 @@ use Rattle.std.specs.Prelude.{◌≡◌, ℕ, ◌<◌, ◌≤◌, nat_le, Bool, 
 use Rattle.squall_key.specs.Keys.{top}
 use Rattle.squall_plan.specs.declared.range.PlanRange.{PlanRange}
 use Rattle.squall_plan.specs.Ranges.{owner_of, IsTiling}
-use Rattle.squall_changes.specs.declared.put.CSpan.{CSpan}
+use Rattle.squall_c_values.specs.declared.spans.CSpan.{CSpan}
 use Rattle.squall_changes.specs.Changes.{differs}
 
 -- ---- the legs of one table

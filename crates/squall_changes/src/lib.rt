@@ -23,4 +23,4 @@ mod put;
 mod side;
 mod walk;
 
-pub use put::{CSpan, given_spans_tell_the_keys, owners_are_partitions, put_changes, put_each_key};
+pub use put::{given_spans_tell_the_keys, owners_are_partitions, put_changes, put_each_key};

@@ -4,22 +4,13 @@ ghost use Rattle.std.specs.Prelude.{◌≡◌, ◌≤◌, ◌<◌, ℕ, List, na
 ghost use Rattle.squall_key.specs.Keys.{top, part_limit};
 ghost use Rattle.squall_span.specs.Spans.{has};
 ghost use Rattle.squall_plan.specs.Ranges.{owner_of};
-ghost use Rattle.squall_changes.specs.declared.put.CSpan.{CSpan as CSpanValue};
+ghost use Rattle.squall_c_values.specs.declared.spans.CSpan.{CSpan as CSpanValue};
 ghost use Rattle.squall_changes.specs.Changes.{PutsChanges, differs, reached, given, keys_of};
 
 use crate::walk::Walk;
+use squall_c_values::CSpan;
 use squall_key::{Bound, Key};
 use squall_table::RouteTable;
-
-/// The keys from rank `lo` on, below rank `hi`.
-#[repr(C)]
-#[derive(Clone, Copy, Debug, PartialEq, Eq)]
-pub struct CSpan {
-    /// The rank of the least key.
-    pub lo: u64,
-    /// The rank above the greatest key.
-    pub hi: u64,
-}
 
 /// Writes the changes of the walk into the room, from its start on, as many as it holds, and answers
 /// how many.

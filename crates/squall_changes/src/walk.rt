@@ -4,8 +4,8 @@ ghost use Rattle.std.specs.Prelude.{◌≡◌, ◌<◌, ◌≤◌, ℕ, not};
 ghost use Rattle.squall_key.specs.Keys.{top};
 ghost use Rattle.squall_changes.specs.Walks.{walk_over, walk_at, differs_on, NextChange};
 
-use crate::put::CSpan;
 use crate::side::Side;
+use squall_c_values::CSpan;
 use squall_key::Key;
 use squall_table::RouteTable;
 use std::marker::Model;

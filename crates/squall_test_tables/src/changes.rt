@@ -3,7 +3,8 @@
 mod example;
 
 use squall_board::Board;
-use squall_changes::{CSpan, put_changes, put_each_key};
+use squall_c_values::CSpan;
+use squall_changes::{put_changes, put_each_key};
 use squall_course::Course;
 use squall_example::{course, load};
 use squall_report::Report;

@@ -1,7 +1,8 @@
 //! The example of the crate's first page.
 
 use super::{new_table, old_table};
-use squall_changes::{CSpan, put_changes};
+use squall_c_values::CSpan;
+use squall_changes::put_changes;
 use squall_course::Course;
 use squall_example::course;
 use squall_table::RouteTable;

@@ -3,7 +3,7 @@ use Rattle.squall_c.proofs.Steps.{◌≡◌, ℕ, [], ◌∷◌, ◌++◌, refl,
 use Rattle.squall_c.specs.declared.parts.PartSlot as declared
 use Rattle.squall_c.specs.contracts.parts.PartSlot.{the_row as R}
 use Rattle.squall_c.proofs.parts.PartSlot.TheLaws.{the_row_laws as L}
-use Rattle.squall_c_parts.specs.contracts.spans.CSpan.{the_row as Span}
+use Rattle.squall_c_values.specs.contracts.spans.CSpan.{the_row as Span}
 use Rattle.squall_c_values.specs.Rooms.{over}
 use Rattle.squall_c.specs.PartSlots.{given_in}
 use Rattle.squall_c.specs.contracts.part_exports.squall_part_given as f

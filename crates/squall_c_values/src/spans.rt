@@ -1,9 +1,10 @@
-//! Spans of keys, as C sees them, and how they are written into rooms.
+//! Spans of keys, as C sees them.
 
-ghost use Rattle.std.specs.Prelude.{◌≡◌, drop, length};
+ghost use Rattle.std.specs.Prelude.{◌≡◌, length};
 ghost use Rattle.squall_c_values.specs.Rooms.{over};
-ghost use Rattle.squall_c_parts.specs.PartValues.{c_span, spans_that_fit};
+ghost use Rattle.squall_c_values.specs.Values.{c_span, spans_that_fit};
 
+use crate::tail::tail_from;
 use squall_span::Span;
 
 /// The keys from rank `lo` on, below rank `hi`.
@@ -26,16 +27,6 @@ fn span_of(span: &Span) -> CSpan
     }
 }
 
-/// What follows the first `from` spans. None if there are no more.
-fn tail_from(spans: &[Span], from: usize) -> &[Span]
-    ensures { result.now ≡ drop from spans.now }
-{
-    match spans.get(from..) {
-        Some(tail) => tail,
-        None => &[],
-    }
-}
-
 /// Writes the spans into the room, from its start on, as many as it holds, and answers how many.
 fn put_all(spans: &[Span], room: &mut [CSpan]) -> usize
     ensures spans { room.new ≡ over (spans_that_fit spans.now 0 room.old) room.old }
@@ -50,7 +41,7 @@ fn put_all(spans: &[Span], room: &mut [CSpan]) -> usize
 
 /// Writes the spans, from the place `from` on, into the room, as many as it holds, and answers how
 /// many.
-pub(crate) fn put_spans(spans: &[Span], from: usize, room: &mut [CSpan]) -> usize
+pub fn put_spans(spans: &[Span], from: usize, room: &mut [CSpan]) -> usize
     ensures spans { room.new ≡ over (spans_that_fit spans.now from room.old) room.old }
     ensures count { result ≡ length (spans_that_fit spans.now from room.old) }
 {

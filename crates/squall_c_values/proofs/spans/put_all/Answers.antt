@@ -1,8 +1,8 @@
 use Rattle.std.specs.Prelude.{◌<◌, length}
 use Rattle.std.proofs.Common.{add-one, arith, ◌∙◌, length-set}
-use Rattle.squall_c_parts.specs.PartValues.{c_span}
-use Rattle.squall_c_parts.proofs.Written.{written_more}
-use Rattle.squall_c_parts.proofs.spans.put_all.Goals as goal
+use Rattle.squall_c_values.specs.Values.{c_span}
+use Rattle.squall_c_values.proofs.Written.{written_more}
+use Rattle.squall_c_values.proofs.spans.put_all.Goals as goal
 
 pub loop-at-preserved : goal.loop-at-preserved
 loop-at-preserved c =
