@@ -65,10 +65,7 @@ pub(crate) fn refusal(alloc: Global, name: &str, fault: WireFault) -> Result<Str
 
 /// The board of the files: the join of all boards in them. Or the line that refuses the first file
 /// that has a fault.
-pub(crate) fn join_files(
-    alloc: Global,
-    files: &[NamedFile],
-) -> Result<Result<Board, String>, AllocError>
+pub fn join_files(alloc: Global, files: &[NamedFile]) -> Result<Result<Board, String>, AllocError>
     ensures { IfOk result (λ joined. IsJoined string_bytes joined (board_of_files files.now)) }
 {
     let mut board = Board::new(alloc);

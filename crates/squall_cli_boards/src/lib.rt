@@ -21,5 +21,7 @@ mod routes;
 pub use answer::Answer;
 pub use courses::CourseQuestion;
 pub use file::NamedFile;
+pub use joining::join_files;
+pub use plans::read_plans;
 pub use question::{Question, answer_to};
 pub use report_words::{report_files, report_question};

@@ -41,7 +41,7 @@ fn refused(alloc: Global, which: &str, fault: PlanFault) -> Result<Answer, Alloc
 }
 
 /// The plans of the first two files, or the answer that refuses one of them.
-pub(crate) fn read_plans(
+pub fn read_plans(
     alloc: Global,
     files: &[NamedFile],
 ) -> Result<Result<(Plan, Plan), Answer>, AllocError>
