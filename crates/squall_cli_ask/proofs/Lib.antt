@@ -1,3 +1,4 @@
 pub mod Telling
 mod Gathering
 pub mod Inquired
+pub mod Followed

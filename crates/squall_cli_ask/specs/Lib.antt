@@ -4,8 +4,10 @@ pub use Rattle.squall_cli_lines.specs.Heeding
 pub use Rattle.squall_cli_boards.specs.Answers
 pub use Rattle.squall_cli_boards.specs.Questions
 pub use Rattle.squall_cli_boards.specs.ReportWords
+pub use Rattle.squall_cli_stream.specs.Written
 pub mod Files
 pub mod Reads
 pub mod Told
 pub mod Gathered
 pub mod Asked
+pub mod Followed

@@ -42,6 +42,10 @@ unopened_told name = codes "squall: cannot open " ++ (name ++ codes "\n")
 abbrev pub no_report_told : List ℕ
 no_report_told = codes "error: the words are no report: see squall help report\n"
 
+-- what is told of a file that is standard input, which is read as it comes
+abbrev pub input_taken_told : List ℕ
+input_taken_told = codes "error: standard input is read as it comes, so that no file can be -\n"
+
 -- ---- what was told
 
 -- a text was told: standard error took a prefix of it, and all of it unless a write there failed or took no byte

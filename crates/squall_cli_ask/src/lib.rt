@@ -1,4 +1,5 @@
-//! Answers what is asked of board files: reads the files that the words name, and writes the answer.
+//! Answers what is asked of board files, and of standard input as it comes: reads the files that the
+//! words name, and writes the answer.
 //!
 //! What the program tells on standard error, and its statuses, are here too.
 //!
@@ -11,9 +12,11 @@ mod inquiry;
 mod messages;
 mod question;
 mod reading;
+mod stream;
 
 pub use answer::answer_files;
 pub use files::Files;
 pub use inquiry::answer_inquiry;
 pub use messages::{BAD_WORDS, say, tell_fault, tell_outcome, tell_unopened};
 pub use reading::read_named;
+pub use stream::answer_stream;

@@ -111,6 +111,7 @@ pub(crate) fn read_files<F: Files, S: Source, E: Sink>(
         (map string_bytes names.now) read.items) }
     ensures some { TakesSome (S.state input.old).remaining (S.state input.new).remaining }
     ensures ended { list_any is_input (map string_bytes names.now) ≡ true → IsOk result → FoundEnd (S.state input.old) (S.state input.new) }
+    ensures kept { list_any is_input (map string_bytes names.now) ≡ false → IsOk result → input.new ≡ input.old }
     ensures files { F.known files.new ≡ F.known files.old }
     ensures fault { IfErr result IsUnread }
     ensures device { IfErr result (λ status. status ≡ 3 → InputFails (S.state input.old) (S.state input.new)

@@ -1,5 +1,5 @@
 -- The commands over board files, as `clap` defines simple commands, and what they ask.
-use Rattle.std.specs.Prelude.{Bool, true, false, List, [], ◌∷◌, Option, Some, None, unwrap_or, codes, if◌then◌else◌}
+use Rattle.std.specs.Prelude.{Bool, false, List, [], ◌∷◌, Option, Some, None, unwrap_or, codes, if◌then◌else◌}
 use Rattle.std.specs.List.{flat_map}
 use Rattle.std.specs.Option.{option_map_or}
 use Rattle.std.specs.Str.{bytes_eq}
@@ -27,7 +27,7 @@ abbrev pub picture_shape : Shape
 picture_shape = (with_rule (of_plans (codes "picture")) (files_rule (codes "FILE"))).top
 
 abbrev pub route_shape : Shape
-route_shape = (with_rule (with_rule (of_plans (codes "route")) (words_rule (codes "KEY"))) (option_rule (codes "board"))).top
+route_shape = (with_rule (with_rule (of_plans (codes "route")) (files_rule (codes "KEY"))) (option_rule (codes "board"))).top
 
 abbrev pub legs_shape : Shape
 legs_shape = (with_rule (with_rule (of_plans (codes "legs")) (files_rule (codes "BOUND"))) (option_rule (codes "board"))).top

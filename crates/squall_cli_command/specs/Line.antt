@@ -10,11 +10,13 @@ use Rattle.clap.specs.Simple.{on_top}
 use Rattle.clap.specs.declared.error.kind.ErrorKind.{ErrorKind}
 use Rattle.clap.specs.declared.error.kind.ErrorKind.TheVariants.{DisplayHelp, DisplayVersion}
 use Rattle.squall_cli_command.specs.declared.task.Task.{Task}
-use Rattle.squall_cli_command.specs.declared.task.Task.TheVariants.{Check, Course, Run, Race, Ask}
+use Rattle.squall_cli_command.specs.declared.task.Task.TheVariants.{Check, Course, Run, Race, Ask, Stream as StreamTask}
 use Rattle.squall_cli_command.specs.declared.inquiry.Inquiry.{Inquiry}
 use Rattle.squall_cli_command.specs.Rules.{file_rule}
 use Rattle.squall_cli_command.specs.Asking.{report_shape, board_shape, status_shape, picture_shape, route_shape, legs_shape, merge_shape, beyond_shape, digest_shape, repair_shape}
 use Rattle.squall_cli_command.specs.Asking.{inquiry_in, word_arguments, file_arguments, words_in}
+use Rattle.squall_cli_command.specs.declared.stream.Stream.{Stream}
+use Rattle.squall_cli_command.specs.Streams.{stream_in, stream_files}
 
 abbrev pub check_shape : Shape
 check_shape = (with_rule (new_app (codes "check")) (file_rule (codes "PLAN"))).top
@@ -48,7 +50,7 @@ reports_app = with_subcommand (with_subcommand runs_app report_shape) board_shap
 abbrev pub courses_app : App
 courses_app = with_subcommand (with_subcommand reports_app status_shape) picture_shape
 
--- and those of its routes: `route OLD NEW KEY..` and `legs OLD NEW [BOUND..]`, both with `--board FILE`
+-- and those of its routes: `route OLD NEW [KEY]..` and `legs OLD NEW [BOUND..]`, both with `--board FILE`
 abbrev pub routes_app : App
 routes_app = with_subcommand (with_subcommand courses_app route_shape) legs_shape
 
@@ -74,6 +76,7 @@ pub data Job : Type 0 where
   run : List ℕ → Job
   race : List ℕ → Job
   ask : Inquiry → List (List ℕ) → List (List ℕ) → Job
+  stream : Stream → List (List ℕ) → Job
 
 abbrev pub job_seen : Task → Job
 job_seen (Check plan) = check (string_bytes plan)
@@ -81,6 +84,7 @@ job_seen (Course old new) = course (string_bytes old) (string_bytes new)
 job_seen (Run file) = run (string_bytes file)
 job_seen (Race file) = race (string_bytes file)
 job_seen (Ask asked) = ask asked.inquiry (map string_bytes asked.words.items) (map string_bytes asked.files.items)
+job_seen (StreamTask followed) = stream followed.stream (map string_bytes followed.files.items)
 
 -- the file that stands for an argument: words without one that has to be there have a fault
 abbrev pub file_in : Text → List Row → List ℕ
@@ -94,9 +98,13 @@ file_job_in name rows =
     else (if bytes_eq name (codes "race") then race (file_in (codes "FILE") rows)
     else run (file_in (codes "FILE") rows)))
 
+-- the job of the name and the entries of a command that asks nothing of standard input as it comes
+abbrev pub plain_job_in : Text → List Row → Job
+plain_job_in name rows = option_map_or (λ inquiry. ask inquiry (words_in (word_arguments inquiry) rows) (words_in (file_arguments inquiry) rows)) (inquiry_in name rows) (file_job_in name rows)
+
 -- the job of a command's name and entries
 abbrev pub job_in : Text → List Row → Job
-job_in name rows = option_map_or (λ inquiry. ask inquiry (words_in (word_arguments inquiry) rows) (words_in (file_arguments inquiry) rows)) (inquiry_in name rows) (file_job_in name rows)
+job_in name rows = option_map_or (λ kind. stream kind (words_in (stream_files kind) rows)) (stream_in name rows) (plain_job_in name rows)
 
 -- without a command it is to run standard input
 abbrev pub job_of : Option (Text × List Row) → Job

@@ -40,7 +40,7 @@ pub(crate) fn words<'a>(alloc: Global, name: &'a str, help: &'a str) -> Arg<'a>
         .help(help)
 }
 
-/// A word, as the name of a file, of which there is any number.
+/// A word, such as the name of a file, of which there is any number.
 pub(crate) fn files<'a>(alloc: Global, name: &'a str, help: &'a str) -> Arg<'a>
     ensures rule { rule_of result ≡ files_rule name.entry.now }
     ensures global { result.global ≡ false }

@@ -6,7 +6,7 @@ ghost use Rattle.clap.specs.declared.builder.command.Command.TheViews.{out-Comma
 ghost use Rattle.squall_cli_command.specs.Asking.{of_plans, status_shape, picture_shape, route_shape, legs_shape};
 ghost use Rattle.squall_cli_command.specs.Rules.{option_rule};
 
-use crate::boards::{files, flag, words};
+use crate::boards::{files, flag};
 use crate::parser::file;
 use clap::{Arg, ArgAction, Command};
 use std::alloc::{AllocError, Global};
@@ -30,8 +30,12 @@ const ROUTE: &str =
     "OLD and NEW are the plans of the first reconfiguration. A key is written ROOT:SECOND, as 2:0. The
 answers are the lines that a scenario answers to: route KEY. See: squall help run
 
+Without a key, and with - as the only one, keys are read from standard input, one a line. Each is
+answered before the next read. A line without words is skipped, and the first bad line ends it.
+
 Example:
-  squall route old.json new.json 2:0 6:0 --board board.bin";
+  squall route old.json new.json 2:0 6:0 --board board.bin
+  squall route old.json new.json --board board.bin <keys.txt";
 
 const LEGS: &str =
     "OLD and NEW are the plans of the first reconfiguration. LO and HI are two bounds, as 2:0 and end.
@@ -90,7 +94,7 @@ pub(crate) fn picture_command<'a>(alloc: Global) -> Result<Command<'a>, AllocErr
         .arg(files(alloc, "FILE", "The files of frames, or -"))
 }
 
-/// `route OLD NEW KEY.. [--board FILE]..`
+/// `route OLD NEW [KEY].. [--board FILE]..`
 pub(crate) fn route_command<'a>(alloc: Global) -> Result<Command<'a>, AllocError>
     ensures shape { IfOk result (λ c. shape_of c ≡ route_shape) }
     ensures globals { IfOk result (λ c. (fields_of c).has_globals ≡ false) }
@@ -98,7 +102,11 @@ pub(crate) fn route_command<'a>(alloc: Global) -> Result<Command<'a>, AllocError
     of_plans(alloc, "route")?
         .about("Shows which partition to ask for keys")
         .after_help(ROUTE)
-        .arg(words(alloc, "KEY", "The keys"))?
+        .arg(files(
+            alloc,
+            "KEY",
+            "The keys; without one they are read from standard input",
+        ))?
         .arg(option(alloc, "board", "A file of frames, or -"))
 }
 

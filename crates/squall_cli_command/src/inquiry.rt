@@ -157,7 +157,11 @@ fn add_values(
 }
 
 /// The words that stand for the arguments, in their order.
-fn words_in(alloc: Global, matches: &ArgMatches, ids: &[&str]) -> Result<Vec<String>, AllocError>
+pub(crate) fn words_in(
+    alloc: Global,
+    matches: &ArgMatches,
+    ids: &[&str],
+) -> Result<Vec<String>, AllocError>
     ensures { IfOk result (λ v. map string_bytes v.items ≡ words_in (words_of ids.now) (rows_of (found_of matches.now))) }
 {
     let mut words = Vec::new(alloc);

@@ -3,7 +3,8 @@
 ghost use Rattle.std.specs.Prelude.{◌≢◌, ◌⊎◌, ◌∷◌, [], List, codes};
 ghost use Rattle.clap.specs.Words.{Text};
 ghost use Rattle.squall_cli_command.specs.declared.inquiry.Inquiry.TheVariants.{Report, Board, Status, Waiting, Routes, Legs, Beyond, Cover};
-ghost use Rattle.squall_cli_command.specs.Line.{Asks, AsksForHelp, IsFaulty, faults_in, check, run, ask};
+ghost use Rattle.squall_cli_command.specs.declared.stream.Stream.TheVariants.{Keys};
+ghost use Rattle.squall_cli_command.specs.Line.{Asks, AsksForHelp, IsFaulty, faults_in, check, run, ask, stream};
 
 /// Standard input is run without a command, and by `run -`; it is checked by `check -`.
 pub fn standard_input()
@@ -36,6 +37,13 @@ pub fn files_of_routes()
         (ask Routes (codes "2:0" ∷ codes "3:0" ∷ []) (codes "o" ∷ codes "n" ∷ codes "b" ∷ [])) }
     ensures legs { (name : Text) → Asks (name ∷ codes "legs" ∷ codes "--board" ∷ codes "b" ∷ codes "o" ∷ codes "n" ∷ [])
         (ask Legs [] (codes "o" ∷ codes "n" ∷ codes "b" ∷ [])) }
+{}
+
+/// Without a key, and with `-` as the only one, a route's keys are those of standard input.
+pub fn keys_of_standard_input()
+    ensures none { (name : Text) → Asks (name ∷ codes "route" ∷ codes "o" ∷ codes "n" ∷ codes "--board" ∷ codes "b" ∷ [])
+        (stream Keys (codes "o" ∷ codes "n" ∷ codes "b" ∷ [])) }
+    ensures dash { (name : Text) → Asks (name ∷ codes "route" ∷ codes "o" ∷ codes "n" ∷ codes "-" ∷ []) (stream Keys (codes "o" ∷ codes "n" ∷ [])) }
 {}
 
 /// Words that have a fault ask for help or are bad, and never both.

@@ -11,8 +11,10 @@ mod inquiry;
 pub mod laws;
 mod line;
 mod parser;
+mod stream;
 mod task;
 
 pub use inquiry::{Ask, Inquiry};
 pub use line::{command, message};
+pub use stream::{Follow, Stream};
 pub use task::{LineFault, Task};

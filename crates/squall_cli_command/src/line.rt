@@ -3,12 +3,13 @@
 ghost use Rattle.std.specs.Prelude.{◌≡◌, ◌≢◌, ◌↔◌, ◌++◌, [], not, codes, string_bytes, IsTrue, IfOk, Err};
 ghost use Rattle.std.specs.Io.{StartsWith};
 ghost use Rattle.clap.specs.Words.{kind_of, found_of, rows_of, subcommand_rows_of};
-ghost use Rattle.squall_cli_command.specs.Line.{job_of, job_in, file_job_in, job_seen, file_in, words_of, plain_words};
+ghost use Rattle.squall_cli_command.specs.Line.{job_of, job_in, plain_job_in, file_job_in, job_seen, file_in, words_of, plain_words};
 ghost use Rattle.squall_cli_command.specs.Line.{faults_in, shows_help, title, Asks, AsksForHelp, IsFaulty};
 ghost use Rattle.squall_cli_command.specs.declared.task.LineFault.TheVariants.{Help, Bad, NoMemory};
 
 use crate::inquiry::{asked, inquiry_of};
 use crate::parser::{TITLE, parser};
+use crate::stream::{followed, stream_of};
 use crate::task::{LineFault, Task};
 use clap::error::ErrorKind;
 use clap::{ArgMatches, Error};
@@ -43,13 +44,23 @@ fn file_task_in(alloc: Global, name: &str, matches: &ArgMatches) -> Result<Task,
     Ok(Task::Run(file(alloc, matches, "FILE")?))
 }
 
-/// The task of a command.
-fn task_in(alloc: Global, name: &str, matches: &ArgMatches) -> Result<Task, AllocError>
-    ensures { IfOk result (λ task. job_seen task ≡ job_in name.now (rows_of (found_of matches.now))) }
+/// The task of a command that asks nothing of standard input as it comes.
+fn plain_task_in(alloc: Global, name: &str, matches: &ArgMatches) -> Result<Task, AllocError>
+    ensures { IfOk result (λ task. job_seen task ≡ plain_job_in name.now (rows_of (found_of matches.now))) }
 {
     match inquiry_of(name, matches) {
         Some(inquiry) => Ok(Task::Ask(asked(alloc, inquiry, matches)?)),
         None => file_task_in(alloc, name, matches),
+    }
+}
+
+/// The task of a command.
+fn task_in(alloc: Global, name: &str, matches: &ArgMatches) -> Result<Task, AllocError>
+    ensures { IfOk result (λ task. job_seen task ≡ job_in name.now (rows_of (found_of matches.now))) }
+{
+    match stream_of(name, matches) {
+        Some(stream) => Ok(Task::Stream(followed(alloc, stream, matches)?)),
+        None => plain_task_in(alloc, name, matches),
     }
 }
 

@@ -1,6 +1,7 @@
 //! What words ask for, and why nothing is done.
 
 use crate::inquiry::Ask;
+use crate::stream::Follow;
 use std::alloc::AllocError;
 
 /// What the program is to do. Files are as they are named in the words; `-` names standard input.
@@ -16,6 +17,8 @@ pub enum Task {
     Race(String),
     /// To answer what is asked of board files.
     Ask(Ask),
+    /// To answer standard input as it comes.
+    Stream(Follow),
 }
 
 /// Why the words ask for no task.

@@ -12,12 +12,13 @@ use Rattle.squall_cli_lines.specs.declared.Ended.{Ended}
 use Rattle.squall_cli_lines.specs.declared.RunFault.{RunFault}
 use Rattle.squall_cli_lines.specs.declared.RunFault.TheVariants.{Read, Write, NoMemory}
 use Rattle.squall_cli_lines.specs.Script.{silence}
-use Rattle.squall_cli_command.specs.Line.{Job, check, course, run, race, ask, title, Asks, AsksForHelp, IsFaulty, shows_help}
+use Rattle.squall_cli_command.specs.Line.{Job, check, course, run, race, ask, stream, title, Asks, AsksForHelp, IsFaulty, shows_help}
 use Rattle.squall_cli_ask.specs.Files.{KnownFile, Unknown, Missing, Holds, Opens, BeginsFile, IsWholeFile, is_input}
 use Rattle.squall_cli_ask.specs.Reads.{bytes_of, ReadsFrom, ReadsAll}
 use Rattle.squall_cli_ask.specs.Told.{status_of, IsUnread}
 use Rattle.squall_cli_ask.specs.Asked.{question_of, files_of}
 use Rattle.squall_cli_ask.proofs.Inquired.{nothing_inquired}
+use Rattle.squall_cli_ask.proofs.Followed.{nothing_followed}
 use Rattle.squall_cli_run.specs.declared.tasks.Purpose.{Purpose}
 use Rattle.squall_cli_run.specs.declared.tasks.Purpose.TheVariants as purpose
 use Rattle.squall_cli_run.specs.Output.{Output, course_of, IsWritten}
@@ -101,6 +102,7 @@ nothing_done f i o (course old new) status e = (
 nothing_done f i o (run name) status e = (Err NoMemory, [], [], e, Appends-nil o, (0, silence, refl, refl), reads_nothing f f i o o name, λ l. absurd (omega arith))
 nothing_done f i o (race name) status e = (Err NoMemory, [], [], e, Appends-nil o, refl, reads_nothing f f i o o name, λ l. absurd (omega arith))
 nothing_done f i o (ask inquiry words files) status e = nothing_inquired (question_of inquiry words) words f i o (files_of inquiry words files) status e
+nothing_done f i o (stream kind files) status e = nothing_followed kind f i o files status e
 
 pub not_ended : (job : Job) (status : ℕ) → 2 < status → EndsInput job status → ⊥
 not_ended (check name) status l h = omega (arith, h.1)
@@ -108,6 +110,7 @@ not_ended (course old new) status l h = omega (arith, h.1)
 not_ended (run name) status l h = omega (arith, h.1)
 not_ended (race name) status l h = omega (arith, h.1)
 not_ended (ask inquiry words files) status l h = omega (arith, h.1)
+not_ended (stream kind files) status l h = omega (arith, h)
 
 -- ---- courses of which a file was not read
 

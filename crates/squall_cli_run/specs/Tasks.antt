@@ -7,11 +7,12 @@ use Rattle.squall_cli_device.specs.States.{SinkState, TookBytes}
 use Rattle.squall_cli_lines.specs.Script.{IsOutcome}
 use Rattle.squall_cli_lines.specs.declared.Ended.{Ended}
 use Rattle.squall_cli_lines.specs.declared.RunFault.{RunFault}
-use Rattle.squall_cli_command.specs.Line.{Job, check, course, run, race, ask, title, Asks, IsFaulty}
+use Rattle.squall_cli_command.specs.Line.{Job, check, course, run, race, ask, stream, title, Asks, IsFaulty}
 use Rattle.squall_cli_ask.specs.Files.{is_input}
 use Rattle.squall_cli_ask.specs.Reads.{Bytes, ReadsFrom, ReadsAll}
 use Rattle.squall_cli_ask.specs.Told.{status_of}
 use Rattle.squall_cli_ask.specs.Asked.{question_of, files_of, IsInquired}
+use Rattle.squall_cli_ask.specs.Followed.{IsFollowed}
 use Rattle.squall_cli_scenario.specs.Text.{IsScript}
 use Rattle.squall_cli_run.specs.Output.{check_of, course_of, IsWritten}
 use Rattle.squall_cli_run.specs.Races.{IsRaced}
@@ -61,6 +62,7 @@ IsDone before after (course old new) status = ShowsCourseWith before after old n
 IsDone before after (run name) status = RunsWith before after name status
 IsDone before after (race name) status = RacesWith before after name status
 IsDone before after (ask inquiry words files) status = IsInquired (question_of inquiry words) words before after (files_of inquiry words files) status
+IsDone before after (stream kind files) status = IsFollowed kind before after files status
 
 -- a text that begins with the program's name and version is written, as far as the outcome with that status says
 abbrev pub ShowsHelp : SinkState → SinkState → ℕ → Type 0
@@ -78,6 +80,7 @@ EndsInput (course old new) status = ((is_input old || is_input new) ≡ true) ×
 EndsInput (run name) status = (is_input name ≡ true) × (status ≡ 0)
 EndsInput (race name) status = (is_input name ≡ true) × (status < 2)
 EndsInput (ask inquiry words files) status = (list_any is_input (files_of inquiry words files) ≡ true) × (status < 2)
+EndsInput (stream kind files) status = status ≡ 0
 
 -- the task reads a file that is not standard input
 abbrev pub NamesFile : Job → Type 0
@@ -86,15 +89,18 @@ NamesFile (course old new) = (is_input old && is_input new) ≡ false
 NamesFile (run name) = is_input name ≡ false
 NamesFile (race name) = is_input name ≡ false
 NamesFile (ask inquiry words files) = list_all is_input (files_of inquiry words files) ≡ false
+NamesFile (stream kind files) = list_all is_input files ≡ false
 
--- the task has the words of a report, and they are none
-abbrev pub IsNoReport : Job → Type 0
-IsNoReport (check name) = ⊥
-IsNoReport (course old new) = ⊥
-IsNoReport (run name) = ⊥
-IsNoReport (race name) = ⊥
-IsNoReport (ask inquiry words files) = question_of inquiry words ≡ None
+-- the task has the words of a report and they are none, or it reads standard input as it comes and one of its files is standard
+-- input too
+abbrev pub CannotBe : Job → Type 0
+CannotBe (check name) = ⊥
+CannotBe (course old new) = ⊥
+CannotBe (run name) = ⊥
+CannotBe (race name) = ⊥
+CannotBe (ask inquiry words files) = question_of inquiry words ≡ None
+CannotBe (stream kind files) = list_any is_input files ≡ true
 
--- the words are bad: they have a fault, or they ask for a report that is none
+-- the words are bad: they have a fault, or they ask for a task that cannot be
 abbrev pub AreBad : List (List ℕ) → Type 0
-AreBad words = IsFaulty words ⊎ ((job : Job) × Asks words job × IsNoReport job)
+AreBad words = IsFaulty words ⊎ ((job : Job) × Asks words job × CannotBe job)

@@ -7,7 +7,7 @@ ghost use Rattle.squall_cli_command.specs.Line.{course, job_seen};
 ghost use Rattle.squall_cli_ask.specs.Files.{is_input};
 ghost use Rattle.squall_cli_ask.specs.Reads.{bytes_at};
 ghost use Rattle.squall_cli_ask.specs.Told.{status_of, IsTold, Says};
-ghost use Rattle.squall_cli_run.specs.Tasks.{ShowsCourseWith, IsDone, EndsInput, NamesFile, IsNoReport};
+ghost use Rattle.squall_cli_run.specs.Tasks.{ShowsCourseWith, IsDone, EndsInput, NamesFile, CannotBe};
 ghost use Rattle.squall_cli_run.specs.Named.{IsNamed};
 ghost use Rattle.squall_cli_run.specs.Sources.{IsAnswered, NeedsAll, IsDoneBy};
 
@@ -15,7 +15,9 @@ use crate::check::check_source;
 use crate::course::course_text;
 use crate::race::race_text;
 use crate::run_text;
-use squall_cli_ask::{Files, answer_inquiry, read_named, tell_outcome, tell_unopened};
+use squall_cli_ask::{
+    Files, answer_inquiry, answer_stream, read_named, tell_outcome, tell_unopened,
+};
 use squall_cli_command::Task;
 use squall_cli_device::{Sink, Source};
 use squall_cli_lines::{Ended, RunFault};
@@ -138,7 +140,7 @@ pub(crate) fn do_task<R: Threads + Wait + Sync, F: Files, S: Source, O: Sink, E:
     ensures ended { EndsInput (job_seen task.now) result → FoundEnd (S.state input.old) (S.state input.new) }
     ensures device { result ≡ 3 → InputFails (S.state input.old) (S.state input.new)
         ⊎ (OutputFails (O.state out.old) (O.state out.new) ⊎ NamesFile (job_seen task.now)) }
-    ensures bad { result ≢ 4 → (result ≡ 2) ↔ IsNoReport (job_seen task.now) }
+    ensures bad { result ≢ 4 → (result ≡ 2) ↔ CannotBe (job_seen task.now) }
     ensures heeds { result ≢ 3 → NoReadFails (S.state input.old) (S.state input.new) × NoWriteFails (O.state out.old) (O.state out.new) }
     ensures told { (text : List ℕ) × IsTold (IsNamed (job_seen task.now)) result text × Says (E.state err.old) (E.state err.new) text }
 {
@@ -151,6 +153,7 @@ pub(crate) fn do_task<R: Threads + Wait + Sync, F: Files, S: Source, O: Sink, E:
         Task::Run(file) => (Purpose::Run, file.as_str()),
         Task::Race(file) => (Purpose::Race, file.as_str()),
         Task::Ask(ask) => return answer_inquiry(alloc, ask, files, input, out, err),
+        Task::Stream(follow) => return answer_stream(alloc, follow, files, input, out, err),
     };
     answer_file(rt, alloc, file, files, input, out, err)
 }

@@ -1,7 +1,7 @@
 // What is asked of board files, over readers and writers that work, fail or stop.
 use squall_cli_ask::*;
 use squall_cli_boards::{NamedFile, Question};
-use squall_cli_command::{Ask, Inquiry};
+use squall_cli_command::{Ask, Follow, Inquiry, Stream};
 use squall_cli_device::{Reader, Writer};
 use squall_cli_lines::Ended;
 use std::alloc::{AllocError, Global};
@@ -125,6 +125,77 @@ static CASES: [(Asked, Wanted); 12] = [
 fn tolerant_inquiries(rt: HostRuntime) {
     for ((inquiry, words, files), wanted) in &CASES {
         if let Ok(found) = brings(rt.alloc(), *inquiry, words, files, *wanted) {
+            assert!(rt; found);
+        }
+    }
+}
+
+/// Whether standard input, which has these bytes, brings that about after these files, or memory is
+/// short. The error comes if an allocation failed before it.
+fn streams(
+    alloc: Global,
+    stream: Stream,
+    files: &[&str],
+    bytes: &[u8],
+    wanted: Wanted,
+) -> Result<bool, AllocError> {
+    let follow = Follow {
+        stream,
+        files: copies(alloc, files)?,
+    };
+    let mut out = Vec::with_capacity(alloc, 256)?;
+    let mut err = Vec::with_capacity(alloc, 256)?;
+    let mut input = Reader::new(bytes);
+    let status = answer_stream(
+        alloc,
+        &follow,
+        &mut TwoFiles,
+        &mut input,
+        &mut Writer::new(&mut out),
+        &mut Writer::new(&mut err),
+    );
+    let found = status == wanted.0 && out.as_slice() == wanted.1 && err.as_slice() == wanted.2;
+    Ok(found || status == 4)
+}
+
+const INPUT_TAKEN: &[u8] = b"error: standard input is read as it comes, so that no file can be -\n";
+
+/// What is asked of standard input: the stream, its files, and the bytes that come.
+type Followed = (Stream, &'static [&'static str], &'static [u8]);
+
+/// Streams, and what they bring about.
+static STREAMS: [(Followed, Wanted); 5] = [
+    (
+        (
+            Stream::Keys,
+            &["plan", "plan", "opened"],
+            b"2:0\r\n\n 0:1\t",
+        ),
+        (0, b"route 2:0 1\nroute 0:1 1\n", b""),
+    ),
+    (
+        (Stream::Keys, &["plan", "plan"], b"\n2:0\n2:0 3:0\n4:0\n"),
+        (1, b"route 2:0 1\nbad line 3: word\n", b""),
+    ),
+    (
+        (Stream::Keys, &["plan", "opened"], b"2:0\n"),
+        (1, b"refused new Json\n", b""),
+    ),
+    (
+        (Stream::Keys, &["plan", "plan", "-"], b"2:0\n"),
+        (2, b"", INPUT_TAKEN),
+    ),
+    (
+        (Stream::Keys, &["plan", "none"], b"2:0\n"),
+        (3, b"", b"squall: cannot open none\n"),
+    ),
+];
+
+/// What a stream brings about, or that memory is short, whichever allocation is refused.
+#[test]
+fn tolerant_streams(rt: HostRuntime) {
+    for ((stream, files, bytes), wanted) in &STREAMS {
+        if let Ok(found) = streams(rt.alloc(), *stream, files, *bytes, *wanted) {
             assert!(rt; found);
         }
     }

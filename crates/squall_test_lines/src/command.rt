@@ -39,6 +39,7 @@ fn asked(task: &Result<Task, LineFault>) -> Asked<'_> {
         Ok(Task::Run(file)) => ("run", file.as_str(), ""),
         Ok(Task::Race(file)) => ("race", file.as_str(), ""),
         Ok(Task::Ask(_)) => ("ask", "", ""),
+        Ok(Task::Stream(_)) => ("stream", "", ""),
         Err(LineFault::Help) => ("help", "", ""),
         Err(LineFault::Bad) => ("bad", "", ""),
         Err(LineFault::NoMemory) => ("no memory", "", ""),
@@ -136,7 +137,7 @@ static ASKED: [(&[&str], Inquiry, &str); 21] = [
 ];
 
 /// Command lines about board files that have too few or too many words, or an unknown flag.
-static REFUSED: [&[&str]; 18] = [
+static REFUSED: [&[&str]; 17] = [
     &["squall", "report"],
     &["squall", "report", "-x"],
     &["squall", "board"],
@@ -144,8 +145,7 @@ static REFUSED: [&[&str]; 18] = [
     &["squall", "status", "--waiting", "--waiting", "o", "n"],
     &["squall", "picture", "o"],
     &["squall", "picture", "--waiting", "o", "n"],
-    &["squall", "route", "o", "n"],
-    &["squall", "route", "o", "n", "--board", "b"],
+    &["squall", "route", "o"],
     &["squall", "route", "o", "n", "2:0", "--board"],
     &["squall", "legs", "o"],
     &["squall", "legs", "o", "n", "--waiting"],
@@ -173,6 +173,44 @@ fn line_of(alloc: Global, ask: &Ask) -> Result<String, AllocError> {
     line.push_str("| ")?;
     add_words(&ask.files, &mut line)?;
     Ok(line)
+}
+
+/// Command lines that ask for standard input to be answered as it comes, and the files that they give.
+static FOLLOWED: [(&[&str], Stream, &str); 3] = [
+    (&["squall", "route", "o", "n"], Stream::Keys, "o n "),
+    (&["squall", "route", "o", "n", "-"], Stream::Keys, "o n "),
+    (
+        &["squall", "route", "-", "n", "--board", "-", "-"],
+        Stream::Keys,
+        "- n - ",
+    ),
+];
+
+/// Whether the task asks so of standard input.
+fn is_followed(
+    alloc: Global,
+    task: &Task,
+    stream: Stream,
+    wanted: &str,
+) -> Result<bool, AllocError> {
+    let Task::Stream(follow) = task else {
+        return Ok(false);
+    };
+    let mut line = String::new(alloc);
+    add_words(&follow.files, &mut line)?;
+    Ok(follow.stream == stream && line.as_str() == wanted)
+}
+
+/// What the words ask of standard input, or that memory is short, whichever allocation is refused.
+#[test]
+fn tolerant_streams(rt: HostRuntime) {
+    for (words, stream, wanted) in &FOLLOWED {
+        if let Ok(task) = command(rt.alloc(), words) {
+            if let Ok(found) = is_followed(rt.alloc(), &task, *stream, *wanted) {
+                assert!(rt; found);
+            }
+        }
+    }
 }
 
 /// Whether the task asks so of board files.
@@ -267,7 +305,7 @@ static SHOWN: [(&[&str], usize, &[&str]); 12] = [
     (
         &["squall", "help", "route"],
         24,
-        &["<OLD> <NEW> <KEY>...", "--board <FILE>", "Example:\n"],
+        &["<OLD> <NEW> [KEY]...", "--board <FILE>", "Example:\n"],
     ),
     (
         &["squall", "legs", "--help"],

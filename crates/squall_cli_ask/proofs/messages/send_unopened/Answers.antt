@@ -1,4 +1,4 @@
-use Rattle.std.proofs.Common.{[], ◌++◌}
+use Rattle.std.proofs.Common.{◌++◌}
 use Rattle.std.specs.Prelude.{codes}
 use Rattle.squall_cli_ask.proofs.Telling.{failed, unfailed, sent_first, sent_later, says_sent}
 use Rattle.squall_cli_ask.proofs.messages.send_unopened.Goals as goal

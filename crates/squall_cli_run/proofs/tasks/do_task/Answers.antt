@@ -5,6 +5,7 @@ use Rattle.squall_cli_device.specs.States.{OutputFails}
 use Rattle.squall_cli_lines.specs.Heeding.{InputFails}
 use Rattle.squall_cli_command.specs.Line.{course, job_seen}
 use Rattle.squall_cli_ask.specs.Asked.{files_asked}
+use Rattle.squall_cli_ask.specs.Followed.{files_followed}
 use Rattle.squall_cli_run.specs.Tasks.{NamesFile}
 use Rattle.squall_cli_run.specs.declared.tasks.Purpose.{Purpose}
 use Rattle.squall_cli_run.specs.Named.{IsNamed}
@@ -29,6 +30,20 @@ returns-in-Ask-clause-told g c =
       t.0,
       told_of (Contains (files_asked c.in-Ask.ask)) (IsNamed (job_seen c.args.task.now)) c.answer_inquiry.result t.0
           (λ name. subst (λ j. IsNamed j name) (sym (ap job_seen c.in-Ask.is))) t.1,
+      t.2,
+    )
+
+pub returns-in-Stream-clause-device : goal.returns-in-Stream-clause-device
+returns-in-Stream-clause-device g c = λ three.
+    subst (λ j. InputFails (g.S.Source.state c.args.input.now) (g.S.Source.state c.answer_stream.new.input)
+    ⊎ (OutputFails (g.O.Sink.state c.args.out.now) (g.O.Sink.state c.answer_stream.new.out) ⊎ NamesFile j)) (sym (ap job_seen c.in-Stream.is)) (c.answer_stream.ensures.device three)
+
+pub returns-in-Stream-clause-told : goal.returns-in-Stream-clause-told
+returns-in-Stream-clause-told g c =
+    let t = c.answer_stream.ensures.told in (
+      t.0,
+      told_of (Contains (files_followed c.in-Stream.follow)) (IsNamed (job_seen c.args.task.now)) c.answer_stream.result t.0
+          (λ name. subst (λ j. IsNamed j name) (sym (ap job_seen c.in-Stream.is))) t.1,
       t.2,
     )
 

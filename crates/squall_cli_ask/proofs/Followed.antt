@@ -1,0 +1,23 @@
+-- What is done for a stream.
+use Rattle.std.proofs.Common.{◌≡◌, ◌≢◌, inr, ℕ, List, [], Bool, true, false, Option}
+use Rattle.std.proofs.KnownBytes.{Appends-nil, Consumes-nil}
+use Rattle.std.specs.Prelude.{MatchBool}
+use Rattle.std.specs.List.{list_any}
+use Rattle.squall_cli_lines.specs.declared.RunFault.TheVariants.{Write, NoMemory}
+use Rattle.squall_cli_command.specs.declared.stream.Stream.{Stream}
+use Rattle.squall_cli_ask.specs.Files.{KnownFile, is_input}
+use Rattle.squall_cli_ask.specs.Reads.{bytes_of}
+use Rattle.squall_cli_ask.specs.Followed.{IsFollowed}
+
+both : (t : Bool) (P Q : Type 0) → P → Q → MatchBool t P Q
+both true P Q p q = p
+both false P Q p q = q
+
+memory_is_no_write : NoMemory ≢ Write
+memory_is_no_write same = cc
+
+-- an allocation failed before anything was read
+pub nothing_followed : (stream : Stream) (f : List ℕ → KnownFile) (i o : Option (List ℕ)) (names : List (List ℕ)) (status : ℕ) → status ≡ 4
+    → IsFollowed stream (bytes_of f i o) (bytes_of f i o) names status
+nothing_followed stream f i o names status e = both (list_any is_input names) _ _ (inr e, Appends-nil o, Consumes-nil i)
+    (inr ((NoMemory, memory_is_no_write, e), Appends-nil o, ([], Consumes-nil i)))

@@ -1,0 +1,40 @@
+-- What is answered to standard input as it comes (this project's command line).
+use Rattle.std.specs.Prelude.{◌≡◌, ◌⊎◌, ℕ, List, [], Result, MatchBool, map, string_bytes}
+use Rattle.std.specs.List.{list_any}
+use Rattle.std.specs.Io.KnownBytes.{Appends, Consumes, IsAtEnd}
+use Rattle.squall_cli_lines.specs.declared.Ended.{Ended}
+use Rattle.squall_cli_lines.specs.declared.RunFault.{RunFault}
+use Rattle.squall_cli_command.specs.declared.stream.Stream.{Stream}
+use Rattle.squall_cli_command.specs.declared.stream.Stream.TheVariants.{Keys}
+use Rattle.squall_cli_command.specs.declared.stream.Follow.{Follow}
+use Rattle.squall_cli_boards.specs.Files.{FileValue}
+use Rattle.squall_cli_stream.specs.Written.{AnswersKeys}
+use Rattle.squall_cli_ask.specs.Files.{is_input}
+use Rattle.squall_cli_ask.specs.Reads.{Bytes}
+use Rattle.squall_cli_ask.specs.Told.{status_of}
+use Rattle.squall_cli_ask.specs.Gathered.{AreRead}
+use Rattle.squall_cli_ask.specs.Asked.{AnswersNothing}
+
+-- the names of the files of a stream
+abbrev pub files_followed : Follow → List (List ℕ)
+files_followed f = map string_bytes f.files.items
+
+-- what was written for the bytes that were read of standard input after these files, by what was returned
+abbrev pub IsStreamed : Stream → Result Ended RunFault → List FileValue → List ℕ → List ℕ → Type 0
+IsStreamed Keys outcome files read written = AnswersKeys outcome files read written
+
+-- the files of these names were read, and then what was read of standard input is answered as far as the outcome with that status
+-- says; with status 0 all of it was read
+abbrev pub AnswersStream : Stream → Bytes → Bytes → List (List ℕ) → ℕ → Type 0
+AnswersStream stream before after names status =
+    (outcome : Result Ended RunFault) × (files : List FileValue) × (read : List ℕ) × (written : List ℕ)
+    × (status ≡ status_of outcome) × Appends before.output after.output written × Consumes before.input after.input read
+    × AreRead before.files before.input before.input names files × IsStreamed stream outcome files read written
+    × (status ≡ 0 → IsAtEnd after.input)
+
+-- What is done for a stream. If one of its files is standard input too, then nothing is read or written, and the status says so
+-- unless an allocation failed.
+abbrev pub IsFollowed : Stream → Bytes → Bytes → List (List ℕ) → ℕ → Type 0
+IsFollowed stream before after names status = MatchBool (list_any is_input names)
+    (((status ≡ 2) ⊎ (status ≡ 4)) × Appends before.output after.output [] × Consumes before.input after.input [])
+    (AnswersStream stream before after names status ⊎ AnswersNothing before after status)

@@ -1,0 +1,25 @@
+-- What is asked of standard input as it comes, as `clap` defines simple commands.
+use Rattle.std.specs.Prelude.{Bool, true, false, List, [], ◌∷◌, Option, Some, None, codes, ◌&&◌, if◌then◌else◌}
+use Rattle.std.specs.Str.{bytes_eq}
+use Rattle.clap.specs.Words.{Row, Text}
+use Rattle.squall_cli_command.specs.declared.stream.Stream.{Stream}
+use Rattle.squall_cli_command.specs.declared.stream.Stream.TheVariants.{Keys}
+use Rattle.squall_cli_command.specs.Asking.{values_in}
+
+-- there is no word, or the only one is that of standard input
+abbrev pub is_input_alone : List Text → Bool
+is_input_alone [] = true
+is_input_alone (word ∷ []) = bytes_eq word (codes "-")
+is_input_alone (word ∷ other ∷ words) = false
+
+-- keys are read from standard input if no word is a key, or `-` alone is one
+abbrev pub reads_keys : List Row → Bool
+reads_keys rows = is_input_alone (values_in (codes "KEY") rows)
+
+-- what a command's name and entries ask of standard input as it comes: nothing if it is another command
+abbrev pub stream_in : Text → List Row → Option Stream
+stream_in name rows = if bytes_eq name (codes "route") && reads_keys rows then Some Keys else None
+
+-- the arguments of a stream that are files, in the order in which they are read
+abbrev pub stream_files : Stream → List Text
+stream_files Keys = codes "OLD" ∷ codes "NEW" ∷ codes "board" ∷ []

@@ -1,0 +1,3 @@
+pub mod ByLine
+pub mod Refused
+pub mod Streamed
