@@ -74,7 +74,7 @@ fn question_in(alloc: Global, name: &str, rest: &[String]) -> Result<Option<Ques
 }
 
 /// The question that the words of a report ask: `loaded N S P LO HI`, `done N S P`, `opened N S` or
-/// `issued N OLD NEW`, where OLD and NEW name the files of two plans. None if they are no report or a
+/// `issued N OLD NEW`. OLD and NEW name the files of two plans. None if the words are no report or a
 /// number lies outside its limits.
 pub fn report_question(alloc: Global, words: &[String]) -> Result<Option<Question>, AllocError>
     ensures question { IfOk result (λ question. question ≡ question_of_report (map string_bytes words.now)) }

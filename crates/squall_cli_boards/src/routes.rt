@@ -1,4 +1,4 @@
-//! Where a course sends keys, as far as a board tells of it.
+//! Routes and legs of a course, as far as a board tells of it.
 
 ghost use Rattle.std.specs.Prelude.{◌≡◌, ◌∷◌, [], ℕ, List, ◌+◌, true, false, Some, IfOk, map, if◌then◌else◌, string_bytes};
 ghost use Rattle.squall_key.specs.Keys.{top};

@@ -30,8 +30,8 @@ const ROUTE: &str =
     "OLD and NEW are the plans of the first reconfiguration. A key is written ROOT:SECOND, as 2:0. The
 answers are the lines that a scenario answers to: route KEY. See: squall help run
 
-Without a key, and with - as the only one, keys are read from standard input, one a line. Each is
-answered before the next read. A line without words is skipped, and the first bad line ends it.
+Without a key, and with - as the only one, keys are read from standard input, one a line, and no
+file can be -. Each line is answered before the next read. The first bad line ends the answers.
 
 Example:
   squall route old.json new.json 2:0 6:0 --board board.bin

@@ -21,7 +21,7 @@ pub enum Inquiry {
     Waiting,
     /// The picture of how far the newest course has come, of the same files.
     Picture,
-    /// Where the newest course sends keys, of the same files. The words are the keys.
+    /// The routes of keys by the newest course, of the same files. The words are the keys.
     Routes,
     /// Its legs, of the same files. The words are two bounds, or there are none.
     Legs,
@@ -37,7 +37,7 @@ pub enum Inquiry {
     Repair,
 }
 
-/// An inquiry with what it is about. Words and files are as they were given, in their order.
+/// An inquiry with what it is about. Words and files are those that were given, in their order.
 #[derive(Debug, Drop)]
 pub struct Ask {
     /// What is asked.
@@ -140,7 +140,7 @@ fn add_words(alloc: Global, given: &[&str], words: &mut Vec<String>) -> Result<(
     Ok(())
 }
 
-/// Adds the words that stand for an argument.
+/// Adds the words of an argument.
 #[tactic(auto, using(crate::proofs::Rows::all_is))]
 fn add_values(
     alloc: Global,
@@ -156,7 +156,7 @@ fn add_values(
     }
 }
 
-/// The words that stand for the arguments, in their order.
+/// The words of the arguments, in their order.
 pub(crate) fn words_in(
     alloc: Global,
     matches: &ArgMatches,

@@ -30,8 +30,8 @@ pub fn flags_of_boards()
     ensures quiet { (name : Text) → Asks (name ∷ codes "beyond" ∷ codes "a" ∷ codes "b" ∷ codes "--quiet" ∷ []) (ask Cover [] (codes "a" ∷ codes "b" ∷ [])) }
 {}
 
-/// Of a route and of legs the files are the two plans and those of `--board`, wherever it stands. The
-/// words are the keys and the bounds.
+/// The files of a route and of legs are the two plans and those of `--board`, before or after the
+/// other words. The words are the keys and the bounds.
 pub fn files_of_routes()
     ensures route { (name : Text) → Asks (name ∷ codes "route" ∷ codes "o" ∷ codes "n" ∷ codes "2:0" ∷ codes "--board" ∷ codes "b" ∷ codes "3:0" ∷ [])
         (ask Routes (codes "2:0" ∷ codes "3:0" ∷ []) (codes "o" ∷ codes "n" ∷ codes "b" ∷ [])) }

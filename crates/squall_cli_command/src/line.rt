@@ -15,7 +15,7 @@ use clap::error::ErrorKind;
 use clap::{ArgMatches, Error};
 use std::alloc::{AllocError, Global};
 
-/// The file that stands for an argument.
+/// The file of an argument.
 #[tactic(auto, using(crate::proofs::Rows::first_is))]
 fn file(alloc: Global, matches: &ArgMatches, id: &str) -> Result<String, AllocError>
     ensures { IfOk result (λ name. string_bytes name ≡ file_in id.now (rows_of (found_of matches.now))) }
@@ -105,8 +105,11 @@ fn plain<'a>(alloc: Global, words: &'a [&'a str]) -> Result<Vec<&'a str>, AllocE
 /// `course OLD NEW`, `run FILE`, `race FILE`, a command over board files, which [`Inquiry`] lists, or
 /// without a command to run standard input.
 ///
-/// `Help` where they ask for help, by `-h`, `--help` or `help`, or for the version, by `-V` or
-/// `--version`; `Bad` where they are no such command line; `NoMemory` where an allocation failed.
+/// - `Help`: they ask for help, by `-h`, `--help` or `help`, or for the version, by `-V` or
+///   `--version`.
+/// - `Bad`: they are no such command line.
+/// - `NoMemory`: an allocation failed.
+///
 /// [`message`] is then what to show.
 ///
 /// [`Inquiry`]: crate::Inquiry
@@ -114,10 +117,10 @@ pub fn command<'a>(alloc: Global, words: &'a [&'a str]) -> Result<Task, LineFaul
     // The task and its files are those that the words ask for.
     ensures task { IfOk result (λ task. Asks (words_of words.entry.now) (job_seen task)) }
 
-    // Up to a failed allocation, help is told exactly where it is asked for,
+    // Unless an allocation failed, the answer is `Help` exactly if help is asked for,
     ensures help { result ≢ Err NoMemory → (result ≡ Err Help) ↔ AsksForHelp (words_of words.entry.now) }
 
-    // and words are refused exactly where they have another fault.
+    // and words are refused exactly if they have another fault.
     ensures refused { result ≢ Err NoMemory → (result ≡ Err Bad) ↔ IsFaulty (words_of words.entry.now) }
 {
     let words = plain(alloc, words)?;
@@ -129,7 +132,7 @@ pub fn command<'a>(alloc: Global, words: &'a [&'a str]) -> Result<Task, LineFaul
 }
 
 /// What is to be shown for words that [`command`] refuses: the help or the version that they ask
-/// for, or what is wrong with them. Empty for words that ask for a task. The error comes where an
+/// for, or what is wrong with them. Empty for words that ask for a task. The error comes if an
 /// allocation failed.
 pub fn message<'a>(alloc: Global, words: &'a [&'a str]) -> Result<String, AllocError>
     // Help begins with the program's name and version.
@@ -138,7 +141,7 @@ pub fn message<'a>(alloc: Global, words: &'a [&'a str]) -> Result<String, AllocE
     // What is wrong is told after `error: `.
     ensures refused { IfOk result (λ text. IsFaulty (words_of words.entry.now) → StartsWith (string_bytes text) (codes "error: ")) }
 
-    // Where there is no fault, nothing is told.
+    // If there is no fault, nothing is told.
     ensures task { IfOk result (λ text. faults_in (words_of words.entry.now) ≡ [] → string_bytes text ≡ []) }
 {
     let words = plain(alloc, words)?;

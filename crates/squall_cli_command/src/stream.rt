@@ -13,8 +13,8 @@ use std::alloc::{AllocError, Global};
 /// What is asked of standard input as it comes.
 #[derive(Clone, Copy, Debug, PartialEq, Eq)]
 pub enum Stream {
-    /// Where the newest course sends the keys that its lines write. The files are the old plan, the
-    /// new plan and board files.
+    /// The routes of the keys that its lines write, by the newest course. The files are the old plan,
+    /// the new plan and board files.
     Keys,
 }
 

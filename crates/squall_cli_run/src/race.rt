@@ -44,7 +44,7 @@ fn show_race<R: Threads + Wait + Sync, K: Sink>(
 /// - `NoMemory`: an allocation failed. Nothing is written.
 ///
 /// A read or a write that failed is always answered so. `refused NoThread` and `refused NoPlace` may
-/// stand in place of `NoMemory` if memory is short. What was read stays read.
+/// come in place of `NoMemory` if memory is short. What was read stays read.
 ///
 /// The call waits for its threads. What is said here holds if it returns; all its threads have
 /// ended then.

@@ -49,7 +49,7 @@ fn answer_lines<S: Source, K: Sink>(
     run(alloc, &mut Keys { known, lines: 0 }, reader, writer)
 }
 
-/// Says where the newest course of two plans and of board files sends keys. It reads them from
+/// Routes keys by the newest course of two plans and of board files. It reads the keys from
 /// `reader`, one a line, to the end of the input or to a bad line. The first two files are the plans.
 /// The answers to the lines that one read brings are written before the next read: `route K P`, and
 /// nothing for a line without words. A line that is no key is bad: `bad line N: word`.
