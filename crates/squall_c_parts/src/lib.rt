@@ -1,7 +1,7 @@
 //! Partitions for C: what a node of one partition keeps, and what each call of it does. The handles
 //! are in `squall_c`.
 //!
-//! Its tests are in `crates/squall_test_parts/src/c_parts.rt`.
+//! Its tests are in `bindings/c/part_tests.c`.
 #![tactic(auto)]
 
 mod calls;
