@@ -10,6 +10,7 @@ use crate::courses::CourseSlot;
 use crate::router::may_cross;
 use crate::status::{CLOSED, LIMIT, NO_MEMORY, OK};
 use squall_c_parts::{CAnswer, CChunk, Node};
+use squall_c_values::CSpan;
 use squall_key::PartId;
 use std::alloc::Global;
 
