@@ -40,7 +40,7 @@ impl Frames {
         Ok(())
     }
 
-    /// Writes the first frame to the front of the room and drops it, if the room has as many bytes.
+    /// Writes the first frame into the room from its start on, if that has as many bytes, and drops it.
     /// Answers how long it is, and 0 if there is none.
     pub fn fetch(&mut self, room: &mut [u8]) -> usize
         ensures room { room.new ≡ room_after self.old room.old }

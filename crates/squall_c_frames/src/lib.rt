@@ -1,6 +1,6 @@
 //! Frames that wait behind handles until they are fetched, and single frames that come in whole.
 //!
-//! Its tests are in `crates/squall_test_nodes/src/leader_nodes.rt`.
+//! Its tests are in `bindings/c/leader_tests.c` and `bindings/c/leader_heap_tests.c`.
 #![tactic(auto)]
 
 mod boards;

@@ -11,7 +11,7 @@ use squall_wire::EncodeFault;
 use std::alloc::AllocError;
 
 impl LeaderNode {
-    /// Has the frames of all that the leader was told and told itself wait, in place of those that
+    /// Has the frames of all that the leader heard and reported itself wait, in place of those that
     /// waited before. It changes nothing if an allocation fails.
     pub fn gather_board(&mut self) -> Result<(), AllocError>
         ensures { KeepsBoard self.old result self.new }
@@ -41,8 +41,8 @@ impl LeaderNode {
         Ok(())
     }
 
-    /// Writes the first frame that waits to the front of the room, if that has as many bytes, and it
-    /// waits no longer then. Answers how long it is, and 0 if none waits.
+    /// Writes the first frame that waits into the room from its start on, if that has as many bytes,
+    /// and it waits no longer then. Answers how long it is, and 0 if none waits.
     pub fn next_frame(&mut self, room: &mut [u8]) -> usize
         ensures room { room.new ≡ room_after self.old.frames room.old }
         ensures node { self.new ≡ node_after self.old room.old }

@@ -1,6 +1,6 @@
 //! Leaders behind handles: what they hear, which frames they send, and the law of their logs.
 //!
-//! Its tests are in `crates/squall_test_nodes/src/leader_nodes.rt`.
+//! Its tests are in `bindings/c/leader_tests.c` and `bindings/c/leader_heap_tests.c`.
 #![tactic(auto)]
 
 mod fault;

@@ -54,8 +54,8 @@ fn opened_sub(report: &Report) -> u32
 }
 
 impl LeaderNode {
-    /// A leader of data that lies as the plan says, where numbers up to `last` were used before. It
-    /// has heard and begun nothing. It fails only if an allocation fails.
+    /// A leader of data that lies as the plan says, which goes on after the number `last`. It has
+    /// heard and begun nothing. It fails only if an allocation fails.
     pub fn new(alloc: Global, plan: &Plan, last: u32) -> Result<LeaderNode, AllocError>
         ensures { IfOk result (λ n. n ≡ new_node (new_leader plan.now last)) }
     {
