@@ -4,7 +4,6 @@
 
 mod calls;
 mod clients;
-mod example;
 mod over;
 mod tolerant;
 
