@@ -31,7 +31,7 @@ pub use Rattle.squall_c_parts.specs.PartFrames
 pub use Rattle.squall_c_parts.specs.PartValues
 pub use Rattle.squall_leader.specs.Leaders
 pub use Rattle.squall_c_frames.specs.Queues
-pub use Rattle.squall_c_leaders.specs.Nodes
+pub use Rattle.squall_c_leaders.specs.Nodes as LeaderNodes
 pub mod Status
 pub mod Opening
 pub mod Reporting
