@@ -1,6 +1,5 @@
 //! How far courses have come, as worked out by hand.
 
-mod example;
 mod tolerant;
 
 use squall_board::Board;
