@@ -7,7 +7,6 @@ use crate::key::Rank;
 use crate::router::Router;
 use crate::view::View;
 use std::ops::Range;
-use std::ptr;
 
 /// How much a router heard. A number that does not fit is the greatest one that does.
 #[repr(C)]
@@ -109,21 +108,34 @@ fn text_of(bytes: Vec<u8>) -> String {
 
 impl View {
     /// The spans of the keys for which this view and a later one have different routes, by rising key,
-    /// each as long as can be.
+    /// each as long as can be. None if there are no keys or a rank is above [`Rank::END`].
+    ///
+    /// A proxy that holds requests back wakes only those that are for keys of these spans:
+    ///
+    /// ```
+    /// # use squall::{Rank, Router, Span};
+    /// # let old = br#"{"plan":[{"part":1,"from":[0,0],"to":"end"}]}"#;
+    /// # let new = br#"{"plan":[{"part":3,"from":[0,0],"to":"end"}]}"#;
+    /// # let mut router = Router::open(1, old, new)?;
+    /// let before = router.view()?;
+    /// let (lo, hi) = (Rank::new(2, 0), Rank::new(3, 0));
+    /// router.loaded(1, 0, 3, lo..hi)?;
+    /// let changed = before.changes(&router.view()?, Rank(0)..Rank::END);
+    /// assert_eq!(changed, [Span { lo, hi }]);
+    /// # Ok::<(), squall::Error>(())
+    /// ```
     pub fn changes(&self, after: &View, keys: Range<Rank>) -> Vec<Span> {
+        // Other threads may route by both views now, and this call needs two handles alone.
+        let (before, after) = (self.alone(), after.alone());
         let mut spans = Vec::new();
-        if ptr::eq(self.room.get(), after.room.get()) {
-            // One handle serves one call, and a view has no changes to itself.
-            return spans;
-        }
         let mut lo = keys.start;
         let mut block = [Span { lo, hi: lo }; AT_ONCE];
         loop {
             // SAFETY: both views were opened, their handles differ, and the places are writable.
             let count = unsafe {
                 ffi::squall_view_changes(
-                    self.room.get(),
-                    after.room.get(),
+                    before.get(),
+                    after.get(),
                     lo.0,
                     keys.end.0,
                     block.as_mut_ptr(),

@@ -22,7 +22,7 @@ pub struct View {
 
 // SAFETY: by rule 3 of the header any number of the calls that only read a view may run at once with
 // one. With `room` no other call is made by a shared borrow. `spare` is behind a lock, and both are
-// closed when the view is dropped, so that nobody borrows it.
+// closed when the view is dropped, and nobody borrows it then.
 unsafe impl Sync for View {}
 
 impl View {
@@ -56,6 +56,16 @@ impl View {
         // SAFETY: the view was opened.
         Error::check(unsafe { ffi::squall_view_status(room.get()) }, u64::MAX)?;
         Ok(room)
+    }
+
+    /// One more view of the same, for calls that need a handle alone. No table is copied.
+    pub(crate) fn alone(&self) -> Room<RawView> {
+        // A call with the spare one does not panic, so a lock that is poisoned says nothing of it.
+        let spare = self.spare.lock().unwrap_or_else(PoisonError::into_inner);
+        // SAFETY: the view was opened, and the lock keeps other calls from it.
+        let again = unsafe { View::checked(|room| ffi::squall_view_again(spare.get(), room)) };
+        // The status of a view that stands is passed on; no memory is asked for.
+        again.expect("more views of one table than can be counted")
     }
 
     /// The partition to ask for the key of that rank; none where the rank is no key's.
@@ -135,11 +145,9 @@ impl View {
 /// One more view of the same. No table is copied.
 impl Clone for View {
     fn clone(&self) -> View {
-        // A call with the spare one does not panic, so a lock that is poisoned says nothing of it.
-        let spare = self.spare.lock().unwrap_or_else(PoisonError::into_inner);
-        // SAFETY: the view was opened, and the lock keeps other calls from it.
-        let again = unsafe { View::open(|room| ffi::squall_view_again(spare.get(), room)) };
-        // The status of a view that stands is passed on; no memory is asked for.
-        again.expect("more views of one table than can be counted")
+        View {
+            room: self.alone(),
+            spare: Mutex::new(self.alone()),
+        }
     }
 }

@@ -1,6 +1,7 @@
 //! What a router says of itself, and what changes between two views, by the worked examples.
 
 use squall::{Counts, Error, Rank, Router, Span};
+use std::thread;
 
 const OLD: &[u8] = include_bytes!("../../../examples/old.json");
 const NEW: &[u8] = include_bytes!("../../../examples/new.json");
@@ -60,5 +61,31 @@ fn changes_of_views() -> Result<(), Error> {
     };
     assert_eq!(spans[99], last);
     assert_eq!(after.changes(&before, Rank::new(2, 197)..Rank::END), [last]);
+    Ok(())
+}
+
+#[test]
+fn changes_of_views_that_threads_share() -> Result<(), Error> {
+    let mut router = Router::open(1, OLD, NEW)?;
+    let before = router.view()?;
+    router.loaded(1, 0, 3, key(2)..key(3))?;
+    let after = router.view()?;
+    let wanted = [Span {
+        lo: key(2),
+        hi: key(3),
+    }];
+    thread::scope(|scope| {
+        for _ in 0..4 {
+            scope.spawn(|| {
+                for _ in 0..50 {
+                    assert_eq!(before.changes(&after, Rank(0)..Rank::END), wanted);
+                    assert_eq!(after.changes(&before, Rank(0)..Rank::END), wanted);
+                    assert_eq!(before.clone().route(key(2)), Some(1));
+                }
+            });
+        }
+    });
+    assert_eq!(before.changes(&after, key(3)..key(2)), []);
+    assert_eq!(before.changes(&after, Rank(0)..Rank(u64::MAX)), []);
     Ok(())
 }
