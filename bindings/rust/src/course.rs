@@ -1,4 +1,4 @@
-//! Courses, and where keys stand in them.
+//! Courses, and the partitions of a key in one.
 
 use crate::error::Error;
 use crate::ffi::{self, RawCourse};
@@ -24,7 +24,7 @@ use crate::room::Room;
 /// # Ok::<(), squall::Error>(())
 /// ```
 pub struct Course {
-    room: Room<RawCourse>,
+    pub(crate) room: Room<RawCourse>,
 }
 
 /// The keys from `lo` on, below `hi`, move from a partition to another in a sub-plan.
@@ -43,7 +43,7 @@ pub struct Move {
     pub sub: u32,
 }
 
-/// Where a key stands, as [`View::locate`](crate::View::locate) says it.
+/// The partitions of a key, as [`View::locate`](crate::View::locate) says them.
 #[repr(C)]
 #[derive(Clone, Copy, Debug, PartialEq, Eq)]
 pub struct Place {
@@ -105,6 +105,18 @@ impl Course {
     /// As for [`Room::new`].
     pub(crate) unsafe fn open_by(open: impl FnOnce(*mut RawCourse)) -> Result<Course, Error> {
         // SAFETY: the caller keeps it.
+        unsafe { Course::open_if(open) }?.ok_or(Error::Unknown(ffi::CLOSED))
+    }
+
+    /// The course that `open` opens; none if there was nothing to open.
+    ///
+    /// # Safety
+    ///
+    /// As for [`Room::new`].
+    pub(crate) unsafe fn open_if(
+        open: impl FnOnce(*mut RawCourse),
+    ) -> Result<Option<Course>, Error> {
+        // SAFETY: the caller keeps it.
         let room = unsafe { Room::new(open) };
         // SAFETY: the course was opened.
         let (status, at) = unsafe {
@@ -113,8 +125,11 @@ impl Course {
                 ffi::squall_course_fault_at(room.get()),
             )
         };
+        if status == ffi::CLOSED {
+            return Ok(None);
+        }
         Error::check(status, at)?;
-        Ok(Course { room })
+        Ok(Some(Course { room }))
     }
 
     /// The number of the course, from 1 on.
@@ -209,7 +224,7 @@ const NO_RANGE: Leg = Leg {
 
 /// All items, by calls of `fill`, which writes as many as there is room for, from the place of its
 /// argument on, and says how many.
-fn all_of<T: Copy>(none: T, fill: impl Fn(usize, &mut [T; AT_ONCE]) -> usize) -> Vec<T> {
+pub(crate) fn all_of<T: Copy>(none: T, fill: impl Fn(usize, &mut [T; AT_ONCE]) -> usize) -> Vec<T> {
     let mut block = [none; AT_ONCE];
     let mut items = Vec::new();
     loop {

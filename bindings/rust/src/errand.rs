@@ -1,7 +1,7 @@
 //! Errands.
 
 use crate::error::Error;
-use crate::ffi::{self, RawErrand};
+use crate::ffi::{self, RawAnswer, RawErrand};
 use crate::room::Room;
 
 /// What a partition replies when it is asked for a key.
@@ -28,6 +28,25 @@ pub enum Reply {
         /// The key's partition in the old plan.
         dest: u32,
     },
+}
+
+impl Reply {
+    /// The reply that a partition wrote.
+    pub(crate) fn of(answer: RawAnswer) -> Result<Reply, Error> {
+        match answer.reply {
+            0 => Ok(Reply::Held),
+            1 => Ok(Reply::Moved {
+                dest: answer.part,
+                number: answer.number,
+            }),
+            2 => Ok(Reply::Pending {
+                source: answer.part,
+            }),
+            3 => Ok(Reply::Behind),
+            4 => Ok(Reply::Elsewhere { dest: answer.part }),
+            unknown => Err(Error::Unknown(unknown)),
+        }
+    }
 }
 
 /// What to do after a reply.

@@ -5,7 +5,7 @@ use std::error;
 use std::fmt;
 use std::io;
 
-/// Why a call did not do what it was asked for. Where its documentation does not say otherwise, the
+/// Why a call did not do what it was asked for. If its documentation does not say otherwise, the
 /// call has changed nothing.
 #[derive(Clone, Copy, Debug, PartialEq, Eq)]
 #[non_exhaustive]
@@ -20,12 +20,16 @@ pub enum Error {
     TooLong,
     /// No digest was fed that could be answered.
     NoDigest,
-    /// The text of the old plan is no plan.
+    /// The text of the old plan is no plan, or the one with which a leader was to be opened.
     OldPlan(PlanFault),
     /// The text of the new plan is no plan.
     NewPlan(PlanFault),
     /// Bytes are no frame.
     Frame(FrameFault),
+    /// A partition does not give, load or finish.
+    Part(PartFault),
+    /// A leader does not go on.
+    Leader(LeaderFault),
     /// The library answered with a status that this version of the crate does not know.
     Unknown(u32),
 }
@@ -75,6 +79,51 @@ pub enum FrameFault {
     Spare,
 }
 
+/// Why a partition does not give, load or finish.
+#[derive(Clone, Copy, Debug, PartialEq, Eq)]
+#[non_exhaustive]
+pub enum PartFault {
+    /// As far as the partition knows, the sub-plan is not opened.
+    NotOpen,
+    /// It holds no key that goes out in the sub-plan opened last.
+    NothingLeft,
+    /// No key was asked for.
+    ZeroMax,
+    /// The key does not go out in the sub-plan opened last.
+    NotOutgoing,
+    /// The key was given under this course before.
+    Given,
+    /// The key goes out, and is neither given nor held.
+    NotHeld,
+    /// The course does not bring these keys to this partition so.
+    Stranger,
+    /// Keys that come in are missing.
+    NotAll,
+    /// No key comes in, in that sub-plan.
+    NothingDue,
+}
+
+/// Why a leader does not go on.
+#[derive(Clone, Copy, Debug, PartialEq, Eq)]
+#[non_exhaustive]
+pub enum LeaderFault {
+    /// The course begun last is not over.
+    Running,
+    /// The greatest number is used.
+    NoNumber,
+    /// No course is begun.
+    Idle,
+    /// A partition has not reported that it has all keys of the sub-plan opened last.
+    NotDone {
+        /// The least such partition.
+        part: u32,
+        /// The sub-plan, from 0.
+        sub: u32,
+    },
+    /// All sub-plans are opened, and the last one is done.
+    NoMore,
+}
+
 /// How far the statuses of a new plan's faults are above those of an old one's.
 const NEW: u32 = 20;
 
@@ -99,6 +148,19 @@ impl Error {
             57 => Error::Frame(FrameFault::Range),
             58 => Error::Frame(FrameFault::Order),
             59 => Error::Frame(FrameFault::Spare),
+            71 => Error::Part(PartFault::NotOpen),
+            72 => Error::Part(PartFault::NothingLeft),
+            73 => Error::Part(PartFault::ZeroMax),
+            74 => Error::Part(PartFault::NotOutgoing),
+            75 => Error::Part(PartFault::Given),
+            76 => Error::Part(PartFault::NotHeld),
+            77 => Error::Part(PartFault::Stranger),
+            78 => Error::Part(PartFault::NotAll),
+            79 => Error::Part(PartFault::NothingDue),
+            91 => Error::Leader(LeaderFault::Running),
+            92 => Error::Leader(LeaderFault::NoNumber),
+            93 => Error::Leader(LeaderFault::Idle),
+            95 => Error::Leader(LeaderFault::NoMore),
             _ => Error::Unknown(status),
         })
     }
@@ -131,6 +193,8 @@ impl fmt::Display for Error {
             Error::OldPlan(fault) => write!(f, "the old text is no plan: {fault}"),
             Error::NewPlan(fault) => write!(f, "the new text is no plan: {fault}"),
             Error::Frame(fault) => write!(f, "no frame: {fault}"),
+            Error::Part(fault) => fmt::Display::fmt(fault, f),
+            Error::Leader(fault) => fmt::Display::fmt(fault, f),
             Error::Unknown(status) => write!(f, "unknown status {status}"),
         }
     }
@@ -158,14 +222,45 @@ impl fmt::Display for FrameFault {
     }
 }
 
+impl fmt::Display for PartFault {
+    fn fmt(&self, f: &mut fmt::Formatter<'_>) -> fmt::Result {
+        f.write_str(match self {
+            PartFault::NotOpen => "the partition knows of no opening of the sub-plan",
+            PartFault::NothingLeft => "the partition holds no key that goes out in this sub-plan",
+            PartFault::ZeroMax => "no key was asked for",
+            PartFault::NotOutgoing => "the key does not go out in this sub-plan",
+            PartFault::Given => "the key was given before",
+            PartFault::NotHeld => "the key goes out, and is neither given nor held",
+            PartFault::Stranger => "the course does not bring these keys to the partition",
+            PartFault::NotAll => "keys that come to the partition are missing",
+            PartFault::NothingDue => "no key comes to the partition in that sub-plan",
+        })
+    }
+}
+
+impl fmt::Display for LeaderFault {
+    fn fmt(&self, f: &mut fmt::Formatter<'_>) -> fmt::Result {
+        match self {
+            LeaderFault::Running => f.write_str("the course begun last is not over"),
+            LeaderFault::NoNumber => f.write_str("the greatest number is used"),
+            LeaderFault::Idle => f.write_str("no course is begun"),
+            LeaderFault::NotDone { part, sub } => {
+                write!(f, "partition {part} is not done with sub-plan {sub}")
+            }
+            LeaderFault::NoMore => f.write_str("all sub-plans are opened and done"),
+        }
+    }
+}
+
 impl error::Error for Error {}
 
-/// An error of the kind `OutOfMemory` for [`Error::NoMemory`], and else `InvalidData`, as bytes and
-/// texts from elsewhere are its cause.
+/// An error of the kind `OutOfMemory` for [`Error::NoMemory`], `Other` for what a partition or a leader
+/// refuses, and else `InvalidData`, as bytes and texts from elsewhere are its cause.
 impl From<Error> for io::Error {
     fn from(error: Error) -> io::Error {
         let kind = match error {
             Error::NoMemory => io::ErrorKind::OutOfMemory,
+            Error::Part(_) | Error::Leader(_) => io::ErrorKind::Other,
             _ => io::ErrorKind::InvalidData,
         };
         io::Error::new(kind, error)

@@ -1,35 +1,63 @@
-//! The functions of `squall.h`, where their rules and answers stand.
+//! The functions of `squall.h`, which says their rules and answers.
 
 use std::ffi::c_char;
 
 use crate::course::{Move, Place};
-use crate::key::Leg;
-use crate::told::{Counts, Span};
+use crate::key::{Leg, Span};
+use crate::part::Chunk;
+use crate::told::Counts;
 
-/// What stands in the room of a router: nobody looks into it here.
+/// What is in the room of a router: nobody looks into it here.
 #[repr(C)]
 pub(crate) struct RawRouter {
     hidden: [u8; 0],
 }
 
-/// What stands in the room of a view.
+/// What is in the room of a view.
 #[repr(C)]
 pub(crate) struct RawView {
     hidden: [u8; 0],
 }
 
-/// What stands in the room of an errand.
+/// What is in the room of an errand.
 #[repr(C)]
 pub(crate) struct RawErrand {
     hidden: [u8; 0],
 }
 
-/// What stands in the room of a course.
+/// What is in the room of a course.
 #[repr(C)]
 pub(crate) struct RawCourse {
     hidden: [u8; 0],
 }
 
+/// What is in the room of a partition.
+#[repr(C)]
+pub(crate) struct RawPart {
+    hidden: [u8; 0],
+}
+
+/// What is in the room of a leader.
+#[repr(C)]
+pub(crate) struct RawLeader {
+    hidden: [u8; 0],
+}
+
+/// The reply of a partition, as numbers.
+#[repr(C)]
+#[derive(Clone, Copy, Default)]
+pub(crate) struct RawAnswer {
+    pub(crate) reply: u32,
+    pub(crate) part: u32,
+    pub(crate) number: u32,
+}
+
+/// The status of a room in which nothing was opened.
+pub(crate) const CLOSED: u32 = 3;
+/// The status of a load if each key of the chunk was loaded before.
+pub(crate) const LOADED_BEFORE: u32 = 80;
+/// The status of a leader that waits for a partition.
+pub(crate) const NOT_DONE: u32 = 94;
 /// The answer where there is no partition.
 pub(crate) const NOWHERE: u32 = u32::MAX;
 
@@ -211,6 +239,66 @@ unsafe extern "C" {
         number: u32,
     ) -> u32;
     pub(crate) fn squall_errand_close(errand: *mut RawErrand);
+
+    pub(crate) safe fn squall_part_size() -> usize;
+    pub(crate) fn squall_part_open(id: u32, course: *const RawCourse, room: *mut RawPart);
+    pub(crate) fn squall_part_status(part: *const RawPart) -> u32;
+    pub(crate) fn squall_part_hear(part: *mut RawPart, frame: *const u8, len: usize) -> u32;
+    pub(crate) fn squall_part_give(part: *mut RawPart, max: u64, out: *mut Chunk) -> u32;
+    pub(crate) fn squall_part_give_at(part: *mut RawPart, rank: u64, out: *mut Chunk) -> u32;
+    pub(crate) fn squall_part_load(part: *mut RawPart, chunk: *const Chunk) -> u32;
+    pub(crate) fn squall_part_finish(part: *mut RawPart, sub: u32) -> u32;
+    pub(crate) fn squall_part_serve(
+        part: *const RawPart,
+        rank: u64,
+        after: u32,
+        out: *mut RawAnswer,
+    ) -> u32;
+    pub(crate) fn squall_part_held(
+        part: *const RawPart,
+        from: usize,
+        out: *mut Span,
+        room: usize,
+    ) -> usize;
+    pub(crate) fn squall_part_given(
+        part: *const RawPart,
+        number: u32,
+        from: usize,
+        out: *mut Span,
+        room: usize,
+    ) -> usize;
+    pub(crate) fn squall_part_loaded(
+        part: *const RawPart,
+        number: u32,
+        from: usize,
+        out: *mut Span,
+        room: usize,
+    ) -> usize;
+    pub(crate) fn squall_part_gather_board(part: *mut RawPart) -> u32;
+    pub(crate) fn squall_part_gather_digest(part: *mut RawPart) -> u32;
+    pub(crate) fn squall_part_gather_repair(part: *mut RawPart) -> u32;
+    pub(crate) fn squall_part_frame(part: *mut RawPart, out: *mut u8, room: usize) -> usize;
+    pub(crate) fn squall_part_close(part: *mut RawPart);
+
+    pub(crate) safe fn squall_leader_size() -> usize;
+    pub(crate) fn squall_leader_open(plan: *const u8, len: usize, last: u32, room: *mut RawLeader);
+    pub(crate) fn squall_leader_resume(course: *const RawCourse, room: *mut RawLeader);
+    pub(crate) fn squall_leader_status(leader: *const RawLeader) -> u32;
+    pub(crate) fn squall_leader_fault_at(leader: *const RawLeader) -> u64;
+    pub(crate) fn squall_leader_hear(leader: *mut RawLeader, frame: *const u8, len: usize) -> u32;
+    pub(crate) fn squall_leader_begin(leader: *mut RawLeader, plan: *const u8, len: usize) -> u32;
+    pub(crate) fn squall_leader_course(leader: *const RawLeader, room: *mut RawCourse);
+    pub(crate) fn squall_leader_open_next(
+        leader: *mut RawLeader,
+        out: *mut u32,
+        room: usize,
+    ) -> u32;
+    pub(crate) fn squall_leader_finished(leader: *const RawLeader) -> u32;
+    pub(crate) fn squall_leader_gather_board(leader: *mut RawLeader) -> u32;
+    pub(crate) fn squall_leader_gather_digest(leader: *mut RawLeader) -> u32;
+    pub(crate) fn squall_leader_gather_repair(leader: *mut RawLeader) -> u32;
+    pub(crate) fn squall_leader_frame(leader: *mut RawLeader, out: *mut u8, room: usize) -> usize;
+    pub(crate) fn squall_leader_close(leader: *mut RawLeader);
 
     pub(crate) safe fn squall_version() -> *const c_char;
 }

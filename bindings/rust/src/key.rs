@@ -1,4 +1,4 @@
-//! Keys, bounds and legs.
+//! Keys, bounds, spans and legs.
 
 use crate::ffi;
 use std::fmt;
@@ -47,6 +47,16 @@ impl fmt::Display for Rank {
 pub fn key_of(row: &[u8]) -> Rank {
     // SAFETY: the bytes of a slice are readable, and do not change while it is borrowed.
     Rank(unsafe { ffi::squall_key_of(row.as_ptr(), row.len()) })
+}
+
+/// The keys from `lo` on, below `hi`.
+#[repr(C)]
+#[derive(Clone, Copy, Debug, PartialEq, Eq)]
+pub struct Span {
+    /// The first key.
+    pub lo: Rank,
+    /// Where the keys end.
+    pub hi: Rank,
 }
 
 /// The keys from `lo` on, below `hi`, are to be asked for at the partition.

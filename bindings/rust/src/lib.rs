@@ -3,7 +3,8 @@
 //! A [`Router`] knows an old and a new partition plan and takes reports of what was loaded where. It
 //! says for each key which partition to ask. A [`View`] is what a router said at one moment, for
 //! threads that only read. An [`Errand`] follows the replies of partitions until a key is found. A
-//! [`Course`] says which keys move, from which partition to which.
+//! [`Course`] says which keys move, from which partition to which. A [`Part`] gives and loads the keys of
+//! a partition and replies to requests for them, and a [`Leader`] begins courses and opens their sub-plans.
 //!
 //! ```
 //! use squall::{Rank, Router};
@@ -30,8 +31,8 @@
 //!
 //! # Threads
 //!
-//! A [`Router`], a [`Course`] and an [`Errand`] serve one call at a time: they are `Send` and not `Sync`.
-//! A [`View`] is both. So threads that route at the same time share one, and wait for nothing:
+//! A [`Router`], a [`Course`], an [`Errand`], a [`Part`] and a [`Leader`] serve one call at a time: they
+//! are `Send` and not `Sync`. A [`View`] is both. So threads that route at the same time share one, and wait for nothing:
 //!
 //! ```
 //! fn shared_by_threads<T: Send + Sync>() {}
@@ -45,7 +46,7 @@
 //!
 //! # Memory
 //!
-//! The library allocates by `malloc`. Where that fails, a call answers [`Error::NoMemory`] and has
+//! The library allocates by `malloc`. If that fails, a call answers [`Error::NoMemory`] and has
 //! changed nothing. Rooms and what this layer gives out, as the legs of [`Router::legs`], are
 //! allocated as all else in Rust is.
 
@@ -56,7 +57,10 @@ mod errand;
 mod error;
 mod ffi;
 pub mod frame;
+mod frames;
 mod key;
+mod leader;
+mod part;
 mod room;
 mod router;
 mod told;
@@ -64,10 +68,13 @@ mod view;
 
 pub use course::{Course, Move, Place};
 pub use errand::{Errand, Next, Reply};
-pub use error::{Error, FrameFault, PlanFault};
-pub use key::{Leg, Rank, key_of};
-pub use router::{Frames, Router};
-pub use told::{Counts, Span};
+pub use error::{Error, FrameFault, LeaderFault, PartFault, PlanFault};
+pub use frames::Frames;
+pub use key::{Leg, Rank, Span, key_of};
+pub use leader::Leader;
+pub use part::{Chunk, Loaded, Part};
+pub use router::Router;
+pub use told::Counts;
 pub use view::View;
 
 /// The version of the library that is linked, as `0.1.0`.

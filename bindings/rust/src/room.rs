@@ -1,10 +1,10 @@
-//! Rooms: the memory in which routers, views, errands and courses live.
+//! Rooms: the memory in which routers, views, errands, courses, partitions and leaders live.
 
-use crate::ffi::{self, RawCourse, RawErrand, RawRouter, RawView};
+use crate::ffi::{self, RawCourse, RawErrand, RawLeader, RawPart, RawRouter, RawView};
 use std::mem::MaybeUninit;
 use std::ptr::{self, NonNull};
 
-/// What can stand in a room.
+/// What can be in a room.
 pub(crate) trait Handle: Sized {
     /// How many bytes its room has.
     fn size() -> usize;
@@ -61,6 +61,28 @@ impl Handle for RawCourse {
     }
 }
 
+impl Handle for RawPart {
+    fn size() -> usize {
+        ffi::squall_part_size()
+    }
+
+    unsafe fn close(at: *mut RawPart) {
+        // SAFETY: the caller keeps it.
+        unsafe { ffi::squall_part_close(at) }
+    }
+}
+
+impl Handle for RawLeader {
+    fn size() -> usize {
+        ffi::squall_leader_size()
+    }
+
+    unsafe fn close(at: *mut RawLeader) {
+        // SAFETY: the caller keeps it.
+        unsafe { ffi::squall_leader_close(at) }
+    }
+}
+
 /// As much of a room as its alignment.
 #[repr(C, align(16))]
 struct Block([MaybeUninit<u8>; 16]);
@@ -75,7 +97,7 @@ pub(crate) struct Room<H: Handle> {
 }
 
 // SAFETY: a handle may pass from thread to thread as long as its calls are ordered, as those by an
-// owned value or an exclusive borrow are. `Room` is not `Sync`, so that no two threads borrow it.
+// owned value or an exclusive borrow are. `Room` is not `Sync`, and no two threads borrow one.
 unsafe impl<H: Handle> Send for Room<H> {}
 
 impl<H: Handle> Room<H> {

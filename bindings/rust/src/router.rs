@@ -4,6 +4,7 @@ use crate::course::Course;
 use crate::errand::Errand;
 use crate::error::Error;
 use crate::ffi::{self, RawRouter};
+use crate::frames::Frames;
 use crate::key::{Leg, Rank, all_legs};
 use crate::room::Room;
 use crate::view::View;
@@ -172,7 +173,7 @@ impl Router {
         let router = self.room.get_mut();
         // SAFETY: the router was opened.
         self.check(unsafe { ffi::squall_router_gather_board(router) })?;
-        Ok(Frames { router: self })
+        Ok(Frames::of(&mut self.room))
     }
 
     /// The frame of a digest of all that the router was told, by which another one can tell what
@@ -185,7 +186,7 @@ impl Router {
         let router = self.room.get_mut();
         // SAFETY: the router was opened.
         self.check(unsafe { ffi::squall_router_gather_digest(router) })?;
-        Ok(Frames { router: self })
+        Ok(Frames::of(&mut self.room))
     }
 
     /// The frames of what the digest that was fed last does not show.
@@ -197,7 +198,7 @@ impl Router {
         let router = self.room.get_mut();
         // SAFETY: the router was opened.
         self.check(unsafe { ffi::squall_router_gather_repair(router) })?;
-        Ok(Frames { router: self })
+        Ok(Frames::of(&mut self.room))
     }
 
     /// A view of what the router says now. This copies the router's table.
@@ -239,29 +240,5 @@ impl Router {
     pub fn errand(&self, key: Rank) -> Result<Errand, Error> {
         // SAFETY: the router was opened.
         unsafe { Errand::open(|room| ffi::squall_errand_start(self.room.get(), key.0, room)) }
-    }
-}
-
-/// The frames that a router has made, each with its bytes. Those that are not taken are dropped when
-/// the router makes others.
-pub struct Frames<'a> {
-    router: &'a mut Router,
-}
-
-impl Iterator for Frames<'_> {
-    type Item = Vec<u8>;
-
-    fn next(&mut self) -> Option<Vec<u8>> {
-        let router = self.router.room.get_mut();
-        let mut frame = Vec::new();
-        // SAFETY: the router was opened, and there is room for no byte.
-        let len = unsafe { ffi::squall_router_frame(router, frame.as_mut_ptr(), 0) };
-        if len == 0 {
-            return None;
-        }
-        frame.resize(len, 0);
-        // SAFETY: the router was opened, and there are `len` bytes to write to.
-        unsafe { ffi::squall_router_frame(router, frame.as_mut_ptr(), len) };
-        Some(frame)
     }
 }

@@ -3,7 +3,7 @@
 use crate::error::Error;
 use crate::ffi;
 use crate::frame;
-use crate::key::Rank;
+use crate::key::{Rank, Span};
 use crate::router::Router;
 use crate::view::View;
 use std::ops::Range;
@@ -20,16 +20,6 @@ pub struct Counts {
     pub opened: u64,
     /// The numbers under which plans were issued.
     pub issues: u64,
-}
-
-/// The keys from `lo` on, below `hi`.
-#[repr(C)]
-#[derive(Clone, Copy, Debug, PartialEq, Eq)]
-pub struct Span {
-    /// The first key.
-    pub lo: Rank,
-    /// Where the keys end.
-    pub hi: Rank,
 }
 
 /// How many spans are asked for in one call.
