@@ -98,7 +98,7 @@ fn text_of(bytes: Vec<u8>) -> String {
 
 impl View {
     /// The spans of the keys for which this view and a later one have different routes, by rising key,
-    /// each as long as can be. None if there are no keys or a rank is above [`Rank::END`].
+    /// each as long as can be. Ranks from [`Rank::END`] on are no keys, and in none of them.
     ///
     /// A proxy that holds requests back wakes only those that are for keys of these spans:
     ///

@@ -86,6 +86,7 @@ fn changes_of_views_that_threads_share() -> Result<(), Error> {
         }
     });
     assert_eq!(before.changes(&after, key(3)..key(2)), []);
-    assert_eq!(before.changes(&after, Rank(0)..Rank(u64::MAX)), []);
+    assert_eq!(before.changes(&after, Rank(0)..Rank(u64::MAX)), wanted);
+    assert_eq!(before.changes(&after, Rank::END..Rank(u64::MAX)), []);
     Ok(())
 }
