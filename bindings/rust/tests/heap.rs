@@ -91,7 +91,7 @@ fn is_heap_in_use() -> bool {
     ASKED.get() > 0
 }
 
-/// The answer of the call with the allocation of that number refused, and whether it made so many.
+/// The answer of the call with the allocation of that number refused, and whether it made that one.
 fn refusing<T>(number: usize, call: impl FnOnce() -> T) -> (T, bool) {
     ASKED.set(0);
     REFUSED.set(number);
