@@ -3,7 +3,8 @@
 A `Router` knows an old and a new plan, and takes reports of what was loaded where. It says for each
 key which partition to ask. A `View` is what a router said at one moment, for threads that only
 read. An `Errand` follows the replies of partitions until a key is found. A `Course` says which keys
-move, and the module `frame` makes frames of single reports.
+move, and the module `frame` makes frames of single reports. A `Part` keeps which keys a partition
+holds while they move, and a `Leader` begins courses and opens their sub-plans.
 
 >>> from squall import END, Plan, Rank, Router
 >>> old = Plan.of([(0, END, 1)])
@@ -28,38 +29,74 @@ from .errors import (
     ForkError,
     FrameError,
     FrameFault,
+    GivenError,
+    IdleError,
+    LeaderError,
     LibraryError,
     NoDigestError,
     NoMemory,
+    NoMoreError,
+    NoNumberError,
+    NotAllError,
+    NotDoneError,
+    NotHeldError,
+    NothingDueError,
+    NothingLeftError,
+    NotOpenError,
+    NotOutgoingError,
     NumberError,
+    PartError,
     PlanError,
     PlanFault,
+    RunningError,
     SquallError,
+    StrangerError,
     StreamError,
     TooLongError,
+    ZeroMaxError,
 )
-from .keys import END, NOWHERE, Leg, Rank, key_of
+from .keys import END, NOWHERE, Leg, Rank, Span, key_of
+from .leader import Leader
+from .part import Answer, Chunk, Part
 from .plan import Plan
-from .router import FRAME_BYTES, Router
+from .router import FRAME_BYTES, Counts, Router
 from .view import View
 
 __all__ = [
     "END",
     "FRAME_BYTES",
     "NOWHERE",
+    "Answer",
+    "Chunk",
     "ClosedError",
+    "Counts",
     "Course",
     "Errand",
     "ForkError",
     "FrameError",
     "FrameFault",
+    "GivenError",
+    "IdleError",
+    "Leader",
+    "LeaderError",
     "Leg",
     "LibraryError",
     "Move",
     "Next",
     "NoDigestError",
     "NoMemory",
+    "NoMoreError",
+    "NoNumberError",
+    "NotAllError",
+    "NotDoneError",
+    "NotHeldError",
+    "NotOpenError",
+    "NotOutgoingError",
+    "NothingDueError",
+    "NothingLeftError",
     "NumberError",
+    "Part",
+    "PartError",
     "Place",
     "Plan",
     "PlanError",
@@ -67,10 +104,14 @@ __all__ = [
     "Rank",
     "Reply",
     "Router",
+    "RunningError",
+    "Span",
     "SquallError",
+    "StrangerError",
     "StreamError",
     "TooLongError",
     "View",
+    "ZeroMaxError",
     "__version__",
     "frame",
     "key_of",

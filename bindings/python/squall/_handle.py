@@ -1,4 +1,4 @@
-"""What routers, views, courses and errands have in common."""
+"""What routers, views, courses, errands, partitions and leaders have in common."""
 
 from __future__ import annotations
 

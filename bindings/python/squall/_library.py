@@ -11,7 +11,20 @@ import ctypes
 import os
 from typing import Any, Callable, Tuple, Union
 
-from ._room import CourseRoom, ErrandRoom, LegRecord, MoveRecord, RouterRoom, ViewRoom
+from ._room import (
+    AnswerRecord,
+    ChunkRecord,
+    CountsRecord,
+    CourseRoom,
+    ErrandRoom,
+    LeaderRoom,
+    LegRecord,
+    MoveRecord,
+    PartRoom,
+    RouterRoom,
+    SpanRecord,
+    ViewRoom,
+)
 from .errors import LibraryError
 
 SONAME = "libsquall.so.1"
@@ -32,8 +45,14 @@ _ROUTER = ctypes.POINTER(RouterRoom)
 _VIEW = ctypes.POINTER(ViewRoom)
 _ERRAND = ctypes.POINTER(ErrandRoom)
 _COURSE = ctypes.POINTER(CourseRoom)
+_PART = ctypes.POINTER(PartRoom)
+_LEADER = ctypes.POINTER(LeaderRoom)
 _LEGS = ctypes.POINTER(LegRecord)
 _MOVES = ctypes.POINTER(MoveRecord)
+_SPANS = ctypes.POINTER(SpanRecord)
+_COUNTS = ctypes.POINTER(CountsRecord)
+_CHUNK = ctypes.POINTER(ChunkRecord)
+_ANSWER = ctypes.POINTER(AnswerRecord)
 
 
 def _find() -> Tuple[str, str]:
@@ -120,6 +139,14 @@ router_gather_repair: Callable[[RouterRoom], int] = _slow("router_gather_repair"
 router_frame: Callable[[RouterRoom, Out, int], int]
 router_frame = _quick("router_frame", _SIZE, _ROUTER, _ADDRESS, _SIZE)
 
+router_clashed: Callable[[RouterRoom], int] = _slow("router_clashed", _SIZE, _ROUTER)
+router_counts: Callable[[RouterRoom, CountsRecord, int], int]
+router_counts = _slow("router_counts", _SIZE, _ROUTER, _COUNTS, _SIZE)
+router_status_text: Callable[[RouterRoom, Out, int], int]
+router_status_text = _slow("router_status_text", _SIZE, _ROUTER, _ADDRESS, _SIZE)
+router_picture: Callable[[RouterRoom, Out, int], int]
+router_picture = _slow("router_picture", _SIZE, _ROUTER, _ADDRESS, _SIZE)
+
 # Views.
 
 view_size: Callable[[], int] = _quick("view_size", _SIZE)
@@ -138,6 +165,8 @@ view_place = _quick("view_locate", _SIZE, _VIEW, _ADDRESS, _SIZE, _ADDRESS, _SIZ
 view_legs: Callable[[ViewRoom, int, int, Out, int], int]
 view_legs = _slow("view_legs", _SIZE, _VIEW, _U64, _U64, _LEGS, _SIZE)
 view_number: Callable[[ViewRoom], int] = _quick("view_number", _U32, _VIEW)
+view_changes: Callable[[ViewRoom, ViewRoom, int, int, Out, int], int]
+view_changes = _slow("view_changes", _SIZE, _VIEW, _VIEW, _U64, _U64, _SPANS, _SIZE)
 
 # Courses. A call for moves or ranges is short, since it gives no more than there is room for.
 
@@ -187,10 +216,70 @@ errand_number: Callable[[ErrandRoom], int] = _quick("errand_number", _U32, _ERRA
 errand_heed: Callable[[ErrandRoom, int, int, int], int]
 errand_heed = _quick("errand_heed", _U32, _ERRAND, _U32, _U32, _U32)
 
+# Partitions.
+
+part_size: Callable[[], int] = _quick("part_size", _SIZE)
+part_close: Callable[[PartRoom], None] = _slow("part_close", None, _PART)
+part_open: Callable[[int, CourseRoom, PartRoom], None]
+part_open = _slow("part_open", None, _U32, _COURSE, _PART)
+part_status: Callable[[PartRoom], int] = _quick("part_status", _U32, _PART)
+part_hear: Callable[[PartRoom, Bytes, int], int]
+part_hear = _slow("part_hear", _U32, _PART, _ADDRESS, _SIZE)
+part_hear_kept: Callable[[PartRoom, Bytes, int], int]
+part_hear_kept = _quick("part_hear", _U32, _PART, _ADDRESS, _SIZE)
+part_give: Callable[[PartRoom, int, ChunkRecord], int]
+part_give = _slow("part_give", _U32, _PART, _U64, _CHUNK)
+part_give_at: Callable[[PartRoom, int, ChunkRecord], int]
+part_give_at = _slow("part_give_at", _U32, _PART, _U64, _CHUNK)
+part_load: Callable[[PartRoom, ChunkRecord], int] = _slow("part_load", _U32, _PART, _CHUNK)
+part_finish: Callable[[PartRoom, int], int] = _slow("part_finish", _U32, _PART, _U32)
+part_serve: Callable[[PartRoom, int, int, AnswerRecord], int]
+part_serve = _quick("part_serve", _U32, _PART, _U64, _U32, _ANSWER)
+part_held: Callable[[PartRoom, int, Out, int], int]
+part_held = _slow("part_held", _SIZE, _PART, _SIZE, _SPANS, _SIZE)
+part_given: Callable[[PartRoom, int, int, Out, int], int]
+part_given = _slow("part_given", _SIZE, _PART, _U32, _SIZE, _SPANS, _SIZE)
+part_loaded: Callable[[PartRoom, int, int, Out, int], int]
+part_loaded = _slow("part_loaded", _SIZE, _PART, _U32, _SIZE, _SPANS, _SIZE)
+part_gather_board: Callable[[PartRoom], int] = _slow("part_gather_board", _U32, _PART)
+part_gather_digest: Callable[[PartRoom], int] = _slow("part_gather_digest", _U32, _PART)
+part_gather_repair: Callable[[PartRoom], int] = _slow("part_gather_repair", _U32, _PART)
+part_frame: Callable[[PartRoom, Out, int], int]
+part_frame = _quick("part_frame", _SIZE, _PART, _ADDRESS, _SIZE)
+
+# Leaders.
+
+leader_size: Callable[[], int] = _quick("leader_size", _SIZE)
+leader_close: Callable[[LeaderRoom], None] = _slow("leader_close", None, _LEADER)
+leader_open: Callable[[bytes, int, int, LeaderRoom], None]
+leader_open = _slow("leader_open", None, _ADDRESS, _SIZE, _U32, _LEADER)
+leader_resume: Callable[[CourseRoom, LeaderRoom], None]
+leader_resume = _slow("leader_resume", None, _COURSE, _LEADER)
+leader_status: Callable[[LeaderRoom], int] = _quick("leader_status", _U32, _LEADER)
+leader_fault_at: Callable[[LeaderRoom], int] = _quick("leader_fault_at", _U64, _LEADER)
+leader_hear: Callable[[LeaderRoom, Bytes, int], int]
+leader_hear = _slow("leader_hear", _U32, _LEADER, _ADDRESS, _SIZE)
+leader_hear_kept: Callable[[LeaderRoom, Bytes, int], int]
+leader_hear_kept = _quick("leader_hear", _U32, _LEADER, _ADDRESS, _SIZE)
+leader_begin: Callable[[LeaderRoom, bytes, int], int]
+leader_begin = _slow("leader_begin", _U32, _LEADER, _ADDRESS, _SIZE)
+leader_course: Callable[[LeaderRoom, CourseRoom], None]
+leader_course = _quick("leader_course", None, _LEADER, _COURSE)
+leader_open_next: Callable[[LeaderRoom, Out, int], int]
+leader_open_next = _slow("leader_open_next", _U32, _LEADER, _ADDRESS, _SIZE)
+leader_finished: Callable[[LeaderRoom], int] = _slow("leader_finished", _U32, _LEADER)
+leader_gather_board: Callable[[LeaderRoom], int] = _slow("leader_gather_board", _U32, _LEADER)
+leader_gather_digest: Callable[[LeaderRoom], int] = _slow("leader_gather_digest", _U32, _LEADER)
+leader_gather_repair: Callable[[LeaderRoom], int] = _slow("leader_gather_repair", _U32, _LEADER)
+leader_frame: Callable[[LeaderRoom, Out, int], int]
+leader_frame = _quick("leader_frame", _SIZE, _LEADER, _ADDRESS, _SIZE)
+
 RouterRoom.prepare(router_size(), router_close)
 ViewRoom.prepare(view_size(), view_close)
 CourseRoom.prepare(course_size(), course_close)
 ErrandRoom.prepare(errand_size(), errand_close)
+PartRoom.prepare(part_size(), part_close)
+LeaderRoom.prepare(leader_size(), leader_close)
 
 # The library.
 

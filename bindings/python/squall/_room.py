@@ -1,4 +1,4 @@
-"""Rooms: the memory in which routers, views, courses and errands live."""
+"""Rooms, the memory in which handles of the library live, and the records of `squall.h`."""
 
 from __future__ import annotations
 
@@ -59,6 +59,14 @@ class ErrandRoom(Room):
     """A room for an errand."""
 
 
+class PartRoom(Room):
+    """A room for a partition."""
+
+
+class LeaderRoom(Room):
+    """A room for a leader."""
+
+
 class LegRecord(ctypes.Structure):
     """A leg, as `squall.h` has it."""
 
@@ -83,6 +91,61 @@ class MoveRecord(ctypes.Structure):
     source: int
     dest: int
     sub: int
+
+
+class SpanRecord(ctypes.Structure):
+    """A span, as `squall.h` has it."""
+
+    _fields_ = [("lo", ctypes.c_uint64), ("hi", ctypes.c_uint64)]
+    lo: int
+    hi: int
+
+
+class CountsRecord(ctypes.Structure):
+    """How much a router heard, as `squall.h` has it."""
+
+    _fields_ = [
+        ("cells", ctypes.c_uint64),
+        ("spans", ctypes.c_uint64),
+        ("opened", ctypes.c_uint64),
+        ("issues", ctypes.c_uint64),
+    ]
+    cells: int
+    spans: int
+    opened: int
+    issues: int
+
+
+class ChunkRecord(ctypes.Structure):
+    """A chunk, as `squall.h` has it."""
+
+    _fields_ = [
+        ("lo", ctypes.c_uint64),
+        ("hi", ctypes.c_uint64),
+        ("number", ctypes.c_uint32),
+        ("sub", ctypes.c_uint32),
+        ("source", ctypes.c_uint32),
+        ("dest", ctypes.c_uint32),
+    ]
+    lo: int
+    hi: int
+    number: int
+    sub: int
+    source: int
+    dest: int
+
+
+class AnswerRecord(ctypes.Structure):
+    """The reply of a partition, as `squall.h` has it."""
+
+    _fields_ = [
+        ("reply", ctypes.c_uint32),
+        ("part", ctypes.c_uint32),
+        ("number", ctypes.c_uint32),
+    ]
+    reply: int
+    part: int
+    number: int
 
 
 #: A place, as `squall.h` has it: the numbers `part`, `source`, `dest` and `sub`.

@@ -2,20 +2,33 @@
 
 from __future__ import annotations
 
-from typing import Optional
+from typing import Dict, Optional, Tuple, Type
 
 from .errors import (
     ClosedError,
     FrameError,
     FrameFault,
+    GivenError,
+    IdleError,
     NoDigestError,
     NoMemory,
+    NoMoreError,
+    NoNumberError,
+    NotAllError,
+    NotHeldError,
+    NothingDueError,
+    NothingLeftError,
+    NotOpenError,
+    NotOutgoingError,
     NumberError,
     PlanError,
     PlanFault,
+    RunningError,
     SquallError,
+    StrangerError,
     StreamError,
     TooLongError,
+    ZeroMaxError,
 )
 from .keys import Rank
 
@@ -24,13 +37,26 @@ NO_PLACE = 0xFFFFFFFFFFFFFFFF
 #: How far the statuses of a new plan's faults are above those of an old one's.
 _NEW = 20
 
-_SIMPLE = {
+_SIMPLE: Dict[int, Tuple[Type[SquallError], str]] = {
     1: (NoMemory, "an allocation failed"),
     2: (NumberError, "a number or a rank is outside its limits, or the span has no keys"),
     3: (ClosedError, "nothing was opened"),
     4: (StreamError, "the stream ended with a fault before: only another router can go on"),
     5: (TooLongError, "the digest has more rows than a frame holds"),
     6: (NoDigestError, "no digest was heard that could be answered"),
+    71: (NotOpenError, "as far as the partition knows, the sub-plan is not opened"),
+    72: (NothingLeftError, "the partition holds no key that goes out in the sub-plan opened last"),
+    73: (ZeroMaxError, "no key was asked for"),
+    74: (NotOutgoingError, "the key does not go out in the sub-plan opened last"),
+    75: (GivenError, "the key was given under this course before"),
+    76: (NotHeldError, "the key goes out, and is neither given nor held"),
+    77: (StrangerError, "no known course brings these keys to this partition so"),
+    78: (NotAllError, "keys that come in are missing"),
+    79: (NothingDueError, "no key comes in, in that sub-plan"),
+    91: (RunningError, "the course begun last is not over"),
+    92: (NoNumberError, "the greatest number is used"),
+    93: (IdleError, "no course is begun"),
+    95: (NoMoreError, "all sub-plans are opened, and the last one is done"),
 }
 _BOUNDS = (PlanFault.OVERLAP, PlanFault.GAP)
 

@@ -42,7 +42,8 @@ class Next(enum.IntEnum):
     LOST = 3
 
 
-_WITH_PART = (Reply.MOVED, Reply.PENDING, Reply.ELSEWHERE)
+#: The replies that come with a partition.
+WITH_PART = (Reply.MOVED, Reply.PENDING, Reply.ELSEWHERE)
 
 
 class Errand(Handle):
@@ -93,7 +94,7 @@ class Errand(Handle):
         Raises `NumberError` if there is no such reply or the partition is above 9999, `TypeError`
         if the reply lacks its partition or number, and `ClosedError`. Nothing has changed then.
         """
-        if part is None and reply in _WITH_PART:
+        if part is None and reply in WITH_PART:
             raise TypeError(f"the reply {Reply(reply).name} comes with a partition")
         if number is None and reply == Reply.MOVED:
             raise TypeError("the reply MOVED comes with the number of a course")

@@ -52,7 +52,7 @@ class NumberError(SquallError, ValueError):
 
 
 class ClosedError(SquallError, ValueError):
-    """The router, view, course or errand was closed."""
+    """The router, view, course, errand, partition or leader was closed."""
 
     status = 3
 
@@ -73,6 +73,110 @@ class NoDigestError(SquallError):
     """No digest was heard that could be answered."""
 
     status = 6
+
+
+class PartError(SquallError):
+    """A partition does not give, load or finish. Each reason is a class of its own below this."""
+
+
+class NotOpenError(PartError):
+    """As far as the partition knows, the sub-plan is not opened."""
+
+    status = 71
+
+
+class NothingLeftError(PartError):
+    """The partition holds no key that goes out in the sub-plan opened last."""
+
+    status = 72
+
+
+class ZeroMaxError(PartError, ValueError):
+    """No key was asked for."""
+
+    status = 73
+
+
+class NotOutgoingError(PartError):
+    """The key does not go out in the sub-plan opened last."""
+
+    status = 74
+
+
+class GivenError(PartError):
+    """The key was given under this course before."""
+
+    status = 75
+
+
+class NotHeldError(PartError):
+    """The key goes out, and is neither given nor held."""
+
+    status = 76
+
+
+class StrangerError(PartError):
+    """The course is not known, or does not bring these keys to this partition so."""
+
+    status = 77
+
+
+class NotAllError(PartError):
+    """Keys that come in are missing."""
+
+    status = 78
+
+
+class NothingDueError(PartError):
+    """No key comes in, in that sub-plan."""
+
+    status = 79
+
+
+class LeaderError(SquallError):
+    """A leader does not go on. Each reason is a class of its own below this."""
+
+
+class RunningError(LeaderError):
+    """The course begun last is not over."""
+
+    status = 91
+
+
+class NoNumberError(LeaderError):
+    """The greatest number is used, so no course can be begun."""
+
+    status = 92
+
+
+class IdleError(LeaderError):
+    """No course is begun."""
+
+    status = 93
+
+
+class NotDoneError(LeaderError):
+    """A partition has not reported that it has all keys of the sub-plan opened last."""
+
+    status = 94
+
+    #: The least such partition, from 0 to 9999.
+    part: int
+    #: The sub-plan, from 0.
+    sub: int
+
+    def __init__(self, part: int, sub: int) -> None:
+        super().__init__(part, sub)
+        self.part, self.sub = part, sub
+
+    def __str__(self) -> str:
+        return f"partition {self.part} has not reported that it has all keys of sub-plan {self.sub}"
+
+
+class NoMoreError(LeaderError):
+    """All sub-plans are opened, and the last one is done."""
+
+    status = 95
 
 
 class _Fault(enum.IntEnum):
@@ -148,7 +252,8 @@ class PlanError(SquallError, ValueError):
     Its text has the fault's name of docs/FORMATS.md and its place: `.. is no plan: Gap 3:5: ..`.
     """
 
-    #: Which plan the text was to be: "old" or "new", or None for `Plan.check`.
+    #: Which plan the text was to be: "old" or "new". None for `Plan.check`, and for the plan with
+    #: which a leader is opened.
     plan: Optional[str]
     #: What is wrong with it.
     fault: PlanFault

@@ -1,4 +1,4 @@
-"""Keys, bounds and legs."""
+"""Keys, bounds, legs and spans."""
 
 from __future__ import annotations
 
@@ -38,6 +38,14 @@ def rank(number: int) -> int:
     number = operator.index(number)
     if not 0 <= number <= _RANK:
         raise NumberError(f"the rank {number} is not from 0 to {_RANK}")
+    return number
+
+
+def wide(number: int) -> int:
+    """A number of 64 bits. Raises `NumberError` if it has none, and `TypeError` as `word` does."""
+    number = operator.index(number)
+    if not 0 <= number <= _RANK:
+        raise NumberError(f"{number} is not from 0 to {_RANK}")
     return number
 
 
@@ -138,3 +146,15 @@ class Leg(NamedTuple):
 
     def __str__(self) -> str:
         return f"[{self.lo},{self.hi}) {self.part}"
+
+
+class Span(NamedTuple):
+    """The keys from `lo` on, below `hi`."""
+
+    #: The first key.
+    lo: Rank
+    #: Where the keys end: a key, or `END`.
+    hi: Rank
+
+    def __str__(self) -> str:
+        return f"[{self.lo},{self.hi})"

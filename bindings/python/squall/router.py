@@ -2,16 +2,15 @@
 
 from __future__ import annotations
 
-import ctypes
-from typing import TYPE_CHECKING, Callable, List, Tuple
+from typing import TYPE_CHECKING, Callable, NamedTuple, Tuple
 
 from . import _library as lib
-from ._buffers import Lent
 from ._fork import REFUSED, refuse
-from ._handle import T
-from ._room import RouterRoom
+from ._frames import Hears
+from ._room import CountsRecord, RouterRoom
 from ._routes import Routes
 from ._status import check
+from ._written import written
 from .course import Course
 from .keys import rank, word
 from .plan import Plan, PlanText
@@ -22,10 +21,24 @@ if TYPE_CHECKING:
 
 #: No frame has more bytes.
 FRAME_BYTES = 1048584
-_SMALL = 4096
+
+_NO_MEMORY = 1
 
 
-class Router(Routes):
+class Counts(NamedTuple):
+    """How much a router heard. A number that does not fit 64 bits is the greatest one that does."""
+
+    #: Of how many partitions in a sub-plan of a course something was reported.
+    cells: int
+    #: The spans of keys that were loaded, over all cells.
+    spans: int
+    #: The sub-plans that are opened, over all courses.
+    opened: int
+    #: The numbers under which plans were issued.
+    issues: int
+
+
+class Router(Routes, Hears):
     """Says for each key which partition to ask.
 
     It knows an old and a new plan, and takes reports of what was loaded where. Reports may come in
@@ -42,7 +55,7 @@ class Router(Routes):
     time have a `view` each.
     """
 
-    __slots__ = ("_gathered",)
+    __slots__ = ()
 
     _kind = RouterRoom
     _call_status = lib.router_status
@@ -50,8 +63,12 @@ class Router(Routes):
     _call_legs = lib.router_legs
     _call_number = lib.router_number
     _call_errand = lib.errand_start
-
-    _gathered: object
+    _call_hear = lib.router_hear
+    _call_hear_kept = lib.router_hear_kept
+    _call_board = lib.router_gather_board
+    _call_digest = lib.router_gather_digest
+    _call_repair = lib.router_gather_repair
+    _call_frame = lib.router_frame
 
     def __init__(self, number: int, old: PlanText, new: PlanText) -> None:
         """A router of the course `number` from the plan `old` to the plan `new`.
@@ -126,74 +143,41 @@ class Router(Routes):
         """
         self._take(data, lib.router_feed, lib.router_feed_kept)
 
-    def hear(self, frame: ReadableBuffer) -> None:
-        """Takes one whole frame, for transports that keep messages apart.
+    def clashed(self) -> bool:
+        """Whether it heard of different pairs of plans under a number above that of its course.
 
-        A delta is taken as reports, and a digest is kept for `repair`. This has nothing to do with
-        the stream of `feed`. As there, no byte is copied.
-
-        Raises `FrameError` if the bytes are no frame, or more than one. The next frame may come
-        then. Raises `NoMemory` and `ClosedError`.
+        Such a number has no course. Raises `NoMemory` and `ClosedError`.
         """
-        self._take(frame, lib.router_hear, lib.router_hear_kept)
+        return _counted(self._ask(lib.router_clashed)) == 1
 
-    def _take(
-        self,
-        data: ReadableBuffer,
-        call: Callable[[RouterRoom, lib.Bytes, int], int],
-        kept: Callable[[RouterRoom, lib.Bytes, int], int],
-    ) -> None:
-        # A subclass may say that it has more bytes than it has.
-        if type(data) is bytes:  # pylint: disable=unidiomatic-typecheck
-            check(self._ask(call, data, len(data)))
-        else:
-            # They may change if another thread runs, so Python's lock is kept.
-            with Lent(data) as lent:
-                check(self._ask(kept, lent.at, lent.size))
+    def counts(self) -> Counts:
+        """How much it heard.
 
-    def board(self) -> List[bytes]:
-        """The frames of all that was reported to the router; none if nothing was.
+        >>> Router(1, old, new).counts()
+        Counts(cells=0, spans=0, opened=0, issues=0)
 
-        They have at most 1,048,584 bytes each. Raises `NoMemory` and `ClosedError`.
+        Raises `NoMemory` and `ClosedError`.
         """
-        return self._frames(lib.router_gather_board)
+        found = CountsRecord()
+        _counted(self._ask(lib.router_counts, found, 1))
+        return Counts(found.cells, found.spans, found.opened, found.issues)
 
-    def digest(self) -> bytes:
-        """The frame of a digest of all that was reported to the router.
+    def status_text(self) -> str:
+        """How far its course has come, in the lines of the command `squall status`.
 
-        By `repair` another router says what this one lacks. Raises `TooLongError` if the digest
-        has more rows than a frame holds, `NoMemory` and `ClosedError`.
+        >>> print(Router(1, new, new).status_text(), end="")
+        course 1 moves 0 sub-plans 0 open none loaded 0 of 0 keys 1000/1000
+
+        Other threads run meanwhile. Raises `NoMemory` and `ClosedError`.
         """
-        return self._frames(lib.router_gather_digest)[0]
+        return self._ask(_text, lib.router_status_text)
 
-    def repair(self) -> List[bytes]:
-        """The frames of what the digest that was heard last does not show; none if it shows all.
+    def picture(self) -> str:
+        """A picture of how far its course has come, in SVG, as `squall picture` draws it.
 
-        Raises `NoDigestError` if none was heard, `NoMemory` and `ClosedError`.
+        Other threads run meanwhile. Raises `NoMemory` and `ClosedError`.
         """
-        return self._frames(lib.router_gather_repair)
-
-    def _frames(self, gather: Callable[[RouterRoom], int]) -> List[bytes]:
-        def steps(room: RouterRoom) -> Tuple[int, List[bytes]]:
-            status = gather(room)
-            return status, [] if status else list(iter(lambda: _next_frame(room), b""))
-
-        status, frames = self._undisturbed(steps)
-        check(status)
-        return frames
-
-    def _undisturbed(self, steps: Callable[[RouterRoom], T]) -> T:
-        """What several calls answer that belong together.
-
-        A signal handler of this thread may have taken such steps between two of the calls, and
-        what these left there. Then they are done again.
-        """
-        with self._lock:
-            while True:
-                self._gathered = mine = object()
-                answer = self._ask(steps)
-                if self._gathered is mine:
-                    return answer
+        return self._ask(_text, lib.router_picture)
 
     def view(self) -> View:
         """A view of what the router says now. This copies the router's table.
@@ -216,12 +200,13 @@ class Router(Routes):
         return self._ask_for(Course, lib.course_first)
 
 
-def _next_frame(room: RouterRoom) -> bytes:
-    """The next frame that waits, or no bytes."""
-    out = ctypes.create_string_buffer(_SMALL)
-    size = lib.router_frame(room, out, len(out))
-    # Once more at most, if no signal handler puts a larger frame there in between.
-    while size > len(out):
-        out = ctypes.create_string_buffer(size)
-        size = lib.router_frame(room, out, len(out))
-    return ctypes.string_at(out, size)
+def _counted(count: int) -> int:
+    """The answer of a call, unless an allocation failed."""
+    if count == lib.NO_COUNT:
+        check(_NO_MEMORY)
+    return count
+
+
+def _text(room: RouterRoom, call: Callable[..., int]) -> str:
+    """The text of ASCII that the call writes."""
+    return written(call, room).decode("ascii")

@@ -10,12 +10,12 @@ from typing import TYPE_CHECKING, Callable, List, Optional, TypeVar
 from . import _library as lib
 from ._buffers import numbers
 from ._fork import REFUSED, refuse
-from ._room import PlaceRecord, ViewRoom
+from ._room import PlaceRecord, SpanRecord, ViewRoom
 from ._routes import Routes
 from ._status import check
 from .course import Place, places_of
 from .errors import ClosedError
-from .keys import rank
+from .keys import END, Rank, Span, rank
 
 if TYPE_CHECKING:
     from ._buffers import ReadableArray, WritableArray
@@ -24,6 +24,8 @@ T = TypeVar("T")
 
 #: How many keys are routed in one call. What a batch needs beside its answers stays small.
 _AT_ONCE = 1 << 16
+#: How many spans one call of C gives.
+_SPANS = 256
 
 
 class View(Routes):
@@ -81,6 +83,26 @@ class View(Routes):
             if spare is None:
                 raise ClosedError("this View is closed")
             return View._opened(partial(lib.view_again, spare))
+
+    def changes(self, after: View, lo: int = 0, hi: int = END) -> List[Span]:
+        """The spans of the keys for which this view and a later one have different routes.
+
+        They come by rising key, each as long as can be, and have only keys from `lo` on, below
+        `hi`. There are none if `lo` is not below `hi`. A bound above `END` is as good as `END`.
+
+        >>> before = Router(1, old, new).view()
+        >>> for span in before.changes(Router(1, new, new).view()): print(span)
+        [0:0,5:0)
+
+        Other threads run meanwhile. Raises `NumberError` if a rank has no 64 bits, `NoMemory` if a
+        table has more views than can be counted, and `ClosedError`.
+        """
+        bounds = rank(lo), rank(hi)
+        # The library takes two views that no other call has meanwhile: clones, which copy nothing.
+        with self.clone() as one, after.clone() as other:
+            records = one._ask(lambda room: other._ask(partial(_changes, room), *bounds))
+        new = int.__new__
+        return [Span(new(Rank, it.lo), new(Rank, it.hi)) for it in records]
 
     def close(self) -> None:
         """Frees the memory, once the calls of other threads that run have returned.
@@ -183,3 +205,15 @@ class View(Routes):
             with ranks[:count] as wanted, room.cast("B") as place:
                 place[: 4 * size * count] = memoryview(self._each(call, size, wanted)).cast("B")
         return count
+
+
+def _changes(before: ViewRoom, after: ViewRoom, lo: int, hi: int) -> List[SpanRecord]:
+    """All spans of the changes between two views, block by block."""
+    found: List[SpanRecord] = []
+    while True:
+        block = (SpanRecord * _SPANS)()
+        count = lib.view_changes(before, after, lo, hi, block, _SPANS)
+        found += block[:count]
+        if count < _SPANS:
+            return found
+        lo = found[-1].hi

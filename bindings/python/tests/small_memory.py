@@ -10,11 +10,11 @@ from array import array
 from functools import partial
 from typing import Any, Callable, List
 
-from squall import Course, NoMemory, Router
+from squall import Chunk, Course, Leader, NoMemory, Part, Router
 from squall import _library as lib
 from squall import frame
 
-from .worked import EMPTY_DIGEST, LOAD_FRAME, NEW, OLD, fresh, key
+from .worked import EMPTY_DIGEST, LOAD_FRAME, NEW, OLD, OPENING_FRAME, fresh, key
 
 _heap: Any = lib._short
 BLOCKS = ctypes.c_long.in_dll(_heap, "test_blocks")
@@ -35,6 +35,27 @@ CALLS: List[Callable[[Router], object]] = [
 ]
 
 
+PART_CALLS: List[Callable[[Part], object]] = [
+    lambda it: it.give(7),
+    lambda it: it.give_at(key(7)),
+    lambda it: it.load(Chunk(key(2), key(3), 1, 0, 1, 3)),
+    lambda it: it.hear(LOAD_FRAME),
+    lambda it: it.hear(bytearray(LOAD_FRAME)),
+    lambda it: it.board(),
+    lambda it: it.digest(),
+    lambda it: it.repair(),
+]
+
+LEADER_CALLS: List[Callable[[Leader], object]] = [
+    lambda it: it.begin(OLD),
+    lambda it: it.hear(LOAD_FRAME),
+    lambda it: it.hear(bytearray(LOAD_FRAME)),
+    lambda it: it.board(),
+    lambda it: it.digest(),
+    lambda it: it.repair(),
+]
+
+
 def busy() -> Router:
     """A router that knows something and has heard a digest."""
     router = fresh()
@@ -46,6 +67,49 @@ def busy() -> Router:
 def seen(router: Router) -> List[object]:
     """What a caller can see of a router."""
     return [router.board(), router.repair(), router.legs(0, 2**63), router.number]
+
+
+def busy_part() -> Part:
+    """A partition that has heard that sub-plan 0 is opened, and a digest."""
+    part = Part(3, Course(1, OLD, NEW))
+    part.hear(OPENING_FRAME)
+    part.hear(EMPTY_DIGEST)
+    return part
+
+
+def full_part() -> Part:
+    """The same, once it has loaded all keys that come in."""
+    part = busy_part()
+    part.load(Chunk(key(2), key(3), 1, 0, 1, 3))
+    return part
+
+
+def seen_of_part(part: Part) -> List[object]:
+    """What a caller can see of a partition."""
+    lists = [part.held(), part.given(1), part.loaded(1)]
+    return [part.board(), part.repair(), lists, part.serve(key(7))]
+
+
+def busy_leader() -> Leader:
+    """A leader the first course of which is over, and which has heard a digest."""
+    leader = begun_leader()
+    leader.open_next()
+    for part in [3, 4]:
+        leader.hear(frame.done(1, 0, part))
+    return leader
+
+
+def begun_leader() -> Leader:
+    """A leader that has begun a course, and has heard a digest."""
+    leader = Leader(OLD)
+    leader.begin(NEW)
+    leader.hear(EMPTY_DIGEST)
+    return leader
+
+
+def seen_of_leader(leader: Leader) -> List[object]:
+    """What a caller can see of a leader."""
+    return [leader.board(), leader.repair(), leader.finished, leader.course().number]
 
 
 class SmallMemory(unittest.TestCase):
@@ -87,6 +151,10 @@ class SmallMemory(unittest.TestCase):
     def test_openings(self) -> None:
         self.assertGreater(self.failures(lambda: Router(1, OLD, NEW)), 5)
         self.assertGreater(self.failures(lambda: Course(1, OLD, NEW)), 5)
+        course = Course(1, OLD, NEW)
+        self.assertGreater(self.failures(lambda: Part(3, course)), 0)
+        self.assertGreater(self.failures(lambda: Leader(OLD)), 0)
+        self.assertGreater(self.failures(lambda: Leader.resume(course)), 0)
 
     def test_frames(self) -> None:
         calls: List[Callable[[], bytes]] = [
@@ -106,25 +174,54 @@ class SmallMemory(unittest.TestCase):
         self.assertTrue(self.fails(-1, lambda: course.receivers(0)))
         self.assertEqual(course.receivers(0), [3, 4])
 
+    def changes_nothing(
+        self, call: Callable[[Any], object], makes: Callable[[], Any], sees: Callable[[Any], object]
+    ) -> None:
+        """Makes the call of what `makes` gives, once for each allocation: a failure is not seen."""
+        before, done = sees(makes()), makes()
+        call(done)
+        wanted, failed = sees(done), 0
+        for number in itertools.count(1):
+            handle = makes()
+            with self.subTest(number=number):
+                is_failed = self.fails(number, partial(call, handle))
+                is_last = ASKED.value < number
+                if is_failed:
+                    failed += 1
+                    self.assertEqual(sees(handle), before)
+                    call(handle)
+                self.assertEqual(sees(handle), wanted)
+            if is_last:
+                break
+        self.assertGreater(failed, 0)
+
     def test_a_call_that_fails_changes_nothing(self) -> None:
-        before = seen(busy())
-        for at, call in enumerate(CALLS):
-            done = busy()
-            call(done)
-            wanted, failed = seen(done), 0
-            for number in itertools.count(1):
-                router = busy()
-                with self.subTest(call=at, number=number):
-                    is_failed = self.fails(number, partial(call, router))
-                    is_last = ASKED.value < number
-                    if is_failed:
-                        failed += 1
-                        self.assertEqual(seen(router), before)
-                        call(router)
-                    self.assertEqual(seen(router), wanted)
-                if is_last:
-                    break
-            self.assertGreater(failed, 0)
+        groups: List[Any] = [
+            (CALLS, busy, seen),
+            (PART_CALLS, busy_part, seen_of_part),
+            ([lambda it: it.finish(0)], full_part, seen_of_part),
+            (LEADER_CALLS, busy_leader, seen_of_leader),
+            ([lambda it: it.open_next()], begun_leader, seen_of_leader),
+        ]
+        for calls, makes, sees in groups:
+            for at, call in enumerate(calls):
+                with self.subTest(makes=makes.__name__, call=at):
+                    self.changes_nothing(call, makes, sees)
+
+    def test_what_a_router_says_of_itself(self) -> None:
+        router = busy()
+        router.issued(2, OLD)
+        router.issued(2, NEW)
+        calls: List[Callable[[], object]] = [
+            router.clashed,
+            router.counts,
+            router.status_text,
+            router.picture,
+        ]
+        for at, call in enumerate(calls):
+            with self.subTest(call=at):
+                self.failures(partial(self.gives, call, call()))
+                self.assertTrue(self.fails(-1, call))
 
     def test_what_allocates_nothing(self) -> None:
         router = busy()
@@ -137,13 +234,27 @@ class SmallMemory(unittest.TestCase):
         with router.course() as course, router.first_course():
             self.assertEqual((course.number, course.subplans, len(course.moves())), (1, 1, 2))
             self.assertEqual((len(course.old_plan()), len(course.new_plan())), (4, 5))
+        self.assertEqual(view.changes(view.clone()), [])
+        self.assertEqual(ASKED.value, 0)
+        part, leader = busy_part(), begun_leader()
+        ASKED.value = 0
+        self.assertEqual((len(part.held()), part.given(1), part.loaded(1)), (1, [], []))
+        self.assertEqual((part.serve(0).part, leader.finished), (1, False))
+        with leader.course() as course:
+            self.assertEqual(course.number, 1)
         self.assertEqual(ASKED.value, 0)
 
     def test_what_is_not_closed_is_freed(self) -> None:
         for _ in range(100):
             router = busy()
-            handles = [router.view(), router.view().clone(), router.course(), Course(1, OLD, NEW)]
+            handles: List[object] = [
+                router.view(),
+                router.view().clone(),
+                router.course(),
+                Course(1, OLD, NEW),
+            ]
             self.assertGreater(BLOCKS.value, 0)
+            handles += [full_part(), busy_leader()]
             router.board()
             del router, handles
             self.assertEqual(BLOCKS.value, 0)

@@ -10,7 +10,7 @@ from functools import partial
 from typing import Any, Callable, List
 from unittest import mock
 
-from squall import END, ClosedError, Course, Plan, PlanError, Router, View, frame
+from squall import END, ClosedError, Course, Leader, Plan, PlanError, Router, View, frame
 from squall import _library as lib
 from squall._room import CourseRoom
 
@@ -130,6 +130,7 @@ class Threads(unittest.TestCase):
                 lambda: Course(1, text, text),
                 lambda: Router(1, text, text),
                 lambda: fresh().issued(2, text),
+                lambda: Leader(text).begin(text),
                 Plan(text).check,
             )
         finally:

@@ -13,7 +13,20 @@ from types import ModuleType
 from typing import Any, Dict, List
 
 import squall
-from squall import _routes, course, errand, errors, frame, keys, plan, router, view
+from squall import (
+    _frames,
+    _routes,
+    course,
+    errand,
+    errors,
+    frame,
+    keys,
+    leader,
+    part,
+    plan,
+    router,
+    view,
+)
 
 from .worked import fresh
 
@@ -24,12 +37,15 @@ PLANS = PYTHON.parent.parent / "examples"
 HALVES = '{"plan":[{"part":1,"from":[0,0],"to":[5,0]},{"part":2,"from":[5,0],"to":"end"}]}'
 MODULES: List[ModuleType] = [
     squall,
+    _frames,
     _routes,
     course,
     errand,
     errors,
     frame,
     keys,
+    leader,
+    part,
     plan,
     router,
     view,

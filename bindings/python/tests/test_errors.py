@@ -14,6 +14,19 @@ SIMPLE = {
     4: (squall.StreamError, ValueError),
     5: (squall.TooLongError, SquallError),
     6: (squall.NoDigestError, SquallError),
+    71: (squall.NotOpenError, squall.PartError),
+    72: (squall.NothingLeftError, squall.PartError),
+    73: (squall.ZeroMaxError, ValueError),
+    74: (squall.NotOutgoingError, squall.PartError),
+    75: (squall.GivenError, squall.PartError),
+    76: (squall.NotHeldError, squall.PartError),
+    77: (squall.StrangerError, squall.PartError),
+    78: (squall.NotAllError, squall.PartError),
+    79: (squall.NothingDueError, squall.PartError),
+    91: (squall.RunningError, squall.LeaderError),
+    92: (squall.NoNumberError, squall.LeaderError),
+    93: (squall.IdleError, squall.LeaderError),
+    95: (squall.NoMoreError, squall.LeaderError),
 }
 
 
@@ -29,6 +42,17 @@ class Statuses(unittest.TestCase):
                 self.assertIsInstance(error, SquallError)
                 self.assertIsInstance(error, kinds[1])
                 self.assertEqual(error.status, status)
+
+    def test_texts_tell_errors_apart(self) -> None:
+        texts = {str(error_of(status, NO_PLACE)) for status in SIMPLE}
+        self.assertEqual(len(texts), len(SIMPLE))
+
+    def test_the_partition_that_is_waited_for(self) -> None:
+        error = pickle.loads(pickle.dumps(squall.NotDoneError(4, 7)))
+        self.assertIsInstance(error, squall.LeaderError)
+        self.assertEqual((error.part, error.sub, error.status), (4, 7, 94))
+        said = "partition 4 has not reported that it has all keys of sub-plan 7"
+        self.assertEqual(str(error), said)
 
     def test_each_fault_of_a_plan(self) -> None:
         for fault in PlanFault:
@@ -50,14 +74,14 @@ class Statuses(unittest.TestCase):
         self.assertEqual(str(error_of(54, NO_PLACE)), "no frame: TooLong")
 
     def test_a_status_that_is_not_known(self) -> None:
-        for status in [7, 19, 39, 60, 255]:
+        for status in [7, 19, 39, 60, 70, 90, 96, 255]:
             error = error_of(status, NO_PLACE)
             self.assertIs(type(error), SquallError)
             self.assertEqual(error.status, status)
             self.assertIn(str(status), str(error))
 
     def test_errors_pass_between_processes(self) -> None:
-        for status in [1, 2, 4, 7, 11, 12, 18, 38, 51, 59]:
+        for status in [1, 2, 4, 7, 11, 12, 18, 38, 51, 59, 71, 79, 91, 95]:
             with self.subTest(status=status):
                 error = error_of(status, 7)
                 copy = pickle.loads(pickle.dumps(error))

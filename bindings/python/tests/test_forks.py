@@ -11,8 +11,8 @@ from functools import partial
 from typing import Any, Callable, List
 
 import squall
-from squall import Course, ForkError, Plan, Router, frame
-from squall._room import CourseRoom, ErrandRoom, RouterRoom, ViewRoom
+from squall import Course, ForkError, Leader, Part, Plan, Router, frame
+from squall._room import CourseRoom, ErrandRoom, LeaderRoom, PartRoom, RouterRoom, ViewRoom
 
 from . import test_handles
 from .worked import NEW, OLD, fresh, key, moved
@@ -51,14 +51,18 @@ class OneThread(unittest.TestCase):
     def test_a_child_has_copies(self) -> None:
         router = fresh()
         view, errand, course = router.view(), router.errand(key(2)), router.course()
+        part, leader = test_handles.open_part(1), test_handles.fresh_leader()
 
         def call() -> None:
+            assert part.give_at(key(2)).dest == 3
+            leader.begin(NEW)
             router.loaded(1, 0, 3, key(2), key(3))
             assert (router.route(key(2)), view.route(key(2)), errand.asked) == (3, 1, 1)
             assert len(router.board()) == 1
             assert Router(1, OLD, NEW).route(key(2)) == 1
             assert course.receivers(0) == Course(1, OLD, NEW).receivers(0) == [3, 4]
-            for handle in [router, view, errand, course]:
+            handles: List[Any] = [router, view, errand, course, part, leader]
+            for handle in handles:
                 handle.close()
 
         self.assertEqual(child_of(call), 0)
@@ -66,6 +70,7 @@ class OneThread(unittest.TestCase):
         router.loaded(1, 0, 3, key(2), key(3))
         self.assertEqual((router.route(key(2)), view.route(key(2)), errand.asked), (3, 1, 1))
         self.assertEqual(course.receivers(0), [3, 4])
+        self.assertEqual((part.given(1), leader.board()), ([], []))
 
     def test_workers_of_multiprocessing(self) -> None:
         router = moved()
@@ -103,7 +108,10 @@ class SeveralThreads(unittest.TestCase):
             (router.view(), test_handles.VIEW_CALLS),
             (router.errand(key(2)), test_handles.ERRAND_CALLS),
             (router.course(), test_handles.COURSE_CALLS),
+            (test_handles.open_part(3), test_handles.PART_CALLS),
+            (test_handles.fresh_leader(), test_handles.LEADER_CALLS),
         ]
+        course = router.course()
 
         def call() -> None:
             for handle, calls in groups:
@@ -111,6 +119,9 @@ class SeveralThreads(unittest.TestCase):
                     self.refused(partial(ask, handle))
             self.refused(lambda: Router(1, OLD, NEW))
             self.refused(lambda: Course(1, OLD, NEW))
+            self.refused(lambda: Part(1, course))
+            self.refused(lambda: Leader(OLD))
+            self.refused(lambda: Leader.resume(course))
             self.refused(lambda: frame.opened(1, 0))
             self.refused(Plan(OLD).check)
             assert squall.version() == squall.__version__
@@ -118,7 +129,7 @@ class SeveralThreads(unittest.TestCase):
             assert child_of(lambda: self.refused(lambda: Router(1, OLD, NEW))) == 0
             # To close and to drop handles calls nothing.
             closed: List[object] = []
-            for room in [RouterRoom, ViewRoom, ErrandRoom, CourseRoom]:
+            for room in [RouterRoom, ViewRoom, ErrandRoom, CourseRoom, PartRoom, LeaderRoom]:
                 room._close = closed.append
             with router:
                 pass
@@ -145,6 +156,7 @@ class SeveralThreads(unittest.TestCase):
 
         def call() -> None:
             self.refused(lambda: router.route(key(2)))
+            self.refused(router.board)
             router.close()
 
         self.assertEqual(child_of(call), 0)

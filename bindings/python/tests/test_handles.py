@@ -1,4 +1,4 @@
-"""How routers, views, courses and errands are closed, and that no use of a closed one does harm."""
+"""How handles are closed, and that no use of a closed one does harm."""
 
 import copy
 import ctypes
@@ -8,15 +8,16 @@ import signal
 import unittest
 import weakref
 from array import array
+from contextlib import ExitStack
 from types import FrameType
 from typing import Any, Callable, Dict, List, Optional
 from unittest import mock
 
-from squall import ClosedError, Course, Errand, Reply, Router, View
+from squall import Chunk, ClosedError, Course, Errand, Leader, Part, PlanError, Reply, Router, View
 from squall import _library as lib
 from squall._room import ErrandRoom, RouterRoom, ViewRoom
 
-from .worked import EMPTY_DIGEST, LOAD_FRAME, NEW, OLD, OPENING_FRAME, fresh, key, moved
+from .worked import EMPTY_DIGEST, FIVE, LOAD_FRAME, NEW, OLD, OPENING_FRAME, fresh, key, moved
 
 ROUTER_CALLS: Dict[str, Callable[[Router], object]] = {
     "loaded": lambda it: it.loaded(1, 0, 3, key(2), key(3)),
@@ -37,6 +38,10 @@ ROUTER_CALLS: Dict[str, Callable[[Router], object]] = {
     "errand": lambda it: it.errand(0),
     "course": lambda it: it.course(),
     "first_course": lambda it: it.first_course(),
+    "clashed": lambda it: it.clashed(),
+    "counts": lambda it: it.counts(),
+    "status_text": lambda it: it.status_text(),
+    "picture": lambda it: it.picture(),
 }
 VIEW_CALLS: Dict[str, Callable[[View], object]] = {
     "route": lambda it: it.route(0),
@@ -50,6 +55,8 @@ VIEW_CALLS: Dict[str, Callable[[View], object]] = {
     "place": lambda it: it.place(0),
     "locate": lambda it: it.locate(array("Q", [0])),
     "locate_into": lambda it: it.locate_into(array("Q", [0]), array("I", [0] * 4)),
+    "changes": lambda it: it.changes(after=it),
+    "changes of another": lambda it: fresh().view().changes(after=it),
 }
 COURSE_CALLS: Dict[str, Callable[[Course], object]] = {
     "number": lambda it: it.number,
@@ -59,12 +66,57 @@ COURSE_CALLS: Dict[str, Callable[[Course], object]] = {
     "new_plan": lambda it: it.new_plan(),
     "receivers": lambda it: it.receivers(0),
     "frame": lambda it: it.frame(),
+    "part": lambda it: Part(1, it).held(),
+    "resume": lambda it: Leader.resume(it).finished,
 }
 ERRAND_CALLS: Dict[str, Callable[[Errand], object]] = {
     "asked": lambda it: it.asked,
     "number": lambda it: it.number,
     "heed": lambda it: it.heed(Reply.HELD),
 }
+# Of partition 3, which has heard that sub-plan 0 is opened, and a digest. None raises if open.
+PART_CALLS: Dict[str, Callable[[Part], object]] = {
+    "give": lambda it: it.give(1),
+    "give_at": lambda it: it.give_at(key(7)),
+    "load": lambda it: it.load(Chunk(key(2), key(3), 1, 0, 1, 3)),
+    "finish": lambda it: it.finish(0),
+    "serve": lambda it: it.serve(0),
+    "held": lambda it: it.held(),
+    "given": lambda it: it.given(1),
+    "loaded": lambda it: it.loaded(1),
+    "hear": lambda it: it.hear(OPENING_FRAME),
+    "hear, kept": lambda it: it.hear(bytearray(OPENING_FRAME)),
+    "board": lambda it: it.board(),
+    "digest": lambda it: it.digest(),
+    "repair": lambda it: it.repair(),
+}
+# Of a leader that has begun nothing, and has heard a digest. None raises if open.
+LEADER_CALLS: Dict[str, Callable[[Leader], object]] = {
+    "begin": lambda it: it.begin(NEW),
+    "course": lambda it: it.course(),
+    "open_next": lambda it: it.open_next(),
+    "finished": lambda it: it.finished,
+    "hear": lambda it: it.hear(OPENING_FRAME),
+    "hear, kept": lambda it: it.hear(memoryview(OPENING_FRAME)),
+    "board": lambda it: it.board(),
+    "digest": lambda it: it.digest(),
+    "repair": lambda it: it.repair(),
+}
+
+
+def open_part(part: int) -> Part:
+    """A partition that has heard that sub-plan 0 is opened, and a digest."""
+    opened = Part(part, Course(1, OLD, NEW))
+    opened.hear(OPENING_FRAME)
+    opened.hear(EMPTY_DIGEST)
+    return opened
+
+
+def fresh_leader() -> Leader:
+    """A leader that has begun nothing, and has heard a digest."""
+    leader = Leader(OLD)
+    leader.hear(EMPTY_DIGEST)
+    return leader
 
 
 class Count:
@@ -102,6 +154,8 @@ class Closing(unittest.TestCase):
             (view, VIEW_CALLS),
             (router.course(), COURSE_CALLS),
             (errand, ERRAND_CALLS),
+            (open_part(3), PART_CALLS),
+            (fresh_leader(), LEADER_CALLS),
         ]
         for handle, calls in groups:
             for name, call in calls.items():
@@ -175,7 +229,7 @@ class Closing(unittest.TestCase):
 
     def test_a_handle_that_was_never_opened(self) -> None:
         groups: List[Any] = [(Router, ROUTER_CALLS), (View, VIEW_CALLS), (Errand, ERRAND_CALLS)]
-        groups.append((Course, COURSE_CALLS))
+        groups += [(Course, COURSE_CALLS), (Part, PART_CALLS), (Leader, LEADER_CALLS)]
         for kind, calls in groups:
             handle = kind.__new__(kind)
             for call in calls.values():
@@ -189,6 +243,8 @@ class Closing(unittest.TestCase):
         handles: List[Any] = [router, view, view.errand(0)]
         handles += [view.errand(it) for it in range(50)]
         handles += [router.course() for _ in range(50)]
+        handles += [Part(1, router.course()) for _ in range(50)]
+        handles += [Leader(OLD) for _ in range(50)]
         for handle in handles:
             self.assertEqual(ctypes.addressof(handle._room) % 16, 0)
 
@@ -199,6 +255,7 @@ class Pickling(unittest.TestCase):
     def test_pickling_is_refused(self) -> None:
         router = fresh()
         handles: List[Any] = [router, router.view(), router.errand(0), router.course()]
+        handles += [open_part(3), fresh_leader()]
         attempts: List[Any] = [pickle.dumps, copy.copy, copy.deepcopy]
         for handle in handles:
             for attempt in attempts:
@@ -213,8 +270,8 @@ class Interrupted(unittest.TestCase):
         """What the call answers if something happens before each of its calls of C."""
         done: List[int] = []
 
-        def interrupt(name: str) -> Any:
-            inner = getattr(lib, name)
+        def interrupt(owner: Any, name: str) -> Any:
+            inner = getattr(owner, name)
 
             def interrupted(*words: Any) -> Any:
                 if not done:
@@ -222,9 +279,15 @@ class Interrupted(unittest.TestCase):
                     what()
                 return inner(*words)
 
-            return mock.patch.object(lib, name, interrupted)
+            # A function of a class would be a method.
+            fake: Any = interrupted if owner is lib else staticmethod(interrupted)
+            return mock.patch.object(owner, name, fake)
 
-        with interrupt("router_frame"), interrupt("router_fault_at"):
+        with ExitStack() as patches:
+            for kind in [Router, Part, Leader]:
+                patches.enter_context(interrupt(kind, "_call_frame"))
+            for name in ["router_fault_at", "leader_fault_at"]:
+                patches.enter_context(interrupt(lib, name))
             return call()
 
     def test_frames_that_a_signal_handler_takes(self) -> None:
@@ -233,6 +296,26 @@ class Interrupted(unittest.TestCase):
             self.assertEqual(self.in_between(router.board, what), [LOAD_FRAME])
         digest = router.digest()
         self.assertEqual(self.in_between(router.digest, router.board), digest)
+
+    def test_frames_of_partitions_and_leaders(self) -> None:
+        part, leader = open_part(1), fresh_leader()
+        self.assertEqual(self.in_between(part.board, part.digest), [OPENING_FRAME])
+        leader.hear(OPENING_FRAME)
+        self.assertEqual(self.in_between(leader.board, leader.digest), [OPENING_FRAME])
+
+    def test_a_fault_of_a_plan_in_between(self) -> None:
+        leader = fresh_leader()
+        faults: List[Optional[int]] = []
+
+        def begin(text: str) -> None:
+            try:
+                leader.begin(text)
+            except PlanError as error:
+                faults.append(error.index)
+
+        first, second = FIVE.replace("[0,0]", "7"), OLD.replace('"from":[3,0]', '"from":7')
+        self.in_between(lambda: begin(first), lambda: begin(second))
+        self.assertEqual(faults, [1, 0])
 
     def test_a_larger_frame_in_between(self) -> None:
         # What waits is larger when it is fetched than when its size was asked for.
@@ -244,7 +327,7 @@ class Interrupted(unittest.TestCase):
                 ctypes.memmove(out, frame, size)
             return size
 
-        with mock.patch.object(lib, "router_frame", answer):
+        with mock.patch.object(Router, "_call_frame", staticmethod(answer)):
             self.assertEqual(moved().board(), [frame])
 
     def test_a_report_in_between(self) -> None:

@@ -14,7 +14,21 @@ from typing import Any, Dict, List, Tuple
 import squall
 from squall import Place, _room, _status
 from squall import _library as lib
-from squall._room import CourseRoom, ErrandRoom, LegRecord, MoveRecord, RouterRoom, ViewRoom
+from squall import part
+from squall._room import (
+    AnswerRecord,
+    ChunkRecord,
+    CountsRecord,
+    CourseRoom,
+    ErrandRoom,
+    LeaderRoom,
+    LegRecord,
+    MoveRecord,
+    PartRoom,
+    RouterRoom,
+    SpanRecord,
+    ViewRoom,
+)
 
 HERE = Path(__file__).resolve().parent
 HEADER = HERE.parent.parent / "c" / "squall.h"
@@ -33,9 +47,15 @@ PLAIN: Dict[str, Any] = {
     "squall_view *": ctypes.POINTER(ViewRoom),
     "squall_course *": ctypes.POINTER(CourseRoom),
     "squall_errand *": ctypes.POINTER(ErrandRoom),
+    "squall_part *": ctypes.POINTER(PartRoom),
+    "squall_leader *": ctypes.POINTER(LeaderRoom),
     "squall_leg *": ctypes.POINTER(LegRecord),
     "squall_move *": ctypes.POINTER(MoveRecord),
     "squall_place *": ctypes.c_void_p,
+    "squall_span *": ctypes.POINTER(SpanRecord),
+    "squall_counts *": ctypes.POINTER(CountsRecord),
+    "squall_chunk *": ctypes.POINTER(ChunkRecord),
+    "squall_answer *": ctypes.POINTER(AnswerRecord),
 }
 
 
@@ -47,9 +67,9 @@ def kind(words: str) -> Any:
 
 
 def declared() -> Dict[str, Tuple[Any, List[Any]]]:
-    """What each function of the header answers and takes. Leaders are left out: they are in C alone."""
+    """What each function of the header answers and takes."""
     text = re.sub(r"/\*.*?\*/", "", HEADER.read_text(encoding="utf-8"), flags=re.DOTALL)
-    found = re.findall(r"^([\w ]+\*?)\b(squall_(?!leader_)\w+)\(([^)]*)\);", text, re.MULTILINE)
+    found = re.findall(r"^([\w ]+\*?)\b(squall_\w+)\(([^)]*)\);", text, re.MULTILINE)
     made = {}
     for answer, name, takes in found:
         words = [] if takes == "void" else takes.split(",")
@@ -82,7 +102,7 @@ class Functions(unittest.TestCase):
     @unittest.skipUnless(HEADER.is_file(), "squall.h is not here")
     def test_each_function_of_the_header_is_called_by_its_types(self) -> None:
         wanted = declared()
-        self.assertEqual(len(wanted), 55)
+        self.assertEqual(len(wanted), 92)
         bound: Dict[str, int] = dict.fromkeys(wanted, 0)
         for function in vars(lib).values():
             name = getattr(function, "__name__", "")
@@ -91,7 +111,8 @@ class Functions(unittest.TestCase):
                 with self.subTest(name=name):
                     takes = list(function.argtypes or [])
                     self.assertEqual((function.restype, takes), wanted[name])
-        twice = {"squall_router_feed", "squall_router_hear", "squall_view_locate"}
+        twice = {f"squall_{it}_hear" for it in ["router", "part", "leader"]}
+        twice |= {"squall_router_feed", "squall_view_locate"}
         self.assertEqual(bound, {it: 2 if it in twice else 1 for it in wanted})
 
     @unittest.skipUnless(HEADER.is_file(), "squall.h is not here")
@@ -102,8 +123,28 @@ class Functions(unittest.TestCase):
         wanted = {name: [(it, PLAIN[of]) for of, it in its] for name, its in fields.items()}
         place = [(it, ctypes.c_uint32) for it in Place._fields]
         self.assertEqual(ctypes.sizeof(_room.PlaceRecord), 4 * len(place))
-        records = {"leg": LegRecord._fields_, "move": MoveRecord._fields_, "place": place}
+        records: Dict[str, Any] = {
+            "leg": LegRecord._fields_,
+            "move": MoveRecord._fields_,
+            "place": place,
+            "span": SpanRecord._fields_,
+            "counts": CountsRecord._fields_,
+            "chunk": ChunkRecord._fields_,
+            "answer": AnswerRecord._fields_,
+        }
         self.assertEqual(records, wanted)
+
+    def test_values_have_the_fields_of_their_records(self) -> None:
+        pairs: List[Any] = [
+            (squall.Leg, LegRecord),
+            (squall.Move, MoveRecord),
+            (squall.Span, SpanRecord),
+            (squall.Counts, CountsRecord),
+            (squall.Chunk, ChunkRecord),
+            (squall.Answer, AnswerRecord),
+        ]
+        for kind_of, record in pairs:
+            self.assertEqual(list(kind_of._fields), [name for name, _ in record._fields_])
 
     @unittest.skipUnless(HEADER.is_file(), "squall.h is not here")
     def test_constants(self) -> None:
@@ -118,8 +159,11 @@ class Functions(unittest.TestCase):
         found.update(NOWHERE=squall.NOWHERE, TOP=squall.END, FRAME_BYTES=squall.FRAME_BYTES)
         found.update(NO_PLACE=_status.NO_PLACE, ALIGN=_room.ALIGN, BAD_REPLY=255)
         found.update(OK=0, NO_MEMORY=1, LIMIT=2, CLOSED=3, FAILED=4, TOO_LONG=5, NO_DIGEST=6)
-        # Those of leaders, which are in C alone.
-        found.update(RUNNING=91, NO_NUMBER=92, IDLE=93, NOT_DONE=94, NO_MORE=95)
+        reasons = squall.PartError.__subclasses__() + squall.LeaderError.__subclasses__()
+        for reason in reasons:
+            words = re.findall("[A-Z][a-z]+", reason.__name__.replace("Error", ""))
+            found["_".join(words).upper()] = reason.status
+        found.update(LOADED_BEFORE=part._LOADED_BEFORE)
         self.assertEqual(found, wanted)
 
 

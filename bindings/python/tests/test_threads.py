@@ -76,7 +76,7 @@ class Shared(unittest.TestCase):
         router = moved()
         route, hear = watched(Router._call_route), watched(lib.router_hear)
         with mock.patch.object(Router, "_call_route", staticmethod(route)):
-            with mock.patch.object(lib, "router_hear", hear):
+            with mock.patch.object(Router, "_call_hear", staticmethod(hear)):
                 together(*[lambda: router.route(0), lambda: router.hear(LOAD_FRAME)] * 3)
         self.assertEqual((most, running), ([1], [0]))
 

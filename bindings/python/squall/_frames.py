@@ -1,0 +1,118 @@
+"""What routers, partitions and leaders have in common: they take frames, and make their own."""
+
+from __future__ import annotations
+
+import ctypes
+from typing import TYPE_CHECKING, Any, Callable, ClassVar, List, Tuple
+
+from ._buffers import Lent
+from ._fork import REFUSED, refuse
+from ._handle import Handle, T
+from ._room import Room
+from ._status import check
+
+if TYPE_CHECKING:
+    from _typeshed import ReadableBuffer
+
+_SMALL = 4096
+
+
+class Hears(Handle):
+    """Takes frames of others, and makes frames of what it knows."""
+
+    __slots__ = ("_gathered",)
+
+    # Functions of C, which are no methods. Of the two that hear, the second keeps Python's lock.
+    _call_hear: ClassVar[Any]
+    _call_hear_kept: ClassVar[Any]
+    _call_board: ClassVar[Any]
+    _call_digest: ClassVar[Any]
+    _call_repair: ClassVar[Any]
+    _call_frame: ClassVar[Any]
+
+    _gathered: object
+
+    def hear(self, frame: ReadableBuffer) -> None:
+        """Takes one whole frame, for transports that keep messages apart.
+
+        A delta is taken as reports, and a digest is kept for `repair`. No byte is copied for the
+        call. Other threads run meanwhile if `frame` is of type `bytes`. A router's stream, which
+        `Router.feed` takes, has nothing to do with this.
+
+        >>> router.hear(frame.opened(1, 0))
+
+        Raises `FrameError` if the bytes are no frame, or more than one. The next frame may come
+        then. Raises `NoMemory` and `ClosedError`.
+        """
+        self._take(frame, self._call_hear, self._call_hear_kept)
+
+    def _take(
+        self,
+        data: ReadableBuffer,
+        call: Callable[[Any, Any, int], int],
+        kept: Callable[[Any, Any, int], int],
+    ) -> None:
+        # A subclass may say that it has more bytes than it has.
+        if type(data) is bytes:  # pylint: disable=unidiomatic-typecheck
+            check(self._ask(call, data, len(data)))
+        else:
+            # They may change if another thread runs, so Python's lock is kept.
+            with Lent(data) as lent:
+                check(self._ask(kept, lent.at, lent.size))
+
+    def board(self) -> List[bytes]:
+        """The frames of all that was reported to it or that it reports itself; none if nothing was.
+
+        They have at most 1,048,584 bytes each. Raises `NoMemory` and `ClosedError`.
+        """
+        return self._frames(self._call_board)
+
+    def digest(self) -> bytes:
+        """The frame of a digest of what `board` has.
+
+        Another one that hears it says by `repair` what this one lacks. Raises `TooLongError` if the
+        digest has more rows than a frame holds, `NoMemory` and `ClosedError`.
+        """
+        return self._frames(self._call_digest)[0]
+
+    def repair(self) -> List[bytes]:
+        """The frames of what the digest that was heard last does not show; none if it shows all.
+
+        Raises `NoDigestError` if none was heard, `NoMemory` and `ClosedError`.
+        """
+        return self._frames(self._call_repair)
+
+    def _frames(self, gather: Callable[[Any], int]) -> List[bytes]:
+        def steps(room: Room) -> Tuple[int, List[bytes]]:
+            status = gather(room)
+            return status, [] if status else list(iter(lambda: self._next_frame(room), b""))
+
+        status, frames = self._undisturbed(steps)
+        check(status)
+        return frames
+
+    def _next_frame(self, room: Room) -> bytes:
+        """The next frame that waits, or no bytes."""
+        out = ctypes.create_string_buffer(_SMALL)
+        size = self._call_frame(room, out, len(out))
+        # Once more at most, if no signal handler puts a larger frame there in between.
+        while size > len(out):
+            out = ctypes.create_string_buffer(size)
+            size = self._call_frame(room, out, len(out))
+        return ctypes.string_at(out, size)
+
+    def _undisturbed(self, steps: Callable[[Any], T]) -> T:
+        """What several calls answer that belong together.
+
+        A signal handler of this thread may have taken such steps between two of the calls, and
+        what these left there. Then they are done again.
+        """
+        # First, since a thread that is not in this process any more may have the lock.
+        if REFUSED:
+            refuse()
+        with self._lock:
+            while True:
+                self._gathered = mine = object()
+                answer = self._ask(steps)
+                if self._gathered is mine:
+                    return answer
