@@ -153,14 +153,7 @@ func (c *Course) NewPlan() []Leg {
 func allOf[In, Out any](c *Course, of func(In) Out, fill func(at *C.squall_course, from C.size_t, out *In) C.size_t) []Out {
 	var all []Out
 	c.use(func(at *C.squall_course) {
-		var block [atOnce]In
-		for isFull := true; isFull; {
-			count := fill(at, C.size_t(len(all)), &block[0])
-			for _, item := range block[:count] {
-				all = append(all, of(item))
-			}
-			isFull = count == atOnce
-		}
+		all = allIn(of, func(from C.size_t, out *In) C.size_t { return fill(at, from, out) })
 	})
 	return all
 }

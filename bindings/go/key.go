@@ -54,7 +54,16 @@ func legOf(leg C.squall_leg) Leg {
 	return Leg{Lo: Rank(leg.lo), Hi: Rank(leg.hi), Part: Part(leg.part)}
 }
 
-// atOnce is how many legs, or moves of a course, one call asks for.
+// Span is the keys from Lo on, below Hi.
+type Span struct {
+	Lo, Hi Rank
+}
+
+func spanOf(span C.squall_span) Span {
+	return Span{Lo: Rank(span.lo), Hi: Rank(span.hi)}
+}
+
+// atOnce is how many legs, moves or spans one call asks for.
 const atOnce = 64
 
 // allLegs gathers the legs of the keys from lo on, below hi, by calls of fill. A call writes the legs from
@@ -73,4 +82,19 @@ func allLegs(lo, hi Rank, fill func(lo Rank, out *C.squall_leg) C.size_t) []Leg 
 		lo = legs[len(legs)-1].Hi
 	}
 	return legs
+}
+
+// allIn gathers items by calls of fill. A call writes those from the index `from` on, at most atOnce of them,
+// and says how many.
+func allIn[In, Out any](of func(In) Out, fill func(from C.size_t, out *In) C.size_t) []Out {
+	var all []Out
+	var block [atOnce]In
+	for isFull := true; isFull; {
+		count := fill(C.size_t(len(all)), &block[0])
+		for _, item := range block[:count] {
+			all = append(all, of(item))
+		}
+		isFull = count == atOnce
+	}
+	return all
 }
