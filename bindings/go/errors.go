@@ -9,7 +9,8 @@ import (
 )
 
 // Error is a reason without further detail why a call did not do what it was asked for. Its number is
-// the library's status. Plans and frames have errors of their own: [PlanError] and [FrameFault].
+// the library's status. Plans and frames have errors of their own: [PlanError] and [FrameFault]. So has a
+// leader that waits for a partition: [NotDoneError].
 type Error uint32
 
 // If the documentation of a call does not say otherwise, it has changed nothing when it returns one of
@@ -19,7 +20,7 @@ const (
 	ErrNoMemory Error = C.SQUALL_NO_MEMORY
 	// ErrLimit says that a number or a rank lies outside its limits, or that a span has no keys.
 	ErrLimit Error = C.SQUALL_LIMIT
-	// ErrClosed says that the router, view, course or errand was closed, or is nil.
+	// ErrClosed says that the router, view, course, errand, partition or leader was closed, or is nil.
 	ErrClosed Error = C.SQUALL_CLOSED
 	// ErrFailed says that a frame fault came earlier, so that the router's stream is at its end.
 	ErrFailed Error = C.SQUALL_FAILED
@@ -27,6 +28,43 @@ const (
 	ErrTooLong Error = C.SQUALL_TOO_LONG
 	// ErrNoDigest says that no digest was heard that could be answered.
 	ErrNoDigest Error = C.SQUALL_NO_DIGEST
+)
+
+// Why a partition does not give, load or finish.
+const (
+	// ErrNotOpen says that the sub-plan is not opened, as far as the partition knows.
+	ErrNotOpen Error = C.SQUALL_NOT_OPEN
+	// ErrNothingLeft says that the partition holds no key that goes out in the sub-plan opened last.
+	ErrNothingLeft Error = C.SQUALL_NOTHING_LEFT
+	// ErrZeroMax says that no key was asked for.
+	ErrZeroMax Error = C.SQUALL_ZERO_MAX
+	// ErrNotOutgoing says that the key does not go out in the sub-plan opened last.
+	ErrNotOutgoing Error = C.SQUALL_NOT_OUTGOING
+	// ErrGiven says that the key was given under this course before.
+	ErrGiven Error = C.SQUALL_GIVEN
+	// ErrNotHeld says that the key goes out, and is neither given nor held.
+	ErrNotHeld Error = C.SQUALL_NOT_HELD
+	// ErrStranger says that the course does not bring these keys to this partition in this way.
+	ErrStranger Error = C.SQUALL_STRANGER
+	// ErrNotAll says that keys are missing that come in.
+	ErrNotAll Error = C.SQUALL_NOT_ALL
+	// ErrNothingDue says that no key comes in, in that sub-plan.
+	ErrNothingDue Error = C.SQUALL_NOTHING_DUE
+)
+
+// Why a leader does not go on.
+const (
+	// ErrRunning says that the course begun last is not over.
+	ErrRunning Error = C.SQUALL_RUNNING
+	// ErrNoNumber says that the greatest number of a course is used.
+	ErrNoNumber Error = C.SQUALL_NO_NUMBER
+	// ErrIdle says that no course is begun.
+	ErrIdle Error = C.SQUALL_IDLE
+	// ErrNotDone says that a partition has not reported that it has all keys of a sub-plan. A
+	// [NotDoneError] holds it, and says which partition and which sub-plan.
+	ErrNotDone Error = C.SQUALL_NOT_DONE
+	// ErrNoMore says that all sub-plans are opened, and that the last one is done.
+	ErrNoMore Error = C.SQUALL_NO_MORE
 )
 
 // ErrBusy says that a [Router.ReadFrom] is reading the router's stream, so that other bytes would come
@@ -40,6 +78,22 @@ var errorTexts = map[Error]string{
 	ErrFailed:   "the stream ended with a fault before",
 	ErrTooLong:  "the digest has too many rows for a frame",
 	ErrNoDigest: "no digest was heard",
+
+	ErrNotOpen:     "the sub-plan is not opened",
+	ErrNothingLeft: "no key is held that goes out",
+	ErrZeroMax:     "no key was asked for",
+	ErrNotOutgoing: "the key does not go out",
+	ErrGiven:       "the key was given before",
+	ErrNotHeld:     "the key is not held",
+	ErrStranger:    "the course does not bring these keys here",
+	ErrNotAll:      "keys are missing that come in",
+	ErrNothingDue:  "no key comes in",
+
+	ErrRunning:  "the course is not over",
+	ErrNoNumber: "the greatest number is used",
+	ErrIdle:     "no course is begun",
+	ErrNotDone:  "a partition is not done",
+	ErrNoMore:   "all sub-plans are opened and done",
 }
 
 // Error is the reason as a text.
@@ -160,6 +214,25 @@ func (e *PlanError) Error() string {
 // Unwrap is the fault.
 func (e *PlanError) Unwrap() error {
 	return e.Fault
+}
+
+// NotDoneError is the error of a leader that waits for a partition, which has not reported that it has all
+// keys of a sub-plan. errors.Is compares it with [ErrNotDone].
+type NotDoneError struct {
+	// Part is the least partition that has not reported.
+	Part Part
+	// Sub is the sub-plan, which was opened last.
+	Sub uint32
+}
+
+// Error names the partition and the sub-plan.
+func (e *NotDoneError) Error() string {
+	return fmt.Sprintf("squall: partition %d has not reported that it has all keys of sub-plan %d", e.Part, e.Sub)
+}
+
+// Unwrap is ErrNotDone.
+func (e *NotDoneError) Unwrap() error {
+	return ErrNotDone
 }
 
 // newPlan is how far the statuses of a new plan's faults are above those of an old one's.

@@ -98,6 +98,11 @@ func TestTextsOfErrors(t *testing.T) {
 		1: "no memory", 2: "a number or a span is outside its limits", 3: "closed",
 		4: "the stream ended with a fault before", 5: "the digest has too many rows for a frame",
 		6: "no digest was heard", 7: "unknown status 7", 4294967295: "unknown status 4294967295",
+		71: "the sub-plan is not opened", 72: "no key is held that goes out", 73: "no key was asked for",
+		74: "the key does not go out", 75: "the key was given before", 76: "the key is not held",
+		77: "the course does not bring these keys here", 78: "keys are missing that come in", 79: "no key comes in",
+		91: "the course is not over", 92: "the greatest number is used", 93: "no course is begun",
+		94: "a partition is not done", 95: "all sub-plans are opened and done",
 	} {
 		equals(t, squall.Error(status).Error(), "squall: "+text)
 	}

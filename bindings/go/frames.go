@@ -8,8 +8,9 @@ import "io"
 // FrameBytes is how many bytes a frame has at most, for transports that limit their messages.
 const FrameBytes = C.SQUALL_FRAME_BYTES
 
-// Frames are the frames that a router has made, in the order in which they are to be sent. Each is one
-// message, and holds for itself: what another router hears of them does not depend on their order.
+// Frames are the frames that a router, a partition or a leader has made, in the order in which they are to
+// be sent. Each is one message, and holds for itself: what others hear of them does not depend on their
+// order.
 type Frames [][]byte
 
 // WriteTo writes the frames, each by one Write, and returns how many bytes were written. After an error
@@ -63,25 +64,26 @@ func (r *Router) gather(call func(at *C.squall_router) C.uint32_t) (Frames, erro
 	err := r.take(func(at *C.squall_router) C.uint32_t {
 		status := call(at)
 		if status == C.SQUALL_OK {
-			frames = fetch(at)
+			frames = fetch(func(out *C.uint8_t, room C.size_t) C.size_t { return C.squall_router_frame(at, out, room) })
 		}
 		return status
 	})
 	return frames, err
 }
 
-// fetch takes the frames that wait at the router.
-func fetch(at *C.squall_router) Frames {
+// fetch takes the frames that wait, by calls of next. A call writes the next frame if there is room, and says
+// how many bytes it has.
+func fetch(next func(out *C.uint8_t, room C.size_t) C.size_t) Frames {
 	var frames Frames
 	for {
 		nothing, _ := bytesOf(nil)
-		size := C.squall_router_frame(at, nothing, 0)
+		size := next(nothing, 0)
 		if size == 0 {
 			return frames
 		}
 		frame := make([]byte, size)
 		out, room := bytesOf(frame)
-		C.squall_router_frame(at, out, room)
+		next(out, room)
 		frames = append(frames, frame)
 	}
 }

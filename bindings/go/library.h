@@ -18,6 +18,12 @@ struct squall_errand {
 struct squall_course {
     unsigned char first;
 };
+struct squall_part {
+    unsigned char first;
+};
+struct squall_leader {
+    unsigned char first;
+};
 
 #include "squall.h"
 

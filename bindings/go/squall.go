@@ -3,7 +3,9 @@
 // A [Router] knows an old and a new partition plan, and takes reports of what was loaded where. It
 // says for each key which partition to ask. A [View] is what a router said at one moment, for
 // goroutines that only read. An [Errand] follows the replies of partitions until a key is found. A
-// [Course] says which keys move, from which partition to which.
+// [Course] says which keys move, from which partition to which. A [Partition] holds keys, gives and loads
+// them while they move, and replies to requests for them. A [Leader] begins courses and opens their
+// sub-plans.
 //
 //	router, err := squall.OpenRouter(1, oldPlan, newPlan)
 //	if err != nil {
@@ -23,9 +25,9 @@
 //
 // # Goroutines
 //
-// Any number of goroutines may use one router, view, errand or course. Calls of one router, of one errand
-// or of one course wait for each other. Those of a view do not: they only read it, and any number of them
-// may do so at once.
+// Any number of goroutines may use one router, view, errand, course, partition or leader. Calls of one of
+// these wait for each other. Those of a view do not: they only read it, and any number of them may do so at
+// once.
 //
 // # Closing
 //

@@ -1,0 +1,207 @@
+package squall
+
+// #include "library.h"
+import "C"
+
+import (
+	"runtime"
+	"sync"
+	"unsafe"
+)
+
+// Leader begins one course after another, and opens their sub-plans, one at a time. It hears from partitions
+// what is done, and sends all that it knows. Only one leader may run at a time.
+//
+// A program keeps a log of the calls that returned no error, each before its frames are sent. The same calls,
+// made of a new leader of the same plan and number, lead to the same leader.
+type Leader struct {
+	mu sync.Mutex
+	at *C.squall_leader // nil once it is closed
+}
+
+// OpenLeader opens a leader: the keys lie as the plan says, and no course is begun. Its first course has the
+// number last + 1: give 0 if no number was used before. The text of the plan is JSON, as docs/FORMATS.md says.
+//
+// Errors: a [PlanError] if the text is no plan; [ErrNoMemory].
+func OpenLeader(plan []byte, last uint32) (*Leader, error) {
+	return newLeader(func(room *C.squall_leader) {
+		text, size := bytesOf(plan)
+		C.squall_leader_open(text, size, C.uint32_t(last), room)
+	})
+}
+
+// ResumeLeader opens a leader that has begun this course. It is as if [Leader.Begin] had just begun it, and it
+// has heard nothing else. The course may be closed then.
+//
+// Errors: [ErrNoMemory]; [ErrClosed] if the course was closed, or is nil.
+func ResumeLeader(course *Course) (*Leader, error) {
+	leader, err := (*Leader)(nil), error(ErrClosed)
+	course.use(func(at *C.squall_course) {
+		leader, err = newLeader(func(room *C.squall_leader) { C.squall_leader_resume(at, room) })
+	})
+	return leader, err
+}
+
+// newLeader is the leader that a call opens in the room that it is given.
+func newLeader(open func(room *C.squall_leader)) (*Leader, error) {
+	room := (*C.squall_leader)(C.calloc(1, C.squall_leader_size()))
+	if room == nil {
+		return nil, ErrNoMemory
+	}
+	open(room)
+	leader := &Leader{at: room}
+	runtime.SetFinalizer(leader, (*Leader).Close)
+	if err := leader.check(C.squall_leader_status(room)); err != nil {
+		leader.Close()
+		return nil, err
+	}
+	return leader, nil
+}
+
+// Close closes the leader. Courses of it go on. It always returns nil.
+func (l *Leader) Close() error {
+	if l == nil {
+		return nil
+	}
+	l.mu.Lock()
+	defer l.mu.Unlock()
+	if l.at != nil {
+		C.squall_leader_close(l.at)
+		C.free(unsafe.Pointer(l.at))
+		l.at = nil
+		runtime.SetFinalizer(l, nil)
+	}
+	return nil
+}
+
+// use makes calls with the leader, which nobody else uses meanwhile, and says whether it is open.
+func (l *Leader) use(calls func(at *C.squall_leader)) bool {
+	if l == nil {
+		return false
+	}
+	l.mu.Lock()
+	defer l.mu.Unlock()
+	if l.at == nil {
+		return false
+	}
+	calls(l.at)
+	return true
+}
+
+// take makes a call that answers a status, and returns the error of that.
+func (l *Leader) take(call func(at *C.squall_leader) C.uint32_t) error {
+	err := error(ErrClosed)
+	l.use(func(at *C.squall_leader) { err = l.check(call(at)) })
+	return err
+}
+
+// check is the error of a status that the leader has answered.
+func (l *Leader) check(status C.uint32_t) error {
+	if status == C.SQUALL_OK {
+		return nil
+	}
+	return errorOf(uint32(status), uint64(C.squall_leader_fault_at(l.at)))
+}
+
+// Hear takes one whole frame, as [Router.Hear] does. A delta is taken as reports. A digest is kept for
+// [Leader.Repair].
+//
+// Errors: a [FrameFault] if the bytes are no frame; [ErrNoMemory]; [ErrClosed]. The next frame may come.
+func (l *Leader) Hear(frame []byte) error {
+	return l.take(func(at *C.squall_leader) C.uint32_t {
+		bytes, size := bytesOf(frame)
+		return C.squall_leader_hear(at, bytes, size)
+	})
+}
+
+// Begin begins the course from the newest plan to this one. Its number is the last one plus 1, and its plan is
+// the newest one then. [Leader.Board] sends the report of it.
+//
+// Errors: a [PlanError] if the text is no plan; [ErrRunning] if the course begun last is not over;
+// [ErrNoNumber] if the greatest number is used; [ErrNoMemory]; [ErrClosed].
+func (l *Leader) Begin(plan []byte) error {
+	return l.take(func(at *C.squall_leader) C.uint32_t {
+		text, size := bytesOf(plan)
+		return C.squall_leader_begin(at, text, size)
+	})
+}
+
+// Course opens the course that the leader began last. It needs the leader no longer. No plan is copied.
+//
+// Errors: [ErrIdle] if no course is begun; [ErrNoMemory]; [ErrClosed].
+func (l *Leader) Course() (*Course, error) {
+	course, err := (*Course)(nil), error(ErrClosed)
+	l.use(func(at *C.squall_leader) {
+		course, err = newCourse(func(room *C.squall_course) { C.squall_leader_course(at, room) })
+		if err == ErrClosed {
+			// The leader is open, so that it has begun none.
+			err = ErrIdle
+		}
+	})
+	return course, err
+}
+
+// OpenNext opens the next sub-plan of the course begun last, and returns its number. [Leader.Board] sends the
+// report of it.
+//
+// Errors: a [NotDoneError] if a partition has not reported that it has all keys of the sub-plan opened last;
+// [ErrNoMore] if all sub-plans are opened, and the last one is done; [ErrIdle] if no course is begun;
+// [ErrNoMemory]; [ErrClosed].
+func (l *Leader) OpenNext() (uint32, error) {
+	var out [2]C.uint32_t
+	err := l.take(func(at *C.squall_leader) C.uint32_t { return C.squall_leader_open_next(at, &out[0], 2) })
+	switch err {
+	case nil:
+		return uint32(out[0]), nil
+	case ErrNotDone:
+		return 0, &NotDoneError{Part: Part(out[1]), Sub: uint32(out[0])}
+	}
+	return 0, err
+}
+
+// Finished says whether all sub-plans of the course begun last are opened, and the last one is done. It is false
+// if no course is begun, or if the leader is closed.
+func (l *Leader) Finished() bool {
+	finished := false
+	l.use(func(at *C.squall_leader) { finished = C.squall_leader_finished(at) == 1 })
+	return finished
+}
+
+// Board makes the frames of all that the leader heard and reported itself. There are none if that is nothing.
+//
+// Errors: [ErrNoMemory]; [ErrClosed].
+func (l *Leader) Board() (Frames, error) {
+	return l.gather(func(at *C.squall_leader) C.uint32_t { return C.squall_leader_gather_board(at) })
+}
+
+// Digest makes the frame of a digest of that, as [Router.Digest] does.
+//
+// Errors: [ErrTooLong] if the digest has more rows than a frame holds; [ErrNoMemory]; [ErrClosed].
+func (l *Leader) Digest() ([]byte, error) {
+	frames, err := l.gather(func(at *C.squall_leader) C.uint32_t { return C.squall_leader_gather_digest(at) })
+	if err != nil {
+		return nil, err
+	}
+	return frames[0], nil
+}
+
+// Repair makes the frames of what the digest that was heard last does not show, as [Router.Repair] does. There
+// are none if it shows all.
+//
+// Errors: [ErrNoDigest] if no digest was heard; [ErrNoMemory]; [ErrClosed].
+func (l *Leader) Repair() (Frames, error) {
+	return l.gather(func(at *C.squall_leader) C.uint32_t { return C.squall_leader_gather_repair(at) })
+}
+
+// gather makes frames by a call, and fetches them before another call can make others.
+func (l *Leader) gather(call func(at *C.squall_leader) C.uint32_t) (Frames, error) {
+	var frames Frames
+	err := l.take(func(at *C.squall_leader) C.uint32_t {
+		status := call(at)
+		if status == C.SQUALL_OK {
+			frames = fetch(func(out *C.uint8_t, room C.size_t) C.size_t { return C.squall_leader_frame(at, out, room) })
+		}
+		return status
+	})
+	return frames, err
+}

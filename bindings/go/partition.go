@@ -1,0 +1,268 @@
+package squall
+
+// #include "library.h"
+import "C"
+
+import (
+	"runtime"
+	"sync"
+	"unsafe"
+)
+
+// Partition keeps which keys a partition holds, gave and loaded. It gives and loads keys while they move, and
+// replies to requests for them. The rows stay with the program, which makes each call in the transaction in
+// which it moves the rows.
+//
+// Or else it keeps a log of the calls that returned no error. The same calls, made of a new partition of the
+// same course, lead to the same partition.
+type Partition struct {
+	mu sync.Mutex
+	at *C.squall_part // nil once it is closed
+}
+
+// Chunk says that the keys from Lo on, below Hi, are on their way from the partition Source to Dest. They move
+// in the sub-plan Sub of the course Number. The program sends their rows and the chunk to Dest.
+type Chunk struct {
+	Lo, Hi       Rank
+	Number, Sub  uint32
+	Source, Dest Part
+}
+
+func chunkOf(chunk C.squall_chunk) Chunk {
+	return Chunk{
+		Lo: Rank(chunk.lo), Hi: Rank(chunk.hi), Number: uint32(chunk.number), Sub: uint32(chunk.sub),
+		Source: Part(chunk.source), Dest: Part(chunk.dest),
+	}
+}
+
+// inC is the chunk as the library has it.
+func (c Chunk) inC() C.squall_chunk {
+	return C.squall_chunk{
+		lo: C.uint64_t(c.Lo), hi: C.uint64_t(c.Hi), number: C.uint32_t(c.Number), sub: C.uint32_t(c.Sub),
+		source: C.uint32_t(c.Source), dest: C.uint32_t(c.Dest),
+	}
+}
+
+// OpenPartition opens the partition of that number with the keys that the old plan of the course gives it. It
+// has heard nothing. The course may be closed then.
+//
+// Errors: [ErrLimit] if the number is above 9999; [ErrNoMemory]; [ErrClosed] if the course was closed, or is
+// nil.
+func OpenPartition(id Part, course *Course) (*Partition, error) {
+	partition, err := (*Partition)(nil), error(ErrClosed)
+	course.use(func(at *C.squall_course) {
+		partition, err = newPartition(func(room *C.squall_part) { C.squall_part_open(C.uint32_t(id), at, room) })
+	})
+	return partition, err
+}
+
+// newPartition is the partition that a call opens in the room that it is given.
+func newPartition(open func(room *C.squall_part)) (*Partition, error) {
+	room := (*C.squall_part)(C.calloc(1, C.squall_part_size()))
+	if room == nil {
+		return nil, ErrNoMemory
+	}
+	open(room)
+	partition := &Partition{at: room}
+	runtime.SetFinalizer(partition, (*Partition).Close)
+	if err := errorOf(uint32(C.squall_part_status(room)), C.SQUALL_NO_PLACE); err != nil {
+		partition.Close()
+		return nil, err
+	}
+	return partition, nil
+}
+
+// Close closes the partition. It always returns nil.
+func (p *Partition) Close() error {
+	if p == nil {
+		return nil
+	}
+	p.mu.Lock()
+	defer p.mu.Unlock()
+	if p.at != nil {
+		C.squall_part_close(p.at)
+		C.free(unsafe.Pointer(p.at))
+		p.at = nil
+		runtime.SetFinalizer(p, nil)
+	}
+	return nil
+}
+
+// use makes calls with the partition, which nobody else uses meanwhile, and says whether it is open.
+func (p *Partition) use(calls func(at *C.squall_part)) bool {
+	if p == nil {
+		return false
+	}
+	p.mu.Lock()
+	defer p.mu.Unlock()
+	if p.at == nil {
+		return false
+	}
+	calls(p.at)
+	return true
+}
+
+// take makes a call that answers a status, and returns the error of that.
+func (p *Partition) take(call func(at *C.squall_part) C.uint32_t) error {
+	status := C.uint32_t(C.SQUALL_CLOSED)
+	p.use(func(at *C.squall_part) { status = call(at) })
+	return errorOf(uint32(status), C.SQUALL_NO_PLACE)
+}
+
+// Hear takes one whole frame, as [Router.Hear] does. A delta is taken as reports. A digest is kept for
+// [Partition.Repair].
+//
+// Errors: a [FrameFault] if the bytes are no frame; [ErrNoMemory]; [ErrClosed]. The next frame may come.
+func (p *Partition) Hear(frame []byte) error {
+	return p.take(func(at *C.squall_part) C.uint32_t {
+		bytes, size := bytesOf(frame)
+		return C.squall_part_hear(at, bytes, size)
+	})
+}
+
+// Give gives the first keys, at most max, of those that go out in the sub-plan opened last and that the
+// partition still holds. It holds them no longer: send their rows and the chunk to its Dest.
+//
+// Errors: [ErrNotOpen] if no sub-plan of its newest course is opened; [ErrNothingLeft] if no such key is held;
+// [ErrZeroMax] if max is 0; [ErrNoMemory]; [ErrClosed].
+func (p *Partition) Give(max uint64) (Chunk, error) {
+	return p.give(func(at *C.squall_part, out *C.squall_chunk) C.uint32_t {
+		return C.squall_part_give(at, C.uint64_t(max), out)
+	})
+}
+
+// GiveAt gives one key, for which a client waits, as [Partition.Give] does.
+//
+// Errors: [ErrLimit] if the rank is no key's; [ErrClosed]. Else the first of these that is so:
+//   - [ErrNotOpen] if no sub-plan of its newest course is opened;
+//   - [ErrNotOutgoing] if the key does not go out in the sub-plan opened last;
+//   - [ErrGiven] if it was given under this course before;
+//   - [ErrNotHeld] if it is not held;
+//   - [ErrNoMemory].
+func (p *Partition) GiveAt(key Rank) (Chunk, error) {
+	return p.give(func(at *C.squall_part, out *C.squall_chunk) C.uint32_t {
+		return C.squall_part_give_at(at, C.uint64_t(key), out)
+	})
+}
+
+// give is the chunk that a call writes, unless it answers an error.
+func (p *Partition) give(call func(at *C.squall_part, out *C.squall_chunk) C.uint32_t) (Chunk, error) {
+	var chunk C.squall_chunk
+	err := p.take(func(at *C.squall_part) C.uint32_t { return call(at, &chunk) })
+	return chunkOf(chunk), err
+}
+
+// Load takes a chunk. Its keys that were not loaded under its number are loaded and held now. The first result
+// is true then: keep the rows, and send the frame of [FrameLoaded] for the whole chunk. It is false without an
+// error if each key was loaded before, even if it was given since: drop the rows.
+//
+// Errors: [ErrNotOpen] if the chunk's sub-plan is not opened under its course; [ErrStranger] if that course is
+// not known, or does not bring these keys from Source to this partition in that sub-plan; [ErrLimit] if there
+// is no such chunk: a number 0, a sub-plan or partition above 9999, a rank above [End], or no keys;
+// [ErrNoMemory]; [ErrClosed].
+func (p *Partition) Load(chunk Chunk) (bool, error) {
+	status, in := C.uint32_t(C.SQUALL_CLOSED), chunk.inC()
+	p.use(func(at *C.squall_part) { status = C.squall_part_load(at, &in) })
+	if status == C.SQUALL_LOADED_BEFORE {
+		return false, nil
+	}
+	return status == C.SQUALL_OK, errorOf(uint32(status), C.SQUALL_NO_PLACE)
+}
+
+// Finish reports that the partition has all keys that the sub-plan of its newest course brings it: send the
+// frame of [FrameDone]. A repeat reports the same.
+//
+// Errors: [ErrClosed]. Else the first of these that is so:
+//   - [ErrNotOpen] if the sub-plan is not opened;
+//   - [ErrNotAll] if keys are missing;
+//   - [ErrNothingDue] if the sub-plan brings it none;
+//   - [ErrNoMemory].
+func (p *Partition) Finish(sub uint32) error {
+	return p.take(func(at *C.squall_part) C.uint32_t { return C.squall_part_finish(at, C.uint32_t(sub)) })
+}
+
+// Serve is the reply to a request for the key, for [Errand.Heed] of the client. `after` is what
+// [Errand.Number] returned when the request was sent: 0 if it followed no ReplyMoved.
+//
+// Errors: [ErrLimit] if the rank is no key's; [ErrClosed].
+func (p *Partition) Serve(key Rank, after uint32) (Reply, error) {
+	var answer C.squall_answer
+	err := p.take(func(at *C.squall_part) C.uint32_t {
+		return C.squall_part_serve(at, C.uint64_t(key), C.uint32_t(after), &answer)
+	})
+	if err != nil {
+		return Reply{}, err
+	}
+	return Reply{ReplyKind(answer.reply + 1), Part(answer.part), uint32(answer.number)}, nil
+}
+
+// Held are the spans of the keys that the partition holds, by rising key. Neighbours do not touch. There are
+// none if the partition is closed.
+func (p *Partition) Held() []Span {
+	return p.spans(func(at *C.squall_part, from C.size_t, out *C.squall_span) C.size_t {
+		return C.squall_part_held(at, from, out, atOnce)
+	})
+}
+
+// Given are the spans of the keys that it gave in the course of that number, likewise. There are none if it
+// does not know the course.
+func (p *Partition) Given(number uint32) []Span {
+	return p.spans(func(at *C.squall_part, from C.size_t, out *C.squall_span) C.size_t {
+		return C.squall_part_given(at, C.uint32_t(number), from, out, atOnce)
+	})
+}
+
+// Loaded are the spans of the keys that it loaded in the course of that number, likewise.
+func (p *Partition) Loaded(number uint32) []Span {
+	return p.spans(func(at *C.squall_part, from C.size_t, out *C.squall_span) C.size_t {
+		return C.squall_part_loaded(at, C.uint32_t(number), from, out, atOnce)
+	})
+}
+
+// spans gathers spans by calls of fill, all of them under one lock, so that no other call comes between.
+func (p *Partition) spans(fill func(at *C.squall_part, from C.size_t, out *C.squall_span) C.size_t) []Span {
+	var all []Span
+	p.use(func(at *C.squall_part) {
+		all = allIn(spanOf, func(from C.size_t, out *C.squall_span) C.size_t { return fill(at, from, out) })
+	})
+	return all
+}
+
+// Board makes the frames of all that the partition knows and reports. There are none if that is nothing.
+//
+// Errors: [ErrNoMemory]; [ErrClosed].
+func (p *Partition) Board() (Frames, error) {
+	return p.gather(func(at *C.squall_part) C.uint32_t { return C.squall_part_gather_board(at) })
+}
+
+// Digest makes the frame of a digest of that, as [Router.Digest] does.
+//
+// Errors: [ErrTooLong] if the digest has more rows than a frame holds; [ErrNoMemory]; [ErrClosed].
+func (p *Partition) Digest() ([]byte, error) {
+	frames, err := p.gather(func(at *C.squall_part) C.uint32_t { return C.squall_part_gather_digest(at) })
+	if err != nil {
+		return nil, err
+	}
+	return frames[0], nil
+}
+
+// Repair makes the frames of what the digest that was heard last does not show, as [Router.Repair] does. There
+// are none if it shows all.
+//
+// Errors: [ErrNoDigest] if no digest was heard; [ErrNoMemory]; [ErrClosed].
+func (p *Partition) Repair() (Frames, error) {
+	return p.gather(func(at *C.squall_part) C.uint32_t { return C.squall_part_gather_repair(at) })
+}
+
+// gather makes frames by a call, and fetches them before another call can make others.
+func (p *Partition) gather(call func(at *C.squall_part) C.uint32_t) (Frames, error) {
+	var frames Frames
+	err := p.take(func(at *C.squall_part) C.uint32_t {
+		status := call(at)
+		if status == C.SQUALL_OK {
+			frames = fetch(func(out *C.uint8_t, room C.size_t) C.size_t { return C.squall_part_frame(at, out, room) })
+		}
+		return status
+	})
+	return frames, err
+}
