@@ -428,7 +428,8 @@ uint32_t squall_view_number(const squall_view *view);
  * `out`, by rising key, as many as there is room for, and answers how many. Each span is as long as can
  * be. If there is no more room, the rest begins at the hi of the last one. A key from lo to
  * there, or to hi if there is room for more, lies in one of the spans exactly if squall_view_route
- * answers differently for it. The handles are two different ones. Allocates nothing. */
+ * answers differently for it. A hi above SQUALL_TOP is taken as SQUALL_TOP. The handles are two different
+ * ones. Allocates nothing. */
 size_t squall_view_changes(const squall_view *before, const squall_view *after, uint64_t lo, uint64_t hi,
                            squall_span *out, size_t room);
 
@@ -648,8 +649,8 @@ void squall_part_close(squall_part *part);
 size_t squall_leader_size(void);
 
 /* Opens a leader in the room: the keys lie as the plan says, and no course is begun. Its first course
- * has the number `last` plus 1; give 0 if no number was used before. squall_leader_status then says
- * whether there is one:
+ * has the number `last` plus 1. Give 0 if no number was used before, and 1 if routers were opened with
+ * course 1, from the first plan to itself. squall_leader_status then says whether there is one:
  *   SQUALL_OK         there is
  *   SQUALL_PLAN_..    the text is no plan
  *   SQUALL_NO_MEMORY  an allocation failed
