@@ -50,7 +50,8 @@ fn runs<K: Constants, R: Abort + Wait>(rt: &R, alloc: Global, start: Start) -> R
     requires allowed { K.allowed ≡ None }
 {
     let mut pair = opened::<K, &R>(rt, alloc, start, 1, 1).ok_or("a cluster")?;
-    routes_by_the_load(rt, alloc, &pair.cluster, &mut pair.first, &mut pair.owner)
+    let all = &mut pair;
+    routes_by_the_load(rt, alloc, &all.cluster, &mut all.first, &mut all.owner)
 }
 
 #[test]
