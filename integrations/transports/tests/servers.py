@@ -62,6 +62,17 @@ class Server:
 
     def start(self) -> None:
         """Starts it, and waits until it listens."""
+        until = time.monotonic() + _PATIENCE
+        process = self._begin()
+        while not self._answers():
+            has_ended = process.poll() is not None
+            if time.monotonic() > until or (has_ended and not self._may_begin_again()):
+                raise AssertionError(self._log())
+            time.sleep(0.02)
+            if has_ended:
+                process = self._begin()
+
+    def _begin(self) -> "subprocess.Popen[bytes]":
         program = find(self.name)
         assert program is not None
         with open(self.folder / "log", "ab") as log:
@@ -71,11 +82,14 @@ class Server:
                 stdout=log,
                 stderr=log,
             )
-        until = time.monotonic() + _PATIENCE
-        while not self._answers():
-            if self._process.poll() is not None or time.monotonic() > until:
-                raise AssertionError((self.folder / "log").read_text("utf-8", "replace")[-2000:])
-            time.sleep(0.02)
+        return self._process
+
+    def _log(self) -> str:
+        return (self.folder / "log").read_text("utf-8", "replace")[-2000:]
+
+    def _may_begin_again(self) -> bool:
+        """Whether it ended only because processes of the one before had not ended yet."""
+        return False
 
     def _before(self) -> List[str]:
         return _WITH_US
@@ -158,6 +172,9 @@ class Postgres(Server):
 
     def url(self) -> str:
         return f"postgres://squall@127.0.0.1:{self.port}/postgres"
+
+    def _may_begin_again(self) -> bool:
+        return "pre-existing shared memory block" in self._log()
 
     def _answers(self) -> bool:
         ready = find("pg_isready")
