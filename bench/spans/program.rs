@@ -89,6 +89,32 @@ impl SpanSet {
         }
         SpanSet { spans: out }
     }
+
+    fn minus(&self, other: &SpanSet) -> SpanSet {
+        let mut out = Vec::new();
+        let b = &other.spans;
+        let mut j = 0;
+        for span in &self.spans {
+            let mut lo = span.lo;
+            while j < b.len() && b[j].hi <= lo {
+                j += 1;
+            }
+            while j < b.len() && b[j].lo < span.hi {
+                if lo < b[j].lo {
+                    out.push(Span { lo, hi: b[j].lo });
+                }
+                lo = b[j].hi;
+                if span.hi <= lo {
+                    break;
+                }
+                j += 1;
+            }
+            if lo < span.hi {
+                out.push(Span { lo, hi: span.hi });
+            }
+        }
+        SpanSet { spans: out }
+    }
 }
 
 fn next(state: u64) -> u64 {
@@ -225,11 +251,16 @@ fn measure_large() {
         let start = Instant::now();
         let common = first.meet(&second);
         let meet = start.elapsed().as_micros();
+        let start = Instant::now();
+        let alone = first.minus(&second);
+        let minus = start.elapsed().as_micros();
+        println!("inserts {inserts} us, union {union} us, meet {meet} us, minus {minus} us");
         println!(
-            "inserts {inserts} us, union {union} us, meet {meet} us ({} {} {})",
+            "    ({} {} {} {})",
             first.spans.len(),
             both.count(),
-            common.count()
+            common.count(),
+            alone.count()
         );
     }
 }

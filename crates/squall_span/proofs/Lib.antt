@@ -9,3 +9,6 @@ pub mod Removing
 pub mod Counting
 pub mod Equality
 pub mod Made
+pub mod Adding
+pub mod Meeting
+pub mod Parting

@@ -1,13 +1,11 @@
 -- One pass over two sets (this project).
-use Rattle.std.specs.Prelude.{◌≡◌, ◌≤◌, Bool, ◌&&◌, not, List, [], ◌∷◌, ◌⊎◌}
-use Rattle.squall_span.specs.declared.sweep.Keep.{Keep}
-use Rattle.squall_span.specs.declared.sweep.Keep.TheVariants.{Both, FirstAlone}
-use Rattle.squall_span.specs.Spans.{Interval}
+use Rattle.std.specs.Prelude.{◌≡◌, ◌≤◌, ℕ, max, List, [], ◌∷◌, ◌⊎◌}
+use Rattle.squall_span.specs.Spans.{Interval, interval}
 
--- whether a key is kept: a says whether it is in the first set, and b whether it is in the second
-abbrev pub kept : Keep → Bool → Bool → Bool
-kept Both a b = a && b
-kept FirstAlone a b = a && not b
+-- the spans, the first of them cut to its keys from the bound on
+abbrev pub cut_first : ℕ → List Interval → List Interval
+cut_first from [] = []
+cut_first from (s ∷ ss) = interval (max from s.lo) s.hi ∷ ss
 
 -- no span of the list starts before s
 abbrev pub StartsNoEarlier : Interval → List Interval → Type 0

@@ -26,6 +26,8 @@
 //! Its tests are in `crates/squall_test_values/src/span.rt`.
 #![tactic(auto)]
 
+mod alone;
+mod common;
 mod edit;
 pub mod laws;
 mod ready;

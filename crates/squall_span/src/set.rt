@@ -8,11 +8,13 @@ ghost use Rattle.squall_span.specs.Spans.{first_keys, total_length, how_many, sp
 ghost use Rattle.squall_span.specs.Places.{Ended};
 ghost use Rattle.squall_span.specs.SpanLaws.{spans_eq-laws, spans_eq-equivalence};
 
+use crate::alone::alone;
+use crate::common::common;
 use crate::edit::{cut, insert, remove};
 use crate::ready::ReadySet;
 use crate::search::ended;
 use crate::span::Span;
-use crate::sweep::{Keep, merge, sweep};
+use crate::sweep::merge;
 use crate::walk::covers;
 use squall_key::{Bound, Key};
 use std::alloc::{AllocError, Global};
@@ -53,6 +55,16 @@ impl SpanSet {
         ensures { result ≡ spans.items }
     {
         SpanSet { spans }
+    }
+
+    /// The set of spans that are in the order of a set: each ends before the next begins, and none
+    /// touches the next. They are copied at once. An error means that an allocation failed.
+    pub fn from_spans(alloc: Global, spans: &[Span]) -> Result<SpanSet, AllocError>
+        requires { IsSet spans.now }
+        ensures { IfOk result (λ set. set ≡ spans.now) }
+    {
+        let spans = Vec::from_slice(alloc, spans)?;
+        Ok(SpanSet { spans })
     }
 
     /// The set of the keys of a span. An error means that an allocation failed.
@@ -156,7 +168,7 @@ impl SpanSet {
         ensures value { IfOk result (λ set. set ≡ minus self.now other.now) }
         ensures keys { IfOk result (λ set. (k : ℕ) → has set k ≡ (has self.now k && not (has other.now k))) }
     {
-        let spans = sweep(alloc, Keep::FirstAlone, &self.spans, &other.spans)?;
+        let spans = alone(alloc, &self.spans, &other.spans)?;
         Ok(SpanSet { spans })
     }
 
@@ -165,7 +177,7 @@ impl SpanSet {
         ensures value { IfOk result (λ set. set ≡ meet self.now other.now) }
         ensures keys { IfOk result (λ set. (k : ℕ) → has set k ≡ (has self.now k && has other.now k)) }
     {
-        let spans = sweep(alloc, Keep::Both, &self.spans, &other.spans)?;
+        let spans = common(alloc, &self.spans, &other.spans)?;
         Ok(SpanSet { spans })
     }
 
