@@ -182,7 +182,7 @@ impl<K: MapKey, V: Join> Join for JoinMap<K, V> {
     }
 
     fn copied(&self, alloc: Global) -> Result<Self, AllocError> {
-        let mut entries = Vec::new(alloc);
+        let mut entries = Vec::with_capacity(alloc, self.entries.len())?;
         push_copies(alloc, &mut entries, &self.entries)?;
         Ok(JoinMap { entries })
     }
@@ -196,7 +196,7 @@ impl<K: MapKey, V: Join> Join for JoinMap<K, V> {
         if other.entries.len() == 1 {
             let entry = &other.entries[0];
             let value = &entry.1;
-            return self.update_at(alloc, entry.0, &Borrowed { value });
+            return self.update_at(alloc, entry.0, Borrowed { value });
         }
         if adds_few(&self.entries, &other.entries) {
             return join_entries(alloc, &mut self.entries, &other.entries);

@@ -22,7 +22,8 @@ pub(crate) fn push_copies<K: MapKey, V: Join>(
     Ok(())
 }
 
-/// The entries of both, in one pass.
+/// The entries of both, in one pass. Room is made at first for as many as the longer one has: they
+/// are no fewer.
 pub(crate) fn merge<K: MapKey, V: Join>(
     alloc: Global,
     a: &[(K, V)],
@@ -30,7 +31,7 @@ pub(crate) fn merge<K: MapKey, V: Join>(
 ) -> Result<Vec<(K, V)>, AllocError>
     ensures { IfOk result (λ out. out.items ≡ merged K.cmp V.join a.now b.now) }
 {
-    let mut out = Vec::new(alloc);
+    let mut out = Vec::with_capacity(alloc, a.len().max(b.len()))?;
     let mut i = 0;
     let mut j = 0;
     while i < a.len() && j < b.len() {

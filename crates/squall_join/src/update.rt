@@ -8,7 +8,8 @@ use crate::{Join, JoinMap, MapKey};
 use std::alloc::{AllocError, Global};
 
 /// A value other than the least one, in a form that is joined into another in place. It is built as
-/// a value of its own only if there is none to join it into.
+/// a value of its own only if there is none to join it into. Either way it is used up, so it can
+/// give away what it owns.
 pub trait Update<V: Join>: Drop {
     /// The value of the update.
     ghost value: { Self → V };
@@ -19,13 +20,13 @@ pub trait Update<V: Join>: Drop {
         ensures kept { value self.now ≢ V.bottom };
 
     /// The value of the update, as a value of its own. An error means that an allocation failed.
-    fn build(&self, alloc: Global) -> Result<V, AllocError>
-        ensures { IfOk result (λ v. v ≡ value self.now) };
+    fn build(self, alloc: Global) -> Result<V, AllocError>
+        ensures { IfOk result (λ v. v ≡ value self) };
 
     /// Joins the update into a value. An error means that an allocation failed: the value is then
     /// unchanged.
-    fn apply(&self, alloc: Global, target: &mut V) -> Result<(), AllocError>
-        ensures ok { OnOk result (target.new ≡ V.join target.old (value self.now)) }
+    fn apply(self, alloc: Global, target: &mut V) -> Result<(), AllocError>
+        ensures ok { OnOk result (target.new ≡ V.join target.old (value self)) }
         ensures err { OnErr result (target.new ≡ target.old) };
 }
 
@@ -43,11 +44,11 @@ impl<'a, V: Join> Update<V> for Borrowed<'a, V> {
         self.value.known();
     }
 
-    fn build(&self, alloc: Global) -> Result<V, AllocError> {
+    fn build(self, alloc: Global) -> Result<V, AllocError> {
         self.value.copied(alloc)
     }
 
-    fn apply(&self, alloc: Global, target: &mut V) -> Result<(), AllocError> {
+    fn apply(self, alloc: Global, target: &mut V) -> Result<(), AllocError> {
         target.join_in(alloc, self.value)
     }
 }
@@ -78,14 +79,14 @@ impl<K: MapKey, V: Join, U: Update<V>> Update<JoinMap<K, V>> for UpdateAt<K, U> 
         self.update.known();
     }
 
-    fn build(&self, alloc: Global) -> Result<JoinMap<K, V>, AllocError> {
+    fn build(self, alloc: Global) -> Result<JoinMap<K, V>, AllocError> {
         self.update.known();
         let value = self.update.build(alloc)?;
         JoinMap::single(alloc, self.key, value)
     }
 
-    fn apply(&self, alloc: Global, target: &mut JoinMap<K, V>) -> Result<(), AllocError> {
-        target.update_at(alloc, self.key, &self.update)
+    fn apply(self, alloc: Global, target: &mut JoinMap<K, V>) -> Result<(), AllocError> {
+        target.update_at(alloc, self.key, self.update)
     }
 }
 
@@ -127,9 +128,9 @@ impl<K: MapKey, V: Join> JoinMap<K, V> {
         &mut self,
         alloc: Global,
         key: K,
-        update: &U,
+        update: U,
     ) -> Result<(), AllocError>
-        ensures ok { OnOk result (self.new ≡ merged K.cmp V.join self.old ((key, U.value update.now) ∷ [])) }
+        ensures ok { OnOk result (self.new ≡ merged K.cmp V.join self.old ((key, U.value update) ∷ [])) }
         ensures err { OnErr result (self.new ≡ self.old) }
     {
         update.known();

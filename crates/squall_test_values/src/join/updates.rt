@@ -15,20 +15,20 @@ impl Update<Flag> for Raised {
 
     fn known(&self) {}
 
-    fn build(&self, _alloc: Global) -> Result<Flag, AllocError> {
+    fn build(self, _alloc: Global) -> Result<Flag, AllocError> {
         Ok(Flag::new(true))
     }
 
-    fn apply(&self, alloc: Global, target: &mut Flag) -> Result<(), AllocError> {
+    fn apply(self, alloc: Global, target: &mut Flag) -> Result<(), AllocError> {
         target.join_in(alloc, &Flag::new(true))
     }
 }
 
-/// Each member, through the bound.
-fn put<V: Join, U: Update<V>>(alloc: Global, update: &U) -> Result<V, AllocError> {
-    update.known();
-    let mut value = update.build(alloc)?;
-    update.apply(alloc, &mut value)?;
+/// Each member, through the bound: one update is built, and the other is joined into its value.
+fn put<V: Join, U: Update<V>>(alloc: Global, first: U, second: U) -> Result<V, AllocError> {
+    first.known();
+    let mut value = first.build(alloc)?;
+    second.apply(alloc, &mut value)?;
     Ok(value)
 }
 
@@ -51,7 +51,11 @@ fn is_raised_at(map: &JoinMap<u32, JoinMap<u32, Flag>>, key: u32, keys: &[u32]) 
 
 #[test]
 fn a_map_of_one_update(rt: HostRuntime) -> Result<(), AllocError> {
-    let raised: JoinMap<u32, Flag> = put(rt.alloc(), &UpdateAt::new(7, Raised))?;
+    let raised: JoinMap<u32, Flag> = put(
+        rt.alloc(),
+        UpdateAt::new(7, Raised),
+        UpdateAt::new(7, Raised),
+    )?;
     assert!(rt; is_raised(&raised, &[7]));
     Ok(())
 }
@@ -60,7 +64,7 @@ fn a_map_of_one_update(rt: HostRuntime) -> Result<(), AllocError> {
 fn updates_at_keys(rt: HostRuntime) -> Result<(), AllocError> {
     let mut map: JoinMap<u32, JoinMap<u32, Flag>> = JoinMap::empty(rt.alloc());
     for (outer, inner) in [(4, 7), (2, 7), (4, 7), (2, 9)] {
-        map.update_at(rt.alloc(), outer, &UpdateAt::new(inner, Raised))?;
+        map.update_at(rt.alloc(), outer, UpdateAt::new(inner, Raised))?;
     }
     assert!(rt; map.len() == 2 && is_raised_at(&map, 4, &[7]) && is_raised_at(&map, 2, &[7, 9]));
     Ok(())
@@ -78,7 +82,7 @@ fn raises(
         return;
     };
     if map
-        .update_at(alloc, outer, &UpdateAt::new(inner, Raised))
+        .update_at(alloc, outer, UpdateAt::new(inner, Raised))
         .is_ok()
     {
         assert!(rt; map.covers(&before) && is_raised_at(map, outer, &[inner]));
