@@ -92,6 +92,13 @@ impl Cell {
         &self.spans
     }
 
+    /// The keys of the cell, which is used up.
+    pub(crate) fn into_spans(self) -> SpanSet
+        ensures { result ≡ self.spans }
+    {
+        self.spans
+    }
+
     /// The cell of an entry of a board.
     pub(crate) fn of_entry(place: CellId, complete: bool, spans: SpanSet) -> Cell
         requires { IsCell (entry_with place complete spans) }

@@ -11,7 +11,7 @@ ghost use Rattle.squall_board.specs.Listed.{entry_value, AreCellsOfParts};
 use crate::board::{Board, CellParts};
 use crate::cell::Cell;
 use crate::opening::Opening;
-use crate::update::{Issuing, Row, WholeCell};
+use crate::update::{Issuing, OwnCell, Row, WholeCell};
 use squall_join::{Flat, Join, JoinMap, UpdateAt};
 use squall_report::Issue;
 use std::alloc::AllocError;
@@ -38,6 +38,16 @@ impl Board {
         self.update_cell(cell.place(), WholeCell { cell })
     }
 
+    /// Takes what the cell says of its partition, and the cell with it. If the board has no cell of
+    /// that place, the keys are moved into the board and not copied. An error means that an
+    /// allocation failed: the board is then unchanged.
+    pub fn take_cell(&mut self, cell: Cell) -> Result<(), AllocError>
+        ensures takes { OnOk result (TakesCell self.old cell.cell (entry_value cell) self.new) }
+        ensures err { OnErr result (self.new ≡ self.old) }
+    {
+        self.update_cell(cell.place(), OwnCell { cell })
+    }
+
     /// Takes all that the cells of a row say. The row has the cells of one number and sub-plan, by
     /// partition. It is copied if the board has none there. An error means that an allocation
     /// failed: the board is then unchanged.
@@ -55,7 +65,7 @@ impl Board {
         row.known();
         let alloc = self.allocator();
         let at_sub = UpdateAt::new(sub, Row { cells: row });
-        self.parts.second.update_at(alloc, number, &at_sub)
+        self.parts.second.update_at(alloc, number, at_sub)
     }
 
     /// Takes what is issued under the number, of which nothing is copied. An error means that an

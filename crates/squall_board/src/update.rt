@@ -30,12 +30,12 @@ impl Update<CellParts> for Load {
         let _bounds = (self.span.lo(), self.span.hi());
     }
 
-    fn build(&self, alloc: Global) -> Result<CellParts, AllocError> {
+    fn build(self, alloc: Global) -> Result<CellParts, AllocError> {
         let keys = SpanSet::of(alloc, &self.span)?;
         Ok(Pair::new(keys, Flag::new(false)))
     }
 
-    fn apply(&self, _alloc: Global, target: &mut CellParts) -> Result<(), AllocError> {
+    fn apply(self, _alloc: Global, target: &mut CellParts) -> Result<(), AllocError> {
         target.first.insert(self.span)
     }
 }
@@ -49,11 +49,11 @@ impl Update<CellParts> for Completion {
 
     fn known(&self) {}
 
-    fn build(&self, alloc: Global) -> Result<CellParts, AllocError> {
+    fn build(self, alloc: Global) -> Result<CellParts, AllocError> {
         Ok(Pair::new(SpanSet::empty(alloc), Flag::new(true)))
     }
 
-    fn apply(&self, alloc: Global, target: &mut CellParts) -> Result<(), AllocError> {
+    fn apply(self, alloc: Global, target: &mut CellParts) -> Result<(), AllocError> {
         target.second.join_in(alloc, &Flag::new(true))
     }
 }
@@ -71,15 +71,39 @@ impl<'a> Update<CellParts> for WholeCell<'a> {
         self.cell.known();
     }
 
-    fn build(&self, alloc: Global) -> Result<CellParts, AllocError> {
+    fn build(self, alloc: Global) -> Result<CellParts, AllocError> {
         let keys = self.cell.spans().copied(alloc)?;
         Ok(Pair::new(keys, Flag::new(self.cell.complete())))
     }
 
-    fn apply(&self, alloc: Global, target: &mut CellParts) -> Result<(), AllocError> {
+    fn apply(self, alloc: Global, target: &mut CellParts) -> Result<(), AllocError> {
         target.first.join_in(alloc, self.cell.spans())?;
         target.second = Flag::new(target.second.get() || self.cell.complete());
         Ok(())
+    }
+}
+
+/// A cell that is given away, and all that it says.
+#[derive(Drop)]
+pub(crate) struct OwnCell {
+    pub(crate) cell: Cell,
+}
+
+impl Update<CellParts> for OwnCell {
+    ghost value = { λ own. entry_value own.cell };
+
+    fn known(&self) {
+        self.cell.known();
+    }
+
+    fn build(self, _alloc: Global) -> Result<CellParts, AllocError> {
+        let complete = self.cell.complete();
+        Ok(Pair::new(self.cell.into_spans(), Flag::new(complete)))
+    }
+
+    fn apply(self, alloc: Global, target: &mut CellParts) -> Result<(), AllocError> {
+        let cell = &self.cell;
+        WholeCell { cell }.apply(alloc, target)
     }
 }
 
@@ -97,11 +121,11 @@ impl<'a> Update<JoinMap<u32, CellParts>> for Row<'a> {
         self.cells.known();
     }
 
-    fn build(&self, alloc: Global) -> Result<JoinMap<u32, CellParts>, AllocError> {
+    fn build(self, alloc: Global) -> Result<JoinMap<u32, CellParts>, AllocError> {
         self.cells.copied(alloc)
     }
 
-    fn apply(&self, alloc: Global, target: &mut JoinMap<u32, CellParts>) -> Result<(), AllocError> {
+    fn apply(self, alloc: Global, target: &mut JoinMap<u32, CellParts>) -> Result<(), AllocError> {
         target.join_in(alloc, self.cells)
     }
 }
@@ -120,11 +144,11 @@ impl Update<Max> for Opened {
         let _count = self.count;
     }
 
-    fn build(&self, _alloc: Global) -> Result<Max, AllocError> {
+    fn build(self, _alloc: Global) -> Result<Max, AllocError> {
         Ok(Max::new(self.count))
     }
 
-    fn apply(&self, alloc: Global, target: &mut Max) -> Result<(), AllocError> {
+    fn apply(self, alloc: Global, target: &mut Max) -> Result<(), AllocError> {
         target.join_in(alloc, &Max::new(self.count))
     }
 }
@@ -141,14 +165,14 @@ impl<'a> Update<Flat<Shared<Issue>>> for Issuing<'a> {
 
     fn known(&self) {}
 
-    fn build(&self, _alloc: Global) -> Result<Flat<Shared<Issue>>, AllocError> {
+    fn build(self, _alloc: Global) -> Result<Flat<Shared<Issue>>, AllocError> {
         match self {
             Issuing::One(issue) => Ok(Flat::One(Shared::new(Arc::try_clone(issue)?))),
             Issuing::Clash => Ok(Flat::Clash),
         }
     }
 
-    fn apply(&self, alloc: Global, target: &mut Flat<Shared<Issue>>) -> Result<(), AllocError> {
+    fn apply(self, alloc: Global, target: &mut Flat<Shared<Issue>>) -> Result<(), AllocError> {
         let value = self.build(alloc)?;
         target.join_in(alloc, &value)
     }
@@ -168,7 +192,7 @@ impl Board {
         cell.known();
         let alloc = self.allocator();
         let at_sub = UpdateAt::new(cell.sub(), UpdateAt::new(cell.part().get(), update));
-        self.parts.second.update_at(alloc, cell.number(), &at_sub)
+        self.parts.second.update_at(alloc, cell.number(), at_sub)
     }
 
     /// Takes an opening: the sub-plans of the number below the count are opened.
@@ -180,7 +204,7 @@ impl Board {
     {
         let alloc = self.allocator();
         let opened = Opened { count };
-        self.parts.first.first.update_at(alloc, number, &opened)
+        self.parts.first.first.update_at(alloc, number, opened)
     }
 
     /// Takes what is issued under the number.
@@ -194,6 +218,6 @@ impl Board {
         ensures err { OnErr result (self.new ≡ self.old) }
     {
         let alloc = self.allocator();
-        self.parts.first.second.update_at(alloc, number, &issuing)
+        self.parts.first.second.update_at(alloc, number, issuing)
     }
 }

@@ -296,3 +296,38 @@ fn cells_within_their_limits(rt: HostRuntime) -> Result<(), Fail> {
     assert!(rt; complete(alloc, 1, 0, 10000).is_none() && complete(alloc, 1, 0, 9999).is_some());
     Ok(())
 }
+
+/// The cell of the keys from 0:0 on, below the bound, at partition 3 in sub-plan 1 of number 2.
+fn cell_below(alloc: Global, bound: &str) -> Option<Cell> {
+    let keys = SpanSet::of(alloc, &span("0:0", bound)?).ok()?;
+    Cell::new(2, 1, 3, false, keys)
+}
+
+/// How many keys the board has at partition 3 in sub-plan 1 of number 2.
+fn keys_there(board: &Board) -> Option<u64> {
+    let cell = board.cell_at(CellId::new(2, 1, 3)?)?;
+    Some(cell.first.count())
+}
+
+/// Gives the cell to the board, which has these many keys there then.
+fn give(rt: &impl Abort, board: &mut Board, cell: Option<Cell>, keys: u64) -> Result<(), Fail> {
+    board.take_cell(cell.ok_or("a cell")?)?;
+    assert!(rt; keys_there(board) == Some(keys));
+    Ok(())
+}
+
+/// Gives cells of one place to the board: it moves the first, and joins the others into it.
+fn give_cells(rt: &impl Abort, alloc: Global, board: &mut Board) -> Result<(), Fail> {
+    give(rt, board, cell_below(alloc, "0:5"), 5)?;
+    give(rt, board, cell_below(alloc, "0:9"), 9)?;
+    assert!(rt; !board.says_done(2, 1, 3));
+    give(rt, board, complete(alloc, 2, 1, 3), 9)?;
+    assert!(rt; board.says_done(2, 1, 3));
+    Ok(())
+}
+
+#[test]
+fn cells_given_to_a_board(rt: HostRuntime) -> Result<(), Fail> {
+    let mut board = Board::new(rt.alloc());
+    give_cells(&rt, rt.alloc(), &mut board)
+}

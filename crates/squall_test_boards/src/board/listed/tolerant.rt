@@ -128,3 +128,32 @@ fn tolerant_put_cell(rt: HostRuntime) -> Result<(), Fail> {
         None => Ok(()),
     }
 }
+
+/// Gives the completion of partition 3 in sub-plan 1 of number 2 to the board, of which the other is a copy.
+fn give_completion(
+    rt: &impl Abort,
+    cell: Cell,
+    board: &mut Board,
+    before: &Board,
+) -> Result<(), Fail> {
+    let taken = board.take_cell(cell).is_ok();
+    assert!(rt; is_put_or_as_before(board, before, taken));
+    Ok(())
+}
+
+/// Gives a completion to the board, if a copy of it can be made.
+fn give_beside_copy(rt: &impl Abort, alloc: Global, board: &mut Board) -> Result<(), Fail> {
+    let cell = complete(alloc, 2, 1, 3).ok_or("a cell")?;
+    match board.copied(alloc) {
+        Ok(before) => give_completion(rt, cell, board, &before),
+        Err(_) => Ok(()),
+    }
+}
+
+#[test]
+fn tolerant_take_cell(rt: HostRuntime) -> Result<(), Fail> {
+    match full(rt.alloc()) {
+        Some(mut board) => give_beside_copy(&rt, rt.alloc(), &mut board),
+        None => Ok(()),
+    }
+}
