@@ -32,27 +32,27 @@ fn put_issues(board: &mut Board, issues: &[IssueItem]) -> Result<(), AllocError>
     Ok(())
 }
 
-/// Puts the cells into the board.
-fn put_cells(board: &mut Board, cells: &[Cell]) -> Result<(), AllocError>
-    ensures { OnOk result (board.new ≡ with_cells board.old cells.now) }
+/// Moves the cells into the board.
+fn put_cells(board: &mut Board, cells: Vec<Cell>) -> Result<(), AllocError>
+    ensures { OnOk result (board.new ≡ with_cells board.old cells.items) }
 {
     for cell in cells {
-        board.put_cell(cell)?;
+        board.take_cell(cell)?;
     }
     Ok(())
 }
 
-/// The board of the lists. An error means that an allocation failed, or that the count of an
+/// The board of the lists, into which the cells are moved. An error means that an allocation failed, or that the count of an
 /// issue's owners is full.
 pub(crate) fn board_of(
     alloc: Global,
     openings: &[Opening],
     issues: &[IssueItem],
-    cells: &[Cell],
+    cells: Vec<Cell>,
 ) -> Result<Board, AllocError>
-    requires { AreLists (lists_with openings.now issues.now cells.now) }
-    ensures lists { IfOk result (λ board. lists_of board ≡ lists_with openings.now issues.now cells.now) }
-    ensures value { IfOk result (λ board. board ≡ board_of_lists (lists_with openings.now issues.now cells.now)) }
+    requires { AreLists (lists_with openings.now issues.now cells.items) }
+    ensures lists { IfOk result (λ board. lists_of board ≡ lists_with openings.now issues.now cells.items) }
+    ensures value { IfOk result (λ board. board ≡ board_of_lists (lists_with openings.now issues.now cells.items)) }
 {
     let mut board = Board::new(alloc);
     put_openings(&mut board, openings)?;

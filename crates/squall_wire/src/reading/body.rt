@@ -74,7 +74,8 @@ fn read_delta(alloc: Global, version: u8, bytes: &[u8]) -> Result<Board, WireFau
     ensures { Gives lists_of result (whole (lists_at version bytes.now)) }
 {
     let lists = read_lists(alloc, version, bytes)?;
-    let board = board_of(alloc, &lists.openings, &lists.issues, &lists.cells)?;
+    let cells = lists.cells;
+    let board = board_of(alloc, &lists.openings, &lists.issues, cells)?;
     Ok(board)
 }
 

@@ -13,6 +13,6 @@ put_issues-requires c = (issues_rise 0 c.args.issues.now c.requires.issues.turn)
 
 pub returns-clause-lists : goal.returns-clause-lists
 returns-clause-lists c =
-    let built : c.put_cells.new.board ≡ board_of_lists (lists_with c.args.openings.now c.args.issues.now c.args.cells.now) =
-    c.in_ok-put_cells.ensures ∙ ap (λ b. with_cells b c.args.cells.now) (c.in_ok-put_issues.ensures ∙ ap (λ b. with_issues b c.args.issues.now) (c.in_ok-put_openings.ensures ∙ ap (λ b. with_openings b c.args.openings.now) c.new-board.ensures.empty)) in
-    ap lists_of built ∙ lists_kept (lists_with c.args.openings.now c.args.issues.now c.args.cells.now) c.requires
+    let built : c.put_cells.new.board ≡ board_of_lists (lists_with c.args.openings.now c.args.issues.now c.args.cells.items) =
+    c.in_ok-put_cells.ensures ∙ ap (λ b. with_cells b c.args.cells.items) (c.in_ok-put_issues.ensures ∙ ap (λ b. with_issues b c.args.issues.now) (c.in_ok-put_openings.ensures ∙ ap (λ b. with_openings b c.args.openings.now) c.new-board.ensures.empty)) in
+    ap lists_of built ∙ lists_kept (lists_with c.args.openings.now c.args.issues.now c.args.cells.items) c.requires

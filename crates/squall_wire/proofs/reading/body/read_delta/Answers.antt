@@ -5,4 +5,4 @@ use Rattle.squall_wire.proofs.reading.body.read_delta.Goals as goal
 
 pub board_of-requires : goal.board_of-requires
 board_of-requires c =
-    rw (c.deref.ensures.value, c.deref-2.ensures.value, c.deref-3.ensures.value) (are_lists c.args.version c.args.bytes.now (lists_seen c.in_ok-lists.lists) c.requires (λ i. omega (arith, c.type_inv.bytes i)) c.in_ok-lists.ensures)
+    rw (c.deref.ensures.value, c.deref-2.ensures.value) (are_lists c.args.version c.args.bytes.now (lists_seen c.in_ok-lists.lists) c.requires (λ i. omega (arith, c.type_inv.bytes i)) c.in_ok-lists.ensures)
