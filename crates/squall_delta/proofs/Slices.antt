@@ -1,5 +1,5 @@
 -- Spans of a cell that go into a piece together.
-use Rattle.std.specs.Prelude.{◌≡◌, ℕ, zero, suc, ◌+◌, ◌-◌, ◌*◌, ◌<◌, ◌≤◌, nat_lt, Bool, true, false, ◌&&◌, List, [], ◌∷◌, ◌++◌, map, length, cond, Option, Some, if◌then◌else◌, refl}
+use Rattle.std.specs.Prelude.{◌≡◌, ℕ, zero, suc, ◌+◌, ◌-◌, ◌*◌, ◌<◌, ◌≤◌, nat_lt, Bool, true, false, ◌&&◌, List, [], ◌∷◌, ◌++◌, map, length, cond, Option, Some, Result, Err, if◌then◌else◌, refl}
 use Rattle.std.proofs.Common.{sym, ap, subst, ◌∙◌, arith, ⊎_elim, get_or, take, drop}
 use Rattle.std.proofs.lemmas.Bool.Decides.{nat_tests}
 use Rattle.std.proofs.lemmas.List.{append-nil, take_more, take-append-drop}
@@ -13,12 +13,12 @@ use Rattle.squall_wire.specs.Limits.{body_limit}
 use Rattle.squall_wire.specs.Messages.{BoardLists, lists_of}
 use Rattle.squall_delta.specs.Items.{Item, loaded, items_of, item_board, with_items, items_board}
 use Rattle.squall_delta.specs.Pieces.{body_length}
-use Rattle.squall_delta.specs.Cutting.{CutBoard, cut_with, roomy, turned, put_item, fed, fed_all, add_item, ItemBefore, ItemsRise, IsItem, AreNext, IsMeasured, span_bytes, has_some, last_place, is_last, item_cost}
+use Rattle.squall_delta.specs.Cutting.{CutBoard, cut_with, roomy, turned, put_item, fed, fed_all, FitsAlone, IsFed, HasTooLong, no_lists, add_item, ItemBefore, ItemsRise, IsItem, AreNext, IsMeasured, span_bytes, has_some, last_place, is_last, item_cost}
 use Rattle.squall_delta.specs.PieceCellLaws.{place_same, not_both}
 use Rattle.squall_delta.specs.PieceListLaws.{lists_added, length_put, cell_fits}
 use Rattle.squall_delta.specs.PieceItemLaws.{all_beyond, items_back, next_put}
 use Rattle.squall_delta.specs.PieceRunLaws.{grows, is_within}
-use Rattle.squall_delta.specs.PieceStepLaws.{IsFeeding, short_roomy, load_alone, load_costs, load_last, next_room}
+use Rattle.squall_delta.specs.PieceStepLaws.{IsFeeding, short_roomy, roomy_most, fits_alone, not_alone, first_too_long, second_too_long, fed_most, load_costs, load_last, next_room}
 use Rattle.squall_delta.specs.PieceLaws.{with_joined}
 
 -- ---- the spans are a set
@@ -165,42 +165,58 @@ le_trans : (a b c : ℕ) → a ≤ b → b ≤ c → a ≤ c
 le_trans a b c x y = omega (arith, x, y)
 
 -- items that have room together go into one piece
-run_fed : (f : List BoardValue) (b : BoardValue) (is : List Item) → AreNext b is → body_length (with_items b is) ≤ body_limit → fed_all (cut_with f b) is ≡ cut_with f (with_items b is)
-run_fed f b [] next fits = refl
-run_fed f b (i ∷ is) next fits =
+run_fed : (t : ℕ) (f : List BoardValue) (b : BoardValue) (is : List Item) → AreNext b is → body_length (with_items b is) ≤ t → fed_all (cut_with t f b) is ≡ cut_with t f (with_items b is)
+run_fed t f b [] next fits = refl
+run_fed t f b (i ∷ is) next fits =
     let rest = next_put b i is next in
-    ap (λ (t : Bool). fed_all (put_item (if t then turned (cut_with f b) else cut_with f b) i) is) (is_within (body_length (board_join b (item_board i))) (le_trans (body_length (board_join b (item_board i))) (body_length (with_items (board_join b (item_board i)) is)) body_limit (grows (board_join b (item_board i)) is rest) fits))
-    ∙ run_fed f (board_join b (item_board i)) is rest fits
+    ap (λ (v : Bool). fed_all (put_item (if v then turned (cut_with t f b) else cut_with t f b) i) is) (is_within t (body_length (board_join b (item_board i))) (le_trans (body_length (board_join b (item_board i))) (body_length (with_items (board_join b (item_board i)) is)) t (grows (board_join b (item_board i)) is rest) fits))
+    ∙ run_fed t f (board_join b (item_board i)) is rest fits
 
-pub run_step : (f : List BoardValue) (b q : BoardValue) (n : ℕ) (h : Bool) (l : Option CellPlace) (p : CellPlace) (ss : List Interval) → IsMeasured b n h l → AreNext b (map (loaded p) ss) → 0 < length ss → n + (span_bytes (is_last l p) + 16 * (length ss - 1)) ≤ body_limit → q ≡ board_join b (cell_board p (pair_of ss false))
-    → (cut_with f q ≡ fed_all (cut_with f b) (map (loaded p) ss)) × IsMeasured q (n + (span_bytes (is_last l p) + 16 * (length ss - 1))) h (Some p)
-run_step f b q n h l p ss m next some fits put =
+-- each span alone has room, or none has
+pub spans_alone : (t : ℕ) (p : CellPlace) (ss : List Interval) → AllByRecursion IsItem (map (loaded p) ss) → 41 ≤ t → AllByRecursion (FitsAlone t) (map (loaded p) ss)
+spans_alone t p [] within le = tt
+spans_alone t p (s ∷ ss) within le = (fits_alone t 33 (loaded p s) within.0 refl le, spans_alone t p ss within.1 le)
+
+pub span_too_long : (t : ℕ) (b : BoardValue) (p : CellPlace) (ss : List Interval) → AreNext b (map (loaded p) ss) → 0 < length ss → t < 41 → HasTooLong t (map (loaded p) ss)
+span_too_long t b p [] next some lt = absurd (none some)
+  where
+    none : 0 < 0 → ⊥
+    none lt = omega (arith, lt)
+span_too_long t b p (s ∷ ss) next some lt = first_too_long t (loaded p s ∷ []) (map (loaded p) ss) (not_alone t 33 (loaded p s) next.within.0 refl lt (omega arith))
+
+pub run_step : (t : ℕ) (f : List BoardValue) (b q : BoardValue) (n : ℕ) (h : Bool) (l : Option CellPlace) (p : CellPlace) (ss : List Interval) → t ≤ body_limit → 41 ≤ t → IsMeasured b n h l → AreNext b (map (loaded p) ss) → 0 < length ss → n + (span_bytes (is_last l p) + 16 * (length ss - 1)) ≤ t → q ≡ board_join b (cell_board p (pair_of ss false))
+    → IsFed (cut_with t f b) (cut_with t f q) (map (loaded p) ss) × IsMeasured q (n + (span_bytes (is_last l p) + 16 * (length ss - 1))) h (Some p)
+run_step t f b q n h l p ss limit room m next some fits put =
     let made : q ≡ with_items b (map (loaded p) ss) = put ∙ run_joined b p ss next some in
-    let known = run_measured b n h l p ss m next some fits in
-    let short : body_length (with_items b (map (loaded p) ss)) ≤ body_limit = subst (λ (k : ℕ). k ≤ body_limit) known.length known.short in
-    (ap (cut_with f) made ∙ sym (run_fed f b (map (loaded p) ss) next short), subst (λ (v : BoardValue). IsMeasured v (n + (span_bytes (is_last l p) + 16 * (length ss - 1))) h (Some p)) (sym made) known)
+    let known = run_measured b n h l p ss m next some (le_trans (n + (span_bytes (is_last l p) + 16 * (length ss - 1))) t body_limit fits limit) in
+    let short : body_length (with_items b (map (loaded p) ss)) ≤ t = subst (λ (k : ℕ). k ≤ t) known.length fits in (
+      record { fed = ap (cut_with t f) made ∙ sym (run_fed t f b (map (loaded p) ss) next short); alone = spans_alone t p ss next.within room },
+      subst (λ (v : BoardValue). IsMeasured v (n + (span_bytes (is_last l p) + 16 * (length ss - 1))) h (Some p)) (sym made) known,
+    )
 
 -- ---- after room was made for the first
 
 -- the piece has room for a span
-pub has_room : (f0 f1 : List BoardValue) (p0 p1 : BoardValue) (n0 n1 : ℕ) (h0 h1 : Bool) (l0 l1 : Option CellPlace) (p : CellPlace) (ss : List Interval) → cut_with f1 p1 ≡ roomy (cut_with f0 p0) (n0 + span_bytes (is_last l0 p)) → IsMeasured p0 n0 h0 l0 → IsMeasured p1 n1 h1 l1 → AreNext p0 (map (loaded p) ss) → 0 < length ss
-    → (n1 + span_bytes (is_last l1 p) ≤ body_limit) × IsFeeding (cut_with f0 p0) (cut_with f1 p1) (map (loaded p) ss) (map (loaded p) ss)
-has_room f0 f1 p0 p1 n0 n1 h0 h1 l0 l1 p [] room m0 m1 next some = absurd (none some)
+pub has_room : (t0 t1 : ℕ) (f0 f1 : List BoardValue) (p0 p1 : BoardValue) (n0 n1 : ℕ) (h0 h1 : Bool) (l0 l1 : Option CellPlace) (p : CellPlace) (ss : List Interval) → 41 ≤ t0 → cut_with t1 f1 p1 ≡ roomy (cut_with t0 f0 p0) (n0 + span_bytes (is_last l0 p)) → IsMeasured p0 n0 h0 l0 → IsMeasured p1 n1 h1 l1 → AreNext p0 (map (loaded p) ss) → 0 < length ss
+    → (n1 + span_bytes (is_last l1 p) ≤ t1) × IsFeeding (cut_with t0 f0 p0) (cut_with t1 f1 p1) (map (loaded p) ss) (map (loaded p) ss)
+has_room t0 t1 f0 f1 p0 p1 n0 n1 h0 h1 l0 l1 p [] wide room m0 m1 next some = absurd (none some)
   where
     none : 0 < 0 → ⊥
     none lt = omega (arith, lt)
-has_room f0 f1 p0 p1 n0 n1 h0 h1 l0 l1 p (s ∷ ss) room m0 m1 next some =
+has_room t0 t1 f0 f1 p0 p1 n0 n1 h0 h1 l0 l1 p (s ∷ ss) wide room m0 m1 next some =
     let i : Item = loaded p s in
-    let next1 : AreNext p1 (map (loaded p) (s ∷ ss)) = next_room f0 f1 p0 p1 (n0 + span_bytes (is_last l0 p)) (map (loaded p) (s ∷ ss)) room next in
-    let piece : p1 ≡ (roomy (cut_with f0 p0) (n0 + span_bytes (is_last l0 p))).piece = ap (λ (c : CutBoard). c.piece) room in
+    let same : t1 ≡ t0 = ap (λ (c : CutBoard). c.most) room ∙ roomy_most (cut_with t0 f0 p0) (n0 + span_bytes (is_last l0 p)) in
+    let next1 : AreNext p1 (map (loaded p) (s ∷ ss)) = next_room t0 t1 f0 f1 p0 p1 (n0 + span_bytes (is_last l0 p)) (map (loaded p) (s ∷ ss)) room next in
+    let piece : p1 ≡ (roomy (cut_with t0 f0 p0) (n0 + span_bytes (is_last l0 p))).piece = ap (λ (c : CutBoard). c.piece) room in
     let first : body_length (board_join p0 (item_board i)) ≡ n0 + span_bytes (is_last l0 p) = total p0 n0 h0 l0 m0 next in
-    let short : body_length (board_join p1 (item_board i)) ≤ body_limit = subst (λ (b : BoardValue). body_length (board_join b (item_board i)) ≤ body_limit) (sym piece) (short_roomy f0 p0 i (n0 + span_bytes (is_last l0 p)) first (load_alone p s next.within.0)) in
-    let again : fed (cut_with f1 p1) i ≡ fed (cut_with f0 p0) i =
-    ap (λ (t : Bool). put_item (if t then turned (cut_with f1 p1) else cut_with f1 p1) i) (is_within (body_length (board_join p1 (item_board i))) short)
+    let short0 : body_length (board_join p1 (item_board i)) ≤ t0 = subst (λ (b : BoardValue). body_length (board_join b (item_board i)) ≤ t0) (sym piece) (short_roomy t0 f0 p0 i (n0 + span_bytes (is_last l0 p)) first (fits_alone t0 33 i next.within.0 refl wide)) in
+    let short : body_length (board_join p1 (item_board i)) ≤ t1 = subst (λ (k : ℕ). body_length (board_join p1 (item_board i)) ≤ k) (sym same) short0 in
+    let again : fed (cut_with t1 f1 p1) i ≡ fed (cut_with t0 f0 p0) i =
+    ap (λ (v : Bool). put_item (if v then turned (cut_with t1 f1 p1) else cut_with t1 f1 p1) i) (is_within t1 (body_length (board_join p1 (item_board i))) short)
     ∙ ap (λ (c : CutBoard). put_item c i) room
-    ∙ ap (λ (k : ℕ). put_item (roomy (cut_with f0 p0) k) i) (sym first) in (
-      subst (λ (k : ℕ). k ≤ body_limit) (total p1 n1 h1 l1 m1 next1) short,
-      record { fed = ap (λ (c : CutBoard). fed_all c (map (loaded p) ss)) again; next = next1 },
+    ∙ ap (λ (k : ℕ). put_item (roomy (cut_with t0 f0 p0) k) i) (sym first) in (
+      subst (λ (k : ℕ). k ≤ t1) (total p1 n1 h1 l1 m1 next1) short,
+      record { most = same; fed = ap (λ (c : CutBoard). fed_all c (map (loaded p) ss)) again; next = next1; there = λ h. h; back = λ h. h },
     )
   where
     sum : (n m a b t : ℕ) → n ≡ a → m ≡ b → t ≡ a + b → t ≡ n + m
@@ -222,7 +238,13 @@ map_split p n ss rs ts a b = map_parts p ss rs ts (sym (take-append-drop n ss) �
 
 -- one part after another
 pub feeding_then : (a b c : CutBoard) (xs ys zs : List Item) → IsFeeding a b xs ys → IsFeeding b c ys zs → IsFeeding a c xs zs
-feeding_then a b c xs ys zs f g = record { fed = g.fed ∙ f.fed; next = g.next }
+feeding_then a b c xs ys zs f g = record {
+  most = g.most ∙ f.most;
+  fed = g.fed ∙ f.fed;
+  next = g.next;
+  there = λ h. f.there (subst (λ m. AllByRecursion (FitsAlone m) ys) f.most (g.there (subst (λ m. AllByRecursion (FitsAlone m) zs) (sym f.most) h)));
+  back = λ h. subst (λ m. AllByRecursion (FitsAlone m) zs) f.most (g.back (subst (λ m. AllByRecursion (FitsAlone m) ys) (sym f.most) (f.back h)));
+}
 
 -- no spans have no items
 pub none_left : (p : CellPlace) (ss : List Interval) → length ss ≡ 0 → map (loaded p) ss ≡ []
@@ -231,3 +253,11 @@ none_left p (s ∷ ss) e = absurd (some (length ss) e)
   where
     some : (n : ℕ) → suc n ≡ 0 → ⊥
     some n e = omega (arith, e)
+
+-- the fault of a step that is passed on
+pub passed_on : {A B E : Type 0} (r : Result A E) (s : Result B E) (x y e : E) → r ≡ Err x → s ≡ Err y → y ≡ x → s ≡ Err e → r ≡ Err e
+passed_on r s x y e p q same is = cc
+
+-- after the first items were put, one of the others is too long
+pub after_too_long : (c d : CutBoard) (xs ys : List Item) → IsFed c d xs → HasTooLong d.most ys → HasTooLong c.most (xs ++ ys)
+after_too_long c d xs ys step long = second_too_long c.most xs ys (subst (λ m. HasTooLong m ys) (ap (λ (e : CutBoard). e.most) step.fed ∙ fed_most c xs) long)

@@ -11,35 +11,36 @@ use Rattle.squall_wire.specs.Limits.{body_limit}
 use Rattle.squall_wire.specs.Messages.{BoardLists, lists_with, lists_of}
 use Rattle.squall_wire.specs.Spelling.{spell_span, spell_issue, spell_cell}
 use Rattle.squall_delta.specs.Items.{Item, opening, issue, done, loaded, item_board, items_board}
-use Rattle.squall_delta.specs.Pieces.{body_length}
+use Rattle.squall_delta.specs.Pieces.{body_length, FitsBody}
 
 -- ---- a board that is cut
 
--- the pieces that are finished, and the piece that takes the next items
+-- the most bytes of a piece's body, the pieces that are finished, and the piece that takes the next items
 pub record CutBoard : Type 0 where
+  pub most : ℕ
   pub finished : List BoardValue
   pub piece : BoardValue
 
-abbrev pub cut_with : List BoardValue → BoardValue → CutBoard
-cut_with finished piece = record { finished = finished; piece = piece }
+abbrev pub cut_with : ℕ → List BoardValue → BoardValue → CutBoard
+cut_with most finished piece = record { most = most; finished = finished; piece = piece }
 
 -- nothing is cut
-abbrev pub uncut : CutBoard
-uncut = cut_with [] empty_board
+abbrev pub uncut : ℕ → CutBoard
+uncut most = cut_with most [] empty_board
 
 -- the piece is finished, and the next one begun
 abbrev pub turned : CutBoard → CutBoard
-turned c = cut_with (c.finished ++ c.piece ∷ []) empty_board
+turned c = cut_with c.most (c.finished ++ c.piece ∷ []) empty_board
 
 -- the same if a body of that length is not too long, and else the next piece is begun
 abbrev pub roomy : CutBoard → ℕ → CutBoard
-roomy c bytes = if nat_lt body_limit bytes then turned c else c
+roomy c bytes = if nat_lt c.most bytes then turned c else c
 
 -- the item is put into the piece
 abbrev pub put_item : CutBoard → Item → CutBoard
-put_item c i = cut_with c.finished (board_join c.piece (item_board i))
+put_item c i = cut_with c.most c.finished (board_join c.piece (item_board i))
 
--- the item is put into the piece if the piece has a frame with it, and else into the next
+-- the item is put into the piece if its body is not too long with it, and else into the next
 abbrev pub fed : CutBoard → Item → CutBoard
 fed c i = put_item (roomy c (body_length (board_join c.piece (item_board i)))) i
 
@@ -62,14 +63,34 @@ pieces_with c = if nat_lt empty_bytes (body_length c.piece) then c.finished ++ c
 abbrev pub group_bytes : List Item → ℕ
 group_bytes g = body_length (items_board g)
 
--- the items in groups, each as long as a frame can hold, if the first has begun
-abbrev pub cut_after : List Item → List Item → List (List Item)
-cut_after g [] = g ∷ []
-cut_after g (i ∷ is) = if nat_lt body_limit (group_bytes (g ++ i ∷ [])) then g ∷ cut_after (i ∷ []) is else cut_after (g ++ i ∷ []) is
+-- the items in groups, each as long as a body can hold, if the first has begun
+abbrev pub cut_after : ℕ → List Item → List Item → List (List Item)
+cut_after most g [] = g ∷ []
+cut_after most g (i ∷ is) = if nat_lt most (group_bytes (g ++ i ∷ [])) then g ∷ cut_after most (i ∷ []) is else cut_after most (g ++ i ∷ []) is
 
-abbrev pub cut_items : List Item → List (List Item)
-cut_items [] = []
-cut_items (i ∷ is) = cut_after (i ∷ []) is
+abbrev pub cut_items : ℕ → List Item → List (List Item)
+cut_items most [] = []
+cut_items most (i ∷ is) = cut_after most (i ∷ []) is
+
+-- ---- items that are too long
+
+-- the item alone has a body of at most so many bytes
+abbrev pub FitsAlone : ℕ → Item → Type 0
+FitsAlone most i = FitsBody most (items_board (i ∷ []))
+
+-- each of the items was put, and fits alone
+pub record IsFed (start now : CutBoard) (is : List Item) : Type 0 where
+  pub fed : now ≡ fed_all start is
+  pub alone : AllByRecursion (FitsAlone start.most) is
+
+-- the bytes of the longest body of one item, which is an issue of two plans of 4096 ranges
+abbrev pub longest_bytes : ℕ
+longest_bytes = 98329
+
+-- one of the items is too long alone
+pub record HasTooLong (most : ℕ) (is : List Item) : Type 0 where
+  pub some : AllByRecursion (FitsAlone most) is → ⊥
+  pub low : most < longest_bytes
 
 -- ---- the lists of a piece, and what an item adds to them
 

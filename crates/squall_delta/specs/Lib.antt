@@ -10,6 +10,7 @@ pub mod Items
 pub mod Pieces
 pub mod Hashes
 pub mod Repairs
+pub mod FaultText
 pub mod Kept
 pub mod Cutting
 pub mod PieceCellLaws

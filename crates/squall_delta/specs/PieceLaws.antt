@@ -1,28 +1,25 @@
 -- What the pieces of a board are.
-use Rattle.std.specs.Prelude.{◌≡◌, ℕ, ◌<◌, ◌≤◌, true, List, [], ◌∷◌, ◌++◌, map, length, refl}
+use Rattle.std.specs.Prelude.{◌≡◌, ℕ, suc, ◌+◌, ◌-◌, ◌<◌, ◌≤◌, min, true, List, [], ◌∷◌, ◌++◌, map, length, refl}
 use Rattle.std.proofs.Common.{sym, ap, subst, ◌∙◌, arith}
 use Rattle.std.proofs.lemmas.List.{append-nil}
 use Rattle.std.specs.List.{flat_map, AllByRecursion}
-use Rattle.std.specs.Cmp.{first_so}
-use Rattle.squall_span.specs.Spans.{Interval, IsSet}
 use Rattle.squall_join.specs.declared.flat.Flat.{Flat}
 use Rattle.squall_report.specs.Issues.{PlanPair}
-use Rattle.squall_report.specs.Cells.{CellPlace, is_cell_place}
 use Rattle.squall_board.specs.declared.opening.Opening.{Opening}
 use Rattle.squall_board.specs.Boards.{BoardValue, IsBoard, is_nested, empty_board, board_join}
 use Rattle.squall_board.specs.BoardLaws.{board_laws, empty_is}
-use Rattle.squall_board.specs.Listed.{CellEntry, IsCell, IsOpening, openings_of, issues_of, cells_of}
-use Rattle.squall_board.specs.ListedLaws.{all_weaker, all_map, openings_listed, cells_listed}
+use Rattle.squall_board.specs.Listed.{CellEntry, openings_of, issues_of, cells_of}
+use Rattle.squall_board.specs.ListedLaws.{all_weaker}
 use Rattle.squall_wire.specs.declared.message.Message.TheVariants.{Delta}
 use Rattle.squall_wire.specs.Limits.{body_limit}
 use Rattle.squall_wire.specs.Messages.{body_of, spell_body}
-use Rattle.squall_delta.specs.Items.{Item, opening, issue, done, loaded, items_of_cell, items_of, item_board, with_items, items_board}
-use Rattle.squall_delta.specs.Pieces.{FitsFrame, AreLongestRuns, items_of_groups, ArePieces, joined_boards}
-use Rattle.squall_delta.specs.Cutting.{CutBoard, uncut, fed_all, pieces_with, cut_items, IsItem, AreNext}
+use Rattle.squall_delta.specs.Items.{Item, opening, issue, items_of_cell, items_of, item_board, with_items, items_board}
+use Rattle.squall_delta.specs.Pieces.{body_length, frame_length, FitsBody, FitsFrame, FitsWithin, EachFitsWithin, body_within, AreLongestRuns, items_of_groups, AreCut, ArePieces, ArePiecesWithin, joined_boards}
+use Rattle.squall_delta.specs.Cutting.{CutBoard, uncut, fed_all, pieces_with, cut_items, FitsAlone, IsFed, HasTooLong, IsItem, AreNext}
 use Rattle.squall_delta.specs.PieceListLaws.{item_board_is}
-use Rattle.squall_delta.specs.PieceItemLaws.{items_next, items_within, items_back, all_of_items}
+use Rattle.squall_delta.specs.PieceItemLaws.{items_next, items_within, items_back}
 use Rattle.squall_delta.specs.PieceRunLaws.{with_append, cut_joined, cut_runs, runs_are_cut, fed_is_cut}
-use Rattle.squall_delta.specs.PieceStepLaws.{IsFeeding, feeding_starts, feeding_next, feeding_on, opening_alone, done_alone, load_alone}
+use Rattle.squall_delta.specs.PieceStepLaws.{IsFeeding, feeding_starts, feeding_next, feeding_on, feeding_ends, feeding_long}
 
 -- ---- joins
 
@@ -62,53 +59,105 @@ groups_join (g ∷ gs) within =
 
 -- ---- pieces
 
--- the pieces of a board join to it
-pub pieces_join : (b : BoardValue) (ps : List BoardValue) → IsBoard b → ArePieces b ps → joined_boards ps ≡ b
-pieces_join b ps is are =
+-- what a board is cut into joins to it
+pub cut_join : (most : ℕ) (b : BoardValue) (ps : List BoardValue) → IsBoard b → AreCut most b ps → joined_boards ps ≡ b
+cut_join most b ps is are =
     ap joined_boards are.boards
     ∙ groups_join are.groups (subst (λ l. AllByRecursion IsItem l) (sym are.items) (items_within b is))
     ∙ ap items_board are.items
     ∙ items_back b is
 
-groups_are : (b : BoardValue) (ps : List BoardValue) → IsBoard b → (are : ArePieces b ps) → ps ≡ map items_board (cut_items (items_of b))
-groups_are b ps is are = are.boards ∙ ap (map items_board) (runs_are_cut are.groups are.runs (subst (λ l. AreNext empty_board l) (sym are.items) (items_next b is)) ∙ ap cut_items are.items)
+groups_are : (most : ℕ) (b : BoardValue) (ps : List BoardValue) → IsBoard b → (are : AreCut most b ps) → ps ≡ map items_board (cut_items most (items_of b))
+groups_are most b ps is are = are.boards ∙ ap (map items_board) (runs_are_cut most are.groups are.runs (subst (λ l. AreNext empty_board l) (sym are.items) (items_next b is)) ∙ ap (cut_items most) are.items)
 
--- a board has one list of pieces
-pub one_pieces : (b : BoardValue) (ps qs : List BoardValue) → IsBoard b → ArePieces b ps → ArePieces b qs → ps ≡ qs
-one_pieces b ps qs is x y = groups_are b ps is x ∙ sym (groups_are b qs is y)
+-- a board is cut in one way
+pub one_cut : (most : ℕ) (b : BoardValue) (ps qs : List BoardValue) → IsBoard b → AreCut most b ps → AreCut most b qs → ps ≡ qs
+one_cut most b ps qs is x y = groups_are most b ps is x ∙ sym (groups_are most b qs is y)
 
-runs_fit : (gs : List (List Item)) → AreLongestRuns gs → AllByRecursion FitsFrame (map items_board gs)
-runs_fit [] runs = tt
-runs_fit (g ∷ gs) runs = (runs.1, runs_fit gs runs.3)
+runs_fit : (most : ℕ) (gs : List (List Item)) → AreLongestRuns most gs → AllByRecursion (FitsBody most) (map items_board gs)
+runs_fit most [] runs = tt
+runs_fit most (g ∷ gs) runs = (runs.1, runs_fit most gs runs.3)
 
--- each piece has a frame
-pub pieces_fit : (b : BoardValue) (ps : List BoardValue) → ArePieces b ps → AllByRecursion FitsFrame ps
-pieces_fit b ps are = subst (λ l. AllByRecursion FitsFrame l) (sym are.boards) (runs_fit are.groups are.runs)
+-- no piece has a longer body
+pub cut_fits : (most : ℕ) (b : BoardValue) (ps : List BoardValue) → AreCut most b ps → AllByRecursion (FitsBody most) ps
+cut_fits most b ps are = subst (λ l. AllByRecursion (FitsBody most) l) (sym are.boards) (runs_fit most are.groups are.runs)
 
 -- the board that tells nothing has no pieces
-pub empty_has_none : (ps : List BoardValue) → ArePieces empty_board ps → ps ≡ []
-empty_has_none ps are = groups_are empty_board ps empty_is are
+pub empty_has_none : (most : ℕ) (ps : List BoardValue) → AreCut most empty_board ps → ps ≡ []
+empty_has_none most ps are = groups_are most empty_board ps empty_is are
 
 -- a board without pieces tells nothing
-pub none_is_empty : (b : BoardValue) → IsBoard b → ArePieces b [] → b ≡ empty_board
-none_is_empty b is are = sym (pieces_join b [] is are)
+pub none_is_empty : (most : ℕ) (b : BoardValue) → IsBoard b → AreCut most b [] → b ≡ empty_board
+none_is_empty most b is are = sym (cut_join most b [] is are)
 
-all_alone : (is : List Item) → AllByRecursion (λ i. FitsFrame (items_board (i ∷ []))) is → AreLongestRuns (cut_items is)
-all_alone [] alone = tt
-all_alone (i ∷ is) alone = cut_runs (i ∷ []) is (λ e. cc) alone.0 alone.1
+all_alone : (most : ℕ) (is : List Item) → AllByRecursion (FitsAlone most) is → AreLongestRuns most (cut_items most is)
+all_alone most [] alone = tt
+all_alone most (i ∷ is) alone = cut_runs most (i ∷ []) is (λ e. cc) alone.0 alone.1
 
-all_joined : (is : List Item) → items_of_groups (cut_items is) ≡ is
-all_joined [] = refl
-all_joined (i ∷ is) = cut_joined (i ∷ []) is
+all_joined : (most : ℕ) (is : List Item) → items_of_groups (cut_items most is) ≡ is
+all_joined most [] = refl
+all_joined most (i ∷ is) = cut_joined most (i ∷ []) is
 
 -- what is made of the items of a board, fed one after the other, are its pieces
-pub fed_are_pieces : (b : BoardValue) → IsBoard b → AllByRecursion (λ i. FitsFrame (items_board (i ∷ []))) (items_of b) → ArePieces b (pieces_with (fed_all uncut (items_of b)))
-fed_are_pieces b is alone = record {
-  groups = cut_items (items_of b);
-  items = all_joined (items_of b);
-  runs = all_alone (items_of b) alone;
-  boards = fed_is_cut (items_of b) (items_next b is) alone;
+pub fed_are_cut : (most : ℕ) (b : BoardValue) (c : CutBoard) → IsBoard b → IsFed (uncut most) c (items_of b) → AreCut most b (pieces_with c)
+fed_are_cut most b c is f = record {
+  groups = cut_items most (items_of b);
+  items = all_joined most (items_of b);
+  runs = all_alone most (items_of b) f.alone;
+  boards = ap pieces_with f.fed ∙ fed_is_cut most (items_of b) (items_next b is) f.alone;
 }
+
+-- ---- the limit of a frame
+
+some_bytes : (b : BoardValue) → 0 < body_length b
+some_bytes b = some (body_length b) _ refl
+  where
+    some : (n m : ℕ) → n ≡ suc m → 0 < n
+    some n m e = omega (arith, e)
+
+-- a frame has eight bytes before its body
+frame_bytes : (b : BoardValue) → frame_length b ≡ 8 + body_length b
+frame_bytes b = eight (body_length b)
+  where
+    eight : (n : ℕ) → suc (suc (suc (suc (suc (suc (suc (suc n))))))) ≡ 8 + n
+    eight n = omega arith
+
+-- a body that is short enough has a frame that is
+pub within_by_body : (limit : ℕ) (b : BoardValue) → FitsBody (body_within limit) b → FitsWithin limit b
+within_by_body limit b fits = (short (body_length b) fits, subst (λ n. n ≤ limit) (sym (frame_bytes b)) (whole (body_length b) (some_bytes b) fits))
+  where
+    short : (n : ℕ) → n ≤ min (limit - 8) body_limit → n ≤ body_limit
+    short n le = omega (arith, le)
+
+    whole : (n : ℕ) → 0 < n → n ≤ min (limit - 8) body_limit → 8 + n ≤ limit
+    whole n some le = omega (arith, some, le)
+
+-- and the other way round
+pub body_by_within : (limit : ℕ) (b : BoardValue) → FitsWithin limit b → FitsBody (body_within limit) b
+body_by_within limit b fits = both (body_length b) fits.0 (subst (λ n. n ≤ limit) (frame_bytes b) fits.1)
+  where
+    both : (n : ℕ) → n ≤ body_limit → 8 + n ≤ limit → n ≤ min (limit - 8) body_limit
+    both n x y = omega (arith, x, y)
+
+pub pieces_within_limit : (limit : ℕ) (b : BoardValue) (ps : List BoardValue) → ArePiecesWithin limit b ps → AllByRecursion (FitsWithin limit) ps
+pieces_within_limit limit b ps are = all_weaker (FitsBody (body_within limit)) (FitsWithin limit) ps (cut_fits (body_within limit) b ps are) (within_by_body limit)
+
+pub each_within : (limit : ℕ) (b : BoardValue) → AllByRecursion (FitsAlone (body_within limit)) (items_of b) → EachFitsWithin limit b
+each_within limit b all = all_weaker (FitsAlone (body_within limit)) (λ i. FitsWithin limit (items_board (i ∷ []))) (items_of b) all (λ i. within_by_body limit (items_board (i ∷ [])))
+
+pub not_each_within : (limit : ℕ) (b : BoardValue) → HasTooLong (body_within limit) (items_of b) → EachFitsWithin limit b → ⊥
+not_each_within limit b long all = long.some (all_weaker (λ i. FitsWithin limit (items_board (i ∷ []))) (FitsAlone (body_within limit)) (items_of b) all (λ i. body_by_within limit (items_board (i ∷ []))))
+
+-- a limit that some item passes is a low one
+pub low_limit : (limit : ℕ) (is : List Item) → HasTooLong (body_within limit) is → limit < 98337
+low_limit limit is long = low long.low
+  where
+    low : min (limit - 8) body_limit < 98329 → limit < 98337
+    low lt = omega (arith, lt)
+
+-- at the limit of the format the body's limit is that of every body
+pub whole_limit : body_within 1048584 ≡ body_limit
+whole_limit = refl
 
 -- a board that fits a frame has no body that is too long
 pub not_too_long : (b : BoardValue) → FitsFrame b → body_limit < length (spell_body (body_of (Delta b))) → ⊥
@@ -139,41 +188,37 @@ second_left f b xs e = ap (λ l. l ++ flat_map items_of_cell (cells_of b)) (ap (
 third_left : {Y : Type 0} (g : Y → CellEntry) (b : BoardValue) (ys : List Y) → map g ys ≡ cells_of b → flat_map items_of_cell (cells_of b) ≡ flat_map (λ y. items_of_cell (g y)) ys ++ []
 third_left g b ys e = ap (flat_map items_of_cell) (sym e) ∙ flat_of_map items_of_cell g ys ∙ sym (append-nil (flat_map (λ y. items_of_cell (g y)) ys))
 
-none_fed : (b : BoardValue) (c : CutBoard) → IsBoard b → c ≡ uncut → IsFeeding uncut c (items_of b) (items_of b)
-none_fed b c is e = subst (λ d. IsFeeding uncut d (items_of b) (items_of b)) (sym e) (feeding_starts uncut (items_of b) (items_next b is))
+start_fed : (most : ℕ) (b : BoardValue) (c : CutBoard) → IsBoard b → c ≡ uncut most → IsFeeding (uncut most) c (items_of b) (items_of b)
+start_fed most b c is e = subst (λ d. IsFeeding (uncut most) d (items_of b) (items_of b)) (sym e) (feeding_starts (uncut most) (items_of b) (items_next b is))
 
-first_fed : (b : BoardValue) (c d : CutBoard) (os : List Opening) → IsBoard b → os ≡ openings_of b → c ≡ uncut → d ≡ fed_all c (map opening os) → IsFeeding uncut d (items_of b) (issues_and_cells b)
-first_fed b c d os is e start step = feeding_on uncut c d (items_of b) (items_of b) (map opening os) (issues_and_cells b) (first_left b os e) step (none_fed b c is start)
+first_fed : (most : ℕ) (b : BoardValue) (c d : CutBoard) (os : List Opening) → IsBoard b → os ≡ openings_of b → c ≡ uncut most → IsFed c d (map opening os) → IsFeeding (uncut most) d (items_of b) (issues_and_cells b)
+first_fed most b c d os is e start step = feeding_on (uncut most) c d (items_of b) (items_of b) (map opening os) (issues_and_cells b) (first_left b os e) step (start_fed most b c is start)
 
-second_fed : {X : Type 0} (f : X → ℕ × Flat PlanPair) (b : BoardValue) (d e : CutBoard) (xs : List X) → map f xs ≡ issues_of b → IsFeeding uncut d (items_of b) (issues_and_cells b) → e ≡ fed_all d (map (λ x. issue (f x)) xs) → IsFeeding uncut e (items_of b) (flat_map items_of_cell (cells_of b))
-second_fed f b d e xs are feeding step = feeding_on uncut d e (items_of b) (issues_and_cells b) (map (λ x. issue (f x)) xs) (flat_map items_of_cell (cells_of b)) (second_left f b xs are) step feeding
+second_fed : {X : Type 0} (most : ℕ) (f : X → ℕ × Flat PlanPair) (b : BoardValue) (d e : CutBoard) (xs : List X) → map f xs ≡ issues_of b → IsFeeding (uncut most) d (items_of b) (issues_and_cells b) → IsFed d e (map (λ x. issue (f x)) xs) → IsFeeding (uncut most) e (items_of b) (flat_map items_of_cell (cells_of b))
+second_fed most f b d e xs are feeding step = feeding_on (uncut most) d e (items_of b) (issues_and_cells b) (map (λ x. issue (f x)) xs) (flat_map items_of_cell (cells_of b)) (second_left f b xs are) step feeding
 
 -- the openings may be put first
-pub openings_next : (b : BoardValue) (c : CutBoard) (os : List Opening) → IsBoard b → os ≡ openings_of b → c ≡ uncut → AreNext c.piece (map opening os)
-openings_next b c os is e start = feeding_next uncut c (items_of b) (items_of b) (map opening os) (issues_and_cells b) (first_left b os e) (none_fed b c is start)
+pub openings_next : (most : ℕ) (b : BoardValue) (c : CutBoard) (os : List Opening) → IsBoard b → os ≡ openings_of b → c ≡ uncut most → AreNext c.piece (map opening os)
+openings_next most b c os is e start = feeding_next (uncut most) c (items_of b) (items_of b) (map opening os) (issues_and_cells b) (first_left b os e) (start_fed most b c is start)
+
+pub openings_long : (most : ℕ) (b : BoardValue) (c : CutBoard) (os : List Opening) → IsBoard b → os ≡ openings_of b → c ≡ uncut most → HasTooLong c.most (map opening os) → HasTooLong most (items_of b)
+openings_long most b c os is e start long = feeding_long (uncut most) c (items_of b) (items_of b) (map opening os) (issues_and_cells b) (first_left b os e) long (start_fed most b c is start)
 
 -- then the issues
-pub issues_next : {X : Type 0} (f : X → ℕ × Flat PlanPair) (b : BoardValue) (c d : CutBoard) (os : List Opening) (xs : List X) → IsBoard b → os ≡ openings_of b → map f xs ≡ issues_of b → c ≡ uncut → d ≡ fed_all c (map opening os) → AreNext d.piece (map (λ x. issue (f x)) xs)
-issues_next f b c d os xs is e are start step = feeding_next uncut d (items_of b) (issues_and_cells b) (map (λ x. issue (f x)) xs) (flat_map items_of_cell (cells_of b)) (second_left f b xs are) (first_fed b c d os is e start step)
+pub issues_next : {X : Type 0} (most : ℕ) (f : X → ℕ × Flat PlanPair) (b : BoardValue) (c d : CutBoard) (os : List Opening) (xs : List X) → IsBoard b → os ≡ openings_of b → map f xs ≡ issues_of b → c ≡ uncut most → IsFed c d (map opening os) → AreNext d.piece (map (λ x. issue (f x)) xs)
+issues_next most f b c d os xs is e are start step = feeding_next (uncut most) d (items_of b) (issues_and_cells b) (map (λ x. issue (f x)) xs) (flat_map items_of_cell (cells_of b)) (second_left f b xs are) (first_fed most b c d os is e start step)
+
+pub issues_long : {X : Type 0} (most : ℕ) (f : X → ℕ × Flat PlanPair) (b : BoardValue) (c d : CutBoard) (os : List Opening) (xs : List X) → IsBoard b → os ≡ openings_of b → map f xs ≡ issues_of b → c ≡ uncut most → IsFed c d (map opening os) → HasTooLong d.most (map (λ x. issue (f x)) xs) → HasTooLong most (items_of b)
+issues_long most f b c d os xs is e are start step long = feeding_long (uncut most) d (items_of b) (issues_and_cells b) (map (λ x. issue (f x)) xs) (flat_map items_of_cell (cells_of b)) (second_left f b xs are) long (first_fed most b c d os is e start step)
 
 -- then the cells
-pub cells_next : {X Y : Type 0} (f : X → ℕ × Flat PlanPair) (g : Y → CellEntry) (b : BoardValue) (c d e : CutBoard) (os : List Opening) (xs : List X) (ys : List Y) → IsBoard b → os ≡ openings_of b → map f xs ≡ issues_of b → map g ys ≡ cells_of b → c ≡ uncut → d ≡ fed_all c (map opening os) → e ≡ fed_all d (map (λ x. issue (f x)) xs) → AreNext e.piece (flat_map (λ y. items_of_cell (g y)) ys)
-cells_next f g b c d e os xs ys is x y z start one two = feeding_next uncut e (items_of b) (flat_map items_of_cell (cells_of b)) (flat_map (λ y. items_of_cell (g y)) ys) [] (third_left g b ys z) (second_fed f b d e xs y (first_fed b c d os is x start one) two)
+pub cells_next : {X Y : Type 0} (most : ℕ) (f : X → ℕ × Flat PlanPair) (g : Y → CellEntry) (b : BoardValue) (c d e : CutBoard) (os : List Opening) (xs : List X) (ys : List Y) → IsBoard b → os ≡ openings_of b → map f xs ≡ issues_of b → map g ys ≡ cells_of b → c ≡ uncut most → IsFed c d (map opening os) → IsFed d e (map (λ x. issue (f x)) xs) → AreNext e.piece (flat_map (λ y. items_of_cell (g y)) ys)
+cells_next most f g b c d e os xs ys is x y z start one two = feeding_next (uncut most) e (items_of b) (flat_map items_of_cell (cells_of b)) (flat_map (λ y. items_of_cell (g y)) ys) [] (third_left g b ys z) (second_fed most f b d e xs y (first_fed most b c d os is x start one) two)
 
--- an issue alone has a frame, and so each item has
-alone_items : (b : BoardValue) → IsBoard b → AllByRecursion (λ e. FitsFrame (items_board (issue e ∷ []))) (issues_of b) → AllByRecursion (λ i. FitsFrame (items_board (i ∷ []))) (items_of b)
-alone_items b is issues = all_of_items (λ i. FitsFrame (items_board (i ∷ []))) b
-    (all_weaker IsOpening (λ o. FitsFrame (items_board (opening o ∷ []))) (openings_of b) (openings_listed b is).within opening_alone)
-    issues
-    (all_weaker IsCell (λ c. FitsFrame (items_board (done c.cell ∷ [])) × AllByRecursion (λ s. FitsFrame (items_board (loaded c.cell s ∷ []))) c.spans) (cells_of b) (cells_listed b is).within (λ c k. (done_alone c.cell (first_so _ _ k.entry), spans_alone c.cell c.spans (first_so _ _ k.entry) k.spans)))
-  where
-    spans_alone : (p : CellPlace) (ss : List Interval) → is_cell_place p ≡ true → IsSet ss → AllByRecursion (λ s. FitsFrame (items_board (loaded p s ∷ []))) ss
-    spans_alone p [] place is = tt
-    spans_alone p (s ∷ ss) place is = (load_alone p s (place, is.0.0, is.1.0), spans_alone p ss place (is.0.2, is.1.1))
+pub cells_long : {X Y : Type 0} (most : ℕ) (f : X → ℕ × Flat PlanPair) (g : Y → CellEntry) (b : BoardValue) (c d e : CutBoard) (os : List Opening) (xs : List X) (ys : List Y) → IsBoard b → os ≡ openings_of b → map f xs ≡ issues_of b → map g ys ≡ cells_of b → c ≡ uncut most → IsFed c d (map opening os) → IsFed d e (map (λ x. issue (f x)) xs) → HasTooLong e.most (flat_map (λ y. items_of_cell (g y)) ys) → HasTooLong most (items_of b)
+cells_long most f g b c d e os xs ys is x y z start one two long = feeding_long (uncut most) e (items_of b) (flat_map items_of_cell (cells_of b)) (flat_map (λ y. items_of_cell (g y)) ys) [] (third_left g b ys z) long (second_fed most f b d e xs y (first_fed most b c d os is x start one) two)
 
 -- and all of it makes the pieces
-pub all_are_pieces : {X Y : Type 0} (f : X → ℕ × Flat PlanPair) (g : Y → CellEntry) (b : BoardValue) (c d e h : CutBoard) (os : List Opening) (xs : List X) (ys : List Y) → IsBoard b → os ≡ openings_of b → map f xs ≡ issues_of b → map g ys ≡ cells_of b → c ≡ uncut → d ≡ fed_all c (map opening os) → e ≡ fed_all d (map (λ x. issue (f x)) xs) → h ≡ fed_all e (flat_map (λ y. items_of_cell (g y)) ys)
-    → AllByRecursion (λ x. FitsFrame (items_board (issue (f x) ∷ []))) xs → ArePieces b (pieces_with h)
-all_are_pieces f g b c d e h os xs ys is x y z start one two three alone =
-    let fed : IsFeeding uncut h (items_of b) [] = feeding_on uncut e h (items_of b) (flat_map items_of_cell (cells_of b)) (flat_map (λ y. items_of_cell (g y)) ys) [] (third_left g b ys z) three (second_fed f b d e xs y (first_fed b c d os is x start one) two) in
-    subst (λ k. ArePieces b (pieces_with k)) (sym fed.fed) (fed_are_pieces b is (alone_items b is (subst (λ l. AllByRecursion (λ e. FitsFrame (items_board (issue e ∷ []))) l) y (all_map f (λ e. FitsFrame (items_board (issue e ∷ []))) xs alone))))
+pub all_fed : {X Y : Type 0} (most : ℕ) (f : X → ℕ × Flat PlanPair) (g : Y → CellEntry) (b : BoardValue) (c d e h : CutBoard) (os : List Opening) (xs : List X) (ys : List Y) → IsBoard b → os ≡ openings_of b → map f xs ≡ issues_of b → map g ys ≡ cells_of b → c ≡ uncut most → IsFed c d (map opening os) → IsFed d e (map (λ x. issue (f x)) xs) → IsFed e h (flat_map (λ y. items_of_cell (g y)) ys) → IsFed (uncut most) h (items_of b)
+all_fed most f g b c d e h os xs ys is x y z start one two three =
+    feeding_ends (uncut most) h (items_of b) [] refl (feeding_on (uncut most) e h (items_of b) (flat_map items_of_cell (cells_of b)) (flat_map (λ y. items_of_cell (g y)) ys) [] (third_left g b ys z) three (second_fed most f b d e xs y (first_fed most b c d os is x start one) two))

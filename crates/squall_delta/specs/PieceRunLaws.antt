@@ -7,12 +7,11 @@ use Rattle.std.specs.List.{flat_map, AllByRecursion}
 use Rattle.squall_report.specs.Cells.{CellPlace, is_same_cell}
 use Rattle.squall_board.specs.Boards.{BoardValue, empty_board, board_join}
 use Rattle.squall_board.specs.Listed.{CellEntry, ComesBefore}
-use Rattle.squall_wire.specs.Limits.{body_limit}
 use Rattle.squall_wire.specs.Messages.{BoardLists, lists_of}
 use Rattle.squall_wire.specs.Spelling.{spell_issue, spell_cell, spell_span}
 use Rattle.squall_delta.specs.Items.{Item, opening, issue, done, loaded, item_board, with_items, items_board}
-use Rattle.squall_delta.specs.Pieces.{body_length, FitsFrame, IsFull, AreLongestRuns, items_of_groups}
-use Rattle.squall_delta.specs.Cutting.{cut_with, uncut, turned, put_item, fed_all, empty_bytes, pieces_with, group_bytes, cut_after, cut_items, done_entry, span_entry, ItemFollows, ItemsRise, IsItem, AreNext, has_some, last_after, last_place, is_last, cell_cost, issue_cost, item_cost}
+use Rattle.squall_delta.specs.Pieces.{body_length, FitsBody, IsFull, AreLongestRuns, items_of_groups}
+use Rattle.squall_delta.specs.Cutting.{cut_with, uncut, turned, put_item, fed_all, empty_bytes, pieces_with, group_bytes, cut_after, cut_items, FitsAlone, done_entry, span_entry, ItemFollows, ItemsRise, IsItem, AreNext, has_some, last_after, last_place, is_last, cell_cost, issue_cost, item_cost}
 use Rattle.squall_delta.specs.PieceCellLaws.{place_other}
 use Rattle.squall_delta.specs.PieceListLaws.{length_put}
 use Rattle.squall_delta.specs.PieceItemLaws.{append_one, next_put, next_first, all_first, rise_first}
@@ -89,72 +88,69 @@ one_some x xs e = cc
 
 -- ---- tests
 
-over : (n : ℕ) → nat_lt body_limit n ≡ true → body_limit < n
-over n e = grind (arith, nat_tests)
+over : (most n : ℕ) → nat_lt most n ≡ true → most < n
+over most n e = grind (arith, nat_tests)
 
-within_limit : (n : ℕ) → nat_lt body_limit n ≡ false → n ≤ body_limit
-within_limit n e = grind (arith, nat_tests)
+within_limit : (most n : ℕ) → nat_lt most n ≡ false → n ≤ most
+within_limit most n e = grind (arith, nat_tests)
 
-is_over : (n : ℕ) → body_limit < n → nat_lt body_limit n ≡ true
-is_over n lt = grind (arith, nat_tests)
+is_over : (most n : ℕ) → most < n → nat_lt most n ≡ true
+is_over most n lt = grind (arith, nat_tests)
 
-pub is_within : (n : ℕ) → n ≤ body_limit → nat_lt body_limit n ≡ false
-is_within n le = grind (arith, nat_tests)
+pub is_within : (most n : ℕ) → n ≤ most → nat_lt most n ≡ false
+is_within most n le = grind (arith, nat_tests)
 
 -- ---- the groups that are cut
 
 -- together they are the items
-pub cut_joined : (g is : List Item) → items_of_groups (cut_after g is) ≡ g ++ is
-cut_joined g [] = refl
-cut_joined g (i ∷ is) = elim (nat_lt body_limit (group_bytes (g ++ i ∷ []))) as (λ b. items_of_groups (if b then g ∷ cut_after (i ∷ []) is else cut_after (g ++ i ∷ []) is) ≡ g ++ i ∷ is) [
-  | true ↦ ap (λ l. g ++ l) (cut_joined (i ∷ []) is)
-  | false ↦ cut_joined (g ++ i ∷ []) is ∙ append_one g i is
+pub cut_joined : (most : ℕ) (g is : List Item) → items_of_groups (cut_after most g is) ≡ g ++ is
+cut_joined most g [] = refl
+cut_joined most g (i ∷ is) = elim (nat_lt most (group_bytes (g ++ i ∷ []))) as (λ b. items_of_groups (if b then g ∷ cut_after most (i ∷ []) is else cut_after most (g ++ i ∷ []) is) ≡ g ++ i ∷ is) [
+  | true ↦ ap (λ l. g ++ l) (cut_joined most (i ∷ []) is)
+  | false ↦ cut_joined most (g ++ i ∷ []) is ∙ append_one g i is
 ]
 
-cut_full : (g : List Item) (i : Item) (js is : List Item) → body_limit < group_bytes (g ++ i ∷ []) → IsFull g (cut_after (i ∷ js) is)
-cut_full g i js [] lt = lt
-cut_full g i js (k ∷ is) lt = elim (nat_lt body_limit (group_bytes (i ∷ (js ++ k ∷ [])))) as (λ b. IsFull g (if b then (i ∷ js) ∷ cut_after (k ∷ []) is else cut_after (i ∷ (js ++ k ∷ [])) is)) [
+cut_full : (most : ℕ) (g : List Item) (i : Item) (js is : List Item) → most < group_bytes (g ++ i ∷ []) → IsFull most g (cut_after most (i ∷ js) is)
+cut_full most g i js [] lt = lt
+cut_full most g i js (k ∷ is) lt = elim (nat_lt most (group_bytes (i ∷ (js ++ k ∷ [])))) as (λ b. IsFull most g (if b then (i ∷ js) ∷ cut_after most (k ∷ []) is else cut_after most (i ∷ (js ++ k ∷ [])) is)) [
   | true ↦ lt
-  | false ↦ cut_full g i (js ++ k ∷ []) is lt
+  | false ↦ cut_full most g i (js ++ k ∷ []) is lt
 ]
 
-abbrev FitAlone : List Item → Type 0
-FitAlone is = AllByRecursion (λ i. FitsFrame (items_board (i ∷ []))) is
-
--- each is as long as a frame can hold
-pub cut_runs : (g is : List Item) → g ≢ [] → FitsFrame (items_board g) → AllByRecursion (λ i. FitsFrame (items_board (i ∷ []))) is → AreLongestRuns (cut_after g is)
-cut_runs g [] some fits alone = (some, fits, tt, tt)
-cut_runs g (i ∷ is) some fits alone = elim (nat_lt body_limit (group_bytes (g ++ i ∷ []))) as (λ b. nat_lt body_limit (group_bytes (g ++ i ∷ [])) ≡ b → AreLongestRuns (if b then g ∷ cut_after (i ∷ []) is else cut_after (g ++ i ∷ []) is)) [
-  | true ↦ λ e. (some, fits, cut_full g i [] is (over (group_bytes (g ++ i ∷ [])) e), cut_runs (i ∷ []) is (one_some i []) alone.0 alone.1)
-  | false ↦ λ e. cut_runs (g ++ i ∷ []) is (one_more g i) (within_limit (group_bytes (g ++ i ∷ [])) e) alone.1
+-- each is as long as a body can hold
+pub cut_runs : (most : ℕ) (g is : List Item) → g ≢ [] → FitsBody most (items_board g) → AllByRecursion (FitsAlone most) is → AreLongestRuns most (cut_after most g is)
+cut_runs most g [] some fits alone = (some, fits, tt, tt)
+cut_runs most g (i ∷ is) some fits alone = elim (nat_lt most (group_bytes (g ++ i ∷ []))) as (λ b. nat_lt most (group_bytes (g ++ i ∷ [])) ≡ b → AreLongestRuns most (if b then g ∷ cut_after most (i ∷ []) is else cut_after most (g ++ i ∷ []) is)) [
+  | true ↦ λ e. (some, fits, cut_full most g i [] is (over most (group_bytes (g ++ i ∷ [])) e), cut_runs most (i ∷ []) is (one_some i []) alone.0 alone.1)
+  | false ↦ λ e. cut_runs most (g ++ i ∷ []) is (one_more g i) (within_limit most (group_bytes (g ++ i ∷ [])) e) alone.1
 ] refl
 
--- ---- groups as long as a frame can hold are those that are cut
+-- ---- groups as long as a body can hold are those that are cut
 
 le_trans : (a b c : ℕ) → a ≤ b → b ≤ c → a ≤ c
 le_trans a b c x y = omega (arith, x, y)
 
-run_is_cut : (p r : List Item) (gs : List (List Item)) → FitsFrame (items_board (p ++ r)) → IsFull (p ++ r) gs → AreLongestRuns gs → AreNext empty_board (p ++ r) → cut_after p (r ++ items_of_groups gs) ≡ (p ++ r) ∷ cut_items (items_of_groups gs)
-run_is_cut p [] [] fits full runs next = ap (λ l. l ∷ []) (sym (append-nil p))
-run_is_cut p [] ([] ∷ gs) fits full runs next = absurd (runs.0 refl)
-run_is_cut p [] ((i ∷ is) ∷ gs) fits full runs next =
-    ap (λ b. if b then p ∷ cut_after (i ∷ []) (is ++ items_of_groups gs) else cut_after (p ++ i ∷ []) (is ++ items_of_groups gs)) (is_over (group_bytes (p ++ i ∷ [])) (subst (λ l. body_limit < group_bytes (l ++ i ∷ [])) (append-nil p) full))
-    ∙ ap (λ l. l ∷ cut_after (i ∷ []) (is ++ items_of_groups gs)) (sym (append-nil p))
-run_is_cut p (i ∷ r) gs fits full runs next =
-    ap (λ b. if b then p ∷ cut_after (i ∷ []) (r ++ items_of_groups gs) else cut_after (p ++ i ∷ []) (r ++ items_of_groups gs))
-    (is_within (group_bytes (p ++ i ∷ [])) (le_trans (group_bytes (p ++ i ∷ [])) (group_bytes ((p ++ i ∷ []) ++ r)) body_limit (prefix_bytes (p ++ i ∷ []) r (subst (λ l. AreNext empty_board l) (sym (append_one p i r)) next)) (subst (λ l. FitsFrame (items_board l)) (sym (append_one p i r)) fits)))
-    ∙ run_is_cut (p ++ i ∷ []) r gs (subst (λ l. FitsFrame (items_board l)) (sym (append_one p i r)) fits) (subst (λ l. IsFull l gs) (sym (append_one p i r)) full) runs (subst (λ l. AreNext empty_board l) (sym (append_one p i r)) next)
-    ∙ ap (λ l. l ∷ cut_items (items_of_groups gs)) (append_one p i r)
+run_is_cut : (most : ℕ) (p r : List Item) (gs : List (List Item)) → FitsBody most (items_board (p ++ r)) → IsFull most (p ++ r) gs → AreLongestRuns most gs → AreNext empty_board (p ++ r) → cut_after most p (r ++ items_of_groups gs) ≡ (p ++ r) ∷ cut_items most (items_of_groups gs)
+run_is_cut most p [] [] fits full runs next = ap (λ l. l ∷ []) (sym (append-nil p))
+run_is_cut most p [] ([] ∷ gs) fits full runs next = absurd (runs.0 refl)
+run_is_cut most p [] ((i ∷ is) ∷ gs) fits full runs next =
+    ap (λ b. if b then p ∷ cut_after most (i ∷ []) (is ++ items_of_groups gs) else cut_after most (p ++ i ∷ []) (is ++ items_of_groups gs)) (is_over most (group_bytes (p ++ i ∷ [])) (subst (λ l. most < group_bytes (l ++ i ∷ [])) (append-nil p) full))
+    ∙ ap (λ l. l ∷ cut_after most (i ∷ []) (is ++ items_of_groups gs)) (sym (append-nil p))
+run_is_cut most p (i ∷ r) gs fits full runs next =
+    ap (λ b. if b then p ∷ cut_after most (i ∷ []) (r ++ items_of_groups gs) else cut_after most (p ++ i ∷ []) (r ++ items_of_groups gs))
+    (is_within most (group_bytes (p ++ i ∷ [])) (le_trans (group_bytes (p ++ i ∷ [])) (group_bytes ((p ++ i ∷ []) ++ r)) most (prefix_bytes (p ++ i ∷ []) r (subst (λ l. AreNext empty_board l) (sym (append_one p i r)) next)) (subst (λ l. FitsBody most (items_board l)) (sym (append_one p i r)) fits)))
+    ∙ run_is_cut most (p ++ i ∷ []) r gs (subst (λ l. FitsBody most (items_board l)) (sym (append_one p i r)) fits) (subst (λ l. IsFull most l gs) (sym (append_one p i r)) full) runs (subst (λ l. AreNext empty_board l) (sym (append_one p i r)) next)
+    ∙ ap (λ l. l ∷ cut_items most (items_of_groups gs)) (append_one p i r)
 
 next_parts : (xs ys : List Item) → AreNext empty_board (xs ++ ys) → AreNext empty_board xs
 next_parts xs ys next = next_first xs (rise_first xs ys next.rise) (all_first IsItem xs ys next.within)
 
-pub runs_are_cut : (gs : List (List Item)) → AreLongestRuns gs → AreNext empty_board (items_of_groups gs) → gs ≡ cut_items (items_of_groups gs)
-runs_are_cut [] runs next = refl
-runs_are_cut ([] ∷ gs) runs next = absurd (runs.0 refl)
-runs_are_cut ((i ∷ r) ∷ gs) runs next =
-    ap (λ l. (i ∷ r) ∷ l) (runs_are_cut gs runs.3 (next_rest (i ∷ r) (items_of_groups gs) next))
-    ∙ sym (run_is_cut (i ∷ []) r gs runs.1 runs.2 runs.3 (next_parts (i ∷ r) (items_of_groups gs) next))
+pub runs_are_cut : (most : ℕ) (gs : List (List Item)) → AreLongestRuns most gs → AreNext empty_board (items_of_groups gs) → gs ≡ cut_items most (items_of_groups gs)
+runs_are_cut most [] runs next = refl
+runs_are_cut most ([] ∷ gs) runs next = absurd (runs.0 refl)
+runs_are_cut most ((i ∷ r) ∷ gs) runs next =
+    ap (λ l. (i ∷ r) ∷ l) (runs_are_cut most gs runs.3 (next_rest (i ∷ r) (items_of_groups gs) next))
+    ∙ sym (run_is_cut most (i ∷ []) r gs runs.1 runs.2 runs.3 (next_parts (i ∷ r) (items_of_groups gs) next))
   where
     rest_rise : (xs ys : List Item) → ItemsRise (xs ++ ys) → ItemsRise ys
     rest_rise [] ys h = h
@@ -169,8 +165,8 @@ runs_are_cut ((i ∷ r) ∷ gs) runs next =
 
 -- ---- the pieces that are fed are the boards of the groups
 
-last_piece : (ds : List BoardValue) (b : BoardValue) → empty_bytes < body_length b → pieces_with (cut_with ds b) ≡ ds ++ b ∷ []
-last_piece ds b lt = ap (λ t. if t then ds ++ b ∷ [] else ds) (test (body_length b) lt)
+last_piece : (most : ℕ) (ds : List BoardValue) (b : BoardValue) → empty_bytes < body_length b → pieces_with (cut_with most ds b) ≡ ds ++ b ∷ []
+last_piece most ds b lt = ap (λ t. if t then ds ++ b ∷ [] else ds) (test (body_length b) lt)
   where
     test : (n : ℕ) → empty_bytes < n → nat_lt empty_bytes n ≡ true
     test n lt = grind (arith, nat_tests)
@@ -178,20 +174,20 @@ last_piece ds b lt = ap (λ t. if t then ds ++ b ∷ [] else ds) (test (body_len
 lt_trans : (a b c : ℕ) → a < b → b < c → a < c
 lt_trans a b c x y = omega (arith, x, y)
 
-fed_groups : (ds : List BoardValue) (g is : List Item) → AreNext (items_board g) is → empty_bytes < group_bytes g → pieces_with (fed_all (cut_with ds (items_board g)) is) ≡ ds ++ map items_board (cut_after g is)
-fed_groups ds g [] next some = last_piece ds (items_board g) some
-fed_groups ds g (i ∷ is) next some =
+fed_groups : (most : ℕ) (ds : List BoardValue) (g is : List Item) → AreNext (items_board g) is → empty_bytes < group_bytes g → pieces_with (fed_all (cut_with most ds (items_board g)) is) ≡ ds ++ map items_board (cut_after most g is)
+fed_groups most ds g [] next some = last_piece most ds (items_board g) some
+fed_groups most ds g (i ∷ is) next some =
     let e : items_board (g ++ i ∷ []) ≡ board_join (items_board g) (item_board i) = with_append empty_board g (i ∷ []) in
     let first : AreNext empty_board (i ∷ is) = next_first (i ∷ is) next.rise next.within in
-    elim (nat_lt body_limit (body_length (board_join (items_board g) (item_board i)))) as (λ b. pieces_with (fed_all (put_item (if b then turned (cut_with ds (items_board g)) else cut_with ds (items_board g)) i) is) ≡ ds ++ map items_board (if b then g ∷ cut_after (i ∷ []) is else cut_after (g ++ i ∷ []) is)) [
-      | true ↦ fed_groups (ds ++ items_board g ∷ []) (i ∷ []) is (next_put empty_board i is first) (longer empty_board i is first) ∙ append_one ds (items_board g) (map items_board (cut_after (i ∷ []) is))
-      | false ↦ subst (λ b. pieces_with (fed_all (cut_with ds b) is) ≡ ds ++ map items_board (cut_after (g ++ i ∷ []) is)) e (fed_groups ds (g ++ i ∷ []) is (subst (λ b. AreNext b is) (sym e) (next_put (items_board g) i is next)) (subst (λ b. empty_bytes < body_length b) (sym e) (lt_trans empty_bytes (group_bytes g) (body_length (board_join (items_board g) (item_board i))) some (longer (items_board g) i is next))))
+    elim (nat_lt most (body_length (board_join (items_board g) (item_board i)))) as (λ b. pieces_with (fed_all (put_item (if b then turned (cut_with most ds (items_board g)) else cut_with most ds (items_board g)) i) is) ≡ ds ++ map items_board (if b then g ∷ cut_after most (i ∷ []) is else cut_after most (g ++ i ∷ []) is)) [
+      | true ↦ fed_groups most (ds ++ items_board g ∷ []) (i ∷ []) is (next_put empty_board i is first) (longer empty_board i is first) ∙ append_one ds (items_board g) (map items_board (cut_after most (i ∷ []) is))
+      | false ↦ subst (λ b. pieces_with (fed_all (cut_with most ds b) is) ≡ ds ++ map items_board (cut_after most (g ++ i ∷ []) is)) e (fed_groups most ds (g ++ i ∷ []) is (subst (λ b. AreNext b is) (sym e) (next_put (items_board g) i is next)) (subst (λ b. empty_bytes < body_length b) (sym e) (lt_trans empty_bytes (group_bytes g) (body_length (board_join (items_board g) (item_board i))) some (longer (items_board g) i is next))))
     ]
-    ∙ ap (λ v. ds ++ map items_board (if nat_lt body_limit (body_length v) then g ∷ cut_after (i ∷ []) is else cut_after (g ++ i ∷ []) is)) (sym e)
+    ∙ ap (λ v. ds ++ map items_board (if nat_lt most (body_length v) then g ∷ cut_after most (i ∷ []) is else cut_after most (g ++ i ∷ []) is)) (sym e)
 
 -- what is fed to a board that nothing is cut of
-pub fed_is_cut : (is : List Item) → AreNext empty_board is → AllByRecursion (λ i. FitsFrame (items_board (i ∷ []))) is → pieces_with (fed_all uncut is) ≡ map items_board (cut_items is)
-fed_is_cut [] next alone = refl
-fed_is_cut (i ∷ is) next alone =
-    ap (λ b. pieces_with (fed_all (put_item (if b then turned uncut else uncut) i) is)) (is_within (body_length (board_join empty_board (item_board i))) alone.0)
-    ∙ fed_groups [] (i ∷ []) is (next_put empty_board i is next) (longer empty_board i is next)
+pub fed_is_cut : (most : ℕ) (is : List Item) → AreNext empty_board is → AllByRecursion (FitsAlone most) is → pieces_with (fed_all (uncut most) is) ≡ map items_board (cut_items most is)
+fed_is_cut most [] next alone = refl
+fed_is_cut most (i ∷ is) next alone =
+    ap (λ b. pieces_with (fed_all (put_item (if b then turned (uncut most) else (uncut most)) i) is)) (is_within most (body_length (board_join empty_board (item_board i))) alone.0)
+    ∙ fed_groups most [] (i ∷ []) is (next_put empty_board i is next) (longer empty_board i is next)

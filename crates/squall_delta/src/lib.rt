@@ -37,7 +37,7 @@ mod repair_laws;
 mod repairing;
 mod shown;
 
-pub use cut::pieces;
+pub use cut::{CutFault, pieces, pieces_within};
 pub use delta::{beyond, delta_of};
 pub use digests::digest;
 pub use repairing::repair;

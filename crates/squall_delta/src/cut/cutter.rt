@@ -1,31 +1,28 @@
 //! Items are put into pieces, one after the other.
 
-ghost use Rattle.std.specs.Prelude.{◌≡◌, ◌<◌, ◌≤◌, ◌+◌, ◌-◌, ◌*◌, ◌++◌, ◌∷◌, [], false, map, length, IfOk, OnOk, Some};
+ghost use Rattle.std.specs.Prelude.{◌≡◌, ◌<◌, ◌≤◌, ◌+◌, ◌-◌, ◌*◌, ◌++◌, ◌∷◌, [], map, length, IfOk, OnOk, Some, Err};
 ghost use Rattle.std.specs.Arc.{arc_value};
-ghost use Rattle.std.specs.List.{flat_map, AllByRecursion};
+ghost use Rattle.std.specs.List.{flat_map};
 ghost use Rattle.squall_join.specs.Flats.{flat_map as flat_with};
-ghost use Rattle.squall_report.specs.declared.report.ReportKind.TheVariants.{Done};
-ghost use Rattle.squall_span.specs.Spans.{IsCanonical};
-ghost use Rattle.squall_board.specs.Listed.{cell_entry, entry_with};
+ghost use Rattle.squall_board.specs.Listed.{cell_entry};
 ghost use Rattle.squall_wire.specs.Limits.{body_limit};
-ghost use Rattle.squall_wire.specs.Spelling.{spell_plan, spell_issued};
 ghost use Rattle.squall_delta.specs.Items.{Item, opening as an_opening, issue as an_issue, done as a_done, loaded as a_load, flag_items};
-ghost use Rattle.squall_delta.specs.Items.{items_of_cell, items_board};
-ghost use Rattle.squall_delta.specs.Pieces.{FitsFrame};
-ghost use Rattle.squall_delta.specs.Cutting.{AreNext, IsMeasured, cut_with, uncut, turned, roomy, fed, fed_all, pieces_with, issue_cost, span_bytes, is_last};
+ghost use Rattle.squall_delta.specs.Items.{items_of_cell};
+ghost use Rattle.squall_delta.specs.Cutting.{AreNext, IsFed, HasTooLong, IsMeasured, cut_with, uncut};
+ghost use Rattle.squall_delta.specs.Cutting.{turned, roomy, pieces_with, issue_cost, span_bytes, is_last};
+ghost use Rattle.squall_delta.specs.declared.cut.fault.CutFault.TheVariants.{TooLong};
 ghost use Rattle.squall_delta.specs.PieceStepLaws.{IsFeeding};
 
-use squall_board::{Board, Cell, CellParts, Opening};
+use crate::cut::cells::{cell_of, completion};
+use crate::cut::fault::CutFault;
+use crate::cut::sizes::issue_bytes;
+use squall_board::{Board, CellParts, Opening};
 use squall_join::Flat;
-use squall_plan::Plan;
-use squall_report::{CellId, Issue, Report};
-use squall_span::{ReadySet, Span, SpanSet};
+use squall_report::{CellId, Issue};
+use squall_span::Span;
 use std::alloc::{AllocError, Global};
 use std::mem;
 use std::sync::Arc;
-
-/// The most bytes that a body of a frame has.
-const BODY_LIMIT: usize = 1_048_576;
 
 /// The bytes of a body without items: the counts of its openings and of its cells.
 const EMPTY_BYTES: usize = 8;
@@ -39,71 +36,12 @@ const CELL_BYTES: usize = 17;
 /// The bytes of a span.
 const SPAN_BYTES: usize = 16;
 
-/// How many bytes the plan has in a frame: its count, and 12 for each range.
-fn plan_bytes(plan: &Plan) -> usize
-    ensures bytes { result ≡ length (spell_plan plan.now) }
-    ensures few { result ≤ 49156 }
-{
-    4 + 12 * plan.ranges().len()
-}
-
-/// How many bytes an issue has in a frame: its number, a mark, and both plans of a pair.
-fn issue_bytes(issue: &Flat<Arc<Issue>>) -> usize
-    ensures bytes { result ≡ 4 + length (spell_issued (flat_with arc_value issue.now)) }
-    ensures few { result ≤ 98317 }
-{
-    match issue {
-        Flat::Unknown => 4,
-        Flat::One(issue) => 5 + (plan_bytes(issue.old()) + plan_bytes(issue.new_plan())),
-        Flat::Clash => 5,
-    }
-}
-
-/// The report that the cell is complete.
-fn completion(place: CellId) -> Report
-    ensures { result ≡ Done place.number place.sub place.part }
-{
-    Report::done(place.number(), place.sub(), place.part().get()).unwrap()
-}
-
-/// The empty set, with room for `count` spans.
-fn ready_for(alloc: Global, count: usize) -> Result<ReadySet, AllocError>
-    ensures empty { IfOk result (λ r. r.set ≡ []) }
-    ensures room { IfOk result (λ r. count ≤ r.room) }
-{
-    match SpanSet::empty(alloc).with_room(count) {
-        Ok(ready) => Ok(ready),
-        Err(_) => Err(AllocError),
-    }
-}
-
-/// The set of spans that are in the order of a set.
-fn set_of(alloc: Global, spans: &[Span]) -> Result<SpanSet, AllocError>
-    requires { IsCanonical spans.now }
-    ensures { IfOk result (λ set. set ≡ spans.now) }
-{
-    let mut set = ready_for(alloc, spans.len())?;
-    for span in spans {
-        set.insert(*span);
-    }
-    Ok(set.into_set())
-}
-
-/// What is loaded in the cell: the keys of the spans.
-fn cell_of(alloc: Global, place: CellId, spans: &[Span]) -> Result<Cell, AllocError>
-    requires spans { IsCanonical spans.now }
-    requires some { 0 < length spans.now }
-    ensures { IfOk result (λ cell. cell ≡ entry_with place false spans.now) }
-{
-    place.known();
-    let keys = set_of(alloc, spans)?;
-    Ok(Cell::new(place.number(), place.sub(), place.part().get(), false, keys).unwrap())
-}
-
 /// A board that is cut: the pieces that are finished, the piece that takes the next items, and
 /// what is known of its body.
 #[derive(Drop)]
 pub(crate) struct Cutter {
+    /// The most bytes that the body of a piece may have.
+    most: usize,
     finished: Vec<Board>,
     piece: Board,
     /// How many bytes the body of the piece has.
@@ -113,15 +51,18 @@ pub(crate) struct Cutter {
     /// The place of the last cell of the piece.
     last: Option<CellId>,
     alloc: Global,
+    ghost short: { most ≤ body_limit },
 }
 
 impl Cutter {
     /// No piece is finished, and nothing is in the one that takes the next items.
-    pub(crate) fn new(alloc: Global) -> Cutter
+    pub(crate) fn new(alloc: Global, most: usize) -> Cutter
+        requires { most ≤ body_limit }
         ensures measured { IsMeasured result.piece result.length result.has_issues result.last }
-        ensures uncut { cut_with result.finished.items result.piece ≡ uncut }
+        ensures uncut { cut_with result.most result.finished.items result.piece ≡ uncut most }
     {
         Cutter {
+            most,
             finished: Vec::new(alloc),
             piece: Board::new(alloc),
             length: EMPTY_BYTES,
@@ -134,7 +75,8 @@ impl Cutter {
     /// Finishes the piece, and begins the next.
     fn turn(&mut self) -> Result<(), AllocError>
         ensures measured { OnOk result (IsMeasured self.new.piece self.new.length self.new.has_issues self.new.last) }
-        ensures fed { OnOk result (cut_with self.new.finished.items self.new.piece ≡ turned (cut_with self.old.finished.items self.old.piece)) }
+        ensures fed { OnOk result (cut_with self.new.most self.new.finished.items self.new.piece
+            ≡ turned (cut_with self.old.most self.old.finished.items self.old.piece)) }
     {
         self.finished.reserve(1)?;
         let piece = mem::replace(&mut self.piece, Board::new(self.alloc));
@@ -150,23 +92,37 @@ impl Cutter {
         requires measured { IsMeasured self.old.piece self.old.length self.old.has_issues self.old.last }
         requires few { bytes ≤ 100000 }
         ensures measured { OnOk result (IsMeasured self.new.piece self.new.length self.new.has_issues self.new.last) }
-        ensures fed { OnOk result (cut_with self.new.finished.items self.new.piece
-            ≡ roomy (cut_with self.old.finished.items self.old.piece) (self.old.length + bytes)) }
+        ensures fed { OnOk result (cut_with self.new.most self.new.finished.items self.new.piece
+            ≡ roomy (cut_with self.old.most self.old.finished.items self.old.piece) (self.old.length + bytes)) }
     {
-        if self.length + bytes > BODY_LIMIT {
+        if self.length + bytes > self.most {
             self.turn()?;
         }
         Ok(())
     }
 
+    /// Looks whether an item has room in a piece of its own, whose body it brings `bytes` bytes.
+    fn look(&self, bytes: usize) -> Result<(), CutFault>
+        requires few { bytes ≤ 100000 }
+        ensures room { OnOk result (8 + bytes ≤ self.now.most) }
+        ensures long { result ≡ Err TooLong → self.now.most < 8 + bytes }
+    {
+        if EMPTY_BYTES + bytes > self.most {
+            return Err(CutFault::TooLong);
+        }
+        Ok(())
+    }
+
     /// Puts an opening into the piece.
-    fn put_opening(&mut self, opening: &Opening) -> Result<(), AllocError>
+    fn put_opening(&mut self, opening: &Opening) -> Result<(), CutFault>
         requires measured { IsMeasured self.old.piece self.old.length self.old.has_issues self.old.last }
         requires next { AreNext self.old.piece (an_opening opening.now ∷ []) }
         ensures measured { OnOk result (IsMeasured self.new.piece self.new.length self.new.has_issues self.new.last) }
-        ensures fed { OnOk result (cut_with self.new.finished.items self.new.piece
-            ≡ fed (cut_with self.old.finished.items self.old.piece) (an_opening opening.now)) }
+        ensures fed { OnOk result (IsFed (cut_with self.old.most self.old.finished.items self.old.piece)
+            (cut_with self.new.most self.new.finished.items self.new.piece) (an_opening opening.now ∷ [])) }
+        ensures long { result ≡ Err TooLong → HasTooLong self.old.most (an_opening opening.now ∷ []) }
     {
+        self.look(OPENING_BYTES)?;
         self.make_room(OPENING_BYTES)?;
         self.piece.put_opening(opening)?;
         self.length += OPENING_BYTES;
@@ -183,15 +139,16 @@ impl Cutter {
     }
 
     /// Puts what is issued under a number into the piece.
-    fn put_issue(&mut self, number: u32, issue: &Flat<Arc<Issue>>) -> Result<(), AllocError>
+    fn put_issue(&mut self, number: u32, issue: &Flat<Arc<Issue>>) -> Result<(), CutFault>
         requires measured { IsMeasured self.old.piece self.old.length self.old.has_issues self.old.last }
         requires next { AreNext self.old.piece (an_issue (number, flat_with arc_value issue.now) ∷ []) }
         ensures measured { OnOk result (IsMeasured self.new.piece self.new.length self.new.has_issues self.new.last) }
-        ensures fed { OnOk result (cut_with self.new.finished.items self.new.piece
-            ≡ fed (cut_with self.old.finished.items self.old.piece) (an_issue (number, flat_with arc_value issue.now))) }
-        ensures alone { OnOk result (FitsFrame (items_board (an_issue (number, flat_with arc_value issue.now) ∷ []))) }
+        ensures fed { OnOk result (IsFed (cut_with self.old.most self.old.finished.items self.old.piece)
+            (cut_with self.new.most self.new.finished.items self.new.piece) (an_issue (number, flat_with arc_value issue.now) ∷ [])) }
+        ensures long { result ≡ Err TooLong → HasTooLong self.old.most (an_issue (number, flat_with arc_value issue.now) ∷ []) }
     {
         let bytes = issue_bytes(issue);
+        self.look(bytes + 4)?;
         self.make_room(self.bytes_with_count(bytes))?;
         self.piece.put_issue(number, issue)?;
         self.length += self.bytes_with_count(bytes);
@@ -200,12 +157,15 @@ impl Cutter {
     }
 
     /// Puts the completion of a cell into the piece.
-    fn put_done(&mut self, place: CellId) -> Result<(), AllocError>
+    fn put_done(&mut self, place: CellId) -> Result<(), CutFault>
         requires measured { IsMeasured self.old.piece self.old.length self.old.has_issues self.old.last }
         requires next { AreNext self.old.piece (a_done place ∷ []) }
         ensures measured { OnOk result (IsMeasured self.new.piece self.new.length self.new.has_issues self.new.last) }
-        ensures fed { OnOk result (cut_with self.new.finished.items self.new.piece ≡ fed (cut_with self.old.finished.items self.old.piece) (a_done place)) }
+        ensures fed { OnOk result (IsFed (cut_with self.old.most self.old.finished.items self.old.piece)
+            (cut_with self.new.most self.new.finished.items self.new.piece) (a_done place ∷ [])) }
+        ensures long { result ≡ Err TooLong → HasTooLong self.old.most (a_done place ∷ []) }
     {
+        self.look(CELL_BYTES)?;
         self.make_room(CELL_BYTES)?;
         let report = completion(place);
         self.piece.take(&report)?;
@@ -215,15 +175,16 @@ impl Cutter {
     }
 
     /// Puts the completion of a cell into the piece, if the cell is complete.
-    fn put_flag(&mut self, place: CellId, complete: bool) -> Result<(), AllocError>
+    fn put_flag(&mut self, place: CellId, complete: bool) -> Result<(), CutFault>
         requires measured { IsMeasured self.old.piece self.old.length self.old.has_issues self.old.last }
         requires next { AreNext self.old.piece (flag_items place complete) }
         ensures measured { OnOk result (IsMeasured self.new.piece self.new.length self.new.has_issues self.new.last) }
-        ensures fed { OnOk result (cut_with self.new.finished.items self.new.piece
-            ≡ fed_all (cut_with self.old.finished.items self.old.piece) (flag_items place complete)) }
+        ensures fed { OnOk result (IsFed (cut_with self.old.most self.old.finished.items self.old.piece)
+            (cut_with self.new.most self.new.finished.items self.new.piece) (flag_items place complete)) }
+        ensures long { result ≡ Err TooLong → HasTooLong self.old.most (flag_items place complete) }
     {
         if complete {
-            self.put_done(place)?;
+            return self.put_done(place);
         }
         Ok(())
     }
@@ -241,11 +202,11 @@ impl Cutter {
 
     /// How many spans of the cell the piece has room for.
     fn spans_with_room(&self, place: CellId) -> usize
-        requires { self.now.length + span_bytes (is_last self.now.last place) ≤ body_limit }
+        requires { self.now.length + span_bytes (is_last self.now.last place) ≤ self.now.most }
         ensures some { 1 ≤ result }
-        ensures fit { self.now.length + (span_bytes (is_last self.now.last place) + 16 * (result - 1)) ≤ body_limit }
+        ensures fit { self.now.length + (span_bytes (is_last self.now.last place) + 16 * (result - 1)) ≤ self.now.most }
     {
-        1 + (BODY_LIMIT - self.length - self.bytes_with_cell(place)) / SPAN_BYTES
+        1 + (self.most - self.length - self.bytes_with_cell(place)) / SPAN_BYTES
     }
 
     /// Puts spans of a cell into the piece, which has room for all of them.
@@ -253,14 +214,15 @@ impl Cutter {
         requires measured { IsMeasured self.old.piece self.old.length self.old.has_issues self.old.last }
         requires next { AreNext self.old.piece (map (a_load place) run.now) }
         requires some { 0 < length run.now }
-        requires fit { self.old.length + (span_bytes (is_last self.old.last place) + 16 * (length run.now - 1)) ≤ body_limit }
+        requires wide { 41 ≤ self.old.most }
+        requires fit { self.old.length + (span_bytes (is_last self.old.last place) + 16 * (length run.now - 1)) ≤ self.old.most }
         ensures measured { OnOk result (IsMeasured self.new.piece self.new.length self.new.has_issues self.new.last) }
-        ensures fed { OnOk result (cut_with self.new.finished.items self.new.piece
-            ≡ fed_all (cut_with self.old.finished.items self.old.piece) (map (a_load place) run.now)) }
+        ensures fed { OnOk result (IsFed (cut_with self.old.most self.old.finished.items self.old.piece)
+            (cut_with self.new.most self.new.finished.items self.new.piece) (map (a_load place) run.now)) }
     {
         let bytes = self.bytes_with_cell(place) + SPAN_BYTES * (run.len() - 1);
         let cell = cell_of(self.alloc, place, run)?;
-        self.piece.put_cell(&cell)?;
+        self.piece.take_cell(cell)?;
         self.length += bytes;
         self.last = Some(place);
         Ok(())
@@ -272,8 +234,10 @@ impl Cutter {
         requires measured { IsMeasured self.old.piece self.old.length self.old.has_issues self.old.last }
         requires next { AreNext self.old.piece (map (a_load place) spans.now) }
         requires some { 0 < length spans.now }
+        requires wide { 41 ≤ self.old.most }
         ensures measured { OnOk result (IsMeasured self.new.piece self.new.length self.new.has_issues self.new.last) }
-        ensures feeding { IfOk result (λ rest. IsFeeding (cut_with self.old.finished.items self.old.piece) (cut_with self.new.finished.items self.new.piece)
+        ensures feeding { IfOk result (λ rest. IsFeeding (cut_with self.old.most self.old.finished.items self.old.piece)
+            (cut_with self.new.most self.new.finished.items self.new.piece)
             (map (a_load place) spans.now) (map (a_load place) rest.now)) }
         ensures less { IfOk result (λ rest. length rest.now < length spans.now) }
     {
@@ -285,12 +249,13 @@ impl Cutter {
     }
 
     /// Puts openings into pieces.
-    pub(crate) fn put_openings(&mut self, openings: &[Opening]) -> Result<(), AllocError>
+    pub(crate) fn put_openings(&mut self, openings: &[Opening]) -> Result<(), CutFault>
         requires measured { IsMeasured self.old.piece self.old.length self.old.has_issues self.old.last }
         requires next { AreNext self.old.piece (map an_opening openings.now) }
         ensures measured { OnOk result (IsMeasured self.new.piece self.new.length self.new.has_issues self.new.last) }
-        ensures fed { OnOk result (cut_with self.new.finished.items self.new.piece
-            ≡ fed_all (cut_with self.old.finished.items self.old.piece) (map an_opening openings.now)) }
+        ensures fed { OnOk result (IsFed (cut_with self.old.most self.old.finished.items self.old.piece)
+            (cut_with self.new.most self.new.finished.items self.new.piece) (map an_opening openings.now)) }
+        ensures long { result ≡ Err TooLong → HasTooLong self.old.most (map an_opening openings.now) }
     {
         for opening in openings {
             self.put_opening(opening)?;
@@ -299,16 +264,13 @@ impl Cutter {
     }
 
     /// Puts issues into pieces.
-    pub(crate) fn put_issues(
-        &mut self,
-        issues: &[(u32, Flat<Arc<Issue>>)],
-    ) -> Result<(), AllocError>
+    pub(crate) fn put_issues(&mut self, issues: &[(u32, Flat<Arc<Issue>>)]) -> Result<(), CutFault>
         requires measured { IsMeasured self.old.piece self.old.length self.old.has_issues self.old.last }
         requires next { AreNext self.old.piece (map (λ e. an_issue (e.0, flat_with arc_value e.1)) issues.now) }
         ensures measured { OnOk result (IsMeasured self.new.piece self.new.length self.new.has_issues self.new.last) }
-        ensures fed { OnOk result (cut_with self.new.finished.items self.new.piece
-            ≡ fed_all (cut_with self.old.finished.items self.old.piece) (map (λ e. an_issue (e.0, flat_with arc_value e.1)) issues.now)) }
-        ensures alone { OnOk result (AllByRecursion (λ e. FitsFrame (items_board (an_issue (e.0, flat_with arc_value e.1) ∷ []))) issues.now) }
+        ensures fed { OnOk result (IsFed (cut_with self.old.most self.old.finished.items self.old.piece)
+            (cut_with self.new.most self.new.finished.items self.new.piece) (map (λ e. an_issue (e.0, flat_with arc_value e.1)) issues.now)) }
+        ensures long { result ≡ Err TooLong → HasTooLong self.old.most (map (λ e. an_issue (e.0, flat_with arc_value e.1)) issues.now) }
     {
         for entry in issues {
             self.put_issue(entry.0, &entry.1)?;
@@ -316,13 +278,14 @@ impl Cutter {
         Ok(())
     }
 
-    /// Puts spans of a cell into pieces.
-    fn put_spans(&mut self, place: CellId, spans: &[Span]) -> Result<(), AllocError>
+    /// Puts spans of a cell into pieces, each of which has room for a span.
+    fn put_runs(&mut self, place: CellId, spans: &[Span]) -> Result<(), AllocError>
         requires measured { IsMeasured self.old.piece self.old.length self.old.has_issues self.old.last }
         requires next { AreNext self.old.piece (map (a_load place) spans.now) }
+        requires wide { 41 ≤ self.old.most }
         ensures measured { OnOk result (IsMeasured self.new.piece self.new.length self.new.has_issues self.new.last) }
-        ensures fed { OnOk result (cut_with self.new.finished.items self.new.piece
-            ≡ fed_all (cut_with self.old.finished.items self.old.piece) (map (a_load place) spans.now)) }
+        ensures fed { OnOk result (IsFed (cut_with self.old.most self.old.finished.items self.old.piece)
+            (cut_with self.new.most self.new.finished.items self.new.piece) (map (a_load place) spans.now)) }
     {
         let mut rest = spans;
         while !rest.is_empty() {
@@ -331,25 +294,44 @@ impl Cutter {
         Ok(())
     }
 
+    /// Puts spans of a cell into pieces.
+    fn put_spans(&mut self, place: CellId, spans: &[Span]) -> Result<(), CutFault>
+        requires measured { IsMeasured self.old.piece self.old.length self.old.has_issues self.old.last }
+        requires next { AreNext self.old.piece (map (a_load place) spans.now) }
+        ensures measured { OnOk result (IsMeasured self.new.piece self.new.length self.new.has_issues self.new.last) }
+        ensures fed { OnOk result (IsFed (cut_with self.old.most self.old.finished.items self.old.piece)
+            (cut_with self.new.most self.new.finished.items self.new.piece) (map (a_load place) spans.now)) }
+        ensures long { result ≡ Err TooLong → HasTooLong self.old.most (map (a_load place) spans.now) }
+    {
+        if spans.is_empty() {
+            return Ok(());
+        }
+        self.look(CELL_BYTES + SPAN_BYTES)?;
+        self.put_runs(place, spans)?;
+        Ok(())
+    }
+
     /// Puts a cell into pieces: its completion, and each of its spans.
-    fn put_cell(&mut self, place: CellId, cell: &CellParts) -> Result<(), AllocError>
+    fn put_cell(&mut self, place: CellId, cell: &CellParts) -> Result<(), CutFault>
         requires measured { IsMeasured self.old.piece self.old.length self.old.has_issues self.old.last }
         requires next { AreNext self.old.piece (items_of_cell (cell_entry place cell.now)) }
         ensures measured { OnOk result (IsMeasured self.new.piece self.new.length self.new.has_issues self.new.last) }
-        ensures fed { OnOk result (cut_with self.new.finished.items self.new.piece
-            ≡ fed_all (cut_with self.old.finished.items self.old.piece) (items_of_cell (cell_entry place cell.now))) }
+        ensures fed { OnOk result (IsFed (cut_with self.old.most self.old.finished.items self.old.piece)
+            (cut_with self.new.most self.new.finished.items self.new.piece) (items_of_cell (cell_entry place cell.now))) }
+        ensures long { result ≡ Err TooLong → HasTooLong self.old.most (items_of_cell (cell_entry place cell.now)) }
     {
         self.put_flag(place, cell.second.get())?;
         self.put_spans(place, cell.first.spans())
     }
 
     /// Puts cells into pieces.
-    pub(crate) fn put_cells(&mut self, cells: &[(CellId, &CellParts)]) -> Result<(), AllocError>
+    pub(crate) fn put_cells(&mut self, cells: &[(CellId, &CellParts)]) -> Result<(), CutFault>
         requires measured { IsMeasured self.old.piece self.old.length self.old.has_issues self.old.last }
         requires next { AreNext self.old.piece (flat_map (λ c. items_of_cell (cell_entry c.0 c.1.now)) cells.now) }
         ensures measured { OnOk result (IsMeasured self.new.piece self.new.length self.new.has_issues self.new.last) }
-        ensures fed { OnOk result (cut_with self.new.finished.items self.new.piece
-            ≡ fed_all (cut_with self.old.finished.items self.old.piece) (flat_map (λ c. items_of_cell (cell_entry c.0 c.1.now)) cells.now)) }
+        ensures fed { OnOk result (IsFed (cut_with self.old.most self.old.finished.items self.old.piece)
+            (cut_with self.new.most self.new.finished.items self.new.piece) (flat_map (λ c. items_of_cell (cell_entry c.0 c.1.now)) cells.now)) }
+        ensures long { result ≡ Err TooLong → HasTooLong self.old.most (flat_map (λ c. items_of_cell (cell_entry c.0 c.1.now)) cells.now) }
     {
         for cell in cells {
             self.put_cell(cell.0, cell.1)?;
@@ -360,7 +342,7 @@ impl Cutter {
     /// The pieces, with the one that took the last items.
     pub(crate) fn finish(mut self) -> Result<Vec<Board>, AllocError>
         requires { IsMeasured self.piece self.length self.has_issues self.last }
-        ensures { IfOk result (λ ps. ps.items ≡ pieces_with (cut_with self.finished.items self.piece)) }
+        ensures { IfOk result (λ ps. ps.items ≡ pieces_with (cut_with self.most self.finished.items self.piece)) }
     {
         if self.length > EMPTY_BYTES {
             self.turn()?;

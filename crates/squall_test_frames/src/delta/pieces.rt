@@ -30,7 +30,7 @@ fn take_key(board: &mut Board, sub: u32, part: u32, rank: u64) -> Result<(), Fai
 }
 
 /// Takes this many spans of one key each, all in one cell.
-fn take_spans(board: &mut Board, count: u32) -> Result<(), Fail> {
+pub(super) fn take_spans(board: &mut Board, count: u32) -> Result<(), Fail> {
     for index in 0..count {
         take_key(board, 0, 3, 2 * u64::from(index))?;
     }
@@ -146,7 +146,7 @@ fn cut_wide(rt: &impl Abort, alloc: Global, board: &Board) -> Result<(), Fail> {
 }
 
 /// Four openings and a clash of number 1.
-const OPENED_CLASH: &str =
+pub(super) const OPENED_CLASH: &str =
     "53510201 00000019 00000001 00000001 00000004 00000001 00000001 02 00000000";
 
 #[test]

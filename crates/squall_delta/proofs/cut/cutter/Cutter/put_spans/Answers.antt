@@ -1,31 +1,12 @@
-use Rattle.std.proofs.Common.{◌≡◌, map, length, arith}
+use Rattle.std.proofs.lemmas.Result.{err_from_is_err_and}
+use Rattle.squall_delta.specs.declared.cut.fault.CutFault.TheVariants.{TooLong}
+use Rattle.squall_delta.proofs.Slices.{passed_on}
+use Rattle.std.proofs.Common.{arith}
 use Rattle.std.proofs.lemmas.Bool.Decides.{nat_tests}
-use Rattle.squall_delta.specs.Items.{loaded}
-use Rattle.squall_delta.specs.Cutting.{cut_with}
-use Rattle.squall_delta.specs.PieceStepLaws.{feeding_starts, feeding_ends}
-use Rattle.squall_delta.proofs.Slices.{feeding_then, none_left}
+use Rattle.squall_delta.proofs.Slices.{span_too_long}
 use Rattle.squall_delta.proofs.cut.cutter.Cutter.put_spans.Goals as goal
 
-pub loop-rest-init : goal.loop-rest-init
-loop-rest-init c = record { measured = c.requires.measured; feeding = feeding_starts (cut_with c.args.self.now.finished.items c.args.self.now.piece) (map (loaded c.args.place) c.args.spans.now) c.requires.next }
-
-pub put_some-requires-clause-measured : goal.put_some-requires-clause-measured
-put_some-requires-clause-measured c = c.loop-rest.invariant.measured
-
-pub put_some-requires-clause-next : goal.put_some-requires-clause-next
-put_some-requires-clause-next c = c.loop-rest.invariant.feeding.next
-
-pub loop-rest-preserved : goal.loop-rest-preserved
-loop-rest-preserved c = record {
-  measured = c.in_ok-rest.ensures.measured;
-  feeding = feeding_then (cut_with c.args.self.now.finished.items c.args.self.now.piece) (cut_with c.loop-rest.self.finished.items c.loop-rest.self.piece) (cut_with c.put_some.new.self.finished.items c.put_some.new.self.piece) (map (loaded c.args.place) c.args.spans.now) (map (loaded c.args.place) c.loop-rest.rest.now) (map (loaded c.args.place) c.in_ok-rest.rest.now) c.loop-rest.invariant.feeding c.in_ok-rest.ensures.feeding;
-}
-
-pub returns-clause-measured : goal.returns-clause-measured
-returns-clause-measured c = c.loop-rest.invariant.measured
-
-pub returns-clause-fed : goal.returns-clause-fed
-returns-clause-fed c =
-    let gone : length c.loop-rest.rest.now ≡ 0 = first_of (omega arith, grind (arith, nat_tests)) in
-    let none = none_left c.args.place c.loop-rest.rest.now gone in
-    feeding_ends (cut_with c.args.self.now.finished.items c.args.self.now.piece) (cut_with c.loop-rest.self.finished.items c.loop-rest.self.piece) (map (loaded c.args.place) c.args.spans.now) (map (loaded c.args.place) c.loop-rest.rest.now) none c.loop-rest.invariant.feeding
+pub returns-in_err-look-clause-long : goal.returns-in_err-look-clause-long
+returns-in_err-look-clause-long c = λ e.
+    let p = err_from_is_err_and c.from_residual.result c.from_residual.ensures.1 in
+    span_too_long c.args.self.now.most c.args.self.now.piece c.args.place c.args.spans.now c.requires.next (first_of (omega arith, grind (arith, nat_tests))) (c.look.ensures.long (passed_on c.look.result c.from_residual.result c.in_err-look.field-0.0 p.0 TooLong c.in_err-look.was p.1 p.2 e))
