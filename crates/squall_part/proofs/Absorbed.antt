@@ -12,10 +12,11 @@ use Rattle.squall_report.specs.Issues.{PlanPair, is_same_pair}
 use Rattle.squall_report.specs.Told.{TellsBoth, both_issued}
 use Rattle.squall_board.specs.Boards.{BoardValue, IsBoard, issued, told, one_issue}
 use Rattle.squall_board.specs.Listed.{AreIssues, IssuesRise, entries_issue, issues_of}
-use Rattle.squall_part.specs.Parts.{PartValue, Log, log_of, IsPart, IsLog, IsHeard, IsNotIn, AreApart, known_course, given_in, loaded_in, given_by, loaded_by}
+use Rattle.squall_part.specs.Parts.{PartValue, Log, log_of, IsPart, IsLog, IsHeard, IsBelow, AreRising, known_course, given_in, loaded_in, given_by, loaded_by}
 use Rattle.squall_protocol.specs.Known.{course_under}
-use Rattle.squall_part.specs.Fresh.{is_unknown, is_new, empty_log, fresh_log, fresh_logs}
-use Rattle.squall_part.proofs.Logs.{eq_refl, eq_differ}
+use Rattle.squall_part.specs.Fresh.{is_unknown, is_new, empty_log, fresh_log, fresh_logs, put_logs}
+use Rattle.squall_part.proofs.Logs.{IsNotIn, eq_refl, eq_differ}
+use Rattle.squall_part.proofs.Put.{all_puts, puts_rising, find_puts}
 
 -- ---- what is issued
 
@@ -94,22 +95,22 @@ module _ (first : Change) (b : BoardValue) where
   fresh_empty (e ∷ es) = all_append (λ l. (l.given ≡ []) × (l.loaded ≡ [])) (fresh_log first b e) (fresh_logs first b es) (each_fresh (λ l. (l.given ≡ []) × (l.loaded ≡ [])) e (λ pair s t. (refl, refl))) (fresh_empty es)
 
   -- later numbers alone
-  fresh_later : (n : ℕ) (es : List (ℕ × Flat PlanPair)) → AllByRecursion (λ d. n < d.0) es → IsNotIn n (fresh_logs first b es)
+  fresh_later : (n : ℕ) (es : List (ℕ × Flat PlanPair)) → AllByRecursion (λ d. n < d.0) es → IsBelow n (fresh_logs first b es)
   fresh_later n [] r = tt
-  fresh_later n (e ∷ es) r = all_append (λ l. l.course.number ≢ n) (fresh_log first b e) (fresh_logs first b es) (each_fresh (λ l. l.course.number ≢ n) e (λ pair s t u. omega (arith, u, r.0))) (fresh_later n es r.1)
+  fresh_later n (e ∷ es) r = all_append (λ l. n < l.course.number) (fresh_log first b e) (fresh_logs first b es) (each_fresh (λ l. n < l.course.number) e (λ pair s t. r.0)) (fresh_later n es r.1)
 
-  one_apart : (e : ℕ × Flat PlanPair) (ls : List Log) → IsNotIn e.0 ls → AreApart ls → AreApart (fresh_log first b e ++ ls)
-  one_apart (n, Unknown) ls a h = h
-  one_apart (n, One pair) ls a h = by (is_new first b n)
+  one_rising : (e : ℕ × Flat PlanPair) (ls : List Log) → IsBelow e.0 ls → AreRising ls → AreRising (fresh_log first b e ++ ls)
+  one_rising (n, Unknown) ls a h = h
+  one_rising (n, One pair) ls a h = by (is_new first b n)
     where
-      by : (t : Bool) → AreApart (cond t (empty_log n pair ∷ []) [] ++ ls)
+      by : (t : Bool) → AreRising (cond t (empty_log n pair ∷ []) [] ++ ls)
       by true = (a, h)
       by false = h
-  one_apart (n, Clash) ls a h = h
+  one_rising (n, Clash) ls a h = h
 
-  fresh_apart : (es : List (ℕ × Flat PlanPair)) → IssuesRise es → AreApart (fresh_logs first b es)
-  fresh_apart [] r = tt
-  fresh_apart (e ∷ es) r = one_apart e (fresh_logs first b es) (fresh_later e.0 es r.0) (fresh_apart es r.1)
+  fresh_rising : (es : List (ℕ × Flat PlanPair)) → IssuesRise es → AreRising (fresh_logs first b es)
+  fresh_rising [] r = tt
+  fresh_rising (e ∷ es) r = one_rising e (fresh_logs first b es) (fresh_later e.0 es r.0) (fresh_rising es r.1)
 
   -- a log that an entry of another number brings is passed over
   passed : (n : ℕ) (e : ℕ × Flat PlanPair) (ls : List Log) → e.0 ≢ n → log_of (fresh_log first b e ++ ls) n ≡ log_of ls n
@@ -161,17 +162,13 @@ heard_old first b n h new =
     unknown (One pair) e = absurd (let bad : ⊥ = cc in bad)
     unknown Clash e = absurd (let bad : ⊥ = cc in bad)
 
-heard_not_in : (first : Change) (b : BoardValue) (n : ℕ) (ls : List Log) → IsHeard first b n → AllByRecursion (λ l. is_new first b l.course.number ≡ true) ls → IsNotIn n ls
-heard_not_in first b n [] h a = tt
-heard_not_in first b n (l ∷ ls) h a = (λ e. heard_old first b n h (ap (is_new first b) (sym e) ∙ a.0), heard_not_in first b n ls h a.1)
+new_not_in : (first : Change) (b : BoardValue) (n : ℕ) (logs : List Log) → AllByRecursion (λ l. IsHeard first b l.course.number) logs → is_new first b n ≡ true → IsNotIn n logs
+new_not_in first b n [] h new = tt
+new_not_in first b n (l ∷ ls) h new = ((λ e. heard_old first b l.course.number h.0 (ap (is_new first b) e ∙ new)), new_not_in first b n ls h.1 new)
 
-not_in_append : (n : ℕ) (xs ys : List Log) → IsNotIn n xs → IsNotIn n ys → IsNotIn n (xs ++ ys)
-not_in_append n [] ys a c = c
-not_in_append n (x ∷ xs) ys a c = (a.0, not_in_append n xs ys a.1 c)
-
-append_apart : (first : Change) (b : BoardValue) (logs ls : List Log) → AllByRecursion (λ l. IsHeard first b l.course.number) logs → AllByRecursion (λ l. is_new first b l.course.number ≡ true) ls → AreApart logs → AreApart ls → AreApart (logs ++ ls)
-append_apart first b [] ls h a p q = q
-append_apart first b (l ∷ logs) ls h a p q = (not_in_append l.course.number logs ls p.0 (heard_not_in first b l.course.number ls h.0 a), append_apart first b logs ls h.1 a p.1 q)
+-- so no fresh log is of the number of one that is there
+fresh_apart : (first : Change) (b : BoardValue) (logs : List Log) (es : List (ℕ × Flat PlanPair)) → AllByRecursion (λ l. IsHeard first b l.course.number) logs → AllByRecursion (λ l. IsNotIn l.course.number logs) (fresh_logs first b es)
+fresh_apart first b logs es h = all_to first b (λ l. is_new first b l.course.number ≡ true) (λ l. IsNotIn l.course.number logs) (fresh_logs first b es) (λ l new. new_not_in first b l.course.number logs h new) (fresh_new first b es)
 
 -- no log has a new number
 none_there : (first : Change) (b : BoardValue) (n : ℕ) (logs : List Log) → AllByRecursion (λ l. IsHeard first b l.course.number) logs → is_new first b n ≡ true → log_of logs n ≡ None
@@ -202,11 +199,15 @@ fresh_is_empty p es ls n e =
     let none = empty_in (fresh_logs p.first p.board es) n (fresh_empty p.first p.board es) in
     (ap (λ x. given_in (log_of x n)) e ∙ none.0, ap (λ x. loaded_in (log_of x n)) e ∙ none.1)
 
-pub given_still : (p : PartValue) (es : List (ℕ × Flat PlanPair)) (ls : List Log) (n : ℕ) → ls ≡ fresh_logs p.first p.board es → given_in (log_of (p.logs ++ ls) n) ≡ given_by p n
-given_still p es ls n e = still given_in p ls n (fresh_is_empty p es ls n e).0
+module _ (p : PartValue) (es : List (ℕ × Flat PlanPair)) (ls : List Log) (n : ℕ) (is : IsPart p) (rise : IssuesRise es) (e : ls ≡ fresh_logs p.first p.board es) where
+  found_put : log_of (put_logs ls p.logs) n ≡ log_of (p.logs ++ ls) n
+  found_put = find_puts n ls p.logs (subst (AllByRecursion (λ l. IsNotIn l.course.number p.logs)) (sym e) (fresh_apart p.first p.board p.logs es is.heard)) (subst AreRising (sym e) (fresh_rising p.first p.board es rise))
 
-pub loaded_still : (p : PartValue) (es : List (ℕ × Flat PlanPair)) (ls : List Log) (n : ℕ) → ls ≡ fresh_logs p.first p.board es → loaded_in (log_of (p.logs ++ ls) n) ≡ loaded_by p n
-loaded_still p es ls n e = still loaded_in p ls n (fresh_is_empty p es ls n e).1
+  pub given_still : given_in (log_of (put_logs ls p.logs) n) ≡ given_by p n
+  given_still = ap given_in found_put ∙ still given_in p ls n (fresh_is_empty p es ls n e).0
+
+  pub loaded_still : loaded_in (log_of (put_logs ls p.logs) n) ≡ loaded_by p n
+  loaded_still = ap loaded_in found_put ∙ still loaded_in p ls n (fresh_is_empty p es ls n e).1
 
 module _ (p : PartValue) (d q : BoardValue) (is : IsPart p) (tells : TellsBoth (told q) (told p.board) (told d)) (listed : AreIssues d (issues_of d)) where
   abbrev ls : List Log
@@ -248,13 +249,16 @@ module _ (p : PartValue) (d q : BoardValue) (is : IsPart p) (tells : TellsBoth (
       by true t k = found_still n c (is.known n c (ap (λ s. cond s (Some p.first) (course_under n (issued p.board n))) t ∙ k))
       by false t k = other (issued p.board n) (issued d n) refl refl t (ap (course_under n) (sym (tells.issues n)) ∙ k)
 
-  pub absorbed_part : IsBoard q → AllByRecursion IsLog ls → IsPart (record p { board = q; logs = p.logs ++ ls })
-  absorbed_part board logs = record {
-    board = board;
-    plans = is.plans;
-    held = is.held;
-    logs = all_append p.first p.board IsLog p.logs ls is.logs logs;
-    apart = append_apart p.first p.board p.logs ls is.heard (fresh_new p.first p.board (issues_of d)) is.apart (fresh_apart p.first p.board (issues_of d) listed.rise);
-    heard = all_append p.first p.board (λ l. IsHeard p.first q l.course.number) p.logs ls (heard_more p.logs is.heard) heard_fresh;
-    known = known_then;
-  }
+  pub absorbed_part : IsBoard q → AllByRecursion IsLog ls → IsPart (record p { board = q; logs = put_logs ls p.logs })
+  absorbed_part board logs =
+      let others = fresh_apart p.first p.board p.logs (issues_of d) is.heard in
+      let rise = fresh_rising p.first p.board (issues_of d) listed.rise in
+      record {
+        board = board;
+        plans = is.plans;
+        held = is.held;
+        logs = all_puts IsLog ls p.logs logs is.logs;
+        rising = puts_rising ls p.logs others rise is.rising;
+        heard = all_puts (λ l. IsHeard p.first q l.course.number) ls p.logs heard_fresh (heard_more p.logs is.heard);
+        known = λ n c k. ap (option_map (λ l. l.course)) (find_puts n ls p.logs others rise) ∙ known_then n c k;
+      }

@@ -16,7 +16,7 @@ use Rattle.squall_part.specs.Parts.{PartValue, Log, log_with, log_of, IsPart, Is
 use Rattle.squall_protocol.specs.Known.{course_under}
 use Rattle.squall_part.specs.Logs.{IsLogAt}
 use Rattle.squall_part.specs.Giving.{after_giving}
-use Rattle.squall_part.proofs.Logs.{edit_at, edit_apart, edit_heard, edit_courses, edit_logs}
+use Rattle.squall_part.proofs.Logs.{apart, edit_at, edit_rising, edit_heard, edit_courses, edit_logs}
 use Rattle.squall_part.proofs.Known.{known_number, log_at}
 use Rattle.squall_part.proofs.Given.{given_here}
 
@@ -45,7 +45,7 @@ pub giving_logs : (p : PartValue) (at : ℕ) (d : Log) (s : Interval) → IsPart
     → set p.logs at (log_with (get_or p.logs at d).course (insert_span s (get_or p.logs at d).given) (get_or p.logs at d).loaded) ≡ with_given (course_of_part p).number (insert_span s (given_by p (course_of_part p).number)) p.logs
 giving_logs p at d s is place =
     ap (λ g. set p.logs at (log_with (get_or p.logs at d).course (insert_span s g) (get_or p.logs at d).loaded)) (sym (given_here p at d is place))
-    ∙ edit_at (course_of_part p).number (λ l. log_with l.course (insert_span s (given_by p (course_of_part p).number)) l.loaded) p.logs at d is.apart place.within (ap (λ c. c.number) (place.course d))
+    ∙ edit_at (course_of_part p).number (λ l. log_with l.course (insert_span s (given_by p (course_of_part p).number)) l.loaded) p.logs at d (apart p is) place.within (ap (λ c. c.number) (place.course d))
 
 abbrev given_log : List Interval → Log → Log
 given_log keys l = log_with l.course keys l.loaded
@@ -62,7 +62,7 @@ giving_part p s is lt le =
       plans = is.plans;
       held = set-minus p.held (s ∷ []) is.held (one_set s lt le);
       logs = edit_logs n (given_log keys) p.logs (λ l e i. record { plans = i.plans; given = set-insert s (given_by p n) lt le (given_set p.logs n is.logs); loaded = i.loaded }) is.logs;
-      apart = edit_apart n (given_log keys) (λ l. refl) p.logs is.apart;
+      rising = edit_rising n (given_log keys) (λ l. refl) p.logs is.rising;
       heard = edit_heard n (given_log keys) (λ l. refl) p.first p.board p.logs is.heard;
       known = λ m c k. edit_courses n (given_log keys) (λ l. refl) m p.logs ∙ is.known m c k;
     }
@@ -73,7 +73,7 @@ pub loading_logs : (p : PartValue) (c : Change) (m at : ℕ) (d : Log) (s : Inte
     → set p.logs at (log_with (get_or p.logs at d).course (get_or p.logs at d).given (insert_span s (get_or p.logs at d).loaded)) ≡ with_loaded m (insert_span s (loaded_by p m)) p.logs
 loading_logs p c m at d s is known place =
     ap (λ g. set p.logs at (log_with (get_or p.logs at d).course (get_or p.logs at d).given (insert_span s g))) (sym (ap loaded_in (log_at p m c at d is known place)))
-    ∙ edit_at m (λ l. log_with l.course l.given (insert_span s (loaded_by p m))) p.logs at d is.apart place.within (ap (λ c. c.number) (place.course d) ∙ known_number p m c known)
+    ∙ edit_at m (λ l. log_with l.course l.given (insert_span s (loaded_by p m))) p.logs at d (apart p is) place.within (ap (λ c. c.number) (place.course d) ∙ known_number p m c known)
 
 pub loading_part : (p : PartValue) (m : ℕ) (s : Interval) → IsPart p → s.lo < s.hi → s.hi ≤ top
     → IsPart (record p { held = union p.held (minus (s ∷ []) (loaded_by p m)); logs = with_loaded m (insert_span s (loaded_by p m)) p.logs })
@@ -84,7 +84,7 @@ loading_part p m s is lt le =
       plans = is.plans;
       held = set-union p.held (minus (s ∷ []) (loaded_by p m)) is.held (set-minus (s ∷ []) (loaded_by p m) (one_set s lt le) (loaded_set p.logs m is.logs));
       logs = edit_logs m (loaded_log keys) p.logs (λ l e i. record { plans = i.plans; given = i.given; loaded = set-insert s (loaded_by p m) lt le (loaded_set p.logs m is.logs) }) is.logs;
-      apart = edit_apart m (loaded_log keys) (λ l. refl) p.logs is.apart;
+      rising = edit_rising m (loaded_log keys) (λ l. refl) p.logs is.rising;
       heard = edit_heard m (loaded_log keys) (λ l. refl) p.first p.board p.logs is.heard;
       known = λ n c k. edit_courses m (loaded_log keys) (λ l. refl) n p.logs ∙ is.known n c k;
     }
@@ -106,7 +106,7 @@ told_part p d r is board tells none = record {
   plans = is.plans;
   held = is.held;
   logs = is.logs;
-  apart = is.apart;
+  rising = is.rising;
   heard = heard_still p.first p.board d p.logs same is.heard;
   known = λ n c k. is.known n c (ap (λ x. cond (n == p.first.number) (Some p.first) (course_under n x)) (sym (same n)) ∙ k);
 }

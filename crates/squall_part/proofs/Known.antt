@@ -16,7 +16,7 @@ use Rattle.squall_board.specs.CourseRoute.{course_by}
 use Rattle.squall_part.specs.Parts.{PartValue, Log, log_of, IsPart, known_to, known_course, course_of_part, given_in, loaded_in, given_by, loaded_by}
 use Rattle.squall_protocol.specs.Known.{course_under}
 use Rattle.squall_part.specs.Logs.{has_number, IsLogAt}
-use Rattle.squall_part.proofs.Logs.{eq_refl, eq_same, eq_differ, found_at}
+use Rattle.squall_part.proofs.Logs.{eq_refl, eq_same, eq_differ, found_at, apart}
 
 known_first : (first : Change) (b : BoardValue) → known_course first b first.number ≡ Some first
 known_first first b = ap (λ t. cond t (Some first) (course_under first.number (issued b first.number))) (eq_refl first.number)
@@ -49,7 +49,7 @@ course_at p n c at is known found = record {
   course = λ d. let there = position-Some (has_number n) p.logs at d found in
       let l = get_or p.logs at d in
       let e : l.course.number ≡ n = eq_same l.course.number n there.1 in
-      same_Some l.course c (sym (ap (option_map (λ l. l.course)) (sym (ap (log_of p.logs) e) ∙ found_at p.logs at d is.apart there.0)) ∙ is.known n c known);
+      same_Some l.course c (sym (ap (option_map (λ l. l.course)) (sym (ap (log_of p.logs) e) ∙ found_at p.logs at d (apart p is) there.0)) ∙ is.known n c known);
 }
   where
     empty : Change → Log
@@ -71,7 +71,7 @@ none_known p n c is known none =
 -- the log of a known course
 pub log_at : (p : PartValue) (n : ℕ) (c : Change) (at : ℕ) (d : Log) → IsPart p → known_to p n ≡ Some c → IsLogAt p.logs c at → log_of p.logs n ≡ Some (get_or p.logs at d)
 log_at p n c at d is known place =
-    ap (log_of p.logs) (sym (known_number p n c known) ∙ ap (λ c. c.number) (sym (place.course d))) ∙ found_at p.logs at d is.apart place.within
+    ap (log_of p.logs) (sym (known_number p n c known) ∙ ap (λ c. c.number) (sym (place.course d))) ∙ found_at p.logs at d (apart p is) place.within
 
 pub some_place : (p : PartValue) (n : ℕ) (o : Option ℕ) → IsPart p → is_some (known_to p n) ≡ true → o ≡ position (has_number n) p.logs → IfSome o (λ at. (c : Change) × (known_to p n ≡ Some c) × IsLogAt p.logs c at)
 some_place p n None is some e = tt

@@ -1,4 +1,6 @@
 pub mod Logs
+pub mod Put
+pub mod Latest
 pub mod Known
 pub mod Carrying
 pub mod Held

@@ -4,7 +4,7 @@ use Rattle.std.specs.List.{AllByRecursion, position_or_len}
 use Rattle.std.proofs.lemmas.Bool.Decides.{nat_tests}
 use Rattle.squall_course.specs.Change.{Change}
 use Rattle.squall_board.specs.Boards.{BoardValue}
-use Rattle.squall_part.specs.Parts.{Log, log_of, IsNotIn, AreApart, IsLog, IsHeard}
+use Rattle.squall_part.specs.Parts.{PartValue, Log, log_of, IsBelow, AreRising, IsLog, IsHeard, IsPart}
 use Rattle.squall_part.specs.Logs.{has_number}
 
 pub eq_refl : (n : ℕ) → (n == n) ≡ true
@@ -15,6 +15,25 @@ eq_same m n e = grind (arith, nat_tests)
 
 pub eq_differ : (m n : ℕ) → m ≢ n → (m == n) ≡ false
 eq_differ m n e = grind (arith, nat_tests)
+
+-- no log is of the number, and no two logs are of one number
+abbrev pub IsNotIn : ℕ → List Log → Type 0
+IsNotIn n logs = AllByRecursion (λ l. l.course.number ≢ n) logs
+
+abbrev pub AreApart : List Log → Type 0
+AreApart [] = Unit {0}
+AreApart (l ∷ ls) = IsNotIn l.course.number ls × AreApart ls
+
+pub below_not_in : (n : ℕ) (logs : List Log) → IsBelow n logs → IsNotIn n logs
+below_not_in n [] b = tt
+below_not_in n (l ∷ ls) b = ((λ e. omega (arith, e, b.0)), below_not_in n ls b.1)
+
+pub rising_apart : (logs : List Log) → AreRising logs → AreApart logs
+rising_apart [] r = tt
+rising_apart (l ∷ ls) r = (below_not_in l.course.number ls r.0, rising_apart ls r.1)
+
+pub apart : (p : PartValue) → IsPart p → AreApart p.logs
+apart p is = rising_apart p.logs is.rising
 
 not_in_at : (n : ℕ) (logs : List Log) (at : ℕ) (d : Log) → IsNotIn n logs → at < length logs → (get_or logs at d).course.number ≢ n
 not_in_at n [] at d a lt e = omega arith
@@ -65,13 +84,13 @@ module _ (n : ℕ) (f : Log → Log) (same : (l : Log) → (f l).course ≡ l.co
       by true = same l
       by false = refl
 
-  edit_not_in : (m : ℕ) (logs : List Log) → IsNotIn m logs → IsNotIn m (map (edit n f) logs)
-  edit_not_in m [] a = tt
-  edit_not_in m (l ∷ ls) a = (λ e. a.0 (sym (ap (λ c. c.number) (edit_course l)) ∙ e), edit_not_in m ls a.1)
+  edit_below : (m : ℕ) (logs : List Log) → IsBelow m logs → IsBelow m (map (edit n f) logs)
+  edit_below m [] b = tt
+  edit_below m (l ∷ ls) b = (subst (λ c. m < c.number) (sym (edit_course l)) b.0, edit_below m ls b.1)
 
-  pub edit_apart : (logs : List Log) → AreApart logs → AreApart (map (edit n f) logs)
-  edit_apart [] a = tt
-  edit_apart (l ∷ ls) a = (subst (λ c. IsNotIn c.number (map (edit n f) ls)) (sym (edit_course l)) (edit_not_in l.course.number ls a.0), edit_apart ls a.1)
+  pub edit_rising : (logs : List Log) → AreRising logs → AreRising (map (edit n f) logs)
+  edit_rising [] r = tt
+  edit_rising (l ∷ ls) r = (subst (λ c. IsBelow c.number (map (edit n f) ls)) (sym (edit_course l)) (edit_below l.course.number ls r.0), edit_rising ls r.1)
 
   pub edit_heard : (first : Change) (b : BoardValue) (logs : List Log) → AllByRecursion (λ l. IsHeard first b l.course.number) logs → AllByRecursion (λ l. IsHeard first b l.course.number) (map (edit n f) logs)
   edit_heard first b [] h = tt

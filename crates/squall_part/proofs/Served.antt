@@ -10,11 +10,11 @@ use Rattle.squall_plan.specs.Ranges.{owner_of}
 use Rattle.squall_course.specs.Change.{Change}
 use Rattle.squall_course.specs.Subplans.{moves}
 use Rattle.squall_errand.specs.declared.errand.Reply.TheVariants.{Moved, Pending}
-use Rattle.squall_part.specs.Parts.{PartValue, Log, log_of, IsPart, AreApart, known_to, given_in, loaded_in}
+use Rattle.squall_part.specs.Parts.{PartValue, Log, log_of, IsPart, known_to, given_in, loaded_in}
 use Rattle.squall_part.specs.Logs.{number_in, later, last_from, last_of, gave, comes, comes_after}
 use Rattle.squall_part.specs.Serving.{GaveUnder, ComesUnder, IsLastGiven, IsLastComing, IsReply}
 use Rattle.squall_protocol.specs.Firsts.{IsGreatest}
-use Rattle.squall_part.proofs.Logs.{eq_refl, eq_same, found_at}
+use Rattle.squall_part.proofs.Logs.{AreApart, apart, eq_refl, eq_same, found_at}
 use Rattle.squall_part.proofs.Known.{known_number}
 
 -- ---- the last log that passes
@@ -121,14 +121,14 @@ was_last test all found (l ∷ ls) h w = was_last test all (later test found l) 
     by false b e = w
 
 was : (test : Log → Bool) (logs : List Log) → AreApart logs → Was test logs (last_of test logs)
-was test logs apart = was_last test logs None logs (λ at d lt. found_at logs at d apart lt) tt
+was test logs other = was_last test logs None logs (λ at d lt. found_at logs at d other lt) tt
 
 greatest : (R : ℕ → Type 0) (test : Log → Bool) (logs : List Log) → AreApart logs
     → ((n : ℕ) → R n → (l : Log) × (log_of logs n ≡ Some l) × (l.course.number ≡ n) × (test l ≡ true))
     → ((l : Log) → log_of logs l.course.number ≡ Some l → test l ≡ true → R l.course.number) → IsGreatest R (number_in (last_of test logs))
-greatest R test logs apart to from = record {
+greatest R test logs other to from = record {
   top = λ n r. let t = to n r in omega (arith, last_least test None logs n t.0 t.1 t.3, t.2);
-  reached = by (last_of test logs) (was test logs apart);
+  reached = by (last_of test logs) (was test logs other);
 }
   where
     by : (o : Option Log) → Was test logs o → (number_in o ≡ 0) ⊎ R (number_in o)
@@ -159,7 +159,7 @@ course_of_log p l is s e =
     k.1 ∙ ap Some (sym g.2 ∙ ap (λ x. x.course) (same_Some g.0 l (sym g.1 ∙ e)))
 
 last_given_is : (p : PartValue) (k : ℕ) → IsPart p → IsLastGiven p k (number_in (last_of (gave p k) p.logs))
-last_given_is p k is = greatest (GaveUnder p k) (gave p k) p.logs is.apart to from
+last_given_is p k is = greatest (GaveUnder p k) (gave p k) p.logs (apart p is) to from
   where
     to : (n : ℕ) → GaveUnder p k n → (l : Log) × (log_of p.logs n ≡ Some l) × (l.course.number ≡ n) × (gave p k l ≡ true)
     to n r =
@@ -177,7 +177,7 @@ not_true true e = sym e
 not_true false e = refl
 
 last_coming_is : (p : PartValue) (k : ℕ) → IsPart p → IsLastComing p k (number_in (last_of (comes p k) p.logs))
-last_coming_is p k is = greatest (ComesUnder p k) (comes p k) p.logs is.apart to from
+last_coming_is p k is = greatest (ComesUnder p k) (comes p k) p.logs (apart p is) to from
   where
     to : (n : ℕ) → ComesUnder p k n → (l : Log) × (log_of p.logs n ≡ Some l) × (l.course.number ≡ n) × (comes p k l ≡ true)
     to n r =
@@ -203,7 +203,7 @@ last_coming_is p k is = greatest (ComesUnder p k) (comes p k) p.logs is.apart to
 -- ---- the replies
 
 last_known : (p : PartValue) (test : Log → Bool) (l : Log) → IsPart p → ((m : Log) → test m ≡ true → is_some (known_to p m.course.number) ≡ true) → last_of test p.logs ≡ Some l → known_to p l.course.number ≡ Some l.course
-last_known p test l is known e = let w : Was test p.logs (Some l) = subst (Was test p.logs) e (was test p.logs is.apart) in course_of_log p l is (known l w.0) w.1
+last_known p test l is known e = let w : Was test p.logs (Some l) = subst (Was test p.logs) e (was test p.logs (apart p is)) in course_of_log p l is (known l w.0) w.1
 
 pub pending : (p : PartValue) (k after source : ℕ) (given coming : Option Log) (l : Log) → IsPart p → has p.held k ≡ false → given ≡ last_of (gave p k) p.logs → coming ≡ last_of (comes p k) p.logs → coming ≡ Some l
     → number_in given < l.course.number → source ≡ owner_of l.course.old k → IsReply p k after (Pending source)

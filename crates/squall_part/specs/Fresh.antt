@@ -1,5 +1,5 @@
 -- The logs of courses that become known (this project).
-use Rattle.std.specs.Prelude.{ℕ, ◌==◌, ◌&&◌, not, Bool, true, false, List, [], ◌∷◌, if◌then◌else◌}
+use Rattle.std.specs.Prelude.{ℕ, ◌==◌, ◌&&◌, not, nat_lt, Bool, true, false, List, [], ◌∷◌, if◌then◌else◌}
 use Rattle.std.specs.List.{flat_map}
 use Rattle.squall_join.specs.declared.flat.Flat.{Flat}
 use Rattle.squall_join.specs.declared.flat.Flat.TheVariants.{Unknown, One, Clash}
@@ -30,3 +30,16 @@ fresh_log first b (n, Clash) = []
 -- the logs that issues bring
 abbrev pub fresh_logs : Change → BoardValue → List (ℕ × Flat PlanPair) → List Log
 fresh_logs first b es = flat_map (fresh_log first b) es
+
+abbrev pub is_above : ℕ → Log → Bool
+is_above n l = nat_lt n l.course.number
+
+-- the log among the others: before the first one of a greater number
+abbrev pub put_log : Log → List Log → List Log
+put_log l [] = l ∷ []
+put_log l (m ∷ ms) = if is_above l.course.number m then l ∷ m ∷ ms else m ∷ put_log l ms
+
+-- the logs among the others, the last one first
+abbrev pub put_logs : List Log → List Log → List Log
+put_logs [] logs = logs
+put_logs (l ∷ ls) logs = put_log l (put_logs ls logs)

@@ -1,6 +1,6 @@
 -- What a partition knows and keeps (partitions that hold keys and give them to others: Squall, SIGMOD 2015; that one partition
 -- knows several reconfigurations is this project's).
-use Rattle.std.specs.Prelude.{◌≡◌, ◌≢◌, ℕ, ◌==◌, ◌⊎◌, List, [], ◌∷◌, map, filter, Option, None, Some, if◌then◌else◌}
+use Rattle.std.specs.Prelude.{◌≡◌, ◌≢◌, ℕ, ◌<◌, ◌==◌, ◌⊎◌, List, [], ◌∷◌, map, filter, Option, None, Some, if◌then◌else◌}
 use Rattle.std.specs.Option.{option_map}
 use Rattle.std.specs.List.{find, AllByRecursion}
 use Rattle.squall_join.specs.declared.flat.Flat.TheVariants.{Unknown}
@@ -91,13 +91,14 @@ new_part id first = record { id = id; first = first; board = empty_board; held =
 
 -- ---- what holds of every partition
 
--- no two logs are of one number
-abbrev pub IsNotIn : ℕ → List Log → Type 0
-IsNotIn n logs = AllByRecursion (λ l. l.course.number ≢ n) logs
+-- the number is less than that of each log
+abbrev pub IsBelow : ℕ → List Log → Type 0
+IsBelow n logs = AllByRecursion (λ l. n < l.course.number) logs
 
-abbrev pub AreApart : List Log → Type 0
-AreApart [] = Unit {0}
-AreApart (l ∷ ls) = IsNotIn l.course.number ls × AreApart ls
+-- each log is of a greater number than those before it
+abbrev pub AreRising : List Log → Type 0
+AreRising [] = Unit {0}
+AreRising (l ∷ ls) = IsBelow l.course.number ls × AreRising ls
 
 -- both sets of a log are sets of keys, and its plans are plans
 pub record IsLog (l : Log) : Type 0 where
@@ -109,13 +110,13 @@ pub record IsLog (l : Log) : Type 0 where
 abbrev pub IsHeard : Change → BoardValue → ℕ → Type 0
 IsHeard first b n = (n ≡ first.number) ⊎ (issued b n ≢ Unknown)
 
--- Its board is a board, and what it holds is a set of keys. It keeps one log for each course that it knows, and each log is of a number
--- that it has heard of.
+-- Its board is a board, and what it holds is a set of keys. It keeps one log for each course that it knows, by rising number, and each log
+-- is of a number that it has heard of.
 pub record IsPart (p : PartValue) : Type 0 where
   pub board : IsBoard p.board
   pub plans : ArePlans p.first.old p.first.new
   pub held : IsSet p.held
   pub logs : AllByRecursion IsLog p.logs
-  pub apart : AreApart p.logs
+  pub rising : AreRising p.logs
   pub heard : AllByRecursion (λ l. IsHeard p.first p.board l.course.number) p.logs
   pub known : (n : ℕ) (c : Change) → known_to p n ≡ Some c → option_map (λ l. l.course) (log_of p.logs n) ≡ Some c

@@ -1,14 +1,16 @@
 //! What a partition did under one course.
 
-ghost use Rattle.std.specs.Prelude.{◌≡◌, ◌<◌, ◌≤◌, ◌==◌, ◌&&◌, ℕ, [], ◌∷◌, Some, IfOk, IfSome, IfNone, OnOk, OnErr, option_copied};
-ghost use Rattle.std.specs.List.{position};
+ghost use Rattle.std.specs.Prelude.{◌≡◌, ◌<◌, ◌≤◌, ◌==◌, ◌&&◌, ◌+◌, ℕ, [], ◌∷◌, length, Some, IfOk};
+ghost use Rattle.std.specs.Prelude.{IfSome, IfNone, OnOk, OnErr, option_copied, vec_len, vec_capacity};
+ghost use Rattle.std.specs.List.{position, insert as inserted};
 ghost use Rattle.squall_span.specs.Spans.{has, insert_span, union, minus};
 ghost use Rattle.squall_plan.specs.Ranges.{owner_of};
 ghost use Rattle.squall_course.specs.Subplans.{moves};
 ghost use Rattle.squall_board.specs.Boards.{IsBoard};
 ghost use Rattle.squall_board.specs.Takes.{TakesReport};
 ghost use Rattle.squall_part.specs.Logs.{has_number, number_in, awaits};
-ghost use Rattle.squall_part.specs.Parts.{AreApart, log_with};
+ghost use Rattle.squall_part.specs.Parts.{AreRising, log_with};
+ghost use Rattle.squall_part.specs.Fresh.{is_above, put_log, put_logs};
 
 use crate::moving::load_awaited;
 use squall_board::Board;
@@ -86,7 +88,8 @@ impl Log {
 
     /// The number of its course.
     pub(crate) fn number(&self) -> u32
-        ensures { result ≡ self.now.course.number }
+        ensures value { result ≡ self.now.course.number }
+        ensures some { 0 < result }
     {
         self.course().number()
     }
@@ -138,15 +141,58 @@ impl Log {
 
 /// The place of the log of the number.
 pub(crate) fn place_of(logs: &[Log], number: u32) -> Option<usize>
-    requires { AreApart logs.now }
+    requires { AreRising logs.now }
     ensures { result ≡ position (has_number number) logs.now }
 {
-    // The newest course is asked for most, and mostly its log came last.
+    // The newest course is asked for most, and its log is the last.
     let count = logs.len();
     if count > 0 && logs[count - 1].number() == number {
         return Some(count - 1);
     }
     logs.iter().position(|log| log.number() == number)
+}
+
+/// The place of the first log of a number above this one.
+fn first_above(logs: &[Log], number: u32) -> Option<usize>
+    ensures { result ≡ position (is_above number) logs.now }
+{
+    logs.iter().position(|log| number < log.number())
+}
+
+/// Puts a log at a place, before those from there on. There must be room for it.
+fn put(logs: &mut Vec<Log>, at: usize, log: Log)
+    requires within { at ≤ length logs.old.items }
+    requires room { vec_len logs.old < vec_capacity logs.old }
+    ensures value { logs.new.items ≡ inserted logs.old.items at log }
+    ensures len { vec_len logs.new ≡ vec_len logs.old + 1 }
+    ensures capacity { vec_capacity logs.new ≡ vec_capacity logs.old }
+{
+    logs.push_reserved(log);
+    logs[at..].rotate_right(1);
+}
+
+/// Puts a log among the others, before the first one of a greater number. There must be room for
+/// it.
+fn put_ready(logs: &mut Vec<Log>, log: Log)
+    requires room { vec_len logs.old < vec_capacity logs.old }
+    ensures value { logs.new.items ≡ put_log log logs.old.items }
+    ensures len { vec_len logs.new ≡ vec_len logs.old + 1 }
+    ensures capacity { vec_capacity logs.new ≡ vec_capacity logs.old }
+{
+    match first_above(logs, log.number()) {
+        Some(at) => put(logs, at, log),
+        None => logs.push_reserved(log),
+    }
+}
+
+/// Puts logs among the others. There must be room for them.
+pub(crate) fn put_all_ready(logs: &mut Vec<Log>, mut fresh: Vec<Log>)
+    requires room { vec_len logs.old + vec_len fresh ≤ vec_capacity logs.old }
+    ensures { logs.new.items ≡ put_logs fresh.items logs.old.items }
+{
+    while let Some(log) = fresh.pop() {
+        put_ready(logs, log);
+    }
 }
 
 /// The number of the log, 0 if there is none.

@@ -1,13 +1,13 @@
 //! Partitions.
 
-ghost use Rattle.std.specs.Prelude.{◌≡◌, ℕ, ◌+◌, ◌≤◌, ◌++◌, vec_len, vec_capacity, IfOk, OnOk, OnErr};
+ghost use Rattle.std.specs.Prelude.{◌≡◌, ℕ, IfOk, OnOk, OnErr};
 ghost use Rattle.std.specs.Arc.{arc_value};
 ghost use Rattle.std.specs.Option.{option_map};
 ghost use Rattle.squall_board.specs.Takes.{TakesBoard};
 ghost use Rattle.squall_span.specs.Spans.{IsSet};
 ghost use Rattle.squall_part.specs.Parts.{IsPart, new_part, ranges_of, known_to, given_by, loaded_by};
 
-use crate::log::Log;
+use crate::log::{Log, put_all_ready};
 use squall_board::{Board, Delta};
 use squall_course::Course;
 use squall_join::Shared;
@@ -30,6 +30,7 @@ pub struct Part {
     pub(crate) first: Shared<Course>,
     pub(crate) board: Board,
     pub(crate) held: SpanSet,
+    // By rising number of their courses.
     pub(crate) logs: Vec<Log>,
 }
 
@@ -62,14 +63,6 @@ fn ranges_of(alloc: Global, id: PartId, plan: &Plan) -> Result<SpanSet, AllocErr
     }
     know_set(&held);
     Ok(held)
-}
-
-/// Adds logs at the end, in room that was reserved.
-fn append_ready(logs: &mut Vec<Log>, mut fresh: Vec<Log>)
-    requires room { vec_len logs.old + vec_len fresh ≤ vec_capacity logs.old }
-    ensures { logs.new.items ≡ logs.old.items ++ fresh.items }
-{
-    let _done = logs.append(&mut fresh);
 }
 
 impl Part {
@@ -115,7 +108,7 @@ impl Part {
         self.logs.reserve(fresh.len())?;
         self.board.merge(delta)?;
         self.board.known();
-        append_ready(&mut self.logs, fresh);
+        put_all_ready(&mut self.logs, fresh);
         Ok(())
     }
 

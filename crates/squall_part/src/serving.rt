@@ -1,6 +1,6 @@
 //! What a partition replies.
 
-ghost use Rattle.std.specs.Prelude.{◌≡◌, option_copied};
+ghost use Rattle.std.specs.Prelude.{◌≡◌, ◌<◌, IsTrue, option_copied};
 ghost use Rattle.squall_plan.specs.Ranges.{owner_of};
 ghost use Rattle.squall_part.specs.Parts.{course_of_part};
 ghost use Rattle.squall_part.specs.Logs.{gave, comes, comes_after, last_of};
@@ -14,7 +14,8 @@ use squall_key::{Key, PartId};
 impl Part {
     /// Whether it gave the key by the log's course, which it knows.
     fn gave(&self, log: &Log, key: Key) -> bool
-        ensures { result ≡ gave self.now key log.now }
+        ensures value { result ≡ gave self.now key log.now }
+        ensures number { IsTrue result → 0 < log.now.course.number }
     {
         // The set comes first: few logs have the key, and the board's search takes longer.
         log.given.has(key) && self.knows(log.number())
@@ -22,35 +23,46 @@ impl Part {
 
     /// Whether by the log's course, which it knows, the key comes in, and it is not loaded.
     fn comes(&self, log: &Log, key: Key) -> bool
-        ensures { result ≡ comes self.now key log.now }
+        ensures value { result ≡ comes self.now key log.now }
+        ensures number { IsTrue result → 0 < log.now.course.number }
     {
         log.awaits(self.id, key) && self.knows(log.number())
     }
 
-    /// The log of the last course by which it gave the key.
+    /// The log of the last course by which it gave the key. The newest course is tried first, and
+    /// none before the one that is found.
     fn last_given(&self, key: Key) -> Option<&Log>
         ensures { option_copied result ≡ last_of (gave self.now key) self.now.logs }
     {
-        let mut found = None;
-        for log in &self.logs {
-            if number_of(found) < log.number() && self.gave(log, key) {
-                found = Some(log);
+        self.known();
+        let mut at = self.logs.len();
+        while at > 0 {
+            at -= 1;
+            if self.gave(&self.logs[at], key) {
+                return Some(&self.logs[at]);
             }
         }
-        found
+        None
     }
 
-    /// The log of the last course above the number by which the key comes in and is not loaded.
+    /// The log of the last course above the number by which the key comes in and is not loaded. The
+    /// newest course is tried first, and none up to the number.
     fn last_coming(&self, key: Key, after: u32) -> Option<&Log>
         ensures { option_copied result ≡ last_of (comes_after self.now key after) self.now.logs }
     {
-        let mut found = None;
-        for log in &self.logs {
-            if number_of(found) < log.number() && after < log.number() && self.comes(log, key) {
-                found = Some(log);
+        self.known();
+        let mut at = self.logs.len();
+        while at > 0 {
+            at -= 1;
+            // If nothing was given, all are tried, and no number needs to be read.
+            if after > 0 && self.logs[at].number() <= after {
+                return None;
+            }
+            if self.comes(&self.logs[at], key) {
+                return Some(&self.logs[at]);
             }
         }
-        found
+        None
     }
 
     /// The partition of the key by the old plan of the newest course that it knows.

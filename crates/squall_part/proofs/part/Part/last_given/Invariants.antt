@@ -1,6 +1,9 @@
-use Rattle.std.proofs.Common.{◌≡◌, drop, option_copied}
-use Rattle.squall_part.specs.Logs.{gave, last_from, last_of}
+use Rattle.std.proofs.Common.{◌≡◌, ◌≤◌, length, take}
+use Rattle.squall_part.specs.Logs.{gave, last_of}
 use Rattle.squall_part.proofs.part.Part.last_given.Given as goal
 
-abbrev pub invariant-loop-log : goal.invariant-loop-log
-invariant-loop-log l = last_from (gave l.self l.key) (option_copied l.found) (drop l.log-index l.log-items) ≡ last_of (gave l.self l.key) l.log-items
+abbrev pub invariant-loop-at : goal.invariant-loop-at
+invariant-loop-at l = (l.at ≤ length l.self.logs) × (last_of (gave l.self l.key) (take l.at l.self.logs) ≡ last_of (gave l.self l.key) l.self.logs)
+
+abbrev pub decreases-loop-at : goal.decreases-loop-at
+decreases-loop-at l = l.at
