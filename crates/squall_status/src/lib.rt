@@ -14,8 +14,9 @@
 //! ) -> Result<(), Fail> {
 //!     board.take(&Report::done(1, 0, 4).ok_or("report")?)?;
 //!     let status = CourseStatus::of(alloc, course, board)?;
-//!     assert!(rt; !status.moves()[0].progress.is_complete());
-//!     assert!(rt; status.moves()[1].progress.is_complete());
+//!     let moves = status.moves();
+//!     assert!(rt; !moves.first().ok_or("the first move")?.progress.is_complete());
+//!     assert!(rt; moves.get(1).ok_or("the second move")?.progress.is_complete());
 //!     assert!(rt; status.thousandths() == 750);
 //!     Ok(())
 //! }

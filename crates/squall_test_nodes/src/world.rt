@@ -4,6 +4,7 @@
 
 mod calls;
 mod clients;
+mod example;
 mod over;
 mod tolerant;
 

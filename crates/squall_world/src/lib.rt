@@ -15,7 +15,10 @@
 //!     assert!(rt; matches!(world.load(0), Ok(Answer::Loaded(_))));
 //!     assert!(rt; matches!(world.serve(to, key, 1), Answer::Served(Reply::Held)));
 //!     // The router has not heard of the load yet.
-//!     assert!(rt; matches!(world.route(0, key), Answer::Routed(part) if part == from));
+//!     let Answer::Routed(part) = world.route(0, key) else {
+//!         return None;
+//!     };
+//!     assert!(rt; part.get() == from.get());
 //!     Some(())
 //! }
 //! ```
