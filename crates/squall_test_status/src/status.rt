@@ -1,5 +1,6 @@
 //! How far courses have come, as worked out by hand.
 
+mod example;
 mod tolerant;
 
 use squall_board::Board;

@@ -10,7 +10,7 @@ use std::alloc::Global;
 use std::process::Abort;
 use std::test::Fail;
 
-/// Takes the report, where there is one. None also where an allocation fails.
+/// Takes the report, if there is one. None also if an allocation fails.
 fn take(board: &mut Board, report: Option<Report>) -> Option<()> {
     let report = report?;
     board.take(&report).ok()

@@ -30,7 +30,7 @@ const MOST: u64 = 18446744073709551615;
 
 const NO_SPAN: CSpan = CSpan { lo: 7, hi: 7 };
 
-/// Takes the report, where there is one.
+/// Takes the report, if there is one.
 fn take(board: &mut Board, report: Option<Report>) -> Result<(), Fail> {
     let report = report.ok_or("report")?;
     board.take(&report)?;

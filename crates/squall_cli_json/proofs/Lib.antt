@@ -1,0 +1,2 @@
+pub mod BoardLists
+pub mod Plain
