@@ -26,12 +26,12 @@ use Rattle.squall_cli_ask.specs.Gathered.{AreRead, TakesSome}
 -- the question that an inquiry with these words asks, if it is one
 abbrev pub question_of : Inquiry → List (List ℕ) → Option Question
 question_of inquiry.Report words = question_of_report words
-question_of inquiry.Board words = Some ask.Board
-question_of inquiry.Status words = Some (ask.Course (course.Status shown.EachMove))
-question_of inquiry.Waiting words = Some (ask.Course (course.Status shown.Waiting))
+question_of (inquiry.Board form) words = Some (ask.Board form)
+question_of (inquiry.Status form) words = Some (ask.Course (course.Status shown.EachMove form))
+question_of (inquiry.Waiting form) words = Some (ask.Course (course.Status shown.Waiting form))
 question_of inquiry.Picture words = Some (ask.Course course.Picture)
 question_of inquiry.Routes words = Some (ask.Course course.Routes)
-question_of inquiry.Legs words = Some (ask.Course course.Legs)
+question_of (inquiry.Legs form) words = Some (ask.Course (course.Legs form))
 question_of inquiry.Merge words = Some ask.Merge
 question_of inquiry.Beyond words = Some ask.Beyond
 question_of inquiry.Cover words = Some ask.Cover
@@ -41,12 +41,12 @@ question_of inquiry.Repair words = Some ask.Repair
 -- the names of the files that are read for it, in their order: those of a report are among its words
 abbrev pub files_of : Inquiry → List (List ℕ) → List (List ℕ) → List (List ℕ)
 files_of inquiry.Report words files = files_of_report words
-files_of inquiry.Board words files = files
-files_of inquiry.Status words files = files
-files_of inquiry.Waiting words files = files
+files_of (inquiry.Board form) words files = files
+files_of (inquiry.Status form) words files = files
+files_of (inquiry.Waiting form) words files = files
 files_of inquiry.Picture words files = files
 files_of inquiry.Routes words files = files
-files_of inquiry.Legs words files = files
+files_of (inquiry.Legs form) words files = files
 files_of inquiry.Merge words files = files
 files_of inquiry.Beyond words files = files
 files_of inquiry.Cover words files = files

@@ -25,12 +25,18 @@ pub(crate) fn question_of(alloc: Global, ask: &Ask) -> Result<Option<Question>, 
 {
     match ask.inquiry {
         Inquiry::Report => report_question(alloc, &ask.words),
-        Inquiry::Board => Ok(Some(Question::Board)),
-        Inquiry::Status => Ok(Some(Question::Course(CourseQuestion::Status(Shown::EachMove)))),
-        Inquiry::Waiting => Ok(Some(Question::Course(CourseQuestion::Status(Shown::Waiting)))),
+        Inquiry::Board(form) => Ok(Some(Question::Board(form))),
+        Inquiry::Status(form) => {
+            let status = CourseQuestion::Status(Shown::EachMove, form);
+            Ok(Some(Question::Course(status)))
+        }
+        Inquiry::Waiting(form) => {
+            let status = CourseQuestion::Status(Shown::Waiting, form);
+            Ok(Some(Question::Course(status)))
+        }
         Inquiry::Picture => Ok(Some(Question::Course(CourseQuestion::Picture))),
         Inquiry::Routes => Ok(Some(Question::Course(CourseQuestion::Routes))),
-        Inquiry::Legs => Ok(Some(Question::Course(CourseQuestion::Legs))),
+        Inquiry::Legs(form) => Ok(Some(Question::Course(CourseQuestion::Legs(form)))),
         Inquiry::Merge => Ok(Some(Question::Merge)),
         Inquiry::Beyond => Ok(Some(Question::Beyond)),
         Inquiry::Cover => Ok(Some(Question::Cover)),

@@ -22,7 +22,11 @@ use Rattle.squall_delta.specs.Pieces.{ArePieces}
 use Rattle.squall_delta.specs.Hashes.{digest_of}
 use Rattle.squall_delta.specs.Repairs.{IsRepair}
 use Rattle.squall_cli_words.specs.BoardText.{board_text}
-use Rattle.squall_cli_boards.specs.Files.{FileValue, refused_file, board_of_files, digest_of_file}
+use Rattle.squall_wire.specs.FaultText.{text_of_fault}
+use Rattle.squall_cli_command.specs.declared.form.Form.{Form}
+use Rattle.squall_cli_command.specs.declared.form.Form.TheVariants.{Lines, Json}
+use Rattle.squall_cli_json.specs.Values.{json_line, json_of_refusal, json_of_board}
+use Rattle.squall_cli_boards.specs.Files.{FileValue, RefusalValue, refused_file, board_of_files, digest_of_file}
 
 -- the bytes to write, and whether they refuse what was given
 pub record AnswerValue : Type 0 where
@@ -40,6 +44,16 @@ refusing line = answer_with line true
 abbrev pub AnswersFor : (BoardValue → AnswerValue → Type 0) → Result BoardValue (List ℕ) → AnswerValue → Type 0
 AnswersFor Shows (Ok b) a = Shows b a
 AnswersFor Shows (Err line) a = a ≡ refusing line
+
+-- a file is refused, by a line or as JSON
+abbrev pub refusing_file : Form → RefusalValue → AnswerValue
+refusing_file Lines r = refusing (refused_file r.name r.fault)
+refusing_file Json r = refusing (json_line (json_of_refusal r.name (text_of_fault r.fault)))
+
+-- the answer for a board if there is one, and else what refuses a file
+abbrev pub AnswersIn : Form → (BoardValue → AnswerValue → Type 0) → Result BoardValue RefusalValue → AnswerValue → Type 0
+AnswersIn form Shows (Ok b) a = Shows b a
+AnswersIn form Shows (Err r) a = a ≡ refusing_file form r
 
 -- ---- frames
 
@@ -64,9 +78,14 @@ ShowsFrames b a = AreFramesOf b a.text × (a.refused ≡ false)
 
 -- ---- boards
 
--- `board`: the lines of the board
-abbrev pub ShowsBoard : BoardValue → AnswerValue → Type 0
-ShowsBoard b a = a ≡ answer_with (board_text b) false
+-- the board, as lines or as JSON
+abbrev pub board_in : Form → BoardValue → List ℕ
+board_in Lines b = board_text b
+board_in Json b = json_line (json_of_board b)
+
+-- `board`: the board in that form
+abbrev pub ShowsBoard : Form → BoardValue → AnswerValue → Type 0
+ShowsBoard form b a = a ≡ answer_with (board_in form b) false
 
 -- `digest`: the frame of the board's digest, or that it would be too long
 abbrev pub answer_of_digest : DigestValue → AnswerValue
@@ -104,20 +123,25 @@ AnswersRepair (f ∷ fs) b a = ShowsRepair f.name (digest_of_file f.bytes) b a
 abbrev pub refused_plan : List ℕ → PlanFault → List ℕ
 refused_plan which fault = codes "refused " ++ (which ++ (codes " " ++ (text_of_plan_fault fault ++ codes "\n")))
 
--- the answer for two plans, or the line that refuses the old one, or else the new one
-abbrev pub AnswersPlans : (List PlanRange → List PlanRange → AnswerValue → Type 0) → Result (List PlanRange) PlanFault → Result (List PlanRange) PlanFault
-    → AnswerValue → Type 0
-AnswersPlans Shows (Ok old) (Ok new) a = Shows old new a
-AnswersPlans Shows (Ok old) (Err fault) a = a ≡ refusing (refused_plan (codes "new") fault)
-AnswersPlans Shows (Err fault) new a = a ≡ refusing (refused_plan (codes "old") fault)
+-- a plan is refused, by that line or as JSON
+abbrev pub refusing_plan : Form → List ℕ → PlanFault → AnswerValue
+refusing_plan Lines which fault = refusing (refused_plan which fault)
+refusing_plan Json which fault = refusing (json_line (json_of_refusal which (text_of_plan_fault fault)))
+
+-- the answer for two plans, or what refuses the old one, or else the new one
+abbrev pub AnswersPlans : Form → (List PlanRange → List PlanRange → AnswerValue → Type 0) → Result (List PlanRange) PlanFault
+    → Result (List PlanRange) PlanFault → AnswerValue → Type 0
+AnswersPlans form Shows (Ok old) (Ok new) a = Shows old new a
+AnswersPlans form Shows (Ok old) (Err fault) a = a ≡ refusing_plan form (codes "new") fault
+AnswersPlans form Shows (Err fault) new a = a ≡ refusing_plan form (codes "old") fault
 
 -- the bytes of the n-th file, counted from 0: none if there is no such file
 abbrev pub bytes_at : List FileValue → ℕ → List ℕ
 bytes_at files n = option_map_or (λ f. f.bytes) (slice_get files n) []
 
 -- the answer for the plans of the first two files
-abbrev pub AnswersFirstPlans : (List PlanRange → List PlanRange → AnswerValue → Type 0) → List FileValue → AnswerValue → Type 0
-AnswersFirstPlans Shows files a = AnswersPlans Shows (plan_of_text (bytes_at files 0)) (plan_of_text (bytes_at files 1)) a
+abbrev pub AnswersFirstPlans : Form → (List PlanRange → List PlanRange → AnswerValue → Type 0) → List FileValue → AnswerValue → Type 0
+AnswersFirstPlans form Shows files a = AnswersPlans form Shows (plan_of_text (bytes_at files 0)) (plan_of_text (bytes_at files 1)) a
 
 -- `report issued`: the frames of the board of that report alone
 abbrev pub ShowsIssue : ℕ → List PlanRange → List PlanRange → AnswerValue → Type 0

@@ -50,19 +50,35 @@ joined_file b bytes = joined_with b (bodies_in bytes) (fault_in bytes)
 abbrev pub refused_file : List ℕ → WireFault → List ℕ
 refused_file name fault = codes "refused " ++ (name ++ (codes " " ++ (text_of_fault fault ++ codes "\n")))
 
--- what comes of a file, and then of the next ones
-abbrev pub then_files : List ℕ → Result BoardValue WireFault → (BoardValue → Result BoardValue (List ℕ)) → Result BoardValue (List ℕ)
-then_files name (Ok b) next = next b
-then_files name (Err fault) next = Err (refused_file name fault)
+-- why a file is refused: its name and its fault
+pub record RefusalValue : Type 0 where
+  pub name : List ℕ
+  pub fault : WireFault
 
--- the board with those of all files joined in, or the line that refuses the first file with a fault
-abbrev pub joined_files : BoardValue → List FileValue → Result BoardValue (List ℕ)
+abbrev pub refusal_with : List ℕ → WireFault → RefusalValue
+refusal_with name fault = record { name = name; fault = fault }
+
+-- what comes of a file, and then of the next ones
+abbrev pub then_files : List ℕ → Result BoardValue WireFault → (BoardValue → Result BoardValue RefusalValue) → Result BoardValue RefusalValue
+then_files name (Ok b) next = next b
+then_files name (Err fault) next = Err (refusal_with name fault)
+
+-- the board with those of all files joined in, or why the first file with a fault is refused
+abbrev pub joined_files : BoardValue → List FileValue → Result BoardValue RefusalValue
 joined_files b [] = Ok b
 joined_files b (f ∷ fs) = then_files f.name (joined_file b f.bytes) (λ c. joined_files c fs)
 
 -- the board of board files: the join of all boards in them
+abbrev pub files_joined : List FileValue → Result BoardValue RefusalValue
+files_joined fs = joined_files empty_board fs
+
+-- the same, with the line that refuses a file
+abbrev pub joined_by_line : Result BoardValue RefusalValue → Result BoardValue (List ℕ)
+joined_by_line (Ok b) = Ok b
+joined_by_line (Err r) = Err (refused_file r.name r.fault)
+
 abbrev pub board_of_files : List FileValue → Result BoardValue (List ℕ)
-board_of_files fs = joined_files empty_board fs
+board_of_files fs = joined_by_line (files_joined fs)
 
 -- ---- the file of a digest
 

@@ -21,6 +21,7 @@ pub use Rattle.squall_cli_words.specs.RouteText
 pub use Rattle.squall_cli_lines.specs.Words
 pub use Rattle.squall_cli_words.specs.ReportLines
 pub use Rattle.squall_key.specs.Numbers
+pub use Rattle.squall_cli_json.specs.Values
 pub mod Files
 pub mod Answers
 pub mod Routes

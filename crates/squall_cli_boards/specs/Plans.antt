@@ -2,15 +2,25 @@
 use Rattle.std.specs.Prelude.{◌≡◌, List, Option, None, Some, Result, Ok, Err, codes}
 use Rattle.squall_plan.specs.declared.range.PlanRange.{PlanRange}
 use Rattle.squall_plan.specs.declared.fault.PlanFault.{PlanFault}
-use Rattle.squall_cli_boards.specs.Answers.{AnswerValue, refusing, refused_plan}
+use Rattle.squall_cli_command.specs.declared.form.Form.{Form}
+use Rattle.squall_cli_command.specs.declared.form.Form.TheVariants.{Lines}
+use Rattle.squall_cli_boards.specs.Answers.{AnswerValue, refusing_plan}
 
--- what refuses the old plan, or else the new one
+-- what refuses the old plan in the form, or else the new one
+abbrev pub refusal_in : Form → Result (List PlanRange) PlanFault → Result (List PlanRange) PlanFault → Option AnswerValue
+refusal_in form (Ok old) (Ok new) = None
+refusal_in form (Ok old) (Err fault) = Some (refusing_plan form (codes "new") fault)
+refusal_in form (Err fault) new = Some (refusing_plan form (codes "old") fault)
+
+-- the same by a line
 abbrev pub refusal_of : Result (List PlanRange) PlanFault → Result (List PlanRange) PlanFault → Option AnswerValue
-refusal_of (Ok old) (Ok new) = None
-refusal_of (Ok old) (Err fault) = Some (refusing (refused_plan (codes "new") fault))
-refusal_of (Err fault) new = Some (refusing (refused_plan (codes "old") fault))
+refusal_of old new = refusal_in Lines old new
 
--- both are the plans, or the answer refuses one of them
+-- both are the plans, or the answer in the form refuses one of them
+abbrev pub ArePlansReadIn : Form → Result (List PlanRange × List PlanRange) AnswerValue → Result (List PlanRange) PlanFault → Result (List PlanRange) PlanFault → Type 0
+ArePlansReadIn form (Ok plans) old new = (old ≡ Ok plans.0) × (new ≡ Ok plans.1)
+ArePlansReadIn form (Err answer) old new = refusal_in form old new ≡ Some answer
+
+-- the same by a line
 abbrev pub ArePlansRead : Result (List PlanRange × List PlanRange) AnswerValue → Result (List PlanRange) PlanFault → Result (List PlanRange) PlanFault → Type 0
-ArePlansRead (Ok plans) old new = (old ≡ Ok plans.0) × (new ≡ Ok plans.1)
-ArePlansRead (Err answer) old new = refusal_of old new ≡ Some answer
+ArePlansRead plans old new = ArePlansReadIn Lines plans old new

@@ -6,8 +6,12 @@ use Rattle.squall_table.specs.Tables.{legs_between}
 use Rattle.squall_cli_words.specs.declared.reason.Reason.{Reason}
 use Rattle.squall_cli_words.specs.declared.reason.Reason.TheVariants.{Word, Limit}
 use Rattle.squall_cli_words.specs.Forms.{two_bounds}
-use Rattle.squall_cli_words.specs.Reasons.{bad_line}
+use Rattle.squall_cli_words.specs.Reasons.{text_of_reason, bad_line}
 use Rattle.squall_cli_words.specs.RouteText.{route_text, leg_lines}
+use Rattle.squall_plan.specs.declared.range.PlanRange.{PlanRange}
+use Rattle.squall_cli_command.specs.declared.form.Form.{Form}
+use Rattle.squall_cli_command.specs.declared.form.Form.TheVariants.{Lines, Json}
+use Rattle.squall_cli_json.specs.Values.{json_line, json_of_refusal, json_of_legs}
 use Rattle.squall_cli_boards.specs.Answers.{AnswerValue, answer_with, refusing}
 
 -- what refuses the words of that number, counted from 1, as a scenario refuses a line
@@ -49,7 +53,17 @@ bounds_asked (word ∷ words) = two_bounds (word ∷ words)
 abbrev pub span_asked : List (List ℕ) → Result Interval Reason
 span_asked words = span_between (bounds_asked words)
 
+-- the words of bounds are refused, as a scenario refuses its first line, or as JSON
+abbrev pub refusing_bounds : Form → Reason → AnswerValue
+refusing_bounds Lines reason = refusing_words 1 reason
+refusing_bounds Json reason = refusing (json_line (json_of_refusal (codes "bounds") (text_of_reason reason)))
+
+-- legs, as lines or as JSON
+abbrev pub legs_in : Form → List PlanRange → List ℕ
+legs_in Lines legs = leg_lines legs
+legs_in Json legs = json_line (json_of_legs legs)
+
 -- the legs of the span
-abbrev pub legs_answer : (ℕ → ℕ) → Result Interval Reason → AnswerValue
-legs_answer to_part (Ok span) = answer_with (leg_lines (legs_between to_part span.lo span.hi)) false
-legs_answer to_part (Err reason) = refusing_words 1 reason
+abbrev pub legs_answer : Form → (ℕ → ℕ) → Result Interval Reason → AnswerValue
+legs_answer form to_part (Ok span) = answer_with (legs_in form (legs_between to_part span.lo span.hi)) false
+legs_answer form to_part (Err reason) = refusing_bounds form reason

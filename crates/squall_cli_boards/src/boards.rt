@@ -1,36 +1,55 @@
 //! What is asked of one board.
 
-ghost use Rattle.std.specs.Prelude.{◌≡◌, IfOk};
-ghost use Rattle.squall_cli_boards.specs.Files.{board_of_files};
-ghost use Rattle.squall_cli_boards.specs.Answers.{AnswersFor, ShowsBoard, ShowsFrames, ShowsDigest};
+ghost use Rattle.std.specs.Prelude.{◌≡◌, IfOk, string_bytes};
+ghost use Rattle.squall_cli_boards.specs.Files.{board_of_files, files_joined};
+ghost use Rattle.squall_cli_boards.specs.Answers.{AnswersFor, AnswersIn, board_in, ShowsBoard, ShowsFrames, ShowsDigest};
 
 use crate::answer::Answer;
 use crate::file::NamedFile;
 use crate::frames::{shown_digest, shown_frames};
-use crate::joining::join_files;
+use crate::joining::{join_all, join_files};
 use squall_board::Board;
+use squall_cli_command::Form;
+use squall_cli_json::board_json;
 use squall_cli_words::add_board;
 use squall_delta::digest;
 use std::alloc::{AllocError, Global};
 
-/// The lines of the board.
-fn shown_board(alloc: Global, board: &Board) -> Result<Answer, AllocError>
-    ensures { IfOk result (λ a. ShowsBoard board.now a) }
+/// The board in the form.
+fn board_text(alloc: Global, form: Form, board: &Board) -> Result<String, AllocError>
+    ensures { IfOk result (λ s. string_bytes s ≡ board_in form board.now) }
 {
-    let mut text = String::new(alloc);
-    add_board(board, &mut text)?;
+    match form {
+        Form::Lines => {
+            let mut text = String::new(alloc);
+            add_board(board, &mut text)?;
+            Ok(text)
+        }
+        Form::Json => board_json(alloc, board),
+    }
+}
+
+/// The board as an answer.
+fn shown_board(alloc: Global, form: Form, board: &Board) -> Result<Answer, AllocError>
+    ensures { IfOk result (λ a. ShowsBoard form board.now a) }
+{
+    let text = board_text(alloc, form, board)?;
     Answer::fine_text(alloc, text.as_str())
 }
 
 /// What the files tell, as the lines of a board: `opened N COUNT`, `issue N one` or `issue N clash`,
-/// and `cell N S P`, then `done` or `open` and the spans; or `empty`. A file that has a fault is
-/// refused, and nothing else is said.
-pub(crate) fn board_answer(alloc: Global, files: &[NamedFile]) -> Result<Answer, AllocError>
-    ensures { IfOk result (λ a. AnswersFor ShowsBoard (board_of_files files.now) a) }
+/// and `cell N S P`, then `done` or `open` and the spans; or `empty`. Or the same as JSON. A file
+/// that has a fault is refused, and nothing else is said.
+pub(crate) fn board_answer(
+    alloc: Global,
+    form: Form,
+    files: &[NamedFile],
+) -> Result<Answer, AllocError>
+    ensures { IfOk result (λ a. AnswersIn form (ShowsBoard form) (files_joined files.now) a) }
 {
-    match join_files(alloc, files)? {
-        Ok(board) => shown_board(alloc, &board),
-        Err(line) => Answer::refusing(alloc, line.as_str()),
+    match join_all(alloc, files)? {
+        Ok(board) => shown_board(alloc, form, &board),
+        Err(refusal) => refusal.answer(alloc, form),
     }
 }
 

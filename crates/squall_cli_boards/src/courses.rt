@@ -2,16 +2,18 @@
 
 ghost use Rattle.std.specs.Prelude.{◌≡◌, IfOk, drop, map, string_bytes};
 ghost use Rattle.squall_board.specs.CourseRoute.{course_of_board};
-ghost use Rattle.squall_cli_boards.specs.Answers.{AnswersFor, AnswersFirstPlans};
-ghost use Rattle.squall_cli_boards.specs.Courses.{ShowsStatus, ShowsPicture, ShowsCourse, AnswersNewest};
-ghost use Rattle.squall_cli_boards.specs.Files.{board_of_files};
+ghost use Rattle.squall_cli_boards.specs.Answers.{AnswersIn, AnswersFirstPlans};
+ghost use Rattle.squall_cli_boards.specs.Courses.{status_in, form_asked, ShowsStatus, ShowsPicture, ShowsCourse, AnswersNewest};
+ghost use Rattle.squall_cli_boards.specs.Files.{files_joined};
 
 use crate::answer::Answer;
 use crate::file::NamedFile;
-use crate::joining::join_files;
-use crate::plans::read_plans;
+use crate::joining::join_all;
+use crate::plans::plans_in;
 use crate::routes::{shown_legs, shown_routes};
 use squall_board::Board;
+use squall_cli_command::Form;
+use squall_cli_json::status_json;
 use squall_course::Course;
 use squall_picture::picture;
 use squall_plan::Plan;
@@ -21,28 +23,59 @@ use std::alloc::{AllocError, Global};
 /// What is asked of a course, as far as a board tells of it.
 #[derive(Clone, Copy)]
 pub enum CourseQuestion {
-    /// How far it has come, as lines.
-    Status(Shown),
+    /// How far it has come.
+    Status(Shown, Form),
     /// How far it has come, as a picture in SVG.
     Picture,
     /// The partition to ask for each of the keys that the words of the question write.
     Routes,
     /// The legs of the span whose bounds the words write, or without words of all keys.
-    Legs,
+    Legs(Form),
+}
+
+impl CourseQuestion {
+    /// The form of its answer, which also that of a refusal has.
+    fn form(self) -> Form
+        ensures { result ≡ form_asked self }
+    {
+        match self {
+            CourseQuestion::Status(_, form) | CourseQuestion::Legs(form) => form,
+            CourseQuestion::Picture | CourseQuestion::Routes => Form::Lines,
+        }
+    }
+}
+
+/// How far a course has come, in the form.
+fn status_text(
+    alloc: Global,
+    form: Form,
+    shown: Shown,
+    status: &CourseStatus,
+) -> Result<String, AllocError>
+    ensures { IfOk result (λ s. string_bytes s ≡ status_in form shown status.now) }
+{
+    match form {
+        Form::Lines => {
+            let mut text = String::new(alloc);
+            add_status(status, shown, &mut text)?;
+            Ok(text)
+        }
+        Form::Json => status_json(alloc, status, shown),
+    }
 }
 
 /// How far the course has come, as the board says.
 fn shown_status(
     alloc: Global,
+    form: Form,
     shown: Shown,
     course: &Course,
     board: &Board,
 ) -> Result<Answer, AllocError>
-    ensures { IfOk result (λ a. ShowsStatus shown course.now board.now a) }
+    ensures { IfOk result (λ a. ShowsStatus form shown course.now board.now a) }
 {
     let status = CourseStatus::of(alloc, course, board)?;
-    let mut text = String::new(alloc);
-    add_status(&status, shown, &mut text)?;
+    let text = status_text(alloc, form, shown, &status)?;
     Answer::fine_text(alloc, text.as_str())
 }
 
@@ -65,10 +98,10 @@ fn shown_course(
     ensures { IfOk result (λ a. ShowsCourse question (map string_bytes words.now) course.now board.now a) }
 {
     match question {
-        CourseQuestion::Status(shown) => shown_status(alloc, shown, course, board),
+        CourseQuestion::Status(shown, form) => shown_status(alloc, form, shown, course, board),
         CourseQuestion::Picture => shown_picture(alloc, course, board),
         CourseQuestion::Routes => shown_routes(alloc, words, course, board),
-        CourseQuestion::Legs => shown_legs(alloc, words, course, board),
+        CourseQuestion::Legs(form) => shown_legs(alloc, form, words, course, board),
     }
 }
 
@@ -102,12 +135,12 @@ fn newest_of_files(
     first: &Course,
     files: &[NamedFile],
 ) -> Result<Answer, AllocError>
-    ensures { IfOk result (λ a. AnswersFor (λ b. ShowsCourse question (map string_bytes words.now) (course_of_board first.now b) b)
-        (board_of_files files.now) a) }
+    ensures { IfOk result (λ a. AnswersIn (form_asked question)
+        (λ b. ShowsCourse question (map string_bytes words.now) (course_of_board first.now b) b) (files_joined files.now) a) }
 {
-    match join_files(alloc, files)? {
+    match join_all(alloc, files)? {
         Ok(board) => shown_newest(alloc, question, words, first, &board),
-        Err(line) => Answer::refusing(alloc, line.as_str()),
+        Err(refusal) => refusal.answer(alloc, question.form()),
     }
 }
 
@@ -142,9 +175,9 @@ pub(crate) fn course_answer(
     words: &[String],
     files: &[NamedFile],
 ) -> Result<Answer, AllocError>
-    ensures { IfOk result (λ a. AnswersFirstPlans (AnswersNewest question (map string_bytes words.now) (drop 2 files.now)) files.now a) }
+    ensures { IfOk result (λ a. AnswersFirstPlans (form_asked question) (AnswersNewest question (map string_bytes words.now) (drop 2 files.now)) files.now a) }
 {
-    match read_plans(alloc, files)? {
+    match plans_in(alloc, question.form(), files)? {
         Ok((old, new)) => newest_of_plans(alloc, question, words, &old, &new, files_after(files)),
         Err(answer) => Ok(answer),
     }

@@ -8,8 +8,10 @@ use crate::answer::Answer;
 use crate::file::NamedFile;
 use crate::frames::shown_frames;
 use crate::hearing::read_digest;
-use crate::joining::{join_files, refusal};
+use crate::joining::join_files;
+use crate::refusals::FileRefusal;
 use squall_board::Board;
+use squall_cli_command::Form;
 use squall_delta::{beyond, repair};
 use squall_wire::WireFault;
 use std::alloc::{AllocError, Global};
@@ -77,8 +79,7 @@ pub(crate) fn cover_answer(alloc: Global, files: &[NamedFile]) -> Result<Answer,
 fn refused(alloc: Global, name: &str, fault: WireFault) -> Result<Answer, AllocError>
     ensures { IfOk result (λ a. a ≡ refusing (refused_file name.now fault)) }
 {
-    let line = refusal(alloc, name, fault)?;
-    Answer::refusing(alloc, line.as_str())
+    FileRefusal::new(alloc, name, fault)?.answer(alloc, Form::Lines)
 }
 
 /// The frames of what the board has that the digest of a file does not show.

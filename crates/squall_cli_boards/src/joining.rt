@@ -3,11 +3,12 @@
 ghost use Rattle.std.specs.Prelude.{◌≡◌, ◌∷◌, List, Option, Err, map, IfOk, if◌then◌else◌, string_bytes};
 ghost use Rattle.squall_wire.specs.declared.fault.WireFault.{WireFault as Fault};
 ghost use Rattle.squall_wire.specs.Messages.{Body, body_of};
-ghost use Rattle.squall_cli_boards.specs.Files.{JoinsTo, joined_with, joined_file, refused_file, board_of_files};
+ghost use Rattle.squall_cli_boards.specs.Files.{JoinsTo, joined_with, joined_file, files_joined, board_of_files};
 ghost use Rattle.squall_cli_boards.specs.Joined.{IsJoined};
 
 use crate::file::NamedFile;
 use crate::hearing::hear_file;
+use crate::refusals::FileRefusal;
 use squall_board::Board;
 use squall_wire::laws::lists_make_the_board;
 use squall_wire::{Message, WireFault};
@@ -56,11 +57,21 @@ fn merge_file(
     merge_messages(board, &messages, fault)
 }
 
-/// The line that refuses a file.
-pub(crate) fn refusal(alloc: Global, name: &str, fault: WireFault) -> Result<String, AllocError>
-    ensures { IfOk result (λ line. string_bytes line ≡ refused_file name.now fault) }
+/// The board of the files: the join of all boards in them. Or why the first file that has a fault is
+/// refused.
+pub(crate) fn join_all(
+    alloc: Global,
+    files: &[NamedFile],
+) -> Result<Result<Board, FileRefusal>, AllocError>
+    ensures { IfOk result (λ joined. joined ≡ files_joined files.now) }
 {
-    format!(in alloc; "refused {name} {fault}\n")
+    let mut board = Board::new(alloc);
+    for file in files {
+        if let Some(fault) = merge_file(alloc, &mut board, file.bytes())? {
+            return Ok(Err(FileRefusal::new(alloc, file.name(), fault)?));
+        }
+    }
+    Ok(Ok(board))
 }
 
 /// The board of the files: the join of all boards in them. Or the line that refuses the first file
@@ -68,11 +79,8 @@ pub(crate) fn refusal(alloc: Global, name: &str, fault: WireFault) -> Result<Str
 pub fn join_files(alloc: Global, files: &[NamedFile]) -> Result<Result<Board, String>, AllocError>
     ensures { IfOk result (λ joined. IsJoined string_bytes joined (board_of_files files.now)) }
 {
-    let mut board = Board::new(alloc);
-    for file in files {
-        if let Some(fault) = merge_file(alloc, &mut board, file.bytes())? {
-            return Ok(Err(refusal(alloc, file.name(), fault)?));
-        }
+    match join_all(alloc, files)? {
+        Ok(board) => Ok(Ok(board)),
+        Err(refusal) => Ok(Err(refusal.line(alloc)?)),
     }
-    Ok(Ok(board))
 }

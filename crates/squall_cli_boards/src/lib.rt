@@ -15,6 +15,7 @@ mod hearing;
 mod joining;
 mod plans;
 mod question;
+mod refusals;
 mod report_words;
 mod routes;
 
@@ -22,6 +23,6 @@ pub use answer::Answer;
 pub use courses::CourseQuestion;
 pub use file::NamedFile;
 pub use joining::join_files;
-pub use plans::read_plans;
+pub use plans::{plans_in, read_plans};
 pub use question::{Question, answer_to};
 pub use report_words::{report_files, report_question};

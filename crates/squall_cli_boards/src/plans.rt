@@ -3,15 +3,18 @@
 ghost use Rattle.std.specs.Prelude.{◌≡◌, ◌≤◌, IfOk};
 ghost use Rattle.squall_board.specs.Boards.{report_board};
 ghost use Rattle.squall_plan.specs.Form.{plan_of_text};
-ghost use Rattle.squall_cli_boards.specs.Answers.{refusing, refused_plan, bytes_at, ShowsFrames, AnswersFirstPlans, ShowsIssue};
-ghost use Rattle.squall_cli_boards.specs.Plans.{ArePlansRead};
+ghost use Rattle.squall_cli_boards.specs.Answers.{bytes_at, ShowsFrames, AnswersFirstPlans, ShowsIssue};
+ghost use Rattle.squall_cli_boards.specs.Plans.{ArePlansRead, ArePlansReadIn};
+ghost use Rattle.squall_cli_command.specs.declared.form.Form.TheVariants.{Lines};
 
 use crate::answer::Answer;
 use crate::file::NamedFile;
 use crate::frames::shown_frames;
+use crate::refusals::refused_plan;
+use squall_cli_command::Form;
 use squall_cli_words::read_plan;
 use squall_delta::delta_of;
-use squall_plan::{Plan, PlanFault};
+use squall_plan::Plan;
 use squall_report::{Issue, Report};
 use std::alloc::{AllocError, Global};
 
@@ -32,29 +35,32 @@ fn bytes_at(files: &[NamedFile], at: usize) -> &[u8]
     }
 }
 
-/// The line that refuses a plan, as an answer.
-fn refused(alloc: Global, which: &str, fault: PlanFault) -> Result<Answer, AllocError>
-    ensures { IfOk result (λ a. a ≡ refusing (refused_plan which.now fault)) }
+/// The plans of the first two files, or the answer in the form that refuses one of them.
+pub fn plans_in(
+    alloc: Global,
+    form: Form,
+    files: &[NamedFile],
+) -> Result<Result<(Plan, Plan), Answer>, AllocError>
+    ensures { IfOk result (λ plans. ArePlansReadIn form plans (plan_of_text (bytes_at files.now 0)) (plan_of_text (bytes_at files.now 1))) }
 {
-    let line = format!(in alloc; "refused {which} {fault}\n")?;
-    Answer::refusing(alloc, line.as_str())
+    let old = match read_plan(alloc, bytes_at(files, 0))? {
+        Ok(old) => old,
+        Err(fault) => return Ok(Err(refused_plan(alloc, form, "old", fault)?)),
+    };
+    match read_plan(alloc, bytes_at(files, 1))? {
+        Ok(new) => Ok(Ok((old, new))),
+        Err(fault) => Ok(Err(refused_plan(alloc, form, "new", fault)?)),
+    }
 }
 
-/// The plans of the first two files, or the answer that refuses one of them.
+/// The plans of the first two files, or the answer that refuses one of them by a line.
 pub fn read_plans(
     alloc: Global,
     files: &[NamedFile],
 ) -> Result<Result<(Plan, Plan), Answer>, AllocError>
     ensures { IfOk result (λ plans. ArePlansRead plans (plan_of_text (bytes_at files.now 0)) (plan_of_text (bytes_at files.now 1))) }
 {
-    let old = match read_plan(alloc, bytes_at(files, 0))? {
-        Ok(old) => old,
-        Err(fault) => return Ok(Err(refused(alloc, "old", fault)?)),
-    };
-    match read_plan(alloc, bytes_at(files, 1))? {
-        Ok(new) => Ok(Ok((old, new))),
-        Err(fault) => Ok(Err(refused(alloc, "new", fault)?)),
-    }
+    plans_in(alloc, Form::Lines, files)
 }
 
 /// The frame of the report that the reconfiguration of that number leads from one plan to another.
@@ -79,7 +85,7 @@ pub(crate) fn issue_answer(
     files: &[NamedFile],
 ) -> Result<Answer, AllocError>
     requires { 1 ≤ number }
-    ensures { IfOk result (λ a. AnswersFirstPlans (ShowsIssue number) files.now a) }
+    ensures { IfOk result (λ a. AnswersFirstPlans Lines (ShowsIssue number) files.now a) }
 {
     match read_plans(alloc, files)? {
         Ok((old, new)) => shown_issue(alloc, number, &old, &new),

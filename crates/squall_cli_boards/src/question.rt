@@ -9,14 +9,15 @@ use crate::courses::{CourseQuestion, course_answer};
 use crate::exchange::{beyond_answer, cover_answer, repair_answer};
 use crate::file::NamedFile;
 use crate::plans::{issue_answer, report_answer};
+use squall_cli_command::Form;
 use squall_report::Report;
 use std::alloc::{AllocError, Global};
 
 /// What is asked of files.
 #[derive(Drop)]
 pub enum Question {
-    /// What the board files tell, as lines.
-    Board,
+    /// What the board files tell, as lines or as JSON.
+    Board(Form),
     /// What the board files tell, as frames.
     Merge,
     /// The digest of what the board files tell.
@@ -48,7 +49,7 @@ pub fn answer_to(
     ensures { IfOk result (λ a. IsAnswerTo question.now (map string_bytes words.now) files.now a) }
 {
     match question {
-        Question::Board => board_answer(alloc, files),
+        Question::Board(form) => board_answer(alloc, *form, files),
         Question::Merge => merge_answer(alloc, files),
         Question::Digest => digest_answer(alloc, files),
         Question::Beyond => beyond_answer(alloc, files),

@@ -6,13 +6,15 @@ ghost use Rattle.squall_board.specs.Boards.{says};
 ghost use Rattle.squall_board.specs.Route.{route};
 ghost use Rattle.squall_table.specs.Tables.{legs_between};
 ghost use Rattle.squall_cli_words.specs.Forms.{two_bounds};
-ghost use Rattle.squall_cli_words.specs.RouteText.{leg_lines};
 ghost use Rattle.squall_cli_boards.specs.Answers.{answer_with};
 ghost use Rattle.squall_cli_boards.specs.Courses.{ShowsRoutes, ShowsLegs};
-ghost use Rattle.squall_cli_boards.specs.Routes.{after_text, routes_answer, refusing_words, span_between, bounds_asked};
+ghost use Rattle.squall_cli_boards.specs.Routes.{after_text, routes_answer, legs_in, span_between, bounds_asked};
 
 use crate::answer::Answer;
+use crate::refusals::refused_bounds;
 use squall_board::Board;
+use squall_cli_command::Form;
+use squall_cli_json::legs_json;
 use squall_cli_words::{Reason, add_bad_line, add_legs, add_route};
 use squall_course::Course;
 use squall_key::{Bound, Key};
@@ -117,7 +119,7 @@ fn bounds_asked(words: &[String]) -> Option<(Bound, Bound)>
 }
 
 /// The legs of the span.
-fn legs_in(
+fn span_legs(
     alloc: Global,
     span: &Span,
     course: &Course,
@@ -132,42 +134,48 @@ fn legs_in(
     table.legs(alloc, span)
 }
 
-/// The lines of the legs of the span.
+/// The legs in the form.
+fn legs_text(alloc: Global, form: Form, legs: &[Leg]) -> Result<String, AllocError>
+    ensures { IfOk result (λ s. string_bytes s ≡ legs_in form legs.now) }
+{
+    match form {
+        Form::Lines => {
+            let mut text = String::new(alloc);
+            add_legs(legs, &mut text)?;
+            Ok(text)
+        }
+        Form::Json => legs_json(alloc, legs),
+    }
+}
+
+/// The legs of the span, in the form.
 fn shown_span(
     alloc: Global,
+    form: Form,
     span: &Span,
     course: &Course,
     board: &Board,
 ) -> Result<Answer, AllocError>
-    ensures { IfOk result (λ a. a ≡ answer_with (leg_lines (legs_between (route course.now (says board.now)) span.now.lo span.now.hi)) false) }
+    ensures { IfOk result (λ a. a ≡ answer_with (legs_in form (legs_between (route course.now (says board.now)) span.now.lo span.now.hi)) false) }
 {
-    let legs = legs_in(alloc, span, course, board)?;
-    let mut text = String::new(alloc);
-    add_legs(&legs, &mut text)?;
+    let legs = span_legs(alloc, span, course, board)?;
+    let text = legs_text(alloc, form, &legs)?;
     Answer::fine_text(alloc, text.as_str())
-}
-
-/// Refuses the words of that number as a scenario refuses a line.
-fn refused(alloc: Global, number: u64, reason: Reason) -> Result<Answer, AllocError>
-    ensures { IfOk result (λ a. a ≡ refusing_words number reason) }
-{
-    let mut line = String::new(alloc);
-    add_bad_line(number, reason, &mut line)?;
-    Answer::refusing(alloc, line.as_str())
 }
 
 /// The legs of the span that the words ask for: that of two bounds, or without words that of all keys.
 /// Words that ask for none are refused as a scenario refuses a line.
 pub(crate) fn shown_legs(
     alloc: Global,
+    form: Form,
     words: &[String],
     course: &Course,
     board: &Board,
 ) -> Result<Answer, AllocError>
-    ensures { IfOk result (λ a. ShowsLegs (map string_bytes words.now) course.now board.now a) }
+    ensures { IfOk result (λ a. ShowsLegs form (map string_bytes words.now) course.now board.now a) }
 {
     match span_between(bounds_asked(words)) {
-        Ok(span) => shown_span(alloc, &span, course, board),
-        Err(reason) => refused(alloc, 1, reason),
+        Ok(span) => shown_span(alloc, form, &span, course, board),
+        Err(reason) => refused_bounds(alloc, form, reason),
     }
 }

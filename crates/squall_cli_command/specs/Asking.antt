@@ -6,6 +6,8 @@ use Rattle.std.specs.Str.{bytes_eq}
 use Rattle.clap.specs.Words.{App, Shape, Row, Text, new_app, with_rule, first_of, all_of}
 use Rattle.squall_cli_command.specs.declared.inquiry.Inquiry.{Inquiry}
 use Rattle.squall_cli_command.specs.declared.inquiry.Inquiry.TheVariants.{Report, Board, Status, Waiting, Picture, Routes, Legs, Merge, Beyond, Cover, Digest, Repair}
+use Rattle.squall_cli_command.specs.declared.form.Form.{Form}
+use Rattle.squall_cli_command.specs.declared.form.Form.TheVariants.{Lines, Json}
 use Rattle.squall_cli_command.specs.Rules.{file_rule, words_rule, files_rule, option_rule, flag_rule}
 
 -- ---- the commands
@@ -14,14 +16,14 @@ abbrev pub report_shape : Shape
 report_shape = (with_rule (new_app (codes "report")) (words_rule (codes "WORD"))).top
 
 abbrev pub board_shape : Shape
-board_shape = (with_rule (new_app (codes "board")) (words_rule (codes "FILE"))).top
+board_shape = (with_rule (with_rule (new_app (codes "board")) (words_rule (codes "FILE"))) (flag_rule (codes "json"))).top
 
 -- a command of two plans, without what may follow: `NAME OLD NEW`
 abbrev pub of_plans : Text → App
 of_plans name = with_rule (with_rule (new_app name) (file_rule (codes "OLD"))) (file_rule (codes "NEW"))
 
 abbrev pub status_shape : Shape
-status_shape = (with_rule (with_rule (of_plans (codes "status")) (files_rule (codes "FILE"))) (flag_rule (codes "waiting"))).top
+status_shape = (with_rule (with_rule (with_rule (of_plans (codes "status")) (files_rule (codes "FILE"))) (flag_rule (codes "waiting"))) (flag_rule (codes "json"))).top
 
 abbrev pub picture_shape : Shape
 picture_shape = (with_rule (of_plans (codes "picture")) (files_rule (codes "FILE"))).top
@@ -30,7 +32,7 @@ abbrev pub route_shape : Shape
 route_shape = (with_rule (with_rule (of_plans (codes "route")) (files_rule (codes "KEY"))) (option_rule (codes "board"))).top
 
 abbrev pub legs_shape : Shape
-legs_shape = (with_rule (with_rule (of_plans (codes "legs")) (files_rule (codes "BOUND"))) (option_rule (codes "board"))).top
+legs_shape = (with_rule (with_rule (with_rule (of_plans (codes "legs")) (files_rule (codes "BOUND"))) (option_rule (codes "board"))) (flag_rule (codes "json"))).top
 
 abbrev pub merge_shape : Shape
 merge_shape = (with_rule (new_app (codes "merge")) (words_rule (codes "FILE"))).top
@@ -50,15 +52,19 @@ repair_shape = (with_rule (with_rule (new_app (codes "repair")) (file_rule (code
 abbrev pub is_set : Text → List Row → Bool
 is_set id rows = option_map_or (λ value. bytes_eq value (codes "true")) (first_of id rows) false
 
+-- how the entries ask for the answer
+abbrev pub form_in : List Row → Form
+form_in rows = if is_set (codes "json") rows then Json else Lines
+
 -- what a command's name and entries ask of board files: nothing if it is another command
 abbrev pub inquiry_in : Text → List Row → Option Inquiry
 inquiry_in name rows =
     if bytes_eq name (codes "report") then Some Report
-    else (if bytes_eq name (codes "board") then Some Board
-    else (if bytes_eq name (codes "status") then Some (if is_set (codes "waiting") rows then Waiting else Status)
+    else (if bytes_eq name (codes "board") then Some (Board (form_in rows))
+    else (if bytes_eq name (codes "status") then Some (if is_set (codes "waiting") rows then Waiting (form_in rows) else Status (form_in rows))
     else (if bytes_eq name (codes "picture") then Some Picture
     else (if bytes_eq name (codes "route") then Some Routes
-    else (if bytes_eq name (codes "legs") then Some Legs
+    else (if bytes_eq name (codes "legs") then Some (Legs (form_in rows))
     else (if bytes_eq name (codes "merge") then Some Merge
     else (if bytes_eq name (codes "beyond") then Some (if is_set (codes "quiet") rows then Cover else Beyond)
     else (if bytes_eq name (codes "digest") then Some Digest
@@ -68,12 +74,12 @@ inquiry_in name rows =
 -- the arguments of an inquiry that are no files: the words of a report, keys or bounds
 abbrev pub word_arguments : Inquiry → List Text
 word_arguments Report = codes "WORD" ∷ []
-word_arguments Board = []
-word_arguments Status = []
-word_arguments Waiting = []
+word_arguments (Board form) = []
+word_arguments (Status form) = []
+word_arguments (Waiting form) = []
 word_arguments Picture = []
 word_arguments Routes = codes "KEY" ∷ []
-word_arguments Legs = codes "BOUND" ∷ []
+word_arguments (Legs form) = codes "BOUND" ∷ []
 word_arguments Merge = []
 word_arguments Beyond = []
 word_arguments Cover = []
@@ -83,12 +89,12 @@ word_arguments Repair = []
 -- its arguments that are files, in the order in which they are read
 abbrev pub file_arguments : Inquiry → List Text
 file_arguments Report = []
-file_arguments Board = codes "FILE" ∷ []
-file_arguments Status = codes "OLD" ∷ codes "NEW" ∷ codes "FILE" ∷ []
-file_arguments Waiting = codes "OLD" ∷ codes "NEW" ∷ codes "FILE" ∷ []
+file_arguments (Board form) = codes "FILE" ∷ []
+file_arguments (Status form) = codes "OLD" ∷ codes "NEW" ∷ codes "FILE" ∷ []
+file_arguments (Waiting form) = codes "OLD" ∷ codes "NEW" ∷ codes "FILE" ∷ []
 file_arguments Picture = codes "OLD" ∷ codes "NEW" ∷ codes "FILE" ∷ []
 file_arguments Routes = codes "OLD" ∷ codes "NEW" ∷ codes "board" ∷ []
-file_arguments Legs = codes "OLD" ∷ codes "NEW" ∷ codes "board" ∷ []
+file_arguments (Legs form) = codes "OLD" ∷ codes "NEW" ∷ codes "board" ∷ []
 file_arguments Merge = codes "FILE" ∷ []
 file_arguments Beyond = codes "A" ∷ codes "B" ∷ []
 file_arguments Cover = codes "A" ∷ codes "B" ∷ []

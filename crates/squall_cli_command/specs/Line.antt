@@ -11,18 +11,19 @@ use Rattle.clap.specs.declared.error.kind.ErrorKind.{ErrorKind}
 use Rattle.clap.specs.declared.error.kind.ErrorKind.TheVariants.{DisplayHelp, DisplayVersion}
 use Rattle.squall_cli_command.specs.declared.task.Task.{Task}
 use Rattle.squall_cli_command.specs.declared.task.Task.TheVariants.{Check, Course, Run, Race, Ask, Stream as StreamTask}
+use Rattle.squall_cli_command.specs.declared.form.Form.{Form}
 use Rattle.squall_cli_command.specs.declared.inquiry.Inquiry.{Inquiry}
-use Rattle.squall_cli_command.specs.Rules.{file_rule}
+use Rattle.squall_cli_command.specs.Rules.{file_rule, flag_rule}
 use Rattle.squall_cli_command.specs.Asking.{report_shape, board_shape, status_shape, picture_shape, route_shape, legs_shape, merge_shape, beyond_shape, digest_shape, repair_shape}
-use Rattle.squall_cli_command.specs.Asking.{inquiry_in, word_arguments, file_arguments, words_in}
+use Rattle.squall_cli_command.specs.Asking.{form_in, inquiry_in, word_arguments, file_arguments, words_in}
 use Rattle.squall_cli_command.specs.declared.stream.Stream.{Stream}
 use Rattle.squall_cli_command.specs.Streams.{stream_in, stream_files}
 
 abbrev pub check_shape : Shape
-check_shape = (with_rule (new_app (codes "check")) (file_rule (codes "PLAN"))).top
+check_shape = (with_rule (with_rule (new_app (codes "check")) (file_rule (codes "PLAN"))) (flag_rule (codes "json"))).top
 
 abbrev pub course_shape : Shape
-course_shape = (with_rule (with_rule (new_app (codes "course")) (file_rule (codes "OLD"))) (file_rule (codes "NEW"))).top
+course_shape = (with_rule (with_rule (with_rule (new_app (codes "course")) (file_rule (codes "OLD"))) (file_rule (codes "NEW"))) (flag_rule (codes "json"))).top
 
 abbrev pub run_shape : Shape
 run_shape = (with_rule (new_app (codes "run")) (file_rule (codes "FILE"))).top
@@ -71,16 +72,16 @@ plain_words (name ∷ word ∷ rest) =
 
 -- a task without where its names lie in memory
 pub data Job : Type 0 where
-  check : List ℕ → Job
-  course : List ℕ → List ℕ → Job
+  check : Form → List ℕ → Job
+  course : Form → List ℕ → List ℕ → Job
   run : List ℕ → Job
   race : List ℕ → Job
   ask : Inquiry → List (List ℕ) → List (List ℕ) → Job
   stream : Stream → List (List ℕ) → Job
 
 abbrev pub job_seen : Task → Job
-job_seen (Check plan) = check (string_bytes plan)
-job_seen (Course old new) = course (string_bytes old) (string_bytes new)
+job_seen (Check form plan) = check form (string_bytes plan)
+job_seen (Course form old new) = course form (string_bytes old) (string_bytes new)
 job_seen (Run file) = run (string_bytes file)
 job_seen (Race file) = race (string_bytes file)
 job_seen (Ask asked) = ask asked.inquiry (map string_bytes asked.words.items) (map string_bytes asked.files.items)
@@ -93,8 +94,8 @@ file_in id rows = unwrap_or (first_of id rows) []
 -- the job of the name and the entries of a command that asks nothing of board files
 abbrev pub file_job_in : Text → List Row → Job
 file_job_in name rows =
-    if bytes_eq name (codes "check") then check (file_in (codes "PLAN") rows)
-    else (if bytes_eq name (codes "course") then course (file_in (codes "OLD") rows) (file_in (codes "NEW") rows)
+    if bytes_eq name (codes "check") then check (form_in rows) (file_in (codes "PLAN") rows)
+    else (if bytes_eq name (codes "course") then course (form_in rows) (file_in (codes "OLD") rows) (file_in (codes "NEW") rows)
     else (if bytes_eq name (codes "race") then race (file_in (codes "FILE") rows)
     else run (file_in (codes "FILE") rows)))
 

@@ -1,6 +1,6 @@
 //! The commands about reports and boards, with their help, as `clap` reads them.
 
-ghost use Rattle.std.specs.Prelude.{◌≡◌, IfOk, false};
+ghost use Rattle.std.specs.Prelude.{◌≡◌, IfOk, false, codes};
 ghost use Rattle.clap.specs.Words.{shape_of, rule_of};
 ghost use Rattle.clap.specs.declared.builder.command.Command.TheViews.{out-Command as fields_of};
 ghost use Rattle.squall_cli_command.specs.Rules.{words_rule, files_rule, flag_rule};
@@ -22,7 +22,8 @@ const BOARD: &str =
     "A file has the frames of a board. If a file has a fault, the only line is: refused FILE FAULT
 
 Example:
-  squall board a.bin b.bin";
+  squall board a.bin b.bin
+  squall board --json a.bin b.bin";
 
 const MERGE: &str = "A file has the frames of a board. The output has as few frames as can be.
 
@@ -59,6 +60,14 @@ pub(crate) fn flag<'a>(alloc: Global, name: &'a str, help: &'a str) -> Arg<'a>
         .help(help)
 }
 
+/// `--json`, which may be there.
+pub(crate) fn json<'a>(alloc: Global) -> Arg<'a>
+    ensures rule { rule_of result ≡ flag_rule (codes "json") }
+    ensures global { result.global ≡ false }
+{
+    flag(alloc, "json", "Writes a JSON object instead of lines")
+}
+
 /// `report WORD..`
 pub(crate) fn report_command<'a>(alloc: Global) -> Result<Command<'a>, AllocError>
     ensures shape { IfOk result (λ c. shape_of c ≡ report_shape) }
@@ -70,7 +79,7 @@ pub(crate) fn report_command<'a>(alloc: Global) -> Result<Command<'a>, AllocErro
         .arg(words(alloc, "WORD", "The words of the report"))
 }
 
-/// `board FILE..`
+/// `board FILE.. [--json]`
 pub(crate) fn board_command<'a>(alloc: Global) -> Result<Command<'a>, AllocError>
     ensures shape { IfOk result (λ c. shape_of c ≡ board_shape) }
     ensures globals { IfOk result (λ c. (fields_of c).has_globals ≡ false) }
@@ -78,7 +87,8 @@ pub(crate) fn board_command<'a>(alloc: Global) -> Result<Command<'a>, AllocError
     Command::new(alloc, "board")
         .about("Shows the board that files tell of, as lines")
         .after_help(BOARD)
-        .arg(words(alloc, "FILE", "The files of frames, or -"))
+        .arg(words(alloc, "FILE", "The files of frames, or -"))?
+        .arg(json(alloc))
 }
 
 /// `merge FILE..`

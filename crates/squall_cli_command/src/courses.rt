@@ -6,7 +6,7 @@ ghost use Rattle.clap.specs.declared.builder.command.Command.TheViews.{out-Comma
 ghost use Rattle.squall_cli_command.specs.Asking.{of_plans, status_shape, picture_shape, route_shape, legs_shape};
 ghost use Rattle.squall_cli_command.specs.Rules.{option_rule};
 
-use crate::boards::{files, flag};
+use crate::boards::{files, flag, json};
 use crate::parser::file;
 use clap::{Arg, ArgAction, Command};
 use std::alloc::{AllocError, Global};
@@ -16,7 +16,8 @@ const STATUS: &str =
 the files tell of.
 
 Example:
-  squall status --waiting old.json new.json board.bin";
+  squall status --waiting old.json new.json board.bin
+  squall status --json old.json new.json board.bin";
 
 const PICTURE: &str =
     "OLD and NEW are the plans of the first reconfiguration. The picture is that of the newest one that
@@ -43,7 +44,8 @@ Without them all keys are shown. The answers are the lines that a scenario answe
 See: squall help run
 
 Example:
-  squall legs old.json new.json 2:0 3:0 --board board.bin";
+  squall legs old.json new.json 2:0 3:0 --board board.bin
+  squall legs --json old.json new.json --board board.bin";
 
 /// `--name FILE`, any number of times.
 fn option<'a>(alloc: Global, name: &'a str, help: &'a str) -> Arg<'a>
@@ -67,7 +69,7 @@ fn of_plans<'a>(alloc: Global, name: &'a str) -> Result<Command<'a>, AllocError>
         .arg(file(alloc, "NEW", "The file of the new plan, or -"))
 }
 
-/// `status OLD NEW [FILE..]`
+/// `status OLD NEW [FILE..] [--waiting] [--json]`
 pub(crate) fn status_command<'a>(alloc: Global) -> Result<Command<'a>, AllocError>
     ensures shape { IfOk result (λ c. shape_of c ≡ status_shape) }
     ensures globals { IfOk result (λ c. (fields_of c).has_globals ≡ false) }
@@ -80,7 +82,8 @@ pub(crate) fn status_command<'a>(alloc: Global) -> Result<Command<'a>, AllocErro
             alloc,
             "waiting",
             "Shows only the moves that are not complete",
-        ))
+        ))?
+        .arg(json(alloc))
 }
 
 /// `picture OLD NEW [FILE..]`
@@ -110,7 +113,7 @@ pub(crate) fn route_command<'a>(alloc: Global) -> Result<Command<'a>, AllocError
         .arg(option(alloc, "board", "A file of frames, or -"))
 }
 
-/// `legs OLD NEW [BOUND].. [--board FILE]..`
+/// `legs OLD NEW [BOUND].. [--board FILE].. [--json]`
 pub(crate) fn legs_command<'a>(alloc: Global) -> Result<Command<'a>, AllocError>
     ensures shape { IfOk result (λ c. shape_of c ≡ legs_shape) }
     ensures globals { IfOk result (λ c. (fields_of c).has_globals ≡ false) }
@@ -119,5 +122,6 @@ pub(crate) fn legs_command<'a>(alloc: Global) -> Result<Command<'a>, AllocError>
         .about("Shows which partitions to ask for all keys, or for those of a span")
         .after_help(LEGS)
         .arg(files(alloc, "BOUND", "LO and HI, the bounds of the span"))?
-        .arg(option(alloc, "board", "A file of frames, or -"))
+        .arg(option(alloc, "board", "A file of frames, or -"))?
+        .arg(json(alloc))
 }

@@ -5,6 +5,7 @@ ghost use Rattle.clap.specs.Words.{found_of, rows_of};
 ghost use Rattle.squall_cli_command.specs.Line.{words_of};
 ghost use Rattle.squall_cli_command.specs.Asking.{is_set, inquiry_in, word_arguments, file_arguments, values_in, words_in};
 
+use crate::form::{Form, form_of, is_set};
 use clap::ArgMatches;
 use std::alloc::{AllocError, Global};
 
@@ -13,18 +14,18 @@ use std::alloc::{AllocError, Global};
 pub enum Inquiry {
     /// The frame of a report, which the words write. The files of its plans are among them.
     Report,
-    /// What the board files tell, as lines.
-    Board,
+    /// What the board files tell, as lines or as JSON.
+    Board(Form),
     /// How far the newest course has come. The files are the old plan, the new plan and board files.
-    Status,
+    Status(Form),
     /// The same, with the moves alone that are not complete.
-    Waiting,
+    Waiting(Form),
     /// The picture of how far the newest course has come, of the same files.
     Picture,
     /// The routes of keys by the newest course, of the same files. The words are the keys.
     Routes,
     /// Its legs, of the same files. The words are two bounds, or there are none.
-    Legs,
+    Legs(Form),
     /// What the board files tell, as frames.
     Merge,
     /// What the first board file tells that the second does not, as frames.
@@ -48,17 +49,6 @@ pub struct Ask {
     pub files: Vec<String>,
 }
 
-/// Whether the flag is among what was parsed.
-#[tactic(auto, using(crate::proofs::Rows::first_is))]
-fn is_set(matches: &ArgMatches, id: &str) -> bool
-    ensures { result ≡ is_set id.now (rows_of (found_of matches.now)) }
-{
-    match matches.get_str(id) {
-        Some(value) => value == "true",
-        None => false,
-    }
-}
-
 /// One inquiry if the flag is among what was parsed, and another if not.
 fn by_flag(matches: &ArgMatches, id: &str, with: Inquiry, without: Inquiry) -> Inquiry
     ensures { result ≡ (if is_set id.now (rows_of (found_of matches.now)) then with else without) }
@@ -74,10 +64,12 @@ pub(crate) fn inquiry_of(name: &str, matches: &ArgMatches) -> Option<Inquiry>
         return Some(Inquiry::Report);
     }
     if name == "board" {
-        return Some(Inquiry::Board);
+        return Some(Inquiry::Board(form_of(matches)));
     }
     if name == "status" {
-        return Some(by_flag(matches, "waiting", Inquiry::Waiting, Inquiry::Status));
+        let form = form_of(matches);
+        let (waiting, status) = (Inquiry::Waiting(form), Inquiry::Status(form));
+        return Some(by_flag(matches, "waiting", waiting, status));
     }
     if name == "picture" {
         return Some(Inquiry::Picture);
@@ -86,7 +78,7 @@ pub(crate) fn inquiry_of(name: &str, matches: &ArgMatches) -> Option<Inquiry>
         return Some(Inquiry::Routes);
     }
     if name == "legs" {
-        return Some(Inquiry::Legs);
+        return Some(Inquiry::Legs(form_of(matches)));
     }
     if name == "merge" {
         return Some(Inquiry::Merge);
@@ -110,7 +102,7 @@ fn word_arguments(inquiry: Inquiry) -> &'static [&'static str]
     match inquiry {
         Inquiry::Report => &["WORD"],
         Inquiry::Routes => &["KEY"],
-        Inquiry::Legs => &["BOUND"],
+        Inquiry::Legs(_) => &["BOUND"],
         _ => &[],
     }
 }
@@ -121,9 +113,9 @@ fn file_arguments(inquiry: Inquiry) -> &'static [&'static str]
 {
     match inquiry {
         Inquiry::Report => &[],
-        Inquiry::Board | Inquiry::Merge => &["FILE"],
-        Inquiry::Status | Inquiry::Waiting | Inquiry::Picture => &["OLD", "NEW", "FILE"],
-        Inquiry::Routes | Inquiry::Legs => &["OLD", "NEW", "board"],
+        Inquiry::Board(_) | Inquiry::Merge => &["FILE"],
+        Inquiry::Status(_) | Inquiry::Waiting(_) | Inquiry::Picture => &["OLD", "NEW", "FILE"],
+        Inquiry::Routes | Inquiry::Legs(_) => &["OLD", "NEW", "board"],
         Inquiry::Beyond | Inquiry::Cover => &["A", "B"],
         Inquiry::Digest => &["A"],
         Inquiry::Repair => &["A", "DIGEST"],

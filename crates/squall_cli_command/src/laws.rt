@@ -4,28 +4,29 @@ ghost use Rattle.std.specs.Prelude.{◌≢◌, ◌⊎◌, ◌∷◌, [], List, c
 ghost use Rattle.clap.specs.Words.{Text};
 ghost use Rattle.squall_cli_command.specs.declared.inquiry.Inquiry.TheVariants.{Report, Board, Status, Waiting, Routes, Legs, Beyond, Cover};
 ghost use Rattle.squall_cli_command.specs.declared.stream.Stream.TheVariants.{Keys};
-ghost use Rattle.squall_cli_command.specs.Line.{Asks, AsksForHelp, IsFaulty, faults_in, check, run, ask, stream};
+ghost use Rattle.squall_cli_command.specs.declared.form.Form.TheVariants.{Lines, Json};
+ghost use Rattle.squall_cli_command.specs.Line.{Asks, AsksForHelp, IsFaulty, faults_in, check, course, run, ask, stream};
 
 /// Standard input is run without a command, and by `run -`; it is checked by `check -`.
 pub fn standard_input()
     ensures alone { (name : Text) → Asks (name ∷ []) (run (codes "-")) }
     ensures run { (name : Text) → Asks (name ∷ codes "run" ∷ codes "-" ∷ []) (run (codes "-")) }
-    ensures check { (name : Text) → Asks (name ∷ codes "check" ∷ codes "-" ∷ []) (check (codes "-")) }
+    ensures check { (name : Text) → Asks (name ∷ codes "check" ∷ codes "-" ∷ []) (check Lines (codes "-")) }
 {}
 
 /// The words after `report` are those of the inquiry, and those after `board` its files, in their order.
 pub fn words_of_boards()
     ensures report { (name : Text) → Asks (name ∷ codes "report" ∷ codes "opened" ∷ codes "1" ∷ codes "2" ∷ [])
         (ask Report (codes "opened" ∷ codes "1" ∷ codes "2" ∷ []) []) }
-    ensures board { (name : Text) → Asks (name ∷ codes "board" ∷ codes "b" ∷ codes "-" ∷ []) (ask Board [] (codes "b" ∷ codes "-" ∷ [])) }
+    ensures board { (name : Text) → Asks (name ∷ codes "board" ∷ codes "b" ∷ codes "-" ∷ []) (ask (Board Lines) [] (codes "b" ∷ codes "-" ∷ [])) }
 {}
 
 /// A flag is no file of the inquiry, and changes what is asked.
 pub fn flags_of_boards()
     ensures status { (name : Text) → Asks (name ∷ codes "status" ∷ codes "o" ∷ codes "n" ∷ codes "b" ∷ [])
-        (ask Status [] (codes "o" ∷ codes "n" ∷ codes "b" ∷ [])) }
+        (ask (Status Lines) [] (codes "o" ∷ codes "n" ∷ codes "b" ∷ [])) }
     ensures waiting { (name : Text) → Asks (name ∷ codes "status" ∷ codes "--waiting" ∷ codes "o" ∷ codes "n" ∷ [])
-        (ask Waiting [] (codes "o" ∷ codes "n" ∷ [])) }
+        (ask (Waiting Lines) [] (codes "o" ∷ codes "n" ∷ [])) }
     ensures beyond { (name : Text) → Asks (name ∷ codes "beyond" ∷ codes "a" ∷ codes "b" ∷ []) (ask Beyond [] (codes "a" ∷ codes "b" ∷ [])) }
     ensures quiet { (name : Text) → Asks (name ∷ codes "beyond" ∷ codes "a" ∷ codes "b" ∷ codes "--quiet" ∷ []) (ask Cover [] (codes "a" ∷ codes "b" ∷ [])) }
 {}
@@ -36,7 +37,7 @@ pub fn files_of_routes()
     ensures route { (name : Text) → Asks (name ∷ codes "route" ∷ codes "o" ∷ codes "n" ∷ codes "2:0" ∷ codes "--board" ∷ codes "b" ∷ codes "3:0" ∷ [])
         (ask Routes (codes "2:0" ∷ codes "3:0" ∷ []) (codes "o" ∷ codes "n" ∷ codes "b" ∷ [])) }
     ensures legs { (name : Text) → Asks (name ∷ codes "legs" ∷ codes "--board" ∷ codes "b" ∷ codes "o" ∷ codes "n" ∷ [])
-        (ask Legs [] (codes "o" ∷ codes "n" ∷ codes "b" ∷ [])) }
+        (ask (Legs Lines) [] (codes "o" ∷ codes "n" ∷ codes "b" ∷ [])) }
 {}
 
 /// Without a key, and with `-` as the only one, a route's keys are those of standard input.
@@ -44,6 +45,19 @@ pub fn keys_of_standard_input()
     ensures none { (name : Text) → Asks (name ∷ codes "route" ∷ codes "o" ∷ codes "n" ∷ codes "--board" ∷ codes "b" ∷ [])
         (stream Keys (codes "o" ∷ codes "n" ∷ codes "b" ∷ [])) }
     ensures dash { (name : Text) → Asks (name ∷ codes "route" ∷ codes "o" ∷ codes "n" ∷ codes "-" ∷ []) (stream Keys (codes "o" ∷ codes "n" ∷ [])) }
+{}
+
+/// `--json` is no file either: it asks for the same as JSON.
+pub fn forms_of_answers()
+    ensures check { (name : Text) → Asks (name ∷ codes "check" ∷ codes "--json" ∷ codes "p" ∷ []) (check Json (codes "p")) }
+    ensures course { (name : Text) → Asks (name ∷ codes "course" ∷ codes "o" ∷ codes "n" ∷ codes "--json" ∷ []) (course Json (codes "o") (codes "n")) }
+    ensures board { (name : Text) → Asks (name ∷ codes "board" ∷ codes "--json" ∷ codes "b" ∷ []) (ask (Board Json) [] (codes "b" ∷ [])) }
+    ensures status { (name : Text) → Asks (name ∷ codes "status" ∷ codes "o" ∷ codes "n" ∷ codes "--json" ∷ [])
+        (ask (Status Json) [] (codes "o" ∷ codes "n" ∷ [])) }
+    ensures waiting { (name : Text) → Asks (name ∷ codes "status" ∷ codes "--waiting" ∷ codes "--json" ∷ codes "o" ∷ codes "n" ∷ [])
+        (ask (Waiting Json) [] (codes "o" ∷ codes "n" ∷ [])) }
+    ensures legs { (name : Text) → Asks (name ∷ codes "legs" ∷ codes "--json" ∷ codes "o" ∷ codes "n" ∷ [])
+        (ask (Legs Json) [] (codes "o" ∷ codes "n" ∷ [])) }
 {}
 
 /// Words that have a fault ask for help or are bad, and never both.

@@ -7,6 +7,7 @@
 mod boards;
 mod courses;
 mod exchange;
+mod form;
 mod inquiry;
 pub mod laws;
 mod line;
@@ -14,6 +15,7 @@ mod parser;
 mod stream;
 mod task;
 
+pub use form::Form;
 pub use inquiry::{Ask, Inquiry};
 pub use line::{command, message};
 pub use stream::{Follow, Stream};

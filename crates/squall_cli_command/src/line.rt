@@ -7,6 +7,7 @@ ghost use Rattle.squall_cli_command.specs.Line.{job_of, job_in, plain_job_in, fi
 ghost use Rattle.squall_cli_command.specs.Line.{faults_in, shows_help, title, Asks, AsksForHelp, IsFaulty};
 ghost use Rattle.squall_cli_command.specs.declared.task.LineFault.TheVariants.{Help, Bad, NoMemory};
 
+use crate::form::form_of;
 use crate::inquiry::{asked, inquiry_of};
 use crate::parser::{TITLE, parser};
 use crate::stream::{followed, stream_of};
@@ -31,12 +32,12 @@ fn file_task_in(alloc: Global, name: &str, matches: &ArgMatches) -> Result<Task,
     ensures { IfOk result (λ task. job_seen task ≡ file_job_in name.now (rows_of (found_of matches.now))) }
 {
     if name == "check" {
-        return Ok(Task::Check(file(alloc, matches, "PLAN")?));
+        return Ok(Task::Check(form_of(matches), file(alloc, matches, "PLAN")?));
     }
     if name == "course" {
         let old = file(alloc, matches, "OLD")?;
         let new = file(alloc, matches, "NEW")?;
-        return Ok(Task::Course(old, new));
+        return Ok(Task::Course(form_of(matches), old, new));
     }
     if name == "race" {
         return Ok(Task::Race(file(alloc, matches, "FILE")?));

@@ -7,7 +7,7 @@ ghost use Rattle.squall_cli_command.specs.Line.{squall_app, boards_app, routes_a
 ghost use Rattle.squall_cli_command.specs.Line.{check_shape, course_shape, run_shape, race_shape};
 ghost use Rattle.squall_cli_command.specs.Rules.{file_rule};
 
-use crate::boards::{board_command, merge_command, report_command};
+use crate::boards::{board_command, json, merge_command, report_command};
 use crate::courses::{legs_command, picture_command, route_command, status_command};
 use crate::exchange::{beyond_command, digest_command, repair_command};
 use clap::{Arg, ArgAction, Command};
@@ -33,6 +33,14 @@ Example:
 
 squall help COMMAND shows the help of a command: squall help run the lines of a scenario, and
 squall help race those of a race.";
+
+const CHECK: &str = "Example:
+  squall check new.json
+  squall check --json new.json";
+
+const COURSE: &str = "Example:
+  squall course old.json new.json
+  squall course --json old.json new.json";
 
 const SCENARIO: &str = "Lines of a scenario, one question or report each:
   old JSON            the old plan, first: {\"plan\":[{\"part\":1,\"from\":[0,0],\"to\":\"end\"}]}
@@ -70,17 +78,19 @@ pub(crate) fn file<'a>(alloc: Global, name: &'a str, help: &'a str) -> Arg<'a>
         .help(help)
 }
 
-/// `check PLAN`
+/// `check PLAN [--json]`
 fn check_command<'a>(alloc: Global) -> Result<Command<'a>, AllocError>
     ensures shape { IfOk result (λ c. shape_of c ≡ check_shape) }
     ensures globals { IfOk result (λ c. (fields_of c).has_globals ≡ false) }
 {
     Command::new(alloc, "check")
         .about("Checks a plan: shows its ranges by rising key, or the fault that makes it no plan")
-        .arg(file(alloc, "PLAN", "The file of the plan, or -"))
+        .after_help(CHECK)
+        .arg(file(alloc, "PLAN", "The file of the plan, or -"))?
+        .arg(json(alloc))
 }
 
-/// `course OLD NEW`
+/// `course OLD NEW [--json]`
 fn course_command<'a>(alloc: Global) -> Result<Command<'a>, AllocError>
     ensures shape { IfOk result (λ c. shape_of c ≡ course_shape) }
     ensures globals { IfOk result (λ c. (fields_of c).has_globals ≡ false) }
@@ -89,8 +99,10 @@ fn course_command<'a>(alloc: Global) -> Result<Command<'a>, AllocError>
         .about(
             "Shows which ranges move between two plans, from and to which partition, and in which sub-plan",
         )
+        .after_help(COURSE)
         .arg(file(alloc, "OLD", "The file of the old plan, or -"))?
-        .arg(file(alloc, "NEW", "The file of the new plan, or -"))
+        .arg(file(alloc, "NEW", "The file of the new plan, or -"))?
+        .arg(json(alloc))
 }
 
 /// `run FILE`

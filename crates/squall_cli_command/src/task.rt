@@ -1,5 +1,6 @@
 //! What words ask for, and why nothing is done.
 
+use crate::form::Form;
 use crate::inquiry::Ask;
 use crate::stream::Follow;
 use std::alloc::AllocError;
@@ -8,9 +9,9 @@ use std::alloc::AllocError;
 #[derive(Debug, Drop)]
 pub enum Task {
     /// To check the plan of a file.
-    Check(String),
+    Check(Form, String),
     /// To show the course from the plan of the first file to that of the second.
-    Course(String, String),
+    Course(Form, String, String),
     /// To run the scenario of a file.
     Run(String),
     /// To run the race of a file.

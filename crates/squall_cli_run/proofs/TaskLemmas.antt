@@ -12,6 +12,7 @@ use Rattle.squall_cli_lines.specs.declared.Ended.{Ended}
 use Rattle.squall_cli_lines.specs.declared.RunFault.{RunFault}
 use Rattle.squall_cli_lines.specs.declared.RunFault.TheVariants.{Read, Write, NoMemory}
 use Rattle.squall_cli_lines.specs.Script.{silence}
+use Rattle.squall_cli_command.specs.declared.form.Form.{Form}
 use Rattle.squall_cli_command.specs.Line.{Job, check, course, run, race, ask, stream, title, Asks, AsksForHelp, IsFaulty, shows_help}
 use Rattle.squall_cli_ask.specs.Files.{KnownFile, Unknown, Missing, Holds, Opens, BeginsFile, IsWholeFile, is_input}
 use Rattle.squall_cli_ask.specs.Reads.{bytes_of, ReadsFrom, ReadsAll}
@@ -21,7 +22,7 @@ use Rattle.squall_cli_ask.proofs.Inquired.{nothing_inquired}
 use Rattle.squall_cli_ask.proofs.Followed.{nothing_followed}
 use Rattle.squall_cli_run.specs.declared.tasks.Purpose.{Purpose}
 use Rattle.squall_cli_run.specs.declared.tasks.Purpose.TheVariants as purpose
-use Rattle.squall_cli_run.specs.Output.{Output, course_of, IsWritten}
+use Rattle.squall_cli_run.specs.Output.{Output, course_in, IsWritten}
 use Rattle.squall_cli_run.specs.Tasks.{ShowsCourseWith, IsDone, EndsInput, NamesFile, ShowsHelp}
 use Rattle.squall_cli_run.specs.Sources.{IsAnswered, NeedsAll, IsDoneBy}
 
@@ -42,7 +43,7 @@ reads_nothing f f' i o o' name = matched_both (is_input name) (Consumes i i []) 
 
 -- a file that can't be opened
 pub unopened : (p : Purpose) (f f' : List ℕ → KnownFile) (i o : Option (List ℕ)) (name : List ℕ) (status : ℕ) → status ≡ 3 → IsDoneBy p (bytes_of f i o) (bytes_of f' i o) name status
-unopened purpose.Check f f' i o name status e = (Err Read, [], [], e, Appends-nil o, refl, reads_nothing f f' i o o name, λ l. absurd (omega arith))
+unopened (purpose.Check form) f f' i o name status e = (Err Read, [], [], e, Appends-nil o, refl, reads_nothing f f' i o o name, λ l. absurd (omega arith))
 unopened purpose.Run f f' i o name status e = (Err Read, [], [], e, Appends-nil o, (silence, refl, refl), reads_nothing f f' i o o name, λ l. absurd (omega arith))
 unopened purpose.Race f f' i o name status e = (Err Read, [], [], e, Appends-nil o, refl, reads_nothing f f' i o o name, λ l. absurd (omega arith))
 
@@ -52,7 +53,7 @@ unopened purpose.Race f f' i o name status e = (Err Read, [], [], e, Appends-nil
 pub answered : (p : Purpose) (f f' : List ℕ → KnownFile) (i i' o o' : Option (List ℕ)) (name read written : List ℕ) (outcome : Result Ended RunFault) (status : ℕ)
     → status ≡ status_of outcome → Appends o o' written → IsAnswered p outcome read written → ReadsFrom (bytes_of f i o) (bytes_of f' i' o') name read
     → (NeedsAll p (status_of outcome) → ReadsAll (bytes_of f i o) (bytes_of f' i' o') name read) → IsDoneBy p (bytes_of f i o) (bytes_of f' i' o') name status
-answered purpose.Check f f' i i' o o' name read written outcome status e a text from all = (outcome, read, written, e, a, text, from, λ l. all (subst (NeedsAll purpose.Check) e l))
+answered (purpose.Check form) f f' i i' o o' name read written outcome status e a text from all = (outcome, read, written, e, a, text, from, λ l. all (subst (NeedsAll (purpose.Check form)) e l))
 answered purpose.Run f f' i i' o o' name read written outcome status e a text from all = (outcome, read, written, e, a, text, from, λ l. all (subst (NeedsAll purpose.Run) e l))
 answered purpose.Race f f' i i' o o' name read written outcome status e a text from all = (outcome, read, written, e, a, text, from, λ l. all (subst (NeedsAll purpose.Race) e l))
 
@@ -86,8 +87,8 @@ opened_whole (Holds all) (Some bytes) (Some left) read opened taken ended = sym 
 
 -- an allocation failed before the task began
 pub nothing_done : (f : List ℕ → KnownFile) (i o : Option (List ℕ)) (job : Job) (status : ℕ) → status ≡ 4 → IsDone (bytes_of f i o) (bytes_of f i o) job status
-nothing_done f i o (check name) status e = (Err NoMemory, [], [], e, Appends-nil o, refl, reads_nothing f f i o o name, λ l. absurd (omega arith))
-nothing_done f i o (course old new) status e = (
+nothing_done f i o (check form name) status e = (Err NoMemory, [], [], e, Appends-nil o, refl, reads_nothing f f i o o name, λ l. absurd (omega arith))
+nothing_done f i o (course form old new) status e = (
   Err NoMemory,
   [],
   [],
@@ -105,8 +106,8 @@ nothing_done f i o (ask inquiry words files) status e = nothing_inquired (questi
 nothing_done f i o (stream kind files) status e = nothing_followed kind f i o files status e
 
 pub not_ended : (job : Job) (status : ℕ) → 2 < status → EndsInput job status → ⊥
-not_ended (check name) status l h = omega (arith, h.1)
-not_ended (course old new) status l h = omega (arith, h.1)
+not_ended (check form name) status l h = omega (arith, h.1)
+not_ended (course form old new) status l h = omega (arith, h.1)
 not_ended (run name) status l h = omega (arith, h.1)
 not_ended (race name) status l h = omega (arith, h.1)
 not_ended (ask inquiry words files) status l h = omega (arith, h.1)
@@ -134,16 +135,16 @@ second_none true false i i' known P Q kept none = (begins_nothing known, λ p. a
 second_none false true i i' known P Q kept none = (subst (λ j. Consumes i j []) (sym (kept refl)) (Consumes-nil i), λ p. absurd (none p))
 second_none false false i i' known P Q kept none = (begins_nothing known, λ p. absurd (none p))
 
-pub first_unread : (f f' : List ℕ → KnownFile) (i i' o : Option (List ℕ)) (old new read : List ℕ) (status : ℕ) → IsUnread status → ReadsFrom (bytes_of f i None) (bytes_of f' i' None) old read → (is_input old ≡ false → i' ≡ i)
-    → ShowsCourseWith (bytes_of f i o) (bytes_of f' i' o) old new status
-first_unread f f' i i' o old new read status u taken kept = (
+pub first_unread : (form : Form) (f f' : List ℕ → KnownFile) (i i' o : Option (List ℕ)) (old new read : List ℕ) (status : ℕ) → IsUnread status → ReadsFrom (bytes_of f i None) (bytes_of f' i' None) old read → (is_input old ≡ false → i' ≡ i)
+    → ShowsCourseWith form (bytes_of f i o) (bytes_of f' i' o) old new status
+first_unread form f f' i i' o old new read status u taken kept = (
   Err u.0,
   read,
   [],
   [],
   u.2,
   Appends-nil o,
-  unread_written u.0 (course_of read []) u.1,
+  unread_written u.0 (course_in form read []) u.1,
   taken,
   (λ l. absurd (unread_high u.0 status u.2 l)),
   second_none (is_input old) (is_input new) i i' (f new) (status < 2) _ kept (unread_high u.0 status u.2),
@@ -162,17 +163,17 @@ both_second true false i i' i'' known read P Q other kept h all = (h, all)
 both_second false true i i' i'' known read P Q other kept h all = (subst (λ j. Consumes j i'' read) (kept refl) h, all)
 both_second false false i i' i'' known read P Q other kept h all = (h, all)
 
-pub second_unread : (f f' f'' : List ℕ → KnownFile) (i i' i'' o : Option (List ℕ)) (old new read more : List ℕ) (status : ℕ) → IsUnread status → (is_input old && is_input new ≡ true → ⊥) → f' ≡ f
+pub second_unread : (form : Form) (f f' f'' : List ℕ → KnownFile) (i i' i'' o : Option (List ℕ)) (old new read more : List ℕ) (status : ℕ) → IsUnread status → (is_input old && is_input new ≡ true → ⊥) → f' ≡ f
     → ReadsFrom (bytes_of f i None) (bytes_of f' i' None) old read → (is_input old ≡ false → i' ≡ i) → ReadsFrom (bytes_of f' i' None) (bytes_of f'' i'' None) new more → (is_input new ≡ false → i'' ≡ i')
-    → ShowsCourseWith (bytes_of f i o) (bytes_of f'' i'' o) old new status
-second_unread f f' f'' i i' i'' o old new read more status u other same taken kept taken' kept' = (
+    → ShowsCourseWith form (bytes_of f i o) (bytes_of f'' i'' o) old new status
+second_unread form f f' f'' i i' i'' o old new read more status u other same taken kept taken' kept' = (
   Err u.0,
   read,
   more,
   [],
   u.2,
   Appends-nil o,
-  unread_written u.0 (course_of read more) u.1,
+  unread_written u.0 (course_in form read more) u.1,
   both_first (is_input old) (is_input new) i' i'' (λ j. Consumes i j read) (BeginsFile (f old) read) other kept' taken,
   (λ l. absurd (unread_high u.0 status u.2 l)),
   both_second (is_input old) (is_input new) i i' i'' (f new) more (status < 2) _ other kept (subst (λ (g : List ℕ → KnownFile). MatchBool (is_input new) (Consumes i' i'' more) (BeginsFile (g new) more)) same taken') (λ l. absurd (unread_high u.0 status u.2 l)),
@@ -181,36 +182,36 @@ second_unread f f' f'' i i' i'' o old new read more status u other same taken ke
 -- ---- courses of which both files were read
 
 -- both are standard input
-pub both_input : (f f' : List ℕ → KnownFile) (i i' o o' : Option (List ℕ)) (old new read text written : List ℕ) (outcome : Result Ended RunFault) (status : ℕ)
-    → status ≡ status_of outcome → Appends o o' written → text ≡ read → IsWritten outcome (course_of text []) written → is_input old && is_input new ≡ true
+pub both_input : (form : Form) (f f' : List ℕ → KnownFile) (i i' o o' : Option (List ℕ)) (old new read text written : List ℕ) (outcome : Result Ended RunFault) (status : ℕ)
+    → status ≡ status_of outcome → Appends o o' written → text ≡ read → IsWritten outcome (course_in form text []) written → is_input old && is_input new ≡ true
     → ReadsFrom (bytes_of f i None) (bytes_of f' i' None) old read → ReadsAll (bytes_of f i None) (bytes_of f' i' None) old read
-    → ShowsCourseWith (bytes_of f i o) (bytes_of f' i' o') old new status
-both_input f f' i i' o o' old new read text written outcome status e a is shown both taken all = (
+    → ShowsCourseWith form (bytes_of f i o) (bytes_of f' i' o') old new status
+both_input form f f' i i' o o' old new read text written outcome status e a is shown both taken all = (
   outcome,
   read,
   [],
   written,
   e,
   a,
-  subst (λ w. IsWritten outcome (course_of w []) written) is shown,
+  subst (λ w. IsWritten outcome (course_in form w []) written) is shown,
   taken,
   (λ l. all),
   matched_true (is_input old && is_input new) _ _ both refl,
 )
 
-pub both_read : (f f' f'' : List ℕ → KnownFile) (i i' i'' o o' : Option (List ℕ)) (old new read more text text' written : List ℕ) (outcome : Result Ended RunFault) (status : ℕ)
-    → status ≡ status_of outcome → Appends o o' written → text ≡ read → text' ≡ more → IsWritten outcome (course_of text text') written → (is_input old && is_input new ≡ true → ⊥) → f' ≡ f
+pub both_read : (form : Form) (f f' f'' : List ℕ → KnownFile) (i i' i'' o o' : Option (List ℕ)) (old new read more text text' written : List ℕ) (outcome : Result Ended RunFault) (status : ℕ)
+    → status ≡ status_of outcome → Appends o o' written → text ≡ read → text' ≡ more → IsWritten outcome (course_in form text text') written → (is_input old && is_input new ≡ true → ⊥) → f' ≡ f
     → ReadsFrom (bytes_of f i None) (bytes_of f' i' None) old read → ReadsAll (bytes_of f i None) (bytes_of f' i' None) old read → (is_input old ≡ false → i' ≡ i)
     → ReadsFrom (bytes_of f' i' None) (bytes_of f'' i'' None) new more → ReadsAll (bytes_of f' i' None) (bytes_of f'' i'' None) new more → (is_input new ≡ false → i'' ≡ i')
-    → ShowsCourseWith (bytes_of f i o) (bytes_of f'' i'' o') old new status
-both_read f f' f'' i i' i'' o o' old new read more text text' written outcome status e a is is' shown other same taken all kept taken' all' kept' = (
+    → ShowsCourseWith form (bytes_of f i o) (bytes_of f'' i'' o') old new status
+both_read form f f' f'' i i' i'' o o' old new read more text text' written outcome status e a is is' shown other same taken all kept taken' all' kept' = (
   outcome,
   read,
   more,
   written,
   e,
   a,
-  subst (λ w. IsWritten outcome (course_of read w) written) is' (subst (λ w. IsWritten outcome (course_of w text') written) is shown),
+  subst (λ w. IsWritten outcome (course_in form read w) written) is' (subst (λ w. IsWritten outcome (course_in form w text') written) is shown),
   both_first (is_input old) (is_input new) i' i'' (λ j. Consumes i j read) (BeginsFile (f old) read) other kept' taken,
   (λ l. both_first (is_input old) (is_input new) i' i'' IsAtEnd (IsWholeFile (f old) read) other kept' all),
   both_second (is_input old) (is_input new) i i' i'' (f new) more (status < 2) _ other kept (subst (λ (g : List ℕ → KnownFile). MatchBool (is_input new) (Consumes i' i'' more) (BeginsFile (g new) more)) same taken')

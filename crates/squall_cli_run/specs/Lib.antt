@@ -9,6 +9,7 @@ pub use Rattle.squall_cli_words.specs.Endings
 pub use Rattle.squall_cli_scenario.specs.Text
 pub use Rattle.squall_cli_command.specs.Line
 pub use Rattle.squall_cli_race.specs.RaceText
+pub use Rattle.squall_cli_json.specs.Values
 pub use Rattle.squall_cli_ask.specs.Files
 pub use Rattle.squall_cli_ask.specs.Reads
 pub use Rattle.squall_cli_ask.specs.Told

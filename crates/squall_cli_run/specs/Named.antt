@@ -5,8 +5,8 @@ use Rattle.squall_cli_ask.specs.Asked.{files_of}
 
 -- the name is that of a file of the task
 abbrev pub IsNamed : Job → List ℕ → Type 0
-IsNamed (check plan) name = name ≡ plan
-IsNamed (course old new) name = (name ≡ old) ⊎ (name ≡ new)
+IsNamed (check form plan) name = name ≡ plan
+IsNamed (course form old new) name = (name ≡ old) ⊎ (name ≡ new)
 IsNamed (run file) name = name ≡ file
 IsNamed (race file) name = name ≡ file
 IsNamed (ask inquiry words files) name = Contains (files_of inquiry words files) name

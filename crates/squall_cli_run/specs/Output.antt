@@ -10,6 +10,9 @@ use Rattle.squall_plan.specs.Form.{plan_of_text}
 use Rattle.squall_course.specs.declared.moving.Move.{Move}
 use Rattle.squall_course.specs.Moves.{moves_of}
 use Rattle.squall_course.specs.Subplans.{subplan_count}
+use Rattle.squall_cli_command.specs.declared.form.Form.{Form}
+use Rattle.squall_cli_command.specs.declared.form.Form.TheVariants.{Lines, Json}
+use Rattle.squall_cli_json.specs.Values.{json_line, json_of_refusal, json_of_plan, json_of_course}
 use Rattle.squall_cli_lines.specs.Script.{IsPrefix}
 use Rattle.squall_cli_lines.specs.declared.Ended.{Ended}
 use Rattle.squall_cli_lines.specs.declared.Ended.TheVariants.{Fine, Refused}
@@ -44,6 +47,16 @@ check_of_plan (Err fault) = record { text = refusal [] fault; refused = true }
 abbrev pub check_of : List ℕ → Output
 check_of text = check_of_plan (plan_of_text text)
 
+-- the same as JSON
+abbrev pub json_check_of_plan : Result (List PlanRange) PlanFault → Output
+json_check_of_plan (Ok rs) = record { text = json_line (json_of_plan rs); refused = false }
+json_check_of_plan (Err fault) = record { text = json_line (json_of_refusal (codes "plan") (text_of_fault fault)); refused = true }
+
+-- what `check` writes of the plan of a text in that form
+abbrev pub check_in : Form → List ℕ → Output
+check_in Lines text = check_of text
+check_in Json text = json_check_of_plan (plan_of_text text)
+
 -- ---- course
 
 -- the line of a move: its keys, where they come from and go to, and its sub-plan
@@ -73,6 +86,17 @@ course_of_plans (Err fault) new = record { text = refusal (codes "old ") fault; 
 -- what `course` writes of the plans of two texts
 abbrev pub course_of : List ℕ → List ℕ → Output
 course_of old new = course_of_plans (plan_of_text old) (plan_of_text new)
+
+-- the same as JSON
+abbrev pub json_course_of_plans : Result (List PlanRange) PlanFault → Result (List PlanRange) PlanFault → Output
+json_course_of_plans (Ok old) (Ok new) = record { text = json_line (json_of_course old new); refused = false }
+json_course_of_plans (Ok old) (Err fault) = record { text = json_line (json_of_refusal (codes "new") (text_of_fault fault)); refused = true }
+json_course_of_plans (Err fault) new = record { text = json_line (json_of_refusal (codes "old") (text_of_fault fault)); refused = true }
+
+-- what `course` writes of the plans of two texts in that form
+abbrev pub course_in : Form → List ℕ → List ℕ → Output
+course_in Lines old new = course_of old new
+course_in Json old new = json_course_of_plans (plan_of_text old) (plan_of_text new)
 
 -- ---- what was written
 

@@ -7,6 +7,7 @@ use Rattle.squall_cli_device.specs.States.{SinkState, TookBytes}
 use Rattle.squall_cli_lines.specs.Script.{IsOutcome}
 use Rattle.squall_cli_lines.specs.declared.Ended.{Ended}
 use Rattle.squall_cli_lines.specs.declared.RunFault.{RunFault}
+use Rattle.squall_cli_command.specs.declared.form.Form.{Form}
 use Rattle.squall_cli_command.specs.Line.{Job, check, course, run, race, ask, stream, title, Asks, IsFaulty}
 use Rattle.squall_cli_ask.specs.Files.{is_input}
 use Rattle.squall_cli_ask.specs.Reads.{Bytes, ReadsFrom, ReadsAll}
@@ -14,7 +15,7 @@ use Rattle.squall_cli_ask.specs.Told.{status_of}
 use Rattle.squall_cli_ask.specs.Asked.{question_of, files_of, IsInquired}
 use Rattle.squall_cli_ask.specs.Followed.{IsFollowed}
 use Rattle.squall_cli_scenario.specs.Text.{IsScript}
-use Rattle.squall_cli_run.specs.Output.{check_of, course_of, IsWritten}
+use Rattle.squall_cli_run.specs.Output.{check_in, course_in, IsWritten}
 use Rattle.squall_cli_run.specs.Races.{IsRaced}
 
 -- ---- what is done
@@ -26,12 +27,12 @@ RunsWith before after name status =
     × (status ≡ status_of outcome) × Appends before.output after.output written × IsOutcome outcome IsScript read written
     × ReadsFrom before after name read × (status ≡ 0 → ReadsAll before after name read)
 
--- a plan is checked: the check of what was read is written as far as the outcome with that status says, and it is judged only
+-- a plan is checked: the check of what was read is written in the form as far as the outcome with that status says, and it is judged only
 -- once all is read
-abbrev pub ChecksWith : Bytes → Bytes → List ℕ → ℕ → Type 0
-ChecksWith before after name status =
+abbrev pub ChecksWith : Form → Bytes → Bytes → List ℕ → ℕ → Type 0
+ChecksWith form before after name status =
     (outcome : Result Ended RunFault) × (read : List ℕ) × (written : List ℕ)
-    × (status ≡ status_of outcome) × Appends before.output after.output written × IsWritten outcome (check_of read) written
+    × (status ≡ status_of outcome) × Appends before.output after.output written × IsWritten outcome (check_in form read) written
     × ReadsFrom before after name read × (status < 2 → ReadsAll before after name read)
 
 -- a race is run: what it shows of what was read is written as far as the outcome with that status says, and it is run or
@@ -49,16 +50,16 @@ ReadsSecond before after old new read status =
 
 -- a course is shown: the course between the two texts that were read is written as far as the outcome with that status says, and
 -- they are judged only once all of both is read
-abbrev pub ShowsCourseWith : Bytes → Bytes → List ℕ → List ℕ → ℕ → Type 0
-ShowsCourseWith before after old new status =
+abbrev pub ShowsCourseWith : Form → Bytes → Bytes → List ℕ → List ℕ → ℕ → Type 0
+ShowsCourseWith form before after old new status =
     (outcome : Result Ended RunFault) × (first : List ℕ) × (second : List ℕ) × (written : List ℕ)
-    × (status ≡ status_of outcome) × Appends before.output after.output written × IsWritten outcome (course_of first second) written
+    × (status ≡ status_of outcome) × Appends before.output after.output written × IsWritten outcome (course_in form first second) written
     × ReadsFrom before after old first × (status < 2 → ReadsAll before after old first) × ReadsSecond before after old new second status
 
 -- the task that the words ask for is done
 abbrev pub IsDone : Bytes → Bytes → Job → ℕ → Type 0
-IsDone before after (check name) status = ChecksWith before after name status
-IsDone before after (course old new) status = ShowsCourseWith before after old new status
+IsDone before after (check form name) status = ChecksWith form before after name status
+IsDone before after (course form old new) status = ShowsCourseWith form before after old new status
 IsDone before after (run name) status = RunsWith before after name status
 IsDone before after (race name) status = RacesWith before after name status
 IsDone before after (ask inquiry words files) status = IsInquired (question_of inquiry words) words before after (files_of inquiry words files) status
@@ -75,8 +76,8 @@ ShowsHelp output output' status =
 
 -- the task reads standard input, and ended so that it has read it to its end
 abbrev pub EndsInput : Job → ℕ → Type 0
-EndsInput (check name) status = (is_input name ≡ true) × (status < 2)
-EndsInput (course old new) status = ((is_input old || is_input new) ≡ true) × (status < 2)
+EndsInput (check form name) status = (is_input name ≡ true) × (status < 2)
+EndsInput (course form old new) status = ((is_input old || is_input new) ≡ true) × (status < 2)
 EndsInput (run name) status = (is_input name ≡ true) × (status ≡ 0)
 EndsInput (race name) status = (is_input name ≡ true) × (status < 2)
 EndsInput (ask inquiry words files) status = (list_any is_input (files_of inquiry words files) ≡ true) × (status < 2)
@@ -84,8 +85,8 @@ EndsInput (stream kind files) status = status ≡ 0
 
 -- the task reads a file that is not standard input
 abbrev pub NamesFile : Job → Type 0
-NamesFile (check name) = is_input name ≡ false
-NamesFile (course old new) = (is_input old && is_input new) ≡ false
+NamesFile (check form name) = is_input name ≡ false
+NamesFile (course form old new) = (is_input old && is_input new) ≡ false
 NamesFile (run name) = is_input name ≡ false
 NamesFile (race name) = is_input name ≡ false
 NamesFile (ask inquiry words files) = list_all is_input (files_of inquiry words files) ≡ false
@@ -94,8 +95,8 @@ NamesFile (stream kind files) = list_all is_input files ≡ false
 -- the task has the words of a report and they are none, or it reads standard input as it comes and one of its files is standard
 -- input too
 abbrev pub CannotBe : Job → Type 0
-CannotBe (check name) = ⊥
-CannotBe (course old new) = ⊥
+CannotBe (check form name) = ⊥
+CannotBe (course form old new) = ⊥
 CannotBe (run name) = ⊥
 CannotBe (race name) = ⊥
 CannotBe (ask inquiry words files) = question_of inquiry words ≡ None

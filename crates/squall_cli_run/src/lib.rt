@@ -24,7 +24,7 @@ pub use course::course_text;
 pub use program::perform;
 pub use race::race_text;
 pub use squall_cli_ask::Files;
-pub use squall_cli_command::{LineFault, Task, command};
+pub use squall_cli_command::{Form, LineFault, Task, command};
 pub use squall_cli_device::{DeviceFault, Reader, Sink, Source, Writer};
 pub use squall_cli_lines::{Ended, MOST_READS, RunFault};
 use squall_cli_scenario::Scenario;

@@ -18,7 +18,7 @@ use crate::run_text;
 use squall_cli_ask::{
     Files, answer_inquiry, answer_stream, read_named, tell_outcome, tell_unopened,
 };
-use squall_cli_command::Task;
+use squall_cli_command::{Form, Task};
 use squall_cli_device::{Sink, Source};
 use squall_cli_lines::{Ended, RunFault};
 use std::alloc::Global;
@@ -29,7 +29,7 @@ use std::thread::Threads;
 #[derive(Clone, Copy)]
 pub(crate) enum Purpose {
     /// Its plan is checked.
-    Check,
+    Check(Form),
     /// Its scenario is run.
     Run,
     /// Its race is run.
@@ -50,7 +50,7 @@ fn answer_source<R: Threads + Wait + Sync, S: Source, O: Sink>(
     ensures heeds { status_of result ≢ 3 → NoReadFails (S.state source.old) (S.state source.new) × NoWriteFails (O.state out.old) (O.state out.new) }
 {
     match purpose {
-        Purpose::Check => check_source(alloc, source, out),
+        Purpose::Check(form) => check_source(alloc, form, source, out),
         Purpose::Run => run_text(alloc, source, out),
         Purpose::Race => race_text(rt, alloc, source, out),
     }
@@ -92,35 +92,36 @@ fn are_input(old: &str, new: &str) -> bool
     old == "-" && new == "-"
 }
 
-/// Shows the course between the plans of two files. If both are standard input, the second one is
-/// empty.
+/// Shows the course between the plans of two files, which are given after the form. If both are
+/// standard input, the second one is empty.
 fn course_files<F: Files, S: Source, O: Sink, E: Sink>(
     alloc: Global,
-    old: &str,
-    new: &str,
+    plans: (Form, &str, &str),
     files: &mut F,
     input: &mut S,
     out: &mut O,
     err: &mut E,
 ) -> u8
-    ensures done { ShowsCourseWith (bytes_at (F.known files.old) (S.state input.old) (O.state out.old))
-        (bytes_at (F.known files.new) (S.state input.new) (O.state out.new)) old.now new.now result }
-    ensures ended { EndsInput (course old.now new.now) result → FoundEnd (S.state input.old) (S.state input.new) }
+    ensures done { ShowsCourseWith plans.entry.0 (bytes_at (F.known files.old) (S.state input.old) (O.state out.old))
+        (bytes_at (F.known files.new) (S.state input.new) (O.state out.new)) plans.entry.1.now plans.entry.2.now result }
+    ensures ended { EndsInput (course plans.entry.0 plans.entry.1.now plans.entry.2.now) result → FoundEnd (S.state input.old) (S.state input.new) }
     ensures device { result ≡ 3 → InputFails (S.state input.old) (S.state input.new)
-        ⊎ (OutputFails (O.state out.old) (O.state out.new) ⊎ NamesFile (course old.now new.now)) }
+        ⊎ (OutputFails (O.state out.old) (O.state out.new) ⊎ NamesFile (course plans.entry.0 plans.entry.1.now plans.entry.2.now)) }
     ensures taken { result ≢ 2 }
     ensures heeds { result ≢ 3 → NoReadFails (S.state input.old) (S.state input.new) × NoWriteFails (O.state out.old) (O.state out.new) }
-    ensures told { (text : List ℕ) × IsTold (IsNamed (course old.now new.now)) result text × Says (E.state err.old) (E.state err.new) text }
+    ensures told { (text : List ℕ) × IsTold (IsNamed (course plans.entry.0 plans.entry.1.now plans.entry.2.now)) result text
+        × Says (E.state err.old) (E.state err.new) text }
 {
+    let (form, old, new) = plans;
     let old_text = match read_named(alloc, old, files, input, err) {
         Ok(text) => text,
         Err(status) => return status,
     };
     if are_input(old, new) {
-        return tell_outcome(course_text(alloc, &old_text, &[], out), err);
+        return tell_outcome(course_text(alloc, form, &old_text, &[], out), err);
     }
     match read_named(alloc, new, files, input, err) {
-        Ok(new_text) => tell_outcome(course_text(alloc, &old_text, &new_text, out), err),
+        Ok(new_text) => tell_outcome(course_text(alloc, form, &old_text, &new_text, out), err),
         Err(status) => status,
     }
 }
@@ -145,10 +146,10 @@ pub(crate) fn do_task<R: Threads + Wait + Sync, F: Files, S: Source, O: Sink, E:
     ensures told { (text : List ℕ) × IsTold (IsNamed (job_seen task.now)) result text × Says (E.state err.old) (E.state err.new) text }
 {
     let file = match task {
-        Task::Check(plan) => (Purpose::Check, plan.as_str()),
-        Task::Course(old, new) => {
+        Task::Check(form, plan) => (Purpose::Check(*form), plan.as_str()),
+        Task::Course(form, old, new) => {
             let (old, new) = (old.as_str(), new.as_str());
-            return course_files(alloc, old, new, files, input, out, err);
+            return course_files(alloc, (*form, old, new), files, input, out, err);
         }
         Task::Run(file) => (Purpose::Run, file.as_str()),
         Task::Race(file) => (Purpose::Race, file.as_str()),

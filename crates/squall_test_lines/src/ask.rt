@@ -1,7 +1,7 @@
 // What is asked of board files, over readers and writers that work, fail or stop.
 use squall_cli_ask::*;
 use squall_cli_boards::{NamedFile, Question};
-use squall_cli_command::{Ask, Follow, Inquiry, Stream};
+use squall_cli_command::{Ask, Follow, Form, Inquiry, Stream};
 use squall_cli_device::{Reader, Writer};
 use squall_cli_lines::Ended;
 use std::alloc::{AllocError, Global};
@@ -88,7 +88,7 @@ static CASES: [(Asked, Wanted); 12] = [
         (2, b"", NO_REPORT),
     ),
     (
-        (Inquiry::Board, &[], &["opened", "-", "-"]),
+        (Inquiry::Board(Form::Lines), &[], &["opened", "-", "-"]),
         (0, b"opened 1 1\n", b""),
     ),
     ((Inquiry::Merge, &[], &["opened", "-"]), (0, OPENED, b"")),
@@ -107,11 +107,15 @@ static CASES: [(Asked, Wanted); 12] = [
         (1, b"route 2:0 1\nbad line 2: word\n", b""),
     ),
     (
-        (Inquiry::Legs, &[], &["plan", "plan", "opened"]),
+        (Inquiry::Legs(Form::Lines), &[], &["plan", "plan", "opened"]),
         (0, b"leg [0:0,end) 1\n", b""),
     ),
     (
-        (Inquiry::Legs, &["3:0", "3:0"], &["plan", "plan"]),
+        (
+            Inquiry::Legs(Form::Lines),
+            &["3:0", "3:0"],
+            &["plan", "plan"],
+        ),
         (1, b"bad line 1: limit\n", b""),
     ),
     (

@@ -3,6 +3,7 @@ ghost use Rattle.std.specs.Prelude.{IfOk, IfSome};
 ghost use Rattle.squall_cli_boards.specs.Questions.{IsAskable};
 
 use squall_cli_boards::*;
+use squall_cli_command::Form;
 use squall_status::Shown;
 use std::alloc::{AllocError, Global};
 use std::process::Abort;
@@ -129,14 +130,33 @@ fn answers_words(
 
 #[test]
 fn tolerant_answers(rt: HostRuntime) {
-    answers(&rt, rt.alloc(), Question::Board, &[], 2, (26, false));
+    answers(
+        &rt,
+        rt.alloc(),
+        Question::Board(Form::Lines),
+        &[],
+        2,
+        (26, false),
+    );
+    answers(
+        &rt,
+        rt.alloc(),
+        Question::Board(Form::Json),
+        &[],
+        2,
+        (114, false),
+    );
     answers(&rt, rt.alloc(), Question::Merge, &[], 2, (49, false));
     answers(&rt, rt.alloc(), Question::Digest, &[], 1, (56, false));
     answers(&rt, rt.alloc(), Question::Beyond, &[], 2, (0, false));
     answers(&rt, rt.alloc(), Question::Cover, &[], 1, (0, true));
     answers(&rt, rt.alloc(), Question::Repair, &[], 2, (18, true));
-    let waiting = Question::Course(CourseQuestion::Status(Shown::Waiting));
+    let waiting = Question::Course(CourseQuestion::Status(Shown::Waiting, Form::Lines));
     answers(&rt, rt.alloc(), waiting, &[OLD, NEW], 1, (214, false));
+    let waiting = Question::Course(CourseQuestion::Status(Shown::Waiting, Form::Json));
+    answers(&rt, rt.alloc(), waiting, &[OLD, NEW], 1, (341, false));
+    let refused = Question::Course(CourseQuestion::Status(Shown::Waiting, Form::Json));
+    answers(&rt, rt.alloc(), refused, &["", NEW], 0, (33, true));
     let drawn = Question::Course(CourseQuestion::Picture);
     answers(&rt, rt.alloc(), drawn, &[OLD, NEW], 1, (3033, false));
     answers(
@@ -155,10 +175,31 @@ fn tolerant_routes(rt: HostRuntime) {
     let routes = CourseQuestion::Routes;
     answers_words(&rt, rt.alloc(), routes, &["2:0", "3:0"], (24, false));
     answers_words(&rt, rt.alloc(), routes, &["2:0", "3"], (29, true));
-    answers_words(&rt, rt.alloc(), CourseQuestion::Legs, &[], (48, false));
+    answers_words(
+        &rt,
+        rt.alloc(),
+        CourseQuestion::Legs(Form::Lines),
+        &[],
+        (48, false),
+    );
     let span: [&str; 2] = ["2:0", "3:0"];
-    answers_words(&rt, rt.alloc(), CourseQuestion::Legs, &span, (16, false));
-    answers_words(&rt, rt.alloc(), CourseQuestion::Legs, &["2:0"], (17, true));
+    answers_words(
+        &rt,
+        rt.alloc(),
+        CourseQuestion::Legs(Form::Lines),
+        &span,
+        (16, false),
+    );
+    answers_words(
+        &rt,
+        rt.alloc(),
+        CourseQuestion::Legs(Form::Lines),
+        &["2:0"],
+        (17, true),
+    );
+    let json = CourseQuestion::Legs(Form::Json);
+    answers_words(&rt, rt.alloc(), json, &[], (110, false));
+    answers_words(&rt, rt.alloc(), json, &["2:0"], (36, true));
 }
 
 /// The question of a report, or that memory is short.

@@ -3,15 +3,27 @@ use squall_cli_command::*;
 use std::alloc::{AllocError, Global};
 use std::test::Fail;
 
+mod shown;
+
 /// What a command line asks for: the command's name and its files, or why there is none.
 type Asked<'a> = (&'a str, &'a str, &'a str);
 
-static CASES: [(&[&str], Asked<'static>); 22] = [
+static CASES: [(&[&str], Asked<'static>); 26] = [
     (&["squall"], ("run", "-", "")),
     (&["squall", "check", "p.json"], ("check", "p.json", "")),
     (&["squall", "check"], ("bad", "", "")),
+    (
+        &["squall", "check", "--json", "p.json"],
+        ("check as JSON", "p.json", ""),
+    ),
+    (&["squall", "check", "--json"], ("bad", "", "")),
     (&["squall", "course", "a", "b"], ("course", "a", "b")),
     (&["squall", "course", "a"], ("bad", "", "")),
+    (
+        &["squall", "course", "a", "--json", "b"],
+        ("course as JSON", "a", "b"),
+    ),
+    (&["squall", "run", "--json", "x"], ("bad", "", "")),
     (&["squall", "run", "x"], ("run", "x", "")),
     (&["squall", "run", "-"], ("run", "-", "")),
     (&["squall", "--help"], ("help", "", "")),
@@ -34,8 +46,10 @@ static CASES: [(&[&str], Asked<'static>); 22] = [
 /// What was asked for.
 fn asked(task: &Result<Task, LineFault>) -> Asked<'_> {
     match task {
-        Ok(Task::Check(plan)) => ("check", plan.as_str(), ""),
-        Ok(Task::Course(old, new)) => ("course", old.as_str(), new.as_str()),
+        Ok(Task::Check(Form::Lines, plan)) => ("check", plan.as_str(), ""),
+        Ok(Task::Check(Form::Json, plan)) => ("check as JSON", plan.as_str(), ""),
+        Ok(Task::Course(Form::Lines, old, new)) => ("course", old.as_str(), new.as_str()),
+        Ok(Task::Course(Form::Json, old, new)) => ("course as JSON", old.as_str(), new.as_str()),
         Ok(Task::Run(file)) => ("run", file.as_str(), ""),
         Ok(Task::Race(file)) => ("race", file.as_str(), ""),
         Ok(Task::Ask(_)) => ("ask", "", ""),
@@ -54,33 +68,41 @@ fn words(rt: HostRuntime) {
 }
 
 /// Command lines about board files, what they ask, and the words and the files that they give.
-static ASKED: [(&[&str], Inquiry, &str); 21] = [
+static ASKED: [(&[&str], Inquiry, &str); 25] = [
     (
         &["squall", "report", "opened", "1", "2"],
         Inquiry::Report,
         "opened 1 2 | ",
     ),
     (&["squall", "report", "--", "-x"], Inquiry::Report, "-x | "),
-    (&["squall", "board", "a"], Inquiry::Board, "| a "),
+    (
+        &["squall", "board", "a"],
+        Inquiry::Board(Form::Lines),
+        "| a ",
+    ),
     (
         &["squall", "board", "a", "-", "a"],
-        Inquiry::Board,
+        Inquiry::Board(Form::Lines),
         "| a - a ",
     ),
-    (&["squall", "status", "o", "n"], Inquiry::Status, "| o n "),
+    (
+        &["squall", "status", "o", "n"],
+        Inquiry::Status(Form::Lines),
+        "| o n ",
+    ),
     (
         &["squall", "status", "o", "n", "a", "b"],
-        Inquiry::Status,
+        Inquiry::Status(Form::Lines),
         "| o n a b ",
     ),
     (
         &["squall", "status", "--waiting", "o", "n"],
-        Inquiry::Waiting,
+        Inquiry::Waiting(Form::Lines),
         "| o n ",
     ),
     (
         &["squall", "status", "o", "n", "a", "--waiting"],
-        Inquiry::Waiting,
+        Inquiry::Waiting(Form::Lines),
         "| o n a ",
     ),
     (
@@ -108,16 +130,40 @@ static ASKED: [(&[&str], Inquiry, &str); 21] = [
         Inquiry::Routes,
         "2:0 3:0 | o n a b ",
     ),
-    (&["squall", "legs", "o", "n"], Inquiry::Legs, "| o n "),
+    (
+        &["squall", "legs", "o", "n"],
+        Inquiry::Legs(Form::Lines),
+        "| o n ",
+    ),
     (
         &["squall", "legs", "o", "--board", "-", "n", "2:0", "end"],
-        Inquiry::Legs,
+        Inquiry::Legs(Form::Lines),
         "2:0 end | o n - ",
     ),
     (
         &["squall", "legs", "o", "n", "x"],
-        Inquiry::Legs,
+        Inquiry::Legs(Form::Lines),
         "x | o n ",
+    ),
+    (
+        &["squall", "board", "a", "--json"],
+        Inquiry::Board(Form::Json),
+        "| a ",
+    ),
+    (
+        &["squall", "status", "--json", "o", "n", "a"],
+        Inquiry::Status(Form::Json),
+        "| o n a ",
+    ),
+    (
+        &["squall", "status", "--json", "o", "n", "--waiting"],
+        Inquiry::Waiting(Form::Json),
+        "| o n ",
+    ),
+    (
+        &["squall", "legs", "o", "n", "--json", "2:0", "end"],
+        Inquiry::Legs(Form::Json),
+        "2:0 end | o n ",
     ),
     (&["squall", "merge", "a", "b"], Inquiry::Merge, "| a b "),
     (&["squall", "beyond", "a", "b"], Inquiry::Beyond, "| a b "),
@@ -137,14 +183,17 @@ static ASKED: [(&[&str], Inquiry, &str); 21] = [
 ];
 
 /// Command lines about board files that have too few or too many words, or an unknown flag.
-static REFUSED: [&[&str]; 17] = [
+static REFUSED: [&[&str]; 20] = [
     &["squall", "report"],
     &["squall", "report", "-x"],
     &["squall", "board"],
     &["squall", "status", "o"],
     &["squall", "status", "--waiting", "--waiting", "o", "n"],
+    &["squall", "status", "--json", "--json", "o", "n"],
+    &["squall", "board", "--json"],
     &["squall", "picture", "o"],
     &["squall", "picture", "--waiting", "o", "n"],
+    &["squall", "picture", "--json", "o", "n"],
     &["squall", "route", "o"],
     &["squall", "route", "o", "n", "2:0", "--board"],
     &["squall", "legs", "o"],
@@ -254,145 +303,11 @@ fn tolerant_inquiries(rt: HostRuntime) {
     }
 }
 
-/// Command lines, how many lines are shown for each at most, and pieces of these. Help names each
-/// command with its files. That of `run` names each line of a scenario, and that of `race` each
-/// line of a race.
-static SHOWN: [(&[&str], usize, &[&str]); 12] = [
-    (
-        &["squall", "--help"],
-        48,
-        &[
-            "check",
-            "course",
-            "run",
-            "race",
-            "report",
-            "board",
-            "status",
-            "picture",
-            "route",
-            "legs",
-            "merge",
-            "beyond",
-            "digest",
-            "repair",
-            "squall help run",
-            "squall help race",
-        ],
-    ),
-    (
-        &["squall", "help", "report"],
-        24,
-        &[
-            "<WORD>...",
-            "  loaded N S P LO HI ",
-            "  done N S P ",
-            "  opened N S ",
-            "  issued N OLD NEW ",
-            "Example:\n  squall report done 1 2 4 >done.bin",
-        ],
-    ),
-    (
-        &["squall", "status", "--help"],
-        24,
-        &["<OLD> <NEW> [FILE]...", "--waiting", "Example:\n"],
-    ),
-    (
-        &["squall", "help", "picture"],
-        24,
-        &["<OLD> <NEW> [FILE]...", "Example:\n"],
-    ),
-    (
-        &["squall", "help", "route"],
-        24,
-        &["<OLD> <NEW> [KEY]...", "--board <FILE>", "Example:\n"],
-    ),
-    (
-        &["squall", "legs", "--help"],
-        24,
-        &["<OLD> <NEW> [BOUND]...", "--board <FILE>", "Example:\n"],
-    ),
-    (
-        &["squall", "beyond", "--help"],
-        24,
-        &["<A> <B>", "--quiet", "Example:\n"],
-    ),
-    (&["squall", "help", "course"], 24, &["<OLD> <NEW>"]),
-    (
-        &["squall", "run", "--help"],
-        24,
-        &[
-            "  old JSON ",
-            "  new JSON ",
-            "  loaded N S P LO HI ",
-            "  done N S P ",
-            "  opened N S ",
-            "  issued N JSON ",
-            "  route K ",
-            "  legs LO HI ",
-            "  board ",
-            "  hear HEX ",
-            "  frame ",
-            "  # ",
-        ],
-    ),
-    (
-        &["squall", "help", "race"],
-        24,
-        &[
-            "  old JSON ",
-            "  new JSON ",
-            "  capacity C ",
-            "  readers N ",
-            "  senders N ",
-            "  N REPORT ",
-            "  key K ",
-            "  # ",
-        ],
-    ),
-    (&["squall", "--version"], 1, &["squall 0.1.0\n"]),
-    (
-        &["squall", "walk"],
-        24,
-        &["error: unrecognized subcommand 'walk'\n"],
-    ),
-];
-
-/// Whether the text has each of the pieces, and at most this many lines.
-fn has_all(text: &str, lines: usize, pieces: &[&str]) -> bool {
-    for piece in pieces {
-        if !text.contains(*piece) {
-            return false;
-        }
-    }
-    text.lines().count() <= lines
-}
-
-/// Nothing is shown for words that are taken.
-#[test]
-fn messages(rt: HostRuntime) -> Result<(), Fail> {
-    for (words, lines, pieces) in &SHOWN {
-        assert!(rt; has_all(message(rt.alloc(), words)?.as_str(), *lines, pieces));
-    }
-    assert!(rt; message(rt.alloc(), &["squall", "run", "x"])?.is_empty());
-    Ok(())
-}
-
 /// The task of the words, or that memory is short, whichever allocation is refused.
 #[test]
 fn tolerant_command(rt: HostRuntime) {
     for (words, wanted) in &CASES {
         let task = command(rt.alloc(), words);
         assert!(rt; asked(&task) == *wanted || asked(&task).0 == "no memory");
-    }
-}
-
-/// The whole message of the words, or that memory is short.
-#[test]
-fn tolerant_message(rt: HostRuntime) {
-    for (words, lines, pieces) in &SHOWN {
-        if let Ok(text) = message(rt.alloc(), words) {
-            assert!(rt; has_all(text.as_str(), *lines, pieces));
-        }
     }
 }

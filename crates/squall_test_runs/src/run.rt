@@ -94,8 +94,11 @@ fn does<R: Threads + Wait + Sync>(
     match task {
         Task::Run => run_text(alloc, &mut Reader::new(input), &mut writer),
         Task::Race => race_text(rt, alloc, &mut Reader::new(input), &mut writer),
-        Task::Check => check_text(alloc, input.bytes, &mut writer),
-        Task::Course => course_text(alloc, input.bytes, NEW_PLAN.as_bytes(), &mut writer),
+        Task::Check(form) => check_text(alloc, form, input.bytes, &mut writer),
+        Task::Course(form) => {
+            let new = NEW_PLAN.as_bytes();
+            course_text(alloc, form, input.bytes, new, &mut writer)
+        }
     }
 }
 
@@ -214,7 +217,7 @@ fn writers_that_stop_a_race(rt: HostRuntime) -> Result<(), Fail> {
 
 #[test]
 fn writers_that_stop_a_check_or_a_course(rt: HostRuntime) -> Result<(), Fail> {
-    for job in &JOBS[2..4] {
+    for job in &JOBS[2..6] {
         assert!(rt; is_done(&rt, rt.alloc(), job, usize::MAX)?);
     }
     Ok(())

@@ -9,11 +9,14 @@ const OPENED: &str = "SQ\u{1}\u{1}\0\0\0\u{10}\0\0\0\u{1}\0\0\0\u{1}\0\0\0\u{1}\
 
 const SHOWN_OPENED: &str = "opened 1 1\n";
 
+const JSON_OPENED: &str =
+    "{\"cells\":[],\"issued\":[],\"opened\":[{\"course\":1,\"subplans\":1}]}\n";
+
 /// Of a plan to itself.
 const NO_MOVES: &str = "course 1 moves 0 sub-plans 0 open none loaded 0 of 0 keys 1000/1000\n";
 
 /// Words that ask something of board files, standard input, and what they bring about.
-pub(super) static ASKED: [(&[&str], &str, Wanted); 22] = [
+pub(super) static ASKED: [(&[&str], &str, Wanted); 25] = [
     (
         &["squall", "report", "opened", "1", "0"],
         "",
@@ -46,6 +49,26 @@ pub(super) static ASKED: [(&[&str], &str, Wanted); 22] = [
         (ALL, 0, SHOWN_OPENED, ""),
     ),
     (&["squall", "board", "-"], "", (ALL, 0, "empty\n", "")),
+    (
+        &["squall", "board", "--json", "-"],
+        OPENED,
+        (ALL, 0, JSON_OPENED, ""),
+    ),
+    (
+        &["squall", "check", "--json", "gap.json"],
+        "",
+        (ALL, 1, "{\"fault\":\"Gap 3:5\",\"refused\":\"plan\"}\n", ""),
+    ),
+    (
+        &["squall", "board", "new.json", "--json"],
+        "",
+        (
+            ALL,
+            1,
+            "{\"fault\":\"Magic\",\"refused\":\"new.json\"}\n",
+            "",
+        ),
+    ),
     (&["squall", "board", "-"], "", (3, 3, "emp", NO_WRITE)),
     (
         &["squall", "board", "-", "new.json"],

@@ -1,5 +1,6 @@
 //! Tasks with their inputs and outputs.
 
+use squall_cli_run::Form;
 use squall_example::{NEW as NEW_PLAN, OLD as OLD_PLAN};
 
 pub(super) const OLD: &str = concat!(
@@ -153,8 +154,8 @@ pub(super) const GAP: &str =
 pub(super) enum Task {
     Run,
     Race,
-    Check,
-    Course,
+    Check(Form),
+    Course(Form),
 }
 
 /// A task, its input, and its output.
@@ -164,11 +165,26 @@ pub(super) struct Job {
     pub(super) output: &'static [&'static str],
 }
 
+/// The ranges of the new plan as JSON.
+const JSON_CHECKED: &str = concat!(
+    r#"{"ranges":[{"hi":"2:0","lo":"0:0","part":1},{"hi":"3:0","lo":"2:0","part":3},"#,
+    r#"{"hi":"5:0","lo":"3:0","part":2},{"hi":"6:0","lo":"5:0","part":3},"#,
+    r#"{"hi":"end","lo":"6:0","part":4}]}"#,
+    "\n",
+);
+
+/// The moves between the plans as JSON.
+const JSON_MOVES: &str = concat!(
+    r#"{"moves":[{"from":1,"hi":"3:0","lo":"2:0","sub":0,"to":3},"#,
+    r#"{"from":3,"hi":"9:0","lo":"6:0","sub":0,"to":4}],"subplan_count":1}"#,
+    "\n",
+);
+
 pub(super) const MOVES: &str =
     "moves 2\nsub-plans 1\nmove [2:0,3:0) 1 to 3 sub 0\nmove [6:0,9:0) 3 to 4 sub 0\n";
 
-/// Jobs that end well, the first four by one call each.
-pub(super) static JOBS: [Job; 7] = [
+/// Jobs that end well, the first six by one call each.
+pub(super) static JOBS: [Job; 9] = [
     Job {
         task: Task::Run,
         input: &LINES,
@@ -180,14 +196,24 @@ pub(super) static JOBS: [Job; 7] = [
         output: &[SHOWN],
     },
     Job {
-        task: Task::Check,
+        task: Task::Check(Form::Lines),
         input: &[NEW_PLAN],
         output: &[NEW_CHECKED],
     },
     Job {
-        task: Task::Course,
+        task: Task::Course(Form::Lines),
         input: &[OLD_PLAN],
         output: &[MOVES],
+    },
+    Job {
+        task: Task::Check(Form::Json),
+        input: &[NEW_PLAN],
+        output: &[JSON_CHECKED],
+    },
+    Job {
+        task: Task::Course(Form::Json),
+        input: &[OLD_PLAN],
+        output: &[JSON_MOVES],
     },
     Job {
         task: Task::Run,

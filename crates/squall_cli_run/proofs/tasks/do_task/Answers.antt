@@ -3,6 +3,7 @@ use Rattle.std.specs.Borrow.{Bor}
 use Rattle.std.specs.Prelude.{Contains}
 use Rattle.squall_cli_device.specs.States.{OutputFails}
 use Rattle.squall_cli_lines.specs.Heeding.{InputFails}
+use Rattle.squall_cli_command.specs.declared.form.Form.TheVariants.{Lines}
 use Rattle.squall_cli_command.specs.Line.{course, job_seen}
 use Rattle.squall_cli_ask.specs.Asked.{files_asked}
 use Rattle.squall_cli_ask.specs.Followed.{files_followed}
@@ -17,7 +18,7 @@ use Rattle.squall_cli_run.proofs.tasks.do_task.Goals as goal
 pub returns-in-Course-clause-told : goal.returns-in-Course-clause-told
 returns-in-Course-clause-told g c =
     let t = c.course_files.ensures.told in
-    (t.0, told_of (IsNamed (course c.as_str-old.result.now c.as_str-new.result.now)) (IsNamed (job_seen c.args.task.now)) c.course_files.result t.0 (named_course (job_seen c.args.task.now) _ _ _ _ (ap job_seen c.in-Course.is) c.as_str-old.ensures.value c.as_str-new.ensures.value) t.1, t.2)
+    (t.0, told_of (IsNamed (course Lines c.as_str-old.result.now c.as_str-new.result.now)) (IsNamed (job_seen c.args.task.now)) c.course_files.result t.0 (named_course (job_seen c.args.task.now) _ _ _ _ _ (ap job_seen c.in-Course.is) c.as_str-old.ensures.value c.as_str-new.ensures.value) t.1, t.2)
 
 pub returns-in-Ask-clause-device : goal.returns-in-Ask-clause-device
 returns-in-Ask-clause-device g c = λ three.
@@ -55,7 +56,7 @@ returns-clause-told g c =
     let t = c.answer_file.ensures.told in
     let job = job_seen c.args.task.now in
     let named : (name : List ℕ) → name ≡ c.match-task.file.1.now → IsNamed job name = elim c.match-task.branch [
-      | in-Check w ↦ named_check job _ _ (ap job_seen w.in-Check.is) (ap file_name w.file-is ∙ w.as_str.ensures.value)
+      | in-Check w ↦ named_check job _ _ _ (ap job_seen w.in-Check.is) (ap file_name w.file-is ∙ w.as_str.ensures.value)
       | in-Run w ↦ named_run job _ _ (ap job_seen w.in-Run.is) (ap file_name w.file-is ∙ w.as_str-in-Run.ensures.value)
       | in-Race w ↦ named_race job _ _ (ap job_seen w.in-Race.is) (ap file_name w.file-is ∙ w.as_str-in-Race.ensures.value)
     ] in
