@@ -7,6 +7,7 @@ import random
 from dataclasses import dataclass, field
 
 from plain import PLACES, Course, Facts, Feed, bound, rank, runs, span
+from plain_json import text_of
 
 TAIL = PLACES - 1
 
@@ -192,6 +193,15 @@ def race(draw):
     return Trial.of(["race", "-"], [*((line, ()) for line, _ in lines), (None, told)])
 
 
+def in_a_form(draw, trial):
+    """The trial, in one of three cases with the answer as JSON."""
+    if not draw.randrange(3):
+        command, *words = trial.words
+        trial.words = [command, "--json", *words]
+        trial.out, trial.lines = text_of(command, trial.out.decode().splitlines()).encode(), []
+    return trial
+
+
 def plan(draw):
     """The text of a plan, or of entries that overlap, leave a gap, or are no ranges."""
     entries = draw.entries(draw.plan(4))
@@ -199,7 +209,7 @@ def plan(draw):
         at = draw.randrange(len(entries))
         part, lo, hi = entries[at]
         entries[at] = draw.choice([(part, lo, draw.randrange(PLACES + 1)), (draw.choice([9999, 10000]), lo, hi)])
-    return Trial.of(["check", "-"], [(draw.text(entries), judged(entries))])
+    return in_a_form(draw, Trial.of(["check", "-"], [(draw.text(entries), judged(entries))]))
 
 
 def judged(entries):
@@ -220,4 +230,4 @@ def course(draw):
     old, new = draw.plan(5), draw.plan(5)
     text = draw.text(draw.entries(new))
     files = {"old.json": draw.text(draw.entries(old)).encode()}
-    return Trial.of(["course", "old.json", "-"], [(text, Course(1, old, new).lines())], files)
+    return in_a_form(draw, Trial.of(["course", "old.json", "-"], [(text, Course(1, old, new).lines())], files))

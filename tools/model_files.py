@@ -113,6 +113,10 @@ class Drawn:
         """Options that name boards."""
         return [self.draw.choice([["--board", it], [f"--board={it}"]]) for it in self.some_files(self.draw.choice([0, 1, 1]))]
 
+    def form(self):
+        """The option for JSON, in one of three cases."""
+        return [] if self.draw.randrange(3) else [["--json"]]
+
     def bound(self, bad):
         """The text of a bound; one in so many is none."""
         draw = self.draw
@@ -143,14 +147,14 @@ def report(draw):
 def board(draw):
     """The board of some files."""
     drawn = Drawn(draw)
-    return drawn.trial("board", drawn.some_files(1))
+    return drawn.trial("board", drawn.optional(drawn.some_files(1), *drawn.form()))
 
 
 def status(draw):
     """How far the newest change is, by some files."""
     drawn = Drawn(draw)
     words = [*drawn.plans(), *drawn.some_files(0)]
-    return drawn.trial("status", drawn.optional(words, *[["--waiting"]] * draw.randrange(2)))
+    return drawn.trial("status", drawn.optional(words, *[["--waiting"]] * draw.randrange(2), *drawn.form()))
 
 
 def route(draw):
@@ -164,7 +168,7 @@ def legs(draw):
     """The legs of all keys, or of two bounds, or of words that are no two bounds."""
     drawn = Drawn(draw)
     words = [*drawn.plans(), *(drawn.bound(12) for _ in range(draw.choice([0, 0, 0, 2, 2, 2, 2, 1, 3])))]
-    return drawn.trial("legs", drawn.optional(words, *drawn.boards()))
+    return drawn.trial("legs", drawn.optional(words, *drawn.boards(), *drawn.form()))
 
 
 def merge(draw):

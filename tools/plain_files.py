@@ -1,6 +1,7 @@
 """The commands over files as docs/SCENARIOS.md says: what they write, and their status."""
 from plain_board import Board, Change, Refused, bound, number_of, plan_of, rank_of, span
 from plain_frames import MOST, TOP, Fault, decoded, digest_frame
+from plain_json import text_of
 
 NO_REPORT = "error: the words are no report: see squall help report"
 
@@ -163,7 +164,11 @@ def answer(words, files):
     plain, boards, flags = parsed(words[1:])
     try:
         told = list(found(words[0], plain, files, boards, flags))
+        if "--json" in flags:
+            return text_of(words[0], told).encode(), b"", 0
     except Refused as why:
+        if "--json" in flags:
+            return text_of(words[0], [why.line]).encode(), b"", why.status
         line = f"{why.line}\n".encode()
         return (b"", line, why.status) if why.status == 2 else (line, b"", why.status)
     if "--quiet" in flags:
