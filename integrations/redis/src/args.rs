@@ -1,6 +1,8 @@
 //! Words of the command line: `--name value`, and flags.
 
+use crate::conn::Server;
 use crate::fault::{Done, Fault, Trying};
+use crate::tls::Peer;
 use std::collections::BTreeMap;
 use std::fs;
 use std::net::{SocketAddr, ToSocketAddrs};
@@ -95,8 +97,8 @@ impl Args {
         Ok(Some(line))
     }
 
-    /// The partitions of `--part P=HOST:PORT`.
-    pub fn parts(&self) -> Done<BTreeMap<u32, SocketAddr>> {
+    /// The partitions of `--part P=HOST:PORT`, without a password.
+    pub fn parts(&self) -> Done<BTreeMap<u32, Server>> {
         let mut parts = BTreeMap::new();
         for value in self.all("part") {
             let wrong = || Fault::new(format!("--part {value}: not of the form P=HOST:PORT"));
@@ -105,7 +107,8 @@ impl Args {
             if part > 9999 {
                 return Err(Fault::new(format!("--part {value}: a partition is at most 9999")));
             }
-            if parts.insert(part, resolve(addr)?).is_some() {
+            let tls = Peer::of(self, "tls-partitions", addr)?;
+            if parts.insert(part, Server { addr: resolve(addr)?, password: None, tls }).is_some() {
                 return Err(Fault::new(format!("--part {part} is given twice")));
             }
         }

@@ -2,6 +2,7 @@
 
 use crate::fault::{Done, Fault, Trying};
 use crate::resp::{push, Scan, Value};
+use crate::tls::{self, Peer};
 use std::io::{Read, Write};
 use std::net::{SocketAddr, TcpStream};
 use std::time::Duration;
@@ -13,7 +14,21 @@ pub struct Server {
     pub addr: SocketAddr,
     /// The password of the default user, if it has one.
     pub password: Option<String>,
+    /// How to connect by TLS, if it needs that.
+    pub tls: Option<Peer>,
 }
+
+impl Server {
+    /// A server without a password and TLS.
+    pub fn plain(addr: SocketAddr) -> Server {
+        Server { addr, password: None, tls: None }
+    }
+}
+
+/// What bytes go over.
+trait Stream: Read + Write + Send {}
+
+impl<S: Read + Write + Send> Stream for S {}
 
 /// How long a server may take for an answer.
 const PATIENCE: Duration = Duration::from_secs(30);
@@ -21,7 +36,9 @@ const PATIENCE: Duration = Duration::from_secs(30);
 /// A connection to a server. Commands are put into its buffer, sent at once, and answered in order.
 pub struct Conn {
     addr: SocketAddr,
-    stream: TcpStream,
+    /// The connection, and what bytes go over: itself or TLS.
+    tcp: TcpStream,
+    stream: Box<dyn Stream>,
     out: Vec<u8>,
     heard: Vec<u8>,
     at: usize,
@@ -32,13 +49,23 @@ impl Conn {
     /// Connects, and logs in if the server needs a password.
     pub fn open(server: &Server) -> Done<Conn> {
         let addr = server.addr;
-        let stream = TcpStream::connect_timeout(&addr, Duration::from_secs(5))
+        let tcp = TcpStream::connect_timeout(&addr, Duration::from_secs(5))
             .trying(|| format!("to connect to {addr}"))?;
-        stream.set_nodelay(true)?;
-        stream.set_read_timeout(Some(PATIENCE))?;
-        stream.set_write_timeout(Some(PATIENCE))?;
-        let mut conn =
-            Conn { addr, stream, out: Vec::new(), heard: Vec::new(), at: 0, scan: Scan::default() };
+        tcp.set_nodelay(true)?;
+        tcp.set_read_timeout(Some(PATIENCE))?;
+        tcp.set_write_timeout(Some(PATIENCE))?;
+        let stream: Box<dyn Stream> = match &server.tls {
+            Some(peer) => {
+                let mut stream = peer.begin(tcp.try_clone()?)?;
+                if let Err(error) = stream.do_handshake() {
+                    return Err(Fault::new(tls::why(&stream, &error))).trying(|| addr.to_string());
+                }
+                Box::new(stream)
+            }
+            None => Box::new(tcp.try_clone()?),
+        };
+        let (out, heard) = (Vec::new(), Vec::new());
+        let mut conn = Conn { addr, tcp, stream, out, heard, at: 0, scan: Scan::default() };
         if let Some(password) = &server.password {
             conn.ask(&["AUTH", password])?;
         }
@@ -104,6 +131,6 @@ impl Conn {
 
     /// How long an answer may take from now on.
     pub fn set_patience(&mut self, patience: Duration) -> Done<()> {
-        Ok(self.stream.set_read_timeout(Some(patience))?)
+        Ok(self.tcp.set_read_timeout(Some(patience))?)
     }
 }

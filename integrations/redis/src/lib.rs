@@ -17,6 +17,7 @@ pub mod keymap;
 pub mod mover;
 pub mod proxy;
 pub mod resp;
+pub mod tls;
 
 /// The functions of a partition.
 pub const GUARD: &str = include_str!("guard.lua");

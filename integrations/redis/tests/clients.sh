@@ -198,3 +198,40 @@ test_mutant_of_waits() {
 test_mutant_of_scans() {
   deploy SQUALL_FAULT=scan-once && ! scans_find_all && [ -s "$run/found" ] && [ -z "$(comm -13 "$run/wanted" "$run/found")" ]
 }
+
+# Sends slow scripts at once over one connection, and puts their answers into a file. They are long, since a server does all
+# that it has read at once before it hears others.
+send_scripts() {
+  local count=$1 key=$2 script at
+  script="--$(head -c 4000 /dev/zero | tr '\0' -)
+  local n = 0 for i = 1, 2000000 do n = n + i end return redis.call('INCR', KEYS[1])"
+  exec 3<> "/dev/tcp/127.0.0.1/${proxies[0]}" || return
+  for at in $(seq "$count"); do
+    printf '*4\r\n$4\r\nEVAL\r\n$%d\r\n%s\r\n$1\r\n1\r\n$%d\r\n%s\r\n' "${#script}" "$script" "${#key}" "$key"
+  done >&3
+  for at in $(seq "$count"); do IFS= read -r -t 20 -u 3 line && echo "${line%$'\r'}"; done > "$run/scripts"
+  exec 3>&-
+}
+
+# Scripts in flight when a course begins are done once, or answered with TRYAGAIN. Then they are done at once.
+test_scripts_in_flight() {
+  local id patience=1500 count=60 done_once refused
+  deploy || return
+  for at in 500 501 600; do redis-cli -p "${proxies[0]}" set "$at:0" 0 > "$run/set"; done
+  send_scripts "$count" 600:0 &
+  local scripts=$!
+  sleep 0.2
+  # After the first chunk it waits, so the key 600:0 does not come.
+  start_move 2 old new --chunk 1 --pause 600000
+  wait "$scripts"
+  done_once=$(grep -c '^:' "$run/scripts")
+  refused=$(grep -c '^-TRYAGAIN the key is on its way$' "$run/scripts")
+  echo "$done_once were done, and $refused refused"
+  # How many are refused depends on how soon the course begins: on a busy machine perhaps none.
+  if [ $((done_once + refused)) -ne "$count" ]; then
+    sort "$run/scripts" | uniq -c | sort -rn | head -n 15; cat "$run/mover"; return 1
+  fi
+  [ "$(redis-cli -p "${proxies[0]}" eval "return redis.call('INCR', KEYS[1])" 1 600:0)" -eq $((done_once + 1)) ] || return
+  kill -KILL "$id"
+  move 2 old new && [ "$(redis-cli -p "${proxies[1]}" get 600:0)" -eq $((done_once + 1)) ]
+}

@@ -14,7 +14,7 @@ impl Partition {
     /// A partition in course 1 of plan A.
     fn new() -> Partition {
         let addr = std::env::var("SQUALL_REDIS").expect("SQUALL_REDIS");
-        let server = Server { addr: addr.parse().unwrap(), password: None };
+        let server = Server::plain(addr.parse().unwrap());
         let mut partition = Partition(Conn::open(&server).unwrap());
         partition.ask(&["FLUSHALL"]);
         partition.ask(&["FUNCTION", "LOAD", "REPLACE", GUARD]);
@@ -125,8 +125,7 @@ fn what_changes_after_a_check_ends_a_transaction() {
         it.ask(&["WATCH", "squall:number", "squall:edge"]);
         assert_eq!(it.call("squall_check", &["2", "0000000200000001"]), "here");
         let addr = std::env::var("SQUALL_REDIS").unwrap();
-        let mut other =
-            Partition(Conn::open(&Server { addr: addr.parse().unwrap(), password: None }).unwrap());
+        let mut other = Partition(Conn::open(&Server::plain(addr.parse().unwrap())).unwrap());
         other.ask(change);
         it.ask(&["MULTI"]);
         it.ask(&["SET", "x", "done"]);

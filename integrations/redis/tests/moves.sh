@@ -278,6 +278,13 @@ test_passwords() {
   agrees 3 2 && redis-cli -p "${proxies[0]}" set 400:0 x && redis-cli -p "${proxies[1]}" get 400:0 | grep -q x
 }
 
+# The bench of moves beside Redis Cluster runs, in small: each key that moves is at the third server in the end.
+test_beside_redis_cluster() {
+  BIN=$bin KEYS=3000 BEFORE=200 PACE=2000 TMPDIR=$work "$package/bench-move" 1 > "$work/moves" || return
+  grep during "$work/moves"
+  [ "$(grep -c 'during.* moved 2[0-9][0-9]$' "$work/moves")" -eq 4 ]
+}
+
 # A mutant has to be caught: the checker finds what is lost or wrong.
 caught() {
   end_load

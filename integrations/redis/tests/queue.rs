@@ -33,7 +33,7 @@ fn open(own: u64) -> Conn {
     let proxies = std::env::var("SQUALL_PROXIES").expect("SQUALL_PROXIES");
     let all: Vec<&str> = proxies.split(' ').collect();
     let addr = all[own as usize % all.len()].parse().unwrap();
-    let mut conn = Conn::open(&Server { addr, password: None }).unwrap();
+    let mut conn = Conn::open(&Server::plain(addr)).unwrap();
     conn.set_patience(Duration::from_secs(60)).unwrap();
     conn
 }

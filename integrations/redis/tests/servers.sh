@@ -2,8 +2,12 @@
 # Servers, proxies, movers and loads on loopback, for tools/integrations, which reads this file. It has set $work, a
 # temporary folder, and $bin, the folder of the programs.
 
-# More words for the proxies, and the process ids of what listens on a port.
+# More words for the proxies, and for movers. How servers listen, and how redis-cli connects.
 limits=()
+mover_words=()
+listen=(--port)
+secure=()
+# The process ids of what listens on a port.
 declare -A ids=()
 
 is_used() {
@@ -22,9 +26,9 @@ free_port() {
 run_redis() {
   local at=$1 id
   shift
-  launch "$run/$at" log redis-server --bind 127.0.0.1 --port "$at" --save '' "$@"
+  launch "$run/$at" log redis-server --bind 127.0.0.1 "${listen[@]}" "$at" --save '' "$@"
   for _ in $(seq 200); do
-    if redis-cli -p "$at" ping 2> /dev/null | grep -q PONG; then
+    if redis-cli "${secure[@]}" -p "$at" ping 2> /dev/null | grep -q PONG; then
       ids[$at]=$id
       return 0
     fi
@@ -43,7 +47,7 @@ start_redis() {
 run_proxy() {
   local at=$1 log=$run/proxy.$RANDOM$RANDOM id
   shift
-  launch "$run" "$log" "$@" "$bin/squall-redis-proxy" --listen "127.0.0.1:$at" --first old.json --bus "127.0.0.1:$bus" \
+  launch "$run" "$log" "$@" "$bin/squall-redis-proxy" --listen "127.0.0.1:$at" --first old.json --bus "$bus_at" \
     --threads 2 --wait "${patience:-10000}" "${parts[@]}" "${limits[@]}"
   for _ in $(seq 200); do
     port=$(sed -n 's/.*serves at 127.0.0.1://p' "$log" 2> /dev/null)
@@ -57,7 +61,7 @@ run_proxy() {
   return 1
 }
 
-# A bus, three partitions in course 1, and two proxies. The other words are put before the programs of the proxies.
+# A bus, unless `nats` is the address of one, three partitions in course 1, and two proxies. The other words are put before the programs of the proxies.
 deploy() {
   run=$(mktemp -d "$work/run.XXXX")
   cat > "$run/old.json" << 'E2'
@@ -67,8 +71,12 @@ E2
 {"plan":[{"part":1,"from":[0,0],"to":[330,0]},{"part":3,"from":[330,0],"to":[670,0]},
  {"part":2,"from":[670,0],"to":[2863311530,0]},{"part":3,"from":[2863311530,0],"to":"end"}]}
 E2
-  start_redis
-  bus=$port
+  bus_at=${nats-}
+  if [ -z "$bus_at" ]; then
+    start_redis
+    bus=$port
+    bus_at=127.0.0.1:$bus
+  fi
   parts=()
   servers=()
   for part in 1 2 3; do
@@ -77,7 +85,7 @@ E2
     servers+=("$port")
     parts+=(--part "$part=127.0.0.1:$port")
   done
-  "$bin/squall-redis-mover" --init --first "$run/old.json" "${parts[@]}" || return
+  "$bin/squall-redis-mover" --init --first "$run/old.json" "${parts[@]}" "${mover_words[@]}" || return
   proxies=()
   for _ in 1 2; do
     run_proxy 0 env "$@" || return
@@ -96,7 +104,8 @@ set_mover() {
   local number=$1 old=$2 new=$3
   shift 3
   mover=("$bin/squall-redis-mover" --number "$number" --old "$run/$old.json" --new "$run/$new.json" --first "$run/old.json"
-    --bus "127.0.0.1:$bus" "${parts[@]}" --chunk 20 --pause 2 --settle "${settle-0}" "$@")
+    --bus "$bus_at" "${parts[@]}" --chunk 20 --pause 2 --settle "${settle-0}" "${mover_words[@]}"
+    "$@")
 }
 
 move() {
@@ -133,7 +142,7 @@ end_load() {
 
 has_moved() {
   local keys
-  keys=$(redis-cli -p "${servers[2]}" dbsize)
+  keys=$(redis-cli "${secure[@]}" -p "${servers[2]}" dbsize)
   echo "partition 3 has $keys keys"
   [ "$keys" -gt 200 ]
 }
@@ -142,7 +151,7 @@ has_moved() {
 agrees() {
   local all key=${3-400:0}
   for _ in $(seq 100); do
-    all=$(for at in "${proxies[@]}"; do redis-cli -p "$at" squall route "$key"; done | sort -u)
+    all=$(for at in "${proxies[@]}"; do redis-cli "${secure[@]}" -p "$at" squall route "$key"; done | sort -u)
     [ "$all" = "key $key partition $1 course $2" ] && return 0
     sleep 0.05
   done

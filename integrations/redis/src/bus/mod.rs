@@ -1,10 +1,14 @@
-//! What routers send each other, over a Redis server: frames on one stream, digests on another.
+//! What routers send each other, over a Redis server: frames on one stream, digests on another. Or over
+//! NATS, with a subject for each.
 //!
-//! A stream is trimmed, its server may lose its end, and a reader may miss any of it. So each node
-//! shows a digest of what it knows once a second, and a node that knows more answers with a repair.
+//! A stream is trimmed, its server may lose its end, and a reader may miss any of it. NATS keeps nothing
+//! at all. So each node shows a digest of what it knows once a second, and a node that knows more answers with a repair.
 //! The answer waits a short time by chance. If another node answers first, it is dropped.
 
+mod carrier;
 mod entry;
+mod nats;
+mod nats_text;
 mod node;
 mod outbox;
 

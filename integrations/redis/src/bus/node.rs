@@ -1,9 +1,9 @@
 //! A node of the bus: a router that hears all others.
 
-use super::entry::{Entry, Places, Streams};
+use super::carrier::Carrier;
+use super::entry::Entry;
 use super::outbox;
-use crate::args::{resolve, Args};
-use crate::conn::{Conn, Server};
+use crate::args::Args;
 use crate::course::Progress;
 use crate::dice::Dice;
 use crate::fault::Done;
@@ -23,10 +23,8 @@ const PAUSE: u64 = 50_000;
 
 /// What a node needs to join.
 pub struct Options {
-    /// The server of the streams.
-    pub server: Server,
-    /// The name with which their names begin.
-    pub streams: String,
+    /// What carries frames.
+    pub carrier: Carrier,
     /// What the node is, as `proxy`. Its name also has digits by chance.
     pub kind: &'static str,
     /// The text of the plan of course 1.
@@ -38,10 +36,9 @@ pub struct Options {
 impl Options {
     /// What the words of the command line say of a node of that kind, which knows nothing from before.
     pub fn of(args: &Args, kind: &'static str) -> Done<Options> {
-        let server =
-            Server { addr: resolve(args.need("bus")?)?, password: args.password("bus-password-file")? };
-        let streams = args.get("streams").unwrap_or("squall").to_string();
-        Ok(Options { server, streams, kind, plan: args.file("first")?, known: Vec::new() })
+        // A mover waits for all to know what it has said.
+        let carrier = Carrier::of(args, kind == "mover")?;
+        Ok(Options { carrier, kind, plan: args.file("first")?, known: Vec::new() })
     }
 }
 
@@ -76,8 +73,7 @@ struct Agenda {
 
 /// A node of the bus, which hears and answers in threads of its own.
 pub struct Node {
-    server: Server,
-    streams: Streams,
+    carrier: Carrier,
     name: String,
     router: Mutex<Router>,
     /// The newest view. `views` is how many there were.
@@ -86,7 +82,6 @@ pub struct Node {
     agenda: Mutex<Agenda>,
     speak: Condvar,
     wakers: Mutex<Vec<Box<dyn Fn() + Send>>>,
-    sender: Mutex<Option<Conn>>,
     /// When a digest was heard last that differs from this node's.
     differed: Mutex<Instant>,
     /// What it has counted.
@@ -109,8 +104,7 @@ impl Node {
         options.known.iter().try_for_each(|frame| router.hear(frame))?;
         let view = router.view()?;
         let node = Arc::new(Node {
-            server: options.server,
-            streams: Streams::new(&options.streams),
+            carrier: options.carrier,
             name: format!("{}-{:016x}", options.kind, Dice::fresh().draw()),
             router: Mutex::new(router),
             view: Mutex::new(view),
@@ -118,7 +112,6 @@ impl Node {
             agenda: Mutex::new(Agenda { is_wanted: true, answers: Vec::new() }),
             speak: Condvar::new(),
             wakers: Mutex::default(),
-            sender: Mutex::new(None),
             differed: Mutex::new(Instant::now()),
             counts: Counts::default(),
         });
@@ -211,13 +204,13 @@ impl Node {
             }
             self.publish(&router)?;
         }
-        self.send(|streams, conn| streams.write(conn, &self.name, frames, None))
+        self.carrier.write(&self.name, frames, None)
     }
 
     /// Sends all that this node knows. A stream that is trimmed then has it at its end.
     pub fn tell_all(&self) -> Done<()> {
         let frames = self.board()?;
-        self.send(|streams, conn| streams.write(conn, &self.name, &frames, None))
+        self.carrier.write(&self.name, &frames, None)
     }
 
     /// Answers others until each node that shows a digest has shown that it knows the same: whether
@@ -243,25 +236,13 @@ impl Node {
         Ok(())
     }
 
-    fn send(&self, write: impl FnOnce(&Streams, &mut Conn) -> Done<()>) -> Done<()> {
-        let mut sender = lock(&self.sender);
-        let mut conn = match sender.take() {
-            Some(conn) => conn,
-            None => Conn::open(&self.server)?,
-        };
-        write(&self.streams, &mut conn)?;
-        *sender = Some(conn);
-        Ok(())
-    }
-
-    /// Hears others, for ever. A new connection begins with all frames that the stream still has.
+    /// Hears others, for ever.
     fn hear(&self) -> Done<()> {
-        let mut conn = Conn::open(&self.server)?;
-        let mut places: Places = self.streams.begin(&mut conn)?;
+        let mut ears = self.carrier.listen()?;
         let mut dice = Dice::fresh();
         let misses = faults::misses();
         loop {
-            let (mut frames, mut digests) = self.streams.read(&mut conn, &mut places)?;
+            let (mut frames, mut digests) = ears.read()?;
             let mut is_heard = |entry: &Entry| entry.from != self.name && dice.below(100) >= misses;
             frames.retain(&mut is_heard);
             digests.retain(&mut is_heard);
@@ -318,7 +299,7 @@ impl Node {
             let due = self.wait(shown, pause);
             if shown.elapsed() >= AT_ONCE && (due.is_none() || shown.elapsed() >= ROUND) {
                 let digest: Vec<_> = lock(&self.router).digest()?.collect();
-                self.send(|streams, conn| streams.show(conn, &self.name, &digest))?;
+                self.carrier.show(&self.name, &digest)?;
                 shown = Instant::now();
                 pause = ROUND;
             }
@@ -367,6 +348,6 @@ impl Node {
             }
         };
         self.counts.repairs.fetch_add(repair.len() as u64, Relaxed);
-        self.send(|streams, conn| streams.write(conn, &self.name, &repair, Some(&answer.id)))
+        self.carrier.write(&self.name, &repair, Some(&answer.id))
     }
 }

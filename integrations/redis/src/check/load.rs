@@ -6,7 +6,6 @@ use crate::conn::{Conn, Server};
 use crate::dice::Dice;
 use crate::resp::Value;
 use std::fmt;
-use std::net::SocketAddr;
 use std::path::PathBuf;
 use std::sync::atomic::{AtomicU64, Ordering::Relaxed};
 use std::thread;
@@ -58,7 +57,7 @@ impl Tally {
 
 /// What all connections do.
 pub struct Load<'a> {
-    pub proxies: Vec<SocketAddr>,
+    pub proxies: Vec<Server>,
     /// How many commands each of them makes.
     pub commands: u64,
     /// It goes on while this file is there.
@@ -172,9 +171,9 @@ impl Session<'_> {
     fn connect(&mut self) -> Option<&mut Conn> {
         if self.conn.is_none() {
             let all = &self.load.proxies;
-            let addr = all[(self.own as usize + self.opened) % all.len()];
+            let server = &all[(self.own as usize + self.opened) % all.len()];
             self.opened += 1;
-            self.conn = Conn::open(&Server { addr, password: None }).ok();
+            self.conn = Conn::open(server).ok();
         }
         self.conn.as_mut()
     }

@@ -4,8 +4,10 @@ mod command;
 mod key;
 mod load;
 
-use crate::args::{Args, Usage};
+use crate::args::{resolve, Args, Usage};
+use crate::conn::Server;
 use crate::fault::{Done, Fault};
+use crate::tls::{self, Peer};
 use load::{Load, Tally};
 use std::path::PathBuf;
 use std::sync::atomic::Ordering::Relaxed;
@@ -29,8 +31,11 @@ pub const USAGE: Usage = Usage {
         "pause",
         "reads",
         "while",
+        tls::OPTIONS[0],
+        tls::OPTIONS[1],
+        tls::OPTIONS[2],
     ],
-    flags: &["tolerant", "quiet"],
+    flags: &["tolerant", "quiet", "tls"],
 };
 
 /// Runs the program.
@@ -58,9 +63,14 @@ pub fn run(args: &Args) -> Done<()> {
     Ok(())
 }
 
+/// A proxy of that address.
+fn server(args: &Args, addr: &str) -> Done<Server> {
+    Ok(Server { addr: resolve(addr)?, password: None, tls: Peer::of(args, "tls", addr)? })
+}
+
 /// The load that the words of the command line ask for.
 fn load<'a>(args: &Args, connections: u64, tally: &'a Tally) -> Done<Load<'a>> {
-    let proxies: Vec<_> = args.all("proxy").map(crate::args::resolve).collect::<Done<_>>()?;
+    let proxies: Vec<_> = args.all("proxy").map(|addr| server(args, addr)).collect::<Done<_>>()?;
     if proxies.is_empty() {
         return Err(Fault::new("--proxy HOST:PORT is missing"));
     }

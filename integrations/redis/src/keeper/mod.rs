@@ -5,6 +5,7 @@ mod file;
 use crate::args::{Args, Usage};
 use crate::bus::{Node, Options};
 use crate::fault::Done;
+use crate::tls;
 use file::BoardFile;
 use std::sync::mpsc;
 use std::thread;
@@ -14,8 +15,18 @@ use std::time::Duration;
 pub const USAGE: Usage = Usage {
     name: "squall-redis-node",
     help: include_str!("help.txt"),
-    options: &["first", "bus", "bus-password-file", "streams", "board", "every"],
-    flags: &[],
+    options: &[
+        "first",
+        "bus",
+        "bus-password-file",
+        "streams",
+        "board",
+        "every",
+        tls::OPTIONS[0],
+        tls::OPTIONS[1],
+        tls::OPTIONS[2],
+    ],
+    flags: &[tls::FLAGS[1]],
 };
 
 /// The pause after the file could not be written.

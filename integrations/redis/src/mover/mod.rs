@@ -10,7 +10,7 @@ use crate::bus::{Node, Options};
 use crate::conn::{Conn, Server};
 use crate::course::{self, Move, Plan};
 use crate::fault::{Done, Fault, Trying};
-use crate::{faults, keymap, DEFAULT_SECRET};
+use crate::{faults, keymap, tls, DEFAULT_SECRET};
 pub use index::is_own;
 
 use feeder::Job;
@@ -38,8 +38,11 @@ pub const USAGE: Usage = Usage {
         "chunk",
         "pause",
         "settle",
+        tls::OPTIONS[0],
+        tls::OPTIONS[1],
+        tls::OPTIONS[2],
     ],
-    flags: &["init", "dry-run"],
+    flags: &["init", "dry-run", tls::FLAGS[0], tls::FLAGS[1]],
 };
 
 /// A pause between the issue and the fence, in which routers hear of the course.
@@ -85,23 +88,23 @@ pub fn run(args: &Args) -> Done<()> {
 impl Mover {
     fn new(args: &Args, number: u32, (old, new): (Plan, Plan)) -> Done<Mover> {
         let password = args.password("password-file")?;
-        let addrs = args.parts()?;
+        let servers = args.parts()?;
         for part in old.parts.union(&new.parts) {
-            if !addrs.contains_key(part) {
+            if !servers.contains_key(part) {
                 return Err(Fault::new(format!(
                     "a plan names partition {part}, which has no address: --part {part}=HOST:PORT is missing"
                 )));
             }
         }
         let (moves, issue) = course::issue(number, &old, &new)?;
-        let server = |addr| Server { addr, password: password.clone() };
+        let with = |server| Server { password: password.clone(), ..server };
         Ok(Mover {
             number,
             old,
             new,
             moves,
             issue,
-            servers: addrs.into_iter().map(|(part, addr)| (part, server(addr))).collect(),
+            servers: servers.into_iter().map(|(part, server)| (part, with(server))).collect(),
             secret: args.password("secret-file")?.unwrap_or(DEFAULT_SECRET.into()),
         })
     }

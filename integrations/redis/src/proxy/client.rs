@@ -2,10 +2,9 @@
 
 use super::commands::Split;
 use super::plan::{Plan, Words};
-use super::socket::Out;
+use super::socket::{Out, Socket};
 use super::task::{Queue, Task, Watch};
 use crate::resp::{Parser, Value};
-use mio::net::TcpStream;
 use squall::{Errand, Reply};
 use std::collections::VecDeque;
 use std::time::{Duration, Instant};
@@ -59,7 +58,7 @@ pub struct Client {
     /// A number that no other client of the worker has or had.
     pub id: u64,
     /// Its connection.
-    pub stream: TcpStream,
+    pub stream: Socket,
     /// What it sent and is not answered, and the place of its first byte among all that it sent.
     pub input: Vec<u8>,
     base: u64,
@@ -101,7 +100,7 @@ pub struct Client {
 
 impl Client {
     /// A client that has sent nothing.
-    pub fn new(id: u64, stream: TcpStream) -> Client {
+    pub fn new(id: u64, stream: Socket) -> Client {
         Client {
             id,
             stream,

@@ -13,9 +13,9 @@ impl Worker {
         let at = match self.by_part.get(&(part, is_resp3)) {
             Some(&at) => at,
             None => {
-                let addr = *self.shared.parts.get(&part)?;
+                let server = self.shared.parts.get(&part)?.clone();
                 let at = self.upstreams.len();
-                self.upstreams.push(Upstream::new(part, addr, is_resp3, self.now));
+                self.upstreams.push(Upstream::new(part, server, is_resp3, self.now));
                 self.by_part.insert((part, is_resp3), at);
                 at
             }
@@ -42,8 +42,9 @@ impl Worker {
         let upstream = &mut self.upstreams[at];
         let interest = Interest::READABLE | Interest::WRITABLE;
         let registry = self.poll.registry();
-        let connected =
-            upstream.connect().and_then(|stream| registry.register(stream, upstream_token(at), interest));
+        let connected = upstream
+            .connect()
+            .and_then(|stream| Ok(registry.register(stream, upstream_token(at), interest)?));
         if connected.is_err() {
             upstream.drop_stream(now);
             return;
@@ -78,7 +79,7 @@ impl Worker {
             return;
         }
         let mut stands = true;
-        if is_readable || is_closed {
+        if is_readable || is_closed || upstream.is_tls() {
             stands = upstream.receive(&mut self.block, is_closed);
             upstream.progress = self.now;
             stands &= self.take_replies(at);

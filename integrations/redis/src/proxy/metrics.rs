@@ -2,11 +2,12 @@
 
 use super::counts::{add_kinds, add_waits, sum, Counts};
 use crate::bus::Node;
+use crate::conn::Server;
 use crate::fault::Done;
+use crate::tls::Acceptor;
 use mio::net::TcpStream;
 use std::collections::BTreeMap;
 use std::fmt::Write as _;
-use std::net::SocketAddr;
 use std::sync::atomic::{AtomicU64, AtomicUsize, Ordering::Relaxed};
 use std::sync::{Arc, Mutex};
 use std::time::{Duration, Instant};
@@ -15,8 +16,10 @@ use std::time::{Duration, Instant};
 pub struct Shared {
     /// The node of the bus.
     pub node: Arc<Node>,
-    /// The addresses of the partitions.
-    pub parts: BTreeMap<u32, SocketAddr>,
+    /// The partitions.
+    pub parts: BTreeMap<u32, Server>,
+    /// How clients connect by TLS, if they do.
+    pub tls: Option<Acceptor>,
     /// The password of the users squall-N.
     pub secret: String,
     /// The ranges of the plan of course 1.

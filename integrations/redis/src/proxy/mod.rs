@@ -25,6 +25,7 @@ use crate::args::{Args, Usage};
 use crate::bus::{Node, Options};
 use crate::course::Plan;
 use crate::fault::{Done, Fault, Trying};
+use crate::tls::{self, Acceptor};
 use crate::DEFAULT_SECRET;
 use metrics::Shared;
 use mio::{Poll, Waker};
@@ -55,8 +56,14 @@ pub const USAGE: Usage = Usage {
         "client-memory",
         "metrics",
         "program",
+        "tls-cert",
+        "tls-key",
+        "tls-client-ca",
+        tls::OPTIONS[0],
+        tls::OPTIONS[1],
+        tls::OPTIONS[2],
     ],
-    flags: &[],
+    flags: &tls::FLAGS,
 };
 
 /// Runs the program.
@@ -83,6 +90,7 @@ fn share(args: &Args, threads: usize) -> Done<Shared> {
     Ok(Shared {
         node,
         parts: args.parts()?,
+        tls: Acceptor::of(args)?,
         first: Plan::read(args.file("first")?)?.ranges,
         secret: args.password("secret-file")?.unwrap_or(DEFAULT_SECRET.into()),
         wait: Duration::from_millis(args.number("wait", 5000, 1, 3_600_000)?),

@@ -143,8 +143,8 @@ impl Worker {
         let at = match spare {
             Some(at) => at,
             None => {
-                let addr = *self.shared.parts.get(&part)?;
-                self.upstreams.push(Upstream::new(part, addr, is_resp3, self.now));
+                let server = self.shared.parts.get(&part)?.clone();
+                self.upstreams.push(Upstream::new(part, server, is_resp3, self.now));
                 self.upstreams.len() - 1
             }
         };

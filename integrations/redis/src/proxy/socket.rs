@@ -1,7 +1,121 @@
 //! Sockets that never wait.
 
+use crate::conn::Server;
+use crate::fault::Done;
+use crate::tls::{self, Acceptor};
 use mio::net::TcpStream;
-use std::io::{ErrorKind, Read, Write};
+use openssl::ssl::SslStream;
+use std::io::{self, ErrorKind, Read, Write};
+
+/// A connection, with or without TLS.
+///
+/// TLS makes its handshake in the first reads and writes. Any event may let either of them go on.
+pub enum Socket {
+    Plain(TcpStream),
+    Tls(Box<Session>),
+}
+
+/// A connection with TLS.
+pub struct Session {
+    stream: SslStream<TcpStream>,
+    /// Why it has failed, if not by the connection below it.
+    fault: Option<String>,
+}
+
+impl Session {
+    fn of(stream: SslStream<TcpStream>) -> Socket {
+        Socket::Tls(Box::new(Session { stream, fault: None }))
+    }
+
+    /// Keeps why it has failed.
+    fn heed(&mut self, done: io::Result<usize>) -> io::Result<usize> {
+        if let Err(error) = &done {
+            let is_below = error.raw_os_error().is_some();
+            if !is_below && !matches!(error.kind(), ErrorKind::WouldBlock | ErrorKind::NotConnected) {
+                self.fault = Some(tls::why(&self.stream, error));
+            }
+        }
+        done
+    }
+}
+
+impl Socket {
+    /// A client's connection.
+    pub fn accept(stream: TcpStream, tls: Option<&Acceptor>) -> Done<Socket> {
+        Ok(match tls {
+            Some(acceptor) => Session::of(acceptor.begin(stream)?),
+            None => Socket::Plain(stream),
+        })
+    }
+
+    /// Begins to connect to a server.
+    pub fn connect(server: &Server) -> Done<Socket> {
+        let stream = TcpStream::connect(server.addr)?;
+        // It may refuse this until it is connected; `receive` is called then.
+        let _ = stream.set_nodelay(true);
+        Ok(match &server.tls {
+            Some(peer) => Session::of(peer.begin(stream)?),
+            None => Socket::Plain(stream),
+        })
+    }
+
+    /// What events come from.
+    pub fn source(&mut self) -> &mut TcpStream {
+        match self {
+            Socket::Plain(stream) => stream,
+            Socket::Tls(session) => session.stream.get_mut(),
+        }
+    }
+
+    /// Whether bytes go over it as they are.
+    pub fn is_plain(&self) -> bool {
+        matches!(self, Socket::Plain(_))
+    }
+
+    /// Why TLS has failed, if it has.
+    pub fn fault(&self) -> Option<&str> {
+        match self {
+            Socket::Plain(_) => None,
+            Socket::Tls(session) => session.fault.as_deref(),
+        }
+    }
+}
+
+impl Read for Socket {
+    fn read(&mut self, block: &mut [u8]) -> io::Result<usize> {
+        match self {
+            Socket::Plain(stream) => stream.read(block),
+            Socket::Tls(session) => {
+                let got = session.stream.read(block);
+                session.heed(got)
+            }
+        }
+    }
+}
+
+impl Write for Socket {
+    fn write(&mut self, bytes: &[u8]) -> io::Result<usize> {
+        match self {
+            Socket::Plain(stream) => stream.write(bytes),
+            Socket::Tls(session) => {
+                let sent = session.stream.write(bytes);
+                session.heed(sent)
+            }
+        }
+    }
+
+    fn flush(&mut self) -> io::Result<()> {
+        Ok(())
+    }
+}
+
+impl Drop for Socket {
+    fn drop(&mut self) {
+        if let Socket::Tls(session) = self {
+            tls::end(&mut session.stream);
+        }
+    }
+}
 
 /// Bytes that are to be sent.
 #[derive(Default)]
@@ -27,7 +141,7 @@ impl Out {
     }
 
     /// Sends what the connection takes: whether it is still open.
-    pub fn send(&mut self, stream: &mut TcpStream) -> bool {
+    pub fn send(&mut self, stream: &mut Socket) -> bool {
         while self.sent < self.bytes.len() {
             match stream.write(&self.bytes[self.sent..]) {
                 Ok(0) => return false,
@@ -64,7 +178,7 @@ pub enum Received {
 /// Reads what has come, as long as fewer than `most` bytes wait. If the other end has closed, it is
 /// read to the end.
 pub fn receive(
-    stream: &mut TcpStream,
+    stream: &mut Socket,
     block: &mut [u8],
     heard: &mut Vec<u8>,
     (is_closed, most): (bool, usize),
@@ -74,8 +188,8 @@ pub fn receive(
             Ok(0) => return Received::End,
             Ok(got) => {
                 heard.extend_from_slice(&block[..got]);
-                // After a short read an event tells of what comes later.
-                if got < block.len() && !is_closed {
+                // After a short read an event tells of what comes later. TLS may have read that already.
+                if got < block.len() && !is_closed && stream.is_plain() {
                     return Received::All;
                 }
             }

@@ -1,14 +1,14 @@
 //! A connection from a worker to a partition, which the commands of all its clients share.
 
-use super::socket::{receive, Out, Received};
+use super::socket::{receive, Out, Received, Socket};
+use crate::conn::Server;
+use crate::fault::Done;
 use crate::keymap;
 use crate::resp::{push, Scan, Value};
 use crate::user;
 use mio::net::TcpStream;
 use squall::Rank;
 use std::collections::VecDeque;
-use std::io;
-use std::net::SocketAddr;
 use std::time::{Duration, Instant};
 
 /// Between two attempts to connect or to log in.
@@ -61,15 +61,16 @@ pub struct Upstream {
     pub part: u32,
     /// Whether it speaks RESP3.
     pub is_resp3: bool,
-    addr: SocketAddr,
+    server: Server,
     /// The connection, if there is one.
-    pub stream: Option<TcpStream>,
+    pub stream: Option<Socket>,
     /// What it is at.
     pub state: State,
     /// The course by which it is let in.
     pub number: u32,
-    /// The course whose refusal was shown last.
+    /// The course whose refusal was shown last, and the fault of TLS that was.
     shown: u32,
+    shown_fault: String,
     /// The moves of that course: from, below, and the role.
     moves: Vec<(Rank, Rank, Role)>,
     /// What is to be sent.
@@ -103,15 +104,16 @@ pub struct Own {
 
 impl Upstream {
     /// A partition that is not connected.
-    pub fn new(part: u32, addr: SocketAddr, is_resp3: bool, now: Instant) -> Upstream {
+    pub fn new(part: u32, server: Server, is_resp3: bool, now: Instant) -> Upstream {
         Upstream {
             part,
             is_resp3,
-            addr,
+            server,
             stream: None,
             state: State::Down(now),
             number: 0,
             shown: 0,
+            shown_fault: String::new(),
             moves: Vec::new(),
             out: Out::default(),
             heard: Vec::new(),
@@ -124,19 +126,21 @@ impl Upstream {
     }
 
     /// Begins to connect. The caller registers the stream.
-    pub fn connect(&mut self) -> io::Result<&mut TcpStream> {
-        let stream = TcpStream::connect(self.addr)?;
-        // It may refuse this until it is connected; `receive` is called then.
-        let _ = stream.set_nodelay(true);
+    pub fn connect(&mut self) -> Done<&mut TcpStream> {
+        let stream = Socket::connect(&self.server)?;
         self.out.clear();
         self.heard.clear();
         self.scan = Scan::default();
-        Ok(self.stream.insert(stream))
+        Ok(self.stream.insert(stream).source())
     }
 
     /// Drops the connection: the requests whose answers are lost.
     pub fn drop_stream(&mut self, now: Instant) -> VecDeque<InFlight> {
-        self.stream = None;
+        let stream = self.stream.take();
+        if let Some(fault) = stream.as_ref().and_then(Socket::fault).filter(|it| *it != self.shown_fault) {
+            eprintln!("partition {}: {fault}", self.part);
+            self.shown_fault = fault.to_string();
+        }
         self.state = State::Down(now + AGAIN);
         self.number = 0;
         if let Some(own) = &mut self.own {
@@ -248,6 +252,11 @@ impl Upstream {
         receive(stream, block, &mut self.heard, (is_closed, usize::MAX)) == Received::All
     }
 
+    /// Whether any event may let it read on.
+    pub fn is_tls(&self) -> bool {
+        self.stream.as_ref().is_some_and(|stream| !stream.is_plain())
+    }
+
     /// Sends what it can: whether the connection is still open.
     pub fn flush(&mut self) -> bool {
         self.stream.as_mut().is_none_or(|stream| self.out.send(stream))
@@ -283,7 +292,7 @@ mod tests {
     #[test]
     fn roles_are_found() {
         let now = Instant::now();
-        let mut upstream = Upstream::new(1, "127.0.0.1:1".parse().unwrap(), false, now);
+        let mut upstream = Upstream::new(1, Server::plain("127.0.0.1:1".parse().unwrap()), false, now);
         upstream.state = State::Entering(2, false);
         assert!(!upstream.entered(b"+OK\r\n", now));
         let line = "0000000200000000 0000000300000000 out 3 0000000200000000 0000000200000000";
@@ -298,7 +307,7 @@ mod tests {
     #[test]
     fn a_refusal_is_noticed() {
         let now = Instant::now();
-        let mut upstream = Upstream::new(1, "127.0.0.1:1".parse().unwrap(), false, now);
+        let mut upstream = Upstream::new(1, Server::plain("127.0.0.1:1".parse().unwrap()), false, now);
         upstream.state = State::Entering(2, false);
         upstream.entered(b"-WRONGPASS invalid\r\n", now);
         assert!(upstream.entered(b"*0\r\n", now));

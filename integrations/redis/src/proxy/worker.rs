@@ -6,7 +6,7 @@
 use super::client::Client;
 use super::counts::{Counts, Turn};
 use super::metrics::Shared;
-use super::socket::{receive, Received};
+use super::socket::{receive, Received, Socket};
 use super::upstream::{InFlight, Upstream};
 use mio::net::TcpStream;
 use mio::{Events, Interest, Poll, Token};
@@ -150,6 +150,11 @@ impl Worker {
                 self.shared.clients.fetch_sub(1, SeqCst);
                 continue;
             }
+            let Ok(stream) = Socket::accept(stream, self.shared.tls.as_ref()) else {
+                self.free.push(at);
+                self.shared.clients.fetch_sub(1, SeqCst);
+                continue;
+            };
             self.last_id += 1;
             let client = Some(Box::new(Client::new(self.last_id, stream)));
             if at == self.clients.len() {
@@ -165,7 +170,7 @@ impl Worker {
             return;
         };
         let mut stands = true;
-        if is_readable || is_closed {
+        if is_readable || is_closed || !client.stream.is_plain() {
             stands = self.read_client(&mut client, is_closed);
         }
         if stands && client.out.len() > 0 {

@@ -1,0 +1,101 @@
+//! What carries frames: the streams of a Redis server, or NATS.
+
+use super::entry::{Entry, Places, Streams};
+use super::nats::{Nats, NatsEars};
+use crate::args::{resolve, Args};
+use crate::conn::{Conn, Server};
+use crate::fault::{Done, Fault};
+use crate::tls::Peer;
+use std::sync::{Mutex, PoisonError};
+
+/// A bus, and what is sent over it.
+pub enum Carrier {
+    Redis(Redis),
+    Nats(Nats),
+}
+
+/// The streams of a Redis server.
+pub struct Redis {
+    server: Server,
+    streams: Streams,
+    sender: Mutex<Option<Conn>>,
+}
+
+/// A connection that hears others.
+pub enum Ears<'a> {
+    Redis(&'a Streams, Box<Conn>, Places),
+    Nats(NatsEars<'a>),
+}
+
+impl Carrier {
+    /// The bus that `--bus` names, with the name by which its streams or subjects begin. One that hears all
+    /// hears each digest over NATS too, and not its share of them.
+    ///
+    /// # Errors
+    ///
+    /// The words are wrong, or a host has no address.
+    pub fn of(args: &Args, hears_all: bool) -> Done<Carrier> {
+        let addr = args.need("bus")?;
+        let name = args.get("streams").unwrap_or("squall");
+        let password = args.password("bus-password-file")?;
+        if addr.starts_with("nats://") {
+            if args.has("tls-bus") {
+                return Err(Fault::new("--tls-bus: there is no TLS over NATS"));
+            }
+            return Nats::new(addr, name, password, hears_all).map(Carrier::Nats);
+        }
+        let server = Server { addr: resolve(addr)?, password, tls: Peer::of(args, "tls-bus", addr)? };
+        Ok(Carrier::Redis(Redis { server, streams: Streams::new(name), sender: Mutex::new(None) }))
+    }
+
+    /// Connects, to hear others. Over Redis it begins with all frames that the stream still has.
+    pub fn listen(&self) -> Done<Ears<'_>> {
+        match self {
+            Carrier::Redis(redis) => {
+                let mut conn = Conn::open(&redis.server)?;
+                let places = redis.streams.begin(&mut conn)?;
+                Ok(Ears::Redis(&redis.streams, Box::new(conn), places))
+            }
+            Carrier::Nats(nats) => nats.listen().map(Ears::Nats),
+        }
+    }
+
+    /// Sends frames to all nodes, or as the answer to a digest.
+    pub fn write(&self, from: &str, frames: &[Vec<u8>], re: Option<&str>) -> Done<()> {
+        match self {
+            Carrier::Redis(redis) => redis.send(|streams, conn| streams.write(conn, from, frames, re)),
+            Carrier::Nats(nats) => nats.write(frames, re),
+        }
+    }
+
+    /// Shows a digest.
+    pub fn show(&self, from: &str, frames: &[Vec<u8>]) -> Done<()> {
+        match self {
+            Carrier::Redis(redis) => redis.send(|streams, conn| streams.show(conn, from, frames)),
+            Carrier::Nats(nats) => nats.show(frames),
+        }
+    }
+}
+
+impl Redis {
+    fn send(&self, write: impl FnOnce(&Streams, &mut Conn) -> Done<()>) -> Done<()> {
+        let mut sender = self.sender.lock().unwrap_or_else(PoisonError::into_inner);
+        let mut conn = match sender.take() {
+            Some(conn) => conn,
+            None => Conn::open(&self.server)?,
+        };
+        write(&self.streams, &mut conn)?;
+        *sender = Some(conn);
+        Ok(())
+    }
+}
+
+impl Ears<'_> {
+    /// The next frames and digests, after a wait of at most a second.
+    pub fn read(&mut self) -> Done<(Vec<Entry>, Vec<Entry>)> {
+        match self {
+            Ears::Redis(streams, conn, places) => streams.read(conn, places),
+            Ears::Nats(ears) => ears.read(),
+        }
+    }
+}

@@ -1,0 +1,77 @@
+# shellcheck shell=bash disable=SC2154,SC2034
+# Tests of TLS, for tools/integrations, over what servers.sh starts.
+
+# Makes a certificate and its key below $run: its name, who signs it (itself, if it is the same), and what it is good for.
+certify() {
+  local name=$1 by=$2 names=$3 own=()
+  [ "$name" = "$by" ] || own=(-CA "$run/$by.pem" -CAkey "$run/$by.key")
+  openssl req -x509 -newkey ec -pkeyopt ec_paramgen_curve:prime256v1 -nodes -days 2 -subj "/CN=$name" \
+    -addext "$names" "${own[@]}" -keyout "$run/$name.key" -out "$run/$name.pem" 2> "$run/$name.said"
+}
+
+# The certificates of an authority, of servers and proxies of 127.0.0.1, of one that connects, and of a foreign authority.
+# Then all that servers.sh starts talks by TLS.
+use_tls() {
+  run=$(mktemp -d "$work/tls.XXXX")
+  certify ca ca basicConstraints=critical,CA:true && certify server ca subjectAltName=IP:127.0.0.1 \
+    && certify own ca subjectAltName=DNS:own && certify foreign foreign basicConstraints=critical,CA:true || return
+  certs=$run
+  listen=(--tls-cert-file "$certs/server.pem" --tls-key-file "$certs/server.key" --tls-ca-cert-file "$certs/ca.pem"
+    --port 0 --tls-port)
+  secure=(--tls --cacert "$certs/ca.pem" --cert "$certs/own.pem" --key "$certs/own.key")
+  mover_words=(--tls-partitions --tls-bus --tls-ca "$certs/ca.pem" --tls-own-cert "$certs/own.pem"
+    --tls-own-key "$certs/own.key")
+  limits=("${mover_words[@]}" --tls-cert "$certs/server.pem" --tls-key "$certs/server.key")
+}
+
+# Keys move while all that talk do so by TLS: clients, proxies, movers, a node, partitions and the bus.
+test_tls() {
+  local certs listen=() secure=() mover_words=() limits=() id
+  use_tls && deploy || return
+  launch "$run" node "$bin/squall-redis-node" --first old.json --bus "127.0.0.1:$bus" --board board --tls-bus \
+    --tls-ca "$certs/ca.pem" --tls-own-cert "$certs/own.pem" --tls-own-key "$certs/own.key"
+  start_load 30000 --pause 300 --tls --tls-ca "$certs/ca.pem"
+  sleep 0.2
+  move 2 old new && move 3 new old && move 4 old new || return
+  end_load && has_moved && agrees 3 4 || return
+  # An answer and a command of many records.
+  head -c 3000000 /dev/zero | tr '\0' x > "$run/long"
+  redis-cli "${secure[@]}" -p "${proxies[0]}" -x set 400:1:long < "$run/long" && redis-cli "${secure[@]}" \
+    -p "${proxies[1]}" get 400:1:long | tr -d '\n' | cmp - "$run/long" || return
+  # The node has heard all.
+  for _ in $(seq 100); do
+    [ -s "$run/board" ] && grep -q "$(printf 'SQ')" "$run/board" && return 0
+    sleep 0.05
+  done
+  cat "$run/node"
+  return 1
+}
+
+# Nobody talks to a stranger.
+test_tls_refusals() {
+  local certs listen=() secure=() mover_words=() limits=() others
+  use_tls && deploy || return
+  # A client without TLS gets no answer, and one without a certificate is let in.
+  ! redis-cli -p "${proxies[0]}" ping > "$run/plain" 2>&1 || return
+  redis-cli --tls --cacert "$certs/ca.pem" -p "${proxies[0]}" ping | grep -q PONG || return
+  ! redis-cli --tls --cacert "$certs/foreign.pem" -p "${proxies[0]}" ping || return
+  # A mover that trusts another authority, and one that asks for another name.
+  others=("${mover_words[@]}")
+  mover_words=(--tls-partitions --tls-bus --tls-ca "$certs/foreign.pem")
+  refused "certificate is refused: unable to get local issuer\|certificate is refused: self" 2 old new || return
+  mover_words=("${others[@]}" --part "9=localhost:${servers[0]}")
+  refused "certificate is refused: hostname mismatch" 2 old new || return
+  # Partitions ask for certificates, as Redis does if nothing else is set.
+  mover_words=(--tls-partitions --tls-bus --tls-ca "$certs/ca.pem")
+  refused "certificate required\|reset by peer\|has closed\|Broken pipe" 2 old new || return
+  # A proxy that trusts another authority says so, and asks for no key there.
+  local patience=300
+  limits=(--tls-partitions --tls-bus --tls-ca "$certs/foreign.pem")
+  run_proxy 0 env || return
+  redis-cli -p "$port" get 1:1 | grep TRYAGAIN && grep -h "partition 1: TLS: the certificate is refused" "$run"/proxy.* \
+    || return
+  # Clients that have to show a certificate.
+  limits=("${others[@]}" --tls-cert "$certs/server.pem" --tls-key "$certs/server.key" --tls-client-ca "$certs/ca.pem")
+  run_proxy 0 env || return
+  redis-cli "${secure[@]}" -p "$port" set 1:1 x | grep OK && ! redis-cli --tls --cacert "$certs/ca.pem" -p "$port" get 1:1
+}
