@@ -1,4 +1,4 @@
-"""Frames of squall over NATS, PostgreSQL and etcd.
+"""Frames of squall over NATS, JetStream, PostgreSQL and etcd.
 
 A `Bus` carries frames between programs. A `Node` is a router that hears a bus and tells it reports.
 `open_bus` makes a bus of an address, as `nats://127.0.0.1:4222`.

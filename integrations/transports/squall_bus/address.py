@@ -6,6 +6,7 @@ from urllib.parse import urlsplit
 
 from .bus import Bus
 from .etcd import EtcdBus
+from .jetstream import JetStreamBus
 from .nats import NatsBus
 
 
@@ -18,6 +19,8 @@ def open_bus(url: str, hears_all: bool = False) -> Bus:
     parts = urlsplit(url)
     if parts.scheme == "nats":
         return NatsBus(parts, hears_all)
+    if parts.scheme == "jetstream":
+        return JetStreamBus(parts)
     if parts.scheme == "etcd":
         return EtcdBus(parts)
     if parts.scheme in ("postgres", "postgresql"):
@@ -25,4 +28,4 @@ def open_bus(url: str, hears_all: bool = False) -> Bus:
         from .postgres import PostgresBus  # pylint: disable=import-outside-toplevel
 
         return PostgresBus(url)
-    raise ValueError(f"{url}: an address begins with nats://, postgres:// or etcd://")
+    raise ValueError(f"{url}: an address begins with nats://, jetstream://, postgres:// or etcd://")

@@ -45,11 +45,14 @@ def _end(_number: int, _frame: object) -> None:
 
 def _parser() -> argparse.ArgumentParser:
     parser = argparse.ArgumentParser(
-        "squall-bus", description="Carries frames of squall over NATS, PostgreSQL or etcd."
+        "squall-bus",
+        description="Carries frames of squall over NATS, JetStream, PostgreSQL or etcd.",
     )
     commands = parser.add_subparsers(required=True, metavar="COMMAND")
     bus = argparse.ArgumentParser(add_help=False)
-    bus.add_argument("bus", metavar="BUS", help="nats://.., postgres://.. or etcd://..")
+    bus.add_argument(
+        "bus", metavar="BUS", help="nats://.., jetstream://.., postgres://.. or etcd://.."
+    )
     node = argparse.ArgumentParser(add_help=False)
     node.add_argument("--first", type=_plan, required=True, help="the file of course 1's plan")
     node.add_argument("--pace", type=float, default=1.0, help="seconds between two digests")
@@ -71,7 +74,7 @@ def _parser() -> argparse.ArgumentParser:
     one.add_argument("--pause", type=float, default=0.0, help="seconds after each report")
     one.add_argument("--wait", type=float, default=60.0, help="seconds for others to know all")
     one.add_argument("--board", type=Path, help="a file that gets the board in the end")
-    add("setup", _setup, "Makes the table of PostgreSQL.")
+    add("setup", _setup, "Makes the table of PostgreSQL, or the stream of JetStream.")
     one = add("merge", _merge, "Puts one board into the place of all frames that are kept.")
     one.add_argument("--compact", action="store_true", help="etcd: forgets the history of all keys")
     one = add("draw", _draw, "Draws the number of the next course by etcd, and issues it.")
