@@ -1,0 +1,151 @@
+//! How soon many routers agree while keys move, over a network that loses messages: in simulated time.
+//! `integrations/SIMULATION.md` says what is assumed.
+//!
+//!     squall-simulation [--seed N] [--loss SHARE] [--requests N] [ROUTERS ..]
+
+mod beside;
+mod dice;
+mod event;
+mod ground;
+mod network;
+mod world;
+
+use network::{Time, SECOND};
+use std::process::ExitCode;
+use world::{Options, Outcome, Requests, World};
+
+fn main() -> ExitCode {
+    let words: Vec<String> = std::env::args().skip(1).collect();
+    match read(&words).and_then(|(options, counts)| show(options, &counts)) {
+        Ok(()) => ExitCode::SUCCESS,
+        Err(error) => {
+            eprintln!("squall-simulation: {error}");
+            ExitCode::FAILURE
+        }
+    }
+}
+
+/// What the words ask for: the options of all runs, and the numbers of routers.
+fn read(words: &[String]) -> Result<(Options, Vec<usize>), String> {
+    let mut options = Options { routers: 0, loss: 0.01, requests: 10, to_all: true, seed: 1 };
+    let mut counts = Vec::new();
+    let mut words = words.iter();
+    while let Some(word) = words.next() {
+        let wrong = |value: &str| format!("{word} {value}: no such number");
+        let mut value = || words.next().map(String::as_str).unwrap_or_default();
+        match word.as_str() {
+            "--seed" => options.seed = value().parse().map_err(|_| wrong("N"))?,
+            "--loss" => {
+                options.loss =
+                    value().parse().ok().filter(|it| (0.0..0.9).contains(it)).ok_or(wrong("SHARE"))?;
+            }
+            "--requests" => {
+                options.requests = value().parse().ok().filter(|&it| it > 0).ok_or(wrong("N"))?;
+            }
+            count => counts.push(count.parse().ok().filter(|&it| it >= 3).ok_or(wrong(""))?),
+        }
+    }
+    if counts.is_empty() {
+        counts.push(1000);
+    }
+    Ok((options, counts))
+}
+
+/// Makes the runs, and shows each as soon as it is over.
+fn show(options: Options, counts: &[usize]) -> Result<(), String> {
+    for &routers in counts {
+        for to_all in [true, false] {
+            let world = World::new(Options { routers, to_all, ..options }).map_err(|it| it.to_string())?;
+            let outcome = world.run().map_err(|it| it.to_string())?;
+            println!("{}", text(routers, to_all, &outcome));
+        }
+    }
+    Ok(())
+}
+
+/// The lines of a run.
+fn text(routers: usize, to_all: bool, it: &Outcome) -> String {
+    let told = if to_all { "each report to all routers" } else { "each report to one router a site" };
+    format!(
+        "{routers} routers, {told}: {} reports in {:.1} s
+  course known   half {}, 99 % {}, all {} after its beginning
+  all agree      half {}, 99 % {}, all {} after the last report
+  bytes/s        {:.0} before, {:.0} in the course (at most {:.0}), {:.0} after
+  extra hops     squall {}
+                 one slot by one redirect {}, knows {:.1} % of the moved slots in the end
+                 whole table at a redirect {}, {} tables",
+        it.reports,
+        seconds(it.took),
+        times(&it.course, 0.5),
+        times(&it.course, 0.99),
+        times(&it.course, 1.0),
+        times(&it.agreed, 0.5),
+        times(&it.agreed, 0.99),
+        times(&it.agreed, 1.0),
+        it.before,
+        it.during,
+        it.most_during,
+        it.after,
+        hops(&it.squall),
+        hops(&it.by_slot),
+        it.known_slots * 100.0,
+        hops(&it.by_table),
+        it.tables,
+    )
+}
+
+fn seconds(time: Time) -> f64 {
+    time as f64 / SECOND as f64
+}
+
+/// The time within which that share of the routers had come so far.
+fn times(all: &[Time], share: f64) -> String {
+    let at = ((all.len() as f64 * share).ceil() as usize).clamp(1, all.len());
+    format!("{:.2} s", seconds(all[at - 1]))
+}
+
+fn hops(it: &Requests) -> String {
+    format!(
+        "{:.5} a request (most {}), {:.4} waited, of {}",
+        it.hops as f64 / it.count as f64,
+        it.most,
+        it.waits as f64 / it.count as f64,
+        it.count
+    )
+}
+
+#[cfg(test)]
+mod tests {
+    use super::*;
+
+    fn run(loss: f64, to_all: bool) -> Outcome {
+        let options = Options { routers: 30, loss, requests: 20, to_all, seed: 7 };
+        World::new(options).unwrap().run().unwrap()
+    }
+
+    #[test]
+    fn all_agree() {
+        for (loss, to_all) in [(0.0, true), (0.01, true), (0.3, true), (0.01, false)] {
+            let it = run(loss, to_all);
+            assert_eq!(it.agreed.len(), 30);
+            assert!(it.agreed.iter().all(|&time| time < 60 * SECOND));
+            assert!(it.course.iter().all(|&time| time < 60 * SECOND));
+        }
+    }
+
+    #[test]
+    fn a_seed_tells_all() {
+        let (one, other) = (run(0.01, true), run(0.01, true));
+        assert_eq!(text(30, true, &one), text(30, true, &other));
+    }
+
+    #[test]
+    fn those_that_hear_are_redirected_less() {
+        let it = run(0.01, true);
+        assert_eq!(it.squall.count, it.by_slot.count);
+        assert!(it.squall.hops < it.by_table.hops && it.by_table.hops < it.by_slot.hops);
+        // A request that follows a course to its end asks one more.
+        assert_eq!(it.squall.most, 1);
+        assert!(it.known_slots < 0.5);
+    }
+}
