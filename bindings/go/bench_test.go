@@ -160,6 +160,116 @@ func BenchmarkCourse(b *testing.B) {
 	}
 }
 
+// rowsOf are the bytes of three rows: of two numbers, with a hash tag, and of a hash of all.
+var rowsOf = map[string]string{"Numbers": "2:7:cart", "Tag": "cart{1001}:7", "Hash": "user:1001:cart"}
+
+func BenchmarkKeyOf(b *testing.B) {
+	for name, row := range rowsOf {
+		b.Run(name, func(b *testing.B) {
+			bytes := []byte(row)
+			b.ReportAllocs()
+			for i := 0; i < b.N; i++ {
+				squall.KeyOf(bytes)
+			}
+		})
+	}
+}
+
+// each runs calls that return an error or none.
+func each(b *testing.B, calls map[string]func(i int) error) {
+	for name, call := range calls {
+		b.Run(name, func(b *testing.B) {
+			b.ReportAllocs()
+			for i := 0; i < b.N; i++ {
+				succeeds(b, call(i))
+			}
+		})
+	}
+}
+
+// The calls of the partitions of the example plans. A partition gives one key after another, or the next one is
+// loaded too.
+func BenchmarkPartition(b *testing.B) {
+	course := courseOf(b, 1, oldPlan, newPlan)
+	source, dest, whole := opened(b, 1), opened(b, 3), opened(b, 3)
+	_, err := whole.Load(chunkOf(two, three))
+	succeeds(b, err)
+	frame := unhex(loadFrame)
+	each(b, map[string]func(i int) error{
+		"Open": func(int) error {
+			partition, err := squall.OpenPartition(1, course)
+			partition.Close()
+			return err
+		},
+		"Serve": func(int) error { _, err := source.Serve(7, 0); return err },
+		"Give":  func(int) error { _, err := source.Give(1); return err },
+		"GiveAndLoad": func(int) error {
+			chunk, err := source.Give(1)
+			if err == nil {
+				_, err = dest.Load(chunk)
+			}
+			return err
+		},
+		"Finish": func(int) error { return whole.Finish(0) },
+		"Held":   func(int) error { whole.Held(); return nil },
+		"Hear":   func(int) error { return source.Hear(frame) },
+		"Board":  func(int) error { _, err := whole.Board(); return err },
+	})
+}
+
+func BenchmarkLeader(b *testing.B) {
+	course := courseOf(b, 1, oldPlan, newPlan)
+	leader := leaderOf(b, 0)
+	succeeds(b, leader.Begin(newPlan))
+	frame, err := squall.FrameDone(1, 0, 3)
+	succeeds(b, err)
+	each(b, map[string]func(i int) error{
+		"Open": func(int) error {
+			leader, err := squall.OpenLeader(oldPlan, 0)
+			leader.Close()
+			return err
+		},
+		"OpenAndBegin": func(int) error {
+			leader, err := squall.OpenLeader(oldPlan, 0)
+			if err == nil {
+				err = leader.Begin(newPlan)
+			}
+			leader.Close()
+			return err
+		},
+		"Resume": func(int) error {
+			leader, err := squall.ResumeLeader(course)
+			leader.Close()
+			return err
+		},
+		"Hear":     func(int) error { return leader.Hear(frame) },
+		"Finished": func(int) error { leader.Finished(); return nil },
+		"Course": func(int) error {
+			course, err := leader.Course()
+			course.Close()
+			return err
+		},
+		"Board": func(int) error { _, err := leader.Board(); return err },
+	})
+}
+
+// What a router of some 1,000 loaded spans says of itself, and what changes when each of them is loaded.
+func BenchmarkTold(b *testing.B) {
+	router := large(b)
+	before, after := viewOf(b, fresh(b)), viewOf(b, router)
+	same, err := after.Clone()
+	succeeds(b, err)
+	defer same.Close()
+	each(b, map[string]func(i int) error{
+		"Clashed":    func(int) error { _, err := router.Clashed(); return err },
+		"Counts":     func(int) error { _, err := router.Counts(); return err },
+		"StatusText": func(int) error { _, err := router.StatusText(); return err },
+		"Picture":    func(int) error { _, err := router.Picture(); return err },
+		"Changes":    func(int) error { _, err := before.Changes(after, 0, squall.End); return err },
+		"NoChange":   func(int) error { _, err := after.Changes(same, 0, squall.End); return err },
+	})
+}
+
 func BenchmarkView(b *testing.B) {
 	router := large(b)
 	for i := 0; i < b.N; i++ {
