@@ -41,7 +41,8 @@ install:
 	install -m 644 "$(FROM)/libsquall.a" "$(FROM)/$(SONAME)" "$(DESTDIR)$(LIBDIR)/"
 	ln -sfn "$(SONAME)" "$(DESTDIR)$(LIBDIR)/libsquall.so"
 	sed -e 's|^prefix=.*|prefix=$(PREFIX)|' -e 's|^includedir=.*|includedir=$(INCLUDEDIR)|' \
-	  -e 's|^libdir=.*|libdir=$(LIBDIR)|' "$(FROM)/squall.pc" > "$(DESTDIR)$(LIBDIR)/pkgconfig/squall.pc"
+	  -e 's|^libdir=.*|libdir=$(LIBDIR)|' -e 's|-I\(.*\)|-I"\1"|' -e 's|-L\([^ ]*\)|-L"\1"|' \
+	  "$(FROM)/squall.pc" > "$(DESTDIR)$(LIBDIR)/pkgconfig/squall.pc"
 	rm -rf "$(DESTDIR)$(DATADIR)/doc/squall" "$(DESTDIR)$(DATADIR)/squall"
 	install -d "$(DESTDIR)$(DATADIR)/doc/squall" "$(DESTDIR)$(DATADIR)/squall"
 	for it in CHANGELOG.md NOTICES docs examples; do cp -R "$(FROM)/$$it" "$(DESTDIR)$(DATADIR)/doc/squall/"; done
