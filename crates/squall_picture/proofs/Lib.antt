@@ -1,3 +1,4 @@
+mod Escapes
 pub mod Columns
 pub mod Shares
 pub mod Swatches

@@ -11,3 +11,4 @@ pub mod Bands
 pub mod Frame
 pub mod Rows
 pub mod Picture
+pub mod Plain

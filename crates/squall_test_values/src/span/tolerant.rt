@@ -73,6 +73,7 @@ fn split_few(rt: &impl Abort, alloc: Global, set: &SpanSet) {
 /// Each call that answers a new set, of the set and of a few other spans.
 fn operate(rt: &impl Abort, alloc: Global, set: &SpanSet, other: &SpanSet) {
     has_count(rt, set.copied(alloc), 36);
+    has_count(rt, SpanSet::from_spans(alloc, set.spans()), 36);
     has_count(rt, set.union(alloc, other), 54);
     has_count(rt, set.minus(alloc, other), 18);
     has_count(rt, set.meet(alloc, other), 18);
