@@ -2,3 +2,4 @@ pub mod Entries
 pub mod EntriesLaws
 pub mod Blocks
 pub mod Drafts
+pub mod Room

@@ -54,6 +54,14 @@ impl<V: Copy> Entries<V> {
         }
     }
 
+    /// The entries with these ends and values, with the room that the lists have.
+    pub(crate) fn of_lists(ends: Vec<End>, values: Vec<V>) -> Entries<V>
+        requires { length ends.items ≡ length values.items }
+        ensures { result ≡ zip ends.items values.items }
+    {
+        Entries { ends, values }
+    }
+
     /// How many entries there are.
     pub fn len(&self) -> usize
         ensures { result ≡ length self.now }

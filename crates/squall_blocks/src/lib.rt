@@ -35,6 +35,7 @@ mod entries;
 mod iter;
 mod lent;
 mod ready;
+mod room;
 mod search;
 mod steps;
 
@@ -43,3 +44,4 @@ pub use draft::Draft;
 pub use entries::Entries;
 pub use iter::Iter;
 pub use lent::BlocksRef;
+pub use room::ReadyEntries;

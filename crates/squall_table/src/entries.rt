@@ -10,7 +10,7 @@ ghost use Rattle.squall_table.specs.Patching.{IsReach};
 
 use crate::legs::push_leg;
 use crate::table::{Leg, bottom};
-use squall_blocks::{BlocksRef, Entries};
+use squall_blocks::{BlocksRef, Entries, ReadyEntries};
 use squall_key::{Bound, PartId};
 use std::alloc::{AllocError, Global};
 
@@ -18,11 +18,11 @@ use std::alloc::{AllocError, Global};
 pub(crate) fn entries_of(alloc: Global, legs: &[Leg]) -> Result<Entries<PartId>, AllocError>
     ensures { IfOk result (λ es. es ≡ entries_of legs.now) }
 {
-    let mut entries = Entries::new(alloc);
+    let mut entries = ReadyEntries::with_room(alloc, legs.len())?;
     for leg in legs {
-        entries.push(leg.span.hi(), leg.part)?;
+        entries.push(leg.span.hi(), leg.part);
     }
-    Ok(entries)
+    Ok(entries.into_entries())
 }
 
 /// Adds the legs of a table from `lo` to `hi` at the end. After an error the list may have changed.

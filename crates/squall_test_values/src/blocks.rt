@@ -4,7 +4,7 @@ mod example;
 mod plain;
 mod tolerant;
 
-use squall_blocks::{Blocks, Draft, Entries};
+use squall_blocks::{Blocks, Draft, Entries, ReadyEntries};
 use squall_key::Bound;
 use std::alloc::{AllocError, Global};
 use std::process::Abort;
@@ -89,6 +89,17 @@ fn entries_of_a_row(rt: HostRuntime) -> Result<(), Fail> {
     assert!(rt; entries.is_between(bound(&rt, 14), bound(&rt, 35)));
     assert!(rt; !entries.is_between(bound(&rt, 15), bound(&rt, 35)));
     assert!(rt; !entries.is_between(bound(&rt, 14), bound(&rt, 34)));
+    Ok(())
+}
+
+#[test]
+fn entries_pushed_into_room(rt: HostRuntime) -> Result<(), Fail> {
+    let mut ready = ReadyEntries::with_room(rt.alloc(), 2)?;
+    ready.push(bound(&rt, 4), 1);
+    ready.push(bound(&rt, 9), 2);
+    let entries = ready.into_entries();
+    assert!(rt; entries.len() == 2 && told(entries.get(0)) == (4, 1));
+    assert!(rt; told(entries.get(1)) == (9, 2));
     Ok(())
 }
 

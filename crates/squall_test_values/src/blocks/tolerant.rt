@@ -4,7 +4,7 @@ use super::{
     are_same, begins, bound, counted, edit_to_join, edit_twice, is_edited, is_edited_twice, put,
     row, thousand, with_a_short_block,
 };
-use squall_blocks::{Blocks, Draft, Entries};
+use squall_blocks::{Blocks, Draft, Entries, ReadyEntries};
 use squall_key::Bound;
 use std::alloc::{AllocError, Global};
 use std::process::Abort;
@@ -17,6 +17,15 @@ fn tolerant_push(rt: HostRuntime) {
         if entries.push(bound(&rt, 7), place).is_err() {
             assert!(rt; entries.len() == before);
         }
+    }
+}
+
+#[test]
+fn tolerant_with_room(rt: HostRuntime) {
+    if let Ok(mut ready) = ReadyEntries::with_room(rt.alloc(), 2) {
+        ready.push(bound(&rt, 7), 1u16);
+        ready.push(bound(&rt, 9), 2);
+        assert!(rt; ready.into_entries().len() == 2);
     }
 }
 
