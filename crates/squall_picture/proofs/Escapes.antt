@@ -30,7 +30,7 @@ number_plain n few = digits_plain (decimal n) (decimal_is_IsNumeral n few).0.1
 
 -- ---- texts that are written as they stand
 
-marks : ℕ → Bool
+abbrev marks : ℕ → Bool
 marks c = c == 60 || (c == 62 || (c == 38 || (c == 39 || c == 34)))
 
 other_code : (c mark : ℕ) → marks mark ≡ true → marks c ≡ false → c ≢ mark
@@ -63,8 +63,9 @@ bound_plain b le = either_plain (b == top) (codes "end") (text_of_key b) (letter
 
 pub span_plain : (s : Interval) → s.lo ≤ top → s.hi ≤ top → AllByRecursion IsPlain (text_of_span s)
 span_plain s lo hi =
-    (unmarked 91 refl, both_plain (text_of_bound s.lo) (44 ∷ text_of_bound s.hi ++ 41 ∷ []) (bound_plain s.lo lo)
-    (unmarked 44 refl, both_plain (text_of_bound s.hi) (41 ∷ []) (bound_plain s.hi hi) (unmarked 41 refl, tt)))
+    both_plain ((91 ∷ text_of_bound s.lo) ++ (44 ∷ text_of_bound s.hi)) (41 ∷ [])
+    (both_plain (91 ∷ text_of_bound s.lo) (44 ∷ text_of_bound s.hi) (unmarked 91 refl, bound_plain s.lo lo) (unmarked 44 refl, bound_plain s.hi hi))
+    (unmarked 41 refl, tt)
 
 pub open_plain : (sub : Option ℕ) → IfSome sub (λ n. n < 2 ^ 64) → AllByRecursion IsPlain (open_text sub)
 open_plain None few = letters_plain (codes "none") refl
@@ -72,9 +73,11 @@ open_plain (Some n) few = number_plain n few
 
 pub move_plain : (m : Move) → m.span.lo ≤ top → m.span.hi ≤ top → m.source < 2 ^ 64 → m.dest < 2 ^ 64 → m.sub < 2 ^ 64 → AllByRecursion IsPlain (move_title m)
 move_plain m lo hi source dest sub =
-    both_plain (text_of_span m.span) _ (span_plain m.span lo hi)
-    (both_plain (codes " from ") _ (letters_plain (codes " from ") refl)
-    (both_plain (decimal m.source) _ (number_plain m.source source)
-    (both_plain (codes " to ") _ (letters_plain (codes " to ") refl)
-    (both_plain (decimal m.dest) _ (number_plain m.dest dest)
-    (both_plain (codes ", sub-plan ") _ (letters_plain (codes ", sub-plan ") refl) (number_plain m.sub sub))))))
+    let in_sub = codes ", sub-plan " ++ decimal m.sub in
+    let to_dest = codes " to " ++ (decimal m.dest ++ in_sub) in
+    both_plain (text_of_span m.span) (codes " from " ++ (decimal m.source ++ to_dest)) (span_plain m.span lo hi)
+    (both_plain (codes " from ") (decimal m.source ++ to_dest) (letters_plain (codes " from ") refl)
+    (both_plain (decimal m.source) to_dest (number_plain m.source source)
+    (both_plain (codes " to ") (decimal m.dest ++ in_sub) (letters_plain (codes " to ") refl)
+    (both_plain (decimal m.dest) in_sub (number_plain m.dest dest)
+    (both_plain (codes ", sub-plan ") (decimal m.sub) (letters_plain (codes ", sub-plan ") refl) (number_plain m.sub sub))))))
