@@ -7,5 +7,6 @@ A `Bus` carries frames between programs. A `Node` is a router that hears a bus a
 from .address import open_bus
 from .bus import Bus, BusError, Message, TooLarge
 from .node import Node
+from .tls import Tls
 
-__all__ = ["Bus", "BusError", "Message", "Node", "TooLarge", "open_bus"]
+__all__ = ["Bus", "BusError", "Message", "Node", "Tls", "TooLarge", "open_bus"]

@@ -8,19 +8,24 @@ from .bus import Bus
 from .etcd import EtcdBus
 from .jetstream import JetStreamBus
 from .nats import NatsBus
+from .tls import Tls
 
 
-def open_bus(url: str, hears_all: bool = False) -> Bus:
+def open_bus(url: str, hears_all: bool = False, tls: Tls = Tls()) -> Bus:
     """The bus of an address, which is not connected yet.
 
-    With `hears_all` it hears each digest of others, as one that waits for them has to. Raises
-    `ValueError` if the address is none, and `ImportError` if psycopg2 is needed and not installed.
+    With `hears_all` it hears each digest of others, as one that waits for them has to. `tls` is
+    for NATS and JetStream. Raises `ValueError` if the address is none or a file can't be used, and
+    `ImportError` if psycopg2 is needed and not installed.
     """
     parts = urlsplit(url)
-    if parts.scheme == "nats":
-        return NatsBus(parts, hears_all)
+    if parts.scheme in ("nats", "tls"):
+        is_wanted = tls.is_wanted or parts.scheme == "tls"
+        return NatsBus(parts, hears_all, tls._replace(is_wanted=is_wanted))
     if parts.scheme == "jetstream":
-        return JetStreamBus(parts)
+        return JetStreamBus(parts, tls)
+    if tls != Tls():
+        raise ValueError("the words of TLS are for nats://, tls:// and jetstream://")
     if parts.scheme == "etcd":
         return EtcdBus(parts)
     if parts.scheme in ("postgres", "postgresql"):
@@ -28,4 +33,5 @@ def open_bus(url: str, hears_all: bool = False) -> Bus:
         from .postgres import PostgresBus  # pylint: disable=import-outside-toplevel
 
         return PostgresBus(url)
-    raise ValueError(f"{url}: an address begins with nats://, jetstream://, postgres:// or etcd://")
+    schemes = "nats://, tls://, jetstream://, postgres:// or etcd://"
+    raise ValueError(f"{url}: an address begins with {schemes}")

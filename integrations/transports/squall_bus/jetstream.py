@@ -14,6 +14,7 @@ from .nats_link import PATIENCE, NatsLink
 from .nats_text import Op
 from .pieces import cut, is_delta, joined, refuse
 from .sockets import servers
+from .tls import Tls
 
 Json = Dict[str, Any]
 
@@ -38,12 +39,12 @@ class JetStreamBus(KeepingBus):
     A node of core NATS hears the same subject, and what it publishes is kept too.
     """
 
-    def __init__(self, url: SplitResult) -> None:
+    def __init__(self, url: SplitResult, tls: Tls = Tls()) -> None:
         """A bus by an address `jetstream://[USER[:PASSWORD]@]HOST[:PORT][,..][/NAME]`.
 
         It connects to the first server, and after a fault to the next one.
         """
-        self._link = NatsLink(url)
+        self._link = NatsLink(url, tls)
         self._name = url.path.strip("/") or "squall"
         self._stream = self._name.replace(".", "_")
         #: How many servers keep each message.

@@ -9,6 +9,7 @@ from urllib.parse import SplitResult
 from .bus import Bus, Message
 from .nats_link import NatsLink
 from .pieces import cut, refuse
+from .tls import Tls
 
 
 class NatsBus(Bus):
@@ -20,15 +21,15 @@ class NatsBus(Bus):
 
     loses = True
 
-    def __init__(self, url: SplitResult, hears_all: bool = False) -> None:
-        """A bus by an address `nats://[USER[:PASSWORD]@]HOST[:PORT][,..][/NAME]`.
+    def __init__(self, url: SplitResult, hears_all: bool = False, tls: Tls = Tls()) -> None:
+        """A bus by an address `nats://[USER[:PASSWORD]@]HOST[:PORT][,..][/NAME]`, or `tls://..`.
 
         It connects to the first server, and after a fault to the next one.
 
         Of all nodes that do not hear all, the server gives each digest to one. A node that hears
         all gets each digest too.
         """
-        self._link = NatsLink(url)
+        self._link = NatsLink(url, tls)
         self._name = url.path.strip("/") or "squall"
         self._hears_all = hears_all
         self._inbox = f"_INBOX.{token_hex(16)}"

@@ -29,6 +29,11 @@ class Parser:
     def __init__(self) -> None:
         self._kept = bytearray()
 
+    @property
+    def is_empty(self) -> bool:
+        """Whether nothing of a line or a payload is kept."""
+        return not self._kept
+
     def feed(self, data: bytes) -> List[Op]:
         """What is whole now. Raises `BusError` if the bytes are not of this protocol."""
         self._kept += data

@@ -17,6 +17,7 @@ from .etcd import EtcdBus
 from .follow import follow
 from .node import Node
 from .publish import publish, reported, work_off
+from .tls import Tls
 
 #: Makes a bus of another one, as for tests that lose messages.
 Wrap = Callable[[Bus], Bus]
@@ -27,7 +28,7 @@ def main(words: Optional[List[str]] = None, wrap: Wrap = lambda bus: bus) -> int
     signal.signal(signal.SIGTERM, _end)
     options = _parser().parse_args(words)
     try:
-        bus = wrap(open_bus(options.bus, options.act is _publish))
+        bus = wrap(open_bus(options.bus, options.act is _publish, _tls(options)))
         try:
             return int(options.act(bus, options))
         finally:
@@ -49,10 +50,7 @@ def _parser() -> argparse.ArgumentParser:
         description="Carries frames of squall over NATS, JetStream, PostgreSQL or etcd.",
     )
     commands = parser.add_subparsers(required=True, metavar="COMMAND")
-    bus = argparse.ArgumentParser(add_help=False)
-    bus.add_argument(
-        "bus", metavar="BUS", help="nats://.., jetstream://.., postgres://.. or etcd://.."
-    )
+    bus = _bus_words()
     node = argparse.ArgumentParser(add_help=False)
     node.add_argument("--first", type=_plan, required=True, help="the file of course 1's plan")
     node.add_argument("--pace", type=float, default=1.0, help="seconds between two digests")
@@ -81,6 +79,26 @@ def _parser() -> argparse.ArgumentParser:
     one.add_argument("old", type=_plan, metavar="OLD")
     one.add_argument("new", type=_plan, metavar="NEW")
     return parser
+
+
+def _bus_words() -> argparse.ArgumentParser:
+    """What each command takes."""
+    words = argparse.ArgumentParser(add_help=False)
+    schemes = "nats://.., tls://.., jetstream://.., postgres://.. or etcd://.."
+    words.add_argument("bus", metavar="BUS", help=schemes)
+    tls = words.add_argument_group("TLS, for NATS and JetStream")
+    tls.add_argument("--tls-bus", action="store_true", help="never in the clear, as with tls://")
+    for name, about in (
+        ("ca", "who has signed the servers' certificates (those that the system trusts)"),
+        ("own-cert", "the certificate that servers are shown, if they ask for one"),
+        ("own-key", "its key"),
+    ):
+        tls.add_argument(f"--tls-{name}", type=Path, metavar="FILE", help=about)
+    return words
+
+
+def _tls(options: Any) -> Tls:
+    return Tls(options.tls_bus, options.tls_ca, options.tls_own_cert, options.tls_own_key)
 
 
 def _plan(path: str) -> Plan:

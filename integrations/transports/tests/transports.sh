@@ -3,7 +3,7 @@
 # folder, and $top, the top of the clone. The tests start servers on loopback, and end them by their process ids. If the
 # tests are ended, the servers end with them.
 
-transports=(parts nodes nats jetstream postgres etcd routers)
+transports=(parts nodes nats nats_tls jetstream postgres etcd routers)
 
 is_transport() {
   [[ " ${transports[*]} " == *" $1 "* ]]
