@@ -4,7 +4,7 @@ use crate::args::Args;
 use crate::fault::{Done, Fault, Trying};
 use openssl::ssl::{
     Ssl, SslAcceptor, SslConnector, SslConnectorBuilder, SslContextBuilder, SslFiletype, SslMethod,
-    SslStream, SslVerifyMode,
+    SslStream, SslVerifyMode, SslVersion,
 };
 use openssl::x509::store::X509StoreBuilder;
 use openssl::x509::X509VerifyResult;
@@ -53,6 +53,11 @@ impl Peer {
         Ok(Peer { connector, host })
     }
 
+    /// Whether it is shown a certificate, if it asks for one.
+    pub fn has_own(&self) -> bool {
+        self.connector.context().certificate().is_some()
+    }
+
     /// The session of a connection to it, before its handshake.
     fn session(&self) -> Done<Ssl> {
         let is_name = self.host.parse::<IpAddr>().is_err();
@@ -79,6 +84,7 @@ impl Peer {
 /// certificates count.
 fn connector(args: &Args) -> Done<SslConnectorBuilder> {
     let mut builder = SslConnector::builder(SslMethod::tls()).trying(|| "TLS".to_string())?;
+    builder.set_min_proto_version(Some(SslVersion::TLS1_2)).trying(|| "TLS".to_string())?;
     if let Some(path) = args.get("tls-ca") {
         let store = X509StoreBuilder::new().trying(|| "TLS".to_string())?;
         builder.set_cert_store(store.build());

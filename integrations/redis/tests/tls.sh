@@ -75,3 +75,86 @@ test_tls_refusals() {
   run_proxy 0 env || return
   redis-cli "${secure[@]}" -p "$port" set 1:1 x | grep OK && ! redis-cli --tls --cacert "$certs/ca.pem" -p "$port" get 1:1
 }
+
+# Starts a NATS server on a free port, into `port`, with a log of all that it hears in $log. The words are the server's.
+run_secure_nats() {
+  local id
+  free_port
+  log=$run/nats.$port
+  launch "$run" "$log" nats-server -V -a 127.0.0.1 -p "$port" "$@"
+  ids[$port]=$id
+  until grep -q "Server is ready" "$log"; do
+    kill -0 "$id" 2> /dev/null || { cat "$log"; return 1; }
+    sleep 0.02
+  done
+}
+
+# Keys move while proxies, movers and a program in Python hear each other by TLS over NATS. The server asks for certificates.
+# One address begins with tls://, and another one with nats://. A third program has the option alone.
+test_tls_over_nats() {
+  local certs log port nats id follower words listen=() secure=() mover_words=() limits=() settle=10000
+  command -v nats-server > /dev/null || { echo "no nats-server here"; return 1; }
+  use_tls || return
+  words=(--tls-ca "$certs/ca.pem" --tls-own-cert "$certs/own.pem" --tls-own-key "$certs/own.key")
+  listen=(--port) secure=() mover_words=("${words[@]}") limits=("${words[@]}")
+  run_secure_nats --tlsverify --tlscacert "$certs/ca.pem" --tlscert "$certs/server.pem" --tlskey "$certs/server.key" || return
+  local at=127.0.0.1:$port said=$log
+  nats=tls://$at
+  deploy || return
+  launch "$run" follow env PYTHONPATH="$top/bindings/python" python3 "$top/integrations/transports/squall-bus" follow "$nats" \
+    --first old.json --key 400:0 "${words[@]}"
+  follower=$id
+  launch "$run" node "$bin/squall-redis-node" --first old.json --bus "nats://$at" --tls-bus --board board "${words[@]}"
+  start_load 20000 --pause 300
+  sleep 0.2
+  move 2 old new && move 3 new old --bus "nats://$at" && move 4 old new || return
+  end_load && has_moved && agrees 3 4 || return
+  # Nobody has spoken to the server in the clear.
+  ! grep "TLS handshake error" "$said" || return
+  for _ in $(seq 100); do
+    grep -q "^key 400:0 partition 3 course 4" "$run/follow" && grep -q "$(printf 'SQ')" "$run/board" && kill "$follower" \
+      && return 0
+    sleep 0.05
+  done
+  cat "$run/follow" "$run/node"
+  return 1
+}
+
+# A node with these words says this of its bus, and is ended.
+says() {
+  local said=$1 id
+  shift
+  rm -f "$run/node"
+  launch "$run" node "$bin/squall-redis-node" --first "$top/examples/old.json" --board board "$@"
+  for _ in $(seq 200); do
+    grep -q -- "$said" "$run/node" 2> /dev/null && break
+    sleep 0.02
+  done
+  kill -KILL "$id"
+  wait "$id" 2> /dev/null
+  grep -q -- "$said" "$run/node" || { cat "$run/node"; return 1; }
+}
+
+# Nobody talks to a stranger over NATS, or in the clear to who should have TLS.
+test_tls_over_nats_refusals() {
+  local certs log port id own listen=() secure=() mover_words=() limits=()
+  command -v nats-server > /dev/null || { echo "no nats-server here"; return 1; }
+  use_tls && certify stranger foreign subjectAltName=DNS:stranger || return
+  run_secure_nats --tls --tlscert "$certs/server.pem" --tlskey "$certs/server.key" || return
+  # Another authority, the system's, and another name.
+  says "certificate is refused: unable to get local issuer\|certificate is refused: self" --bus "nats://127.0.0.1:$port" \
+    --tls-ca "$certs/foreign.pem" && says "certificate is refused: " --bus "tls://127.0.0.1:$port" \
+    && says "certificate is refused: hostname mismatch" --bus "tls://localhost:$port" --tls-ca "$certs/ca.pem" || return
+  # The server has heard no more than that.
+  grep -q "TLS handshake error" "$log" && ! grep "CONNECT" "$log" || return
+  # A server that asks for certificates: none, and one that another authority has signed.
+  run_secure_nats --tlsverify --tlscacert "$certs/ca.pem" --tlscert "$certs/server.pem" --tlskey "$certs/server.key" || return
+  says "asks for a certificate: --tls-own-cert is missing" --bus "nats://127.0.0.1:$port" --tls-ca "$certs/ca.pem" || return
+  own=(--tls-own-cert "$certs/stranger.pem" --tls-own-key "$certs/stranger.key")
+  says "alert bad certificate\|alert unknown ca\|reset by peer\|Broken pipe\|has closed" --bus "nats://127.0.0.1:$port" \
+    --tls-ca "$certs/ca.pem" "${own[@]}" || return
+  # One that has no TLS gets no word.
+  run_secure_nats || return
+  says "the server has no TLS" --bus "tls://127.0.0.1:$port" && says "the server has no TLS" --bus "nats://127.0.0.1:$port" \
+    --tls-bus && ! grep "CONNECT" "$log"
+}

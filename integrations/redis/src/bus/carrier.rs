@@ -2,9 +2,10 @@
 
 use super::entry::{Entry, Places, Streams};
 use super::nats::{Nats, NatsEars};
+use super::nats_address::Address;
 use crate::args::{resolve, Args};
 use crate::conn::{Conn, Server};
-use crate::fault::{Done, Fault};
+use crate::fault::Done;
 use crate::tls::Peer;
 use std::sync::{Mutex, PoisonError};
 
@@ -38,11 +39,8 @@ impl Carrier {
         let addr = args.need("bus")?;
         let name = args.get("streams").unwrap_or("squall");
         let password = args.password("bus-password-file")?;
-        if addr.starts_with("nats://") {
-            if args.has("tls-bus") {
-                return Err(Fault::new("--tls-bus: there is no TLS over NATS"));
-            }
-            return Nats::new(addr, name, password, hears_all).map(Carrier::Nats);
+        if let Some(address) = Address::read(addr, name, password.as_deref())? {
+            return Nats::new(address, args, hears_all).map(Carrier::Nats);
         }
         let server = Server { addr: resolve(addr)?, password, tls: Peer::of(args, "tls-bus", addr)? };
         Ok(Carrier::Redis(Redis { server, streams: Streams::new(name), sender: Mutex::new(None) }))

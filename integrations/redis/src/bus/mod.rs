@@ -8,7 +8,9 @@
 mod carrier;
 mod entry;
 mod nats;
+mod nats_address;
 mod nats_text;
+mod nats_wire;
 mod node;
 mod outbox;
 

@@ -35,6 +35,11 @@ impl Parser {
         self.kept.extend_from_slice(bytes);
     }
 
+    /// Whether all that has come was read.
+    pub fn is_empty(&self) -> bool {
+        self.at == self.kept.len()
+    }
+
     /// What is whole next; none if more has to come.
     ///
     /// # Errors
@@ -77,6 +82,24 @@ pub fn message(out: &mut Vec<u8>, subject: &str, reply: Option<&str>, payload: &
     out.extend_from_slice(format!("PUB {subject} {reply}{}\r\n", payload.len()).as_bytes());
     out.extend_from_slice(payload);
     out.extend_from_slice(b"\r\n");
+}
+
+/// The number that a member of INFO has.
+pub fn number_of(info: &str, name: &str) -> Option<usize> {
+    let digits: String = member(info, name)?.chars().take_while(char::is_ascii_digit).collect();
+    digits.parse().ok()
+}
+
+/// Whether a member of INFO is true.
+pub fn is_set(info: &str, name: &str) -> bool {
+    member(info, name).is_some_and(|value| value.starts_with("true"))
+}
+
+/// The text from the value of a member on. Quotes within texts have a `\` before them.
+fn member<'a>(info: &'a str, name: &str) -> Option<&'a str> {
+    let name = format!("\"{name}\"");
+    let after = |(at, _)| info[at + name.len()..].trim_start().strip_prefix(':');
+    info.match_indices(&name).find_map(after).map(str::trim_start)
 }
 
 #[cfg(test)]
@@ -123,5 +146,16 @@ mod tests {
             parser.feed(wrong);
             assert!(parser.next().is_err());
         }
+    }
+
+    #[test]
+    fn members_are_found() {
+        let info = r#"{"server_id":"tls_required","max_payload":1048576,"tls_required": true,"auth_required":false}"#;
+        assert_eq!(number_of(info, "max_payload"), Some(1_048_576));
+        assert_eq!(number_of(info, "tls_required"), None);
+        assert_eq!(number_of(info, "tls"), None);
+        assert!(is_set(info, "tls_required"));
+        assert!(!is_set(info, "auth_required") && !is_set(info, "tls_available"));
+        assert!(!is_set(r#"{"name":"\"tls_required\":true"}"#, "tls_required"));
     }
 }

@@ -1,0 +1,135 @@
+//! Addresses of NATS servers, as `--bus` has them.
+
+use crate::fault::{Done, Fault};
+
+/// The port of a server that has none in its address.
+const PORT: &str = "4222";
+/// How an address begins, and whether nothing may go in the clear then.
+const SCHEMES: [(&str, bool); 2] = [("nats://", false), ("tls://", true)];
+
+/// What an address says.
+pub struct Address {
+    /// The servers, each as `HOST:PORT`.
+    pub servers: Vec<String>,
+    /// With which the subjects begin.
+    pub name: String,
+    /// What says who this is, as members of a JSON object.
+    pub login: String,
+    /// Whether nothing may go in the clear, also if the server would take it.
+    pub is_secure: bool,
+}
+
+impl Address {
+    /// Reads an address `nats://[USER@]HOST[:PORT][,HOST[:PORT]..][/NAME]`, or the same with `tls://`.
+    /// None if it begins with neither. A password without a user is a token.
+    ///
+    /// # Errors
+    ///
+    /// The address has another form.
+    pub fn read(addr: &str, name: &str, password: Option<&str>) -> Done<Option<Address>> {
+        let strip = |(scheme, is_secure)| addr.strip_prefix(scheme).map(|rest| (rest, is_secure));
+        let Some((rest, is_secure)) = SCHEMES.into_iter().find_map(strip) else {
+            return Ok(None);
+        };
+        let rest = rest.trim_end_matches('/');
+        let (rest, name) = rest.split_once('/').unwrap_or((rest, name));
+        let (user, hosts) = match rest.rsplit_once('@') {
+            Some((user, hosts)) => (Some(user), hosts),
+            None => (None, rest),
+        };
+        if name.is_empty() || name.contains(|it: char| it <= ' ' || "*>".contains(it)) || !are_hosts(hosts) {
+            return Err(Fault::new(format!(
+                "--bus {addr}: not of the form nats://[USER@]HOST[:PORT],..[/NAME]"
+            )));
+        }
+        Ok(Some(Address {
+            servers: hosts.split(',').map(with_port).collect(),
+            name: name.to_string(),
+            login: login(user, password)?,
+            is_secure,
+        }))
+    }
+}
+
+fn are_hosts(hosts: &str) -> bool {
+    hosts
+        .split(',')
+        .all(|host| !host.is_empty() && !host.starts_with(':') && !host.contains(char::is_whitespace))
+}
+
+/// A host with its port. An address of IPv6 is in brackets.
+fn with_port(host: &str) -> String {
+    let name = host.rsplit_once(']').map_or(host, |(_, rest)| rest);
+    if name.contains(':') {
+        host.to_string()
+    } else {
+        format!("{host}:{PORT}")
+    }
+}
+
+/// What says who this is.
+fn login(user: Option<&str>, password: Option<&str>) -> Done<String> {
+    if user.is_some_and(|user| user.contains(':')) {
+        return Err(Fault::new("a password belongs into --bus-password-file, and not into --bus"));
+    }
+    match (user, password) {
+        (Some(user), Some(password)) => Ok(format!(r#","user":{},"pass":{}"#, json(user), json(password))),
+        (None, Some(token)) => Ok(format!(r#","auth_token":{}"#, json(token))),
+        (Some(_), None) => Err(Fault::new("--bus names a user: --bus-password-file is missing")),
+        (None, None) => Ok(String::new()),
+    }
+}
+
+/// A text of JSON.
+pub fn json(text: &str) -> String {
+    let mut out = String::from("\"");
+    for it in text.chars() {
+        match it {
+            '"' | '\\' => out.extend(['\\', it]),
+            it if it < ' ' => out.push_str(&format!("\\u{:04x}", it as u32)),
+            it => out.push(it),
+        }
+    }
+    out + "\""
+}
+
+#[cfg(test)]
+mod tests {
+    use super::*;
+
+    fn read(addr: &str, password: Option<&str>) -> Address {
+        Address::read(addr, "squall", password).unwrap().unwrap()
+    }
+
+    #[test]
+    fn addresses_are_read() {
+        let address = read("nats://a,b:7/shop", None);
+        assert_eq!(address.servers, ["a:4222", "b:7"]);
+        assert_eq!((address.name.as_str(), address.login.as_str()), ("shop", ""));
+        assert!(!address.is_secure);
+        let address = read("tls://[::1],[::1]:7/", None);
+        assert_eq!(address.servers, ["[::1]:4222", "[::1]:7"]);
+        assert_eq!(address.name, "squall");
+        assert!(address.is_secure);
+        assert!(Address::read("127.0.0.1:6379", "squall", None).unwrap().is_none());
+    }
+
+    #[test]
+    fn logins_are_read() {
+        assert_eq!(read("nats://me@a", Some("p\"w")).login, r#","user":"me","pass":"p\"w""#);
+        assert_eq!(read("nats://a/", Some("t")).login, r#","auth_token":"t""#);
+        assert_eq!(json("a\\\n"), "\"a\\\\\\u000a\"");
+    }
+
+    #[test]
+    fn wrong_addresses_are_refused() {
+        for wrong in ["nats://", "tls://me@", "nats://a/b c", "nats://a/x>", "nats://a,,b", "nats://:4222"] {
+            let fault = Address::read(wrong, "squall", None).err().unwrap().to_string();
+            assert!(fault.contains("not of the form"), "{wrong}: {fault}");
+        }
+        let fault = Address::read("nats://me:pw@a", "squall", None).err().unwrap().to_string();
+        assert!(fault.contains("belongs into --bus-password-file") && !fault.contains("pw"), "{fault}");
+        let fault = Address::read("nats://me@a", "squall", None).err().unwrap().to_string();
+        assert!(fault.contains("--bus-password-file is missing"), "{fault}");
+    }
+}
