@@ -7,6 +7,8 @@ mod client;
 use client::{command, is_moving, Client};
 use squall_redis::resp::Value;
 use std::io::Write;
+use std::thread::sleep;
+use std::time::Duration;
 
 #[test]
 #[ignore = "needs a proxy"]
@@ -162,6 +164,33 @@ fn large_values_pass_and_too_large_ones_are_refused() {
     let many = format!("MSET {}", "5:0:many v ".repeat(100_000).trim_end());
     client.stream.write_all(&command(&many)).ok();
     assert!(client.hear().is_none_or(|reply| reply.starts_with(b"-ERR Protocol error")));
+}
+
+#[test]
+#[ignore = "needs a proxy"]
+fn one_that_reads_late_gets_all() {
+    let (mut client, mut other) = (Client::new(), Client::new());
+    let value = "v".repeat(600_000);
+    assert_eq!(other.ask(&format!("MSET 4:0:late {value} 4:0:count 0")), "+OK\r\n");
+    // Its answers fill what the system keeps for the connection. Then the proxy does nothing more for it.
+    let mut sent = 0;
+    let mut is_done = true;
+    while is_done && sent < 100 {
+        client.send(&[command("GET 4:0:late"), command("INCR 4:0:count")].concat());
+        sent += 1;
+        let done = format!("${}\r\n{sent}\r\n", sent.to_string().len());
+        is_done = (0..50).any(|_| {
+            sleep(Duration::from_millis(5));
+            other.ask("GET 4:0:count") == done
+        });
+    }
+    assert!(!is_done, "{sent} commands were done");
+    for at in 1..=sent {
+        let reply = client.hear().map(|reply| reply.len());
+        assert_eq!(reply, Some(600_000 + 11), "answer {at} of {sent}");
+        assert_eq!(client.text(), format!(":{at}\r\n"));
+    }
+    assert_eq!(client.ask("DEL 4:0:late 4:0:count"), ":2\r\n");
 }
 
 #[test]

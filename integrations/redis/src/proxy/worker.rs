@@ -97,8 +97,7 @@ impl Worker {
     pub fn run(mut self) -> io::Result<()> {
         let mut events = Events::with_capacity(1024);
         loop {
-            let pause = if self.blocked.is_empty() { LATER } else { SOON };
-            if let Err(error) = self.poll.poll(&mut events, Some(pause)) {
+            if let Err(error) = self.poll.poll(&mut events, Some(self.pause())) {
                 if error.kind() != io::ErrorKind::Interrupted {
                     return Err(error);
                 }
@@ -120,6 +119,17 @@ impl Worker {
             self.go_on();
             self.flush();
             self.shared.counts[self.own].add(&mut self.turn);
+        }
+    }
+
+    /// How long it may wait for events.
+    fn pause(&self) -> Duration {
+        if !self.woken.is_empty() {
+            Duration::ZERO
+        } else if self.blocked.is_empty() {
+            LATER
+        } else {
+            SOON
         }
     }
 
@@ -263,7 +273,8 @@ impl Worker {
         }
     }
 
-    /// Sends all that is to be sent.
+    /// Sends all that is to be sent. A client that had too many answers goes on once it has taken them: no
+    /// event may tell of that.
     fn flush(&mut self) {
         while let Some(at) = self.dirty_upstreams.pop() {
             self.upstreams[at].is_dirty = false;
@@ -277,8 +288,13 @@ impl Worker {
                 continue;
             };
             client.is_dirty = false;
+            let had_room = client.has_room(self.shared.memory);
             let stands = client.out.send(&mut client.stream);
+            let goes_on = !had_room && client.has_room(self.shared.memory);
             self.put_back(at, client, stands);
+            if goes_on {
+                self.wake(at);
+            }
         }
     }
 }
