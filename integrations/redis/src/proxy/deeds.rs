@@ -190,7 +190,7 @@ impl Worker {
         let at = task.upstream?;
         let (done, queued) = replies.split_last()?;
         let is_watched = client.watches_on(Some(at));
-        let refusal = queued.iter().find(|reply| reply.first() == Some(&b'-'));
+        let refusal = refusal(queued, done);
         let is_fenced = is_fence(refusal.unwrap_or(done)) || is_fence(element(done));
         if is_fenced || is_nil(done) {
             if is_watched {
@@ -204,7 +204,7 @@ impl Worker {
         }
         match (&task.deed, refusal) {
             (Deed::Exec(_), _) => Some(Outcome::Answer(done.clone())),
-            (_, Some(refusal)) => Some(Outcome::Answer(refusal.clone())),
+            (_, Some(refusal)) => Some(Outcome::Answer(refusal.to_vec())),
             (&Deed::Wait(until), _) if is_nil(element(done)) => {
                 // It was looked for after the end of the wait.
                 if until.is_some_and(|until| task.again >= until) {
@@ -252,6 +252,13 @@ impl Worker {
     }
 }
 
+/// Why nothing was done in one piece, if it was refused: what was queued, or all of it in the end, as when
+/// the server has no memory left by then.
+fn refusal<'a>(queued: &'a [Vec<u8>], done: &'a [u8]) -> Option<&'a [u8]> {
+    let mut all = queued.iter().map(Vec::as_slice).chain([done]);
+    all.find(|reply| reply.first() == Some(&b'-'))
+}
+
 /// The one element of a list.
 fn element(list: &[u8]) -> &[u8] {
     let begin = list.iter().position(|&byte| byte == b'\n').map_or(0, |at| at + 1);
@@ -267,4 +274,32 @@ fn is_nil(reply: &[u8]) -> bool {
 pub fn is_fence(reply: &[u8]) -> bool {
     let is_refused = reply.starts_with(b"-NOPERM");
     is_refused && !reply.windows(7).any(|word| word == b" script")
+}
+
+#[cfg(test)]
+mod tests {
+    use super::*;
+
+    #[test]
+    fn refusals_are_found() {
+        let queued = [b"+OK\r\n".to_vec(), b"+QUEUED\r\n".to_vec()];
+        assert_eq!(refusal(&queued, b"*1\r\n-ERR no\r\n"), None);
+        assert_eq!(refusal(&queued, b"*-1\r\n"), None);
+        let aborted = b"-EXECABORT Transaction discarded because of: OOM\r\n";
+        assert_eq!(refusal(&queued, aborted), Some(&aborted[..]));
+        let refused = [b"+OK\r\n".to_vec(), b"-OOM\r\n".to_vec()];
+        assert_eq!(refusal(&refused, aborted), Some(&b"-OOM\r\n"[..]));
+    }
+
+    #[test]
+    fn one_element_is_the_answer() {
+        assert_eq!(element(b"*1\r\n:5\r\n"), b":5\r\n");
+        assert!(is_nil(element(b"*1\r\n$-1\r\n")) && is_nil(b"*-1\r\n") && !is_nil(b"*1\r\n:5\r\n"));
+    }
+
+    #[test]
+    fn fences_are_told_from_scripts() {
+        assert!(is_fence(b"-NOPERM this user has no permissions to run the 'get' command\r\n"));
+        assert!(!is_fence(b"-NOPERM ACL failure in script: x\r\n") && !is_fence(b"-ERR x\r\n"));
+    }
 }
