@@ -31,6 +31,8 @@ pub struct Job<'a> {
 
 /// How many keys are copied at once.
 const BLOCK: usize = 64;
+/// What `PEXPIRETIME` says of a key that is not there.
+const GONE: i64 = -2;
 /// How many chunks are reported before the whole board is sent.
 const CHUNKS: usize = 1000;
 
@@ -129,12 +131,11 @@ impl Feeder<'_> {
         let said = self.source.conn.hear_all(2 * keys.len())?;
         let mut count = 0;
         for ((rank, key), said) in keys.iter().zip(said.chunks(2)) {
-            match said {
-                [Value::Bulk(dump), Value::Int(ends)] => self.dest.put(key, *rank, *ends, dump),
-                // It has ended, was deleted, or another mover has loaded it and forgotten it here.
-                [Value::Nil, _] => continue,
-                [Value::Error(error), _] => return Err(self.source.explain(error)),
-                _ => return Err(Fault::new("a dump of another form")),
+            match dumped(said) {
+                Ok(Some((dump, ends))) => self.dest.put(key, *rank, ends, dump),
+                Ok(None) => continue,
+                Err(Some(error)) => return Err(self.source.explain(error)),
+                Err(None) => return Err(Fault::new("a dump of another form")),
             }
             count += 1;
         }
@@ -144,5 +145,33 @@ impl Feeder<'_> {
             }
         }
         Ok(())
+    }
+}
+
+/// What a source has said of a key: its dump, and when it ends. None if the key has ended, was deleted, or
+/// another mover has loaded it and forgotten it here. A large value may end while it is dumped.
+fn dumped(said: &[Value]) -> Result<Option<(&[u8], i64)>, Option<&str>> {
+    match said {
+        [Value::Nil, _] | [Value::Bulk(_), Value::Int(GONE)] => Ok(None),
+        [Value::Bulk(dump), Value::Int(ends)] => Ok(Some((dump, *ends))),
+        [Value::Error(error), _] | [_, Value::Error(error)] => Err(Some(error)),
+        _ => Err(None),
+    }
+}
+
+#[cfg(test)]
+mod tests {
+    use super::*;
+
+    #[test]
+    fn keys_that_have_ended_are_not_put() {
+        let dump = || Value::Bulk(b"x".to_vec());
+        assert_eq!(dumped(&[dump(), Value::Int(-1)]), Ok(Some((&b"x"[..], -1))));
+        assert_eq!(dumped(&[dump(), Value::Int(7)]), Ok(Some((&b"x"[..], 7))));
+        // Without an end it would be put for ever.
+        assert_eq!(dumped(&[dump(), Value::Int(-2)]), Ok(None));
+        assert_eq!(dumped(&[Value::Nil, Value::Int(-2)]), Ok(None));
+        assert_eq!(dumped(&[dump(), Value::Error("no".into())]), Err(Some("no")));
+        assert_eq!(dumped(&[Value::Int(1), Value::Int(1)]), Err(None));
     }
 }
