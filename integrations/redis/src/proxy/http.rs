@@ -6,10 +6,12 @@ use std::net::{TcpListener, TcpStream};
 use std::sync::atomic::{AtomicUsize, Ordering::SeqCst};
 use std::sync::Arc;
 use std::thread;
-use std::time::Duration;
+use std::time::{Duration, Instant};
 
-/// How long a client may take for its request, and for its answer.
+/// How long a client may take for its request, and for each part of its answer.
 const PATIENCE: Duration = Duration::from_secs(2);
+/// The pause after the system could not let one in, as when it has no more files.
+const AGAIN: Duration = Duration::from_millis(100);
 /// No more requests are answered at once.
 const MOST: usize = 32;
 /// No head of a request is longer.
@@ -25,7 +27,11 @@ struct Answer {
 /// Answers the requests on a port, each in a thread of its own, for ever.
 pub fn serve(listener: &TcpListener, page: &Arc<Page>) {
     let under_way = Arc::new(AtomicUsize::new(0));
-    for stream in listener.incoming().flatten() {
+    for stream in listener.incoming() {
+        let Ok(stream) = stream else {
+            thread::sleep(AGAIN);
+            continue;
+        };
         if under_way.load(SeqCst) >= MOST {
             continue;
         }
@@ -55,11 +61,15 @@ fn answer(mut stream: TcpStream, page: &Page) -> io::Result<()> {
     stream.write_all(&body)
 }
 
-/// The path of a request, once its head is whole; none if it is no `GET`.
+/// The path of a request, once its head is whole; none if it is no `GET`, or comes too slowly.
 fn read(stream: &mut TcpStream) -> io::Result<Option<String>> {
     let mut head = Vec::new();
     let mut block = [0; 1024];
+    let began = Instant::now();
     while !head.windows(4).any(|end| end == b"\r\n\r\n") && head.len() < LONGEST {
+        if began.elapsed() > PATIENCE {
+            return Ok(None);
+        }
         match stream.read(&mut block)? {
             0 => break,
             got => head.extend_from_slice(&block[..got]),
@@ -91,5 +101,40 @@ fn of(path: &str, page: &Page) -> Answer {
             let body = format!("{fault}\n").into_bytes();
             Answer { status: "503 Service Unavailable", kind: TEXT, body }
         }
+    }
+}
+
+#[cfg(test)]
+mod tests {
+    use super::*;
+
+    /// What is read of a client that sends these pieces, with a pause before each.
+    fn sent(pieces: &[&str], pause: Duration) -> Option<String> {
+        let listener = TcpListener::bind("127.0.0.1:0").unwrap();
+        let mut client = TcpStream::connect(listener.local_addr().unwrap()).unwrap();
+        let (mut server, _) = listener.accept().unwrap();
+        server.set_read_timeout(Some(PATIENCE)).unwrap();
+        thread::scope(|scope| {
+            scope.spawn(move || {
+                for piece in pieces {
+                    thread::sleep(pause);
+                    // It may have been given up.
+                    let _ = client.write_all(piece.as_bytes());
+                }
+            });
+            read(&mut server).unwrap()
+        })
+    }
+
+    #[test]
+    fn requests_are_read() {
+        let pieces = ["GET /met", "rics?x HTTP/1.1\r\nHost: squall\r\n", "\r\n"];
+        assert_eq!(sent(&pieces, Duration::from_millis(2)).as_deref(), Some("/metrics"));
+        assert_eq!(sent(&["POST / HTTP/1.1\r\n\r\n"], Duration::ZERO), None);
+    }
+
+    #[test]
+    fn one_that_sends_slowly_is_given_up() {
+        assert_eq!(sent(&["GET / "; 40], PATIENCE / 30), None);
     }
 }
