@@ -1,9 +1,10 @@
 //! Words of the command line: `--name value`, and flags.
 
 use crate::conn::Server;
-use crate::fault::{Done, Fault, Trying};
+use crate::fault::{note, say, Done, Fault, Trying};
 use crate::tls::Peer;
 use std::collections::BTreeMap;
+use std::ffi::OsString;
 use std::fs;
 use std::net::{SocketAddr, ToSocketAddrs};
 use std::process::ExitCode;
@@ -127,26 +128,27 @@ pub fn resolve(addr: &str) -> Done<SocketAddr> {
 
 /// Runs a program: 0 if it is done, 1 if not, 2 if its words are wrong.
 pub fn run(usage: &Usage, program: impl FnOnce(&Args) -> Done<()>) -> ExitCode {
-    let words: Vec<String> = std::env::args().skip(1).collect();
-    if words.iter().any(|word| word == "--help" || word == "-h") {
-        print!("{}", usage.help);
-        return ExitCode::SUCCESS;
-    }
-    if words.iter().any(|word| word == "--version") {
-        println!("{} {} (squall {})", usage.name, env!("CARGO_PKG_VERSION"), squall::version());
-        return ExitCode::SUCCESS;
-    }
-    let args = match Args::parse(&words, usage) {
-        Ok(args) => args,
-        Err(fault) => {
-            eprintln!("{}: {fault}; --help shows all options", usage.name);
-            return ExitCode::from(2);
+    let words: Result<Vec<String>, OsString> =
+        std::env::args_os().skip(1).map(OsString::into_string).collect();
+    let has = |names: &[&str]| words.iter().flatten().any(|word| names.contains(&word.as_str()));
+    let done = if has(&["--help", "-h"]) {
+        say(usage.help.trim_end())
+    } else if has(&["--version"]) {
+        say(format!("{} {} (squall {})", usage.name, env!("CARGO_PKG_VERSION"), squall::version()))
+    } else {
+        let other = |word: OsString| Fault::new(format!("{} is not UTF-8", word.to_string_lossy()));
+        match words.map_err(other).and_then(|words| Args::parse(&words, usage)) {
+            Ok(args) => program(&args),
+            Err(fault) => {
+                note(format!("{}: {fault}; --help shows all options", usage.name));
+                return ExitCode::from(2);
+            }
         }
     };
-    match program(&args) {
+    match done {
         Ok(()) => ExitCode::SUCCESS,
         Err(fault) => {
-            eprintln!("{}: {fault}", usage.name);
+            note(format!("{}: {fault}", usage.name));
             ExitCode::FAILURE
         }
     }

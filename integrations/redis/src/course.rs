@@ -1,6 +1,7 @@
 //! Plans, and what a course moves between two of them.
 
-use crate::fault::Done;
+use crate::args::Args;
+use crate::fault::{Done, Trying};
 use crate::keymap::hex;
 pub use squall::Move;
 use squall::{Course, Leg, Rank};
@@ -18,6 +19,16 @@ pub struct Plan {
 }
 
 impl Plan {
+    /// The plan of the file that an option names.
+    ///
+    /// # Errors
+    ///
+    /// The file can't be read, or its text is no plan.
+    pub fn of(args: &Args, name: &str) -> Done<Plan> {
+        let path = args.need(name)?;
+        Plan::read(args.file(name)?).trying(|| format!("--{name} {path}"))
+    }
+
     /// The plan of a text.
     ///
     /// # Errors

@@ -1,7 +1,7 @@
-//! Why a program can't go on, in words for its operator.
+//! Why a program can't go on, in words for its operator, and what else it says.
 
 use std::fmt;
-use std::io;
+use std::io::{self, Write};
 
 /// Why a program can't go on.
 #[derive(Debug)]
@@ -35,6 +35,20 @@ impl From<squall::Error> for Fault {
     fn from(error: squall::Error) -> Fault {
         Fault(error.to_string())
     }
+}
+
+/// Says a line on standard error. If nobody reads it any more, the program goes on.
+pub fn note(line: impl fmt::Display) {
+    let _ = writeln!(io::stderr(), "{line}");
+}
+
+/// Writes a line to standard output.
+///
+/// # Errors
+///
+/// It can't be written, as when nobody reads it any more.
+pub fn say(line: impl fmt::Display) -> Done<()> {
+    writeln!(io::stdout(), "{line}").trying(|| "standard output".to_string())
 }
 
 /// Says of an error what was tried.

@@ -9,7 +9,7 @@ use super::nats_text::{is_set, message, number_of, Op, Parser};
 use super::nats_wire::{Wire, PATIENCE};
 use crate::args::Args;
 use crate::dice::Dice;
-use crate::fault::{Done, Fault, Trying};
+use crate::fault::{note, Done, Fault, Trying};
 use crate::tls::Peer;
 use std::sync::atomic::{AtomicUsize, Ordering::Relaxed};
 use std::sync::{Arc, Condvar, Mutex, MutexGuard, PoisonError};
@@ -125,7 +125,7 @@ impl Nats {
         let mut bytes = Vec::new();
         for frame in frames {
             if frame.len() > most {
-                eprintln!("bus: a frame of {} bytes is not sent: the server takes {most}", frame.len());
+                note(format!("bus: a frame of {} bytes is not sent: the server takes {most}", frame.len()));
             } else {
                 message(&mut bytes, subject, reply, frame);
             }

@@ -4,9 +4,9 @@ use super::carrier::Carrier;
 use super::entry::Entry;
 use super::outbox;
 use crate::args::Args;
-use crate::course::Progress;
+use crate::course::{Plan, Progress};
 use crate::dice::Dice;
-use crate::fault::Done;
+use crate::fault::{note, Done};
 use crate::faults;
 use squall::{Course, Error, Router, View};
 use std::sync::atomic::{AtomicU64, Ordering::Relaxed, Ordering::SeqCst};
@@ -38,7 +38,7 @@ impl Options {
     pub fn of(args: &Args, kind: &'static str) -> Done<Options> {
         // A mover waits for all to know what it has said.
         let carrier = Carrier::of(args, kind == "mover")?;
-        Ok(Options { carrier, kind, plan: args.file("first")?, known: Vec::new() })
+        Ok(Options { carrier, kind, plan: Plan::of(args, "first")?.text, known: Vec::new() })
     }
 }
 
@@ -129,7 +129,7 @@ impl Node {
                 node.counts.faults.fetch_add(1, Relaxed);
                 let fault = fault.to_string();
                 if fault != last {
-                    eprintln!("bus: {fault}");
+                    note(format!("bus: {fault}"));
                     last = fault;
                 }
                 thread::sleep(Duration::from_millis(200));

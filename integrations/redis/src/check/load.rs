@@ -4,6 +4,7 @@ use super::command::Command;
 use super::key::{Act, Held, Key, Loose, Use};
 use crate::conn::{Conn, Server};
 use crate::dice::Dice;
+use crate::fault::note;
 use crate::resp::Value;
 use std::fmt;
 use std::path::PathBuf;
@@ -48,9 +49,7 @@ impl Tally {
     fn fault(&self, count: &AtomicU64, words: impl FnOnce() -> String) {
         count.fetch_add(1, Relaxed);
         if self.shown.fetch_add(1, Relaxed) < 20 {
-            let mut words = words();
-            words.truncate(200);
-            eprintln!("{words}");
+            note(words().chars().take(200).collect::<String>());
         }
     }
 }

@@ -6,7 +6,7 @@ mod load;
 
 use crate::args::{resolve, Args, Usage};
 use crate::conn::Server;
-use crate::fault::{Done, Fault};
+use crate::fault::{note, say, Done, Fault};
 use crate::tls::{self, Peer};
 use load::{Load, Tally};
 use std::path::PathBuf;
@@ -50,11 +50,11 @@ pub fn run(args: &Args) -> Done<()> {
         while !args.has("quiet") && threads.iter().any(|it| !it.is_finished()) {
             thread::sleep(Duration::from_millis(250));
             if began.elapsed().as_millis() % 5000 < 250 {
-                eprintln!("{tally}");
+                note(&tally);
             }
         }
     });
-    println!("{tally} seconds {:.1}", began.elapsed().as_secs_f64());
+    say(format!("{tally} seconds {:.1}", began.elapsed().as_secs_f64()))?;
     let faults = tally.lost.load(Relaxed) + tally.wrong.load(Relaxed);
     let errors = tally.errors.load(Relaxed) + tally.unread.load(Relaxed);
     if faults > 0 || errors > 0 && !load.is_tolerant {

@@ -4,7 +4,7 @@ mod file;
 
 use crate::args::{Args, Usage};
 use crate::bus::{Node, Options};
-use crate::fault::Done;
+use crate::fault::{note, Done};
 use crate::tls;
 use file::BoardFile;
 use std::sync::mpsc;
@@ -46,7 +46,7 @@ pub fn run(args: &Args) -> Done<()> {
         // If one waits already, it is as good.
         let _ = news.try_send(());
     });
-    eprintln!("squall-redis-node: keeps {}, course {}", file.path().display(), node.view().0.number());
+    note(format!("squall-redis-node: keeps {}, course {}", file.path().display(), node.view().0.number()));
     let mut written = Vec::new();
     loop {
         let board = node.board()?.concat();
@@ -54,7 +54,7 @@ pub fn run(args: &Args) -> Done<()> {
             match file.write(&board) {
                 Ok(()) => written = board,
                 Err(fault) => {
-                    eprintln!("squall-redis-node: {fault}");
+                    note(format!("squall-redis-node: {fault}"));
                     thread::sleep(AGAIN);
                     continue;
                 }

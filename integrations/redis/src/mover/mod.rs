@@ -9,7 +9,7 @@ use crate::args::{Args, Usage};
 use crate::bus::{Node, Options};
 use crate::conn::{Conn, Server};
 use crate::course::{self, Move, Plan};
-use crate::fault::{Done, Fault, Trying};
+use crate::fault::{note, say, Done, Fault};
 use crate::{faults, keymap, tls, DEFAULT_SECRET};
 pub use index::is_own;
 
@@ -63,19 +63,13 @@ struct Mover {
 /// Runs the program.
 pub fn run(args: &Args) -> Done<()> {
     if args.has("init") {
-        let plan = args.file("first")?;
-        let (old, new) = (Plan::read(plan.clone())?, Plan::read(plan)?);
-        let mover = Mover::new(args, 1, (old, new))?;
+        let plans = (Plan::of(args, "first")?, Plan::of(args, "first")?);
+        let mover = Mover::new(args, 1, plans)?;
         mover.begin()?;
         mover.fence()?;
-        println!("course 1 has begun at {} partitions", mover.servers.len());
-        return Ok(());
+        return say(format!("course 1 has begun at {} partitions", mover.servers.len()));
     }
-    let (old, new) = (args.need("old")?, args.need("new")?);
-    let plans = (
-        Plan::read(args.file("old")?).trying(|| format!("--old {old}"))?,
-        Plan::read(args.file("new")?).trying(|| format!("--new {new}"))?,
-    );
+    let plans = (Plan::of(args, "old")?, Plan::of(args, "new")?);
     args.need("number")?;
     let number = args.number("number", 0, 2, u64::from(u32::MAX))? as u32;
     let mover = Mover::new(args, number, plans)?;
@@ -121,6 +115,7 @@ impl Mover {
             chunk: args.number("chunk", 100, 1, 1_000_000)? as usize,
             pause: Duration::from_millis(args.number("pause", 5, 0, 3_600_000)?),
         };
+        let settle = Duration::from_millis(args.number("settle", 10_000, 0, 3_600_000)?);
         self.begin()?;
         bus.tell_frames(std::slice::from_ref(&self.issue))?;
         thread::sleep(NOTICE);
@@ -133,17 +128,12 @@ impl Mover {
         });
         moved?;
         bus.tell_all()?;
-        println!(
-            "course {}: moved {} keys in {:.1} s",
-            self.number,
-            progress.moved(),
-            progress.took().as_secs_f64()
-        );
-        let settle = args.number("settle", 10_000, 0, 3_600_000)?;
-        if !bus.settle(Duration::from_millis(settle)) {
-            eprintln!("squall-redis-mover: some proxies have not heard all; run it again if they don't");
+        let (keys, took) = (progress.moved(), progress.took().as_secs_f64());
+        let said = say(format!("course {}: moved {keys} keys in {took:.1} s", self.number));
+        if !bus.settle(settle) {
+            note("squall-redis-mover: some proxies have not heard all; run it again if they don't");
         }
-        Ok(())
+        said
     }
 
     /// All partitions, those of the old plan first. The first one decides between two movers that
@@ -214,11 +204,10 @@ impl Mover {
         for it in &self.moves {
             let count = counts.get(&it.lo.0).unwrap_or(&0);
             let Move { lo, hi, source, dest, sub } = it;
-            println!("move [{lo},{hi}) {source} to {dest} sub {sub}: {count} keys");
+            say(format!("move [{lo},{hi}) {source} to {dest} sub {sub}: {count} keys"))?;
         }
         let total: usize = counts.values().sum();
-        println!("course {}: {} moves, {total} keys", self.number, self.moves.len());
-        Ok(())
+        say(format!("course {}: {} moves, {total} keys", self.number, self.moves.len()))
     }
 }
 

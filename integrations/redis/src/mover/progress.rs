@@ -1,6 +1,7 @@
 //! How far a mover is, on standard error.
 
-use std::io::IsTerminal;
+use crate::fault::note;
+use std::io::{self, IsTerminal, Write};
 use std::sync::atomic::{AtomicBool, AtomicUsize, Ordering::Relaxed};
 use std::thread;
 use std::time::{Duration, Instant};
@@ -54,19 +55,19 @@ impl Progress {
 
     /// Shows how far it is until it is over: a bar on a terminal, else a line every few seconds.
     pub fn show(&self) {
-        let is_bar = std::io::stderr().is_terminal();
+        let is_bar = io::stderr().is_terminal();
         let mut said = Instant::now();
         while !self.is_over.load(Relaxed) {
             thread::sleep(Duration::from_millis(100));
             if is_bar {
-                eprint!("\r{}", self.bar());
+                let _ = write!(io::stderr(), "\r{}", self.bar());
             } else if said.elapsed() >= Duration::from_secs(5) {
-                eprintln!("{}", self.line());
+                note(self.line());
                 said = Instant::now();
             }
         }
         if is_bar {
-            eprint!("\r{}\r", " ".repeat(WIDTH + 60));
+            let _ = write!(io::stderr(), "\r{}\r", " ".repeat(WIDTH + 60));
         }
     }
 

@@ -24,7 +24,7 @@ mod worker;
 use crate::args::{Args, Usage};
 use crate::bus::{Node, Options};
 use crate::course::Plan;
-use crate::fault::{Done, Fault, Trying};
+use crate::fault::{note, Done, Fault, Trying};
 use crate::tls::{self, Acceptor};
 use crate::DEFAULT_SECRET;
 use metrics::Shared;
@@ -81,7 +81,7 @@ pub fn run(args: &Args) -> Done<()> {
     }
     let most = args.number("clients", 10_000, 1, 1_000_000)? as usize;
     let wakers = start(&shared)?;
-    eprintln!("squall-redis-proxy: serves at {}", listener.local_addr()?);
+    note(format!("squall-redis-proxy: serves at {}", listener.local_addr()?));
     accept(&listener, &shared, &wakers, most)
 }
 
@@ -91,7 +91,7 @@ fn share(args: &Args, threads: usize) -> Done<Shared> {
         node,
         parts: args.parts()?,
         tls: Acceptor::of(args)?,
-        first: Plan::read(args.file("first")?)?.ranges,
+        first: Plan::of(args, "first")?.ranges,
         secret: args.password("secret-file")?.unwrap_or(DEFAULT_SECRET.into()),
         wait: Duration::from_millis(args.number("wait", 5000, 1, 3_600_000)?),
         answer: Duration::from_millis(args.number("answer", 60_000, 1, 3_600_000)?),
@@ -116,7 +116,7 @@ fn start(shared: &Arc<Shared>) -> Done<Vec<Arc<Waker>>> {
         let worker = Worker::new(poll, shared.clone(), own);
         thread::Builder::new().name(format!("worker {own}")).spawn(move || {
             if let Err(error) = worker.run() {
-                eprintln!("squall-redis-proxy: {error}");
+                note(format!("squall-redis-proxy: {error}"));
                 std::process::exit(1);
             }
         })?;
@@ -131,7 +131,7 @@ fn accept(listener: &TcpListener, shared: &Shared, wakers: &[Arc<Waker>], most: 
         let mut stream: TcpStream = match listener.accept() {
             Ok((stream, _)) => stream,
             Err(error) => {
-                eprintln!("squall-redis-proxy: to accept: {error}");
+                note(format!("squall-redis-proxy: to accept: {error}"));
                 thread::sleep(Duration::from_millis(100));
                 continue;
             }

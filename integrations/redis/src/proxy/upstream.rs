@@ -2,7 +2,7 @@
 
 use super::socket::{receive, Out, Received, Socket};
 use crate::conn::Server;
-use crate::fault::Done;
+use crate::fault::{note, Done};
 use crate::keymap;
 use crate::resp::{push, Scan, Value};
 use crate::user;
@@ -138,7 +138,7 @@ impl Upstream {
     pub fn drop_stream(&mut self, now: Instant) -> VecDeque<InFlight> {
         let stream = self.stream.take();
         if let Some(fault) = stream.as_ref().and_then(Socket::fault).filter(|it| *it != self.shown_fault) {
-            eprintln!("partition {}: {fault}", self.part);
+            note(format!("partition {}: {fault}", self.part));
             self.shown_fault = fault.to_string();
         }
         self.state = State::Down(now + AGAIN);
@@ -175,7 +175,7 @@ impl Upstream {
         if is_refused && !was_refused && self.shown != self.number {
             self.shown = self.number;
             let why = String::from_utf8_lossy(&reply[1..]);
-            eprintln!("partition {} refuses course {}: {}", self.part, self.number, why.trim_end());
+            note(format!("partition {} refuses course {}: {}", self.part, self.number, why.trim_end()));
         }
         if left > 1 {
             self.state = State::Entering(left - 1, is_refused);
