@@ -92,10 +92,21 @@ impl Nats {
         self.link.lock().unwrap_or_else(PoisonError::into_inner)
     }
 
-    /// Connects to the next server, and hears all that others send from now on.
+    /// Connects to the next server that lets it in, and hears all that others send from now on.
+    ///
+    /// # Errors
+    ///
+    /// None of them does. The words are the same until one of them changes.
     pub fn listen(&self) -> Done<NatsEars<'_>> {
-        let server = &self.servers[self.next.fetch_add(1, Relaxed) % self.servers.len()];
-        self.connect(server).trying(|| server.addr.clone())
+        let mut faults = Vec::new();
+        for _ in &self.servers {
+            let server = &self.servers[self.next.fetch_add(1, Relaxed) % self.servers.len()];
+            match self.connect(server) {
+                Ok(ears) => return Ok(ears),
+                Err(fault) => faults.push(format!("{}: {fault}", server.addr)),
+            }
+        }
+        Err(Fault::new(faults.join(", ")))
     }
 
     fn connect<'a>(&'a self, server: &'a Server) -> Done<NatsEars<'a>> {
@@ -241,4 +252,22 @@ impl Drop for NatsEars<'_> {
 /// A message. Its sender is another node, since the server does not send back what this one sends.
 fn entry(id: String, frame: Vec<u8>) -> Entry {
     Entry { id, from: String::new(), frame, re: None }
+}
+
+#[cfg(test)]
+mod tests {
+    use super::*;
+    use crate::args::Usage;
+
+    #[test]
+    fn each_server_is_tried_before_it_is_said() {
+        let usage = Usage { name: "test", help: "", options: &[], flags: &["tls-bus"] };
+        let args = Args::parse(&[], &usage).unwrap();
+        let address = Address::read("nats://127.0.0.1:1,127.0.0.1:2", "squall", None).unwrap().unwrap();
+        let nats = Nats::new(address, &args, false).unwrap();
+        let fault = || nats.listen().err().unwrap().to_string();
+        let said = fault();
+        assert!(said.starts_with("127.0.0.1:1: ") && said.contains(", 127.0.0.1:2: "), "{said}");
+        assert_eq!(said, fault());
+    }
 }

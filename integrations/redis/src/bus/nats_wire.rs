@@ -1,12 +1,11 @@
 //! A connection to a NATS server, in the clear or by TLS. One thread reads it, and others write.
 
-use crate::args::resolve;
 use crate::fault::{Done, Fault};
 use crate::tls::{self, Peer};
 use openssl::ssl::{ErrorCode, SslStream};
 use std::collections::VecDeque;
 use std::io::{self, ErrorKind, Read, Write};
-use std::net::{Shutdown, TcpStream};
+use std::net::{Shutdown, TcpStream, ToSocketAddrs};
 use std::sync::{Mutex, MutexGuard, PoisonError};
 use std::time::{Duration, Instant};
 
@@ -54,7 +53,7 @@ impl Write for Pipe {
 impl Wire {
     /// Connects, in the clear.
     pub fn connect(addr: &str) -> Done<Wire> {
-        let tcp = TcpStream::connect_timeout(&resolve(addr)?, PATIENCE)?;
+        let tcp = reach(addr)?;
         tcp.set_nodelay(true)?;
         tcp.set_read_timeout(Some(TURN))?;
         tcp.set_write_timeout(Some(PATIENCE))?;
@@ -161,6 +160,18 @@ impl Wire {
     fn flush(&self, session: &mut SslStream<Pipe>) -> io::Result<()> {
         (&self.tcp).write_all(&std::mem::take(&mut session.get_mut().go))
     }
+}
+
+/// A connection to the first address of a name that takes one.
+fn reach(addr: &str) -> Done<TcpStream> {
+    let mut why = Fault::new("no address");
+    for it in addr.to_socket_addrs()? {
+        match TcpStream::connect_timeout(&it, PATIENCE) {
+            Ok(tcp) => return Ok(tcp),
+            Err(error) => why = error.into(),
+        }
+    }
+    Err(why)
 }
 
 fn closed() -> Fault {
