@@ -2,7 +2,7 @@
 
 use super::commands::Split;
 use super::plan::{Plan, Words};
-use super::socket::{Out, Socket};
+use super::socket::{drop_first, Out, Socket};
 use super::task::{Queue, Task, Watch};
 use crate::resp::{Parser, Value};
 use squall::{Errand, Reply};
@@ -268,7 +268,7 @@ impl Client {
     /// Drops the bytes of commands that are answered.
     pub fn make_room(&mut self) {
         let answered = self.answered();
-        self.input.drain(..answered);
+        drop_first(&mut self.input, answered);
         self.base += answered as u64;
         self.next -= answered;
     }

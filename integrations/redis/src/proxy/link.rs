@@ -1,5 +1,6 @@
 //! A worker's connections to the partitions: they log in, and what they answer.
 
+use super::socket::drop_first;
 use super::upstream::{State, Upstream};
 use super::worker::{upstream_token, Worker};
 use crate::resp::error;
@@ -112,7 +113,7 @@ impl Worker {
             }
         }
         let mut heard = heard;
-        heard.drain(..used);
+        drop_first(&mut heard, used);
         self.upstreams[at].heard = heard;
         is_fine
     }

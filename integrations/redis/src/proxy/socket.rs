@@ -128,6 +128,18 @@ pub struct Out {
 /// If more bytes than these are sent, they are dropped before all are sent.
 const SENT: usize = 1 << 20;
 
+/// No more memory is kept for bytes that are gone.
+const KEPT: usize = 1 << 20;
+
+/// Drops the first bytes. What was kept for many of them is given back once few are left, since a
+/// connection may stay idle after that.
+pub fn drop_first(bytes: &mut Vec<u8>, count: usize) {
+    bytes.drain(..count);
+    if bytes.len() < KEPT / 2 {
+        bytes.shrink_to(KEPT);
+    }
+}
+
 impl Out {
     /// How many bytes are still to be sent.
     pub fn len(&self) -> usize {
@@ -136,7 +148,11 @@ impl Out {
 
     /// Drops all bytes.
     pub fn clear(&mut self) {
-        self.bytes.clear();
+        self.drop_first(self.bytes.len());
+    }
+
+    fn drop_first(&mut self, count: usize) {
+        drop_first(&mut self.bytes, count);
         self.sent = 0;
     }
 
@@ -157,8 +173,7 @@ impl Out {
         if self.sent == self.bytes.len() {
             self.clear();
         } else if self.sent > SENT {
-            self.bytes.drain(..self.sent);
-            self.sent = 0;
+            self.drop_first(self.sent);
         }
         true
     }
@@ -201,4 +216,22 @@ pub fn receive(
         }
     }
     Received::Some
+}
+
+#[cfg(test)]
+mod tests {
+    use super::*;
+
+    #[test]
+    fn memory_is_given_back() {
+        let mut bytes = vec![1; 8 * KEPT];
+        bytes.extend([2; 3]);
+        drop_first(&mut bytes, 4 * KEPT);
+        assert_eq!(bytes.len(), 4 * KEPT + 3);
+        drop_first(&mut bytes, 4 * KEPT);
+        assert_eq!(bytes, [2; 3]);
+        assert!(bytes.capacity() <= KEPT);
+        drop_first(&mut bytes, 3);
+        assert!(bytes.is_empty());
+    }
 }

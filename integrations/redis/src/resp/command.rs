@@ -6,6 +6,9 @@ use std::ops::Range;
 /// No command has more words.
 const MOST_WORDS: i64 = 1_048_576;
 
+/// The places of no more words are kept from one command to the next.
+const KEPT: usize = 1 << 12;
+
 /// Reads one command, whose bytes may come in any pieces. What was read of it is not read again.
 #[derive(Default)]
 pub struct Parser {
@@ -73,6 +76,7 @@ impl Parser {
         self.at = 0;
         self.left = None;
         self.words.clear();
+        self.words.shrink_to(KEPT);
     }
 }
 
