@@ -2,6 +2,9 @@
 
 use super::{line, number, Broken, Scan};
 
+/// No lists that are read lie deeper in each other.
+const DEEPEST: usize = 32;
+
 /// A reply of RESP2.
 #[derive(Clone, Debug, PartialEq)]
 pub enum Value {
@@ -24,7 +27,7 @@ impl Value {
     pub fn read(bytes: &[u8]) -> Result<Option<(Value, usize)>, Broken> {
         match Scan::default().read(bytes)? {
             None => Ok(None),
-            Some(_) => value(bytes, 0).map(Some),
+            Some(_) => value(bytes, 0, DEEPEST).map(Some),
         }
     }
 
@@ -52,8 +55,8 @@ impl Value {
     }
 }
 
-/// The value at `at` in whole bytes, and where it ends.
-fn value(bytes: &[u8], at: usize) -> Result<(Value, usize), Broken> {
+/// The value at `at` in whole bytes, and where it ends. No lists in it may lie deeper in each other.
+fn value(bytes: &[u8], at: usize, depth: usize) -> Result<(Value, usize), Broken> {
     let broken = Broken("a reply of another form");
     let (line, next) = line(bytes, at).ok_or(broken)?;
     let (&kind, rest) = line.split_first().ok_or(broken)?;
@@ -71,16 +74,16 @@ fn value(bytes: &[u8], at: usize) -> Result<(Value, usize), Broken> {
         },
         b'*' => match usize::try_from(number(rest).ok_or(broken)?) {
             Err(_) => Ok((Value::Nil, next)),
-            Ok(count) => list(bytes, next, count),
+            Ok(count) => list(bytes, next, count, depth.checked_sub(1).ok_or(broken)?),
         },
         _ => Err(broken),
     }
 }
 
-fn list(bytes: &[u8], mut at: usize, count: usize) -> Result<(Value, usize), Broken> {
+fn list(bytes: &[u8], mut at: usize, count: usize, depth: usize) -> Result<(Value, usize), Broken> {
     let mut list = Vec::new();
     for _ in 0..count {
-        let (item, end) = value(bytes, at)?;
+        let (item, end) = value(bytes, at, depth)?;
         list.push(item);
         at = end;
     }
@@ -126,6 +129,9 @@ mod tests {
         assert_eq!(Value::read(bytes), Ok(Some((wanted, bytes.len()))));
         assert_eq!(Value::read(&bytes[..9]), Ok(None));
         assert!(Value::read(b"!\r\n").is_err());
+        let deep = |depth| ["*1\r\n".repeat(depth), ":1\r\n".into()].concat();
+        assert!(Value::read(deep(DEEPEST).as_bytes()).is_ok());
+        assert!(Value::read(deep(1_000_000).as_bytes()).is_err());
     }
 
     #[test]
