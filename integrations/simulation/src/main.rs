@@ -1,7 +1,5 @@
 //! How soon many routers agree while keys move, over a network that loses messages: in simulated time.
 //! `integrations/SIMULATION.md` says what is assumed.
-//!
-//!     squall-simulation [--seed N] [--loss SHARE] [--requests N] [ROUTERS ..]
 
 mod beside;
 mod dice;
@@ -11,38 +9,62 @@ mod network;
 mod world;
 
 use network::{Time, SECOND};
+use std::ffi::OsString;
+use std::io::{self, Write};
+use std::ops::RangeInclusive;
 use std::process::ExitCode;
 use world::{Options, Outcome, Requests, World};
 
+const HELP: &str = "\
+How soon many routers agree while keys move, over a network that loses messages: in simulated time.
+
+  squall-simulation [--seed N] [--loss SHARE] [--requests N] [ROUTERS ..]
+
+  --seed N        what happens by chance is the same for the same seed (1)
+  --loss SHARE    the share of messages that are lost, below 0.9 (0.01)
+  --requests N    how many requests a router has each second (10)
+  ROUTERS         how many routers there are, at least 3, for each run (1000)
+";
+
 fn main() -> ExitCode {
-    let words: Vec<String> = std::env::args().skip(1).collect();
-    match read(&words).and_then(|(options, counts)| show(options, &counts)) {
+    let words: Result<Vec<String>, OsString> =
+        std::env::args_os().skip(1).map(OsString::into_string).collect();
+    let other = |word: OsString| format!("{}: not UTF-8", word.to_string_lossy());
+    let done = words.map_err(other).and_then(|words| match words.iter().any(|word| word == "--help") {
+        true => say(HELP.trim_end()),
+        false => read(&words).and_then(|(options, counts)| show(options, &counts)),
+    });
+    match done {
         Ok(()) => ExitCode::SUCCESS,
         Err(error) => {
-            eprintln!("squall-simulation: {error}");
+            let _ = writeln!(io::stderr(), "squall-simulation: {error}");
             ExitCode::FAILURE
         }
     }
+}
+
+/// Writes a line to standard output.
+fn say(line: &str) -> Result<(), String> {
+    writeln!(io::stdout(), "{line}").map_err(|error| format!("standard output: {error}"))
 }
 
 /// What the words ask for: the options of all runs, and the numbers of routers.
 fn read(words: &[String]) -> Result<(Options, Vec<usize>), String> {
     let mut options = Options { routers: 0, loss: 0.01, requests: 10, to_all: true, seed: 1 };
     let mut counts = Vec::new();
-    let mut words = words.iter();
+    let mut words = words.iter().map(String::as_str);
     while let Some(word) = words.next() {
-        let wrong = |value: &str| format!("{word} {value}: no such number");
-        let mut value = || words.next().map(String::as_str).unwrap_or_default();
-        match word.as_str() {
-            "--seed" => options.seed = value().parse().map_err(|_| wrong("N"))?,
+        let mut value = || words.next().ok_or(format!("{word} needs a value"));
+        match word {
+            "--seed" => options.seed = number(word, value()?, 0..=u64::MAX)?,
+            "--requests" => options.requests = number(word, value()?, 1..=1_000_000)?,
             "--loss" => {
-                options.loss =
-                    value().parse().ok().filter(|it| (0.0..0.9).contains(it)).ok_or(wrong("SHARE"))?;
+                let text = value()?;
+                let loss = text.parse().ok().filter(|it| (0.0..0.9).contains(it));
+                options.loss = loss.ok_or(format!("--loss {text}: not from 0 on, below 0.9"))?;
             }
-            "--requests" => {
-                options.requests = value().parse().ok().filter(|&it| it > 0).ok_or(wrong("N"))?;
-            }
-            count => counts.push(count.parse().ok().filter(|&it| it >= 3).ok_or(wrong(""))?),
+            word if word.starts_with('-') => return Err(format!("{word} is not known")),
+            word => counts.push(number("ROUTERS", word, 3..=1_000_000)? as usize),
         }
     }
     if counts.is_empty() {
@@ -51,13 +73,19 @@ fn read(words: &[String]) -> Result<(Options, Vec<usize>), String> {
     Ok((options, counts))
 }
 
+/// The number of a text, if it is within the bounds.
+fn number(name: &str, text: &str, bounds: RangeInclusive<u64>) -> Result<u64, String> {
+    let wrong = || format!("{name} {text}: not between {} and {}", bounds.start(), bounds.end());
+    text.parse().ok().filter(|it| bounds.contains(it)).ok_or_else(wrong)
+}
+
 /// Makes the runs, and shows each as soon as it is over.
 fn show(options: Options, counts: &[usize]) -> Result<(), String> {
     for &routers in counts {
         for to_all in [true, false] {
             let world = World::new(Options { routers, to_all, ..options }).map_err(|it| it.to_string())?;
             let outcome = world.run().map_err(|it| it.to_string())?;
-            println!("{}", text(routers, to_all, &outcome));
+            say(&text(routers, to_all, &outcome))?;
         }
     }
     Ok(())
@@ -121,6 +149,27 @@ mod tests {
     fn run(loss: f64, to_all: bool) -> Outcome {
         let options = Options { routers: 30, loss, requests: 20, to_all, seed: 7 };
         World::new(options).unwrap().run().unwrap()
+    }
+
+    #[test]
+    fn words_are_read() {
+        let read = |words: &str| read(&words.split(' ').map(String::from).collect::<Vec<_>>());
+        let (options, counts) = read("--seed 5 100 --loss 0.3 --requests 2 1000").unwrap();
+        assert_eq!((options.seed, options.loss, options.requests), (5, 0.3, 2));
+        assert_eq!(counts, [100, 1000]);
+        for (words, why) in [
+            ("--seed", "--seed needs a value"),
+            ("--seed x", "--seed x: not between 0 and"),
+            ("--loss 0.9", "--loss 0.9: not from 0 on"),
+            ("--loss NaN", "--loss NaN: not from 0 on"),
+            ("--requests 0", "--requests 0: not between 1 and"),
+            ("2", "ROUTERS 2: not between 3 and"),
+            ("many", "ROUTERS many: not between 3 and"),
+            ("--helpless", "--helpless is not known"),
+        ] {
+            let said = read(words).err().unwrap();
+            assert!(said.starts_with(why), "{said}");
+        }
     }
 
     #[test]
