@@ -7,6 +7,7 @@ mod client;
 use client::{command, is_moving, Client};
 use squall_redis::resp::Value;
 use std::io::Write;
+use std::net::Shutdown;
 use std::thread::sleep;
 use std::time::Duration;
 
@@ -164,6 +165,35 @@ fn large_values_pass_and_too_large_ones_are_refused() {
     let many = format!("MSET {}", "5:0:many v ".repeat(100_000).trim_end());
     client.stream.write_all(&command(&many)).ok();
     assert!(client.hear().is_none_or(|reply| reply.starts_with(b"-ERR Protocol error")));
+}
+
+#[test]
+#[ignore = "needs a proxy"]
+fn one_that_sends_no_more_gets_its_answers() {
+    for _ in 0..100 {
+        let mut client = Client::new();
+        client.send(
+            &[command("SET 4:0:shut v"), command("GET 4:0:shut"), command("GET 4")[..9].into()].concat(),
+        );
+        client.stream.shutdown(Shutdown::Write).unwrap();
+        assert_eq!(client.text(), "+OK\r\n");
+        assert_eq!(client.text(), "$1\r\nv\r\n");
+        assert_eq!(client.hear(), None);
+    }
+    // It waits for no key.
+    for pause in [0, 50] {
+        let (mut client, mut other) = (Client::new(), Client::new());
+        client.send(&[command("DEL 4:0:shut"), command("BLPOP 4:0:shut 0")].concat());
+        assert_eq!(client.text(), ":1\r\n");
+        sleep(Duration::from_millis(pause));
+        client.stream.shutdown(Shutdown::Write).unwrap();
+        assert_eq!(client.hear(), None);
+        // The partition hears of it too.
+        sleep(Duration::from_millis(100));
+        assert_eq!(other.ask("RPUSH 4:0:shut v"), ":1\r\n");
+        assert_eq!(other.ask("LLEN 4:0:shut"), ":1\r\n");
+    }
+    assert_eq!(Client::new().ask("DEL 4:0:shut"), ":1\r\n");
 }
 
 #[test]

@@ -3,7 +3,7 @@
 use super::commands::Split;
 use super::plan::{Plan, Words};
 use super::socket::{drop_first, Out, Socket};
-use super::task::{Queue, Task, Watch};
+use super::task::{Deed, Queue, Task, Watch};
 use crate::resp::{Parser, Value};
 use squall::{Errand, Reply};
 use std::collections::VecDeque;
@@ -90,7 +90,8 @@ pub struct Client {
     pub task: Option<Task>,
     /// Whether it speaks RESP3.
     pub is_resp3: bool,
-    /// Whether it is closed after the last answer.
+    /// Whether it sends no more, and whether it is closed after the last answer.
+    pub is_shut: bool,
     pub is_ending: bool,
     /// Whether it is in the list of those that have answers, and of those that are to go on.
     pub is_dirty: bool,
@@ -123,6 +124,7 @@ impl Client {
             watch: None,
             task: None,
             is_resp3: false,
+            is_shut: false,
             is_ending: false,
             is_dirty: false,
             is_woken: false,
@@ -153,6 +155,11 @@ impl Client {
     /// Whether all its commands are answered.
     pub fn is_answered(&self) -> bool {
         self.window.is_empty()
+    }
+
+    /// Whether it waits for a key.
+    pub fn waits(&self) -> bool {
+        self.task.as_ref().is_some_and(|task| matches!(task.deed, Deed::Wait(_)))
     }
 
     /// The words of the command that was read.

@@ -137,7 +137,8 @@ impl Worker {
 
     /// Begins a command that waits for a key.
     pub(super) fn start_wait(&mut self, client: &mut Client, plan: &Plan) -> Flow {
-        if client.in_flight > 0 {
+        client.is_ending = client.is_shut;
+        if client.in_flight > 0 || client.is_ending {
             return Flow::Idle;
         }
         let words = client.words();

@@ -83,19 +83,8 @@ impl Worker {
         if client.is_ending || !client.has_room(self.shared.memory) {
             return Flow::Idle;
         }
-        let rest = &client.input[client.next..];
-        let read = match client.parser.read(rest, self.shared.memory) {
-            Ok(false) if rest.len() >= self.shared.memory => Err(Broken("too large a command")),
-            read => read,
-        };
-        match read {
-            Ok(true) => {}
-            Ok(false) => return Flow::Idle,
-            Err(broken) => {
-                client.add_answer(error(&format!("ERR Protocol error: {broken}")));
-                client.is_ending = true;
-                return Flow::Idle;
-            }
+        if !read_command(client, self.shared.memory) {
+            return Flow::Idle;
         }
         let words = Words { bytes: &client.input[client.next..], places: client.parser.words() };
         if words.count() == 0 {
@@ -206,5 +195,27 @@ impl Worker {
         self.counts().gave_up.fetch_add(1, Relaxed);
         client.add_answer(error("TRYAGAIN the partition does not let this proxy in, or can't be reached"));
         Flow::On
+    }
+}
+
+/// Reads a client's next command: whether it is whole. If it is none, or none comes any more, the client is
+/// ending.
+fn read_command(client: &mut Client, most: usize) -> bool {
+    let rest = &client.input[client.next..];
+    let read = match client.parser.read(rest, most) {
+        Ok(false) if rest.len() >= most => Err(Broken("too large a command")),
+        read => read,
+    };
+    match read {
+        Ok(true) => true,
+        Ok(false) => {
+            client.is_ending = client.is_shut;
+            false
+        }
+        Err(broken) => {
+            client.add_answer(error(&format!("ERR Protocol error: {broken}")));
+            client.is_ending = true;
+            false
+        }
     }
 }

@@ -186,8 +186,10 @@ pub enum Received {
     All,
     /// More may have come.
     Some,
-    /// The connection is closed.
-    End,
+    /// The other end sends no more. It may still read.
+    Shut,
+    /// The connection is lost.
+    Lost,
 }
 
 /// Reads what has come, as long as fewer than `most` bytes wait. If the other end has closed, it is
@@ -200,7 +202,7 @@ pub fn receive(
 ) -> Received {
     while heard.len() < most {
         match stream.read(block) {
-            Ok(0) => return Received::End,
+            Ok(0) => return Received::Shut,
             Ok(got) => {
                 heard.extend_from_slice(&block[..got]);
                 // After a short read an event tells of what comes later. TLS may have read that already.
@@ -211,7 +213,7 @@ pub fn receive(
             Err(error) => match error.kind() {
                 ErrorKind::WouldBlock => return Received::All,
                 ErrorKind::Interrupted => {}
-                _ => return Received::End,
+                _ => return Received::Lost,
             },
         }
     }

@@ -192,12 +192,14 @@ impl Worker {
         }
     }
 
-    /// Reads what a client has sent: whether its connection is open.
+    /// Reads what a client has sent: whether it is still there. One that sends no more gets the answers to
+    /// what it has sent, but waits for no key: nobody might take the value.
     pub(super) fn read_client(&mut self, client: &mut Client, is_closed: bool) -> bool {
         let most = (is_closed, self.shared.memory);
         let received = receive(&mut client.stream, &mut self.block, &mut client.input, most);
         client.is_unread = received == Received::Some;
-        received != Received::End
+        client.is_shut |= received == Received::Shut;
+        received != Received::Lost && !(client.is_shut && client.waits())
     }
 
     pub(super) fn put_back(&mut self, at: usize, mut client: Box<Client>, stands: bool) {
