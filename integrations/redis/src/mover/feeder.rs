@@ -29,8 +29,10 @@ pub struct Job<'a> {
     pub pause: Duration,
 }
 
-/// How many keys are copied at once.
+/// How many keys are copied at once at most, and about how many bytes of them. Both servers and the mover
+/// hold them meanwhile.
 const BLOCK: usize = 64;
+const BYTES: usize = 8 << 20;
 /// What `PEXPIRETIME` says of a key that is not there.
 const GONE: i64 = -2;
 /// How many chunks are reported before the whole board is sent.
@@ -42,6 +44,8 @@ struct Feeder<'a> {
     source: Partition,
     dest: Partition,
     index: Index,
+    /// How many keys are copied at once.
+    block: usize,
     chunks: usize,
 }
 
@@ -57,6 +61,7 @@ impl Job<'_> {
             source: Partition::open(first.source, server, self.number)?,
             dest: Partition::open(first.dest, self.server(first.dest)?, self.number)?,
             index: Index::new(server, moves)?,
+            block: 1,
             chunks: 0,
         };
         self.progress.expect(feeder.index.len());
@@ -104,8 +109,12 @@ impl Feeder<'_> {
         // From now on the source serves no key of the chunk, and no new one comes.
         self.index.listen()?;
         let keys = self.index.keys(lo..hi);
-        for block in keys.chunks(BLOCK) {
-            self.copy(block)?;
+        let mut rest = &keys[..];
+        while !rest.is_empty() {
+            let (block, later) = rest.split_at(self.block.min(rest.len()));
+            let bytes = self.copy(block)?;
+            self.block = next_block(block.len(), bytes);
+            rest = later;
         }
         let loaded = self.dest.load(it, hi)?;
         self.report(it, lo..hi)?;
@@ -122,17 +131,20 @@ impl Feeder<'_> {
         Ok(())
     }
 
-    /// Puts keys where they come to. Their clients wait meanwhile.
-    fn copy(&mut self, keys: &[Ranked]) -> Done<()> {
+    /// Puts keys where they come to, and says how many bytes their values have. Their clients wait meanwhile.
+    fn copy(&mut self, keys: &[Ranked]) -> Done<usize> {
         for (_, key) in keys {
             self.source.conn.put(&[b"DUMP", key.as_slice()]);
             self.source.conn.put(&[b"PEXPIRETIME", key.as_slice()]);
         }
         let said = self.source.conn.hear_all(2 * keys.len())?;
-        let mut count = 0;
+        let (mut count, mut bytes) = (0, 0);
         for ((rank, key), said) in keys.iter().zip(said.chunks(2)) {
             match dumped(said) {
-                Ok(Some((dump, ends))) => self.dest.put(key, *rank, ends, dump),
+                Ok(Some((dump, ends))) => {
+                    self.dest.put(key, *rank, ends, dump);
+                    bytes += dump.len();
+                }
                 Ok(None) => continue,
                 Err(Some(error)) => return Err(self.source.explain(error)),
                 Err(None) => return Err(Fault::new("a dump of another form")),
@@ -144,8 +156,13 @@ impl Feeder<'_> {
                 return Err(self.dest.explain(&error));
             }
         }
-        Ok(())
+        Ok(bytes)
     }
+}
+
+/// How many keys are copied at once after so many that had that many bytes: at most twice as many.
+fn next_block(count: usize, bytes: usize) -> usize {
+    (BYTES * count / bytes.max(1)).clamp(1, BLOCK.min(2 * count))
 }
 
 /// What a source has said of a key: its dump, and when it ends. None if the key has ended, was deleted, or
@@ -162,6 +179,13 @@ fn dumped(said: &[Value]) -> Result<Option<(&[u8], i64)>, Option<&str>> {
 #[cfg(test)]
 mod tests {
     use super::*;
+
+    #[test]
+    fn large_values_are_copied_one_by_one() {
+        assert_eq!([next_block(1, 100), next_block(16, 1600), next_block(64, 6400)], [2, 32, 64]);
+        assert_eq!([next_block(64, 64 << 20), next_block(8, 80 << 20), next_block(1, 100 << 20)], [8, 1, 1]);
+        assert_eq!(next_block(3, 0), 6);
+    }
 
     #[test]
     fn keys_that_have_ended_are_not_put() {
