@@ -97,7 +97,7 @@ impl Load<'_> {
         let mut session = Session {
             load: self,
             own,
-            dice: Dice::of(self.seed * 1000 + own),
+            dice: Dice::of(self.seed.wrapping_mul(1000).wrapping_add(own)),
             conn: None,
             opened: 0,
             keys,
