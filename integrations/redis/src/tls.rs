@@ -3,12 +3,13 @@
 use crate::args::Args;
 use crate::fault::{Done, Fault, Trying};
 use openssl::ssl::{
-    Ssl, SslAcceptor, SslConnector, SslConnectorBuilder, SslContextBuilder, SslFiletype, SslMethod,
+    self, Ssl, SslAcceptor, SslConnector, SslConnectorBuilder, SslContextBuilder, SslFiletype, SslMethod,
     SslStream, SslVerifyMode, SslVersion,
 };
 use openssl::x509::store::X509StoreBuilder;
 use openssl::x509::X509VerifyResult;
-use std::io::{Read, Write};
+use std::error::Error;
+use std::io::{self, Read, Write};
 use std::net::IpAddr;
 use std::ops::DerefMut;
 
@@ -148,11 +149,22 @@ impl Acceptor {
 }
 
 /// Why a handshake or a session has failed.
-pub fn why<S>(stream: &SslStream<S>, error: &dyn std::fmt::Display) -> String {
+pub fn why<S>(stream: &SslStream<S>, error: &(dyn Error + 'static)) -> String {
     match stream.ssl().verify_result() {
-        X509VerifyResult::OK => format!("TLS: {error}"),
+        X509VerifyResult::OK => format!("TLS: {}", reason(error).unwrap_or_else(|| error.to_string())),
         refused => format!("TLS: the certificate is refused: {}", refused.error_string()),
     }
+}
+
+/// What OpenSSL says of an error, without the places in its sources.
+fn reason(error: &(dyn Error + 'static)) -> Option<String> {
+    let within = error.downcast_ref::<io::Error>().and_then(io::Error::get_ref);
+    let own = match within {
+        Some(within) => within.downcast_ref::<ssl::Error>(),
+        None => error.downcast_ref::<ssl::Error>(),
+    };
+    let reasons: Vec<&str> = own?.ssl_error()?.errors().iter().filter_map(|it| it.reason()).collect();
+    (!reasons.is_empty()).then(|| reasons.join(", "))
 }
 
 /// Tells the other end that no more comes, if the connection takes that now.

@@ -63,7 +63,7 @@ test_tls_refusals() {
   refused "certificate is refused: hostname mismatch" 2 old new || return
   # Partitions ask for certificates, as Redis does if nothing else is set.
   mover_words=(--tls-partitions --tls-bus --tls-ca "$certs/ca.pem")
-  refused "certificate required\|reset by peer\|has closed\|Broken pipe" 2 old new || return
+  refused "TLS: [a-z0-9]* alert certificate required$\|reset by peer\|has closed\|Broken pipe" 2 old new || return
   # A proxy that trusts another authority says so, and asks for no key there.
   local patience=300
   limits=(--tls-partitions --tls-bus --tls-ca "$certs/foreign.pem")
@@ -151,7 +151,7 @@ test_tls_over_nats_refusals() {
   run_secure_nats --tlsverify --tlscacert "$certs/ca.pem" --tlscert "$certs/server.pem" --tlskey "$certs/server.key" || return
   says "asks for a certificate: --tls-own-cert is missing" --bus "nats://127.0.0.1:$port" --tls-ca "$certs/ca.pem" || return
   own=(--tls-own-cert "$certs/stranger.pem" --tls-own-key "$certs/stranger.key")
-  says "alert bad certificate\|alert unknown ca\|reset by peer\|Broken pipe\|has closed" --bus "nats://127.0.0.1:$port" \
+  says "TLS: [a-z0-9]* alert bad certificate$\|TLS: [a-z0-9]* alert unknown ca$\|reset by peer\|Broken pipe\|has closed" --bus "nats://127.0.0.1:$port" \
     --tls-ca "$certs/ca.pem" "${own[@]}" || return
   # One that has no TLS gets no word.
   run_secure_nats || return
