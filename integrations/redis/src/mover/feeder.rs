@@ -33,6 +33,8 @@ pub struct Job<'a> {
 /// hold them meanwhile.
 const BLOCK: usize = 64;
 const BYTES: usize = 8 << 20;
+/// How long the news of new keys may wait to be heard.
+const NEWS: Duration = Duration::from_secs(1);
 /// What `PEXPIRETIME` says of a key that is not there.
 const GONE: i64 = -2;
 /// How many chunks are reported before the whole board is sent.
@@ -98,8 +100,20 @@ impl Feeder<'_> {
                 return Ok(());
             }
             loaded = self.chunk(it, loaded)?;
-            thread::sleep(self.job.pause);
+            self.pause()?;
         }
+    }
+
+    /// Waits after a chunk. In a long pause it hears the news.
+    fn pause(&mut self) -> Done<()> {
+        let mut left = self.job.pause;
+        while left > NEWS {
+            thread::sleep(NEWS);
+            left -= NEWS;
+            self.index.listen()?;
+        }
+        thread::sleep(left);
+        Ok(())
     }
 
     /// Moves the next chunk, which begins at `lo`: the bound below which keys are loaded now.
@@ -114,6 +128,7 @@ impl Feeder<'_> {
             let (block, later) = rest.split_at(self.block.min(rest.len()));
             let bytes = self.copy(block)?;
             self.block = next_block(block.len(), bytes);
+            self.index.listen()?;
             rest = later;
         }
         let loaded = self.dest.load(it, hi)?;

@@ -36,7 +36,11 @@ impl Index {
             count: 0,
             spans: moves.iter().map(|it| it.lo..it.hi).collect(),
         };
-        scan(&mut Conn::open(server)?, |key| index.add(key))?;
+        // A server ends a connection that leaves too much of its news unread.
+        scan(&mut Conn::open(server)?, |keys| {
+            keys.into_iter().for_each(|key| index.add(key));
+            index.listen()
+        })?;
         Ok(index)
     }
 
@@ -116,14 +120,14 @@ fn want_news(conn: &mut Conn) -> Done<()> {
     Ok(())
 }
 
-/// Calls the function with each Redis key of a server.
-pub fn scan(conn: &mut Conn, mut found: impl FnMut(Vec<u8>)) -> Done<()> {
+/// Calls the function with the Redis keys of a server, page by page.
+pub fn scan(conn: &mut Conn, mut found: impl FnMut(Vec<Vec<u8>>) -> Done<()>) -> Done<()> {
     let mut cursor = "0".to_string();
     loop {
         let mut page = conn.ask(&["SCAN", &cursor, "COUNT", "1000"])?.list();
         let keys = page.pop().map_or(Vec::new(), Value::list);
         cursor = page.pop().map_or("0".to_string(), Value::text);
-        keys.into_iter().for_each(|key| found(key.bytes()));
+        found(keys.into_iter().map(Value::bytes).collect())?;
         if cursor == "0" {
             return Ok(());
         }

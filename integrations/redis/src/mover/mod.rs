@@ -193,12 +193,14 @@ impl Mover {
         let mut counts: BTreeMap<u64, usize> = BTreeMap::new();
         for source in self.moves.iter().map(|it| it.source).collect::<BTreeSet<_>>() {
             let moves: Vec<&Move> = self.moves.iter().filter(|it| it.source == source).collect();
-            index::scan(&mut Conn::open(&self.servers[&source])?, |key| {
-                let rank = keymap::rank(&key);
-                let found = moves.iter().find(|it| it.lo <= rank && rank < it.hi);
-                if let Some(it) = found.filter(|_| !index::is_own(&key)) {
-                    *counts.entry(it.lo.0).or_default() += 1;
+            index::scan(&mut Conn::open(&self.servers[&source])?, |keys| {
+                for key in keys.iter().filter(|key| !index::is_own(key)) {
+                    let rank = keymap::rank(key);
+                    if let Some(it) = moves.iter().find(|it| it.lo <= rank && rank < it.hi) {
+                        *counts.entry(it.lo.0).or_default() += 1;
+                    }
                 }
+                Ok(())
             })?;
         }
         for it in &self.moves {
