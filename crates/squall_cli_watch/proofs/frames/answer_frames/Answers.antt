@@ -1,0 +1,114 @@
+use Rattle.std.proofs.Common.{◌∙◌, ◌<◌, [], sym, subst, Err, length, take, ap, arith, refl}
+use Rattle.std.proofs.lemmas.Result.{err_from_is_err_and}
+use Rattle.squall_cli_lines.proofs.Bytes.{reading_start, reading_more, gave_all, heeds_fault, heeds_other, heeds_limit, heeds_later, heeds_passed, fine_is_no_error}
+use Rattle.squall_cli_lines.proofs.Outcomes.{take_small}
+use Rattle.squall_cli_watch.specs.Taken.{plays}
+use Rattle.squall_cli_watch.proofs.Watching.{Watching, watching_start, ended_now, ended_read, ended_empty, ended_last, watching_more, ended_refused, ended_stopped, stops_unread}
+use Rattle.squall_cli_watch.proofs.frames.answer_frames.Goals as goal
+
+pub returns-in_err-room-clause-text : goal.returns-in_err-room-clause-text
+returns-in_err-room-clause-text g c =
+    let first = plays c.args.watcher.now in
+    let reader = g.S.Source.state c.args.reader.now in
+    let writer = g.K.Sink.state c.args.writer.now in
+    let p = err_from_is_err_and c.from_residual.result c.from_residual.ensures.1 in
+    rw (p.1, p.2) (ended_empty first first reader reader writer writer [] (λ f. refl) (watching_start first reader writer))
+
+pub loop-turn-init : goal.loop-turn-init
+loop-turn-init g c =
+    let waiting_is = sym c.new-waiting.ensures.items in
+    let first = plays c.args.watcher.now in
+    let reader = g.S.Source.state c.args.reader.now in
+    let writer = g.K.Sink.state c.args.writer.now in
+    record {
+      watching = subst (Watching first first reader reader writer writer) waiting_is (watching_start first reader writer);
+      room = omega (arith, c.as_mut_slice-block.ensures);
+      reads = reading_start reader;
+      kept = (refl, refl);
+    }
+
+pub returns-in_default-clause-text : goal.returns-in_default-clause-text
+returns-in_default-clause-text g c =
+    ended_read (plays c.args.watcher.now) (plays c.loop-turn.watcher) (g.S.Source.state c.args.reader.now) (g.S.Source.state c.loop-turn.reader)
+    (g.K.Sink.state c.args.writer.now) (g.K.Sink.state c.loop-turn.writer) c.loop-turn.waiting.items (λ f. refl) c.loop-turn.invariant.watching
+    (g.S.Source.state c.read.new.self) c.in_default.ensures.bytes
+
+pub returns-then-n-eq0-clause-text : goal.returns-then-n-eq0-clause-text
+returns-then-n-eq0-clause-text g c =
+    let t = c.answer_end.ensures.text in
+    ended_last (plays c.args.watcher.now) (plays c.loop-turn.watcher) (g.S.Source.state c.args.reader.now) (g.S.Source.state c.loop-turn.reader)
+    (g.K.Sink.state c.args.writer.now) (g.K.Sink.state c.loop-turn.writer) c.loop-turn.waiting.items (λ f. refl) c.loop-turn.invariant.watching
+    (g.S.Source.state c.read.new.self) (g.K.Sink.state c.answer_end.new.writer) c.answer_end.result t.0 (rw c.if-n-eq0.true at c.in-Ok.ensures.bytes.0) t.1 (rw c.deref.ensures.value at t.2)
+
+pub returns-in_err-answer_piece-clause-text : goal.returns-in_err-answer_piece-clause-text
+returns-in_err-answer_piece-clause-text g c =
+    let p = err_from_is_err_and c.from_residual-in_err-answer_piece.result c.from_residual-in_err-answer_piece.ensures.1 in
+    let t = c.in_err-answer_piece.ensures.text in
+    rw (p.1, p.2) (ended_stopped (plays c.args.watcher.now) (plays c.loop-turn.watcher) (g.S.Source.state c.args.reader.now) (g.S.Source.state c.loop-turn.reader)
+    (g.K.Sink.state c.args.writer.now) (g.K.Sink.state c.loop-turn.writer) c.loop-turn.waiting.items (λ f. refl) c.loop-turn.invariant.watching
+    (g.S.Source.state c.read.new.self) (g.K.Sink.state c.answer_piece.new.writer) (plays c.answer_piece.new.watcher) (λ f. refl)
+    (take c.in-Ok.n c.read.new.buf) t.0 c.answer_piece.new.waiting.items (take_small c.in-Ok.n c.read.new.buf (omega arith)) c.in-Ok.ensures.bytes.0 t.1
+    c.in_err-answer_piece.field-0.0 t.2)
+
+pub returns-in-End-clause-text : goal.returns-in-End-clause-text
+returns-in-End-clause-text g c =
+    let t = rw c.in-End.is at c.in_ok-answer_piece.ensures.text in
+    ended_refused (plays c.args.watcher.now) (plays c.loop-turn.watcher) (g.S.Source.state c.args.reader.now) (g.S.Source.state c.loop-turn.reader)
+    (g.K.Sink.state c.args.writer.now) (g.K.Sink.state c.loop-turn.writer) c.loop-turn.waiting.items (λ f. refl) c.loop-turn.invariant.watching
+    (g.S.Source.state c.read.new.self) (g.K.Sink.state c.answer_piece.new.writer) (plays c.answer_piece.new.watcher) (λ f. refl)
+    (take c.in-Ok.n c.read.new.buf) t.0 c.answer_piece.new.waiting.items (take_small c.in-Ok.n c.read.new.buf (omega arith)) c.in-Ok.ensures.bytes.0 t.1
+    t.2.0 t.2.1 t.2.2
+
+pub loop-turn-preserved : goal.loop-turn-preserved
+loop-turn-preserved g c =
+    let i = c.loop-turn.invariant in
+    let b = c.in_ok-answer_piece.ensures in
+    let t = rw c.in-On.is at b.text in
+    let h = b.heeds.1 (λ e. fine_is_no_error _ _ e) in
+    record {
+      watching = watching_more (plays c.args.watcher.now) (plays c.loop-turn.watcher) (g.S.Source.state c.args.reader.now) (g.S.Source.state c.loop-turn.reader)
+          (g.K.Sink.state c.args.writer.now) (g.K.Sink.state c.loop-turn.writer) c.loop-turn.waiting.items (λ f. refl) i.watching
+          (g.S.Source.state c.read.new.self) (g.K.Sink.state c.answer_piece.new.writer) (plays c.answer_piece.new.watcher) (λ f. refl)
+          (take c.in-Ok.n c.read.new.buf) t.0 c.answer_piece.new.waiting.items (take_small c.in-Ok.n c.read.new.buf (omega arith)) c.in-Ok.ensures.bytes.0 t.1
+          t.2.0 t.2.1 t.2.2;
+      room = omega arith;
+      reads = reading_more _ (g.S.Source.state c.args.reader.now) (g.S.Source.state c.loop-turn.reader) (g.S.Source.state c.read.new.self) i.reads _ c.in-Ok.n c.in-Ok.ensures.reads c.in-Ok.ensures.faults c.in-Ok.ensures.ends c.if-n-eq0.false;
+      kept = (h.0 ∙ i.kept.0, h.1 ∙ i.kept.1);
+    }
+
+pub returns-clause-text : goal.returns-clause-text
+returns-clause-text g c =
+    ended_now (plays c.args.watcher.now) (plays c.loop-turn.watcher) (g.S.Source.state c.args.reader.now) (g.S.Source.state c.loop-turn.reader)
+    (g.K.Sink.state c.args.writer.now) (g.K.Sink.state c.loop-turn.writer) c.loop-turn.waiting.items (λ f. refl) c.loop-turn.invariant.watching
+
+pub returns-then-n-eq0-clause-fine : goal.returns-then-n-eq0-clause-fine
+returns-then-n-eq0-clause-fine g c = λ _.
+    let some : 0 < length c.read.new.buf = omega (arith, c.loop-turn.invariant.room) in
+    gave_all _ (g.S.Source.state c.args.reader.now) (g.S.Source.state c.loop-turn.reader) (g.S.Source.state c.read.new.self) c.loop-turn.invariant.reads (length c.read.new.buf) c.in-Ok.n some c.if-n-eq0.true c.in-Ok.ensures.ends (c.in-Ok.ensures.bytes.1 c.if-n-eq0.true some)
+
+pub returns-in_default-clause-heeds_reads : goal.returns-in_default-clause-heeds_reads
+returns-in_default-clause-heeds_reads g c = heeds_fault _ (g.S.Source.state c.args.reader.now) (g.S.Source.state c.loop-turn.reader) (g.S.Source.state c.read.new.self) c.loop-turn.invariant.reads (omega arith) c.in_default.ensures.reads c.in_default.ensures.faults
+
+pub returns-then-n-eq0-clause-heeds_reads : goal.returns-then-n-eq0-clause-heeds_reads
+returns-then-n-eq0-clause-heeds_reads g c =
+    heeds_other _ (g.S.Source.state c.args.reader.now) (g.S.Source.state c.loop-turn.reader) (g.S.Source.state c.read.new.self) c.loop-turn.invariant.reads (omega arith) c.in-Ok.ensures.reads c.answer_end.result c.answer_end.ensures.unread c.in-Ok.ensures.faults
+
+pub returns-in_err-answer_piece-clause-heeds_reads : goal.returns-in_err-answer_piece-clause-heeds_reads
+returns-in_err-answer_piece-clause-heeds_reads g c =
+    let p = err_from_is_err_and c.from_residual-in_err-answer_piece.result c.from_residual-in_err-answer_piece.ensures.1 in
+    heeds_other _ (g.S.Source.state c.args.reader.now) (g.S.Source.state c.loop-turn.reader) (g.S.Source.state c.read.new.self) c.loop-turn.invariant.reads (omega arith) c.in-Ok.ensures.reads c.from_residual-in_err-answer_piece.result (stops_unread c.from_residual-in_err-answer_piece.result c.in_err-answer_piece.field-0.0 _ _ _ _ _ (p.1 ∙ ap Err p.2) c.in_err-answer_piece.ensures.text.2) c.in-Ok.ensures.faults
+
+pub returns-in-End-clause-heeds_reads : goal.returns-in-End-clause-heeds_reads
+returns-in-End-clause-heeds_reads g c =
+    heeds_other _ (g.S.Source.state c.args.reader.now) (g.S.Source.state c.loop-turn.reader) (g.S.Source.state c.read.new.self) c.loop-turn.invariant.reads (omega arith) c.in-Ok.ensures.reads _ (λ e. fine_is_no_error _ _ e) c.in-Ok.ensures.faults
+
+pub returns-clause-heeds_reads : goal.returns-clause-heeds_reads
+returns-clause-heeds_reads g c = heeds_limit c.loop-turn.turn (g.S.Source.state c.args.reader.now) (g.S.Source.state c.loop-turn.reader) c.loop-turn.invariant.reads (omega arith)
+
+pub returns-then-n-eq0-clause-heeds_writes : goal.returns-then-n-eq0-clause-heeds_writes
+returns-then-n-eq0-clause-heeds_writes g c = heeds_later c.answer_end.result (g.K.Sink.state c.args.writer.now) (g.K.Sink.state c.loop-turn.writer) (g.K.Sink.state c.answer_end.new.writer) c.loop-turn.invariant.kept c.answer_end.ensures.heeds
+
+pub returns-in_err-answer_piece-clause-heeds_writes : goal.returns-in_err-answer_piece-clause-heeds_writes
+returns-in_err-answer_piece-clause-heeds_writes g c =
+    let p = err_from_is_err_and c.from_residual-in_err-answer_piece.result c.from_residual-in_err-answer_piece.ensures.1 in
+    rw (p.1, p.2) (heeds_later _ (g.K.Sink.state c.args.writer.now) (g.K.Sink.state c.loop-turn.writer) (g.K.Sink.state c.answer_piece.new.writer) c.loop-turn.invariant.kept (heeds_passed c.in_err-answer_piece.field-0.0 (g.K.Sink.state c.loop-turn.writer) (g.K.Sink.state c.answer_piece.new.writer) c.in_err-answer_piece.ensures.heeds))

@@ -1,0 +1,14 @@
+use Rattle.std.proofs.Common.{◌≡◌, length}
+use Rattle.squall_cli_device.specs.States.{NoWriteFails}
+use Rattle.squall_cli_lines.proofs.Bytes.{IsReading}
+use Rattle.squall_cli_watch.specs.Taken.{plays}
+use Rattle.squall_cli_watch.proofs.Watching.{Watching}
+use Rattle.squall_cli_watch.proofs.frames.answer_frames.Given as goal
+
+abbrev pub invariant-loop-turn : goal.invariant-loop-turn
+invariant-loop-turn g l = record {
+  watching : Watching (plays l.fn.watcher) (plays l.watcher) (g.S.Source.state l.fn.reader) (g.S.Source.state l.reader) (g.K.Sink.state l.fn.writer) (g.K.Sink.state l.writer) l.waiting.items;
+  room : length l.block ≡ 65536;
+  reads : IsReading l.turn (g.S.Source.state l.fn.reader) (g.S.Source.state l.reader);
+  kept : NoWriteFails (g.K.Sink.state l.fn.writer) (g.K.Sink.state l.writer);
+}

@@ -1,0 +1,30 @@
+use Rattle.std.proofs.Common.{[], refl, subst}
+use Rattle.std.proofs.KnownBytes.{Appends-nil, Consumes-nil}
+use Rattle.std.proofs.lemmas.Result.{err_from_is_err_and}
+use Rattle.squall_board.specs.Boards.{empty_board}
+use Rattle.squall_cli_device.specs.States.{ReadAndWrote}
+use Rattle.squall_cli_watch.specs.Watched.{AnswersFrames, IsWatchedBy, first_course}
+use Rattle.squall_cli_watch.proofs.Watching.{nothing_watched}
+use Rattle.squall_cli_watch.proofs.frames.watch.Goals as goal
+
+pub returns-in_err-first-clause-text : goal.returns-in_err-first-clause-text
+returns-in_err-first-clause-text g c =
+    let p = err_from_is_err_and c.from_residual.result c.from_residual.ensures.1 in
+    rw (p.1, p.2) (
+      [],
+      [],
+      Consumes-nil (g.S.Source.state c.args.reader.now).remaining,
+      Appends-nil (g.K.Sink.state c.args.writer.now).contents,
+      nothing_watched (AnswersFrames (first_course c.args.old.now c.args.new.now) empty_board []) (λ f. refl),
+    )
+
+pub returns-clause-text : goal.returns-clause-text
+returns-clause-text g c =
+    let r0 = g.S.Source.state c.args.reader.now in
+    let r1 = g.S.Source.state c.answer_frames.new.reader in
+    let w0 = g.K.Sink.state c.args.writer.now in
+    let w1 = g.K.Sink.state c.answer_frames.new.writer in
+    let result = c.answer_frames.result in
+    subst (λ first. ReadAndWrote r0 r1 w0 w1 (IsWatchedBy result (AnswersFrames first empty_board []))) c.in_ok-first.ensures.course
+    (subst (λ board. ReadAndWrote r0 r1 w0 w1 (IsWatchedBy result (AnswersFrames c.in_ok-first.first board []))) c.new.ensures.empty
+    (subst (λ shown. ReadAndWrote r0 r1 w0 w1 (IsWatchedBy result (AnswersFrames c.in_ok-first.first c.new.result shown))) c.new-2.ensures.bytes c.answer_frames.ensures.text))

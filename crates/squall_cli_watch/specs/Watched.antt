@@ -1,0 +1,108 @@
+-- What is written while a course is watched (this project's command line).
+use Rattle.std.specs.Prelude.{◌≡◌, ◌≤◌, ℕ, List, [], ◌∷◌, ◌++◌, length, true, false, Option, None, Some, Result, Ok, Err, codes}
+use Rattle.squall_plan.specs.declared.range.PlanRange.{PlanRange}
+use Rattle.squall_course.specs.Change.{Change}
+use Rattle.squall_board.specs.Boards.{BoardValue, empty_board, board_join, says}
+use Rattle.squall_board.specs.CourseRoute.{course_of_board}
+use Rattle.squall_status.specs.declared.text.Shown.TheVariants.{EachMove}
+use Rattle.squall_status.specs.Summary.{StatusValue, IsStatusOf}
+use Rattle.squall_status.specs.Texts.{status_text}
+use Rattle.squall_wire.specs.declared.fault.WireFault.{WireFault}
+use Rattle.squall_wire.specs.declared.fault.WireFault.TheVariants.{Kind, Short}
+use Rattle.squall_wire.specs.FaultText.{text_of_fault}
+use Rattle.squall_wire.specs.Messages.{Body, lists, rows}
+use Rattle.squall_wire.specs.BoardOf.{board_of_lists}
+use Rattle.squall_wire.specs.Heard.{heard_of}
+use Rattle.squall_cli_lines.specs.Script.{Script, silence, after, last_word, text_of, IsPrefix, block_size}
+use Rattle.squall_cli_lines.specs.declared.Ended.{Ended}
+use Rattle.squall_cli_lines.specs.declared.Ended.TheVariants.{Fine, Refused}
+use Rattle.squall_cli_lines.specs.declared.RunFault.{RunFault}
+use Rattle.squall_cli_lines.specs.declared.RunFault.TheVariants.{Read, Write, NoMemory}
+use Rattle.squall_cli_watch.specs.Changed.{changed_text}
+
+-- ---- the status
+
+-- how far the course has come, as the board says
+pub record IsStatusText (c : Change) (b : BoardValue) (text : List ℕ) : Type 0 where
+  pub status : StatusValue
+  pub is : IsStatusOf c (says b) status
+  pub shown : text ≡ status_text EachMove status
+
+-- the same of the newest course of the board after the first
+abbrev pub IsNewestText : Change → BoardValue → List ℕ → Type 0
+IsNewestText first b text = IsStatusText (course_of_board first b) b text
+
+-- ---- frames
+
+-- the line that refuses the input for a fault, as a file named `-` is refused
+abbrev pub refused_frame : WireFault → List ℕ
+refused_frame fault = codes "refused - " ++ (text_of_fault fault ++ codes "\n")
+
+-- what is answered after the frames: nothing, or that their input has a fault
+abbrev pub last_answer : Option WireFault → Script
+last_answer None = silence
+last_answer (Some fault) = last_word (refused_frame fault)
+
+-- The script answers what frames say that such a fault follows. Before them a board was known, and a status text was answered. A board
+-- is joined in, and its answer is the lines of the status that change. A digest is a frame of another kind, and ends the answers.
+abbrev pub AnswersFrames : Change → BoardValue → List ℕ → List Body → Option WireFault → Script → Type 0
+AnswersFrames first b shown [] fault s = s ≡ last_answer fault
+AnswersFrames first b shown (rows d ∷ bodies) fault s = s ≡ last_word (refused_frame Kind)
+AnswersFrames first b shown (lists d ∷ bodies) fault s = (text : List ℕ) × (rest : Script)
+    × IsNewestText first (board_join b (board_of_lists d)) text
+    × AnswersFrames first (board_join b (board_of_lists d)) text bodies fault rest
+    × (s ≡ after (changed_text shown text ∷ []) rest)
+
+-- ---- an input
+
+-- the fault of an input that ends: bytes that are too few for a frame are `Short`
+abbrev pub fault_at_end : Option WireFault → List ℕ → Option WireFault
+fault_at_end (Some fault) rest = Some fault
+fault_at_end None [] = None
+fault_at_end None (b ∷ rest) = Some Short
+
+-- the script answers an input of these bytes
+abbrev pub AnswersInput : (List Body → Option WireFault → Script → Type 0) → List ℕ → Script → Type 0
+AnswersInput plays read s = plays (heard_of read).bodies (fault_at_end (heard_of read).fault (heard_of read).rest) s
+
+-- the script answers an input that begins with these bytes, as far as they go
+abbrev pub AnswersSoFar : (List Body → Option WireFault → Script → Type 0) → List ℕ → Script → Type 0
+AnswersSoFar plays read s = plays (heard_of read).bodies (heard_of read).fault s
+
+-- what was written for the bytes that were read, by what was returned
+abbrev pub IsOutcome : Result Ended RunFault → (List Body → Option WireFault → Script → Type 0) → List ℕ → List ℕ → Type 0
+-- all answers, and the input is not refused
+IsOutcome (Ok Fine) plays read written = (s : Script) × AnswersInput plays read s × (written ≡ text_of s) × (s.refused ≡ false)
+-- all answers, and the input is refused
+IsOutcome (Ok Refused) plays read written = (s : Script) × AnswersInput plays read s × (written ≡ text_of s) × (s.refused ≡ true)
+-- the answers to all frames so far
+IsOutcome (Err Read) plays read written = (s : Script) × AnswersSoFar plays read s × (written ≡ text_of s)
+-- a prefix of the answers
+IsOutcome (Err Write) plays read written = (s : Script) × AnswersInput plays read s × IsPrefix written (text_of s)
+-- the answers to all frames of earlier reads
+IsOutcome (Err NoMemory) plays read written = (earlier : List ℕ) × (last : List ℕ) × (s : Script)
+    × (read ≡ earlier ++ last) × (length last ≤ block_size) × AnswersSoFar plays earlier s × (written ≡ text_of s)
+
+-- What was done before the last read. What was read is what earlier reads gave, and then the last block, which is empty if the last
+-- read failed or found the end. The frames of earlier reads were good, and what is written begins with the answers to them.
+pub record IsPrompt (plays : List Body → Option WireFault → Script → Type 0) (read written : List ℕ) : Type 0 where
+  pub earlier : List ℕ
+  pub last : List ℕ
+  pub split : read ≡ earlier ++ last
+  pub small : length last ≤ block_size
+  pub script : Script
+  pub played : AnswersSoFar plays earlier script
+  pub good : script.refused ≡ false
+  pub answered : IsPrefix (text_of script) written
+
+-- both
+abbrev pub IsWatchedBy : Result Ended RunFault → (List Body → Option WireFault → Script → Type 0) → List ℕ → List ℕ → Type 0
+IsWatchedBy result plays read written = IsOutcome result plays read written × IsPrompt plays read written
+
+-- the first course of two plans
+abbrev pub first_course : List PlanRange → List PlanRange → Change
+first_course old new = record { number = 1; old = old; new = new }
+
+-- `watch`: the course of two plans is watched, of which nothing is told yet and no status is answered
+abbrev pub Watches : Result Ended RunFault → List PlanRange → List PlanRange → List ℕ → List ℕ → Type 0
+Watches result old new read written = IsWatchedBy result (AnswersFrames (first_course old new) empty_board []) read written

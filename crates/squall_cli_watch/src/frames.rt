@@ -1,0 +1,101 @@
+//! Watches a course.
+
+ghost use Rattle.std.specs.Prelude.{◌≡◌, ℕ, IfOk, Ok, length};
+ghost use Rattle.squall_cli_device.specs.States.{GaveAll, ReadAndWrote};
+ghost use Rattle.squall_cli_lines.specs.Heeding.{HeedsReads, HeedsWrites};
+ghost use Rattle.squall_cli_watch.specs.Taken.{plays};
+ghost use Rattle.squall_cli_watch.specs.Watched.{IsWatchedBy, Watches};
+
+use crate::piece::{answer_end, answer_piece};
+use crate::watcher::Watcher;
+use squall_board::Board;
+use squall_cli_device::{Sink, Source};
+use squall_cli_lines::{BLOCK_SIZE, Ended, Flow, MOST_READS, RunFault};
+use squall_course::Course;
+use squall_plan::Plan;
+use std::alloc::{AllocError, Global};
+
+/// Room for a block of `size` bytes.
+fn block_room(alloc: Global, size: usize) -> Result<Vec<u8>, AllocError>
+    ensures { IfOk result (λ room. length room.items ≡ size) }
+{
+    vec![in alloc; 0u8; size]
+}
+
+/// Answers the frames that `reader` gives.
+fn answer_frames<S: Source, K: Sink>(
+    alloc: Global,
+    watcher: &mut Watcher,
+    reader: &mut S,
+    writer: &mut K,
+) -> Result<Ended, RunFault>
+    ensures text { ReadAndWrote (S.state reader.old) (S.state reader.new) (K.state writer.old) (K.state writer.new)
+        (IsWatchedBy result (plays watcher.old)) }
+    ensures fine { result ≡ Ok Ended.Fine → GaveAll (S.state reader.old) (S.state reader.new) }
+    ensures heeds_reads { HeedsReads result (S.state reader.old) (S.state reader.new) }
+    ensures heeds_writes { HeedsWrites result (K.state writer.old) (K.state writer.new) }
+{
+    let mut room = block_room(alloc, BLOCK_SIZE)?;
+    let block = room.as_mut_slice();
+    let mut waiting = Vec::new(alloc);
+    for turn in 0..MOST_READS {
+        let Ok(n) = reader.read(block) else {
+            return Err(RunFault::Read);
+        };
+        if n == 0 {
+            return answer_end(&waiting, writer);
+        }
+        match answer_piece(alloc, watcher, &mut waiting, &block[..n], writer)? {
+            Flow::On => {}
+            Flow::End => return Ok(Ended::Refused),
+        }
+    }
+    Err(RunFault::Read)
+}
+
+/// Watches how far the newest course comes, from that of the two plans on. It reads the frames of
+/// boards from `reader` to the end of the input or to a fault, and joins the boards. After each
+/// frame it answers with the lines of the status that differ from the line at the same place of the
+/// status after the frame before. Before the first frame there is no status, so that the first frame
+/// is answered with all lines. The answers to the frames that end in one read are written before
+/// the next read.
+///
+/// A frame that is broken is answered with `refused - FAULT`, as a file named `-` is. A digest is a
+/// frame of another kind, `Kind`. Bytes at the end of the input that are too few for a frame are
+/// `Short`.
+///
+/// - `Fine`: each frame is answered.
+/// - `Refused`: the input is refused, as the last line says. Each frame before that is answered.
+/// - `Read`: a read failed, or [`MOST_READS`] reads came to no end. Each frame so far is answered.
+/// - `Write`: a write failed, or took no byte. The writer has a prefix of the answers.
+/// - `NoMemory`: an allocation failed. Each frame of the reads before the last is answered.
+///
+/// A read or a write that failed is always answered so. What was read stays read.
+///
+/// [`MOST_READS`]: squall_cli_lines::MOST_READS
+pub fn watch<S: Source, K: Sink>(
+    alloc: Global,
+    old: &Plan,
+    new: &Plan,
+    reader: &mut S,
+    writer: &mut K,
+) -> Result<Ended, RunFault>
+    // What is written is the answers to the frames that were read, and those of earlier reads came before the last read.
+    ensures text { ReadAndWrote (S.state reader.old) (S.state reader.new) (K.state writer.old) (K.state writer.new)
+        (Watches result old.now new.now) }
+
+    // `Fine` comes only if a read found the end, and then nothing is left.
+    ensures fine { result ≡ Ok Ended.Fine → GaveAll (S.state reader.old) (S.state reader.new) }
+
+    // A device is the cause of its fault, no failed read or write is passed over, and reads are limited.
+    ensures heeds_reads { HeedsReads result (S.state reader.old) (S.state reader.new) }
+    ensures heeds_writes { HeedsWrites result (K.state writer.old) (K.state writer.new) }
+{
+    let first = Course::first(alloc, old, new)?;
+    let mut watcher = Watcher {
+        first,
+        board: Board::new(alloc),
+        shown: String::new(alloc),
+    };
+    answer_frames(alloc, &mut watcher, reader, writer)
+}

@@ -1,0 +1,68 @@
+//! Answers one piece of the input, and its end.
+
+ghost use Rattle.std.specs.Prelude.{◌≡◌, ◌≢◌, ◌++◌, ℕ, List, Err, IfOk};
+ghost use Rattle.std.specs.List.{concat};
+ghost use Rattle.squall_cli_device.specs.States.{TookBytes};
+ghost use Rattle.squall_cli_lines.specs.Heeding.{HeedsWrites};
+ghost use Rattle.squall_cli_watch.specs.Taken.{plays, TakesPiece, AnswersPiece, AnswersEnd};
+
+use crate::hearing::hear;
+use crate::watcher::Watcher;
+use squall_cli_device::{DeviceFault, Sink};
+use squall_cli_lines::{Ended, Flow, RunFault, send};
+use std::alloc::{AllocError, Global};
+
+/// Adds the answers to the frames that end in the piece. It comes after bytes that wait for the rest
+/// of their frame.
+fn take_piece(
+    alloc: Global,
+    watcher: &mut Watcher,
+    waiting: &mut Vec<u8>,
+    piece: &[u8],
+    out: &mut Vec<u8>,
+) -> Result<Flow, AllocError>
+    ensures { IfOk result (λ flow. (texts : List (List ℕ)) × (out.new.items ≡ out.old.items ++ concat texts)
+        × TakesPiece flow texts (plays watcher.old) (plays watcher.new) (waiting.old.items ++ piece.now) waiting.new.items) }
+{
+    waiting.extend_from_slice(piece)?;
+    let (heard, rest) = hear(alloc, waiting)?;
+    let left = Vec::from_slice(alloc, rest)?;
+    let flow = watcher.take_messages(alloc, &heard.messages, heard.fault, out)?;
+    *waiting = left;
+    Ok(flow)
+}
+
+/// Writes the answers to the frames that end in the piece.
+pub(crate) fn answer_piece<K: Sink>(
+    alloc: Global,
+    watcher: &mut Watcher,
+    waiting: &mut Vec<u8>,
+    piece: &[u8],
+    writer: &mut K,
+) -> Result<Flow, RunFault>
+    ensures text { (sent : List ℕ) × TookBytes (K.state writer.old) (K.state writer.new) sent
+        × AnswersPiece result (plays watcher.old) (plays watcher.new) (waiting.old.items ++ piece.now) waiting.new.items sent }
+    ensures heeds { HeedsWrites result (K.state writer.old) (K.state writer.new) }
+{
+    let mut out = Vec::new(alloc);
+    let flow = take_piece(alloc, watcher, waiting, piece, &mut out)?;
+    match send(writer, &out) {
+        Ok(()) => Ok(flow),
+        Err(DeviceFault) => Err(RunFault::Write),
+    }
+}
+
+/// Answers the end of the input: bytes that wait are too few for a frame.
+pub(crate) fn answer_end<K: Sink>(waiting: &[u8], writer: &mut K) -> Result<Ended, RunFault>
+    ensures text { (sent : List ℕ) × TookBytes (K.state writer.old) (K.state writer.new) sent × AnswersEnd result waiting.now sent }
+    ensures unread { result ≢ Err RunFault.Read }
+    ensures heeds { HeedsWrites result (K.state writer.old) (K.state writer.new) }
+{
+    if waiting.is_empty() {
+        return Ok(Ended::Fine);
+    }
+    match send(writer, b"refused - Short\n") {
+        Ok(()) => Ok(Ended::Refused),
+        Err(DeviceFault) => Err(RunFault::Write),
+    }
+}

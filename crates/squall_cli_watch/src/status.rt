@@ -1,0 +1,40 @@
+//! The lines of the status of the newest course.
+
+ghost use Rattle.std.specs.Prelude.{IfOk, string_bytes};
+ghost use Rattle.squall_board.specs.CourseRoute.{course_of_board};
+ghost use Rattle.squall_cli_watch.specs.Watched.{IsStatusText};
+
+use squall_board::Board;
+use squall_course::Course;
+use squall_status::{CourseStatus, Shown, add_status};
+use std::alloc::{AllocError, Global};
+
+/// How far the course has come, as the board says.
+fn course_text(alloc: Global, course: &Course, board: &Board) -> Result<String, AllocError>
+    ensures { IfOk result (λ text. IsStatusText course.now board.now (string_bytes text)) }
+{
+    let status = CourseStatus::of(alloc, course, board)?;
+    let mut text = String::new(alloc);
+    add_status(&status, Shown::EachMove, &mut text)?;
+    Ok(text)
+}
+
+/// How far the newest course has come of which the board tells, or else the first.
+pub(crate) fn newest_text(
+    alloc: Global,
+    first: &Course,
+    board: &Board,
+) -> Result<String, AllocError>
+    ensures { IfOk result (λ text. IsStatusText (course_of_board first.now board.now) board.now (string_bytes text)) }
+{
+    match board.newest(first) {
+        Some((number, issue)) => {
+            let Ok(course) = Course::new(alloc, number, issue.old(), issue.new_plan()) else {
+                // The number is above that of the first course, so that only memory is missing.
+                return Err(AllocError);
+            };
+            course_text(alloc, &course, board)
+        }
+        None => course_text(alloc, first, board),
+    }
+}

@@ -1,0 +1,102 @@
+//! What is known of a course that is watched, and what is written of the next frames.
+
+ghost use Rattle.std.specs.Prelude.{◌≡◌, ◌++◌, ℕ, List, IfOk, OnOk, map, string_bytes};
+ghost use Rattle.std.specs.List.{concat};
+ghost use Rattle.squall_board.specs.Boards.{board_join};
+ghost use Rattle.squall_wire.specs.Messages.{body_of};
+ghost use Rattle.squall_cli_watch.specs.Changed.{changed_text};
+ghost use Rattle.squall_cli_watch.specs.Watched.{IsNewestText, refused_frame};
+ghost use Rattle.squall_cli_watch.specs.Taken.{plays, TakesFrame, TakesFrames};
+
+use crate::changed::add_changed;
+use crate::status::newest_text;
+use squall_board::{Board, Delta};
+use squall_cli_lines::Flow;
+use squall_course::Course;
+use squall_wire::laws::lists_make_the_board;
+use squall_wire::{Message, WireFault};
+use std::alloc::{AllocError, Global};
+
+/// What is known of a course that is watched.
+#[derive(Drop)]
+pub(crate) struct Watcher {
+    /// The course of the two plans.
+    pub(crate) first: Course,
+    /// The join of the boards so far.
+    pub(crate) board: Board,
+    /// The status that was answered last. Empty if none was.
+    pub(crate) shown: String,
+}
+
+/// Adds the line that refuses the input for a fault.
+fn add_refusal(alloc: Global, fault: WireFault, out: &mut Vec<u8>) -> Result<(), AllocError>
+    ensures { OnOk result (out.new.items ≡ out.old.items ++ refused_frame fault) }
+{
+    let line = format!(in alloc; "refused - {fault}\n")?;
+    out.extend_from_slice(line.as_bytes())
+}
+
+impl Watcher {
+    /// Merges a board, and adds the lines of the status that change.
+    fn merge(&mut self, alloc: Global, delta: &Delta, out: &mut Vec<u8>) -> Result<(), AllocError>
+        ensures first { OnOk result (self.new.first ≡ self.old.first) }
+        ensures board { OnOk result (self.new.board ≡ board_join self.old.board delta.now) }
+        ensures shown { OnOk result (IsNewestText self.old.first (board_join self.old.board delta.now) (string_bytes self.new.shown)) }
+        ensures out { OnOk result (out.new.items ≡ out.old.items ++ changed_text (string_bytes self.old.shown) (string_bytes self.new.shown)) }
+    {
+        self.board.merge(delta)?;
+        let text = newest_text(alloc, &self.first, &self.board)?;
+        add_changed(self.shown.as_bytes(), text.as_bytes(), out)?;
+        self.shown = text;
+        Ok(())
+    }
+
+    /// Answers a message. A digest is no board, and is refused.
+    fn take_message(
+        &mut self,
+        alloc: Global,
+        message: &Message,
+        out: &mut Vec<u8>,
+    ) -> Result<Flow, AllocError>
+        ensures { IfOk result (λ flow. (text : List ℕ) × (out.new.items ≡ out.old.items ++ text)
+            × TakesFrame flow text (plays self.old) (plays self.new) (body_of message.now)) }
+    {
+        match message {
+            Message::Delta(delta) => {
+                lists_make_the_board(delta);
+                self.merge(alloc, delta, out)?;
+                Ok(Flow::On)
+            }
+            Message::Digest(_) => {
+                add_refusal(alloc, WireFault::Kind, out)?;
+                Ok(Flow::End)
+            }
+        }
+    }
+
+    /// Answers messages that such a fault follows, and then the fault.
+    pub(crate) fn take_messages(
+        &mut self,
+        alloc: Global,
+        messages: &[Message],
+        fault: Option<WireFault>,
+        out: &mut Vec<u8>,
+    ) -> Result<Flow, AllocError>
+        ensures { IfOk result (λ flow. (texts : List (List ℕ)) × (out.new.items ≡ out.old.items ++ concat texts)
+            × TakesFrames flow texts (plays self.old) (plays self.new) (map body_of messages.now) fault) }
+    {
+        for message in messages {
+            match self.take_message(alloc, message, out)? {
+                Flow::On => {}
+                Flow::End => return Ok(Flow::End),
+            }
+        }
+        match fault {
+            Some(fault) => {
+                add_refusal(alloc, fault, out)?;
+                Ok(Flow::End)
+            }
+            None => Ok(Flow::On),
+        }
+    }
+}
