@@ -5,10 +5,11 @@ use Rattle.std.specs.Io.KnownBytes.{Appends, Consumes, IsAtEnd}
 use Rattle.squall_cli_lines.specs.declared.Ended.{Ended}
 use Rattle.squall_cli_lines.specs.declared.RunFault.{RunFault}
 use Rattle.squall_cli_command.specs.declared.stream.Stream.{Stream}
-use Rattle.squall_cli_command.specs.declared.stream.Stream.TheVariants.{Keys}
+use Rattle.squall_cli_command.specs.declared.stream.Stream.TheVariants.{Keys, Frames}
 use Rattle.squall_cli_command.specs.declared.stream.Follow.{Follow}
 use Rattle.squall_cli_boards.specs.Files.{FileValue}
 use Rattle.squall_cli_stream.specs.Written.{AnswersKeys}
+use Rattle.squall_cli_stream.specs.Watching.{WatchesFiles}
 use Rattle.squall_cli_ask.specs.Files.{is_input}
 use Rattle.squall_cli_ask.specs.Reads.{Bytes}
 use Rattle.squall_cli_ask.specs.Told.{status_of}
@@ -22,6 +23,7 @@ files_followed f = map string_bytes f.files.items
 -- what was written for the bytes that were read of standard input after these files, by what was returned
 abbrev pub IsStreamed : Stream → Result Ended RunFault → List FileValue → List ℕ → List ℕ → Type 0
 IsStreamed Keys outcome files read written = AnswersKeys outcome files read written
+IsStreamed Frames outcome files read written = WatchesFiles outcome files read written
 
 -- the files of these names were read, and then what was read of standard input is answered as far as the outcome with that status
 -- says; with status 0 all of it was read

@@ -5,6 +5,7 @@ pub use Rattle.squall_cli_boards.specs.Answers
 pub use Rattle.squall_cli_boards.specs.Questions
 pub use Rattle.squall_cli_boards.specs.ReportWords
 pub use Rattle.squall_cli_stream.specs.Written
+pub use Rattle.squall_cli_stream.specs.Watching
 pub mod Files
 pub mod Reads
 pub mod Told

@@ -17,7 +17,7 @@ use squall_cli_boards::NamedFile;
 use squall_cli_command::{Follow, Stream};
 use squall_cli_device::{Sink, Source};
 use squall_cli_lines::{Ended, RunFault};
-use squall_cli_stream::answer_keys;
+use squall_cli_stream::{answer_keys, watch_files};
 use std::alloc::Global;
 
 /// Whether one of the names is that of standard input.
@@ -59,6 +59,7 @@ fn answer_input<S: Source, O: Sink>(
 {
     match stream {
         Stream::Keys => answer_keys(alloc, files, input, out),
+        Stream::Frames => watch_files(alloc, files, input, out),
     }
 }
 

@@ -14,7 +14,7 @@ use Rattle.squall_cli_command.specs.declared.task.Task.TheVariants.{Check, Cours
 use Rattle.squall_cli_command.specs.declared.form.Form.{Form}
 use Rattle.squall_cli_command.specs.declared.inquiry.Inquiry.{Inquiry}
 use Rattle.squall_cli_command.specs.Rules.{file_rule, flag_rule}
-use Rattle.squall_cli_command.specs.Asking.{report_shape, board_shape, status_shape, picture_shape, route_shape, legs_shape, merge_shape, beyond_shape, digest_shape, repair_shape}
+use Rattle.squall_cli_command.specs.Asking.{report_shape, board_shape, status_shape, picture_shape, watch_shape, route_shape, legs_shape, merge_shape, beyond_shape, digest_shape, repair_shape}
 use Rattle.squall_cli_command.specs.Asking.{form_in, inquiry_in, word_arguments, file_arguments, words_in}
 use Rattle.squall_cli_command.specs.declared.stream.Stream.{Stream}
 use Rattle.squall_cli_command.specs.Streams.{stream_in, stream_files}
@@ -51,9 +51,13 @@ reports_app = with_subcommand (with_subcommand runs_app report_shape) board_shap
 abbrev pub courses_app : App
 courses_app = with_subcommand (with_subcommand reports_app status_shape) picture_shape
 
+-- and that of the same as frames come: `watch OLD NEW`
+abbrev pub watch_app : App
+watch_app = with_subcommand courses_app watch_shape
+
 -- and those of its routes: `route OLD NEW [KEY]..` and `legs OLD NEW [BOUND..]`, both with `--board FILE`
 abbrev pub routes_app : App
-routes_app = with_subcommand (with_subcommand courses_app route_shape) legs_shape
+routes_app = with_subcommand (with_subcommand watch_app route_shape) legs_shape
 
 -- and those of several boards: `merge FILE..` and `beyond A B`
 abbrev pub boards_app : App

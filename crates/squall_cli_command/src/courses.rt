@@ -3,7 +3,7 @@
 ghost use Rattle.std.specs.Prelude.{◌≡◌, IfOk, false};
 ghost use Rattle.clap.specs.Words.{app_of, shape_of, rule_of};
 ghost use Rattle.clap.specs.declared.builder.command.Command.TheViews.{out-Command as fields_of};
-ghost use Rattle.squall_cli_command.specs.Asking.{of_plans, status_shape, picture_shape, route_shape, legs_shape};
+ghost use Rattle.squall_cli_command.specs.Asking.{of_plans, status_shape, picture_shape, watch_shape, route_shape, legs_shape};
 ghost use Rattle.squall_cli_command.specs.Rules.{option_rule};
 
 use crate::boards::{files, flag, json};
@@ -26,6 +26,15 @@ The loaded share of a band is filled.
 
 Example:
   squall picture old.json new.json board.bin >move.svg";
+
+const WATCH: &str =
+    "OLD and NEW are the plans of the first reconfiguration. Frames of boards are read from standard
+input as they come, so that no file can be -. Each frame is answered before the next read: with the
+lines of squall status that it changes, and the first frame with all of them. A frame that is broken
+ends the answers.
+
+Example:
+  tail -c +1 -f board.bin | squall watch old.json new.json";
 
 const ROUTE: &str =
     "OLD and NEW are the plans of the first reconfiguration. A key is written ROOT:SECOND, as 2:0. The
@@ -95,6 +104,18 @@ pub(crate) fn picture_command<'a>(alloc: Global) -> Result<Command<'a>, AllocErr
         .about("Draws how far the newest reconfiguration is, as an SVG image")
         .after_help(PICTURE)
         .arg(files(alloc, "FILE", "The files of frames, or -"))
+}
+
+/// `watch OLD NEW`
+pub(crate) fn watch_command<'a>(alloc: Global) -> Result<Command<'a>, AllocError>
+    ensures shape { IfOk result (λ c. shape_of c ≡ watch_shape) }
+    ensures globals { IfOk result (λ c. (fields_of c).has_globals ≡ false) }
+{
+    Ok(
+        of_plans(alloc, "watch")?
+            .about("Shows how far the newest reconfiguration is, as frames come on standard input")
+            .after_help(WATCH),
+    )
 }
 
 /// `route OLD NEW [KEY].. [--board FILE]..`

@@ -3,7 +3,7 @@
 ghost use Rattle.std.specs.Prelude.{◌≢◌, ◌⊎◌, ◌∷◌, [], List, codes};
 ghost use Rattle.clap.specs.Words.{Text};
 ghost use Rattle.squall_cli_command.specs.declared.inquiry.Inquiry.TheVariants.{Report, Board, Status, Waiting, Routes, Legs, Beyond, Cover};
-ghost use Rattle.squall_cli_command.specs.declared.stream.Stream.TheVariants.{Keys};
+ghost use Rattle.squall_cli_command.specs.declared.stream.Stream.TheVariants.{Keys, Frames};
 ghost use Rattle.squall_cli_command.specs.declared.form.Form.TheVariants.{Lines, Json};
 ghost use Rattle.squall_cli_command.specs.Line.{Asks, AsksForHelp, IsFaulty, faults_in, check, course, run, ask, stream};
 
@@ -45,6 +45,11 @@ pub fn keys_of_standard_input()
     ensures none { (name : Text) → Asks (name ∷ codes "route" ∷ codes "o" ∷ codes "n" ∷ codes "--board" ∷ codes "b" ∷ [])
         (stream Keys (codes "o" ∷ codes "n" ∷ codes "b" ∷ [])) }
     ensures dash { (name : Text) → Asks (name ∷ codes "route" ∷ codes "o" ∷ codes "n" ∷ codes "-" ∷ []) (stream Keys (codes "o" ∷ codes "n" ∷ [])) }
+{}
+
+/// `watch` reads frames from standard input. Its files are the two plans.
+pub fn frames_of_standard_input()
+    ensures { (name : Text) → Asks (name ∷ codes "watch" ∷ codes "o" ∷ codes "n" ∷ []) (stream Frames (codes "o" ∷ codes "n" ∷ [])) }
 {}
 
 /// `--json` is no file either: it asks for the same as JSON.

@@ -3,12 +3,12 @@
 ghost use Rattle.std.specs.Prelude.{◌≡◌, IfOk, false};
 ghost use Rattle.clap.specs.Words.{app_of, shape_of, rule_of};
 ghost use Rattle.clap.specs.declared.builder.command.Command.TheViews.{out-Command as fields_of};
-ghost use Rattle.squall_cli_command.specs.Line.{squall_app, boards_app, routes_app, courses_app, reports_app, runs_app, plans_app, program_app};
+ghost use Rattle.squall_cli_command.specs.Line.{squall_app, boards_app, routes_app, watch_app, courses_app, reports_app, runs_app, plans_app, program_app};
 ghost use Rattle.squall_cli_command.specs.Line.{check_shape, course_shape, run_shape, race_shape};
 ghost use Rattle.squall_cli_command.specs.Rules.{file_rule};
 
 use crate::boards::{board_command, json, merge_command, report_command};
-use crate::courses::{legs_command, picture_command, route_command, status_command};
+use crate::courses::{legs_command, picture_command, route_command, status_command, watch_command};
 use crate::exchange::{beyond_command, digest_command, repair_command};
 use clap::{Arg, ArgAction, Command};
 use std::alloc::{AllocError, Global};
@@ -178,11 +178,18 @@ fn with_courses<'a>(alloc: Global) -> Result<Command<'a>, AllocError>
         .subcommand(picture_command(alloc)?)
 }
 
+/// And with that of the same as frames come.
+fn with_watch<'a>(alloc: Global) -> Result<Command<'a>, AllocError>
+    ensures { IfOk result (λ c. app_of c ≡ watch_app) }
+{
+    with_courses(alloc)?.subcommand(watch_command(alloc)?)
+}
+
 /// And with those of its routes.
 fn with_routes<'a>(alloc: Global) -> Result<Command<'a>, AllocError>
     ensures { IfOk result (λ c. app_of c ≡ routes_app) }
 {
-    with_courses(alloc)?
+    with_watch(alloc)?
         .subcommand(route_command(alloc)?)?
         .subcommand(legs_command(alloc)?)
 }

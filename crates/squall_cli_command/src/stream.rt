@@ -16,6 +16,9 @@ pub enum Stream {
     /// The routes of the keys that its lines write, by the newest course. The files are the old plan,
     /// the new plan and board files.
     Keys,
+    /// How far the newest course comes, as the frames of boards say. The files are the old plan and
+    /// the new plan.
+    Frames,
 }
 
 /// A stream with the files that are read before it.
@@ -56,6 +59,9 @@ pub(crate) fn stream_of(name: &str, matches: &ArgMatches) -> Option<Stream>
     if name == "route" && reads_keys(matches) {
         return Some(Stream::Keys);
     }
+    if name == "watch" {
+        return Some(Stream::Frames);
+    }
     None
 }
 
@@ -65,6 +71,7 @@ fn stream_files(stream: Stream) -> &'static [&'static str]
 {
     match stream {
         Stream::Keys => &["OLD", "NEW", "board"],
+        Stream::Frames => &["OLD", "NEW"],
     }
 }
 

@@ -1,3 +1,4 @@
 pub mod ByLine
 pub mod Refused
 pub mod Streamed
+pub mod Watched

@@ -13,8 +13,10 @@ pub use Rattle.squall_cli_words.specs.RouteText
 pub use Rattle.squall_cli_boards.specs.Files
 pub use Rattle.squall_cli_boards.specs.Answers
 pub use Rattle.squall_cli_boards.specs.Courses
+pub use Rattle.squall_cli_watch.specs.Watched
 pub mod Known
 pub mod Found
 pub mod Keys
 pub mod Answered
 pub mod Written
+pub mod Watching

@@ -17,7 +17,7 @@ use squall_cli_lines::{Ended, RunFault, run, send};
 use std::alloc::Global;
 
 /// Writes the answer that refuses a file.
-fn refuse<K: Sink>(answer: &Answer, writer: &mut K) -> Result<Ended, RunFault>
+pub(crate) fn refuse<K: Sink>(answer: &Answer, writer: &mut K) -> Result<Ended, RunFault>
     ensures text { (written : List ℕ) × TookBytes (K.state writer.old) (K.state writer.new) written × IsRefusal result answer.now.text written }
     ensures unread { result ≢ Err RunFault.Read }
     ensures refused { result ≢ Ok Ended.Fine }
