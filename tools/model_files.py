@@ -157,6 +157,15 @@ def status(draw):
     return drawn.trial("status", drawn.optional(words, *[["--waiting"]] * draw.randrange(2), *drawn.form()))
 
 
+def watch(draw):
+    """How far the newest change is as frames come."""
+    drawn = Drawn(draw)
+    words = drawn.plans()
+    frames = [it for _ in range(draw.randrange(5)) for it in drawn.frames(drawn.board())]
+    drawn.text = drawn.spoil(b"".join(frames))
+    return drawn.trial("watch", words)
+
+
 def route(draw):
     """Routes of keys, few of which are none."""
     drawn = Drawn(draw)

@@ -4,6 +4,7 @@ from plain_frames import MOST, TOP, Fault, decoded, digest_frame
 from plain_json import text_of
 
 NO_REPORT = "error: the words are no report: see squall help report"
+INPUT_TAKEN = "error: standard input is read as it comes, so that no file can be -"
 
 
 class Files:
@@ -113,6 +114,23 @@ def status(words, files, is_waiting):
     return board.status(change, is_waiting)
 
 
+def watch(words, files):
+    """The lines of the status that each frame of standard input changes."""
+    if "-" in words:
+        raise Refused(INPUT_TAKEN, 2)
+    first = Change(1, files.plan("old", words[0]), files.plan("new", words[1]))
+    board, before, shown = Board(), [], []
+    try:
+        for message in files.messages("-", "delta", files.read("-")):
+            board.join(message.openings, message.issues, message.cells)
+            now = list(board.status(board.newest(first), False))
+            shown += [line for at, line in enumerate(now) if before[at:at + 1] != [line]]
+            before = now
+    except Refused as why:
+        raise Refused("\n".join([*shown, why.line])) from None
+    return shown
+
+
 def beyond(words, files):
     one, other = (files.board(it) for it in words)
     return one.beyond(other).pieces()
@@ -150,6 +168,7 @@ def found(command, words, files, boards, flags):
         "report": lambda: report(words, files),
         "board": lambda: files.board(*words).lines(),
         "status": lambda: status(words, files, "--waiting" in flags),
+        "watch": lambda: watch(words, files),
         "route": lambda: route(words, files, boards),
         "legs": lambda: legs(words, files, boards),
         "merge": lambda: files.board(*words).pieces(),

@@ -168,7 +168,7 @@ const INPUT_TAKEN: &[u8] = b"error: standard input is read as it comes, so that 
 type Followed = (Stream, &'static [&'static str], &'static [u8]);
 
 /// Streams, and what they bring about.
-static STREAMS: [(Followed, Wanted); 5] = [
+static STREAMS: [(Followed, Wanted); 9] = [
     (
         (
             Stream::Keys,
@@ -192,6 +192,26 @@ static STREAMS: [(Followed, Wanted); 5] = [
     (
         (Stream::Keys, &["plan", "none"], b"2:0\n"),
         (3, b"", b"squall: cannot open none\n"),
+    ),
+    (
+        (Stream::Frames, &["plan", "plan"], OPENED),
+        (
+            0,
+            b"course 1 moves 0 sub-plans 0 open none loaded 0 of 0 keys 1000/1000\n",
+            b"",
+        ),
+    ),
+    (
+        (Stream::Frames, &["plan", "plan"], b"S"),
+        (1, b"refused - Short\n", b""),
+    ),
+    (
+        (Stream::Frames, &["plan", "opened"], OPENED),
+        (1, b"refused new Json\n", b""),
+    ),
+    (
+        (Stream::Frames, &["-", "plan"], OPENED),
+        (2, b"", INPUT_TAKEN),
     ),
 ];
 

@@ -13,3 +13,5 @@ mod event_text;
 mod language;
 #[cfg(test)]
 mod lines;
+#[cfg(test)]
+mod watch;
