@@ -1,6 +1,6 @@
 """Debian's packages of the release, from what `make install` copies.
 
-They are squall, libsquall1, libsquall-dev, and if the release has bindings/python also python3-squall.
+They are squall, libsquall2, libsquall-dev, and if the release has bindings/python also python3-squall.
 """
 import gzip
 import hashlib

@@ -171,7 +171,7 @@ static void a_course_from_a_frame(void) {
     squall_move moves[3];
     uint8_t frame[1024];
     CHECK(squall_router_issued(mover, 2, bytes_of(NEW), strlen(NEW)) == SQUALL_OK);
-    CHECK(squall_router_gather_board(mover) == SQUALL_OK);
+    CHECK(squall_router_gather_board(mover, SQUALL_NO_LIMIT) == SQUALL_OK);
     size_t len = squall_router_frame(mover, frame, sizeof frame);
     CHECK(squall_router_hear(proxy, frame, len) == SQUALL_OK);
     squall_course_newest(proxy, course);

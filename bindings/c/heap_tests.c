@@ -77,8 +77,16 @@ static uint32_t hear(squall_router *router) {
     return squall_router_hear(router, LOAD_FRAME, sizeof LOAD_FRAME);
 }
 
+static uint32_t gather_board(squall_router *router) {
+    return squall_router_gather_board(router, SQUALL_NO_LIMIT);
+}
+
+static uint32_t gather_digest(squall_router *router) {
+    return squall_router_gather_digest(router, SQUALL_NO_LIMIT);
+}
+
 static uint32_t gather_repair(squall_router *router) {
-    return squall_router_gather_repair(router);
+    return squall_router_gather_repair(router, SQUALL_NO_LIMIT);
 }
 
 /* A router that was told something, has heard a digest and has a frame that waits. */
@@ -87,7 +95,7 @@ static squall_router *busy_router(void) {
     CHECK(squall_router_status(router) == SQUALL_OK);
     CHECK(squall_router_loaded(router, 1, 0, 3, 0, 7) == SQUALL_OK);
     CHECK(squall_router_feed(router, EMPTY_DIGEST, sizeof EMPTY_DIGEST) == SQUALL_OK);
-    CHECK(squall_router_gather_board(router) == SQUALL_OK);
+    CHECK(squall_router_gather_board(router, SQUALL_NO_LIMIT) == SQUALL_OK);
     return router;
 }
 
@@ -105,9 +113,9 @@ static struct seen seen_of(squall_router *router) {
     struct seen seen;
     memset(&seen, 0, sizeof seen);
     seen.waits = squall_router_frame(router, seen.board, sizeof seen.board);
-    CHECK(squall_router_gather_board(router) == SQUALL_OK);
+    CHECK(squall_router_gather_board(router, SQUALL_NO_LIMIT) == SQUALL_OK);
     seen.len = squall_router_frame(router, seen.board, sizeof seen.board);
-    CHECK(squall_router_gather_board(router) == SQUALL_OK);
+    CHECK(squall_router_gather_board(router, SQUALL_NO_LIMIT) == SQUALL_OK);
     seen.count = squall_router_legs(router, 0, SQUALL_TOP, seen.legs, 8);
     seen.number = squall_router_number(router);
     return seen;
@@ -213,11 +221,11 @@ static void pieces(void) {
 }
 
 static void boards(void) {
-    refuse_each(squall_router_gather_board);
+    refuse_each(gather_board);
 }
 
 static void digests(void) {
-    refuse_each(squall_router_gather_digest);
+    refuse_each(gather_digest);
 }
 
 static void repairs(void) {

@@ -91,7 +91,7 @@ static squall_leader *idle_leader(void) {
     CHECK(squall_leader_status(leader) == SQUALL_OK);
     CHECK(hear(leader) == SQUALL_OK);
     CHECK(squall_leader_hear(leader, EMPTY_DIGEST, sizeof EMPTY_DIGEST) == SQUALL_OK);
-    CHECK(squall_leader_gather_board(leader) == SQUALL_OK);
+    CHECK(squall_leader_gather_board(leader, SQUALL_NO_LIMIT) == SQUALL_OK);
     return leader;
 }
 
@@ -99,7 +99,7 @@ static squall_leader *idle_leader(void) {
 static squall_leader *busy_leader(void) {
     squall_leader *leader = idle_leader();
     CHECK(begin(leader) == SQUALL_OK);
-    CHECK(squall_leader_gather_board(leader) == SQUALL_OK);
+    CHECK(squall_leader_gather_board(leader, SQUALL_NO_LIMIT) == SQUALL_OK);
     return leader;
 }
 
@@ -122,9 +122,9 @@ static struct seen seen_of(squall_leader *leader) {
     free(course);
     seen.finished = squall_leader_finished(leader);
     seen.waits = squall_leader_frame(leader, seen.board, sizeof seen.board);
-    CHECK(squall_leader_gather_board(leader) == SQUALL_OK);
+    CHECK(squall_leader_gather_board(leader, SQUALL_NO_LIMIT) == SQUALL_OK);
     seen.len = squall_leader_frame(leader, seen.board, sizeof seen.board);
-    CHECK(squall_leader_gather_board(leader) == SQUALL_OK);
+    CHECK(squall_leader_gather_board(leader, SQUALL_NO_LIMIT) == SQUALL_OK);
     return seen;
 }
 
@@ -167,6 +167,18 @@ static void refuse_each(squall_leader *(*made)(void), leader_call *call) {
     CHECK(blocks == 0);
 }
 
+static uint32_t gather_board(squall_leader *leader) {
+    return squall_leader_gather_board(leader, SQUALL_NO_LIMIT);
+}
+
+static uint32_t gather_digest(squall_leader *leader) {
+    return squall_leader_gather_digest(leader, SQUALL_NO_LIMIT);
+}
+
+static uint32_t gather_repair(squall_leader *leader) {
+    return squall_leader_gather_repair(leader, SQUALL_NO_LIMIT);
+}
+
 static void courses_begin(void) {
     refuse_each(idle_leader, begin);
 }
@@ -180,15 +192,15 @@ static void frames_are_heard(void) {
 }
 
 static void boards(void) {
-    refuse_each(busy_leader, squall_leader_gather_board);
+    refuse_each(busy_leader, gather_board);
 }
 
 static void digests(void) {
-    refuse_each(busy_leader, squall_leader_gather_digest);
+    refuse_each(busy_leader, gather_digest);
 }
 
 static void repairs(void) {
-    refuse_each(busy_leader, squall_leader_gather_repair);
+    refuse_each(busy_leader, gather_repair);
 }
 
 /* An opening with the allocation of that number refused; whether it made so many. */

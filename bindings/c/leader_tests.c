@@ -115,9 +115,9 @@ static void answers_closed(squall_leader *leader) {
     CHECK(squall_leader_open_next(leader, out, 2) == SQUALL_CLOSED && out[0] == 7);
     CHECK(squall_leader_finished(leader) == 0);
     CHECK(squall_leader_hear(leader, frame, sizeof frame) == SQUALL_CLOSED);
-    CHECK(squall_leader_gather_board(leader) == SQUALL_CLOSED);
-    CHECK(squall_leader_gather_digest(leader) == SQUALL_CLOSED);
-    CHECK(squall_leader_gather_repair(leader) == SQUALL_CLOSED);
+    CHECK(squall_leader_gather_board(leader, SQUALL_NO_LIMIT) == SQUALL_CLOSED);
+    CHECK(squall_leader_gather_digest(leader, SQUALL_NO_LIMIT) == SQUALL_CLOSED);
+    CHECK(squall_leader_gather_repair(leader, SQUALL_NO_LIMIT) == SQUALL_CLOSED);
     CHECK(squall_leader_frame(leader, frame, sizeof frame) == 0 && frame[0] == 7);
     squall_course *course = begun_by(leader);
     CHECK(squall_course_status(course) == SQUALL_CLOSED);
@@ -178,8 +178,8 @@ static void pass(squall_leader *from, squall_leader *to) {
 static bool know_the_same(squall_leader *one, squall_leader *other) {
     uint8_t a[2048];
     uint8_t b[2048];
-    CHECK(squall_leader_gather_board(one) == SQUALL_OK);
-    CHECK(squall_leader_gather_board(other) == SQUALL_OK);
+    CHECK(squall_leader_gather_board(one, SQUALL_NO_LIMIT) == SQUALL_OK);
+    CHECK(squall_leader_gather_board(other, SQUALL_NO_LIMIT) == SQUALL_OK);
     size_t len = frames_of(one, a, sizeof a);
     return len == frames_of(other, b, sizeof b) && memcmp(a, b, len) == 0;
 }
@@ -192,10 +192,10 @@ static void a_standby_catches_up(void) {
     CHECK(squall_leader_open_next(leader, out, 2) == SQUALL_OK);
     CHECK(hear_done(leader, 1, 0, 3) == SQUALL_OK);
     CHECK(!know_the_same(leader, standby));
-    CHECK(squall_leader_gather_repair(leader) == SQUALL_NO_DIGEST);
-    CHECK(squall_leader_gather_digest(standby) == SQUALL_OK);
+    CHECK(squall_leader_gather_repair(leader, SQUALL_NO_LIMIT) == SQUALL_NO_DIGEST);
+    CHECK(squall_leader_gather_digest(standby, SQUALL_NO_LIMIT) == SQUALL_OK);
     pass(standby, leader);
-    CHECK(squall_leader_gather_repair(leader) == SQUALL_OK);
+    CHECK(squall_leader_gather_repair(leader, SQUALL_NO_LIMIT) == SQUALL_OK);
     pass(leader, standby);
     CHECK(know_the_same(leader, standby));
     drop_leader(standby);
@@ -208,13 +208,13 @@ static void a_router_follows(void) {
     squall_router *router = router_of(1, OLD, OLD);
     uint8_t frame[2048];
     CHECK(begin(leader, NEW) == SQUALL_OK);
-    CHECK(squall_leader_gather_board(leader) == SQUALL_OK);
+    CHECK(squall_leader_gather_board(leader, SQUALL_NO_LIMIT) == SQUALL_OK);
     size_t len = squall_leader_frame(leader, frame, sizeof frame);
     CHECK(squall_router_hear(router, frame, len) == SQUALL_OK);
     CHECK(squall_router_number(router) == 2);
     CHECK(squall_router_route(router, squall_rank(2, 0)) == 1);
     CHECK(hear_done(leader, 2, 0, 3) == SQUALL_OK);
-    CHECK(squall_leader_gather_board(leader) == SQUALL_OK);
+    CHECK(squall_leader_gather_board(leader, SQUALL_NO_LIMIT) == SQUALL_OK);
     len = squall_leader_frame(leader, frame, sizeof frame);
     CHECK(squall_router_hear(router, frame, len) == SQUALL_OK);
     CHECK(squall_router_route(router, squall_rank(2, 0)) == 3);
@@ -232,7 +232,7 @@ static void what_is_no_frame(void) {
     CHECK(squall_leader_hear(leader, frame, len + 1) == SQUALL_FRAME_SPARE);
     frame[0] = 0;
     CHECK(squall_leader_hear(leader, frame, len) == SQUALL_FRAME_MAGIC);
-    CHECK(squall_leader_gather_board(leader) == SQUALL_OK);
+    CHECK(squall_leader_gather_board(leader, SQUALL_NO_LIMIT) == SQUALL_OK);
     CHECK(squall_leader_frame(leader, frame, sizeof frame) == 0);
     drop_leader(leader);
 }
@@ -241,10 +241,27 @@ static void a_frame_waits_for_room(void) {
     squall_leader *leader = leader_of(OLD, 0);
     uint8_t frame[64];
     memset(frame, 7, sizeof frame);
-    CHECK(squall_leader_gather_digest(leader) == SQUALL_OK);
+    CHECK(squall_leader_gather_digest(leader, SQUALL_NO_LIMIT) == SQUALL_OK);
     CHECK(squall_leader_frame(leader, frame, 3) == 16 && frame[0] == 7);
     CHECK(squall_leader_frame(leader, frame, 16) == 16 && frame[0] == 0x53 && frame[16] == 7);
     CHECK(squall_leader_frame(leader, frame, sizeof frame) == 0);
+    drop_leader(leader);
+}
+
+/* An empty digest has 16 bytes, and the frame of a course of the two plans more than 49. */
+static void frames_within_a_limit(void) {
+    squall_leader *leader = leader_of(OLD, 0);
+    uint8_t frame[16];
+    CHECK(squall_leader_gather_digest(leader, 15) == SQUALL_TOO_LONG);
+    CHECK(squall_leader_gather_digest(leader, 16) == SQUALL_OK);
+    CHECK(begin(leader, NEW) == SQUALL_OK);
+    CHECK(squall_leader_gather_board(leader, 49) == SQUALL_TOO_LONG);
+    CHECK(squall_leader_gather_repair(leader, 49) == SQUALL_NO_DIGEST);
+    CHECK(squall_leader_frame(leader, frame, sizeof frame) == 16);
+    CHECK(squall_leader_hear(leader, frame, sizeof frame) == SQUALL_OK);
+    CHECK(squall_leader_gather_repair(leader, 49) == SQUALL_TOO_LONG);
+    CHECK(squall_leader_gather_repair(leader, 98337) == SQUALL_OK);
+    CHECK(squall_leader_frame(leader, frame, 0) > 49);
     drop_leader(leader);
 }
 
@@ -258,6 +275,7 @@ static const struct test TESTS[] = {
     TEST(a_router_follows),
     TEST(what_is_no_frame),
     TEST(a_frame_waits_for_room),
+    TEST(frames_within_a_limit),
 };
 
 int main(void) {

@@ -127,9 +127,9 @@ static void has_no_partition(squall_part *part) {
     CHECK(squall_part_held(part, 0, spans, 1) == 0);
     CHECK(squall_part_given(part, 1, 0, spans, 1) == 0);
     CHECK(squall_part_loaded(part, 1, 0, spans, 1) == 0);
-    CHECK(squall_part_gather_board(part) == SQUALL_CLOSED);
-    CHECK(squall_part_gather_digest(part) == SQUALL_CLOSED);
-    CHECK(squall_part_gather_repair(part) == SQUALL_CLOSED);
+    CHECK(squall_part_gather_board(part, SQUALL_NO_LIMIT) == SQUALL_CLOSED);
+    CHECK(squall_part_gather_digest(part, SQUALL_NO_LIMIT) == SQUALL_CLOSED);
+    CHECK(squall_part_gather_repair(part, SQUALL_NO_LIMIT) == SQUALL_CLOSED);
     CHECK(squall_part_frame(part, out, sizeof out) == 0);
 }
 
@@ -242,12 +242,12 @@ static void frames(void) {
     squall_router *router = router_of(1, OLD, NEW);
     squall_chunk chunk = chunk_of(key(2), key(3));
     uint8_t out[1024];
-    CHECK(squall_part_gather_repair(one) == SQUALL_NO_DIGEST);
+    CHECK(squall_part_gather_repair(one, SQUALL_NO_LIMIT) == SQUALL_NO_DIGEST);
     CHECK(squall_part_load(one, &chunk) == SQUALL_OK);
-    CHECK(squall_part_gather_digest(other) == SQUALL_OK);
+    CHECK(squall_part_gather_digest(other, SQUALL_NO_LIMIT) == SQUALL_OK);
     size_t len = squall_part_frame(other, out, sizeof out);
     CHECK(squall_part_hear(one, out, len) == SQUALL_OK);
-    CHECK(squall_part_gather_repair(one) == SQUALL_OK);
+    CHECK(squall_part_gather_repair(one, SQUALL_NO_LIMIT) == SQUALL_OK);
     len = squall_part_frame(one, out, 1);
     CHECK(len > 1 && squall_part_frame(one, out, sizeof out) == len);
     CHECK(squall_part_frame(one, out, sizeof out) == 0);
@@ -257,11 +257,29 @@ static void frames(void) {
     CHECK(squall_part_hear(other, out, len) == SQUALL_OK);
     CHECK(squall_part_give(other, 1, &chunk) == SQUALL_OK);
     CHECK(squall_part_hear(other, out, len - 1) == SQUALL_FRAME_SHORT);
-    CHECK(squall_part_gather_board(one) == SQUALL_OK);
+    CHECK(squall_part_gather_board(one, SQUALL_NO_LIMIT) == SQUALL_OK);
     CHECK(squall_part_frame(one, out, sizeof out) == len);
     drop_router(router);
     drop_part(one);
     drop_part(other);
+    CHECK(blocks == 0);
+}
+
+/* A digest of an opening and a row has 64 bytes, and a load has 49. What waited waits on after a limit that is too
+ * low. */
+static void frames_within_a_limit(void) {
+    squall_part *part = open_part(3);
+    squall_chunk chunk = chunk_of(key(2), key(3));
+    uint8_t out[1024];
+    CHECK(squall_part_load(part, &chunk) == SQUALL_OK);
+    CHECK(squall_part_gather_board(part, SQUALL_NO_LIMIT) == SQUALL_OK);
+    size_t len = squall_part_frame(part, out, 0);
+    CHECK(squall_part_gather_board(part, 48) == SQUALL_TOO_LONG);
+    CHECK(squall_part_gather_digest(part, 63) == SQUALL_TOO_LONG);
+    CHECK(squall_part_frame(part, out, sizeof out) == len);
+    CHECK(squall_part_gather_board(part, len) == SQUALL_OK);
+    CHECK(squall_part_frame(part, out, sizeof out) == len);
+    drop_part(part);
     CHECK(blocks == 0);
 }
 
@@ -288,11 +306,19 @@ static uint32_t finish(squall_part *part) {
     return status == SQUALL_OK || status == SQUALL_LOADED_BEFORE ? squall_part_finish(part, 0) : status;
 }
 
+static uint32_t gather_board(squall_part *part) {
+    return squall_part_gather_board(part, SQUALL_NO_LIMIT);
+}
+
+static uint32_t gather_digest(squall_part *part) {
+    return squall_part_gather_digest(part, SQUALL_NO_LIMIT);
+}
+
 static const uint8_t EMPTY_DIGEST[] = {0x53, 0x51, 1, 2, 0, 0, 0, 8, 0, 0, 0, 0, 0, 0, 0, 0};
 
 static uint32_t repair(squall_part *part) {
     uint32_t status = squall_part_hear(part, EMPTY_DIGEST, sizeof EMPTY_DIGEST);
-    return status == SQUALL_OK ? squall_part_gather_repair(part) : status;
+    return status == SQUALL_OK ? squall_part_gather_repair(part, SQUALL_NO_LIMIT) : status;
 }
 
 /* How many spans it holds, gave and loaded. */
@@ -340,8 +366,8 @@ static void refused_allocations(void) {
     refuse_each(give_one);
     refuse_each(load_some);
     refuse_each(finish);
-    refuse_each(squall_part_gather_board);
-    refuse_each(squall_part_gather_digest);
+    refuse_each(gather_board);
+    refuse_each(gather_digest);
     refuse_each(repair);
 }
 
@@ -380,7 +406,7 @@ static void calls_that_allocate_nothing(void) {
     squall_part *part = open_part(3);
     squall_answer answer;
     uint8_t out[1024];
-    CHECK(squall_part_gather_board(part) == SQUALL_OK);
+    CHECK(squall_part_gather_board(part, SQUALL_NO_LIMIT) == SQUALL_OK);
     asked = 0;
     CHECK(squall_part_serve(part, key(5), 0, &answer) == SQUALL_OK);
     CHECK(spans_of(part) == 1);
@@ -397,6 +423,7 @@ static const struct test TESTS[] = {
     TEST(loads),
     TEST(replies_for_errands),
     TEST(frames),
+    TEST(frames_within_a_limit),
     TEST(refused_allocations),
     TEST(refused_openings),
     TEST(calls_that_allocate_nothing),

@@ -81,7 +81,7 @@ enum squall_status {
     SQUALL_LIMIT = 2,     /* a number or a rank lies outside its limits, or a span has no keys */
     SQUALL_CLOSED = 3,    /* nothing was opened here: the status of the handle says why */
     SQUALL_FAILED = 4,    /* a frame fault came earlier, and the stream is at its end */
-    SQUALL_TOO_LONG = 5,  /* a digest has more rows than a frame holds */
+    SQUALL_TOO_LONG = 5,  /* a frame would have more bytes than it may have */
     SQUALL_NO_DIGEST = 6, /* no digest was heard that could be answered */
 
     /* Why a text is no plan; of squall_router_open the old one. */
@@ -163,6 +163,8 @@ enum squall_next {
 #define SQUALL_TOP UINT64_C(18446744069414584320)
 /* No frame has more bytes. */
 #define SQUALL_FRAME_BYTES 1048584u
+/* No limit but that of the format, for the calls that make frames. */
+#define SQUALL_NO_LIMIT SIZE_MAX
 /* The alignment of each room. */
 #define SQUALL_ALIGN 16u
 
@@ -343,19 +345,29 @@ size_t squall_router_legs(const squall_router *router, uint64_t lo, uint64_t hi,
 uint32_t squall_router_number(const squall_router *router);
 
 /* Makes the frames of all that the router was told, in the place of those that wait to be fetched by
- * squall_router_frame. None where it was told nothing. Answers SQUALL_OK, SQUALL_NO_MEMORY or
- * SQUALL_CLOSED, after which those that waited still do. Allocates. */
-uint32_t squall_router_gather_board(squall_router *router);
+ * squall_router_frame. There are none if it was told nothing. Each has at most `limit` bytes, for a
+ * transport that limits its messages. No limit is SQUALL_NO_LIMIT: a frame never has more than
+ * SQUALL_FRAME_BYTES. The smaller the limit, the more frames there are. Answers
+ *   SQUALL_OK         the frames wait
+ *   SQUALL_TOO_LONG   a single report needs a longer frame. That of a course has 33 bytes, and 12 for
+ *                     each range of its two plans: a limit of 98,337 is enough for any. Each other
+ *                     report has 49 at most
+ *   SQUALL_NO_MEMORY  an allocation failed
+ *   SQUALL_CLOSED     there is no router
+ * At all but SQUALL_OK those that waited still do. Allocates. */
+uint32_t squall_router_gather_board(squall_router *router, size_t limit);
 
-/* Makes the frame of a digest of all that the router was told, in the place of those that wait.
- * Answers as squall_router_gather_board does, or SQUALL_TOO_LONG, after which those that waited
- * still do. Allocates. */
-uint32_t squall_router_gather_digest(squall_router *router);
+/* Makes the frame of a digest of all that the router was told, in the place of those that wait. Answers
+ * as squall_router_gather_board does, and SQUALL_TOO_LONG if the digest has more than `limit` bytes, or
+ * more rows than a frame holds. A digest is not cut. It has at most 20 bytes, 8 for each number with an
+ * opened sub-plan, 36 for each number with an issue, and 40 for each sub-plan of which something was
+ * loaded or done. Allocates. */
+uint32_t squall_router_gather_digest(squall_router *router, size_t limit);
 
-/* Makes the frames of what the digest that was fed last does not show, in the place of those that
- * wait. None where it shows all. Answers as squall_router_gather_board does, or SQUALL_NO_DIGEST
- * where none was fed, after which those that waited still do. Allocates. */
-uint32_t squall_router_gather_repair(squall_router *router);
+/* Makes the frames of what the digest that was fed last does not show, in the place of those that wait.
+ * There are none if it shows all. Each has at most `limit` bytes. Answers as squall_router_gather_board
+ * does, or SQUALL_NO_DIGEST if none was fed, after which those that waited still do. Allocates. */
+uint32_t squall_router_gather_repair(squall_router *router, size_t limit);
 
 /* Writes the next frame that waits to the front of `out`, and answers how many bytes it has. It waits
  * no longer. Where there is not room enough, nothing is written, the frame still waits, and the
@@ -626,10 +638,11 @@ size_t squall_part_loaded(const squall_part *part, uint32_t number, size_t from,
                           size_t room);
 
 /* Makes the frames of all that the partition knows and reports, of a digest of that, or of what the
- * digest that was heard last does not show, as the calls of a router do. Allocates. */
-uint32_t squall_part_gather_board(squall_part *part);
-uint32_t squall_part_gather_digest(squall_part *part);
-uint32_t squall_part_gather_repair(squall_part *part);
+ * digest that was heard last does not show, as the calls of a router do. Each frame has at most `limit`
+ * bytes. Allocates. */
+uint32_t squall_part_gather_board(squall_part *part, size_t limit);
+uint32_t squall_part_gather_digest(squall_part *part, size_t limit);
+uint32_t squall_part_gather_repair(squall_part *part, size_t limit);
 
 /* Writes the next frame that waits, as squall_router_frame does. Allocates nothing. */
 size_t squall_part_frame(squall_part *part, uint8_t *out, size_t room);
@@ -707,17 +720,17 @@ uint32_t squall_leader_open_next(squall_leader *leader, uint32_t *out, size_t ro
  * course is begun, or if there is no leader. Allocates nothing. */
 uint32_t squall_leader_finished(const squall_leader *leader);
 
-/* Makes the frames of all that the leader heard and reported itself, as squall_router_gather_board
- * does. Answers as that does. Allocates. */
-uint32_t squall_leader_gather_board(squall_leader *leader);
+/* Makes the frames of all that the leader heard and reported itself, each of at most `limit` bytes, as
+ * squall_router_gather_board does. Answers as that does. Allocates. */
+uint32_t squall_leader_gather_board(squall_leader *leader, size_t limit);
 
 /* Makes the frame of a digest of that, as squall_router_gather_digest does. Answers as that does.
  * Allocates. */
-uint32_t squall_leader_gather_digest(squall_leader *leader);
+uint32_t squall_leader_gather_digest(squall_leader *leader, size_t limit);
 
 /* Makes the frames of what the digest that was heard last does not show, as squall_router_gather_repair
  * does. Answers as that does. Allocates. */
-uint32_t squall_leader_gather_repair(squall_leader *leader);
+uint32_t squall_leader_gather_repair(squall_leader *leader, size_t limit);
 
 /* Writes the next frame that waits into `out`, as squall_router_frame does, and answers as that
  * does. Allocates nothing. */

@@ -95,15 +95,15 @@ static void *take_and_tell(void *unused) {
         CHECK(squall_router_loaded(opened, 1, 0, 3, squall_rank(2, (uint32_t)(2 * i)),
                                    squall_rank(2, (uint32_t)(2 * i + 1))) == SQUALL_OK);
     }
-    CHECK(squall_router_gather_board(opened) == SQUALL_OK);
+    CHECK(squall_router_gather_board(opened, SQUALL_NO_LIMIT) == SQUALL_OK);
     size_t len = squall_router_frame(opened, frames, SQUALL_FRAME_BYTES);
     CHECK(squall_router_feed(opened, frames, len / 2) == SQUALL_OK);
     CHECK(squall_router_feed(opened, frames + len / 2, len - len / 2) == SQUALL_OK);
     CHECK(squall_router_hear(opened, frames, len) == SQUALL_OK);
-    CHECK(squall_router_gather_digest(opened) == SQUALL_OK);
+    CHECK(squall_router_gather_digest(opened, SQUALL_NO_LIMIT) == SQUALL_OK);
     len = squall_router_frame(opened, frames, SQUALL_FRAME_BYTES);
     CHECK(squall_router_hear(opened, frames, len) == SQUALL_OK);
-    CHECK(squall_router_gather_repair(opened) == SQUALL_OK);
+    CHECK(squall_router_gather_repair(opened, SQUALL_NO_LIMIT) == SQUALL_OK);
     CHECK(squall_router_done(opened, 1, 0, 4) == SQUALL_OK);
     return NULL;
 }
@@ -140,7 +140,7 @@ static void *hold(void *room) {
     squall_span spans[4];
     squall_answer answer;
     squall_chunk chunk = {squall_rank(2, 0), squall_rank(3, 0), 1, 0, 1, 3};
-    CHECK(squall_router_gather_board(opened) == SQUALL_OK);
+    CHECK(squall_router_gather_board(opened, SQUALL_NO_LIMIT) == SQUALL_OK);
     size_t len = squall_router_frame(opened, frames, SQUALL_FRAME_BYTES);
     CHECK(squall_part_hear(part, frames, len) == SQUALL_OK);
     CHECK(squall_part_hear(part, opening, squall_frame_opened(1, 0, opening, sizeof opening))
@@ -155,11 +155,11 @@ static void *hold(void *room) {
     CHECK(squall_part_held(part, 0, spans, 4) == 4);
     CHECK(squall_part_given(part, 1, 0, spans, 4) == 4);
     CHECK(squall_part_loaded(part, 1, 0, spans, 4) == 1);
-    CHECK(squall_part_gather_digest(part) == SQUALL_OK);
+    CHECK(squall_part_gather_digest(part, SQUALL_NO_LIMIT) == SQUALL_OK);
     len = squall_part_frame(part, frames, SQUALL_FRAME_BYTES);
     CHECK(squall_part_hear(part, frames, len) == SQUALL_OK);
-    CHECK(squall_part_gather_repair(part) == SQUALL_OK);
-    CHECK(squall_part_gather_board(part) == SQUALL_OK);
+    CHECK(squall_part_gather_repair(part, SQUALL_NO_LIMIT) == SQUALL_OK);
+    CHECK(squall_part_gather_board(part, SQUALL_NO_LIMIT) == SQUALL_OK);
     return NULL;
 }
 
@@ -182,15 +182,15 @@ static void *lead(void *unused) {
     squall_course_newest(opened, course);
     squall_leader_resume(course, leader);
     squall_course_close(course);
-    CHECK(squall_router_gather_board(opened) == SQUALL_OK);
+    CHECK(squall_router_gather_board(opened, SQUALL_NO_LIMIT) == SQUALL_OK);
     size_t len = squall_router_frame(opened, frames, SQUALL_FRAME_BYTES);
     CHECK(squall_leader_hear(leader, frames, len) == SQUALL_OK);
     CHECK(squall_leader_open_next(leader, out, 2) == SQUALL_OK);
-    CHECK(squall_leader_gather_board(leader) == SQUALL_OK);
-    CHECK(squall_leader_gather_digest(leader) == SQUALL_OK);
+    CHECK(squall_leader_gather_board(leader, SQUALL_NO_LIMIT) == SQUALL_OK);
+    CHECK(squall_leader_gather_digest(leader, SQUALL_NO_LIMIT) == SQUALL_OK);
     len = squall_leader_frame(leader, frames, SQUALL_FRAME_BYTES);
     CHECK(squall_leader_hear(leader, frames, len) == SQUALL_OK);
-    CHECK(squall_leader_gather_repair(leader) == SQUALL_OK);
+    CHECK(squall_leader_gather_repair(leader, SQUALL_NO_LIMIT) == SQUALL_OK);
     squall_leader_course(leader, course);
     squall_course_close(course);
     squall_leader_close(leader);

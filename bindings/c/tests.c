@@ -23,7 +23,7 @@ static uint32_t issue(squall_router *router, uint32_t number, const char *plan) 
 /* Whether the router's board is empty: it then has no frames. */
 static bool was_told_nothing(squall_router *router) {
     uint8_t out[1];
-    CHECK(squall_router_gather_board(router) == SQUALL_OK);
+    CHECK(squall_router_gather_board(router, SQUALL_NO_LIMIT) == SQUALL_OK);
     return squall_router_frame(router, out, sizeof out) == 0;
 }
 
@@ -254,7 +254,7 @@ static void two_frames_cut_anywhere(void) {
             CHECK(squall_router_feed(router, bytes + cut, next - cut) == SQUALL_OK);
             CHECK(squall_router_route(router, key(2)) == (next < first ? 1 : 3));
             CHECK(squall_router_feed(router, bytes + next, len - next) == SQUALL_OK);
-            CHECK(squall_router_gather_board(router) == SQUALL_OK);
+            CHECK(squall_router_gather_board(router, SQUALL_NO_LIMIT) == SQUALL_OK);
             /* The frame of both has 8 bytes more than that of the load alone. */
             CHECK(squall_router_frame(router, out, sizeof out) == first + 8);
             drop_router(router);
@@ -323,9 +323,9 @@ static void whole_frames(void) {
     CHECK(squall_router_route(router, key(2)) == 3);
     CHECK(hear_hex(router, LOAD_FRAME) == SQUALL_OK);
     CHECK(hear_hex(router, EMPTY_DELTA) == SQUALL_OK);
-    CHECK(squall_router_gather_repair(router) == SQUALL_NO_DIGEST);
+    CHECK(squall_router_gather_repair(router, SQUALL_NO_LIMIT) == SQUALL_NO_DIGEST);
     CHECK(hear_hex(router, EMPTY_DIGEST) == SQUALL_OK);
-    CHECK(squall_router_gather_repair(router) == SQUALL_OK);
+    CHECK(squall_router_gather_repair(router, SQUALL_NO_LIMIT) == SQUALL_OK);
     CHECK(next_is(router, LOAD_FRAME));
     drop_router(router);
 }
@@ -356,18 +356,18 @@ static void a_frame_beside_a_stream(void) {
     CHECK(feed_hex(router, "03") == SQUALL_FRAME_KIND);
     CHECK(feed_hex(router, "") == SQUALL_FAILED);
     CHECK(hear_hex(router, EMPTY_DIGEST) == SQUALL_OK);
-    CHECK(squall_router_gather_repair(router) == SQUALL_OK);
+    CHECK(squall_router_gather_repair(router, SQUALL_NO_LIMIT) == SQUALL_OK);
     drop_router(router);
 }
 
 static void frames_of_a_board(void) {
     squall_router *router = fresh();
     uint8_t out[64];
-    CHECK(squall_router_gather_board(router) == SQUALL_OK);
+    CHECK(squall_router_gather_board(router, SQUALL_NO_LIMIT) == SQUALL_OK);
     CHECK(squall_router_frame(router, out, sizeof out) == 0);
     CHECK(squall_router_loaded(router, 1, 0, 3, key(2), key(3)) == SQUALL_OK);
     CHECK(squall_router_frame(router, out, sizeof out) == 0);
-    CHECK(squall_router_gather_board(router) == SQUALL_OK);
+    CHECK(squall_router_gather_board(router, SQUALL_NO_LIMIT) == SQUALL_OK);
     memset(out, 0x77, sizeof out);
     CHECK(squall_router_frame(router, out, 48) == 49);
     CHECK(squall_router_frame(router, out, 0) == 49);
@@ -382,7 +382,7 @@ static void a_clash_in_a_frame(void) {
     CHECK(issue(router, 2, "{\"plan\":[{\"part\":5,\"from\":[0,0],\"to\":\"end\"}]}") == SQUALL_OK);
     CHECK(issue(router, 2, OLD) == SQUALL_OK);
     CHECK(squall_router_loaded(router, 2, 0, 5, key(2), squall_rank(2, 1)) == SQUALL_OK);
-    CHECK(squall_router_gather_board(router) == SQUALL_OK);
+    CHECK(squall_router_gather_board(router, SQUALL_NO_LIMIT) == SQUALL_OK);
     CHECK(next_is(router, "5351020100000032000000000000000100000002020000000100000002000000000000000500"
                           "0000000100000002000000000000000200000001"));
     drop_router(router);
@@ -391,12 +391,12 @@ static void a_clash_in_a_frame(void) {
 /* The hash is that of SHA-256 over the cell's 33 bytes, by another program. */
 static void frames_of_digests(void) {
     squall_router *router = fresh();
-    CHECK(squall_router_gather_repair(router) == SQUALL_NO_DIGEST);
-    CHECK(squall_router_gather_digest(router) == SQUALL_OK);
+    CHECK(squall_router_gather_repair(router, SQUALL_NO_LIMIT) == SQUALL_NO_DIGEST);
+    CHECK(squall_router_gather_digest(router, SQUALL_NO_LIMIT) == SQUALL_OK);
     CHECK(next_is(router, EMPTY_DIGEST));
     CHECK(squall_router_loaded(router, 1, 0, 3, key(2), key(3)) == SQUALL_OK);
-    CHECK(squall_router_gather_digest(router) == SQUALL_OK);
-    CHECK(squall_router_gather_repair(router) == SQUALL_NO_DIGEST);
+    CHECK(squall_router_gather_digest(router, SQUALL_NO_LIMIT) == SQUALL_OK);
+    CHECK(squall_router_gather_repair(router, SQUALL_NO_LIMIT) == SQUALL_NO_DIGEST);
     CHECK(next_is(router, "53510102000000300000000000000001000000010000000025868db80855a707339da598e4f3"
                           "a16ab6b7b5400f2c937e7a625817d02bfa4a"));
     drop_router(router);
@@ -412,7 +412,7 @@ static void a_board_of_two_pieces(void) {
         taken |= squall_router_loaded(router, 9, 0, 3, 2 * i, 2 * i + 1);
     }
     CHECK(taken == SQUALL_OK);
-    CHECK(squall_router_gather_board(router) == SQUALL_OK);
+    CHECK(squall_router_gather_board(router, SQUALL_NO_LIMIT) == SQUALL_OK);
     CHECK(squall_router_frame(router, out, 0) == 1048577);
     size_t len = squall_router_frame(router, out, SQUALL_FRAME_BYTES);
     CHECK(len == 1048577);
@@ -421,11 +421,65 @@ static void a_board_of_two_pieces(void) {
     CHECK(len == 49);
     CHECK(squall_router_feed(other, out, len) == SQUALL_OK);
     CHECK(squall_router_frame(router, out, SQUALL_FRAME_BYTES) == 0);
-    CHECK(squall_router_gather_board(other) == SQUALL_OK);
+    CHECK(squall_router_gather_board(other, SQUALL_NO_LIMIT) == SQUALL_OK);
     CHECK(squall_router_frame(other, out, 0) == 1048577);
     free(out);
     drop_router(router);
     drop_router(other);
+}
+
+/* A cell with two spans has 65 bytes, one with one span 49. The frame that waited waits on after a
+ * limit that is too low. */
+static void frames_of_a_board_within_a_limit(void) {
+    squall_router *router = fresh();
+    uint8_t out[65];
+    CHECK(squall_router_gather_board(router, 0) == SQUALL_OK);
+    CHECK(squall_router_frame(router, out, 0) == 0);
+    CHECK(squall_router_loaded(router, 1, 0, 3, key(2), key(3)) == SQUALL_OK);
+    CHECK(squall_router_loaded(router, 1, 0, 3, key(4), key(5)) == SQUALL_OK);
+    CHECK(squall_router_gather_board(router, 65) == SQUALL_OK);
+    CHECK(squall_router_gather_board(router, 48) == SQUALL_TOO_LONG);
+    CHECK(squall_router_gather_board(router, 0) == SQUALL_TOO_LONG);
+    CHECK(squall_router_frame(router, out, sizeof out) == 65);
+    CHECK(squall_router_gather_board(router, 64) == SQUALL_OK);
+    CHECK(next_is(router, LOAD_FRAME));
+    CHECK(squall_router_frame(router, out, sizeof out) == 49);
+    CHECK(squall_router_frame(router, out, sizeof out) == 0);
+    CHECK(squall_router_gather_board(router, 49) == SQUALL_OK);
+    CHECK(squall_router_frame(router, out, sizeof out) == 49);
+    CHECK(squall_router_frame(router, out, sizeof out) == 49);
+    CHECK(squall_router_frame(router, out, sizeof out) == 0);
+    drop_router(router);
+}
+
+/* The frame of a course has 33 bytes, and 12 for each of the two ranges of these plans. */
+static void a_course_above_the_limit(void) {
+    static const char *const PLAN = "{\"plan\":[{\"part\":5,\"from\":[0,0],\"to\":\"end\"}]}";
+    squall_router *router = router_of(1, PLAN, PLAN);
+    uint8_t out[57];
+    CHECK(issue(router, 2, PLAN) == SQUALL_OK);
+    CHECK(squall_router_gather_board(router, 56) == SQUALL_TOO_LONG);
+    CHECK(squall_router_frame(router, out, sizeof out) == 0);
+    CHECK(squall_router_gather_board(router, 57) == SQUALL_OK);
+    CHECK(squall_router_frame(router, out, sizeof out) == 57);
+    drop_router(router);
+}
+
+/* A digest with one row has 56 bytes. */
+static void digests_and_repairs_within_a_limit(void) {
+    squall_router *router = fresh();
+    uint8_t out[56];
+    CHECK(squall_router_loaded(router, 1, 0, 3, key(2), key(3)) == SQUALL_OK);
+    CHECK(squall_router_gather_digest(router, 55) == SQUALL_TOO_LONG);
+    CHECK(squall_router_frame(router, out, sizeof out) == 0);
+    CHECK(squall_router_gather_digest(router, 56) == SQUALL_OK);
+    CHECK(squall_router_gather_repair(router, 0) == SQUALL_NO_DIGEST);
+    CHECK(feed_hex(router, EMPTY_DIGEST) == SQUALL_OK);
+    CHECK(squall_router_gather_repair(router, 48) == SQUALL_TOO_LONG);
+    CHECK(squall_router_frame(router, out, sizeof out) == 56);
+    CHECK(squall_router_gather_repair(router, 49) == SQUALL_OK);
+    CHECK(next_is(router, LOAD_FRAME));
+    drop_router(router);
 }
 
 /* ---- two routers */
@@ -446,8 +500,8 @@ static size_t carry(squall_router *from, squall_router *to) {
 static bool told_the_same(squall_router *a, squall_router *b) {
     uint8_t of_a[4096];
     uint8_t of_b[4096];
-    CHECK(squall_router_gather_board(a) == SQUALL_OK);
-    CHECK(squall_router_gather_board(b) == SQUALL_OK);
+    CHECK(squall_router_gather_board(a, SQUALL_NO_LIMIT) == SQUALL_OK);
+    CHECK(squall_router_gather_board(b, SQUALL_NO_LIMIT) == SQUALL_OK);
     size_t len = squall_router_frame(a, of_a, sizeof of_a);
     return len == squall_router_frame(b, of_b, sizeof of_b) && memcmp(of_a, of_b, len) == 0;
 }
@@ -458,8 +512,8 @@ static void routers_that_exchange_boards(void) {
     CHECK(squall_router_loaded(a, 1, 0, 3, key(2), key(3)) == SQUALL_OK);
     CHECK(squall_router_done(b, 1, 0, 4) == SQUALL_OK);
     CHECK(!told_the_same(a, b));
-    CHECK(squall_router_gather_board(a) == SQUALL_OK);
-    CHECK(squall_router_gather_board(b) == SQUALL_OK);
+    CHECK(squall_router_gather_board(a, SQUALL_NO_LIMIT) == SQUALL_OK);
+    CHECK(squall_router_gather_board(b, SQUALL_NO_LIMIT) == SQUALL_OK);
     CHECK(carry(a, b) == 1);
     CHECK(carry(b, a) == 1);
     CHECK(told_the_same(a, b));
@@ -476,17 +530,17 @@ static void routers_that_repair(void) {
     CHECK(squall_router_loaded(b, 1, 0, 3, key(2), key(3)) == SQUALL_OK);
     CHECK(squall_router_done(b, 2, 0, 4) == SQUALL_OK);
     CHECK(squall_router_opened(b, 1, 0) == SQUALL_OK);
-    CHECK(squall_router_gather_digest(a) == SQUALL_OK);
+    CHECK(squall_router_gather_digest(a, SQUALL_NO_LIMIT) == SQUALL_OK);
     CHECK(carry(a, b) == 1);
-    CHECK(squall_router_gather_repair(b) == SQUALL_OK);
+    CHECK(squall_router_gather_repair(b, SQUALL_NO_LIMIT) == SQUALL_OK);
     CHECK(next_is(b, "53510101000000210000000100000001000000010000000100000002000000000000000401"
                      "00000000"));
-    CHECK(squall_router_gather_repair(b) == SQUALL_OK);
+    CHECK(squall_router_gather_repair(b, SQUALL_NO_LIMIT) == SQUALL_OK);
     CHECK(carry(b, a) == 1);
     CHECK(told_the_same(a, b));
-    CHECK(squall_router_gather_digest(a) == SQUALL_OK);
+    CHECK(squall_router_gather_digest(a, SQUALL_NO_LIMIT) == SQUALL_OK);
     CHECK(carry(a, b) == 1);
-    CHECK(squall_router_gather_repair(b) == SQUALL_OK);
+    CHECK(squall_router_gather_repair(b, SQUALL_NO_LIMIT) == SQUALL_OK);
     CHECK(carry(b, a) == 0);
     drop_router(a);
     drop_router(b);
@@ -630,9 +684,9 @@ static void where_no_router_stands(void) {
     CHECK(squall_router_route(none, key(2)) == SQUALL_NOWHERE);
     CHECK(squall_router_legs(none, 0, SQUALL_TOP, legs, 1) == 0);
     CHECK(squall_router_number(none) == 0);
-    CHECK(squall_router_gather_board(none) == SQUALL_CLOSED);
-    CHECK(squall_router_gather_digest(none) == SQUALL_CLOSED);
-    CHECK(squall_router_gather_repair(none) == SQUALL_CLOSED);
+    CHECK(squall_router_gather_board(none, SQUALL_NO_LIMIT) == SQUALL_CLOSED);
+    CHECK(squall_router_gather_digest(none, SQUALL_NO_LIMIT) == SQUALL_CLOSED);
+    CHECK(squall_router_gather_repair(none, SQUALL_NO_LIMIT) == SQUALL_CLOSED);
     CHECK(squall_router_frame(none, out, sizeof out) == 0);
     CHECK(squall_router_status(none) == SQUALL_PLAN_JSON);
     squall_errand *errand = errand_for(none, key(2));
@@ -684,6 +738,9 @@ static const struct test TESTS[] = {
     TEST(a_clash_in_a_frame),
     TEST(frames_of_digests),
     TEST(a_board_of_two_pieces),
+    TEST(frames_of_a_board_within_a_limit),
+    TEST(a_course_above_the_limit),
+    TEST(digests_and_repairs_within_a_limit),
     TEST(routers_that_exchange_boards),
     TEST(routers_that_repair),
     TEST(routes_of_many_keys),

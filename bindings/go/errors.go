@@ -24,7 +24,8 @@ const (
 	ErrClosed Error = C.SQUALL_CLOSED
 	// ErrFailed says that a frame fault came earlier, so that the router's stream is at its end.
 	ErrFailed Error = C.SQUALL_FAILED
-	// ErrTooLong says that a digest has more rows than a frame holds.
+	// ErrTooLong says that a frame would have more bytes than it may have: that of a digest, which is not cut, or
+	// of a single report.
 	ErrTooLong Error = C.SQUALL_TOO_LONG
 	// ErrNoDigest says that no digest was heard that could be answered.
 	ErrNoDigest Error = C.SQUALL_NO_DIGEST
@@ -76,7 +77,7 @@ var errorTexts = map[Error]string{
 	ErrLimit:    "a number or a span is outside its limits",
 	ErrClosed:   "closed",
 	ErrFailed:   "the stream ended with a fault before",
-	ErrTooLong:  "the digest has too many rows for a frame",
+	ErrTooLong:  "a frame would be too long",
 	ErrNoDigest: "no digest was heard",
 
 	ErrNotOpen:     "the sub-plan is not opened",

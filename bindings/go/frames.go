@@ -8,6 +8,9 @@ import "io"
 // FrameBytes is how many bytes a frame has at most, for transports that limit their messages.
 const FrameBytes = C.SQUALL_FRAME_BYTES
 
+// noLimit is no limit but that of the format.
+const noLimit = -1
+
 // Frames are the frames that a router, a partition or a leader has made, in the order in which they are to
 // be sent. Each is one message, and holds for itself: what others hear of them does not depend on their
 // order.
@@ -34,7 +37,16 @@ func (f Frames) WriteTo(to io.Writer) (int64, error) {
 //
 // Errors: [ErrNoMemory]; [ErrClosed].
 func (r *Router) Board() (Frames, error) {
-	return r.gather(func(at *C.squall_router) C.uint32_t { return C.squall_router_gather_board(at) })
+	return r.BoardWithin(noLimit)
+}
+
+// BoardWithin does the same in frames of at most `limit` bytes each, for a transport that limits its messages.
+// A negative limit is none.
+//
+// Errors: [ErrTooLong] if a single report needs a longer frame. A limit of 98,337 is enough for any report, and
+// one of 49 for all but courses. [ErrNoMemory]; [ErrClosed].
+func (r *Router) BoardWithin(limit int) (Frames, error) {
+	return r.gather(func(at *C.squall_router) C.uint32_t { return C.squall_router_gather_board(at, C.size_t(limit)) })
 }
 
 // Digest makes the frame of a digest of all that was reported to the router. Another router that hears
@@ -42,7 +54,16 @@ func (r *Router) Board() (Frames, error) {
 //
 // Errors: [ErrTooLong] if the digest has more rows than a frame holds; [ErrNoMemory]; [ErrClosed].
 func (r *Router) Digest() ([]byte, error) {
-	frames, err := r.gather(func(at *C.squall_router) C.uint32_t { return C.squall_router_gather_digest(at) })
+	return r.DigestWithin(noLimit)
+}
+
+// DigestWithin does the same in a frame of at most `limit` bytes. A negative limit is none.
+//
+// Errors: [ErrTooLong] if the digest has more bytes, since it is not cut; [ErrNoMemory]; [ErrClosed].
+func (r *Router) DigestWithin(limit int) ([]byte, error) {
+	frames, err := r.gather(func(at *C.squall_router) C.uint32_t {
+		return C.squall_router_gather_digest(at, C.size_t(limit))
+	})
 	if err != nil {
 		return nil, err
 	}
@@ -55,7 +76,14 @@ func (r *Router) Digest() ([]byte, error) {
 //
 // Errors: [ErrNoDigest] if no digest was heard; [ErrNoMemory]; [ErrClosed].
 func (r *Router) Repair() (Frames, error) {
-	return r.gather(func(at *C.squall_router) C.uint32_t { return C.squall_router_gather_repair(at) })
+	return r.RepairWithin(noLimit)
+}
+
+// RepairWithin does the same in frames of at most `limit` bytes each. A negative limit is none.
+//
+// Errors: [ErrTooLong] as of [Router.BoardWithin]; [ErrNoDigest] if no digest was heard; [ErrNoMemory]; [ErrClosed].
+func (r *Router) RepairWithin(limit int) (Frames, error) {
+	return r.gather(func(at *C.squall_router) C.uint32_t { return C.squall_router_gather_repair(at, C.size_t(limit)) })
 }
 
 // gather makes frames by a call, and fetches them before another call can make others.

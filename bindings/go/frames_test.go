@@ -172,6 +172,32 @@ func TestABoardOfTwoPieces(t *testing.T) {
 	equals(t, boardOf(t, other), frames)
 }
 
+// A cell with two spans has 65 bytes, one with one span 49, and a digest with one row 56.
+func TestFramesWithinALimit(t *testing.T) {
+	router := fresh(t)
+	for root := uint32(2); root < 8; root += 2 {
+		succeeds(t, router.Loaded(1, 0, 3, squall.Key(root, 0), squall.Key(root+1, 0)))
+	}
+	frames, err := router.BoardWithin(65)
+	succeeds(t, err)
+	equals(t, []int{len(frames), len(frames[0]), len(frames[1])}, []int{2, 65, 49})
+	_, err = router.BoardWithin(48)
+	equals(t, err, squall.ErrTooLong)
+	_, err = router.DigestWithin(55)
+	equals(t, err, squall.ErrTooLong)
+	digest, err := router.DigestWithin(56)
+	succeeds(t, err)
+	equals(t, len(digest), 56)
+	_, err = router.RepairWithin(0)
+	equals(t, err, squall.ErrNoDigest)
+	succeeds(t, router.Hear(unhex(emptyDigest)))
+	_, err = router.RepairWithin(0)
+	equals(t, err, squall.ErrTooLong)
+	repair, err := router.RepairWithin(65)
+	succeeds(t, err)
+	equals(t, repair, frames)
+}
+
 func TestRoutersThatRepair(t *testing.T) {
 	a, b := loaded(t), loaded(t)
 	succeeds(t, b.Done(2, 0, 4))

@@ -171,14 +171,32 @@ func (l *Leader) Finished() bool {
 //
 // Errors: [ErrNoMemory]; [ErrClosed].
 func (l *Leader) Board() (Frames, error) {
-	return l.gather(func(at *C.squall_leader) C.uint32_t { return C.squall_leader_gather_board(at) })
+	return l.BoardWithin(noLimit)
+}
+
+// BoardWithin does the same in frames of at most `limit` bytes each, for a transport that limits its messages.
+// A negative limit is none.
+//
+// Errors: [ErrTooLong] if a single report needs a longer frame. A limit of 98,337 is enough for any report, and
+// one of 49 for all but courses. [ErrNoMemory]; [ErrClosed].
+func (l *Leader) BoardWithin(limit int) (Frames, error) {
+	return l.gather(func(at *C.squall_leader) C.uint32_t { return C.squall_leader_gather_board(at, C.size_t(limit)) })
 }
 
 // Digest makes the frame of a digest of that, as [Router.Digest] does.
 //
 // Errors: [ErrTooLong] if the digest has more rows than a frame holds; [ErrNoMemory]; [ErrClosed].
 func (l *Leader) Digest() ([]byte, error) {
-	frames, err := l.gather(func(at *C.squall_leader) C.uint32_t { return C.squall_leader_gather_digest(at) })
+	return l.DigestWithin(noLimit)
+}
+
+// DigestWithin does the same in a frame of at most `limit` bytes. A negative limit is none.
+//
+// Errors: [ErrTooLong] if the digest has more bytes, since it is not cut; [ErrNoMemory]; [ErrClosed].
+func (l *Leader) DigestWithin(limit int) ([]byte, error) {
+	frames, err := l.gather(func(at *C.squall_leader) C.uint32_t {
+		return C.squall_leader_gather_digest(at, C.size_t(limit))
+	})
 	if err != nil {
 		return nil, err
 	}
@@ -190,7 +208,14 @@ func (l *Leader) Digest() ([]byte, error) {
 //
 // Errors: [ErrNoDigest] if no digest was heard; [ErrNoMemory]; [ErrClosed].
 func (l *Leader) Repair() (Frames, error) {
-	return l.gather(func(at *C.squall_leader) C.uint32_t { return C.squall_leader_gather_repair(at) })
+	return l.RepairWithin(noLimit)
+}
+
+// RepairWithin does the same in frames of at most `limit` bytes each. A negative limit is none.
+//
+// Errors: [ErrTooLong] as of [Leader.BoardWithin]; [ErrNoDigest] if no digest was heard; [ErrNoMemory]; [ErrClosed].
+func (l *Leader) RepairWithin(limit int) (Frames, error) {
+	return l.gather(func(at *C.squall_leader) C.uint32_t { return C.squall_leader_gather_repair(at, C.size_t(limit)) })
 }
 
 // gather makes frames by a call, and fetches them before another call can make others.

@@ -176,6 +176,28 @@ func TestDigestsOfPartitionsAndLeadersThatAreTooLong(t *testing.T) {
 	equals(t, err, squall.ErrTooLong)
 }
 
+// A course of two plans has more than 49 bytes.
+func TestFramesOfPartitionsAndLeadersWithinALimit(t *testing.T) {
+	partition, leader := partitionOf(t, 1), leaderOf(t, 0)
+	succeeds(t, leader.Begin(newPlan))
+	frames, err := leader.Board()
+	succeeds(t, err)
+	succeeds(t, partition.Hear(frames[0]))
+	_, err = partition.BoardWithin(49)
+	equals(t, err, squall.ErrTooLong)
+	_, err = leader.BoardWithin(49)
+	equals(t, err, squall.ErrTooLong)
+	_, err = partition.DigestWithin(19)
+	equals(t, err, squall.ErrTooLong)
+	_, err = leader.DigestWithin(19)
+	equals(t, err, squall.ErrTooLong)
+	_, err = partition.RepairWithin(49)
+	equals(t, err, squall.ErrNoDigest)
+	frames, err = leader.BoardWithin(98337)
+	succeeds(t, err)
+	equals(t, len(frames), 1)
+}
+
 func TestALeaderThatIsClosed(t *testing.T) {
 	closed := leaderOf(t, 0)
 	succeeds(t, closed.Begin(newPlan))

@@ -232,14 +232,32 @@ func (p *Partition) spans(fill func(at *C.squall_part, from C.size_t, out *C.squ
 //
 // Errors: [ErrNoMemory]; [ErrClosed].
 func (p *Partition) Board() (Frames, error) {
-	return p.gather(func(at *C.squall_part) C.uint32_t { return C.squall_part_gather_board(at) })
+	return p.BoardWithin(noLimit)
+}
+
+// BoardWithin does the same in frames of at most `limit` bytes each, for a transport that limits its messages.
+// A negative limit is none.
+//
+// Errors: [ErrTooLong] if a single report needs a longer frame. A limit of 98,337 is enough for any report, and
+// one of 49 for all but courses. [ErrNoMemory]; [ErrClosed].
+func (p *Partition) BoardWithin(limit int) (Frames, error) {
+	return p.gather(func(at *C.squall_part) C.uint32_t { return C.squall_part_gather_board(at, C.size_t(limit)) })
 }
 
 // Digest makes the frame of a digest of that, as [Router.Digest] does.
 //
 // Errors: [ErrTooLong] if the digest has more rows than a frame holds; [ErrNoMemory]; [ErrClosed].
 func (p *Partition) Digest() ([]byte, error) {
-	frames, err := p.gather(func(at *C.squall_part) C.uint32_t { return C.squall_part_gather_digest(at) })
+	return p.DigestWithin(noLimit)
+}
+
+// DigestWithin does the same in a frame of at most `limit` bytes. A negative limit is none.
+//
+// Errors: [ErrTooLong] if the digest has more bytes, since it is not cut; [ErrNoMemory]; [ErrClosed].
+func (p *Partition) DigestWithin(limit int) ([]byte, error) {
+	frames, err := p.gather(func(at *C.squall_part) C.uint32_t {
+		return C.squall_part_gather_digest(at, C.size_t(limit))
+	})
 	if err != nil {
 		return nil, err
 	}
@@ -251,7 +269,14 @@ func (p *Partition) Digest() ([]byte, error) {
 //
 // Errors: [ErrNoDigest] if no digest was heard; [ErrNoMemory]; [ErrClosed].
 func (p *Partition) Repair() (Frames, error) {
-	return p.gather(func(at *C.squall_part) C.uint32_t { return C.squall_part_gather_repair(at) })
+	return p.RepairWithin(noLimit)
+}
+
+// RepairWithin does the same in frames of at most `limit` bytes each. A negative limit is none.
+//
+// Errors: [ErrTooLong] as of [Partition.BoardWithin]; [ErrNoDigest] if no digest was heard; [ErrNoMemory]; [ErrClosed].
+func (p *Partition) RepairWithin(limit int) (Frames, error) {
+	return p.gather(func(at *C.squall_part) C.uint32_t { return C.squall_part_gather_repair(at, C.size_t(limit)) })
 }
 
 // gather makes frames by a call, and fetches them before another call can make others.

@@ -3,18 +3,22 @@
 from __future__ import annotations
 
 import ctypes
-from typing import TYPE_CHECKING, Any, Callable, ClassVar, List, Tuple
+from typing import TYPE_CHECKING, Any, Callable, ClassVar, List, Optional, Tuple
 
 from ._buffers import Lent
 from ._fork import REFUSED, refuse
 from ._handle import Handle, T
 from ._room import Room
 from ._status import check
+from .keys import wide
 
 if TYPE_CHECKING:
     from _typeshed import ReadableBuffer
 
 _SMALL = 4096
+
+# SQUALL_NO_LIMIT.
+_NO_LIMIT = 0xFFFFFFFFFFFFFFFF
 
 
 class Hears(Handle):
@@ -60,31 +64,39 @@ class Hears(Handle):
             with Lent(data) as lent:
                 check(self._ask(kept, lent.at, lent.size))
 
-    def board(self) -> List[bytes]:
+    def board(self, *, limit: Optional[int] = None) -> List[bytes]:
         """The frames of all that was reported to it or that it reports itself; none if nothing was.
 
-        They have at most 1,048,584 bytes each. Raises `NoMemory` and `ClosedError`.
-        """
-        return self._frames(self._call_board)
+        They have at most 1,048,584 bytes each, and at most `limit`, for a transport that limits its
+        messages. A limit of 98,337 is enough for any report, and one of 49 for all but courses.
 
-    def digest(self) -> bytes:
+        Raises `TooLongError` if a single report needs a longer frame, `NumberError` if the limit has
+        no 64 bits, `NoMemory` and `ClosedError`.
+        """
+        return self._frames(self._call_board, limit)
+
+    def digest(self, *, limit: Optional[int] = None) -> bytes:
         """The frame of a digest of what `board` has.
 
         Another one that hears it says by `repair` what this one lacks. Raises `TooLongError` if the
-        digest has more rows than a frame holds, `NoMemory` and `ClosedError`.
+        digest has more rows than a frame holds, or more bytes than `limit`: it is not cut. Raises
+        `NumberError` as `board` does, `NoMemory` and `ClosedError`.
         """
-        return self._frames(self._call_digest)[0]
+        return self._frames(self._call_digest, limit)[0]
 
-    def repair(self) -> List[bytes]:
+    def repair(self, *, limit: Optional[int] = None) -> List[bytes]:
         """The frames of what the digest that was heard last does not show; none if it shows all.
 
-        Raises `NoDigestError` if none was heard, `NoMemory` and `ClosedError`.
+        They have at most `limit` bytes each. Raises `NoDigestError` if none was heard, and all that
+        `board` raises.
         """
-        return self._frames(self._call_repair)
+        return self._frames(self._call_repair, limit)
 
-    def _frames(self, gather: Callable[[Any], int]) -> List[bytes]:
+    def _frames(self, gather: Callable[[Any, int], int], limit: Optional[int]) -> List[bytes]:
+        most = _NO_LIMIT if limit is None else wide(limit)
+
         def steps(room: Room) -> Tuple[int, List[bytes]]:
-            status = gather(room)
+            status = gather(room, most)
             return status, [] if status else list(iter(lambda: self._next_frame(room), b""))
 
         status, frames = self._undisturbed(steps)

@@ -27,7 +27,7 @@ from ._room import (
 )
 from .errors import LibraryError
 
-SONAME = "libsquall.so.1"
+SONAME = "libsquall.so.2"
 VARIABLE = "SQUALL_DIR"
 #: No count, since an allocation failed.
 NO_COUNT = ctypes.c_size_t(-1).value
@@ -133,9 +133,12 @@ router_legs: Callable[[RouterRoom, int, int, Out, int], int]
 router_legs = _slow("router_legs", _SIZE, _ROUTER, _U64, _U64, _LEGS, _SIZE)
 router_number: Callable[[RouterRoom], int] = _quick("router_number", _U32, _ROUTER)
 
-router_gather_board: Callable[[RouterRoom], int] = _slow("router_gather_board", _U32, _ROUTER)
-router_gather_digest: Callable[[RouterRoom], int] = _slow("router_gather_digest", _U32, _ROUTER)
-router_gather_repair: Callable[[RouterRoom], int] = _slow("router_gather_repair", _U32, _ROUTER)
+router_gather_board: Callable[[RouterRoom, int], int]
+router_gather_board = _slow("router_gather_board", _U32, _ROUTER, _SIZE)
+router_gather_digest: Callable[[RouterRoom, int], int]
+router_gather_digest = _slow("router_gather_digest", _U32, _ROUTER, _SIZE)
+router_gather_repair: Callable[[RouterRoom, int], int]
+router_gather_repair = _slow("router_gather_repair", _U32, _ROUTER, _SIZE)
 router_frame: Callable[[RouterRoom, Out, int], int]
 router_frame = _quick("router_frame", _SIZE, _ROUTER, _ADDRESS, _SIZE)
 
@@ -241,9 +244,12 @@ part_given: Callable[[PartRoom, int, int, Out, int], int]
 part_given = _slow("part_given", _SIZE, _PART, _U32, _SIZE, _SPANS, _SIZE)
 part_loaded: Callable[[PartRoom, int, int, Out, int], int]
 part_loaded = _slow("part_loaded", _SIZE, _PART, _U32, _SIZE, _SPANS, _SIZE)
-part_gather_board: Callable[[PartRoom], int] = _slow("part_gather_board", _U32, _PART)
-part_gather_digest: Callable[[PartRoom], int] = _slow("part_gather_digest", _U32, _PART)
-part_gather_repair: Callable[[PartRoom], int] = _slow("part_gather_repair", _U32, _PART)
+part_gather_board: Callable[[PartRoom, int], int]
+part_gather_board = _slow("part_gather_board", _U32, _PART, _SIZE)
+part_gather_digest: Callable[[PartRoom, int], int]
+part_gather_digest = _slow("part_gather_digest", _U32, _PART, _SIZE)
+part_gather_repair: Callable[[PartRoom, int], int]
+part_gather_repair = _slow("part_gather_repair", _U32, _PART, _SIZE)
 part_frame: Callable[[PartRoom, Out, int], int]
 part_frame = _quick("part_frame", _SIZE, _PART, _ADDRESS, _SIZE)
 
@@ -268,9 +274,12 @@ leader_course = _quick("leader_course", None, _LEADER, _COURSE)
 leader_open_next: Callable[[LeaderRoom, Out, int], int]
 leader_open_next = _slow("leader_open_next", _U32, _LEADER, _ADDRESS, _SIZE)
 leader_finished: Callable[[LeaderRoom], int] = _slow("leader_finished", _U32, _LEADER)
-leader_gather_board: Callable[[LeaderRoom], int] = _slow("leader_gather_board", _U32, _LEADER)
-leader_gather_digest: Callable[[LeaderRoom], int] = _slow("leader_gather_digest", _U32, _LEADER)
-leader_gather_repair: Callable[[LeaderRoom], int] = _slow("leader_gather_repair", _U32, _LEADER)
+leader_gather_board: Callable[[LeaderRoom, int], int]
+leader_gather_board = _slow("leader_gather_board", _U32, _LEADER, _SIZE)
+leader_gather_digest: Callable[[LeaderRoom, int], int]
+leader_gather_digest = _slow("leader_gather_digest", _U32, _LEADER, _SIZE)
+leader_gather_repair: Callable[[LeaderRoom, int], int]
+leader_gather_repair = _slow("leader_gather_repair", _U32, _LEADER, _SIZE)
 leader_frame: Callable[[LeaderRoom, Out, int], int]
 leader_frame = _quick("leader_frame", _SIZE, _LEADER, _ADDRESS, _SIZE)
 

@@ -42,7 +42,7 @@ _SIMPLE: Dict[int, Tuple[Type[SquallError], str]] = {
     2: (NumberError, "a number or a rank is outside its limits, or the span has no keys"),
     3: (ClosedError, "nothing was opened"),
     4: (StreamError, "the stream ended with a fault before: only another router can go on"),
-    5: (TooLongError, "the digest has more rows than a frame holds"),
+    5: (TooLongError, "a frame would have more bytes than it may have"),
     6: (NoDigestError, "no digest was heard that could be answered"),
     71: (NotOpenError, "as far as the partition knows, the sub-plan is not opened"),
     72: (NothingLeftError, "the partition holds no key that goes out in the sub-plan opened last"),

@@ -64,7 +64,10 @@ class StreamError(SquallError, ValueError):
 
 
 class TooLongError(SquallError):
-    """A digest has more rows than a frame holds."""
+    """A frame would have more bytes than it may have.
+
+    It is that of a digest, which is not cut, or of a single report.
+    """
 
     status = 5
 

@@ -7,9 +7,13 @@ from typing import Any, List
 
 from squall import (
     FRAME_BYTES,
+    Course,
     FrameError,
     FrameFault,
+    Leader,
     NoDigestError,
+    NumberError,
+    Part,
     Router,
     StreamError,
     TooLongError,
@@ -20,6 +24,7 @@ from .worked import (
     EMPTY_DIGEST,
     FIVE,
     LOAD_FRAME,
+    NEW,
     OLD,
     OPENING_FRAME,
     fresh,
@@ -278,6 +283,33 @@ class Boards(unittest.TestCase):
         with self.assertRaises(TooLongError):
             router.digest()
         self.assertEqual(len(router.board()), 1)
+
+    def test_frames_within_a_limit(self) -> None:
+        # A cell with two spans has 65 bytes, one with one span 49, and a digest with one row 56.
+        router = fresh()
+        for root in [2, 4, 6]:
+            router.loaded(1, 0, 3, key(root), key(root + 1))
+        frames = router.board(limit=65)
+        self.assertEqual([len(it) for it in frames], [65, 49])
+        self.assertEqual(len(router.digest(limit=56)), 56)
+        router.hear(EMPTY_DIGEST)
+        self.assertEqual(router.repair(limit=65), frames)
+        makers: List[Any] = [router.board, router.digest, router.repair]
+        for maker, limit in zip(makers, [48, 55, 0]):
+            with self.assertRaises(TooLongError):
+                maker(limit=limit)
+        with self.assertRaises(NumberError):
+            router.board(limit=-1)
+
+    def test_frames_of_others_within_a_limit(self) -> None:
+        leader = Leader(OLD)
+        leader.begin(NEW)
+        part = Part(3, Course(1, OLD, NEW))
+        part.hear(leader.board(limit=98337)[0])
+        makers: List[Any] = [leader.board, leader.digest, part.board, part.digest]
+        for maker in makers:
+            with self.assertRaises(TooLongError):
+                maker(limit=19)
 
 
 if __name__ == "__main__":

@@ -16,7 +16,8 @@ pub enum Error {
     Limit,
     /// A frame fault came earlier, and the stream is at its end.
     Failed,
-    /// A digest has more rows than a frame holds.
+    /// A frame would have more bytes than it may have: that of a digest, which is not cut, or of a
+    /// single report.
     TooLong,
     /// No digest was fed that could be answered.
     NoDigest,
@@ -188,7 +189,7 @@ impl fmt::Display for Error {
             Error::NoMemory => f.write_str("no memory"),
             Error::Limit => f.write_str("a number or a span is outside its limits"),
             Error::Failed => f.write_str("the stream ended with a fault before"),
-            Error::TooLong => f.write_str("the digest has too many rows for a frame"),
+            Error::TooLong => f.write_str("a frame would be too long"),
             Error::NoDigest => f.write_str("no digest was heard"),
             Error::OldPlan(fault) => write!(f, "the old text is no plan: {fault}"),
             Error::NewPlan(fault) => write!(f, "the new text is no plan: {fault}"),

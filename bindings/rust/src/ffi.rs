@@ -106,9 +106,9 @@ unsafe extern "C" {
         room: usize,
     ) -> usize;
     pub(crate) fn squall_router_number(router: *const RawRouter) -> u32;
-    pub(crate) fn squall_router_gather_board(router: *mut RawRouter) -> u32;
-    pub(crate) fn squall_router_gather_digest(router: *mut RawRouter) -> u32;
-    pub(crate) fn squall_router_gather_repair(router: *mut RawRouter) -> u32;
+    pub(crate) fn squall_router_gather_board(router: *mut RawRouter, limit: usize) -> u32;
+    pub(crate) fn squall_router_gather_digest(router: *mut RawRouter, limit: usize) -> u32;
+    pub(crate) fn squall_router_gather_repair(router: *mut RawRouter, limit: usize) -> u32;
     pub(crate) fn squall_router_frame(router: *mut RawRouter, out: *mut u8, room: usize) -> usize;
     pub(crate) fn squall_router_clashed(router: *const RawRouter) -> usize;
     pub(crate) fn squall_router_counts(
@@ -274,9 +274,9 @@ unsafe extern "C" {
         out: *mut Span,
         room: usize,
     ) -> usize;
-    pub(crate) fn squall_part_gather_board(part: *mut RawPart) -> u32;
-    pub(crate) fn squall_part_gather_digest(part: *mut RawPart) -> u32;
-    pub(crate) fn squall_part_gather_repair(part: *mut RawPart) -> u32;
+    pub(crate) fn squall_part_gather_board(part: *mut RawPart, limit: usize) -> u32;
+    pub(crate) fn squall_part_gather_digest(part: *mut RawPart, limit: usize) -> u32;
+    pub(crate) fn squall_part_gather_repair(part: *mut RawPart, limit: usize) -> u32;
     pub(crate) fn squall_part_frame(part: *mut RawPart, out: *mut u8, room: usize) -> usize;
     pub(crate) fn squall_part_close(part: *mut RawPart);
 
@@ -294,9 +294,9 @@ unsafe extern "C" {
         room: usize,
     ) -> u32;
     pub(crate) fn squall_leader_finished(leader: *const RawLeader) -> u32;
-    pub(crate) fn squall_leader_gather_board(leader: *mut RawLeader) -> u32;
-    pub(crate) fn squall_leader_gather_digest(leader: *mut RawLeader) -> u32;
-    pub(crate) fn squall_leader_gather_repair(leader: *mut RawLeader) -> u32;
+    pub(crate) fn squall_leader_gather_board(leader: *mut RawLeader, limit: usize) -> u32;
+    pub(crate) fn squall_leader_gather_digest(leader: *mut RawLeader, limit: usize) -> u32;
+    pub(crate) fn squall_leader_gather_repair(leader: *mut RawLeader, limit: usize) -> u32;
     pub(crate) fn squall_leader_frame(leader: *mut RawLeader, out: *mut u8, room: usize) -> usize;
     pub(crate) fn squall_leader_close(leader: *mut RawLeader);
 

@@ -9,6 +9,9 @@ pub struct Frames<'a> {
     maker: &'a mut (dyn Maker + Send + 'static),
 }
 
+/// No limit but that of the format.
+pub(crate) const NO_LIMIT: usize = usize::MAX;
+
 /// What makes frames.
 pub(crate) trait Maker {
     /// Writes the next frame that waits if there is room, and says how many bytes it has: 0 if none

@@ -3,7 +3,7 @@
 use crate::course::Course;
 use crate::error::{Error, LeaderFault};
 use crate::ffi::{self, RawLeader};
-use crate::frames::Frames;
+use crate::frames::{Frames, NO_LIMIT};
 use crate::room::Room;
 
 /// Begins one course after another and opens their sub-plans, one at a time. It hears from partitions
@@ -152,9 +152,20 @@ impl Leader {
     ///
     /// [`Error::NoMemory`].
     pub fn board(&mut self) -> Result<Frames<'_>, Error> {
+        self.board_within(NO_LIMIT)
+    }
+
+    /// The same in frames of at most `limit` bytes each, for a transport that limits its messages.
+    ///
+    /// # Errors
+    ///
+    /// [`Error::TooLong`] if a single report needs a longer frame, and then the frames that waited still
+    /// do. A limit of 98,337 bytes is enough for any report, and one of 49 for all but courses.
+    /// [`Error::NoMemory`].
+    pub fn board_within(&mut self, limit: usize) -> Result<Frames<'_>, Error> {
         let leader = self.room.get_mut();
         // SAFETY: the leader was opened.
-        self.check(unsafe { ffi::squall_leader_gather_board(leader) })?;
+        self.check(unsafe { ffi::squall_leader_gather_board(leader, limit) })?;
         Ok(Frames::of(&mut self.room))
     }
 
@@ -164,9 +175,18 @@ impl Leader {
     ///
     /// [`Error::TooLong`] if it has more rows than a frame holds; [`Error::NoMemory`].
     pub fn digest(&mut self) -> Result<Frames<'_>, Error> {
+        self.digest_within(NO_LIMIT)
+    }
+
+    /// The same in a frame of at most `limit` bytes.
+    ///
+    /// # Errors
+    ///
+    /// [`Error::TooLong`] if it has more bytes, since a digest is not cut; [`Error::NoMemory`].
+    pub fn digest_within(&mut self, limit: usize) -> Result<Frames<'_>, Error> {
         let leader = self.room.get_mut();
         // SAFETY: the leader was opened.
-        self.check(unsafe { ffi::squall_leader_gather_digest(leader) })?;
+        self.check(unsafe { ffi::squall_leader_gather_digest(leader, limit) })?;
         Ok(Frames::of(&mut self.room))
     }
 
@@ -176,9 +196,19 @@ impl Leader {
     ///
     /// [`Error::NoDigest`] if none was heard; [`Error::NoMemory`].
     pub fn repair(&mut self) -> Result<Frames<'_>, Error> {
+        self.repair_within(NO_LIMIT)
+    }
+
+    /// The same in frames of at most `limit` bytes each.
+    ///
+    /// # Errors
+    ///
+    /// [`Error::TooLong`] as of `board_within`; [`Error::NoDigest`] if none was heard;
+    /// [`Error::NoMemory`].
+    pub fn repair_within(&mut self, limit: usize) -> Result<Frames<'_>, Error> {
         let leader = self.room.get_mut();
         // SAFETY: the leader was opened.
-        self.check(unsafe { ffi::squall_leader_gather_repair(leader) })?;
+        self.check(unsafe { ffi::squall_leader_gather_repair(leader, limit) })?;
         Ok(Frames::of(&mut self.room))
     }
 }

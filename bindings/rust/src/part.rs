@@ -4,7 +4,7 @@ use crate::course::{Course, all_of};
 use crate::errand::Reply;
 use crate::error::Error;
 use crate::ffi::{self, RawAnswer, RawPart};
-use crate::frames::Frames;
+use crate::frames::{Frames, NO_LIMIT};
 use crate::key::{Rank, Span};
 use crate::room::Room;
 
@@ -220,8 +220,19 @@ impl Part {
     ///
     /// [`Error::NoMemory`].
     pub fn board(&mut self) -> Result<Frames<'_>, Error> {
+        self.board_within(NO_LIMIT)
+    }
+
+    /// The same in frames of at most `limit` bytes each, for a transport that limits its messages.
+    ///
+    /// # Errors
+    ///
+    /// [`Error::TooLong`] if a single report needs a longer frame, and then the frames that waited still
+    /// do. A limit of 98,337 bytes is enough for any report, and one of 49 for all but courses.
+    /// [`Error::NoMemory`].
+    pub fn board_within(&mut self, limit: usize) -> Result<Frames<'_>, Error> {
         // SAFETY: the partition was opened.
-        check(unsafe { ffi::squall_part_gather_board(self.room.get_mut()) })?;
+        check(unsafe { ffi::squall_part_gather_board(self.room.get_mut(), limit) })?;
         Ok(Frames::of(&mut self.room))
     }
 
@@ -231,8 +242,17 @@ impl Part {
     ///
     /// [`Error::TooLong`] if it has more rows than a frame holds; [`Error::NoMemory`].
     pub fn digest(&mut self) -> Result<Frames<'_>, Error> {
+        self.digest_within(NO_LIMIT)
+    }
+
+    /// The same in a frame of at most `limit` bytes.
+    ///
+    /// # Errors
+    ///
+    /// [`Error::TooLong`] if it has more bytes, since a digest is not cut; [`Error::NoMemory`].
+    pub fn digest_within(&mut self, limit: usize) -> Result<Frames<'_>, Error> {
         // SAFETY: the partition was opened.
-        check(unsafe { ffi::squall_part_gather_digest(self.room.get_mut()) })?;
+        check(unsafe { ffi::squall_part_gather_digest(self.room.get_mut(), limit) })?;
         Ok(Frames::of(&mut self.room))
     }
 
@@ -242,8 +262,18 @@ impl Part {
     ///
     /// [`Error::NoDigest`] if none was heard; [`Error::NoMemory`].
     pub fn repair(&mut self) -> Result<Frames<'_>, Error> {
+        self.repair_within(NO_LIMIT)
+    }
+
+    /// The same in frames of at most `limit` bytes each.
+    ///
+    /// # Errors
+    ///
+    /// [`Error::TooLong`] as of `board_within`; [`Error::NoDigest`] if none was heard;
+    /// [`Error::NoMemory`].
+    pub fn repair_within(&mut self, limit: usize) -> Result<Frames<'_>, Error> {
         // SAFETY: the partition was opened.
-        check(unsafe { ffi::squall_part_gather_repair(self.room.get_mut()) })?;
+        check(unsafe { ffi::squall_part_gather_repair(self.room.get_mut(), limit) })?;
         Ok(Frames::of(&mut self.room))
     }
 }

@@ -4,7 +4,7 @@ use crate::course::Course;
 use crate::errand::Errand;
 use crate::error::Error;
 use crate::ffi::{self, RawRouter};
-use crate::frames::Frames;
+use crate::frames::{Frames, NO_LIMIT};
 use crate::key::{Leg, Rank, all_legs};
 use crate::room::Room;
 use crate::view::View;
@@ -170,9 +170,20 @@ impl Router {
     ///
     /// [`Error::NoMemory`].
     pub fn board(&mut self) -> Result<Frames<'_>, Error> {
+        self.board_within(NO_LIMIT)
+    }
+
+    /// The same in frames of at most `limit` bytes each, for a transport that limits its messages.
+    ///
+    /// # Errors
+    ///
+    /// [`Error::TooLong`] if a single report needs a longer frame, and then the frames that waited still
+    /// do. A limit of 98,337 bytes is enough for any report, and one of 49 for all but courses.
+    /// [`Error::NoMemory`].
+    pub fn board_within(&mut self, limit: usize) -> Result<Frames<'_>, Error> {
         let router = self.room.get_mut();
         // SAFETY: the router was opened.
-        self.check(unsafe { ffi::squall_router_gather_board(router) })?;
+        self.check(unsafe { ffi::squall_router_gather_board(router, limit) })?;
         Ok(Frames::of(&mut self.room))
     }
 
@@ -181,11 +192,20 @@ impl Router {
     ///
     /// # Errors
     ///
-    /// [`Error::TooLong`] where it has more rows than a frame holds; [`Error::NoMemory`].
+    /// [`Error::TooLong`] if it has more rows than a frame holds; [`Error::NoMemory`].
     pub fn digest(&mut self) -> Result<Frames<'_>, Error> {
+        self.digest_within(NO_LIMIT)
+    }
+
+    /// The same in a frame of at most `limit` bytes.
+    ///
+    /// # Errors
+    ///
+    /// [`Error::TooLong`] if it has more bytes, since a digest is not cut; [`Error::NoMemory`].
+    pub fn digest_within(&mut self, limit: usize) -> Result<Frames<'_>, Error> {
         let router = self.room.get_mut();
         // SAFETY: the router was opened.
-        self.check(unsafe { ffi::squall_router_gather_digest(router) })?;
+        self.check(unsafe { ffi::squall_router_gather_digest(router, limit) })?;
         Ok(Frames::of(&mut self.room))
     }
 
@@ -193,11 +213,21 @@ impl Router {
     ///
     /// # Errors
     ///
-    /// [`Error::NoDigest`] where none was fed; [`Error::NoMemory`].
+    /// [`Error::NoDigest`] if none was fed; [`Error::NoMemory`].
     pub fn repair(&mut self) -> Result<Frames<'_>, Error> {
+        self.repair_within(NO_LIMIT)
+    }
+
+    /// The same in frames of at most `limit` bytes each.
+    ///
+    /// # Errors
+    ///
+    /// [`Error::TooLong`] as of `board_within`; [`Error::NoDigest`] if none was fed;
+    /// [`Error::NoMemory`].
+    pub fn repair_within(&mut self, limit: usize) -> Result<Frames<'_>, Error> {
         let router = self.room.get_mut();
         // SAFETY: the router was opened.
-        self.check(unsafe { ffi::squall_router_gather_repair(router) })?;
+        self.check(unsafe { ffi::squall_router_gather_repair(router, limit) })?;
         Ok(Frames::of(&mut self.room))
     }
 

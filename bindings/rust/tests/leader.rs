@@ -102,6 +102,17 @@ fn a_standby_catches_up() -> Result<(), Error> {
 }
 
 #[test]
+fn frames_within_a_limit() -> Result<(), Error> {
+    let mut leader = Leader::open(OLD, 0)?;
+    assert_eq!(leader.digest_within(15).err(), Some(Error::TooLong));
+    leader.begin(NEW)?;
+    assert_eq!(leader.board_within(49).err(), Some(Error::TooLong));
+    assert_eq!(leader.repair_within(49).err(), Some(Error::NoDigest));
+    assert_eq!(leader.board_within(98_337)?.count(), 1);
+    Ok(())
+}
+
+#[test]
 fn what_is_no_frame() -> Result<(), Error> {
     let mut leader = Leader::open(OLD, 0)?;
     let done = frame::done(1, 0, 3)?;

@@ -195,6 +195,28 @@ fn whole_frames() -> Result<(), Error> {
 }
 
 #[test]
+fn frames_within_a_limit() -> Result<(), Error> {
+    let (mut a, mut b) = (fresh(), fresh());
+    for root in [2, 4, 6] {
+        a.loaded(1, 0, 3, key(root)..key(root + 1))?;
+    }
+    let lengths: Vec<usize> = a.board_within(65)?.map(|frame| frame.len()).collect();
+    assert_eq!(lengths, [65, 49]);
+    assert_eq!(a.board_within(48).err(), Some(Error::TooLong));
+    assert_eq!(a.digest_within(55).err(), Some(Error::TooLong));
+    assert_eq!(a.digest_within(56)?.count(), 1);
+    for digest in b.digest()? {
+        a.feed(&digest)?;
+    }
+    assert_eq!(a.repair_within(0).err(), Some(Error::TooLong));
+    for frame in a.repair_within(49)? {
+        b.hear(&frame)?;
+    }
+    assert!(a.board()?.eq(b.board()?));
+    Ok(())
+}
+
+#[test]
 fn boards_digests_and_repairs() -> Result<(), Error> {
     let (mut a, mut b) = (fresh(), fresh());
     a.loaded(1, 0, 3, key(2)..key(3))?;

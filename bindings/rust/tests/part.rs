@@ -176,6 +176,17 @@ fn digests_and_repairs() -> Result<(), Error> {
     Ok(())
 }
 
+#[test]
+fn frames_within_a_limit() -> Result<(), Error> {
+    let mut part = opened(3);
+    part.load(&chunk(key(2), key(3)))?;
+    assert_eq!(part.board_within(48).err(), Some(Error::TooLong));
+    assert_eq!(part.digest_within(56).err(), Some(Error::TooLong));
+    assert_eq!(part.repair_within(0).err(), Some(Error::NoDigest));
+    assert!(part.board_within(49)?.all(|frame| frame.len() <= 49));
+    Ok(())
+}
+
 /// A call that a partition answered, as a log keeps it.
 enum Call {
     Hear(Vec<u8>),

@@ -1,28 +1,22 @@
 -- The frames that wait in a router of the C library until they are fetched (this project).
-use Rattle.std.specs.Prelude.{◌≡◌, ◌≢◌, ℕ, ◌<◌, nat_lt, List, [], ◌∷◌, ◌++◌, map, length, drop, Option, None, Some, Result, Ok, Err, ◌⊎◌, if◌then◌else◌}
-use Rattle.squall_board.specs.Boards.{BoardValue}
-use Rattle.squall_wire.specs.declared.message.Message.TheVariants.{Delta, Digest}
+use Rattle.std.specs.Prelude.{◌≡◌, ℕ, List, [], Option, None, Some, Result, Ok, Err, ◌⊎◌}
 use Rattle.squall_wire.specs.DigestValue.{DigestValue}
-use Rattle.squall_wire.specs.declared.encoding.EncodeFault.{EncodeFault}
-use Rattle.squall_wire.specs.declared.encoding.EncodeFault.TheVariants.{TooLong, NoMemory}
-use Rattle.squall_wire.specs.Limits.{body_limit}
-use Rattle.squall_wire.specs.Messages.{spell, spell_body, body_of}
-use Rattle.squall_delta.specs.Pieces.{ArePieces}
-use Rattle.squall_delta.specs.Hashes.{digest_of}
-use Rattle.squall_delta.specs.Repairs.{IsRepair}
-use Rattle.squall_c_values.specs.Rooms.{over}
+use Rattle.squall_c_frames.specs.declared.fault.FrameFault.{FrameFault}
+use Rattle.squall_c_frames.specs.declared.fault.FrameFault.TheVariants.{TooLong, NoMemory}
+use Rattle.squall_c_frames.specs.Queues.{frames_after}
+use Rattle.squall_c_frames.specs.BoardFrames.{ArePieceFrames, AreRepairFrames, AreDigestFrames, HasLongItem, HasLongRepair, HasLongDigest}
 use Rattle.squall_c.specs.declared.router.RouterSlot.{RouterSlot}
 use Rattle.squall_c.specs.declared.router.Station.{Station}
 use Rattle.squall_c.specs.Status.{ok, no_memory, closed, too_long, no_digest}
-use Rattle.squall_c.specs.Opening.{with_station, with_frames, Ends, IsDone}
+use Rattle.squall_c.specs.Opening.{with_station, with_frames, Ends}
 
--- the frames of boards, one for each
-abbrev pub frames_of : List BoardValue → List (List ℕ)
-frames_of ps = map (λ p. spell (Delta p)) ps
+-- ---- in a station
 
--- the frames of the board's pieces
-abbrev pub ArePieceFrames : BoardValue → List (List ℕ) → Type 0
-ArePieceFrames b frames = (ps : List BoardValue) × ArePieces b ps × (frames ≡ frames_of ps)
+-- the frames that were made wait in the station, in place of those before; or the status tells why none were made, and nothing changes
+abbrev pub Keeps : Result (List (List ℕ)) FrameFault → Station → Station → ℕ → Type 0
+Keeps (Ok frames) old new status = (status ≡ ok) × (new ≡ with_frames old frames)
+Keeps (Err TooLong) old new status = (status ≡ too_long) × (new ≡ old)
+Keeps (Err NoMemory) old new status = (status ≡ no_memory) × (new ≡ old)
 
 -- such frames wait in the station, in place of those before
 pub record KeepsFrames (AreFrames : List (List ℕ) → Type 0) (old new : Station) : Type 0 where
@@ -30,81 +24,68 @@ pub record KeepsFrames (AreFrames : List (List ℕ) → Type 0) (old new : Stati
   pub are : AreFrames frames
   pub kept : new ≡ with_frames old frames
 
--- the same in the slot
+-- the same; or one would be too long, or an allocation failed, and nothing changes
+abbrev pub KeepsAs : (List (List ℕ) → Type 0) → Type 0 → Station → Station → ℕ → Type 0
+KeepsAs AreFrames IsLong old new status =
+    ((status ≡ ok) × KeepsFrames AreFrames old new) ⊎ (((status ≡ too_long) × (new ≡ old) × IsLong) ⊎ ((status ≡ no_memory) × (new ≡ old)))
+
+-- the frames of the board's pieces wait, each of at most so many bytes
+abbrev pub KeepsBoard : ℕ → Station → Station → ℕ → Type 0
+KeepsBoard limit old new status = KeepsAs (ArePieceFrames limit old.router.board) (HasLongItem limit old.router.board) old new status
+
+-- the frame of the board's digest waits, likewise
+abbrev pub KeepsDigest : ℕ → Station → Station → ℕ → Type 0
+KeepsDigest limit old new status = KeepsAs (AreDigestFrames limit old.router.board) (HasLongDigest limit old.router.board) old new status
+
+-- the frames of the pieces of a repair of the board by the digest wait, likewise, if there is a digest
+abbrev pub KeepsRepair : ℕ → Station → Option DigestValue → Station → ℕ → Type 0
+KeepsRepair limit old None new status = (status ≡ no_digest) × (new ≡ old)
+KeepsRepair limit old (Some d) new status = KeepsAs (AreRepairFrames limit old.router.board d) (HasLongRepair limit old.router.board d) old new status
+
+-- ---- in a slot
+
+-- such frames wait in the slot, in place of those before
 pub record Waits (AreFrames : List (List ℕ) → Type 0) (old : RouterSlot) (s : Station) (new : RouterSlot) (status : ℕ) : Type 0 where
   pub told : status ≡ ok
   pub station : Station
   pub keeps : KeepsFrames AreFrames s station
   pub after : new ≡ with_station old station
 
--- ---- the board
+-- the same; or one would be too long, and nothing changes
+abbrev pub WaitsOr : (List (List ℕ) → Type 0) → Type 0 → RouterSlot → Station → RouterSlot → ℕ → Type 0
+WaitsOr AreFrames IsLong old s new status = Waits AreFrames old s new status ⊎ ((status ≡ too_long) × (new ≡ old) × IsLong)
 
-abbrev pub station_gathers_board : RouterSlot → Option Station → RouterSlot → ℕ → Type 0
-station_gathers_board old None new status = (status ≡ closed) × (new ≡ old)
-station_gathers_board old (Some s) new status = Ends old (Waits (ArePieceFrames s.router.board) old s) new status
+-- the same; or an allocation failed, and nothing changes
+abbrev pub Gathers : (List (List ℕ) → Type 0) → Type 0 → RouterSlot → Station → RouterSlot → ℕ → Type 0
+Gathers AreFrames IsLong old s new status = Ends old (WaitsOr AreFrames IsLong old s) new status
 
--- the frames of the board's pieces wait
-abbrev pub GathersBoard : RouterSlot → RouterSlot → ℕ → Type 0
-GathersBoard old new status = station_gathers_board old old.station new status
+abbrev pub station_gathers_board : ℕ → RouterSlot → Option Station → RouterSlot → ℕ → Type 0
+station_gathers_board limit old None new status = (status ≡ closed) × (new ≡ old)
+station_gathers_board limit old (Some s) new status = Gathers (ArePieceFrames limit s.router.board) (HasLongItem limit s.router.board) old s new status
 
--- ---- its digest
+-- the frames of the board's pieces wait, each of at most so many bytes
+abbrev pub GathersBoard : ℕ → RouterSlot → RouterSlot → ℕ → Type 0
+GathersBoard limit old new status = station_gathers_board limit old old.station new status
 
--- how many bytes the body of the digest of a board has
-abbrev pub digest_length : BoardValue → ℕ
-digest_length b = length (spell_body (body_of (Digest (digest_of b))))
+abbrev pub station_gathers_digest : ℕ → RouterSlot → Option Station → RouterSlot → ℕ → Type 0
+station_gathers_digest limit old None new status = (status ≡ closed) × (new ≡ old)
+station_gathers_digest limit old (Some s) new status = Gathers (AreDigestFrames limit s.router.board) (HasLongDigest limit s.router.board) old s new status
 
--- the frame of the digest, or that it would be too long, unless there was not the memory for it
-abbrev pub IsDigestFrame : BoardValue → Result (List (List ℕ)) EncodeFault → Type 0
-IsDigestFrame b (Ok frames) = frames ≡ spell (Digest (digest_of b)) ∷ []
-IsDigestFrame b (Err TooLong) = body_limit < digest_length b
-IsDigestFrame b (Err NoMemory) = Unit {0}
+-- the frame of the board's digest waits, likewise
+abbrev pub GathersDigest : ℕ → RouterSlot → RouterSlot → ℕ → Type 0
+GathersDigest limit old new status = station_gathers_digest limit old old.station new status
 
--- that frame waits in the station, in place of those before
-abbrev pub KeepsDigest : Station → Result (Unit {0}) EncodeFault → Station → Type 0
-KeepsDigest old (Ok done) new = new ≡ with_frames old (spell (Digest (digest_of old.router.board)) ∷ [])
-KeepsDigest old (Err TooLong) new = (body_limit < digest_length old.router.board) × (new ≡ old)
-KeepsDigest old (Err NoMemory) new = new ≡ old
+abbrev pub gathers_repair_by : ℕ → RouterSlot → Station → Option DigestValue → RouterSlot → ℕ → Type 0
+gathers_repair_by limit old s None new status = (status ≡ no_digest) × (new ≡ old)
+gathers_repair_by limit old s (Some d) new status = Gathers (AreRepairFrames limit s.router.board d) (HasLongRepair limit s.router.board d) old s new status
 
--- that frame waits, or it would be too long
-abbrev pub DigestWaits : RouterSlot → Station → RouterSlot → ℕ → Type 0
-DigestWaits old s new status = IsDone (with_station old (with_frames s (spell (Digest (digest_of s.router.board)) ∷ []))) new status
-    ⊎ ((status ≡ too_long) × (new ≡ old) × (body_limit < digest_length s.router.board))
+abbrev pub station_gathers_repair : ℕ → RouterSlot → Option Station → RouterSlot → ℕ → Type 0
+station_gathers_repair limit old None new status = (status ≡ closed) × (new ≡ old)
+station_gathers_repair limit old (Some s) new status = gathers_repair_by limit old s s.heard new status
 
-abbrev pub station_gathers_digest : RouterSlot → Option Station → RouterSlot → ℕ → Type 0
-station_gathers_digest old None new status = (status ≡ closed) × (new ≡ old)
-station_gathers_digest old (Some s) new status = Ends old (DigestWaits old s) new status
-
--- the frame of the board's digest waits
-abbrev pub GathersDigest : RouterSlot → RouterSlot → ℕ → Type 0
-GathersDigest old new status = station_gathers_digest old old.station new status
-
--- ---- a repair
-
--- the frames of the pieces of a repair of the board by the digest
-abbrev pub AreRepairFrames : BoardValue → DigestValue → List (List ℕ) → Type 0
-AreRepairFrames b d frames = (repair : BoardValue) × IsRepair b d repair × ArePieceFrames repair frames
-
--- they wait in the station, or there was not the memory for it
-pub record KeepsRepairBy (d : DigestValue) (old new : Station) (status : ℕ) : Type 0 where
-  pub kept : status ≢ no_memory → (status ≡ ok) × KeepsFrames (AreRepairFrames old.router.board d) old new
-  pub memory : status ≡ no_memory → new ≡ old
-
--- the same where there may be no digest
-abbrev pub KeepsRepair : Station → Option DigestValue → Station → ℕ → Type 0
-KeepsRepair old None new status = (status ≡ no_digest) × (new ≡ old)
-KeepsRepair old (Some d) new status = KeepsRepairBy d old new status
-
-abbrev pub gathers_repair_by : RouterSlot → Station → Option DigestValue → RouterSlot → ℕ → Type 0
-gathers_repair_by old s None new status = (status ≡ no_digest) × (new ≡ old)
-gathers_repair_by old s (Some d) new status = Ends old (Waits (AreRepairFrames s.router.board d) old s) new status
-
-abbrev pub station_gathers_repair : RouterSlot → Option Station → RouterSlot → ℕ → Type 0
-station_gathers_repair old None new status = (status ≡ closed) × (new ≡ old)
-station_gathers_repair old (Some s) new status = gathers_repair_by old s s.heard new status
-
--- the frames of what the digest heard last does not show of the board wait
-abbrev pub GathersRepair : RouterSlot → RouterSlot → ℕ → Type 0
-GathersRepair old new status = station_gathers_repair old old.station new status
+-- the frames of what the digest heard last does not show of the board wait, likewise
+abbrev pub GathersRepair : ℕ → RouterSlot → RouterSlot → ℕ → Type 0
+GathersRepair limit old new status = station_gathers_repair limit old old.station new status
 
 -- ---- fetching
 
@@ -113,22 +94,7 @@ abbrev pub waiting_frames : Option Station → List (List ℕ)
 waiting_frames None = []
 waiting_frames (Some s) = s.frames
 
--- the frames without the first, where that fits the room
-abbrev pub frames_after : List (List ℕ) → List ℕ → List (List ℕ)
-frames_after [] room = []
-frames_after (f ∷ fs) room = if nat_lt (length room) (length f) then f ∷ fs else fs
-
--- the room, the first frame at its front where that fits it
-abbrev pub room_after : List (List ℕ) → List ℕ → List ℕ
-room_after [] room = room
-room_after (f ∷ fs) room = if nat_lt (length room) (length f) then room else over f room
-
--- the length of the first frame, 0 where there is none
-abbrev pub first_length : List (List ℕ) → ℕ
-first_length [] = 0
-first_length (f ∷ fs) = length f
-
--- the slot with other frames that wait, where there is a router
+-- the slot with other frames that wait, if there is a router
 abbrev pub slot_with_frames : RouterSlot → Option Station → List (List ℕ) → RouterSlot
 slot_with_frames old None frames = old
 slot_with_frames old (Some s) frames = with_station old (with_frames s frames)

@@ -6,15 +6,15 @@ use Rattle.squall_plan.specs.declared.fault.PlanFault.{PlanFault}
 use Rattle.squall_plan.specs.Form.{plan_of_text}
 use Rattle.squall_course.specs.Change.{Change}
 use Rattle.squall_wire.specs.declared.fault.WireFault.{WireFault}
-use Rattle.squall_wire.specs.declared.encoding.EncodeFault.{EncodeFault}
-use Rattle.squall_wire.specs.declared.encoding.EncodeFault.TheVariants.{TooLong, NoMemory as NoMemoryForFrame}
 use Rattle.squall_leader.specs.declared.fault.LeaderFault.{LeaderFault}
 use Rattle.squall_leader.specs.declared.fault.LeaderFault.TheVariants.{Running, NoNumber, Idle, NotDone, NoMore, NoMemory}
 use Rattle.squall_leader.specs.Leaders.{LeaderValue, new_leader, IsFinished}
 use Rattle.squall_c_values.specs.Rooms.{over}
+use Rattle.squall_c_frames.specs.declared.fault.FrameFault.{FrameFault}
+use Rattle.squall_c_frames.specs.declared.fault.FrameFault.TheVariants.{TooLong, NoMemory as NoMemoryForFrames}
 use Rattle.squall_c_frames.specs.Queues.{frames_after}
 use Rattle.squall_c_leaders.specs.declared.fault.RepairFault.{RepairFault}
-use Rattle.squall_c_leaders.specs.declared.fault.RepairFault.TheVariants.{NoDigest, NoMemory as NoMemoryForRepair}
+use Rattle.squall_c_leaders.specs.declared.fault.RepairFault.TheVariants.{NoDigest, TooLong as TooLongForRepair, NoMemory as NoMemoryForRepair}
 use Rattle.squall_c_leaders.specs.Nodes.{NodeValue, new_node, begun_leader, Begins, Opens, HearsFrame, KeepsBoard, KeepsDigest, KeepsRepair, with_frames, node_after}
 use Rattle.squall_c.specs.declared.status.Cause.{Cause}
 use Rattle.squall_c.specs.declared.courses.HeldCourse.{HeldCourse}
@@ -101,18 +101,15 @@ abbrev pub open_number : Result ℕ LeaderFault → ℕ
 open_number (Ok sub) = ok
 open_number (Err fault) = leader_number fault
 
-abbrev pub board_number : Result (Unit {0}) AllocError → ℕ
-board_number (Ok done) = ok
-board_number (Err failed) = no_memory
-
-abbrev pub encode_number : Result (Unit {0}) EncodeFault → ℕ
-encode_number (Ok done) = ok
-encode_number (Err TooLong) = too_long
-encode_number (Err NoMemoryForFrame) = no_memory
+abbrev pub frame_number : Result (Unit {0}) FrameFault → ℕ
+frame_number (Ok done) = ok
+frame_number (Err TooLong) = too_long
+frame_number (Err NoMemoryForFrames) = no_memory
 
 abbrev pub repair_number : Result (Unit {0}) RepairFault → ℕ
 repair_number (Ok done) = ok
 repair_number (Err NoDigest) = no_digest
+repair_number (Err TooLongForRepair) = too_long
 repair_number (Err NoMemoryForRepair) = no_memory
 
 -- the slot with another node
@@ -181,14 +178,14 @@ LeaderOpens old room new told status = leader_opens old old.node room new told s
 
 -- ---- frames that wait
 
-abbrev pub LeaderGathersBoard : LeaderSlot → LeaderSlot → ℕ → Type 0
-LeaderGathersBoard old new status = AnswersIn board_number KeepsBoard old old.node new status
+abbrev pub LeaderGathersBoard : ℕ → LeaderSlot → LeaderSlot → ℕ → Type 0
+LeaderGathersBoard limit old new status = AnswersIn frame_number (KeepsBoard limit) old old.node new status
 
-abbrev pub LeaderGathersDigest : LeaderSlot → LeaderSlot → ℕ → Type 0
-LeaderGathersDigest old new status = AnswersIn encode_number KeepsDigest old old.node new status
+abbrev pub LeaderGathersDigest : ℕ → LeaderSlot → LeaderSlot → ℕ → Type 0
+LeaderGathersDigest limit old new status = AnswersIn frame_number (KeepsDigest limit) old old.node new status
 
-abbrev pub LeaderGathersRepair : LeaderSlot → LeaderSlot → ℕ → Type 0
-LeaderGathersRepair old new status = AnswersIn repair_number KeepsRepair old old.node new status
+abbrev pub LeaderGathersRepair : ℕ → LeaderSlot → LeaderSlot → ℕ → Type 0
+LeaderGathersRepair limit old new status = AnswersIn repair_number (KeepsRepair limit) old old.node new status
 
 -- the frames that wait
 abbrev pub frames_of_leader : Option NodeValue → List (List ℕ)

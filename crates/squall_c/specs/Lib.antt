@@ -13,8 +13,6 @@ pub use Rattle.squall_wire.specs.Messages
 pub use Rattle.squall_wire.specs.Reading
 pub use Rattle.squall_wire.specs.Hearing
 pub use Rattle.squall_delta.specs.Pieces
-pub use Rattle.squall_delta.specs.Hashes
-pub use Rattle.squall_delta.specs.Repairs
 pub use Rattle.squall_table.specs.Tables
 pub use Rattle.squall_router.specs.Routers
 pub use Rattle.squall_errand.specs.Errands
@@ -31,6 +29,7 @@ pub use Rattle.squall_c_parts.specs.PartFrames
 pub use Rattle.squall_c_parts.specs.PartValues
 pub use Rattle.squall_leader.specs.Leaders
 pub use Rattle.squall_c_frames.specs.Queues
+pub use Rattle.squall_c_frames.specs.BoardFrames
 pub use Rattle.squall_c_leaders.specs.Nodes as LeaderNodes
 pub mod Status
 pub mod Opening

@@ -92,14 +92,14 @@ loaded_in (Some n) number from room = spans_that_fit (loaded_spans n number) fro
 
 -- ---- frames
 
-abbrev pub PartGathersBoard : PartSlot → PartSlot → ℕ → Type 0
-PartGathersBoard old new status = through GathersBoard (Unit {0}) old old.node new status
+abbrev pub PartGathersBoard : ℕ → PartSlot → PartSlot → ℕ → Type 0
+PartGathersBoard limit old new status = through (GathersBoard limit) (Unit {0}) old old.node new status
 
-abbrev pub PartGathersDigest : PartSlot → PartSlot → ℕ → Type 0
-PartGathersDigest old new status = through GathersDigest (Unit {0}) old old.node new status
+abbrev pub PartGathersDigest : ℕ → PartSlot → PartSlot → ℕ → Type 0
+PartGathersDigest limit old new status = through (GathersDigest limit) (Unit {0}) old old.node new status
 
-abbrev pub PartGathersRepair : PartSlot → PartSlot → ℕ → Type 0
-PartGathersRepair old new status = through GathersRepair (Unit {0}) old old.node new status
+abbrev pub PartGathersRepair : ℕ → PartSlot → PartSlot → ℕ → Type 0
+PartGathersRepair limit old new status = through (GathersRepair limit) (Unit {0}) old old.node new status
 
 -- the frames that wait
 abbrev pub part_frames : Option NodeValue → List (List ℕ)

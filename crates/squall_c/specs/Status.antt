@@ -27,7 +27,7 @@ closed = 3
 abbrev pub failed : ℕ
 failed = 4
 
--- it does not fit a frame
+-- a frame would have more bytes than it may have
 abbrev pub too_long : ℕ
 too_long = 5
 

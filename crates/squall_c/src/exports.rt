@@ -10,7 +10,8 @@ ghost use Rattle.squall_c.specs.Opening.{IsOpened};
 ghost use Rattle.squall_c.specs.Reporting.{loaded_report, Takes, Issues};
 ghost use Rattle.squall_c.specs.Feeding.{Feeds};
 ghost use Rattle.squall_c.specs.WholeFrames.{HearsFrame};
-ghost use Rattle.squall_c.specs.Frames.{GathersBoard, GathersDigest, GathersRepair, waiting_frames, room_after, first_length, slot_after};
+ghost use Rattle.squall_c_frames.specs.Queues.{room_after, first_length};
+ghost use Rattle.squall_c.specs.Frames.{GathersBoard, GathersDigest, GathersRepair, waiting_frames, slot_after};
 ghost use Rattle.squall_c_values.specs.Rooms.{over};
 ghost use Rattle.squall_c.specs.Showing.{routed, course_number, legs_of_station, that_fit};
 
@@ -193,37 +194,39 @@ pub unsafe extern "C" fn squall_router_number(router: *const CRouter) -> u32
 }
 
 /// Has the frames of all that the router has heard wait, in place of those that waited before:
-/// `squall_router_frame` fetches them. No memory (1), no router (3): then nothing changes.
+/// `squall_router_frame` fetches them. Each has at most `limit` bytes. No memory (1), no router (3), an
+/// item has no such frame (5): then nothing changes.
 #[unsafe(no_mangle)]
-pub unsafe extern "C" fn squall_router_gather_board(router: *mut CRouter) -> u32
+pub unsafe extern "C" fn squall_router_gather_board(router: *mut CRouter, limit: usize) -> u32
     ghost s: { RouterSlot }
     requires* { sem 𝓛 (router_at router s) }
-    ensures* { sem 𝓛 (router_such router (λ now. GathersBoard s now result)) }
+    ensures* { sem 𝓛 (router_such router (λ now. GathersBoard limit s now result)) }
 {
-    gather_board(&mut *(router as *mut RouterSlot))
+    gather_board(&mut *(router as *mut RouterSlot), limit)
 }
 
 /// Has the frame of a digest of all that the router has heard wait, in place of the frames that
-/// waited before. No memory (1), no router (3), the digest does not fit a frame (5): then nothing
-/// changes.
+/// waited before. It has at most `limit` bytes. No memory (1), no router (3), the digest does not fit
+/// such a frame (5): then nothing changes.
 #[unsafe(no_mangle)]
-pub unsafe extern "C" fn squall_router_gather_digest(router: *mut CRouter) -> u32
+pub unsafe extern "C" fn squall_router_gather_digest(router: *mut CRouter, limit: usize) -> u32
     ghost s: { RouterSlot }
     requires* { sem 𝓛 (router_at router s) }
-    ensures* { sem 𝓛 (router_such router (λ now. GathersDigest s now result)) }
+    ensures* { sem 𝓛 (router_such router (λ now. GathersDigest limit s now result)) }
 {
-    gather_digest(&mut *(router as *mut RouterSlot))
+    gather_digest(&mut *(router as *mut RouterSlot), limit)
 }
 
 /// Has the frames of what the digest heard last does not show wait, in place of those that waited
-/// before. No memory (1), no router (3), no digest was heard (6): then nothing changes.
+/// before. Each has at most `limit` bytes. No memory (1), no router (3), an item has no such frame (5),
+/// no digest was heard (6): then nothing changes.
 #[unsafe(no_mangle)]
-pub unsafe extern "C" fn squall_router_gather_repair(router: *mut CRouter) -> u32
+pub unsafe extern "C" fn squall_router_gather_repair(router: *mut CRouter, limit: usize) -> u32
     ghost s: { RouterSlot }
     requires* { sem 𝓛 (router_at router s) }
-    ensures* { sem 𝓛 (router_such router (λ now. GathersRepair s now result)) }
+    ensures* { sem 𝓛 (router_such router (λ now. GathersRepair limit s now result)) }
 {
-    gather_repair(&mut *(router as *mut RouterSlot))
+    gather_repair(&mut *(router as *mut RouterSlot), limit)
 }
 
 /// Puts the first frame that waits into the room, from its start on, and it waits no longer. If the

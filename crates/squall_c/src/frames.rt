@@ -1,190 +1,84 @@
 //! The frames that a router sends: they wait in its slot until they are fetched.
 
-ghost use Rattle.std.specs.Prelude.{◌≡◌, [], ◌∷◌, ◌++◌, IfOk, OnOk, OnErr};
-ghost use Rattle.squall_wire.specs.declared.message.Message.TheVariants.{Delta as DeltaMessage};
-ghost use Rattle.squall_wire.specs.Messages.{spell};
-ghost use Rattle.squall_c.specs.Frames.{frames_of, ArePieceFrames, IsDigestFrame, AreRepairFrames, KeepsFrames, KeepsRepair, KeepsDigest};
-ghost use Rattle.squall_c.specs.Frames.{GathersBoard, GathersDigest, GathersRepair, waiting_frames, frames_after, room_after, first_length};
-ghost use Rattle.squall_c.specs.Frames.{slot_after};
+ghost use Rattle.std.specs.Prelude.{◌≡◌};
+ghost use Rattle.squall_c_frames.specs.Queues.{room_after, first_length};
+ghost use Rattle.squall_c.specs.Frames.{Keeps, KeepsBoard, KeepsDigest, KeepsRepair};
+ghost use Rattle.squall_c.specs.Frames.{GathersBoard, GathersDigest, GathersRepair, waiting_frames, slot_after};
 
 use crate::router::{RouterSlot, Station};
-use crate::status::{CLOSED, NO_DIGEST, NO_MEMORY, OK, TOO_LONG, memory_status};
-use squall_board::{Board, Delta};
-use squall_delta::{digest, pieces, repair};
-use squall_wire::{Digest, EncodeFault, Message, encode, encode_board};
-use std::alloc::{AllocError, Global};
-use std::collections::VecDeque;
-use std::marker::Model;
+use crate::status::{CLOSED, NO_DIGEST, NO_MEMORY, OK, TOO_LONG};
+use squall_c_frames::{FrameFault, Frames, board_frames, digest_frame, repair_frames};
 
-/// Frames in the order in which they are to be fetched. Contracts see them as the list of their
-/// bytes.
-#[derive(Drop)]
-pub struct Frames {
-    waiting: VecDeque<Vec<u8>>,
-}
-
-impl Model for Frames {
-    ghost use Rattle.std.specs.Prelude.{ℕ, List, map};
-
-    ghost Value = { List (List ℕ) };
-
-    ghost view = { λ f. map (λ v. v.items) f.waiting.items };
-}
-
-impl Frames {
-    /// No frame. It allocates nothing.
-    pub(crate) fn new(alloc: Global) -> Frames
-        ensures { result ≡ [] }
-    {
-        Frames {
-            waiting: VecDeque::new(alloc),
-        }
-    }
-
-    /// Adds a frame, behind the others. It fails only if an allocation fails.
-    fn push(&mut self, frame: Vec<u8>) -> Result<(), AllocError>
-        ensures { OnOk result (self.new ≡ self.old ++ frame.items ∷ []) }
-    {
-        self.waiting.push_back(frame)?;
-        Ok(())
-    }
-
-    /// Puts the first frame into the room, from its start on, and drops it, if the room has as many
-    /// bytes. Answers how long it is, and 0 if there is none.
-    fn fetch(&mut self, room: &mut [u8]) -> usize
-        ensures room { room.new ≡ room_after self.old room.old }
-        ensures frames { self.new ≡ frames_after self.old room.old }
-        ensures count { result ≡ first_length self.old }
-    {
-        let Some(frame) = self.waiting.front() else {
-            return 0;
-        };
-        let count = frame.len();
-        if count <= room.len() {
-            room[..count].copy_from_slice(frame);
-            let _ = self.waiting.pop_front();
-        }
-        count
-    }
-}
-
-/// The frame of a piece of a board. It fails only if an allocation fails.
-fn piece_frame(alloc: Global, piece: &Delta) -> Result<Vec<u8>, AllocError>
-    ensures { IfOk result (λ frame. frame.items ≡ spell (DeltaMessage piece.now)) }
+/// Has the frames wait, in place of those that waited before, or tells why there are none.
+fn keep(station: &mut Station, made: Result<Frames, FrameFault>) -> u32
+    ensures { Keeps made station.old station.new result }
 {
-    match encode_board(alloc, piece) {
-        Ok(frame) => Ok(frame),
-        // Each piece fits a frame, so that only a failed allocation is left.
-        Err(_) => Err(AllocError),
-    }
-}
-
-/// The frames of the pieces.
-fn frames_of(alloc: Global, pieces: &[Delta]) -> Result<Frames, AllocError>
-    ensures { IfOk result (λ frames. frames ≡ frames_of pieces.now) }
-{
-    let mut frames = Frames::new(alloc);
-    for piece in pieces {
-        frames.push(piece_frame(alloc, piece)?)?;
-    }
-    Ok(frames)
-}
-
-/// The frames of the pieces of the board. It fails only if an allocation fails.
-fn board_frames(alloc: Global, board: &Board) -> Result<Frames, AllocError>
-    ensures { IfOk result (λ frames. ArePieceFrames board.now frames) }
-{
-    let pieces = pieces(alloc, board)?;
-    frames_of(alloc, &pieces)
-}
-
-/// The frames of the pieces of the repair of the board by the digest. It fails if an allocation
-/// fails, or if the count of an issue's owners is full.
-fn repair_frames(alloc: Global, board: &Board, digest: &Digest) -> Result<Frames, AllocError>
-    ensures { IfOk result (λ frames. AreRepairFrames board.now digest.now frames) }
-{
-    let repair = repair(alloc, board, digest)?;
-    board_frames(alloc, &repair)
-}
-
-/// The frame of the digest of the board. `TooLong` where its body would have more than 1,048,576
-/// bytes.
-fn digest_frame(alloc: Global, board: &Board) -> Result<Frames, EncodeFault>
-    ensures { IsDigestFrame board.now result }
-{
-    let digest = digest(alloc, board)?;
-    let frame = encode(alloc, &Message::Digest(digest))?;
-    let mut frames = Frames::new(alloc);
-    frames.push(frame)?;
-    Ok(frames)
-}
-
-/// Has the frames of the board's pieces wait.
-fn keep_board(station: &mut Station) -> Result<(), AllocError>
-    ensures kept { OnOk result (KeepsFrames (ArePieceFrames station.old.router.board) station.old station.new) }
-    ensures err { OnErr result (station.new ≡ station.old) }
-{
-    station.frames = board_frames(station.alloc, station.router.board())?;
-    Ok(())
-}
-
-/// Has the frames of the pieces of a repair by the digest heard last wait, in place of those that
-/// waited before.
-fn keep_repair(station: &mut Station) -> u32
-    ensures { KeepsRepair station.old station.old.heard station.new result }
-{
-    let Some(digest) = &station.heard else {
-        return NO_DIGEST;
-    };
-    match repair_frames(station.alloc, station.router.board(), digest) {
+    match made {
         Ok(frames) => {
             station.frames = frames;
             OK
         }
-        Err(_) => NO_MEMORY,
+        Err(FrameFault::TooLong) => TOO_LONG,
+        Err(FrameFault::NoMemory) => NO_MEMORY,
     }
 }
 
-/// Has the frame of the board's digest wait, in place of the frames that waited before.
-fn keep_digest(station: &mut Station) -> Result<(), EncodeFault>
-    ensures { KeepsDigest station.old result station.new }
+/// Has the frames of the board's pieces wait.
+fn keep_board(station: &mut Station, limit: usize) -> u32
+    ensures { KeepsBoard limit station.old station.new result }
 {
-    station.frames = digest_frame(station.alloc, station.router.board())?;
-    Ok(())
+    let made = board_frames(station.alloc, station.router.board(), limit);
+    keep(station, made)
 }
 
-/// Has the frames of the board's pieces wait, in place of those that waited before.
-pub(crate) fn gather_board(slot: &mut RouterSlot) -> u32
-    ensures { GathersBoard slot.old slot.new result }
+/// Has the frame of the board's digest wait.
+fn keep_digest(station: &mut Station, limit: usize) -> u32
+    ensures { KeepsDigest limit station.old station.new result }
+{
+    let made = digest_frame(station.alloc, station.router.board(), limit);
+    keep(station, made)
+}
+
+/// Has the frames of the pieces of a repair by the digest heard last wait.
+fn keep_repair(station: &mut Station, limit: usize) -> u32
+    ensures { KeepsRepair limit station.old station.old.heard station.new result }
+{
+    let Some(digest) = &station.heard else {
+        return NO_DIGEST;
+    };
+    let made = repair_frames(station.alloc, station.router.board(), digest, limit);
+    keep(station, made)
+}
+
+/// Has the frames of the board's pieces wait, in place of those that waited before. Each has at most
+/// `limit` bytes. `TOO_LONG` if an item of the board has no such frame, and then nothing changes.
+pub(crate) fn gather_board(slot: &mut RouterSlot, limit: usize) -> u32
+    ensures { GathersBoard limit slot.old slot.new result }
 {
     match &mut slot.station {
-        Some(station) => memory_status(keep_board(station)),
+        Some(station) => keep_board(station, limit),
         None => CLOSED,
     }
 }
 
-/// Has the frame of the board's digest wait, in place of the frames that waited before. `TOO_LONG`
-/// where the digest has more rows than fit a frame.
-pub(crate) fn gather_digest(slot: &mut RouterSlot) -> u32
-    ensures { GathersDigest slot.old slot.new result }
+/// Has the frame of the board's digest wait, likewise. `TOO_LONG` if it would have more than `limit`
+/// bytes, or more rows than fit a frame.
+pub(crate) fn gather_digest(slot: &mut RouterSlot, limit: usize) -> u32
+    ensures { GathersDigest limit slot.old slot.new result }
 {
-    let Some(station) = &mut slot.station else {
-        return CLOSED;
-    };
-    match keep_digest(station) {
-        Ok(()) => OK,
-        Err(EncodeFault::TooLong) => TOO_LONG,
-        Err(EncodeFault::NoMemory) => NO_MEMORY,
+    match &mut slot.station {
+        Some(station) => keep_digest(station, limit),
+        None => CLOSED,
     }
 }
 
-/// Has the frames of what the digest heard last does not show of the board wait, in place of those
-/// that waited before. `NO_DIGEST` where no digest was heard.
-pub(crate) fn gather_repair(slot: &mut RouterSlot) -> u32
-    ensures { GathersRepair slot.old slot.new result }
+/// Has the frames of what the digest heard last does not show of the board wait, likewise.
+/// `NO_DIGEST` if no digest was heard.
+pub(crate) fn gather_repair(slot: &mut RouterSlot, limit: usize) -> u32
+    ensures { GathersRepair limit slot.old slot.new result }
 {
     match &mut slot.station {
-        Some(station) => keep_repair(station),
+        Some(station) => keep_repair(station, limit),
         None => CLOSED,
     }
 }

@@ -161,36 +161,39 @@ pub unsafe extern "C" fn squall_leader_finished(leader: *const CLeader) -> u32
 }
 
 /// Has the frames of all that the leader heard and reported itself wait, in place of those that waited
-/// before: `squall_leader_frame` fetches them. No memory (1), no leader (3): then nothing changes.
+/// before: `squall_leader_frame` fetches them. Each has at most `limit` bytes. No memory (1), no leader
+/// (3), an item has no such frame (5): then nothing changes.
 #[unsafe(no_mangle)]
-pub unsafe extern "C" fn squall_leader_gather_board(leader: *mut CLeader) -> u32
+pub unsafe extern "C" fn squall_leader_gather_board(leader: *mut CLeader, limit: usize) -> u32
     ghost s: { LeaderSlot }
     requires* { sem 𝓛 (leader_at leader s) }
-    ensures* { sem 𝓛 (leader_such leader (λ now. LeaderGathersBoard s now result)) }
+    ensures* { sem 𝓛 (leader_such leader (λ now. LeaderGathersBoard limit s now result)) }
 {
-    leader_gather_board(&mut *(leader as *mut LeaderSlot))
+    leader_gather_board(&mut *(leader as *mut LeaderSlot), limit)
 }
 
-/// Has the frame of a digest of all that wait, in place of the frames that waited before. No memory
-/// (1), no leader (3), the digest does not fit a frame (5): then nothing changes.
+/// Has the frame of a digest of all that wait, in place of the frames that waited before. It has at
+/// most `limit` bytes. No memory (1), no leader (3), the digest does not fit such a frame (5): then
+/// nothing changes.
 #[unsafe(no_mangle)]
-pub unsafe extern "C" fn squall_leader_gather_digest(leader: *mut CLeader) -> u32
+pub unsafe extern "C" fn squall_leader_gather_digest(leader: *mut CLeader, limit: usize) -> u32
     ghost s: { LeaderSlot }
     requires* { sem 𝓛 (leader_at leader s) }
-    ensures* { sem 𝓛 (leader_such leader (λ now. LeaderGathersDigest s now result)) }
+    ensures* { sem 𝓛 (leader_such leader (λ now. LeaderGathersDigest limit s now result)) }
 {
-    leader_gather_digest(&mut *(leader as *mut LeaderSlot))
+    leader_gather_digest(&mut *(leader as *mut LeaderSlot), limit)
 }
 
 /// Has the frames of what the digest heard last does not show wait, in place of those that waited
-/// before. No memory (1), no leader (3), no digest was heard (6): then nothing changes.
+/// before. Each has at most `limit` bytes. No memory (1), no leader (3), an item has no such frame (5),
+/// no digest was heard (6): then nothing changes.
 #[unsafe(no_mangle)]
-pub unsafe extern "C" fn squall_leader_gather_repair(leader: *mut CLeader) -> u32
+pub unsafe extern "C" fn squall_leader_gather_repair(leader: *mut CLeader, limit: usize) -> u32
     ghost s: { LeaderSlot }
     requires* { sem 𝓛 (leader_at leader s) }
-    ensures* { sem 𝓛 (leader_such leader (λ now. LeaderGathersRepair s now result)) }
+    ensures* { sem 𝓛 (leader_such leader (λ now. LeaderGathersRepair limit s now result)) }
 {
-    leader_gather_repair(&mut *(leader as *mut LeaderSlot))
+    leader_gather_repair(&mut *(leader as *mut LeaderSlot), limit)
 }
 
 /// Puts the first frame that waits into the room, from its start on, and it waits no longer. If the

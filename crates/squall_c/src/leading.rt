@@ -3,18 +3,18 @@
 ghost use Rattle.std.specs.Prelude.{◌≡◌, length, take};
 ghost use Rattle.squall_c_frames.specs.Queues.{room_after, first_length};
 ghost use Rattle.squall_c_values.specs.Rooms.{over};
-ghost use Rattle.squall_c.specs.LeaderSlots.{leader_number, hear_number, begin_number, open_number, board_number, repair_number, encode_number};
+ghost use Rattle.squall_c.specs.LeaderSlots.{leader_number, hear_number, begin_number, open_number, frame_number, repair_number};
 ghost use Rattle.squall_c.specs.LeaderSlots.{numbers_told, frames_of_leader, leader_slot_after};
 ghost use Rattle.squall_c.specs.LeaderSlots.{LeaderHears, LeaderBegins, LeaderOpens, LeaderGathersBoard, LeaderGathersDigest, LeaderGathersRepair};
 
 use crate::leaders::LeaderSlot;
 use crate::router::read_plan;
 use crate::status::{CLOSED, IN_NEW_PLAN, NO_DIGEST, NO_MEMORY, OK, TOO_LONG, wire_status};
+use squall_c_frames::FrameFault;
 use squall_c_leaders::{LeaderNode, RepairFault};
 use squall_leader::LeaderFault;
 use squall_plan::Plan;
-use squall_wire::{EncodeFault, WireFault};
-use std::alloc::AllocError;
+use squall_wire::WireFault;
 
 /// The course begun last is not over.
 const RUNNING: u32 = 91;
@@ -132,45 +132,36 @@ pub(crate) fn leader_open_next(slot: &mut LeaderSlot, room: &mut [u32]) -> u32
     }
 }
 
-/// How it ended that the frames of a board were to be made.
-fn board_number(answer: Result<(), AllocError>) -> u32
-    ensures { result ≡ board_number answer }
+/// How it ended that frames were to be made.
+fn frame_number(answer: Result<(), FrameFault>) -> u32
+    ensures { result ≡ frame_number answer }
 {
     match answer {
         Ok(()) => OK,
-        Err(_) => NO_MEMORY,
+        Err(FrameFault::TooLong) => TOO_LONG,
+        Err(FrameFault::NoMemory) => NO_MEMORY,
     }
 }
 
 /// Has the frames of all that the leader heard and reported itself wait, in place of those that waited
-/// before.
-pub(crate) fn leader_gather_board(slot: &mut LeaderSlot) -> u32
-    ensures { LeaderGathersBoard slot.old slot.new result }
+/// before. Each has at most `limit` bytes. `TOO_LONG` if an item of that has no such frame, and then
+/// nothing changes.
+pub(crate) fn leader_gather_board(slot: &mut LeaderSlot, limit: usize) -> u32
+    ensures { LeaderGathersBoard limit slot.old slot.new result }
 {
     match &mut slot.node {
-        Some(node) => board_number(node.gather_board()),
+        Some(node) => frame_number(node.gather_board(limit)),
         None => CLOSED,
     }
 }
 
-/// How it ended that the frame of a digest was to be made.
-fn encode_number(answer: Result<(), EncodeFault>) -> u32
-    ensures { result ≡ encode_number answer }
-{
-    match answer {
-        Ok(()) => OK,
-        Err(EncodeFault::TooLong) => TOO_LONG,
-        Err(EncodeFault::NoMemory) => NO_MEMORY,
-    }
-}
-
-/// Has the frame of the digest of that wait, in place of the frames that waited before. `TOO_LONG` if
-/// the digest has more rows than fit a frame.
-pub(crate) fn leader_gather_digest(slot: &mut LeaderSlot) -> u32
-    ensures { LeaderGathersDigest slot.old slot.new result }
+/// Has the frame of the digest of that wait, likewise. `TOO_LONG` if it would have more than `limit`
+/// bytes, or more rows than fit a frame.
+pub(crate) fn leader_gather_digest(slot: &mut LeaderSlot, limit: usize) -> u32
+    ensures { LeaderGathersDigest limit slot.old slot.new result }
 {
     match &mut slot.node {
-        Some(node) => encode_number(node.gather_digest()),
+        Some(node) => frame_number(node.gather_digest(limit)),
         None => CLOSED,
     }
 }
@@ -182,17 +173,18 @@ fn repair_number(answer: Result<(), RepairFault>) -> u32
     match answer {
         Ok(()) => OK,
         Err(RepairFault::NoDigest) => NO_DIGEST,
+        Err(RepairFault::TooLong) => TOO_LONG,
         Err(RepairFault::NoMemory) => NO_MEMORY,
     }
 }
 
-/// Has the frames of what the digest heard last does not show wait, in place of those that waited
-/// before. `NO_DIGEST` if none was heard.
-pub(crate) fn leader_gather_repair(slot: &mut LeaderSlot) -> u32
-    ensures { LeaderGathersRepair slot.old slot.new result }
+/// Has the frames of what the digest heard last does not show wait, likewise. `NO_DIGEST` if none was
+/// heard.
+pub(crate) fn leader_gather_repair(slot: &mut LeaderSlot, limit: usize) -> u32
+    ensures { LeaderGathersRepair limit slot.old slot.new result }
 {
     match &mut slot.node {
-        Some(node) => repair_number(node.gather_repair()),
+        Some(node) => repair_number(node.gather_repair(limit)),
         None => CLOSED,
     }
 }

@@ -4,7 +4,7 @@
 ghost use Rattle.std.specs.Prelude.{◌≡◌, length};
 ghost use Rattle.std.specs.Borrow.{sem};
 ghost use Rattle.squall_c_values.specs.Rooms.{over};
-ghost use Rattle.squall_c_parts.specs.PartFrames.{first_length, room_after};
+ghost use Rattle.squall_c_frames.specs.Queues.{first_length, room_after};
 ghost use Rattle.squall_c.specs.declared.courses.CourseSlot.{CourseSlot};
 ghost use Rattle.squall_c.specs.declared.parts.PartSlot.{PartSlot};
 ghost use Rattle.squall_c.specs.Handles.{course_at, part_bytes, part_room, part_at, part_such};
@@ -185,36 +185,39 @@ pub unsafe extern "C" fn squall_part_loaded(
 }
 
 /// Has the frames of all that the partition knows and reports wait, in place of those that waited before.
-/// No memory (1), or no partition (3): then nothing changes.
+/// Each has at most `limit` bytes. No memory (1), no partition (3), an item has no such frame (5): then
+/// nothing changes.
 #[unsafe(no_mangle)]
-pub unsafe extern "C" fn squall_part_gather_board(part: *mut CPart) -> u32
+pub unsafe extern "C" fn squall_part_gather_board(part: *mut CPart, limit: usize) -> u32
     ghost s: { PartSlot }
     requires* { sem 𝓛 (part_at part s) }
-    ensures* { sem 𝓛 (part_such part (λ now. PartGathersBoard s now result)) }
+    ensures* { sem 𝓛 (part_such part (λ now. PartGathersBoard limit s now result)) }
 {
-    part_board(&mut *(part as *mut PartSlot))
+    part_board(&mut *(part as *mut PartSlot), limit)
 }
 
-/// Has the frame of a digest of that wait, in place of the frames that waited before. No memory (1), no
-/// partition (3), the digest does not fit a frame (5): then nothing changes.
+/// Has the frame of a digest of that wait, in place of the frames that waited before. It has at most
+/// `limit` bytes. No memory (1), no partition (3), the digest does not fit such a frame (5): then nothing
+/// changes.
 #[unsafe(no_mangle)]
-pub unsafe extern "C" fn squall_part_gather_digest(part: *mut CPart) -> u32
+pub unsafe extern "C" fn squall_part_gather_digest(part: *mut CPart, limit: usize) -> u32
     ghost s: { PartSlot }
     requires* { sem 𝓛 (part_at part s) }
-    ensures* { sem 𝓛 (part_such part (λ now. PartGathersDigest s now result)) }
+    ensures* { sem 𝓛 (part_such part (λ now. PartGathersDigest limit s now result)) }
 {
-    part_digest(&mut *(part as *mut PartSlot))
+    part_digest(&mut *(part as *mut PartSlot), limit)
 }
 
 /// Has the frames of what the digest heard last does not show wait, in place of those that waited
-/// before. No memory (1), no partition (3), no digest was heard (6): then nothing changes.
+/// before. Each has at most `limit` bytes. No memory (1), no partition (3), an item has no such frame
+/// (5), no digest was heard (6): then nothing changes.
 #[unsafe(no_mangle)]
-pub unsafe extern "C" fn squall_part_gather_repair(part: *mut CPart) -> u32
+pub unsafe extern "C" fn squall_part_gather_repair(part: *mut CPart, limit: usize) -> u32
     ghost s: { PartSlot }
     requires* { sem 𝓛 (part_at part s) }
-    ensures* { sem 𝓛 (part_such part (λ now. PartGathersRepair s now result)) }
+    ensures* { sem 𝓛 (part_such part (λ now. PartGathersRepair limit s now result)) }
 {
-    part_repair(&mut *(part as *mut PartSlot))
+    part_repair(&mut *(part as *mut PartSlot), limit)
 }
 
 /// Puts the first frame that waits into the room, from its start on, and it waits no longer. If the room

@@ -2,7 +2,7 @@
 
 ghost use Rattle.std.specs.Prelude.{◌≡◌, length};
 ghost use Rattle.squall_c_values.specs.Rooms.{over};
-ghost use Rattle.squall_c_parts.specs.PartFrames.{first_length, room_after};
+ghost use Rattle.squall_c_frames.specs.Queues.{first_length, room_after};
 ghost use Rattle.squall_c.specs.PartSlots.{no_part, IsPartOpened, PartHears, PartGives, PartGivesAt, PartLoads, PartFinishes, PartServes};
 ghost use Rattle.squall_c.specs.PartSlots.{held_in, given_in, loaded_in, PartGathersBoard, PartGathersDigest, PartGathersRepair, part_frames, part_after};
 
@@ -148,32 +148,32 @@ pub(crate) fn loaded(slot: &PartSlot, number: u32, from: usize, room: &mut [CSpa
     }
 }
 
-/// Has the frames of all that the partition knows and reports wait.
-pub(crate) fn part_board(slot: &mut PartSlot) -> u32
-    ensures { PartGathersBoard slot.old slot.new result }
+/// Has the frames of all that the partition knows and reports wait, each of at most `limit` bytes.
+pub(crate) fn part_board(slot: &mut PartSlot, limit: usize) -> u32
+    ensures { PartGathersBoard limit slot.old slot.new result }
 {
     match &mut slot.node {
-        Some(node) => node.gather_board(),
+        Some(node) => node.gather_board(limit),
         None => CLOSED,
     }
 }
 
-/// Has the frame of a digest of that wait.
-pub(crate) fn part_digest(slot: &mut PartSlot) -> u32
-    ensures { PartGathersDigest slot.old slot.new result }
+/// Has the frame of a digest of that wait, likewise.
+pub(crate) fn part_digest(slot: &mut PartSlot, limit: usize) -> u32
+    ensures { PartGathersDigest limit slot.old slot.new result }
 {
     match &mut slot.node {
-        Some(node) => node.gather_digest(),
+        Some(node) => node.gather_digest(limit),
         None => CLOSED,
     }
 }
 
-/// Has the frames of what the digest heard last does not show wait.
-pub(crate) fn part_repair(slot: &mut PartSlot) -> u32
-    ensures { PartGathersRepair slot.old slot.new result }
+/// Has the frames of what the digest heard last does not show wait, likewise.
+pub(crate) fn part_repair(slot: &mut PartSlot, limit: usize) -> u32
+    ensures { PartGathersRepair limit slot.old slot.new result }
 {
     match &mut slot.node {
-        Some(node) => node.gather_repair(),
+        Some(node) => node.gather_repair(limit),
         None => CLOSED,
     }
 }

@@ -7,12 +7,12 @@ ghost use Rattle.squall_c.specs.Opening.{first_course, IsNew, IsStationOf, IsOpe
 ghost use Rattle.squall_c.specs.Showing.{routed, course_number, legs_of_station, that_fit};
 ghost use Rattle.squall_c_values.specs.Rooms.{over};
 
-use crate::frames::Frames;
 use crate::legs::put_legs;
 use crate::status::{
     CLOSED, Cause, IN_NEW_PLAN, IN_OLD_PLAN, LIMIT, NO_MEMORY, NO_PLACE, NOWHERE, OK,
 };
 use crate::twin_feed::TwinFeed;
+use squall_c_frames::Frames;
 use squall_c_values::CLeg;
 use squall_course::Course;
 use squall_key::Key;

@@ -24,7 +24,7 @@ pub(crate) const CLOSED: u32 = 3;
 /// A fault ended the stream of frames before.
 pub(crate) const FAILED: u32 = 4;
 
-/// It does not fit a frame.
+/// A frame would have more bytes than it may have.
 pub(crate) const TOO_LONG: u32 = 5;
 
 /// No digest was heard.

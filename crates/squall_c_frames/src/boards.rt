@@ -3,12 +3,13 @@
 ghost use Rattle.std.specs.Prelude.{◌≡◌, IfOk};
 ghost use Rattle.squall_wire.specs.declared.message.Message.TheVariants.{Delta as DeltaMessage};
 ghost use Rattle.squall_wire.specs.Messages.{spell};
-ghost use Rattle.squall_c_frames.specs.BoardFrames.{frames_of, ArePieceFrames, IsDigestFrame, AreRepairFrames};
+ghost use Rattle.squall_c_frames.specs.BoardFrames.{frames_of, IsBoardFrames, IsDigestFrame, IsRepairFrames};
 
+use crate::fault::FrameFault;
 use crate::frames::Frames;
 use squall_board::{Board, Delta};
-use squall_delta::{digest, pieces, repair};
-use squall_wire::{Digest, EncodeFault, Message, encode, encode_board};
+use squall_delta::{digest, pieces_within, repair};
+use squall_wire::{Digest, Message, encode, encode_board};
 use std::alloc::{AllocError, Global};
 
 /// The frame of a piece of a board. It fails only if an allocation fails.
@@ -33,29 +34,40 @@ fn frames_of(alloc: Global, pieces: &[Delta]) -> Result<Frames, AllocError>
     Ok(frames)
 }
 
-/// The frames of the pieces of the board. It fails only if an allocation fails.
-pub fn board_frames(alloc: Global, board: &Board) -> Result<Frames, AllocError>
-    ensures { IfOk result (λ frames. ArePieceFrames board.now frames) }
+/// The frames of the pieces of the board, each of which has at most `limit` bytes. `TooLong` if the frame
+/// of some item alone is longer than the limit, which is so only if the limit is below 98,337 bytes.
+/// `NoMemory` if an allocation failed.
+pub fn board_frames(alloc: Global, board: &Board, limit: usize) -> Result<Frames, FrameFault>
+    ensures { IsBoardFrames limit board.now result }
 {
-    let pieces = pieces(alloc, board)?;
-    frames_of(alloc, &pieces)
+    let pieces = pieces_within(alloc, board, limit)?;
+    Ok(frames_of(alloc, &pieces)?)
 }
 
-/// The frames of the pieces of the repair of the board by the digest. It fails if an allocation
-/// fails, or if the count of an issue's owners is full.
-pub fn repair_frames(alloc: Global, board: &Board, digest: &Digest) -> Result<Frames, AllocError>
-    ensures { IfOk result (λ frames. AreRepairFrames board.now digest.now frames) }
+/// The frames of the pieces of the repair of the board by the digest, likewise. `NoMemory` also if the
+/// count of an issue's owners is full.
+pub fn repair_frames(
+    alloc: Global,
+    board: &Board,
+    digest: &Digest,
+    limit: usize,
+) -> Result<Frames, FrameFault>
+    ensures { IsRepairFrames limit board.now digest.now result }
 {
     let repair = repair(alloc, board, digest)?;
-    board_frames(alloc, &repair)
+    board_frames(alloc, &repair, limit)
 }
 
-/// The frame of the digest of the board. `TooLong` if its body would have more than 1,048,576 bytes.
-pub fn digest_frame(alloc: Global, board: &Board) -> Result<Frames, EncodeFault>
-    ensures { IsDigestFrame board.now result }
+/// The frame of the digest of the board, which has at most `limit` bytes. `TooLong` if it would have
+/// more, or its body more than 1,048,576. `NoMemory` if an allocation failed.
+pub fn digest_frame(alloc: Global, board: &Board, limit: usize) -> Result<Frames, FrameFault>
+    ensures { IsDigestFrame limit board.now result }
 {
     let digest = digest(alloc, board)?;
     let frame = encode(alloc, &Message::Digest(digest))?;
+    if frame.len() > limit {
+        return Err(FrameFault::TooLong);
+    }
     let mut frames = Frames::new(alloc);
     frames.push(frame)?;
     Ok(frames)

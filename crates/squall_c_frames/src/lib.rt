@@ -4,9 +4,11 @@
 #![tactic(auto)]
 
 mod boards;
+mod fault;
 mod frames;
 mod single;
 
 pub use boards::{board_frames, digest_frame, repair_frames};
+pub use fault::FrameFault;
 pub use frames::Frames;
 pub use single::whole;

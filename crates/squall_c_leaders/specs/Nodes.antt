@@ -1,6 +1,5 @@
 -- What a leader behind a handle is, what it hears and which frames wait (this project).
-use Rattle.std.specs.Prelude.{◌≡◌, ◌≢◌, ℕ, ◌-◌, ◌<◌, List, [], ◌∷◌, Option, None, Some, Result, Ok, Err}
-use Rattle.std.specs.declared.alloc.AllocError.{AllocError}
+use Rattle.std.specs.Prelude.{◌≡◌, ◌≢◌, ℕ, ◌-◌, List, [], ◌∷◌, Option, None, Some, Result, Ok, Err}
 use Rattle.squall_plan.specs.declared.range.PlanRange.{PlanRange}
 use Rattle.squall_course.specs.Change.{Change}
 use Rattle.squall_report.specs.declared.report.ReportKind.{ReportKind}
@@ -11,18 +10,17 @@ use Rattle.squall_wire.specs.declared.fault.WireFault.{WireFault}
 use Rattle.squall_wire.specs.declared.fault.WireFault.TheVariants.{NoMemory}
 use Rattle.squall_wire.specs.declared.message.Message.{Message}
 use Rattle.squall_wire.specs.declared.message.Message.TheVariants.{Delta, Digest}
-use Rattle.squall_wire.specs.declared.encoding.EncodeFault.{EncodeFault}
-use Rattle.squall_wire.specs.declared.encoding.EncodeFault.TheVariants.{TooLong, NoMemory as NoMemoryForFrame}
 use Rattle.squall_wire.specs.DigestValue.{DigestValue}
-use Rattle.squall_wire.specs.Limits.{body_limit}
 use Rattle.squall_wire.specs.Messages.{IsMessage, body_of, spell}
 use Rattle.squall_leader.specs.declared.fault.LeaderFault.{LeaderFault}
 use Rattle.squall_leader.specs.Leaders.{LeaderValue, new_leader, after_begin, IsBegun, IsOpened}
 use Rattle.squall_c_frames.specs.Queues.{frames_after}
-use Rattle.squall_c_frames.specs.BoardFrames.{ArePieceFrames, AreRepairFrames, digest_frames, digest_length}
+use Rattle.squall_c_frames.specs.declared.fault.FrameFault.{FrameFault}
+use Rattle.squall_c_frames.specs.declared.fault.FrameFault.TheVariants.{TooLong, NoMemory as NoMemoryForFrames}
+use Rattle.squall_c_frames.specs.BoardFrames.{ArePieceFrames, AreRepairFrames, AreDigestFrames, HasLongItem, HasLongRepair, HasLongDigest}
 use Rattle.squall_c_frames.specs.WholeFrames.{whole_at}
 use Rattle.squall_c_leaders.specs.declared.fault.RepairFault.{RepairFault}
-use Rattle.squall_c_leaders.specs.declared.fault.RepairFault.TheVariants.{NoDigest, NoMemory as NoMemoryForRepair}
+use Rattle.squall_c_leaders.specs.declared.fault.RepairFault.TheVariants.{NoDigest, TooLong as TooLongForRepair, NoMemory as NoMemoryForRepair}
 
 -- a leader, the digest that it heard last and the frames that wait to be fetched
 pub record NodeValue : Type 0 where
@@ -83,22 +81,31 @@ with_frames n frames = record n { frames = frames }
 abbrev pub KeepsFrames : (List (List ℕ) → Type 0) → NodeValue → NodeValue → Type 0
 KeepsFrames AreFrames n m = AreFrames m.frames × (m ≡ with_frames n m.frames)
 
--- the frames of the board's pieces wait, or an allocation failed and nothing changed
-abbrev pub KeepsBoard : NodeValue → Result (Unit {0}) AllocError → NodeValue → Type 0
-KeepsBoard n (Ok done) m = KeepsFrames (ArePieceFrames n.leader.board) n m
-KeepsBoard n (Err failed) m = m ≡ n
+-- the same; or one would be too long, or an allocation failed, and nothing changed
+abbrev pub Keeps : (List (List ℕ) → Type 0) → Type 0 → NodeValue → Result (Unit {0}) FrameFault → NodeValue → Type 0
+Keeps AreFrames IsLong n (Ok done) m = KeepsFrames AreFrames n m
+Keeps AreFrames IsLong n (Err TooLong) m = IsLong × (m ≡ n)
+Keeps AreFrames IsLong n (Err NoMemoryForFrames) m = m ≡ n
 
--- the frame of the board's digest waits, or it would be too long or an allocation failed, and nothing changed
-abbrev pub KeepsDigest : NodeValue → Result (Unit {0}) EncodeFault → NodeValue → Type 0
-KeepsDigest n (Ok done) m = m ≡ with_frames n (digest_frames n.leader.board)
-KeepsDigest n (Err TooLong) m = (body_limit < digest_length n.leader.board) × (m ≡ n)
-KeepsDigest n (Err NoMemoryForFrame) m = m ≡ n
+-- the frames of the board's pieces, each of at most so many bytes
+abbrev pub KeepsBoard : ℕ → NodeValue → Result (Unit {0}) FrameFault → NodeValue → Type 0
+KeepsBoard limit n answer m = Keeps (ArePieceFrames limit n.leader.board) (HasLongItem limit n.leader.board) n answer m
 
--- the frames of a repair by the digest heard last wait, or there is no such digest or an allocation failed, and nothing changed
-abbrev pub KeepsRepair : NodeValue → Result (Unit {0}) RepairFault → NodeValue → Type 0
-KeepsRepair n (Ok done) m = (d : DigestValue) × (n.heard ≡ Some d) × KeepsFrames (AreRepairFrames n.leader.board d) n m
-KeepsRepair n (Err NoDigest) m = (n.heard ≡ None) × (m ≡ n)
-KeepsRepair n (Err NoMemoryForRepair) m = ((d : DigestValue) × (n.heard ≡ Some d)) × (m ≡ n)
+-- the frame of the board's digest, likewise
+abbrev pub KeepsDigest : ℕ → NodeValue → Result (Unit {0}) FrameFault → NodeValue → Type 0
+KeepsDigest limit n answer m = Keeps (AreDigestFrames limit n.leader.board) (HasLongDigest limit n.leader.board) n answer m
+
+-- why a repair is not made, if a digest was heard
+abbrev pub repair_fault : FrameFault → RepairFault
+repair_fault TooLong = TooLongForRepair
+repair_fault NoMemoryForFrames = NoMemoryForRepair
+
+-- the frames of a repair by the digest heard last wait, likewise; or there is no such digest, and nothing changed
+abbrev pub KeepsRepair : ℕ → NodeValue → Result (Unit {0}) RepairFault → NodeValue → Type 0
+KeepsRepair limit n (Ok done) m = (d : DigestValue) × (n.heard ≡ Some d) × KeepsFrames (AreRepairFrames limit n.leader.board d) n m
+KeepsRepair limit n (Err NoDigest) m = (n.heard ≡ None) × (m ≡ n)
+KeepsRepair limit n (Err TooLongForRepair) m = (d : DigestValue) × (n.heard ≡ Some d) × HasLongRepair limit n.leader.board d × (m ≡ n)
+KeepsRepair limit n (Err NoMemoryForRepair) m = ((d : DigestValue) × (n.heard ≡ Some d)) × (m ≡ n)
 
 -- the node after the first frame that waits was to be put into the room
 abbrev pub node_after : NodeValue → List ℕ → NodeValue

@@ -1,43 +1,42 @@
 //! The frames that a leader behind a handle sends: they wait until they are fetched.
 
-ghost use Rattle.std.specs.Prelude.{◌≡◌, OnOk, OnErr};
+ghost use Rattle.std.specs.Prelude.{◌≡◌};
 ghost use Rattle.squall_c_frames.specs.Queues.{room_after, first_length};
 ghost use Rattle.squall_c_leaders.specs.Nodes.{KeepsBoard, KeepsDigest, KeepsRepair, node_after};
 
 use crate::fault::RepairFault;
 use crate::node::LeaderNode;
-use squall_c_frames::{board_frames, digest_frame, repair_frames};
-use squall_wire::EncodeFault;
-use std::alloc::AllocError;
+use squall_c_frames::{FrameFault, board_frames, digest_frame, repair_frames};
 
 impl LeaderNode {
     /// Has the frames of all that the leader heard and reported itself wait, in place of those that
-    /// waited before. It changes nothing if an allocation fails.
-    pub fn gather_board(&mut self) -> Result<(), AllocError>
-        ensures { KeepsBoard self.old result self.new }
+    /// waited before. Each has at most `limit` bytes. `TooLong` if an item of that has no such frame,
+    /// or `NoMemory`, and then nothing changes.
+    pub fn gather_board(&mut self, limit: usize) -> Result<(), FrameFault>
+        ensures { KeepsBoard limit self.old result self.new }
     {
-        self.frames = board_frames(self.alloc, self.leader.board())?;
+        self.frames = board_frames(self.alloc, self.leader.board(), limit)?;
         Ok(())
     }
 
-    /// Has the frame of the digest of that wait, likewise. `TooLong` if it has more rows than fit a
-    /// frame, or `NoMemory`, and then nothing changes.
-    pub fn gather_digest(&mut self) -> Result<(), EncodeFault>
-        ensures { KeepsDigest self.old result self.new }
+    /// Has the frame of the digest of that wait, likewise. `TooLong` if it would have more than `limit`
+    /// bytes, or more rows than fit a frame.
+    pub fn gather_digest(&mut self, limit: usize) -> Result<(), FrameFault>
+        ensures { KeepsDigest limit self.old result self.new }
     {
-        self.frames = digest_frame(self.alloc, self.leader.board())?;
+        self.frames = digest_frame(self.alloc, self.leader.board(), limit)?;
         Ok(())
     }
 
     /// Has the frames of what the digest heard last does not show wait, likewise. `NoDigest` if none
-    /// was heard, or `NoMemory`, and then nothing changes.
-    pub fn gather_repair(&mut self) -> Result<(), RepairFault>
-        ensures { KeepsRepair self.old result self.new }
+    /// was heard, and then nothing changes.
+    pub fn gather_repair(&mut self, limit: usize) -> Result<(), RepairFault>
+        ensures { KeepsRepair limit self.old result self.new }
     {
         let Some(digest) = &self.heard else {
             return Err(RepairFault::NoDigest);
         };
-        self.frames = repair_frames(self.alloc, self.leader.board(), digest)?;
+        self.frames = repair_frames(self.alloc, self.leader.board(), digest, limit)?;
         Ok(())
     }
 

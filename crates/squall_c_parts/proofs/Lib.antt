@@ -1,2 +1,1 @@
-mod PieceFrames
 mod Keys

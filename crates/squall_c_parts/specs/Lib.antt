@@ -5,9 +5,6 @@ pub use Rattle.squall_course.specs.Change
 pub use Rattle.squall_board.specs.Boards
 pub use Rattle.squall_wire.specs.Messages
 pub use Rattle.squall_wire.specs.Reading
-pub use Rattle.squall_delta.specs.Pieces
-pub use Rattle.squall_delta.specs.Hashes
-pub use Rattle.squall_delta.specs.Repairs
 pub use Rattle.squall_protocol.specs.Chunks
 pub use Rattle.squall_part.specs.Parts
 pub use Rattle.squall_part.specs.Giving
@@ -16,6 +13,8 @@ pub use Rattle.squall_part.specs.Serving
 pub use Rattle.squall_replay.specs.Calls
 pub use Rattle.squall_c_values.specs.Rooms
 pub use Rattle.squall_c_values.specs.Values
+pub use Rattle.squall_c_frames.specs.Queues
+pub use Rattle.squall_c_frames.specs.BoardFrames
 pub mod PartStatus
 pub mod PartValues
 pub mod Nodes

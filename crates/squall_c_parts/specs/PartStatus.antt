@@ -26,7 +26,7 @@ no_memory = 1
 abbrev pub limit : ℕ
 limit = 2
 
--- it does not fit a frame
+-- a frame would have more bytes than it may have
 abbrev pub too_long : ℕ
 too_long = 5
 

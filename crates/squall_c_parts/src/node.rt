@@ -7,7 +7,7 @@ ghost use Rattle.squall_c_values.specs.Rooms.{over};
 ghost use Rattle.squall_c_values.specs.Values.{spans_that_fit};
 ghost use Rattle.squall_c_parts.specs.Nodes.{new_node, spans_in, given_spans, loaded_spans};
 
-use crate::frames::Frames;
+use squall_c_frames::Frames;
 use squall_c_values::{CSpan, put_spans};
 use squall_course::Course;
 use squall_key::PartId;

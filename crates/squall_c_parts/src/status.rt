@@ -17,7 +17,7 @@ pub(crate) const NO_MEMORY: u32 = 1;
 /// A number or a rank lies outside its limits, or a span has no key.
 pub(crate) const LIMIT: u32 = 2;
 
-/// It does not fit a frame.
+/// A frame would have more bytes than it may have.
 pub(crate) const TOO_LONG: u32 = 5;
 
 /// No digest was heard.

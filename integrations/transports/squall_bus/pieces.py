@@ -3,9 +3,9 @@
 from __future__ import annotations
 
 import struct
-from typing import Iterable, Iterator, List, NamedTuple, Tuple
+from typing import Iterable, Iterator, List, NamedTuple, Optional, Tuple
 
-from squall import Course, FrameError, Plan, Rank, Router, frame
+from squall import Course, FrameError, Plan, Rank, Router, TooLongError, frame
 
 from .bus import TooLarge
 
@@ -32,12 +32,15 @@ def is_digest(data: bytes) -> bool:
     return data[3:4] == bytes([_DIGEST])
 
 
-def joined(frames: Iterable[bytes]) -> List[bytes]:
-    """The frames of the board that has the reports of all these frames."""
+def joined(frames: Iterable[bytes], most: Optional[int] = None) -> List[bytes]:
+    """The frames of the board that has the reports of all these frames, each of at most `most` bytes.
+
+    Raises `squall.TooLongError` if a single report needs a longer one.
+    """
     with Router(1, ANY, ANY) as outbox:
         for it in frames:
             outbox.hear(it)
-        return outbox.board()
+        return outbox.board(limit=most)
 
 
 def is_delta(data: bytes) -> bool:
@@ -59,19 +62,12 @@ def cut(data: bytes, most: int) -> Pieces:
         return Pieces([data], [])
     if is_digest(data):
         return Pieces([], [data])
-    return _packed(list(reports(data)), most)
-
-
-def _packed(single: List[bytes], most: int) -> Pieces:
-    """Halves the reports until the boards of all parts are short enough."""
-    frames = joined(single)
-    if all(len(it) <= most for it in frames):
-        return Pieces(frames, [])
-    if len(single) == 1:
-        return Pieces([], frames)
-    half = len(single) // 2
-    first, second = _packed(single[:half], most), _packed(single[half:], most)
-    return Pieces(first.fit + second.fit, first.too_long + second.too_long)
+    try:
+        return Pieces(joined([data], most), [])
+    except TooLongError:
+        single = list(reports(data))
+    fit = joined([it for it in single if len(it) <= most], most)
+    return Pieces(fit, [it for it in single if len(it) > most])
 
 
 def refuse(pieces: Pieces, most: int) -> None:

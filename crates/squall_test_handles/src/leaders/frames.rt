@@ -39,7 +39,7 @@ fn pass_all(alloc: Global, from: &mut LeaderNode, to: &mut LeaderNode) -> Option
 /// The frame of the leader's digest.
 fn digest_of(alloc: Global, node: &mut LeaderNode) -> Option<Vec<u8>> {
     let mut room = room(alloc)?;
-    node.gather_digest().ok()?;
+    node.gather_digest(usize::MAX).ok()?;
     let count = node.next_frame(&mut room);
     room.truncate(count);
     Some(room)
@@ -78,7 +78,7 @@ fn passes_a_board(
     to: &mut LeaderNode,
 ) -> Option<()> {
     assert!(rt; know_the_same(alloc, from, to)? == false);
-    from.gather_board().ok()?;
+    from.gather_board(usize::MAX).ok()?;
     assert!(rt; pass_all(alloc, from, to)? > 0);
     assert!(rt; know_the_same(alloc, from, to)?);
     Some(())
@@ -109,7 +109,7 @@ fn what_is_no_frame_is_refused(rt: HostRuntime) -> Result<(), Fail> {
 fn waits_for_room(rt: &impl Abort, node: &mut LeaderNode) -> Option<()> {
     let mut short = [7; 7];
     let mut long = [7; 17];
-    node.gather_digest().ok()?;
+    node.gather_digest(usize::MAX).ok()?;
     assert!(rt; node.next_frame(&mut short) == 16);
     assert!(rt; short == [7; 7]);
     assert!(rt; node.next_frame(&mut long) == 16);

@@ -58,6 +58,14 @@ impl Carrier {
         }
     }
 
+    /// The most bytes that a frame may have.
+    pub fn most(&self) -> usize {
+        match self {
+            Carrier::Redis(_) => usize::MAX,
+            Carrier::Nats(nats) => nats.most(),
+        }
+    }
+
     /// Sends frames to all nodes, or as the answer to a digest.
     pub fn write(&self, from: &str, frames: &[Vec<u8>], re: Option<&str>) -> Done<()> {
         match self {

@@ -92,6 +92,12 @@ impl Nats {
         self.link.lock().unwrap_or_else(PoisonError::into_inner)
     }
 
+    /// The most bytes that a frame may have: what the server takes, or until there is one what each takes.
+    pub fn most(&self) -> usize {
+        let link = self.lock();
+        link.wire.as_ref().map_or(LEAST, |_| link.most)
+    }
+
     /// Connects to the next server that lets it in, and hears all that others send from now on.
     ///
     /// # Errors

@@ -207,9 +207,22 @@ impl Node {
         self.carrier.write(&self.name, frames, None)
     }
 
+    /// Frames that the bus takes. If a single report or a digest is too long for it, they are made without a
+    /// limit: the bus leaves out what it does not take, and says so.
+    fn within(
+        &self,
+        make: impl Fn(&mut Router, usize) -> Result<Vec<Vec<u8>>, Error>,
+    ) -> Result<Vec<Vec<u8>>, Error> {
+        let mut router = lock(&self.router);
+        match make(&mut router, self.carrier.most()) {
+            Err(Error::TooLong) => make(&mut router, usize::MAX),
+            frames => frames,
+        }
+    }
+
     /// Sends all that this node knows. A stream that is trimmed then has it at its end.
     pub fn tell_all(&self) -> Done<()> {
-        let frames = self.board()?;
+        let frames = self.within(|router, limit| Ok(router.board_within(limit)?.collect()))?;
         self.carrier.write(&self.name, &frames, None)
     }
 
@@ -298,7 +311,7 @@ impl Node {
         loop {
             let due = self.wait(shown, pause);
             if shown.elapsed() >= AT_ONCE && (due.is_none() || shown.elapsed() >= ROUND) {
-                let digest: Vec<_> = lock(&self.router).digest()?.collect();
+                let digest = self.within(|router, limit| Ok(router.digest_within(limit)?.collect()))?;
                 self.carrier.show(&self.name, &digest)?;
                 shown = Instant::now();
                 pause = ROUND;
@@ -333,19 +346,17 @@ impl Node {
 
     /// Answers a digest, if this node knows more.
     fn repair(&self, answer: &Answer) -> Done<()> {
-        let repair: Vec<_> = {
-            let mut router = lock(&self.router);
-            match router.hear(&answer.digest) {
-                Err(Error::Frame(_)) => {
-                    self.counts.refused.fetch_add(1, Relaxed);
-                    return Ok(());
-                }
-                heard => heard?,
+        let repaired = self.within(|router, limit| {
+            router.hear(&answer.digest)?;
+            Ok(router.repair_within(limit)?.collect())
+        });
+        let repair = match repaired {
+            Err(Error::Frame(_)) => {
+                self.counts.refused.fetch_add(1, Relaxed);
+                return Ok(());
             }
-            match router.repair() {
-                Err(Error::NoDigest) => return Ok(()),
-                frames => frames?.collect(),
-            }
+            Err(Error::NoDigest) => return Ok(()),
+            repaired => repaired?,
         };
         self.counts.repairs.fetch_add(repair.len() as u64, Relaxed);
         self.carrier.write(&self.name, &repair, Some(&answer.id))

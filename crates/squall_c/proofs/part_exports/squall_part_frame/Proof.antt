@@ -2,7 +2,7 @@
 use Rattle.squall_c.proofs.Steps.{◌≡◌, ℕ, [], ◌∷◌, ◌++◌, refl, w64, MutBor, proved, full_share, id⊢, ftrue, flft, flent, fex, fsep, named, vptr, fact, tables, WpFn, ‵, raw, ◌⊛◌, some, later, prop, ◌$◌, ◌∵◌, !, qed, done, move, keep, drop, use1, use3, split, join, fsplit, fjoin, fpack, feq_l, pick, await, regoal, suffices, group, enter, of_opd, addr, from, fld, hop, stop, no_more, and_then, returns, whole, sub, agg, alloc_all, pass_all, free_all, look_at, look_in_at, get, get_in, through, sets, lands_as, Body, lft_new, lft_end, u8, usize, yes, Is, shows, lends_ref, ref_back, mem, uint_Lawful, Ptr, RawPtr, block_ptr, lies_at, in_a_block, rawptr_vals, rawptr_Tells, MutRef, mut_vals, plain, MutSlice, mut_slice_vals, mut_slice_Tells, mut_slice_Lawful, nothing, heard, peeks, calls_at, Lasts, lasts, triple_of, framed, Stays, walk_of, stay_dropped, gave_slice, Goes-dropped, Goes-gave_slice, ends_at}
 use Rattle.squall_c.specs.declared.parts.PartSlot as declared
 use Rattle.squall_c.specs.contracts.parts.PartSlot.{the_row as R}
-use Rattle.squall_c_parts.specs.PartFrames.{room_after, first_length}
+use Rattle.squall_c_frames.specs.Queues.{room_after, first_length}
 use Rattle.squall_c.specs.PartSlots.{part_frames, part_after}
 use Rattle.squall_c.specs.contracts.part_exports.squall_part_frame as f
 use Rattle.squall_c.proofs.part_exports.squall_part_frame.Statement.{statement}
