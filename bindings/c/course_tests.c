@@ -236,6 +236,35 @@ static void frames_that_a_router_hears(void) {
     drop_course(course);
 }
 
+/* The text of a plan reads as the same plan: a course from it to itself moves nothing. */
+static void plans_as_texts(void) {
+    static const char *const OLD_TEXT =
+        "{\"plan\":[{\"from\":[0,0],\"part\":1,\"to\":[3,0]},{\"from\":[3,0],\"part\":2,\"to\":[5,0]},"
+        "{\"from\":[5,0],\"part\":3,\"to\":[9,0]},{\"from\":[9,0],\"part\":4,\"to\":\"end\"}]}";
+    squall_course *course = course_of(1, OLD, NEW);
+    char old_text[512];
+    char new_text[512];
+    memset(old_text, 7, sizeof old_text);
+    size_t old_len = squall_course_old_text(course, (uint8_t *)old_text, strlen(OLD_TEXT) - 1);
+    CHECK(old_len == strlen(OLD_TEXT) && old_text[0] == 7);
+    CHECK(squall_course_old_text(course, (uint8_t *)old_text, sizeof old_text) == old_len);
+    CHECK(memcmp(old_text, OLD_TEXT, old_len) == 0 && old_text[old_len] == 7);
+    size_t new_len = squall_course_new_text(course, (uint8_t *)new_text, sizeof new_text);
+    CHECK(new_len < sizeof new_text);
+    old_text[old_len] = 0;
+    new_text[new_len] = 0;
+    squall_course *again = course_of(1, old_text, new_text);
+    CHECK(squall_course_status(again) == SQUALL_OK && squall_course_subplans(again) == 1);
+    CHECK(squall_course_new_text(again, (uint8_t *)old_text, sizeof old_text) == new_len);
+    CHECK(memcmp(old_text, new_text, new_len) == 0);
+    drop_course(again);
+    drop_course(course);
+    course = course_of(0, OLD, NEW);
+    CHECK(squall_course_old_text(course, (uint8_t *)old_text, sizeof old_text) == 0);
+    CHECK(squall_course_new_text(course, (uint8_t *)old_text, sizeof old_text) == 0);
+    drop_course(course);
+}
+
 /* ---- where keys stand */
 
 static squall_view *view_of(const squall_router *router) {
@@ -292,6 +321,7 @@ static const struct test TESTS[] = {
     TEST(a_course_from_a_frame),
     TEST(frames_of_reports),
     TEST(frames_that_a_router_hears),
+    TEST(plans_as_texts),
     TEST(where_keys_stand),
     TEST(places_without_a_view),
 };

@@ -343,6 +343,14 @@ static size_t put_course(const squall_course *course, uint8_t *out, size_t room)
     return squall_course_frame(course, out, room);
 }
 
+static size_t put_old_text(const squall_course *course, uint8_t *out, size_t room) {
+    return squall_course_old_text(course, out, room);
+}
+
+static size_t put_new_text(const squall_course *course, uint8_t *out, size_t room) {
+    return squall_course_new_text(course, out, room);
+}
+
 static size_t put_load(const squall_course *course, uint8_t *out, size_t room) {
     (void)course;
     return squall_frame_loaded(1, 0, 3, squall_rank(2, 0), squall_rank(3, 0), out, room);
@@ -369,12 +377,13 @@ static bool refuse_in_frame(put_frame *put, const squall_course *course, long nu
     bool was_refused = asked >= number;
     refused = 0;
     CHECK(fits(count == SQUALL_NO_COUNT ? SQUALL_NO_MEMORY : SQUALL_OK, was_refused));
-    CHECK(count == SQUALL_NO_COUNT ? out[0] == 7 : out[0] == 'S' && count < sizeof out);
+    CHECK(count == SQUALL_NO_COUNT ? out[0] == 7 : (out[0] == 'S' || out[0] == '{') && count < sizeof out);
     return was_refused;
 }
 
 static void frames_of_reports(void) {
-    static put_frame *const PUTS[] = {put_course, put_load, put_done, put_opened};
+    static put_frame *const PUTS[] = {put_course, put_old_text, put_new_text, put_load, put_done,
+                                      put_opened};
     squall_course *course = (squall_course *)room_of(squall_course_size());
     squall_course_open(1, bytes_of(OLD), strlen(OLD), bytes_of(NEW), strlen(NEW), course);
     for (size_t i = 0; i < sizeof PUTS / sizeof PUTS[0]; i++) {

@@ -492,6 +492,15 @@ size_t squall_course_old(const squall_course *course, size_t from, squall_leg *o
 /* The same of the new plan. */
 size_t squall_course_new(const squall_course *course, size_t from, squall_leg *out, size_t room);
 
+/* Writes the old plan as a JSON text to the front of `out`, and answers how many bytes it has: 0 if there
+ * is no course; SQUALL_NO_COUNT if an allocation fails. If the room is too short, nothing is written. The
+ * text has the ranges by rising key, without spaces, and reads as the same plan. No 0 byte ends it.
+ * Allocates. */
+size_t squall_course_old_text(const squall_course *course, uint8_t *out, size_t room);
+
+/* The same of the new plan. */
+size_t squall_course_new_text(const squall_course *course, uint8_t *out, size_t room);
+
 /* Writes the partitions to which keys move in the sub-plan, by rising number, to the front of `out`,
  * as many as there is room for, and answers how many: 0 if there are none. SQUALL_NO_COUNT if an
  * allocation fails: then nothing is written. Allocates. */

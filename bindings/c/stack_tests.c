@@ -122,6 +122,7 @@ static void *look(void *unused) {
     squall_course_newest(opened, course);
     CHECK(squall_course_moves(course, 0, moves, 2) == 2);
     CHECK(squall_course_frame(course, frames, SQUALL_FRAME_BYTES) > 0);
+    CHECK(squall_course_new_text(course, frames, SQUALL_FRAME_BYTES) > 0);
     squall_errand_start(opened, rank, errand);
     CHECK(squall_errand_heed(errand, SQUALL_HELD, 0, 0) == SQUALL_SERVED);
     squall_errand_close(errand);

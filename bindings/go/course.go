@@ -148,6 +148,33 @@ func (c *Course) NewPlan() []Leg {
 	})
 }
 
+// OldText is the old plan as a JSON text: its ranges by rising key, without spaces. It reads as the same plan.
+//
+// Errors: [ErrNoMemory]; [ErrClosed].
+func (c *Course) OldText() (string, error) {
+	return c.text(func(at *C.squall_course, out *C.uint8_t, room C.size_t) C.size_t {
+		return C.squall_course_old_text(at, out, room)
+	})
+}
+
+// NewText is the new plan as a JSON text, as [Course.OldText] is the old one.
+//
+// Errors: [ErrNoMemory]; [ErrClosed].
+func (c *Course) NewText() (string, error) {
+	return c.text(func(at *C.squall_course, out *C.uint8_t, room C.size_t) C.size_t {
+		return C.squall_course_new_text(at, out, room)
+	})
+}
+
+// text is the text that a call writes, as those of [written] do.
+func (c *Course) text(write func(at *C.squall_course, out *C.uint8_t, room C.size_t) C.size_t) (string, error) {
+	bytes, err := []byte(nil), error(ErrClosed)
+	c.use(func(at *C.squall_course) {
+		bytes, err = written(ErrClosed, func(out *C.uint8_t, room C.size_t) C.size_t { return write(at, out, room) })
+	})
+	return string(bytes), err
+}
+
 // allOf gathers items of a course by calls of fill. A call writes those from the index `from` on, at most
 // atOnce of them, and says how many. All calls are made under one lock, so that Close cuts nothing off.
 func allOf[In, Out any](c *Course, of func(In) Out, fill func(at *C.squall_course, from C.size_t, out *In) C.size_t) []Out {

@@ -190,6 +190,21 @@ func TestACourseFromAFrame(t *testing.T) {
 	equals(t, course.Moves(), exampleMoves)
 }
 
+func TestPlansAsTexts(t *testing.T) {
+	course := courseOf(t, 7, oldPlan, newPlan)
+	old, err := course.OldText()
+	succeeds(t, err)
+	equals(t, strings.HasPrefix(old, `{"plan":[{"from":[0,0],"part":1,"to":[3,0]},`), true)
+	text, err := course.NewText()
+	succeeds(t, err)
+	equals(t, strings.HasSuffix(text, `{"from":[6,0],"part":4,"to":"end"}]}`), true)
+	again := courseOf(t, 7, []byte(old), []byte(text))
+	equals(t, again.Moves(), exampleMoves)
+	succeeds(t, course.Close())
+	_, err = course.OldText()
+	equals(t, err, squall.ErrClosed)
+}
+
 func TestACourseThatIsClosed(t *testing.T) {
 	closed := courseOf(t, 1, oldPlan, newPlan)
 	receives(t, closed, 0, 3, 4)

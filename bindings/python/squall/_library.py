@@ -193,6 +193,10 @@ course_new: Callable[[CourseRoom, int, Out, int], int]
 course_new = _quick("course_new", _SIZE, _COURSE, _SIZE, _LEGS, _SIZE)
 course_receivers: Callable[[CourseRoom, int, Out, int], int]
 course_receivers = _slow("course_receivers", _SIZE, _COURSE, _U32, _ADDRESS, _SIZE)
+course_old_text: Callable[[CourseRoom, Out, int], int]
+course_old_text = _slow("course_old_text", _SIZE, _COURSE, _ADDRESS, _SIZE)
+course_new_text: Callable[[CourseRoom, Out, int], int]
+course_new_text = _slow("course_new_text", _SIZE, _COURSE, _ADDRESS, _SIZE)
 course_frame: Callable[[CourseRoom, Out, int], int]
 course_frame = _slow("course_frame", _SIZE, _COURSE, _ADDRESS, _SIZE)
 

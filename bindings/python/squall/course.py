@@ -151,6 +151,17 @@ class Course(Handle):
         new = int.__new__
         return [Leg(new(Rank, it.lo), new(Rank, it.hi), it.part) for it in records]
 
+    def old_text(self) -> str:
+        """The old plan as a JSON text: its ranges by rising key, without spaces.
+
+        `Plan` reads it as the same plan. Raises `NoMemory` and `ClosedError`.
+        """
+        return self._ask(_text, lib.course_old_text)
+
+    def new_text(self) -> str:
+        """The new plan, as `old_text` is the old one."""
+        return self._ask(_text, lib.course_new_text)
+
     def receivers(self, sub: int) -> List[int]:
         """The partitions to which keys move in the sub-plan, by rising number.
 
@@ -176,6 +187,10 @@ def _records(room: CourseRoom, call: Callable[..., int], kind: Type[Record]) -> 
         found += block[:count]
         if count < _AT_ONCE:
             return found
+
+
+def _text(room: CourseRoom, call: Callable[..., int]) -> str:
+    return written(call, room).decode("ascii")
 
 
 def _receivers(room: CourseRoom, sub: int) -> List[int]:

@@ -42,6 +42,12 @@ class Answers(unittest.TestCase):
         self.assertEqual(course.old_plan(), wanted)
         wanted = [(0, key(2), 1), (key(2), key(3), 3), (key(3), key(5), 2), (key(5), key(6), 3)]
         self.assertEqual(course.new_plan(), wanted + [(key(6), END, 4)])
+        first = '{"plan":[{"from":[0,0],"part":1,"to":[3,0]},{"from":[3,0],"part":2,"to":[5,0]},'
+        self.assertTrue(course.old_text().startswith(first))
+        self.assertTrue(course.new_text().endswith('{"from":[6,0],"part":4,"to":"end"}]}'))
+        again = Course(1, course.old_text(), course.new_text())
+        self.assertEqual(again.moves(), course.moves())
+        self.assertEqual(again.new_text(), course.new_text())
 
     def test_a_course_of_two_subplans(self) -> None:
         # The keys of partition 1 go to 2 and to 3, in a sub-plan each; those of 2 go to 1.

@@ -5,6 +5,7 @@ use crate::ffi::{self, RawCourse};
 use crate::frame;
 use crate::key::{Leg, Rank};
 use crate::room::Room;
+use crate::told::text_of;
 
 /// A numbered change from an old plan to a new one: which keys move, from which partition to which.
 ///
@@ -179,6 +180,32 @@ impl Course {
                 ffi::squall_course_new(self.room.get(), from, block.as_mut_ptr(), block.len())
             }
         })
+    }
+
+    /// The old plan as a JSON text: its ranges by rising key, without spaces. It reads as the same plan.
+    ///
+    /// # Errors
+    ///
+    /// [`Error::NoMemory`].
+    pub fn old_text(&self) -> Result<String, Error> {
+        let bytes = frame::written(Error::NoMemory, |out, room| {
+            // SAFETY: the course was opened, and the places are writable.
+            unsafe { ffi::squall_course_old_text(self.room.get(), out, room) }
+        })?;
+        Ok(text_of(bytes))
+    }
+
+    /// The new plan, as [`Course::old_text`] is the old one.
+    ///
+    /// # Errors
+    ///
+    /// [`Error::NoMemory`].
+    pub fn new_text(&self) -> Result<String, Error> {
+        let bytes = frame::written(Error::NoMemory, |out, room| {
+            // SAFETY: the course was opened, and the places are writable.
+            unsafe { ffi::squall_course_new_text(self.room.get(), out, room) }
+        })?;
+        Ok(text_of(bytes))
     }
 
     /// The frame of the report that this course was issued: a router that hears it knows the course.

@@ -204,6 +204,16 @@ unsafe extern "C" {
         out: *mut u32,
         room: usize,
     ) -> usize;
+    pub(crate) fn squall_course_old_text(
+        course: *const RawCourse,
+        out: *mut u8,
+        room: usize,
+    ) -> usize;
+    pub(crate) fn squall_course_new_text(
+        course: *const RawCourse,
+        out: *mut u8,
+        room: usize,
+    ) -> usize;
     pub(crate) fn squall_course_frame(course: *const RawCourse, out: *mut u8, room: usize)
     -> usize;
     pub(crate) fn squall_course_close(course: *mut RawCourse);

@@ -92,7 +92,7 @@ impl Router {
 }
 
 /// The text of these bytes, which are ASCII.
-fn text_of(bytes: Vec<u8>) -> String {
+pub(crate) fn text_of(bytes: Vec<u8>) -> String {
     String::from_utf8(bytes).expect("a text of the library is ASCII")
 }
 

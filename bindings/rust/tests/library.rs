@@ -316,6 +316,14 @@ fn the_course_of_the_examples() -> Result<(), Error> {
     assert_eq!(course.old_plan().len(), 4);
     assert_eq!(course.new_plan()[4], leg(key(6), Rank::END, 4));
     assert_eq!(course.new_plan().len(), 5);
+    let (old, new) = (course.old_text()?, course.new_text()?);
+    assert!(
+        old.starts_with(r#"{"plan":[{"from":[0,0],"part":1,"to":[3,0]},{"from":[3,0],"part":2,"#)
+    );
+    assert!(new.ends_with(r#"{"from":[6,0],"part":4,"to":"end"}]}"#));
+    let again = Course::open(1, old.as_bytes(), new.as_bytes())?;
+    assert_eq!(again.moves(), moves);
+    assert_eq!(again.old_text()?, old);
     Ok(())
 }
 

@@ -2,6 +2,7 @@
 pub use Rattle.squall_key.specs.Keys
 pub use Rattle.squall_keymap.specs.KeyMap
 pub use Rattle.squall_plan.specs.Form
+pub use Rattle.squall_plan_text.specs.PlanText
 pub use Rattle.squall_course.specs.Change
 pub use Rattle.squall_report.specs.Facts
 pub use Rattle.squall_board.specs.Boards

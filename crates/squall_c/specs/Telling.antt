@@ -1,5 +1,8 @@
 -- What a router of the C library says of itself (this project).
-use Rattle.std.specs.Prelude.{◌≡◌, ◌≢◌, ℕ, Bool, List, [], ◌∷◌, length, take, Option, None, Some, ◌⊎◌}
+use Rattle.std.specs.Prelude.{◌≡◌, ◌≢◌, ℕ, Bool, List, [], ◌∷◌, length, take, Option, None, Some, Ok, ◌⊎◌}
+use Rattle.squall_plan.specs.declared.range.PlanRange.{PlanRange}
+use Rattle.squall_plan.specs.Form.{plan_of_text}
+use Rattle.squall_plan_text.specs.PlanText.{text_of_plan}
 use Rattle.squall_course.specs.Change.{Change}
 use Rattle.squall_report.specs.Facts.{Fact}
 use Rattle.squall_board.specs.Boards.{says, issued}
@@ -12,6 +15,7 @@ use Rattle.squall_tally.specs.declared.tally.Tally.{Tally}
 use Rattle.squall_tally.specs.Tallies.{HasClashAbove, tally_of}
 use Rattle.squall_c_values.specs.Rooms.{over}
 use Rattle.squall_c_values.specs.ReportFrames.{no_count, room_with}
+use Rattle.squall_c.specs.declared.courses.HeldCourse.{HeldCourse}
 use Rattle.squall_c.specs.declared.router.Station.{Station}
 
 -- ---- numbers
@@ -68,3 +72,18 @@ PutsStatus (Some s) old new count = PutsText (IsStatusText s.router) old new cou
 abbrev pub PutsPicture : Option Station → List ℕ → List ℕ → ℕ → Type 0
 PutsPicture None old new count = (count ≡ 0) × (new ≡ old)
 PutsPicture (Some s) old new count = PutsText (IsPicture s.router) old new count
+
+-- ---- plans
+
+-- the text of the plan, which reads as the plan
+abbrev pub IsPlanText : List PlanRange → List ℕ → Type 0
+IsPlanText plan text = (text ≡ text_of_plan plan) × (plan_of_text text ≡ Ok plan)
+
+-- that of the old plan of a course is written, and that of the new one
+abbrev pub PutsOldText : Option HeldCourse → List ℕ → List ℕ → ℕ → Type 0
+PutsOldText None old new count = (count ≡ 0) × (new ≡ old)
+PutsOldText (Some held) old new count = PutsText (IsPlanText held.course.old) old new count
+
+abbrev pub PutsNewText : Option HeldCourse → List ℕ → List ℕ → ℕ → Type 0
+PutsNewText None old new count = (count ≡ 0) × (new ≡ old)
+PutsNewText (Some held) old new count = PutsText (IsPlanText held.course.new) old new count

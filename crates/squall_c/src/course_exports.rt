@@ -6,6 +6,7 @@ ghost use Rattle.std.specs.Borrow.{sem};
 ghost use Rattle.squall_router.specs.Routers.{course_of_router};
 ghost use Rattle.squall_c.specs.declared.router.RouterSlot.{RouterSlot};
 ghost use Rattle.squall_c.specs.declared.courses.CourseSlot.{CourseSlot};
+ghost use Rattle.squall_c.specs.Telling.{PutsOldText, PutsNewText};
 ghost use Rattle.squall_c.specs.Handles.{course_bytes, router_at, course_room, course_at, course_such};
 ghost use Rattle.squall_c_values.specs.Rooms.{over};
 ghost use Rattle.squall_c.specs.Courses.{IsCourseOpened, IsCourseOf, number_of, subplans_of};
@@ -18,6 +19,7 @@ use crate::courses::{
 };
 use crate::handles::{CCourse, CRouter};
 use crate::router::RouterSlot;
+use crate::texts::{new_text, old_text};
 use squall_c_values::{CLeg, CMove};
 use std::alloc::Global;
 
@@ -193,6 +195,28 @@ pub unsafe extern "C" fn squall_course_frame(course: *const CCourse, room: &mut 
     ensures* { sem 𝓛 (course_at course s) ∗ ⌜ PutsIssue s.course room.old room.new result ⌝ }
 {
     course_frame(&*(course as *const CourseSlot), room)
+}
+
+/// Puts the text of the course's old plan into the room, if that holds it, and answers how many bytes it
+/// has. It reads as the same plan. The answer is 0 if there is no course, and the greatest number of its
+/// type if an allocation fails. If the room is too short, it stays.
+#[unsafe(no_mangle)]
+pub unsafe extern "C" fn squall_course_old_text(course: *const CCourse, room: &mut [u8]) -> usize
+    ghost s: { CourseSlot }
+    requires* { sem 𝓛 (course_at course s) }
+    ensures* { sem 𝓛 (course_at course s) ∗ ⌜ PutsOldText s.course room.old room.new result ⌝ }
+{
+    old_text(&*(course as *const CourseSlot), room)
+}
+
+/// The same of the new plan.
+#[unsafe(no_mangle)]
+pub unsafe extern "C" fn squall_course_new_text(course: *const CCourse, room: &mut [u8]) -> usize
+    ghost s: { CourseSlot }
+    requires* { sem 𝓛 (course_at course s) }
+    ensures* { sem 𝓛 (course_at course s) ∗ ⌜ PutsNewText s.course room.old room.new result ⌝ }
+{
+    new_text(&*(course as *const CourseSlot), room)
 }
 
 /// Drops the course, and gives the room back. It goes with its last handle, and its last router.

@@ -1,15 +1,19 @@
-//! What a router says of itself as text: how far its newest course has come, and the picture of it.
+//! Texts: how far a router's newest course has come, the picture of it, and the plans of a course.
 
 ghost use Rattle.std.specs.Prelude.{◌≡◌, IfOk, length, string_bytes};
 ghost use Rattle.squall_board.specs.Boards.{says};
 ghost use Rattle.squall_c_values.specs.ReportFrames.{room_with};
 ghost use Rattle.squall_c.specs.Telling.{AreLinesOf, IsStatusText, IsPicture, PutsStatus, PutsPicture};
+ghost use Rattle.squall_c.specs.Telling.{IsPlanText, PutsText, PutsOldText, PutsNewText};
 
+use crate::courses::CourseSlot;
 use crate::router::{RouterSlot, Station};
 use squall_board::Board;
 use squall_c_values::NO_COUNT;
 use squall_course::Course;
 use squall_picture::picture;
+use squall_plan::Plan;
+use squall_plan_text::plan_text;
 use squall_status::{CourseStatus, Shown, add_status};
 use std::alloc::{AllocError, Global};
 
@@ -82,5 +86,37 @@ pub(crate) fn router_picture(slot: &RouterSlot, room: &mut [u8]) -> usize
     match picture_of(station) {
         Ok(text) => put_bytes(text.as_bytes(), room),
         Err(_) => NO_COUNT,
+    }
+}
+
+/// Writes the text of the plan into the room, if that holds it, and answers how many bytes it has:
+/// `NO_COUNT` if an allocation fails.
+fn put_plan(alloc: Global, plan: &Plan, room: &mut [u8]) -> usize
+    ensures { PutsText (IsPlanText plan.now) room.old room.new result }
+{
+    match plan_text(alloc, plan) {
+        Ok(text) => put_bytes(text.as_bytes(), room),
+        Err(_) => NO_COUNT,
+    }
+}
+
+/// Writes the text of the course's old plan into the room, if that holds it, and answers how many bytes
+/// it has: 0 if there is no course, `NO_COUNT` if an allocation fails.
+pub(crate) fn old_text(slot: &CourseSlot, room: &mut [u8]) -> usize
+    ensures { PutsOldText slot.now.course room.old room.new result }
+{
+    match &slot.course {
+        Some(held) => put_plan(held.alloc, held.course.as_arc().old_plan(), room),
+        None => 0,
+    }
+}
+
+/// The same of its new plan.
+pub(crate) fn new_text(slot: &CourseSlot, room: &mut [u8]) -> usize
+    ensures { PutsNewText slot.now.course room.old room.new result }
+{
+    match &slot.course {
+        Some(held) => put_plan(held.alloc, held.course.as_arc().new_plan(), room),
+        None => 0,
     }
 }

@@ -7,3 +7,5 @@ mod course;
 mod plan;
 #[cfg(test)]
 mod report;
+#[cfg(test)]
+mod text;
