@@ -9,8 +9,9 @@ use Rattle.squall_wire.specs.Messages.{IsMessage}
 use Rattle.squall_delta.specs.Pieces.{joined_boards}
 use Rattle.squall_router.specs.Routers.{RouterValue, router_with}
 use Rattle.squall_c.specs.declared.router.Station.{Station}
-use Rattle.squall_c.specs.Feeding.{deltas_of, last_digest, heard_station}
-use Rattle.squall_c.proofs.Joined.{one_delta, join_after}
+use Rattle.squall_c_frames.specs.Joined.{deltas_of, last_digest}
+use Rattle.squall_c_frames.specs.JoinedLaws.{one_delta, join_after}
+use Rattle.squall_c.specs.Feeding.{heard_station}
 
 pub delta_heard : (s : Station) (m : Message) (d : BoardValue) (r : RouterValue) → IsMessage m → m ≡ Delta d → r ≡ router_with s.router.first (board_join s.router.board d) → record s { router = r } ≡ heard_station s (m ∷ []) s.feed
 delta_heard s m d r is e after =

@@ -1,31 +1,18 @@
 -- What a router of the C library hears in the bytes of frames (this project).
-use Rattle.std.specs.Prelude.{◌≡◌, ℕ, Bool, true, false, List, [], ◌∷◌, Option, None, Some, Result, Ok, Err}
-use Rattle.squall_board.specs.Boards.{BoardValue, board_join}
+use Rattle.std.specs.Prelude.{◌≡◌, ℕ, Bool, true, false, List, Option, None, Some, Result, Ok, Err}
+use Rattle.squall_board.specs.Boards.{board_join}
 use Rattle.squall_wire.specs.declared.fault.WireFault.{WireFault}
 use Rattle.squall_wire.specs.declared.message.Message.{Message}
-use Rattle.squall_wire.specs.declared.message.Message.TheVariants.{Delta, Digest}
-use Rattle.squall_wire.specs.DigestValue.{DigestValue}
 use Rattle.squall_wire.specs.Hearing.{FeedValue, HearsOn}
 use Rattle.squall_wire.specs.declared.feed.FeedFault.{FeedFault}
 use Rattle.squall_wire.specs.declared.feed.FeedFault.TheVariants.{Failed, NoMemory}
 use Rattle.squall_delta.specs.Pieces.{joined_boards}
 use Rattle.squall_router.specs.Routers.{router_with}
+use Rattle.squall_c_frames.specs.Joined.{deltas_of, last_digest}
 use Rattle.squall_c.specs.declared.router.RouterSlot.{RouterSlot}
 use Rattle.squall_c.specs.declared.router.Station.{Station}
 use Rattle.squall_c.specs.Status.{closed, failed, heard_status}
 use Rattle.squall_c.specs.Opening.{with_station, Ends}
-
--- the boards that messages bring
-abbrev pub deltas_of : List Message → List BoardValue
-deltas_of [] = []
-deltas_of (Delta b ∷ ms) = b ∷ deltas_of ms
-deltas_of (Digest d ∷ ms) = deltas_of ms
-
--- the last digest that messages bring, or the one before them
-abbrev pub last_digest : Option DigestValue → List Message → Option DigestValue
-last_digest d [] = d
-last_digest d (Delta b ∷ ms) = last_digest d ms
-last_digest d (Digest e ∷ ms) = last_digest (Some e) ms
 
 -- the station that has heard the messages: its board is the join of the old one and those that they bring, and it keeps the last digest
 abbrev pub heard_station : Station → List Message → FeedValue → Station
@@ -34,11 +21,6 @@ heard_station s ms feed = record s {
   feed = feed;
   heard = last_digest s.heard ms;
 }
-
--- what a message tells is joined to a board: a digest tells nothing
-abbrev pub JoinsMessage : BoardValue → Message → BoardValue → Type 0
-JoinsMessage old (Delta b) new = new ≡ board_join old b
-JoinsMessage old (Digest d) new = new ≡ old
 
 -- the messages whose frames end in the piece are heard, up to the first fault
 pub record HearsPiece (old : Station) (piece : List ℕ) (fault : Option WireFault) (new : Station) : Type 0 where

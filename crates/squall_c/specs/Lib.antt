@@ -31,6 +31,8 @@ pub use Rattle.squall_c_parts.specs.PartValues
 pub use Rattle.squall_leader.specs.Leaders
 pub use Rattle.squall_c_frames.specs.Queues
 pub use Rattle.squall_c_frames.specs.BoardFrames
+pub use Rattle.squall_c_frames.specs.WholeFrames
+pub use Rattle.squall_c_frames.specs.Joined
 pub use Rattle.squall_c_leaders.specs.Nodes as LeaderNodes
 pub mod Status
 pub mod Opening

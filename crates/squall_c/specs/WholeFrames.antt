@@ -1,24 +1,14 @@
 -- What a router of the C library hears in one whole frame (this project).
-use Rattle.std.specs.Prelude.{◌≡◌, ℕ, ◌==◌, List, [], ◌∷◌, length, Option, None, Some, Result, Ok, Err, if◌then◌else◌}
+use Rattle.std.specs.Prelude.{◌≡◌, ℕ, List, [], ◌∷◌, Option, None, Some, Result, Ok, Err}
 use Rattle.squall_wire.specs.declared.fault.WireFault.{WireFault}
-use Rattle.squall_wire.specs.declared.fault.WireFault.TheVariants.{Spare}
 use Rattle.squall_wire.specs.declared.message.Message.{Message}
 use Rattle.squall_wire.specs.Messages.{Body, IsMessage, body_of, spell}
-use Rattle.squall_wire.specs.Reading.{message_at}
+use Rattle.squall_c_frames.specs.WholeFrames.{whole_at}
 use Rattle.squall_c.specs.declared.router.RouterSlot.{RouterSlot}
 use Rattle.squall_c.specs.declared.router.Station.{Station}
 use Rattle.squall_c.specs.Status.{ok, closed, wire_status}
 use Rattle.squall_c.specs.Opening.{with_station, Ends}
 use Rattle.squall_c.specs.Feeding.{heard_station}
-
--- of a frame that was read from the front of so many bytes: what it says, if it takes all of them; bytes behind it are spare
-abbrev pub filling : ℕ → Result (Body × ℕ) WireFault → Result Body WireFault
-filling len (Ok (body, taken)) = if taken == len then Ok body else Err Spare
-filling len (Err fault) = Err fault
-
--- what the bytes say as one whole frame, or their first fault
-abbrev pub whole_at : List ℕ → Result Body WireFault
-whole_at bytes = filling (length bytes) (message_at bytes)
 
 -- the frame's message is heard, and what was fed of a stream waits on
 pub record HearsMessage (old : RouterSlot) (s : Station) (frame : List ℕ) (body : Body) (new : RouterSlot) (status : ℕ) : Type 0 where

@@ -1,6 +1,6 @@
 //! Frames that are fed to routers behind handles.
 
-ghost use Rattle.std.specs.Prelude.{◌≡◌, ◌≢◌, [], IfOk, IfSome, OnOk, OnErr, None, Err};
+ghost use Rattle.std.specs.Prelude.{◌≡◌, ◌≢◌, [], OnOk, OnErr, Err};
 ghost use Rattle.std.specs.List.{AllByRecursion};
 ghost use Rattle.squall_wire.specs.declared.feed.FeedFault.TheVariants.{Failed};
 ghost use Rattle.squall_wire.specs.Hearing.{HearsOn};
@@ -8,51 +8,15 @@ ghost use Rattle.squall_wire.specs.Messages.{IsMessage};
 ghost use Rattle.squall_board.specs.Boards.{board_join};
 ghost use Rattle.squall_delta.specs.Pieces.{joined_boards};
 ghost use Rattle.squall_router.specs.Routers.{router_with};
-ghost use Rattle.squall_c.specs.Feeding.{JoinsMessage, deltas_of, last_digest, heard_station, HearsInStation, Feeds};
+ghost use Rattle.squall_c_frames.specs.Joined.{deltas_of};
+ghost use Rattle.squall_c.specs.Feeding.{heard_station, HearsInStation, Feeds};
 
 use crate::router::{RouterSlot, Station};
 use crate::status::{CLOSED, FAILED, NO_MEMORY, heard_status};
-use crate::twin_feed::TwinFeed;
-use squall_board::{Board, Delta};
+use squall_c_frames::{TwinFeed, alone, joined, keep_digest};
 use squall_router::Router;
-use squall_wire::{Digest, Feed, FeedFault, Heard, Message, WireFault};
+use squall_wire::{Feed, FeedFault, Heard, Message, WireFault};
 use std::alloc::{AllocError, Global};
-
-/// Joins to a board what a message tells: a digest tells nothing. An error leaves the
-/// board unchanged.
-fn join_message(board: &mut Board, message: &Message) -> Result<(), AllocError>
-    ensures { OnOk result (JoinsMessage board.old message.now board.new) }
-{
-    match message {
-        Message::Delta(delta) => board.merge(delta),
-        Message::Digest(_) => Ok(()),
-    }
-}
-
-/// All that the messages tell, as one board. It fails if an allocation fails, or if the count
-/// of an issue's owners is full.
-fn joined(alloc: Global, messages: &[Message]) -> Result<Delta, AllocError>
-    requires { AllByRecursion IsMessage messages.now }
-    ensures { IfOk result (λ delta. delta ≡ joined_boards (deltas_of messages.now)) }
-{
-    let mut board = Board::new(alloc);
-    for message in messages {
-        join_message(&mut board, message)?;
-    }
-    Ok(board)
-}
-
-/// The delta that the messages are, if they are one delta alone.
-#[tactic(auto, using(crate::proofs::Joined::one_delta))]
-fn alone(messages: &[Message]) -> Option<&Delta>
-    requires { AllByRecursion IsMessage messages.now }
-    ensures { IfSome result (λ delta. delta.now ≡ joined_boards (deltas_of messages.now)) }
-{
-    match messages.first()? {
-        Message::Delta(delta) if messages.len() == 1 => Some(delta),
-        _ => None,
-    }
-}
 
 /// Has the router absorb all that the messages tell, or nothing where it fails. A delta that came
 /// alone is absorbed as it is, since to join several costs a copy of each.
@@ -66,32 +30,6 @@ fn absorb_all(alloc: Global, router: &mut Router, messages: &[Message]) -> Resul
     }
     let delta = joined(alloc, messages)?;
     router.absorb(&delta)
-}
-
-/// The last digest among the messages.
-#[tactic(auto, using(crate::proofs::Joined::last_delta, crate::proofs::Joined::last_is))]
-fn last_digest(messages: Vec<Message>) -> Option<Digest>
-    ensures { result ≡ last_digest None messages.items }
-{
-    let mut messages = messages;
-    while let Some(message) = messages.pop() {
-        match message {
-            Message::Digest(digest) => return Some(digest),
-            Message::Delta(delta) => drop(delta),
-        }
-    }
-    None
-}
-
-/// Keeps the last digest among the messages, if there is one, in place of the one before.
-#[tactic(auto, using(crate::proofs::Joined::last_none, crate::proofs::Joined::last_some))]
-fn keep_digest(heard: &mut Option<Digest>, messages: Vec<Message>)
-    ensures { heard.new ≡ last_digest heard.old messages.items }
-{
-    let Some(digest) = last_digest(messages) else {
-        return;
-    };
-    *heard = Some(digest);
 }
 
 /// Has the station wait for what the piece leaves, in which no message ends. `heard` and `ahead` are

@@ -1,34 +1,22 @@
 //! Whole frames that routers behind handles hear, for hosts whose messages come one by one.
 
-ghost use Rattle.std.specs.Prelude.{◌≡◌, [], ◌∷◌, IfOk, OnOk, OnErr};
+ghost use Rattle.std.specs.Prelude.{◌≡◌, [], ◌∷◌, OnOk, OnErr};
 ghost use Rattle.squall_wire.specs.declared.message.Message.{Message as MessageValue};
 ghost use Rattle.squall_board.specs.Boards.{board_join};
 ghost use Rattle.squall_router.specs.Routers.{router_with};
-ghost use Rattle.squall_wire.specs.Messages.{IsMessage, body_of, spell};
-ghost use Rattle.squall_wire.specs.Reading.{Gives};
+ghost use Rattle.squall_wire.specs.Messages.{IsMessage, spell};
 ghost use Rattle.squall_wire.specs.Hearing.{new_feed};
 ghost use Rattle.squall_c.specs.declared.router.Station.{Station as StationValue};
 ghost use Rattle.squall_c.specs.Feeding.{HearsPiece, heard_station};
-ghost use Rattle.squall_c.specs.WholeFrames.{whole_at, HearsFrame};
+ghost use Rattle.squall_c.specs.WholeFrames.{HearsFrame};
 
 use crate::router::{RouterSlot, Station};
 use crate::status::{CLOSED, memory_status, wire_status};
 use squall_board::Delta;
+use squall_c_frames::whole;
 use squall_router::Router;
-use squall_wire::{Message, WireFault, decode};
-use std::alloc::{AllocError, Global};
-
-/// The message whose frame the bytes are, no more and no less.
-fn whole(alloc: Global, frame: &[u8]) -> Result<Message, WireFault>
-    ensures answer { Gives body_of result (whole_at frame.now) }
-    ensures spelled { IfOk result (λ m. IsMessage m × (frame.now ≡ spell m)) }
-{
-    let (message, len) = decode(alloc, frame)?;
-    if len != frame.len() {
-        return Err(WireFault::Spare);
-    }
-    Ok(message)
-}
+use squall_wire::Message;
+use std::alloc::AllocError;
 
 /// Has the router absorb the delta. It changes nothing if it fails.
 fn absorb(router: &mut Router, delta: &Delta) -> Result<(), AllocError>

@@ -29,7 +29,6 @@ mod status;
 mod tallies;
 mod texts;
 mod told_exports;
-mod twin_feed;
 mod view_exports;
 mod views;
 

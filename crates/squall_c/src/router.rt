@@ -11,8 +11,7 @@ use crate::legs::put_legs;
 use crate::status::{
     CLOSED, Cause, IN_NEW_PLAN, IN_OLD_PLAN, LIMIT, NO_MEMORY, NO_PLACE, NOWHERE, OK,
 };
-use crate::twin_feed::TwinFeed;
-use squall_c_frames::Frames;
+use squall_c_frames::{Frames, TwinFeed};
 use squall_c_values::CLeg;
 use squall_course::Course;
 use squall_key::Key;

@@ -3,6 +3,7 @@ pub use Rattle.squall_board.specs.Boards
 pub use Rattle.squall_wire.specs.Limits
 pub use Rattle.squall_wire.specs.Messages
 pub use Rattle.squall_wire.specs.Reading
+pub use Rattle.squall_wire.specs.Hearing
 pub use Rattle.squall_wire.specs.DigestValue
 pub use Rattle.squall_delta.specs.Pieces
 pub use Rattle.squall_delta.specs.Hashes
@@ -11,3 +12,5 @@ pub use Rattle.squall_c_values.specs.Rooms
 pub mod Queues
 pub mod BoardFrames
 pub mod WholeFrames
+pub mod Joined
+pub mod JoinedLaws

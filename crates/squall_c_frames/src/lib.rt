@@ -1,4 +1,5 @@
-//! Frames that wait behind handles until they are fetched, and single frames that come in whole.
+//! Frames behind handles: those that wait until they are fetched, single ones that come in whole, and
+//! streams of them that come in pieces.
 //!
 //! Its tests are in `bindings/c/leader_tests.c` and `bindings/c/leader_heap_tests.c`.
 #![tactic(auto)]
@@ -6,9 +7,13 @@
 mod boards;
 mod fault;
 mod frames;
+mod messages;
 mod single;
+mod twin_feed;
 
 pub use boards::{board_frames, digest_frame, repair_frames};
 pub use fault::FrameFault;
 pub use frames::Frames;
+pub use messages::{alone, joined, keep_digest};
 pub use single::whole;
+pub use twin_feed::TwinFeed;

@@ -3,9 +3,9 @@ use Rattle.std.proofs.Common.{sym, ap, ◌∙◌}
 use Rattle.squall_board.specs.Boards.{BoardValue, IsBoard}
 use Rattle.squall_wire.specs.Hearing.{FeedValue}
 use Rattle.squall_router.specs.Routers.{router_with}
+use Rattle.squall_c_frames.specs.JoinedLaws.{join_after}
 use Rattle.squall_c.specs.declared.router.Station.{Station}
 use Rattle.squall_c.specs.Feeding.{heard_station}
-use Rattle.squall_c.proofs.Joined.{join_after}
 use Rattle.squall_c.proofs.feeding.wait_on.Goals as goal
 
 -- no message changes no board

@@ -4,7 +4,7 @@ use Rattle.squall_wire.specs.declared.fault.WireFault.{WireFault}
 use Rattle.squall_wire.specs.declared.message.Message.{Message}
 use Rattle.squall_wire.specs.Hearing.{FeedValue, HearsOn}
 use Rattle.squall_wire.specs.HearingLaws.{one_push}
-use Rattle.squall_c.proofs.twin_feed.TwinFeed.follow.Goals as goal
+use Rattle.squall_c_frames.proofs.twin_feed.TwinFeed.follow.Goals as goal
 
 -- two feeds that wait for the same wait for the same after a piece
 wait_alike : (value feed ahead end : FeedValue) (s : List ℕ) (ms ns : List Message) (f g : Option WireFault) → feed ≡ value → HearsOn value s ms f ahead → HearsOn feed s ns g end → ahead ≡ end

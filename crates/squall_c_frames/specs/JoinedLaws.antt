@@ -1,4 +1,4 @@
--- What messages tell, joined one after another.
+-- Laws of what messages tell, joined one after another.
 use Rattle.std.specs.Prelude.{◌≡◌, ℕ, ◌+◌, ◌<◌, ◌≤◌, zero, suc, length, List, [], ◌∷◌, ◌++◌, Option, None, Some, refl}
 use Rattle.std.proofs.Common.{sym, ap, ◌∙◌, get_or, drop, subst}
 use Rattle.std.proofs.lemmas.List.{drop_more, drop_all}
@@ -10,7 +10,7 @@ use Rattle.squall_wire.specs.declared.message.Message.TheVariants.{Delta, Digest
 use Rattle.squall_wire.specs.DigestValue.{DigestValue}
 use Rattle.squall_wire.specs.Messages.{IsMessage}
 use Rattle.squall_delta.specs.Pieces.{joined_boards}
-use Rattle.squall_c.specs.Feeding.{deltas_of, last_digest, JoinsMessage}
+use Rattle.squall_c_frames.specs.Joined.{deltas_of, last_digest, JoinsMessage}
 
 pub joined_is : (ms : List Message) → AllByRecursion IsMessage ms → IsBoard (joined_boards (deltas_of ms))
 joined_is [] all = empty_is

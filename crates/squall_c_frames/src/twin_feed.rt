@@ -33,14 +33,14 @@ impl Model for TwinFeed {
 
 impl TwinFeed {
     /// A feed that has taken nothing. It allocates nothing.
-    pub(crate) fn new(alloc: Global) -> TwinFeed
+    pub fn new(alloc: Global) -> TwinFeed
         ensures { result ≡ new_feed }
     {
         TwinFeed::of(Feed::new(alloc))
     }
 
     /// That feed. Its twin is made when the next piece comes.
-    pub(crate) fn of(feed: Feed) -> TwinFeed
+    pub fn of(feed: Feed) -> TwinFeed
         ensures { result ≡ feed }
     {
         TwinFeed { feed, twin: None }
@@ -48,11 +48,7 @@ impl TwinFeed {
 
     /// What is heard in the next piece of the stream, and a feed that has taken the piece. This one
     /// stays as it is. `Failed` where a fault ended the stream before.
-    pub(crate) fn try_piece(
-        &mut self,
-        alloc: Global,
-        piece: &[u8],
-    ) -> Result<(Heard, Feed), FeedFault>
+    pub fn try_piece(&mut self, alloc: Global, piece: &[u8]) -> Result<(Heard, Feed), FeedFault>
         ensures heard { IfOk result (λ x. HearsOn self.old piece.now x.0.messages.items x.0.fault x.1) }
         ensures failed { result ≡ Err Failed ↔ (self.old.failed ≡ true) }
         ensures same { self.new ≡ self.old }
@@ -70,12 +66,7 @@ impl TwinFeed {
 
     /// Takes the piece too in which the other feed, made by `try_piece`, has heard that. It stays
     /// unchanged if an allocation fails.
-    pub(crate) fn follow(
-        &mut self,
-        piece: &[u8],
-        heard: &Heard,
-        ahead: Feed,
-    ) -> Result<(), FeedFault>
+    pub fn follow(&mut self, piece: &[u8], heard: &Heard, ahead: Feed) -> Result<(), FeedFault>
         requires { HearsOn self.old piece.now heard.now.messages.items heard.now.fault ahead }
         ensures taken { OnOk result (self.new ≡ ahead) }
         ensures failed { result ≡ Err Failed ↔ (self.old.failed ≡ true) }

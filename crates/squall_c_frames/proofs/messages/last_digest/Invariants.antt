@@ -1,7 +1,7 @@
 use Rattle.std.proofs.Common.{◌≡◌, None}
 use Rattle.std.specs.Prelude.{vec_len}
-use Rattle.squall_c.specs.Feeding.{last_digest}
-use Rattle.squall_c.proofs.feeding.last_digest.Given as goal
+use Rattle.squall_c_frames.specs.Joined.{last_digest}
+use Rattle.squall_c_frames.proofs.messages.last_digest.Given as goal
 
 -- no digest was taken off
 abbrev pub invariant-loop-message : goal.invariant-loop-message

@@ -1,6 +1,6 @@
 use Rattle.std.proofs.Common.{sym, ◌∙◌}
-use Rattle.squall_c.proofs.Joined.{joined_next, joined_all}
-use Rattle.squall_c.proofs.feeding.joined.Goals as goal
+use Rattle.squall_c_frames.specs.JoinedLaws.{joined_next, joined_all}
+use Rattle.squall_c_frames.proofs.messages.joined.Goals as goal
 
 pub loop-message-preserved : goal.loop-message-preserved
 loop-message-preserved c =
