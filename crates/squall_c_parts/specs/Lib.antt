@@ -5,6 +5,8 @@ pub use Rattle.squall_course.specs.Change
 pub use Rattle.squall_board.specs.Boards
 pub use Rattle.squall_wire.specs.Messages
 pub use Rattle.squall_wire.specs.Reading
+pub use Rattle.squall_wire.specs.Hearing
+pub use Rattle.squall_delta.specs.Pieces
 pub use Rattle.squall_protocol.specs.Chunks
 pub use Rattle.squall_part.specs.Parts
 pub use Rattle.squall_part.specs.Giving
@@ -15,9 +17,12 @@ pub use Rattle.squall_c_values.specs.Rooms
 pub use Rattle.squall_c_values.specs.Values
 pub use Rattle.squall_c_frames.specs.Queues
 pub use Rattle.squall_c_frames.specs.BoardFrames
+pub use Rattle.squall_c_frames.specs.WholeFrames
+pub use Rattle.squall_c_frames.specs.Joined
 pub mod PartStatus
 pub mod PartValues
 pub mod Nodes
 pub mod PartCalls
 pub mod PartHearing
+pub mod PartFeeding
 pub mod PartFrames

@@ -1,25 +1,15 @@
 -- What a node of the C library hears in one whole frame (this project).
-use Rattle.std.specs.Prelude.{◌≡◌, ℕ, ◌==◌, List, length, Result, Ok, Err, if◌then◌else◌}
+use Rattle.std.specs.Prelude.{◌≡◌, ℕ, List, Result, Ok, Err}
 use Rattle.squall_board.specs.Boards.{BoardValue}
 use Rattle.squall_wire.specs.declared.fault.WireFault.{WireFault}
-use Rattle.squall_wire.specs.declared.fault.WireFault.TheVariants.{Spare}
 use Rattle.squall_wire.specs.declared.message.Message.{Message}
 use Rattle.squall_wire.specs.declared.message.Message.TheVariants.{Delta, Digest}
 use Rattle.squall_wire.specs.Messages.{Body, IsMessage, body_of, spell}
-use Rattle.squall_wire.specs.Reading.{message_at}
 use Rattle.squall_part.specs.Parts.{PartValue}
 use Rattle.squall_replay.specs.Calls.{Absorbs}
+use Rattle.squall_c_frames.specs.WholeFrames.{whole_at}
 use Rattle.squall_c_parts.specs.PartStatus.{ok, wire_status}
 use Rattle.squall_c_parts.specs.Nodes.{NodeValue, with_part, with_heard, Ends}
-
--- of a frame that was read from the front of so many bytes: what it says, if it takes all of them; bytes behind it are spare
-abbrev pub filling : ℕ → Result (Body × ℕ) WireFault → Result Body WireFault
-filling len (Ok (body, taken)) = if taken == len then Ok body else Err Spare
-filling len (Err fault) = Err fault
-
--- what the bytes say as one whole frame, or their first fault
-abbrev pub whole_at : List ℕ → Result Body WireFault
-whole_at bytes = filling (length bytes) (message_at bytes)
 
 -- the node's partition has absorbed the delta
 pub record AbsorbsDelta (old : NodeValue) (delta : BoardValue) (new : NodeValue) : Type 0 where

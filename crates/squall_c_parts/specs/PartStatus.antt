@@ -1,5 +1,5 @@
 -- The numbers by which calls of a partition of the C library say how they ended (this project).
-use Rattle.std.specs.Prelude.{ℕ, Result, Ok, Err}
+use Rattle.std.specs.Prelude.{ℕ, Option, None, Some, Result, Ok, Err}
 use Rattle.squall_report.specs.declared.report.ReportKind.{ReportKind}
 use Rattle.squall_report.specs.Issues.{PlanPair}
 use Rattle.squall_wire.specs.declared.fault.WireFault.{WireFault}
@@ -25,6 +25,10 @@ no_memory = 1
 -- a number or a rank lies outside its limits, or a span has no key
 abbrev pub limit : ℕ
 limit = 2
+
+-- a fault ended the stream before
+abbrev pub failed : ℕ
+failed = 4
 
 -- a frame would have more bytes than it may have
 abbrev pub too_long : ℕ
@@ -77,3 +81,8 @@ wire_status Range = 57
 wire_status Order = 58
 wire_status Spare = 59
 wire_status NoMemoryForFrame = no_memory
+
+-- of the fault that ended a stream, if there is one
+abbrev pub heard_status : Option WireFault → ℕ
+heard_status None = ok
+heard_status (Some fault) = wire_status fault

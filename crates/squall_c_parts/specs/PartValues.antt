@@ -1,12 +1,11 @@
 -- What C sees of chunks and replies (this project).
-use Rattle.std.specs.Prelude.{ℕ, nat_lt, nat_le, ◌&&◌, List, drop, Option, None, if◌then◌else◌}
+use Rattle.std.specs.Prelude.{ℕ, nat_lt, nat_le, ◌&&◌, Option, None, if◌then◌else◌}
 use Rattle.std.specs.Option.{option_and_then}
 use Rattle.squall_key.specs.Keys.{top, part_limit}
 use Rattle.squall_span.specs.Spans.{Interval, span_at}
 use Rattle.squall_errand.specs.declared.errand.Reply.{Reply}
 use Rattle.squall_errand.specs.declared.errand.Reply.TheVariants.{Held, Moved, Pending, Behind, Elsewhere}
 use Rattle.squall_protocol.specs.Chunks.{ChunkValue, chunk_of}
-use Rattle.squall_c_values.specs.Values.{firsts_that_fit}
 use Rattle.squall_c_parts.specs.declared.chunks.CChunk.{CChunk}
 use Rattle.squall_c_parts.specs.declared.chunks.CAnswer.{CAnswer}
 

@@ -1,26 +1,23 @@
 //! Whole frames that a partition hears.
 
-ghost use Rattle.std.specs.Prelude.{◌≡◌, IfOk, OnErr, OnOk};
-ghost use Rattle.squall_wire.specs.Messages.{IsMessage, body_of, spell};
-ghost use Rattle.squall_wire.specs.Reading.{Gives};
-ghost use Rattle.squall_c_parts.specs.PartHearing.{AbsorbsDelta, TakesMessage, HearsFrame, whole_at};
+ghost use Rattle.std.specs.Prelude.{◌≡◌, OnErr, OnOk};
+ghost use Rattle.squall_replay.specs.Calls.{Absorbs};
+ghost use Rattle.squall_c_parts.specs.PartHearing.{AbsorbsDelta, TakesMessage, HearsFrame};
 
 use crate::node::Node;
 use crate::status::{memory_status, wire_status};
 use squall_board::Delta;
-use squall_wire::{Message, WireFault, decode};
-use std::alloc::{AllocError, Global};
+use squall_c_frames::whole;
+use squall_part::Part;
+use squall_wire::Message;
+use std::alloc::AllocError;
 
-/// The message whose frame the bytes are, no more and no less.
-fn whole(alloc: Global, frame: &[u8]) -> Result<Message, WireFault>
-    ensures answer { Gives body_of result (whole_at frame.now) }
-    ensures spelled { IfOk result (λ m. IsMessage m × (frame.now ≡ spell m)) }
+/// Has the partition absorb the delta. If it fails, nothing changes.
+pub(crate) fn absorb(part: &mut Part, delta: &Delta) -> Result<(), AllocError>
+    ensures ok { OnOk result (Absorbs part.old delta.now part.new) }
+    ensures err { OnErr result (part.new ≡ part.old) }
 {
-    let (message, len) = decode(alloc, frame)?;
-    if len != frame.len() {
-        return Err(WireFault::Spare);
-    }
-    Ok(message)
+    part.absorb(delta)
 }
 
 impl Node {
@@ -29,7 +26,7 @@ impl Node {
         ensures ok { OnOk result (AbsorbsDelta self.old delta.now self.new) }
         ensures err { OnErr result (self.new ≡ self.old) }
     {
-        self.part.absorb(delta)
+        absorb(&mut self.part, delta)
     }
 
     /// Takes the message: a delta is absorbed, a digest kept. If it fails, nothing changes.
@@ -47,6 +44,7 @@ impl Node {
     }
 
     /// Hears one whole frame: its message is taken, or the status tells its fault and nothing changes.
+    /// What was fed of a stream before waits on.
     pub fn hear(&mut self, frame: &[u8]) -> u32
         ensures { HearsFrame frame.now self.old self.new result }
     {

@@ -6,6 +6,7 @@
 
 mod calls;
 mod chunks;
+mod feeding;
 mod frames;
 mod hearing;
 mod node;

@@ -7,7 +7,7 @@ ghost use Rattle.squall_c_values.specs.Rooms.{over};
 ghost use Rattle.squall_c_values.specs.Values.{spans_that_fit};
 ghost use Rattle.squall_c_parts.specs.Nodes.{new_node, spans_in, given_spans, loaded_spans};
 
-use squall_c_frames::Frames;
+use squall_c_frames::{Frames, TwinFeed};
 use squall_c_values::{CSpan, put_spans};
 use squall_course::Course;
 use squall_key::PartId;
@@ -18,13 +18,15 @@ use std::alloc::{AllocError, Global};
 use std::marker::Model;
 use std::sync::Arc;
 
-/// A partition with the digest that it heard last, and with the frames that wait to be fetched.
+/// A partition with the feed that hears its stream of frames, with the digest that it heard last, and
+/// with the frames that wait to be fetched.
 ///
-/// Contracts see it as these three.
+/// Contracts see it as these four.
 #[derive(Drop)]
 pub struct Node {
     pub(crate) alloc: Global,
     pub(crate) part: Part,
+    pub(crate) feed: TwinFeed,
     pub(crate) heard: Option<Digest>,
     pub(crate) frames: Frames,
 }
@@ -34,7 +36,7 @@ impl Model for Node {
 
     ghost Value = { NodeValue };
 
-    ghost view = { λ n. record { part = n.part; heard = n.heard; frames = n.frames } };
+    ghost view = { λ n. record { part = n.part; feed = n.feed; heard = n.heard; frames = n.frames } };
 }
 
 /// Writes the spans of the set, from the place `from` on, into the room. Without a set it writes none.
@@ -57,6 +59,7 @@ impl Node {
         Ok(Node {
             alloc,
             part: Part::new(alloc, id, course)?,
+            feed: TwinFeed::new(alloc),
             heard: None,
             frames: Frames::new(alloc),
         })

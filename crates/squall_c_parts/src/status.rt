@@ -1,7 +1,7 @@
 //! The numbers that say how a call of a partition ended.
 
 ghost use Rattle.std.specs.Prelude.{◌≡◌, is_ok, if◌then◌else◌};
-ghost use Rattle.squall_c_parts.specs.PartStatus.{ok, no_memory, give_status, load_status, finish_status, wire_status};
+ghost use Rattle.squall_c_parts.specs.PartStatus.{ok, no_memory, give_status, load_status, finish_status, wire_status, heard_status};
 
 use squall_part::{Chunk, FinishFault, GiveFault, Load, LoadFault};
 use squall_report::Report;
@@ -16,6 +16,9 @@ pub(crate) const NO_MEMORY: u32 = 1;
 
 /// A number or a rank lies outside its limits, or a span has no key.
 pub(crate) const LIMIT: u32 = 2;
+
+/// A fault ended the stream of frames before.
+pub(crate) const FAILED: u32 = 4;
 
 /// A frame would have more bytes than it may have.
 pub(crate) const TOO_LONG: u32 = 5;
@@ -83,6 +86,16 @@ pub(crate) fn wire_status(fault: WireFault) -> u32
         WireFault::Order => 58,
         WireFault::Spare => 59,
         WireFault::NoMemory => NO_MEMORY,
+    }
+}
+
+/// The number of the fault that ended a stream, if there is one.
+pub(crate) fn heard_status(fault: Option<WireFault>) -> u32
+    ensures { result ≡ heard_status fault }
+{
+    match fault {
+        Some(fault) => wire_status(fault),
+        None => OK,
     }
 }
 
