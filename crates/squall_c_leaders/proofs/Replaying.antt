@@ -1,5 +1,5 @@
 -- What the calls of a log lead to.
-use Rattle.std.specs.Prelude.{◌≡◌, Bool, true, false, List, [], ◌∷◌, Option, Some, Result, Ok, Err}
+use Rattle.std.specs.Prelude.{◌≡◌, true, false, List, [], ◌∷◌, Err}
 use Rattle.std.proofs.Common.{sym, ap, subst, ◌∙◌}
 use Rattle.std.proofs.lemmas.Option.{same_Some}
 use Rattle.squall_plan.specs.declared.range.PlanRange.{PlanRange}

@@ -8,9 +8,13 @@ pub use Rattle.squall_wire.specs.Limits
 pub use Rattle.squall_wire.specs.Messages
 pub use Rattle.squall_wire.specs.Reading
 pub use Rattle.squall_wire.specs.DigestValue
+pub use Rattle.squall_wire.specs.Hearing
+pub use Rattle.squall_delta.specs.Pieces
 pub use Rattle.squall_leader.specs.Leaders
 pub use Rattle.squall_c_frames.specs.Queues
 pub use Rattle.squall_c_frames.specs.BoardFrames
 pub use Rattle.squall_c_frames.specs.WholeFrames
+pub use Rattle.squall_c_frames.specs.Joined
 pub mod Nodes
+pub mod Feeding
 pub mod Replay

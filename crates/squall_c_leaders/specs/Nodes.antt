@@ -11,6 +11,7 @@ use Rattle.squall_wire.specs.declared.fault.WireFault.TheVariants.{NoMemory}
 use Rattle.squall_wire.specs.declared.message.Message.{Message}
 use Rattle.squall_wire.specs.declared.message.Message.TheVariants.{Delta, Digest}
 use Rattle.squall_wire.specs.DigestValue.{DigestValue}
+use Rattle.squall_wire.specs.Hearing.{FeedValue, new_feed}
 use Rattle.squall_wire.specs.Messages.{IsMessage, body_of, spell}
 use Rattle.squall_leader.specs.declared.fault.LeaderFault.{LeaderFault}
 use Rattle.squall_leader.specs.Leaders.{LeaderValue, new_leader, after_begin, IsBegun, IsOpened}
@@ -22,9 +23,10 @@ use Rattle.squall_c_frames.specs.WholeFrames.{whole_at}
 use Rattle.squall_c_leaders.specs.declared.fault.RepairFault.{RepairFault}
 use Rattle.squall_c_leaders.specs.declared.fault.RepairFault.TheVariants.{NoDigest, TooLong as TooLongForRepair, NoMemory as NoMemoryForRepair}
 
--- a leader, the digest that it heard last and the frames that wait to be fetched
+-- a leader, the feed that hears its stream of frames, the digest that it heard last and the frames that wait to be fetched
 pub record NodeValue : Type 0 where
   pub leader : LeaderValue
+  pub feed : FeedValue
   pub heard : Option DigestValue
   pub frames : List (List ℕ)
 
@@ -32,7 +34,7 @@ pub record NodeValue : Type 0 where
 
 -- the node of a leader that has heard no digest, and no frame waits
 abbrev pub new_node : LeaderValue → NodeValue
-new_node l = record { leader = l; heard = None; frames = [] }
+new_node l = record { leader = l; feed = new_feed; heard = None; frames = [] }
 
 -- the leader in the midst of the course, as it is right after it began it as its first one
 abbrev pub begun_leader : Change → LeaderValue

@@ -27,7 +27,8 @@ impl LeaderNode {
 
     /// Hears one whole frame, no more and no less: a delta is absorbed, and a digest is kept for the
     /// next repair. If the bytes are no frame the answer is their first fault, and `NoMemory` if an
-    /// allocation fails or a count of owners is full. Then nothing changes.
+    /// allocation fails or a count of owners is full. Then nothing changes. What was fed of a stream before
+    /// waits on.
     pub fn hear(&mut self, frame: &[u8]) -> Result<(), WireFault>
         ensures { HearsFrame frame.now self.old result self.new }
     {

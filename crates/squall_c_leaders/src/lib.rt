@@ -4,6 +4,7 @@
 #![tactic(auto)]
 
 mod fault;
+mod feeding;
 mod gathering;
 mod hearing;
 pub mod laws;

@@ -1,4 +1,4 @@
-//! A leader with its allocator, the digest that it heard last and the frames that wait.
+//! A leader with its allocator, its feed, the digest that it heard last and the frames that wait.
 
 ghost use Rattle.std.specs.Prelude.{◌≡◌, ◌↔◌, IfOk, IsTrue};
 ghost use Rattle.std.specs.Arc.{arc_value};
@@ -7,7 +7,7 @@ ghost use Rattle.squall_report.specs.declared.report.ReportKind.TheVariants.{Ope
 ghost use Rattle.squall_leader.specs.Leaders.{IsFinished, new_leader};
 ghost use Rattle.squall_c_leaders.specs.Nodes.{new_node, begun_leader, Begins, Opens, OpensAs};
 
-use squall_c_frames::Frames;
+use squall_c_frames::{Frames, TwinFeed};
 use squall_course::Course;
 use squall_join::Shared;
 use squall_leader::{Leader, LeaderFault};
@@ -18,14 +18,16 @@ use std::alloc::{AllocError, Global};
 use std::marker::Model;
 use std::sync::Arc;
 
-/// What a handle of a leader leads to: the leader, the digest that it heard last and the frames that
-/// wait to be fetched. Contracts see it as these three.
+/// What a handle of a leader leads to: the leader, the feed that hears its stream of frames, the digest
+/// that it heard last and the frames that wait to be fetched. Contracts see it as these four.
 #[derive(Drop)]
 pub struct LeaderNode {
     pub(crate) alloc: Global,
     pub(crate) leader: Leader,
     /// The course that the leader began last.
     pub(crate) course: Option<Shared<Course>>,
+    /// What hears a stream of frames.
+    pub(crate) feed: TwinFeed,
     /// The digest that was heard last.
     pub(crate) heard: Option<Digest>,
     /// The frames that wait to be fetched.
@@ -38,7 +40,7 @@ impl Model for LeaderNode {
 
     ghost Value = { NodeValue };
 
-    ghost view = { λ n. record { leader = n.leader; heard = n.heard; frames = n.frames } };
+    ghost view = { λ n. record { leader = n.leader; feed = n.feed; heard = n.heard; frames = n.frames } };
 
     ghost invariant = { λ n. n.course ≡ n.leader.course };
 }
@@ -63,6 +65,7 @@ impl LeaderNode {
             alloc,
             leader: Leader::after(alloc, plan, last)?,
             course: None,
+            feed: TwinFeed::new(alloc),
             heard: None,
             frames: Frames::new(alloc),
         })
@@ -77,6 +80,7 @@ impl LeaderNode {
             alloc,
             leader: Leader::begun(alloc, course)?,
             course: Some(Shared::new(Arc::try_clone(course)?)),
+            feed: TwinFeed::new(alloc),
             heard: None,
             frames: Frames::new(alloc),
         })

@@ -1,4 +1,3 @@
-use Rattle.std.proofs.Common.{sym}
 use Rattle.squall_c_leaders.specs.Replay.{log_of}
 use Rattle.squall_c_leaders.proofs.Replaying.{one_replay, logged}
 use Rattle.squall_c_leaders.proofs.laws.leader_replay.Goals as goal
