@@ -71,18 +71,30 @@ static uint32_t open_next(squall_leader *leader) {
     return status;
 }
 
-static uint32_t hear(squall_leader *leader) {
-    uint8_t frame[64];
+/* The frame of a report. No allocation is refused or counted meanwhile. */
+static size_t done_frame(uint8_t *frame, size_t room) {
     long kept = refused;
     bool all = refuses_all;
     long count = asked;
     refused = 0;
     refuses_all = false;
-    size_t len = squall_frame_done(3, 0, 3, frame, sizeof frame);
+    size_t len = squall_frame_done(3, 0, 3, frame, room);
     refused = kept;
     refuses_all = all;
     asked = count;
+    return len;
+}
+
+static uint32_t hear(squall_leader *leader) {
+    uint8_t frame[64];
+    size_t len = done_frame(frame, sizeof frame);
     return squall_leader_hear(leader, frame, len);
+}
+
+static uint32_t feed(squall_leader *leader) {
+    uint8_t frame[64];
+    size_t len = done_frame(frame, sizeof frame);
+    return squall_leader_feed(leader, frame, len);
 }
 
 /* A leader that has begun nothing, was told something, has heard a digest and has a frame that waits. */
@@ -191,6 +203,49 @@ static void frames_are_heard(void) {
     refuse_each(busy_leader, hear);
 }
 
+static void streams_are_heard(void) {
+    refuse_each(busy_leader, feed);
+}
+
+enum { PIECE = 7 };
+
+/* The frame in pieces with the allocation of that number refused. The piece that is not taken comes
+ * again. Whether the calls made so many. */
+static bool refuse_in_pieces(long number) {
+    squall_leader *leader = leader_of(OLD, 6);
+    uint8_t frame[64];
+    size_t len = done_frame(frame, sizeof frame);
+    struct seen before = seen_of(leader);
+    asked = 0;
+    refused = number;
+    for (size_t at = 0; at < len; at += PIECE) {
+        size_t piece = at + PIECE < len ? PIECE : len - at;
+        uint32_t status = squall_leader_feed(leader, frame + at, piece);
+        CHECK(fits(status, asked >= number));
+        if (status == SQUALL_NO_MEMORY) {
+            struct seen after = seen_of(leader);
+            CHECK(memcmp(&before, &after, sizeof before) == 0);
+            CHECK(squall_leader_feed(leader, frame + at, piece) == SQUALL_OK);
+        }
+    }
+    bool was_refused = asked >= number;
+    refused = 0;
+    CHECK(squall_leader_gather_board(leader, SQUALL_NO_LIMIT) == SQUALL_OK);
+    CHECK(squall_leader_frame(leader, frame, sizeof frame) == len);
+    drop_leader(leader);
+    return was_refused;
+}
+
+static void pieces(void) {
+    long number = 1;
+    answered = 0;
+    while (refuse_in_pieces(number)) {
+        number++;
+    }
+    CHECK(number > 1 && answered > 0);
+    CHECK(blocks == 0);
+}
+
 static void boards(void) {
     refuse_each(busy_leader, gather_board);
 }
@@ -278,6 +333,8 @@ static const struct test TESTS[] = {
     TEST(courses_begin),
     TEST(subplans_open),
     TEST(frames_are_heard),
+    TEST(streams_are_heard),
+    TEST(pieces),
     TEST(boards),
     TEST(digests),
     TEST(repairs),

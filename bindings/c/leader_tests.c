@@ -115,6 +115,7 @@ static void answers_closed(squall_leader *leader) {
     CHECK(squall_leader_open_next(leader, out, 2) == SQUALL_CLOSED && out[0] == 7);
     CHECK(squall_leader_finished(leader) == 0);
     CHECK(squall_leader_hear(leader, frame, sizeof frame) == SQUALL_CLOSED);
+    CHECK(squall_leader_feed(leader, frame, sizeof frame) == SQUALL_CLOSED);
     CHECK(squall_leader_gather_board(leader, SQUALL_NO_LIMIT) == SQUALL_CLOSED);
     CHECK(squall_leader_gather_digest(leader, SQUALL_NO_LIMIT) == SQUALL_CLOSED);
     CHECK(squall_leader_gather_repair(leader, SQUALL_NO_LIMIT) == SQUALL_CLOSED);
@@ -237,6 +238,65 @@ static void what_is_no_frame(void) {
     drop_leader(leader);
 }
 
+static const uint8_t EMPTY_DIGEST[] = {0x53, 0x51, 1, 2, 0, 0, 0, 8, 0, 0, 0, 0, 0, 0, 0, 0};
+
+/* The frames by which the two partitions that get keys say that they are done. */
+static size_t done_frames(uint8_t *out, size_t room) {
+    size_t first = squall_frame_done(1, 0, 3, out, room);
+    return first + squall_frame_done(1, 0, 4, out + first, room - first);
+}
+
+/* Two frames in three pieces, cut anywhere: what is told does not depend on where. */
+static void frames_cut_anywhere(void) {
+    uint8_t stream[128];
+    size_t len = done_frames(stream, sizeof stream);
+    for (size_t cut = 0; cut <= len; cut++) {
+        for (size_t next = cut; next <= len; next++) {
+            squall_leader *leader = leader_of(OLD, 0);
+            uint32_t out[2];
+            CHECK(begin(leader, NEW) == SQUALL_OK);
+            CHECK(squall_leader_open_next(leader, out, 2) == SQUALL_OK);
+            CHECK(squall_leader_feed(leader, stream, cut) == SQUALL_OK);
+            CHECK(squall_leader_feed(leader, stream + cut, next - cut) == SQUALL_OK);
+            CHECK(squall_leader_finished(leader) == (next == len));
+            CHECK(squall_leader_feed(leader, stream + next, len - next) == SQUALL_OK);
+            CHECK(squall_leader_finished(leader) == 1);
+            drop_leader(leader);
+        }
+    }
+}
+
+/* A fault ends the stream after the messages before it, and whole frames are still heard. */
+static void a_fault_in_a_stream(void) {
+    squall_leader *leader = leader_of(OLD, 0);
+    uint32_t out[2];
+    uint8_t stream[128] = {0};
+    CHECK(begin(leader, NEW) == SQUALL_OK);
+    CHECK(squall_leader_open_next(leader, out, 2) == SQUALL_OK);
+    size_t len = squall_frame_done(1, 0, 3, stream, sizeof stream);
+    CHECK(squall_leader_feed(leader, stream, len + 2) == SQUALL_FRAME_MAGIC);
+    CHECK(squall_leader_open_next(leader, out, 2) == SQUALL_NOT_DONE && out[1] == 4);
+    CHECK(squall_leader_feed(leader, stream, len) == SQUALL_FAILED);
+    CHECK(squall_leader_feed(leader, stream, 0) == SQUALL_FAILED);
+    CHECK(hear_done(leader, 1, 0, 4) == SQUALL_OK);
+    CHECK(squall_leader_finished(leader) == 1);
+    drop_leader(leader);
+}
+
+/* What waits of a stream waits on while a whole frame is heard. The last digest is kept. */
+static void a_frame_beside_a_stream(void) {
+    squall_leader *leader = leader_of(OLD, 0);
+    uint8_t stream[128];
+    size_t len = done_frames(stream, sizeof stream);
+    CHECK(squall_leader_feed(leader, EMPTY_DIGEST, 3) == SQUALL_OK);
+    CHECK(squall_leader_hear(leader, stream, len / 2) == SQUALL_OK);
+    CHECK(squall_leader_gather_repair(leader, SQUALL_NO_LIMIT) == SQUALL_NO_DIGEST);
+    CHECK(squall_leader_feed(leader, EMPTY_DIGEST + 3, sizeof EMPTY_DIGEST - 3) == SQUALL_OK);
+    CHECK(squall_leader_gather_repair(leader, SQUALL_NO_LIMIT) == SQUALL_OK);
+    CHECK(squall_leader_feed(leader, stream, len) == SQUALL_OK);
+    drop_leader(leader);
+}
+
 static void a_frame_waits_for_room(void) {
     squall_leader *leader = leader_of(OLD, 0);
     uint8_t frame[64];
@@ -274,6 +334,9 @@ static const struct test TESTS[] = {
     TEST(a_standby_catches_up),
     TEST(a_router_follows),
     TEST(what_is_no_frame),
+    TEST(frames_cut_anywhere),
+    TEST(a_fault_in_a_stream),
+    TEST(a_frame_beside_a_stream),
     TEST(a_frame_waits_for_room),
     TEST(frames_within_a_limit),
 };

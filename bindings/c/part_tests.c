@@ -74,6 +74,10 @@ static uint32_t hear_opening(squall_part *part) {
     return squall_part_hear(part, opening, sizeof opening);
 }
 
+static uint32_t feed_opening(squall_part *part) {
+    return squall_part_feed(part, opening, sizeof opening);
+}
+
 /* A partition that has heard that sub-plan 0 is opened. */
 static squall_part *open_part(uint32_t id) {
     squall_part *part = part_of(id);
@@ -117,6 +121,7 @@ static void has_no_partition(squall_part *part) {
     squall_span spans[1];
     uint8_t out[8];
     CHECK(hear_opening(part) == SQUALL_CLOSED);
+    CHECK(feed_opening(part) == SQUALL_CLOSED);
     CHECK(squall_part_give(part, 1, &chunk) == SQUALL_CLOSED);
     CHECK(squall_part_give_at(part, 0, &chunk) == SQUALL_CLOSED);
     CHECK(is_chunk(chunk, NO_CHUNK));
@@ -283,6 +288,65 @@ static void frames_within_a_limit(void) {
     CHECK(blocks == 0);
 }
 
+/* ---- streams of frames */
+
+static const uint8_t EMPTY_DIGEST[] = {0x53, 0x51, 1, 2, 0, 0, 0, 8, 0, 0, 0, 0, 0, 0, 0, 0};
+static const uint8_t EMPTY_DELTA[] = {0x53, 0x51, 1, 1, 0, 0, 0, 8, 0, 0, 0, 0, 0, 0, 0, 0};
+
+/* An opening and a digest in three pieces, cut anywhere: what is told does not depend on where. */
+static void frames_cut_anywhere(void) {
+    uint8_t stream[sizeof opening + sizeof EMPTY_DIGEST];
+    memcpy(stream, opening, sizeof opening);
+    memcpy(stream + sizeof opening, EMPTY_DIGEST, sizeof EMPTY_DIGEST);
+    for (size_t cut = 0; cut <= sizeof stream; cut++) {
+        for (size_t next = cut; next <= sizeof stream; next++) {
+            squall_part *part = part_of(1);
+            squall_chunk chunk;
+            CHECK(squall_part_feed(part, stream, cut) == SQUALL_OK);
+            CHECK(squall_part_feed(part, stream + cut, next - cut) == SQUALL_OK);
+            CHECK(squall_part_give(part, 1, &chunk)
+                  == (next < sizeof opening ? SQUALL_NOT_OPEN : SQUALL_OK));
+            CHECK(squall_part_gather_repair(part, SQUALL_NO_LIMIT)
+                  == (next < sizeof stream ? SQUALL_NO_DIGEST : SQUALL_OK));
+            CHECK(squall_part_feed(part, stream + next, sizeof stream - next) == SQUALL_OK);
+            CHECK(squall_part_gather_repair(part, SQUALL_NO_LIMIT) == SQUALL_OK);
+            CHECK(squall_part_give(part, 1, &chunk) == SQUALL_OK);
+            drop_part(part);
+        }
+    }
+    CHECK(blocks == 0);
+}
+
+/* A fault ends the stream after the messages before it, and whole frames are still heard. */
+static void a_fault_in_a_stream(void) {
+    squall_part *part = part_of(1);
+    uint8_t stream[sizeof opening + 2] = {0};
+    squall_chunk chunk;
+    memcpy(stream, opening, sizeof opening);
+    CHECK(squall_part_feed(part, stream, sizeof stream) == SQUALL_FRAME_MAGIC);
+    CHECK(squall_part_give(part, 1, &chunk) == SQUALL_OK);
+    CHECK(squall_part_feed(part, EMPTY_DELTA, sizeof EMPTY_DELTA) == SQUALL_FAILED);
+    CHECK(squall_part_feed(part, EMPTY_DELTA, 0) == SQUALL_FAILED);
+    CHECK(squall_part_hear(part, EMPTY_DIGEST, sizeof EMPTY_DIGEST) == SQUALL_OK);
+    CHECK(squall_part_gather_repair(part, SQUALL_NO_LIMIT) == SQUALL_OK);
+    drop_part(part);
+    CHECK(blocks == 0);
+}
+
+/* What waits of a stream waits on while a whole frame is heard. */
+static void a_frame_beside_a_stream(void) {
+    squall_part *part = part_of(1);
+    squall_chunk chunk;
+    CHECK(squall_part_feed(part, opening, 3) == SQUALL_OK);
+    CHECK(squall_part_hear(part, EMPTY_DIGEST, sizeof EMPTY_DIGEST) == SQUALL_OK);
+    CHECK(squall_part_hear(part, EMPTY_DIGEST, 3) == SQUALL_FRAME_SHORT);
+    CHECK(squall_part_feed(part, opening + 3, sizeof opening - 3) == SQUALL_OK);
+    CHECK(squall_part_give(part, 1, &chunk) == SQUALL_OK);
+    CHECK(squall_part_gather_repair(part, SQUALL_NO_LIMIT) == SQUALL_OK);
+    drop_part(part);
+    CHECK(blocks == 0);
+}
+
 /* ---- allocations that are refused */
 
 static uint32_t give_some(squall_part *part) {
@@ -313,8 +377,6 @@ static uint32_t gather_board(squall_part *part) {
 static uint32_t gather_digest(squall_part *part) {
     return squall_part_gather_digest(part, SQUALL_NO_LIMIT);
 }
-
-static const uint8_t EMPTY_DIGEST[] = {0x53, 0x51, 1, 2, 0, 0, 0, 8, 0, 0, 0, 0, 0, 0, 0, 0};
 
 static uint32_t repair(squall_part *part) {
     uint32_t status = squall_part_hear(part, EMPTY_DIGEST, sizeof EMPTY_DIGEST);
@@ -360,8 +422,45 @@ static void refuse_each(uint32_t (*call)(squall_part *)) {
     CHECK(answered > 0);
 }
 
+enum { PIECE = 7 };
+
+/* The opening in pieces with the allocation of that number refused. The piece that is not taken comes
+ * again. Whether the calls made so many. */
+static bool refuse_in_pieces(long number) {
+    squall_part *part = part_of(1);
+    squall_chunk chunk;
+    asked = 0;
+    refused = number;
+    for (size_t at = 0; at < sizeof opening; at += PIECE) {
+        size_t len = at + PIECE < sizeof opening ? PIECE : sizeof opening - at;
+        uint32_t status = squall_part_feed(part, opening + at, len);
+        CHECK(status == SQUALL_OK || (asked >= number && status == SQUALL_NO_MEMORY));
+        if (status == SQUALL_NO_MEMORY) {
+            answered++;
+            CHECK(squall_part_give(part, 1, &chunk) == SQUALL_NOT_OPEN);
+            CHECK(squall_part_feed(part, opening + at, len) == SQUALL_OK);
+        }
+    }
+    bool was_refused = asked >= number;
+    refused = 0;
+    CHECK(squall_part_give(part, 1, &chunk) == SQUALL_OK);
+    drop_part(part);
+    CHECK(blocks == 0);
+    return was_refused;
+}
+
+static void refused_pieces(void) {
+    long number = 1;
+    answered = 0;
+    while (refuse_in_pieces(number)) {
+        number++;
+    }
+    CHECK(answered > 0);
+}
+
 static void refused_allocations(void) {
     refuse_each(hear_opening);
+    refuse_each(feed_opening);
     refuse_each(give_some);
     refuse_each(give_one);
     refuse_each(load_some);
@@ -424,7 +523,11 @@ static const struct test TESTS[] = {
     TEST(replies_for_errands),
     TEST(frames),
     TEST(frames_within_a_limit),
+    TEST(frames_cut_anywhere),
+    TEST(a_fault_in_a_stream),
+    TEST(a_frame_beside_a_stream),
     TEST(refused_allocations),
+    TEST(refused_pieces),
     TEST(refused_openings),
     TEST(calls_that_allocate_nothing),
 };

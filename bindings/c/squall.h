@@ -109,7 +109,7 @@ enum squall_status {
     SQUALL_FRAME_VERSION = 52,
     SQUALL_FRAME_KIND = 53,
     SQUALL_FRAME_TOO_LONG = 54,
-    SQUALL_FRAME_SHORT = 55, /* of squall_router_hear alone: the bytes end within the frame */
+    SQUALL_FRAME_SHORT = 55, /* of squall_.._hear alone: the bytes end within the frame */
     SQUALL_FRAME_COUNT = 56,
     SQUALL_FRAME_RANGE = 57,
     SQUALL_FRAME_ORDER = 58,
@@ -586,9 +586,16 @@ void squall_part_open(uint32_t id, const squall_course *course, squall_part *roo
 /* How the opening ended. Never changes. */
 uint32_t squall_part_status(const squall_part *part);
 
+/* Takes the next bytes of a stream of frames, as squall_router_feed does: a delta that ends in these
+ * bytes is absorbed, the last digest is kept for squall_part_gather_repair, and what is left waits for
+ * the next bytes. Answers as squall_router_feed does, and SQUALL_CLOSED if there is no partition. A log
+ * also has the calls that answered SQUALL_FRAME_..: they took the messages before the fault. Allocates. */
+uint32_t squall_part_feed(squall_part *part, const uint8_t *bytes, size_t len);
+
 /* Takes one whole frame, as squall_router_hear does: a delta is absorbed, and a digest kept for
  * squall_part_gather_repair. Answers as squall_router_hear does, and SQUALL_CLOSED if there is no
- * partition. At all but SQUALL_OK nothing changed. Allocates. */
+ * partition. At all but SQUALL_OK nothing changed. It has nothing to do with the stream of
+ * squall_part_feed. Allocates. */
 uint32_t squall_part_hear(squall_part *part, const uint8_t *frame, size_t len);
 
 /* Gives the first keys, at most `max`, of those that go out in the sub-plan opened last and that the
@@ -692,8 +699,15 @@ uint32_t squall_leader_status(const squall_leader *leader);
  * squall_router_fault_at says it. */
 uint64_t squall_leader_fault_at(const squall_leader *leader);
 
+/* Takes the next bytes of a stream of frames, as squall_router_feed does, and answers as that does. A
+ * delta that ends in these bytes is taken as reports. The last digest is kept for
+ * squall_leader_gather_repair. What is left waits for the next bytes. A log also has the calls that
+ * answered SQUALL_FRAME_..: they took the messages before the fault. Allocates. */
+uint32_t squall_leader_feed(squall_leader *leader, const uint8_t *bytes, size_t len);
+
 /* Takes one whole frame, as squall_router_hear does, and answers as that does. A delta is taken as
- * reports. A digest is kept for squall_leader_gather_repair. Allocates. */
+ * reports. A digest is kept for squall_leader_gather_repair. It has nothing to do with the stream of
+ * squall_leader_feed. Allocates. */
 uint32_t squall_leader_hear(squall_leader *leader, const uint8_t *frame, size_t len);
 
 /* Begins the course from the newest plan to this one. Its number is the last one plus 1, and its plan is

@@ -143,6 +143,8 @@ static void *hold(void *room) {
     squall_chunk chunk = {squall_rank(2, 0), squall_rank(3, 0), 1, 0, 1, 3};
     CHECK(squall_router_gather_board(opened, SQUALL_NO_LIMIT) == SQUALL_OK);
     size_t len = squall_router_frame(opened, frames, SQUALL_FRAME_BYTES);
+    CHECK(squall_part_feed(part, frames, len / 2) == SQUALL_OK);
+    CHECK(squall_part_feed(part, frames + len / 2, len - len / 2) == SQUALL_OK);
     CHECK(squall_part_hear(part, frames, len) == SQUALL_OK);
     CHECK(squall_part_hear(part, opening, squall_frame_opened(1, 0, opening, sizeof opening))
           == SQUALL_OK);
@@ -185,6 +187,8 @@ static void *lead(void *unused) {
     squall_course_close(course);
     CHECK(squall_router_gather_board(opened, SQUALL_NO_LIMIT) == SQUALL_OK);
     size_t len = squall_router_frame(opened, frames, SQUALL_FRAME_BYTES);
+    CHECK(squall_leader_feed(leader, frames, len / 2) == SQUALL_OK);
+    CHECK(squall_leader_feed(leader, frames + len / 2, len - len / 2) == SQUALL_OK);
     CHECK(squall_leader_hear(leader, frames, len) == SQUALL_OK);
     CHECK(squall_leader_open_next(leader, out, 2) == SQUALL_OK);
     CHECK(squall_leader_gather_board(leader, SQUALL_NO_LIMIT) == SQUALL_OK);

@@ -87,6 +87,7 @@ func TestPartitionsWithoutMemory(t *testing.T) {
 		open func(*testing.T) *Partition
 		call func(*Partition) error
 	}{
+		"Feed":   {busyPartition, func(p *Partition) error { return p.Feed(frame) }},
 		"Hear":   {busyPartition, func(p *Partition) error { return p.Hear(frame) }},
 		"Give":   {busyPartition, func(p *Partition) error { _, err := p.Give(2); return err }},
 		"GiveAt": {busyPartition, func(p *Partition) error { _, err := p.GiveAt(Key(6, 2)); return err }},
@@ -131,6 +132,7 @@ func TestLeadersWithoutMemory(t *testing.T) {
 		open func(*testing.T) *Leader
 		call func(*Leader) error
 	}{
+		"Feed":     {busyLeader, func(l *Leader) error { return l.Feed(frame) }},
 		"Hear":     {busyLeader, func(l *Leader) error { return l.Hear(frame) }},
 		"Begin":    {idleLeader, func(l *Leader) error { return l.Begin(plan) }},
 		"OpenNext": {busyLeader, func(l *Leader) error { _, err := l.OpenNext(); return err }},

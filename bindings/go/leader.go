@@ -103,8 +103,22 @@ func (l *Leader) check(status C.uint32_t) error {
 	return errorOf(uint32(status), uint64(C.squall_leader_fault_at(l.at)))
 }
 
+// Feed takes the next bytes of a stream of frames, which may be cut anywhere, as [Router.Feed] does. Deltas
+// that end in these bytes are taken as reports. The last digest is kept for [Leader.Repair]. What is left
+// waits for the next bytes.
+//
+// Errors: a [FrameFault] if bytes are no frame: the messages before them were taken, and from now on
+// the error is [ErrFailed]. Such a call belongs into a log too. [ErrNoMemory], after which the same bytes
+// may be fed again. [ErrClosed].
+func (l *Leader) Feed(bytes []byte) error {
+	return l.take(func(at *C.squall_leader) C.uint32_t {
+		next, size := bytesOf(bytes)
+		return C.squall_leader_feed(at, next, size)
+	})
+}
+
 // Hear takes one whole frame, as [Router.Hear] does. A delta is taken as reports. A digest is kept for
-// [Leader.Repair].
+// [Leader.Repair]. It has nothing to do with the stream of [Leader.Feed].
 //
 // Errors: a [FrameFault] if the bytes are no frame; [ErrNoMemory]; [ErrClosed]. The next frame may come.
 func (l *Leader) Hear(frame []byte) error {

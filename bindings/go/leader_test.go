@@ -160,6 +160,29 @@ func TestFramesOfLeaders(t *testing.T) {
 	equals(t, board, repair)
 }
 
+// A stream for a leader is cut anywhere, and a fault ends it.
+func TestAStreamForALeader(t *testing.T) {
+	first, err := squall.FrameDone(1, 0, 3)
+	succeeds(t, err)
+	second, err := squall.FrameDone(1, 0, 4)
+	succeeds(t, err)
+	stream := append(append([]byte{}, first...), second...)
+	for cut := range stream {
+		leader := leaderOf(t, 0)
+		succeeds(t, leader.Begin(newPlan))
+		opensNext(t, leader, 0, nil)
+		succeeds(t, leader.Feed(stream[:cut]))
+		equals(t, leader.Finished(), false)
+		succeeds(t, leader.Hear(first))
+		succeeds(t, leader.Feed(stream[cut:]))
+		equals(t, leader.Finished(), true)
+		equals(t, leader.Feed([]byte("no")), squall.FrameMagic)
+		equals(t, leader.Feed(stream), squall.ErrFailed)
+		succeeds(t, leader.Hear(first))
+		succeeds(t, leader.Close())
+	}
+}
+
 // Partitions and leaders hear more than a digest has rows for.
 func TestDigestsOfPartitionsAndLeadersThatAreTooLong(t *testing.T) {
 	router, partition, leader := fresh(t), partitionOf(t, 1), leaderOf(t, 0)
@@ -210,7 +233,8 @@ func TestALeaderThatIsClosed(t *testing.T) {
 		_, digestErr := leader.Digest()
 		_, repairErr := leader.Repair()
 		for _, err := range []error{
-			leader.Begin(newPlan), leader.Hear(unhex(loadFrame)), courseErr, boardErr, digestErr, repairErr,
+			leader.Begin(newPlan), leader.Feed(unhex(loadFrame)), leader.Hear(unhex(loadFrame)),
+			courseErr, boardErr, digestErr, repairErr,
 		} {
 			equals(t, err, squall.ErrClosed)
 		}

@@ -109,8 +109,22 @@ func (p *Partition) take(call func(at *C.squall_part) C.uint32_t) error {
 	return errorOf(uint32(status), C.SQUALL_NO_PLACE)
 }
 
+// Feed takes the next bytes of a stream of frames, which may be cut anywhere, as [Router.Feed] does. Deltas
+// that end in these bytes are taken as reports. The last digest is kept for [Partition.Repair]. What is left
+// waits for the next bytes.
+//
+// Errors: a [FrameFault] if bytes are no frame: the messages before them were taken, and from now on
+// the error is [ErrFailed]. Such a call belongs into a log too. [ErrNoMemory], after which the same bytes
+// may be fed again. [ErrClosed].
+func (p *Partition) Feed(bytes []byte) error {
+	return p.take(func(at *C.squall_part) C.uint32_t {
+		next, size := bytesOf(bytes)
+		return C.squall_part_feed(at, next, size)
+	})
+}
+
 // Hear takes one whole frame, as [Router.Hear] does. A delta is taken as reports. A digest is kept for
-// [Partition.Repair].
+// [Partition.Repair]. It has nothing to do with the stream of [Partition.Feed].
 //
 // Errors: a [FrameFault] if the bytes are no frame; [ErrNoMemory]; [ErrClosed]. The next frame may come.
 func (p *Partition) Hear(frame []byte) error {

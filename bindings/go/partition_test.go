@@ -219,6 +219,23 @@ func TestFramesOfPartitions(t *testing.T) {
 	gives(t, other, 1, chunkOf(two, two+1))
 }
 
+// A stream for a partition is cut anywhere, and a fault ends it.
+func TestAStreamForAPartition(t *testing.T) {
+	opening := unhex(openingFrame)
+	for cut := range opening {
+		partition := partitionOf(t, 1)
+		succeeds(t, partition.Feed(opening[:cut]))
+		givesNone(t, partition, 1, squall.ErrNotOpen, two, squall.ErrNotOpen)
+		succeeds(t, partition.Hear(unhex(loadFrame)))
+		succeeds(t, partition.Feed(opening[cut:]))
+		gives(t, partition, 1, chunkOf(two, two+1))
+		equals(t, partition.Feed([]byte("no")), squall.FrameMagic)
+		equals(t, partition.Feed(opening), squall.ErrFailed)
+		succeeds(t, partition.Hear(opening))
+		succeeds(t, partition.Close())
+	}
+}
+
 func TestAPartitionThatIsClosed(t *testing.T) {
 	closed := opened(t, 1)
 	succeeds(t, closed.Close())
@@ -229,7 +246,8 @@ func TestAPartitionThatIsClosed(t *testing.T) {
 		_, digestErr := partition.Digest()
 		_, repairErr := partition.Repair()
 		for _, err := range []error{
-			partition.Hear(unhex(openingFrame)), partition.Finish(0), servedErr, boardErr, digestErr, repairErr,
+			partition.Feed(unhex(openingFrame)), partition.Hear(unhex(openingFrame)), partition.Finish(0),
+			servedErr, boardErr, digestErr, repairErr,
 		} {
 			equals(t, err, squall.ErrClosed)
 		}

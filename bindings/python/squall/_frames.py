@@ -26,7 +26,9 @@ class Hears(Handle):
 
     __slots__ = ("_gathered",)
 
-    # Functions of C, which are no methods. Of the two that hear, the second keeps Python's lock.
+    # Functions of C, which are no methods. Of two that do the same, the second keeps Python's lock.
+    _call_feed: ClassVar[Any]
+    _call_feed_kept: ClassVar[Any]
     _call_hear: ClassVar[Any]
     _call_hear_kept: ClassVar[Any]
     _call_board: ClassVar[Any]
@@ -40,8 +42,8 @@ class Hears(Handle):
         """Takes one whole frame, for transports that keep messages apart.
 
         A delta is taken as reports, and a digest is kept for `repair`. No byte is copied for the
-        call. Other threads run meanwhile if `frame` is of type `bytes`. A router's stream, which
-        `Router.feed` takes, has nothing to do with this.
+        call. Other threads run meanwhile if `frame` is of type `bytes`. The stream that `feed`
+        takes has nothing to do with this.
 
         >>> router.hear(frame.opened(1, 0))
 
@@ -49,6 +51,19 @@ class Hears(Handle):
         then. Raises `NoMemory` and `ClosedError`.
         """
         self._take(frame, self._call_hear, self._call_hear_kept)
+
+    def feed(self, data: ReadableBuffer) -> None:
+        """Takes the next bytes of a stream of frames, which may be cut anywhere.
+
+        Deltas are taken as reports, and the last digest is kept for `repair`. What is left waits
+        for the next bytes. No byte is copied for the call. Other threads run meanwhile if `data`
+        is of type `bytes`.
+
+        Raises `FrameError` if bytes are no frame. The messages before them were taken, and each
+        later call raises `StreamError`. A log of calls of a partition or a leader needs such a call
+        too. Raises `NoMemory`, after which the same bytes may be fed again, and `ClosedError`.
+        """
+        self._take(data, self._call_feed, self._call_feed_kept)
 
     def _take(
         self,

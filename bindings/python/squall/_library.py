@@ -230,6 +230,10 @@ part_close: Callable[[PartRoom], None] = _slow("part_close", None, _PART)
 part_open: Callable[[int, CourseRoom, PartRoom], None]
 part_open = _slow("part_open", None, _U32, _COURSE, _PART)
 part_status: Callable[[PartRoom], int] = _quick("part_status", _U32, _PART)
+part_feed: Callable[[PartRoom, Bytes, int], int]
+part_feed = _slow("part_feed", _U32, _PART, _ADDRESS, _SIZE)
+part_feed_kept: Callable[[PartRoom, Bytes, int], int]
+part_feed_kept = _quick("part_feed", _U32, _PART, _ADDRESS, _SIZE)
 part_hear: Callable[[PartRoom, Bytes, int], int]
 part_hear = _slow("part_hear", _U32, _PART, _ADDRESS, _SIZE)
 part_hear_kept: Callable[[PartRoom, Bytes, int], int]
@@ -267,6 +271,10 @@ leader_resume: Callable[[CourseRoom, LeaderRoom], None]
 leader_resume = _slow("leader_resume", None, _COURSE, _LEADER)
 leader_status: Callable[[LeaderRoom], int] = _quick("leader_status", _U32, _LEADER)
 leader_fault_at: Callable[[LeaderRoom], int] = _quick("leader_fault_at", _U64, _LEADER)
+leader_feed: Callable[[LeaderRoom, Bytes, int], int]
+leader_feed = _slow("leader_feed", _U32, _LEADER, _ADDRESS, _SIZE)
+leader_feed_kept: Callable[[LeaderRoom, Bytes, int], int]
+leader_feed_kept = _quick("leader_feed", _U32, _LEADER, _ADDRESS, _SIZE)
 leader_hear: Callable[[LeaderRoom, Bytes, int], int]
 leader_hear = _slow("leader_hear", _U32, _LEADER, _ADDRESS, _SIZE)
 leader_hear_kept: Callable[[LeaderRoom, Bytes, int], int]

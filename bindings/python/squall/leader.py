@@ -45,6 +45,8 @@ class Leader(Hears):
 
     _kind = LeaderRoom
     _call_status = lib.leader_status
+    _call_feed = lib.leader_feed
+    _call_feed_kept = lib.leader_feed_kept
     _call_hear = lib.leader_hear
     _call_hear_kept = lib.leader_hear_kept
     _call_board = lib.leader_gather_board

@@ -84,6 +84,8 @@ class Part(Hears):
 
     _kind = PartRoom
     _call_status = lib.part_status
+    _call_feed = lib.part_feed
+    _call_feed_kept = lib.part_feed_kept
     _call_hear = lib.part_hear
     _call_hear_kept = lib.part_hear_kept
     _call_board = lib.part_gather_board

@@ -2,7 +2,7 @@
 
 from __future__ import annotations
 
-from typing import TYPE_CHECKING, Callable, NamedTuple, Tuple
+from typing import Callable, NamedTuple, Tuple
 
 from . import _library as lib
 from ._fork import REFUSED, refuse
@@ -15,9 +15,6 @@ from .course import Course
 from .keys import rank, word
 from .plan import Plan, PlanText
 from .view import View
-
-if TYPE_CHECKING:
-    from _typeshed import ReadableBuffer
 
 #: No frame has more bytes.
 FRAME_BYTES = 1048584
@@ -63,6 +60,8 @@ class Router(Routes, Hears):
     _call_legs = lib.router_legs
     _call_number = lib.router_number
     _call_errand = lib.errand_start
+    _call_feed = lib.router_feed
+    _call_feed_kept = lib.router_feed_kept
     _call_hear = lib.router_hear
     _call_hear_kept = lib.router_hear_kept
     _call_board = lib.router_gather_board
@@ -129,19 +128,6 @@ class Router(Routes, Hears):
             return status, lib.router_fault_at(room)
 
         check(*self._undisturbed(steps))
-
-    def feed(self, data: ReadableBuffer) -> None:
-        """Takes the next bytes of a stream of frames, which may be cut anywhere.
-
-        Deltas are taken as reports, and the last digest is kept for `repair`. What is left waits
-        for the next bytes. No byte is copied for the call. Other threads run meanwhile if `data`
-        is of type `bytes`.
-
-        Raises `FrameError` if bytes are no frame. The messages before them were taken, and each
-        later call raises `StreamError`. Raises `NoMemory`, after which the same bytes may be fed
-        again, and `ClosedError`.
-        """
-        self._take(data, lib.router_feed, lib.router_feed_kept)
 
     def clashed(self) -> bool:
         """Whether it heard of different pairs of plans under a number above that of its course.

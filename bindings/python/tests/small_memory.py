@@ -39,6 +39,8 @@ PART_CALLS: List[Callable[[Part], object]] = [
     lambda it: it.give(7),
     lambda it: it.give_at(key(7)),
     lambda it: it.load(Chunk(key(2), key(3), 1, 0, 1, 3)),
+    lambda it: it.feed(LOAD_FRAME),
+    lambda it: it.feed(bytearray(LOAD_FRAME)),
     lambda it: it.hear(LOAD_FRAME),
     lambda it: it.hear(bytearray(LOAD_FRAME)),
     lambda it: it.board(),
@@ -48,6 +50,8 @@ PART_CALLS: List[Callable[[Part], object]] = [
 
 LEADER_CALLS: List[Callable[[Leader], object]] = [
     lambda it: it.begin(OLD),
+    lambda it: it.feed(LOAD_FRAME),
+    lambda it: it.feed(bytearray(LOAD_FRAME)),
     lambda it: it.hear(LOAD_FRAME),
     lambda it: it.hear(bytearray(LOAD_FRAME)),
     lambda it: it.board(),

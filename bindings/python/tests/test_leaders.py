@@ -21,6 +21,7 @@ from squall import (
     PlanFault,
     Router,
     RunningError,
+    StreamError,
     frame,
 )
 
@@ -221,6 +222,20 @@ class Frames(unittest.TestCase):
             with self.assertRaises(FrameError):
                 leader.hear(bad)
         self.assertEqual(leader.board(), [])
+
+    def test_a_stream(self) -> None:
+        leader = begun()
+        leader.open_next()
+        stream = frame.done(1, 0, 3) + frame.done(1, 0, 4)
+        leader.feed(stream[:-1])
+        self.assertFalse(leader.finished)
+        leader.feed(bytearray(stream[-1:]))
+        self.assertTrue(leader.finished)
+        with self.assertRaises(FrameError):
+            leader.feed(b"no")
+        with self.assertRaises(StreamError):
+            leader.feed(stream)
+        leader.hear(frame.done(1, 0, 3))
 
 
 if __name__ == "__main__":

@@ -102,7 +102,7 @@ class Functions(unittest.TestCase):
     @unittest.skipUnless(HEADER.is_file(), "squall.h is not here")
     def test_each_function_of_the_header_is_called_by_its_types(self) -> None:
         wanted = declared()
-        self.assertEqual(len(wanted), 92)
+        self.assertEqual(len(wanted), 94)
         bound: Dict[str, int] = dict.fromkeys(wanted, 0)
         for function in vars(lib).values():
             name = getattr(function, "__name__", "")
@@ -111,8 +111,9 @@ class Functions(unittest.TestCase):
                 with self.subTest(name=name):
                     takes = list(function.argtypes or [])
                     self.assertEqual((function.restype, takes), wanted[name])
-        twice = {f"squall_{it}_hear" for it in ["router", "part", "leader"]}
-        twice |= {"squall_router_feed", "squall_view_locate"}
+        kinds = ["router", "part", "leader"]
+        twice = {f"squall_{it}_{call}" for it in kinds for call in ["feed", "hear"]}
+        twice |= {"squall_view_locate"}
         self.assertEqual(bound, {it: 2 if it in twice else 1 for it in wanted})
 
     @unittest.skipUnless(HEADER.is_file(), "squall.h is not here")

@@ -31,6 +31,7 @@ from squall import (
     Span,
     SquallError,
     StrangerError,
+    StreamError,
     ZeroMaxError,
     frame,
 )
@@ -267,6 +268,20 @@ class Frames(unittest.TestCase):
         self.assertEqual(part.board(), [])
         part.hear(memoryview(LOAD_FRAME))
         self.assertEqual(part.board(), [LOAD_FRAME])
+
+    def test_a_stream(self) -> None:
+        part = part_of(1)
+        part.feed(OPENING_FRAME[:5])
+        part.hear(LOAD_FRAME)
+        with self.assertRaises(NotOpenError):
+            part.give(1)
+        part.feed(bytearray(OPENING_FRAME[5:]))
+        self.assertEqual(part.give(1).dest, 3)
+        with self.assertRaises(FrameError):
+            part.feed(b"no")
+        with self.assertRaises(StreamError):
+            part.feed(OPENING_FRAME)
+        part.hear(OPENING_FRAME)
 
     def test_partitions_that_repair(self) -> None:
         knows, lacks = open_part(3), part_of(3)

@@ -253,6 +253,7 @@ unsafe extern "C" {
     pub(crate) safe fn squall_part_size() -> usize;
     pub(crate) fn squall_part_open(id: u32, course: *const RawCourse, room: *mut RawPart);
     pub(crate) fn squall_part_status(part: *const RawPart) -> u32;
+    pub(crate) fn squall_part_feed(part: *mut RawPart, bytes: *const u8, len: usize) -> u32;
     pub(crate) fn squall_part_hear(part: *mut RawPart, frame: *const u8, len: usize) -> u32;
     pub(crate) fn squall_part_give(part: *mut RawPart, max: u64, out: *mut Chunk) -> u32;
     pub(crate) fn squall_part_give_at(part: *mut RawPart, rank: u64, out: *mut Chunk) -> u32;
@@ -295,6 +296,7 @@ unsafe extern "C" {
     pub(crate) fn squall_leader_resume(course: *const RawCourse, room: *mut RawLeader);
     pub(crate) fn squall_leader_status(leader: *const RawLeader) -> u32;
     pub(crate) fn squall_leader_fault_at(leader: *const RawLeader) -> u64;
+    pub(crate) fn squall_leader_feed(leader: *mut RawLeader, bytes: *const u8, len: usize) -> u32;
     pub(crate) fn squall_leader_hear(leader: *mut RawLeader, frame: *const u8, len: usize) -> u32;
     pub(crate) fn squall_leader_begin(leader: *mut RawLeader, plan: *const u8, len: usize) -> u32;
     pub(crate) fn squall_leader_course(leader: *const RawLeader, room: *mut RawCourse);

@@ -99,8 +99,22 @@ impl Part {
         Ok(Part { room })
     }
 
+    /// Takes the next bytes of a stream of frames, which may be cut anywhere. Deltas are taken as
+    /// reports; the last digest is kept for [`Part::repair`].
+    ///
+    /// # Errors
+    ///
+    /// [`Error::Frame`] if bytes are no frame: the messages before them were taken, and from now on
+    /// the answer is [`Error::Failed`]. Such a call belongs into a log too. [`Error::NoMemory`], after
+    /// which the same bytes may be fed again.
+    pub fn feed(&mut self, bytes: &[u8]) -> Result<(), Error> {
+        let part = self.room.get_mut();
+        // SAFETY: the partition was opened, and the slice is readable.
+        check(unsafe { ffi::squall_part_feed(part, bytes.as_ptr(), bytes.len()) })
+    }
+
     /// Takes one whole frame, no more and no less. A delta is taken as reports; a digest is kept for
-    /// [`Part::repair`].
+    /// [`Part::repair`]. It has nothing to do with the stream of [`Part::feed`].
     ///
     /// # Errors
     ///

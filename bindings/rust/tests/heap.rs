@@ -170,6 +170,7 @@ fn partitions() -> Result<(), Error> {
     };
     let done = frame::done(1, 0, 4)?;
     refuse_each(part, seen_of_part, |it| it.hear(&done))?;
+    refuse_each(part, seen_of_part, |it| it.feed(&done))?;
     refuse_each(part, seen_of_part, |it| it.give(2))?;
     refuse_each(part, seen_of_part, |it| it.give_at(Rank::new(6, 7)))?;
     refuse_each(part, seen_of_part, |it| it.load(&chunk))?;
@@ -212,6 +213,7 @@ fn leaders() -> Result<(), Error> {
     refuse_each(idle, seen_of_leader, |it| it.begin(NEW))?;
     refuse_each(leader, seen_of_leader, |it| it.open_next())?;
     refuse_each(leader, seen_of_leader, |it| it.hear(&done))?;
+    refuse_each(leader, seen_of_leader, |it| it.feed(&done))?;
     refuse_each(leader, seen_of_leader, |it| it.board().map(drop))?;
     refuse_each(leader, seen_of_leader, |it| it.digest().map(drop))?;
     refuse_each(leader, seen_of_leader, |it| it.repair().map(drop))

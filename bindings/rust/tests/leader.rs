@@ -113,6 +113,23 @@ fn frames_within_a_limit() -> Result<(), Error> {
 }
 
 #[test]
+fn frames_of_a_stream() -> Result<(), Error> {
+    let mut leader = Leader::open(OLD, 0)?;
+    leader.begin(NEW)?;
+    assert_eq!(leader.open_next(), Ok(0));
+    let stream = [frame::done(1, 0, 3)?, frame::done(1, 0, 4)?].concat();
+    let (first, last) = stream.split_at(stream.len() - 1);
+    leader.feed(first)?;
+    assert_eq!(leader.open_next(), not_done(4, 0));
+    leader.feed(last)?;
+    assert!(leader.finished());
+    assert_eq!(leader.feed(b"ST"), Err(Error::Frame(FrameFault::Magic)));
+    assert_eq!(leader.feed(b""), Err(Error::Failed));
+    leader.hear(&frame::done(1, 0, 3)?)?;
+    Ok(())
+}
+
+#[test]
 fn what_is_no_frame() -> Result<(), Error> {
     let mut leader = Leader::open(OLD, 0)?;
     let done = frame::done(1, 0, 3)?;

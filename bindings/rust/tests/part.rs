@@ -156,6 +156,20 @@ fn replies_for_errands() -> Result<(), Error> {
 }
 
 #[test]
+fn frames_of_a_stream() -> Result<(), Error> {
+    let (mut part, opening) = (fresh(1), frame::opened(1, 0)?);
+    part.feed(&opening[..5])?;
+    assert_eq!(part.give(1), no(PartFault::NotOpen));
+    part.hear(&frame::done(1, 0, 3)?)?;
+    part.feed(&opening[5..])?;
+    assert_eq!(part.give(1), Ok(chunk(key(2), Rank::new(2, 1))));
+    assert_eq!(part.feed(b"ST"), Err(Error::Frame(FrameFault::Magic)));
+    assert_eq!(part.feed(b""), Err(Error::Failed));
+    part.hear(&opening)?;
+    Ok(())
+}
+
+#[test]
 fn digests_and_repairs() -> Result<(), Error> {
     let (mut one, mut other) = (opened(3), fresh(1));
     let mut router = Router::open(1, OLD, NEW)?;

@@ -6,6 +6,8 @@ use Rattle.squall_plan.specs.declared.fault.PlanFault.{PlanFault}
 use Rattle.squall_plan.specs.Form.{plan_of_text}
 use Rattle.squall_course.specs.Change.{Change}
 use Rattle.squall_wire.specs.declared.fault.WireFault.{WireFault}
+use Rattle.squall_wire.specs.declared.feed.FeedFault.{FeedFault}
+use Rattle.squall_wire.specs.declared.feed.FeedFault.TheVariants.{Failed, NoMemory as NoMemoryForPiece}
 use Rattle.squall_leader.specs.declared.fault.LeaderFault.{LeaderFault}
 use Rattle.squall_leader.specs.declared.fault.LeaderFault.TheVariants.{Running, NoNumber, Idle, NotDone, NoMore, NoMemory}
 use Rattle.squall_leader.specs.Leaders.{LeaderValue, new_leader, IsFinished}
@@ -16,11 +18,12 @@ use Rattle.squall_c_frames.specs.Queues.{frames_after}
 use Rattle.squall_c_leaders.specs.declared.fault.RepairFault.{RepairFault}
 use Rattle.squall_c_leaders.specs.declared.fault.RepairFault.TheVariants.{NoDigest, TooLong as TooLongForRepair, NoMemory as NoMemoryForRepair}
 use Rattle.squall_c_leaders.specs.Nodes.{NodeValue, new_node, begun_leader, Begins, Opens, HearsFrame, KeepsBoard, KeepsDigest, KeepsRepair, with_frames, node_after}
+use Rattle.squall_c_leaders.specs.Feeding.{Feeds}
 use Rattle.squall_c.specs.declared.status.Cause.{Cause}
 use Rattle.squall_c.specs.declared.courses.HeldCourse.{HeldCourse}
 use Rattle.squall_c.specs.declared.courses.CourseSlot.{CourseSlot}
 use Rattle.squall_c.specs.declared.leaders.LeaderSlot.{LeaderSlot}
-use Rattle.squall_c.specs.Status.{ok, no_memory, closed, too_long, no_digest, no_place, in_new_plan, plan_status, plan_place, wire_status, cause_with, cause_of_fault}
+use Rattle.squall_c.specs.Status.{ok, no_memory, closed, failed as failed_before, too_long, no_digest, no_place, in_new_plan, plan_status, plan_place, wire_status, heard_status, cause_with, cause_of_fault}
 use Rattle.squall_c.specs.Courses.{IsSlotWith, IsCourseSlot, course_seen}
 
 -- ---- opening
@@ -93,6 +96,11 @@ abbrev pub hear_number : Result (Unit {0}) WireFault → ℕ
 hear_number (Ok done) = ok
 hear_number (Err fault) = wire_status fault
 
+abbrev pub feed_number : Result (Option WireFault) FeedFault → ℕ
+feed_number (Ok fault) = heard_status fault
+feed_number (Err Failed) = failed_before
+feed_number (Err NoMemoryForPiece) = no_memory
+
 abbrev pub begin_number : Result (Unit {0}) LeaderFault → ℕ
 begin_number (Ok done) = ok
 begin_number (Err fault) = leader_number fault
@@ -132,6 +140,10 @@ AnswersIn number Acts old (Some n) new status = Answers number Acts old n new st
 -- a slot after one whole frame came to it
 abbrev pub LeaderHears : List ℕ → LeaderSlot → LeaderSlot → ℕ → Type 0
 LeaderHears frame old new status = AnswersIn hear_number (HearsFrame frame) old old.node new status
+
+-- a slot after a piece of a stream of frames was fed to it
+abbrev pub LeaderFeeds : List ℕ → LeaderSlot → LeaderSlot → ℕ → Type 0
+LeaderFeeds piece old new status = AnswersIn feed_number (Feeds piece) old old.node new status
 
 -- a slot after it was to begin a course to the plan; or its text is none, and the slot keeps where the fault lies
 abbrev pub begins_plan : LeaderSlot → NodeValue → Result (List PlanRange) PlanFault → LeaderSlot → ℕ → Type 0

@@ -26,6 +26,7 @@ pub use Rattle.squall_part.specs.Parts
 pub use Rattle.squall_c_parts.specs.Nodes
 pub use Rattle.squall_c_parts.specs.PartCalls
 pub use Rattle.squall_c_parts.specs.PartHearing
+pub use Rattle.squall_c_parts.specs.PartFeeding
 pub use Rattle.squall_c_parts.specs.PartFrames
 pub use Rattle.squall_c_parts.specs.PartValues
 pub use Rattle.squall_leader.specs.Leaders
@@ -34,6 +35,7 @@ pub use Rattle.squall_c_frames.specs.BoardFrames
 pub use Rattle.squall_c_frames.specs.WholeFrames
 pub use Rattle.squall_c_frames.specs.Joined
 pub use Rattle.squall_c_leaders.specs.Nodes as LeaderNodes
+pub use Rattle.squall_c_leaders.specs.Feeding as LeaderFeeding
 pub mod Status
 pub mod Opening
 pub mod Reporting

@@ -9,6 +9,7 @@ use Rattle.squall_c_values.specs.Values.{spans_that_fit}
 use Rattle.squall_c_parts.specs.Nodes.{NodeValue, new_node, given_spans, loaded_spans}
 use Rattle.squall_c_parts.specs.PartCalls.{Gives, GivesAt, Loads, Finishes, Serves}
 use Rattle.squall_c_parts.specs.PartHearing.{HearsFrame}
+use Rattle.squall_c_parts.specs.PartFeeding.{Feeds}
 use Rattle.squall_c_parts.specs.PartFrames.{GathersBoard, GathersDigest, GathersRepair, node_after}
 use Rattle.squall_c.specs.declared.courses.HeldCourse.{HeldCourse}
 use Rattle.squall_c.specs.declared.parts.PartSlot.{PartSlot}
@@ -51,6 +52,10 @@ through Does Stays old (Some n) new status = (m : NodeValue) × Does n m status 
 -- a slot after a frame came to it
 abbrev pub PartHears : List ℕ → PartSlot → PartSlot → ℕ → Type 0
 PartHears frame old new status = through (HearsFrame frame) (Unit {0}) old old.node new status
+
+-- after a piece of a stream of frames was fed to it
+abbrev pub PartFeeds : List ℕ → PartSlot → PartSlot → ℕ → Type 0
+PartFeeds piece old new status = through (Feeds piece) (Unit {0}) old old.node new status
 
 -- after a demand for the first keys, and for one key
 abbrev pub PartGives : ℕ → PartSlot → CChunk → PartSlot → CChunk → ℕ → Type 0

@@ -8,7 +8,7 @@ ghost use Rattle.squall_c.specs.Handles.{course_at, course_room, course_such};
 ghost use Rattle.squall_c.specs.LeaderHandles.{leader_bytes, leader_room, leader_at, leader_such};
 ghost use Rattle.squall_c_frames.specs.Queues.{room_after, first_length};
 ghost use Rattle.squall_c.specs.LeaderSlots.{IsLeaderOpened, IsLeaderResumedOf, IsCourseBegun, TellsFinished, course_begun};
-ghost use Rattle.squall_c.specs.LeaderSlots.{LeaderHears, LeaderBegins, LeaderOpens, LeaderGathersBoard, LeaderGathersDigest, LeaderGathersRepair};
+ghost use Rattle.squall_c.specs.LeaderSlots.{LeaderHears, LeaderFeeds, LeaderBegins, LeaderOpens, LeaderGathersBoard, LeaderGathersDigest, LeaderGathersRepair};
 ghost use Rattle.squall_c.specs.LeaderSlots.{frames_of_leader, leader_slot_after};
 
 use crate::courses::CourseSlot;
@@ -18,8 +18,8 @@ use crate::leaders::{
     open_leader, resume_leader,
 };
 use crate::leading::{
-    leader_begin, leader_frame, leader_gather_board, leader_gather_digest, leader_gather_repair,
-    leader_hear, leader_open_next,
+    leader_begin, leader_feed, leader_frame, leader_gather_board, leader_gather_digest,
+    leader_gather_repair, leader_hear, leader_open_next,
 };
 use std::alloc::Global;
 
@@ -94,8 +94,21 @@ pub unsafe extern "C" fn squall_leader_fault_at(leader: *const CLeader) -> u64
     leader_fault_at(&*(leader as *const LeaderSlot))
 }
 
+/// Takes a piece of a stream of frames, cut anywhere: the messages whose frames end in it are heard,
+/// up to the first fault, which ends the stream (51 to 54, 56 to 59). No memory (1), no leader (3),
+/// a fault ended the stream before (4): then nothing changes.
+#[unsafe(no_mangle)]
+pub unsafe extern "C" fn squall_leader_feed(leader: *mut CLeader, bytes: &[u8]) -> u32
+    ghost s: { LeaderSlot }
+    requires* { sem 𝓛 (leader_at leader s) }
+    ensures* { sem 𝓛 (leader_such leader (λ now. LeaderFeeds bytes.now s now result)) }
+{
+    leader_feed(&mut *(leader as *mut LeaderSlot), bytes)
+}
+
 /// Takes one whole frame, no more and no less: its message is heard, or the answer is its fault
-/// (51 to 59). No memory (1), no leader (3), a fault: then nothing changes.
+/// (51 to 59). What was fed of a stream waits on, and no fault ends it. No memory (1), no leader (3),
+/// a fault: then nothing changes.
 #[unsafe(no_mangle)]
 pub unsafe extern "C" fn squall_leader_hear(leader: *mut CLeader, frame: &[u8]) -> u32
     ghost s: { LeaderSlot }

@@ -3,18 +3,20 @@
 ghost use Rattle.std.specs.Prelude.{◌≡◌, length, take};
 ghost use Rattle.squall_c_frames.specs.Queues.{room_after, first_length};
 ghost use Rattle.squall_c_values.specs.Rooms.{over};
-ghost use Rattle.squall_c.specs.LeaderSlots.{leader_number, hear_number, begin_number, open_number, frame_number, repair_number};
+ghost use Rattle.squall_c.specs.LeaderSlots.{leader_number, hear_number, feed_number, begin_number, open_number, frame_number, repair_number};
 ghost use Rattle.squall_c.specs.LeaderSlots.{numbers_told, frames_of_leader, leader_slot_after};
-ghost use Rattle.squall_c.specs.LeaderSlots.{LeaderHears, LeaderBegins, LeaderOpens, LeaderGathersBoard, LeaderGathersDigest, LeaderGathersRepair};
+ghost use Rattle.squall_c.specs.LeaderSlots.{LeaderHears, LeaderFeeds, LeaderBegins, LeaderOpens, LeaderGathersBoard, LeaderGathersDigest, LeaderGathersRepair};
 
 use crate::leaders::LeaderSlot;
 use crate::router::read_plan;
-use crate::status::{CLOSED, IN_NEW_PLAN, NO_DIGEST, NO_MEMORY, OK, TOO_LONG, wire_status};
+use crate::status::{
+    CLOSED, FAILED, IN_NEW_PLAN, NO_DIGEST, NO_MEMORY, OK, TOO_LONG, heard_status, wire_status,
+};
 use squall_c_frames::FrameFault;
 use squall_c_leaders::{LeaderNode, RepairFault};
 use squall_leader::LeaderFault;
 use squall_plan::Plan;
-use squall_wire::WireFault;
+use squall_wire::{FeedFault, WireFault};
 
 /// The course begun last is not over.
 const RUNNING: u32 = 91;
@@ -61,6 +63,28 @@ pub(crate) fn leader_hear(slot: &mut LeaderSlot, frame: &[u8]) -> u32
 {
     match &mut slot.node {
         Some(node) => hear_number(node.hear(frame)),
+        None => CLOSED,
+    }
+}
+
+/// How it ended that a leader was to hear a piece of a stream of frames.
+fn feed_number(answer: Result<Option<WireFault>, FeedFault>) -> u32
+    ensures { result ≡ feed_number answer }
+{
+    match answer {
+        Ok(fault) => heard_status(fault),
+        Err(FeedFault::Failed) => FAILED,
+        Err(FeedFault::NoMemory) => NO_MEMORY,
+    }
+}
+
+/// Takes a piece of a stream of frames, cut anywhere: the messages whose frames end in it are heard,
+/// up to the first fault, which the status tells. `FAILED` if a fault ended the stream before.
+pub(crate) fn leader_feed(slot: &mut LeaderSlot, piece: &[u8]) -> u32
+    ensures { LeaderFeeds piece.now slot.old slot.new result }
+{
+    match &mut slot.node {
+        Some(node) => feed_number(node.feed(piece)),
         None => CLOSED,
     }
 }

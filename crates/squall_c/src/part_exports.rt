@@ -8,14 +8,14 @@ ghost use Rattle.squall_c_frames.specs.Queues.{first_length, room_after};
 ghost use Rattle.squall_c.specs.declared.courses.CourseSlot.{CourseSlot};
 ghost use Rattle.squall_c.specs.declared.parts.PartSlot.{PartSlot};
 ghost use Rattle.squall_c.specs.Handles.{course_at, part_bytes, part_room, part_at, part_such};
-ghost use Rattle.squall_c.specs.PartSlots.{IsPartOpened, PartHears, PartGives, PartGivesAt, PartLoads, PartFinishes, PartServes};
+ghost use Rattle.squall_c.specs.PartSlots.{IsPartOpened, PartHears, PartFeeds, PartGives, PartGivesAt, PartLoads, PartFinishes, PartServes};
 ghost use Rattle.squall_c.specs.PartSlots.{held_in, given_in, loaded_in, PartGathersBoard, PartGathersDigest, PartGathersRepair, part_frames, part_after};
 
 use crate::courses::CourseSlot;
 use crate::handles::{CCourse, CPart};
 use crate::parts::{
     PartSlot, close_part, finish, give, give_at, given, held, load, loaded, open_part, part_board,
-    part_digest, part_frame, part_hear, part_repair, part_status, serve,
+    part_digest, part_feed, part_frame, part_hear, part_repair, part_status, serve,
 };
 use squall_c_parts::{CAnswer, CChunk};
 use squall_c_values::CSpan;
@@ -59,8 +59,21 @@ pub unsafe extern "C" fn squall_part_status(part: *const CPart) -> u32
     part_status(&*(part as *const PartSlot))
 }
 
-/// Takes one whole frame: a delta is absorbed, a digest kept for a repair. No memory (1), no partition
-/// (3), or the fault of the frame (51 to 59): then nothing changes.
+/// Takes a piece of a stream of frames, cut anywhere: the messages whose frames end in it are taken, up
+/// to the first fault, which ends the stream (51 to 54, 56 to 59). No memory (1), no partition (3), a
+/// fault ended the stream before (4): then nothing changes.
+#[unsafe(no_mangle)]
+pub unsafe extern "C" fn squall_part_feed(part: *mut CPart, bytes: &[u8]) -> u32
+    ghost s: { PartSlot }
+    requires* { sem 𝓛 (part_at part s) }
+    ensures* { sem 𝓛 (part_such part (λ now. PartFeeds bytes.now s now result)) }
+{
+    part_feed(&mut *(part as *mut PartSlot), bytes)
+}
+
+/// Takes one whole frame: a delta is absorbed, a digest kept for a repair. What was fed of a stream waits
+/// on, and no fault ends it. No memory (1), no partition (3), or the fault of the frame (51 to 59): then
+/// nothing changes.
 #[unsafe(no_mangle)]
 pub unsafe extern "C" fn squall_part_hear(part: *mut CPart, bytes: &[u8]) -> u32
     ghost s: { PartSlot }

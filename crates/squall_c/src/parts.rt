@@ -3,7 +3,7 @@
 ghost use Rattle.std.specs.Prelude.{◌≡◌, length};
 ghost use Rattle.squall_c_values.specs.Rooms.{over};
 ghost use Rattle.squall_c_frames.specs.Queues.{first_length, room_after};
-ghost use Rattle.squall_c.specs.PartSlots.{no_part, IsPartOpened, PartHears, PartGives, PartGivesAt, PartLoads, PartFinishes, PartServes};
+ghost use Rattle.squall_c.specs.PartSlots.{no_part, IsPartOpened, PartHears, PartFeeds, PartGives, PartGivesAt, PartLoads, PartFinishes, PartServes};
 ghost use Rattle.squall_c.specs.PartSlots.{held_in, given_in, loaded_in, PartGathersBoard, PartGathersDigest, PartGathersRepair, part_frames, part_after};
 
 use crate::courses::CourseSlot;
@@ -61,6 +61,16 @@ pub(crate) fn part_hear(slot: &mut PartSlot, frame: &[u8]) -> u32
 {
     match &mut slot.node {
         Some(node) => node.hear(frame),
+        None => CLOSED,
+    }
+}
+
+/// Has the partition hear a piece of a stream of frames, cut anywhere.
+pub(crate) fn part_feed(slot: &mut PartSlot, piece: &[u8]) -> u32
+    ensures { PartFeeds piece.now slot.old slot.new result }
+{
+    match &mut slot.node {
+        Some(node) => node.feed(piece),
         None => CLOSED,
     }
 }
