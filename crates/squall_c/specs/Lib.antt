@@ -32,7 +32,7 @@ pub use Rattle.squall_c_parts.specs.PartValues
 pub use Rattle.squall_leader.specs.Leaders
 pub use Rattle.squall_c_frames.specs.Queues
 pub use Rattle.squall_c_frames.specs.BoardFrames
-pub use Rattle.squall_c_frames.specs.WholeFrames
+pub use Rattle.squall_c_frames.specs.WholeFrames as SingleFrames
 pub use Rattle.squall_c_frames.specs.Joined
 pub use Rattle.squall_c_leaders.specs.Nodes as LeaderNodes
 pub use Rattle.squall_c_leaders.specs.Feeding as LeaderFeeding
