@@ -127,7 +127,7 @@ class Node:
         try:
             return self.router.digest()
         except TooLongError as error:
-            self._say(str(error))
+            self._say(f"a digest is not shown: {error}")
             return None
 
     def _fitting(self, act: Callable[[], None]) -> None:
