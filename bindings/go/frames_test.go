@@ -172,7 +172,7 @@ func TestABoardOfTwoPieces(t *testing.T) {
 	equals(t, boardOf(t, other), frames)
 }
 
-// A cell with two spans has 65 bytes, one with one span 49, and a digest with one row 56.
+// A cell with two spans has 65 bytes, one with one span has 49, and a digest of one row has 56.
 func TestFramesWithinALimit(t *testing.T) {
 	router := fresh(t)
 	for root := uint32(2); root < 8; root += 2 {
