@@ -11,7 +11,7 @@ use Rattle.squall_report.specs.declared.report.ReportKind.{ReportKind}
 use Rattle.squall_report.specs.Issues.{PlanPair}
 use Rattle.squall_report.specs.Cells.{CellPlace}
 use Rattle.squall_report.specs.Told.{Told, both_issued, told_by_report, told_by, SameTold, TellsBoth, TellsAll}
-use Rattle.squall_board.specs.Boards.{BoardValue, CellValue, Cells, Openings, Issues, board_of, openings_in, issues_in, cells_in, cell_join, cell_board, row_board, Parts, opening_board, issue_board, told_by_cell, told_by_issue, board_join, report_board, issued, says, told, IsBoard, HasTaken}
+use Rattle.squall_board.specs.Boards.{BoardValue, CellValue, Cells, Openings, Issues, board_of, openings_in, issues_in, cells_in, cell_join, cell_board, row_board, Parts, opening_board, issue_board, told_by_issue, board_join, report_board, issued, says, told, IsBoard, HasTaken}
 use Rattle.squall_board.specs.declared.update.Issuing.{Issuing}
 use Rattle.squall_board.specs.declared.update.Issuing.TheVariants.{One, Clash}
 use Rattle.squall_join.specs.declared.flat.Flat.{Flat}

@@ -1,17 +1,16 @@
 -- The laws of what one board tells beyond another (this project).
-use Rattle.std.specs.Prelude.{◌≡◌, ℕ, ◌≤◌, max, nat_lt, nat_le, Bool, true, false, not, ◌&&◌, ◌||◌, cond, T, List, [], ◌∷◌, Option, None, Some, ◌⊎◌, refl}
+use Rattle.std.specs.Prelude.{◌≡◌, ℕ, ◌≤◌, nat_lt, Bool, true, false, not, ◌&&◌, ◌||◌, cond, T, List, [], ◌∷◌, Option, None, Some, ◌⊎◌, refl}
 use Rattle.std.proofs.Common.{sym, ap, ◌∙◌, inl, inr, ⊎_elim}
 use Rattle.std.proofs.Math.Bool.{and-true}
 use Rattle.std.specs.Ordering.{nat_cmp}
 use Rattle.std.specs.Cmp.{nat_cmp_total}
 use Rattle.std.specs.FinMap.Entries.{find}
 use Rattle.std.proofs.lemmas.Map.Lookups.{exact_unsigned}
-use Rattle.squall_span.specs.Spans.{has, minus}
+use Rattle.squall_span.specs.Spans.{has}
 use Rattle.squall_span.specs.SpanLaws.{has-minus}
 use Rattle.squall_join.specs.declared.flat.Flat.{Flat}
 use Rattle.squall_join.specs.declared.flat.Flat.TheVariants.{Unknown}
 use Rattle.squall_join.specs.Laws.{JoinLaws, Covers}
-use Rattle.squall_join.specs.Basic.{is_max}
 use Rattle.squall_join.specs.BasicLaws.{max_laws, flag_laws}
 use Rattle.squall_join.specs.SetLaws.{set_laws}
 use Rattle.squall_join.specs.Pairs.{pair_of}
@@ -21,17 +20,17 @@ use Rattle.squall_join.specs.Entries.{merged, IsKept, IsMap}
 use Rattle.squall_join.specs.MapLaws.{find_All, Found, values_of_kept, map_laws}
 use Rattle.squall_join.specs.Facts.{Factual, flag_says, pair_says, found_says, map_says}
 use Rattle.squall_join.specs.FactLaws.{flag_factual, set_factual, pair_factual, map_factual}
-use Rattle.squall_join.specs.Rests.{BeyondLaws, max_beyond, flag_beyond, flat_covered, found_beyond, map_covered, map_beyond}
+use Rattle.squall_join.specs.Rests.{BeyondLaws, flat_covered, found_beyond, map_beyond}
 use Rattle.squall_join.specs.BeyondLaws.{max_beyond_laws, flag_beyond_laws, set_beyond_laws, flat_beyond_laws, pair_beyond_laws}
 use Rattle.squall_join.specs.MapBeyondLaws.{find_beyond, looked_map_beyond, map_beyond_laws}
 use Rattle.squall_report.specs.Issues.{PlanPair, is_same_pair}
 use Rattle.squall_report.specs.IssueLaws.{same_pairs_are_equal}
 use Rattle.squall_report.specs.Cells.{CellPlace}
-use Rattle.squall_report.specs.Facts.{Fact, LoadedKey, DonePart, OpenedSub, is_fact}
+use Rattle.squall_report.specs.Facts.{Fact, LoadedKey, DonePart, OpenedSub}
 use Rattle.squall_report.specs.Told.{both_issued, SameTold}
 use Rattle.squall_report.specs.ToldLaws.{issue_laws}
-use Rattle.squall_board.specs.Boards.{CellValue, Parts, Subs, BoardValue, openings_in, issues_in, cells_in, cell_is, cell_bottom, cell_join, issue_is, is_nested, empty_board, board_join, opened_count, issued, says, told, IsBoard}
-use Rattle.squall_board.specs.BoardLaws.{cell_laws, parts_laws, subs_laws, cells_laws, board_laws, tells_both, same_board, opened_found}
+use Rattle.squall_board.specs.Boards.{CellValue, Parts, Subs, BoardValue, openings_in, issues_in, cells_in, cell_is, cell_bottom, cell_join, issue_is, is_nested, empty_board, board_join, issued, says, IsBoard}
+use Rattle.squall_board.specs.BoardLaws.{cell_laws, parts_laws, subs_laws, cells_laws, tells_both, same_board, opened_found}
 use Rattle.squall_board.specs.BoardBeyond.{issue_beyond, TellsBeyond, cell_beyond, cell_covered, parts_beyond, parts_covered, subs_beyond, subs_covered, cells_beyond, board_beyond, board_covered}
 
 -- ---- the units of its parts, and their laws

@@ -18,6 +18,7 @@ pub mod Takes
 pub mod TakesLaws
 pub mod Listed
 pub mod ListedLaws
+pub mod ToldListLaws
 pub mod OneListLaws
 pub mod PlaceLaws
 pub mod RowLaws

@@ -18,14 +18,13 @@ use Rattle.squall_join.specs.MapLaws.{first, second}
 use Rattle.squall_join.specs.Looked.{looked}
 use Rattle.squall_join.specs.Facts.{max_says, flag_says, pair_says, map_says, found_says}
 use Rattle.squall_report.specs.Issues.{PlanPair}
-use Rattle.squall_report.specs.Cells.{CellPlace, place_at, is_cell_place}
+use Rattle.squall_report.specs.Cells.{place_at, is_cell_place}
 use Rattle.squall_report.specs.Facts.{Fact, LoadedKey, DonePart, OpenedSub, is_opening}
-use Rattle.squall_report.specs.Told.{both_issued, SameTold}
+use Rattle.squall_report.specs.Told.{both_issued}
 use Rattle.squall_report.specs.ToldLaws.{issued_neutral}
 use Rattle.squall_board.specs.declared.opening.Opening.{Opening}
-use Rattle.squall_board.specs.Boards.{CellValue, Parts, Subs, Cells, Openings, BoardValue, openings_in, issues_in, cells_in, cell_is, cell_bottom, issue_is, says, told, count_says, one_issue, IsBoard}
-use Rattle.squall_board.specs.BoardLaws.{same_board}
-use Rattle.squall_board.specs.Listed.{CellEntry, entry_with, cell_entry, IsCell, cells_of_parts, cells_of_subs, cells_of_numbers, cells_of, AreCellsOfParts, AreCellsOfSubs, AreCellsOfNumbers, entry_says, entries_say, ComesBefore, CellsRise, AreCells, openings_of_counts, openings_of, openings_say, IsOpening, OpeningsRise, AreOpenings, issues_of, entries_issue, IssuesRise, AreIssues, told_by_lists}
+use Rattle.squall_board.specs.Boards.{CellValue, Parts, Subs, Cells, Openings, BoardValue, openings_in, issues_in, cells_in, cell_is, cell_bottom, issue_is, says, count_says, one_issue, IsBoard}
+use Rattle.squall_board.specs.Listed.{CellEntry, entry_with, cell_entry, IsCell, cells_of_parts, cells_of_subs, cells_of_numbers, cells_of, AreCellsOfParts, AreCellsOfSubs, AreCellsOfNumbers, entry_says, entries_say, ComesBefore, CellsRise, AreCells, openings_of_counts, openings_of, IsOpening, OpeningsRise, AreOpenings, issues_of, entries_issue, IssuesRise, AreIssues}
 
 -- ---- queries
 
@@ -74,7 +73,7 @@ pub all_flat : {X Y : Type 0} (g : X → List Y) (P : Y → Type 0) (xs : List X
 all_flat g P [] p = tt
 all_flat g P (x ∷ xs) p = all_append P (g x) (flat_map g xs) p.0 (all_flat g P xs p.1)
 
-all_true : {X : Type 0} (P : X → Type 0) → ((x : X) → P x) → (xs : List X) → AllByRecursion P xs
+pub all_true : {X : Type 0} (P : X → Type 0) → ((x : X) → P x) → (xs : List X) → AllByRecursion P xs
 all_true P f [] = tt
 all_true P f (x ∷ xs) = (f x, all_true P f xs)
 
@@ -396,30 +395,3 @@ issues_listed b is = record {
   known = all_weaker (λ e. IsKept issue_is Unknown e.1) (λ e. e.1 ≢ Unknown) (issues_in b) is.nested.0.1.kept (λ e k. k.1);
   issued = issue_some (issues_in b) (keys_rise (issues_in b) is.nested.0.1.sorted);
 }
-
--- ---- what the lists tell
-
-cells_only : (os : List Opening) (c : CellPlace) (k : ℕ) → openings_say os (LoadedKey c k) ≡ false
-cells_only os c k = any_none _ os (all_true _ (λ o. refl) os)
-
-done_only : (os : List Opening) (c : CellPlace) → openings_say os (DonePart c) ≡ false
-done_only os c = any_none _ os (all_true _ (λ o. refl) os)
-
-opened_only : (cs : List CellEntry) (n s : ℕ) → entries_say cs (OpenedSub n s) ≡ false
-opened_only cs n s = any_none _ cs (all_true _ (λ c. refl) cs)
-
--- the lists of a board tell what it tells
-pub lists_tell : (b : BoardValue) → IsBoard b → SameTold (told b) (told_by_lists (openings_of b) (issues_of b) (cells_of b))
-lists_tell b is = record { facts = at; issues = (issues_listed b is).issued }
-  where
-    at : (f : Fact) → says b f ≡ (openings_say (openings_of b) f || entries_say (cells_of b) f)
-    at (LoadedKey c k) = (cells_listed b is).loaded c k ∙ sym (ap (λ x. x || entries_say (cells_of b) (LoadedKey c k)) (cells_only (openings_of b) c k))
-    at (DonePart c) = (cells_listed b is).done c ∙ sym (ap (λ x. x || entries_say (cells_of b) (DonePart c)) (done_only (openings_of b) c))
-    at (OpenedSub n s) = (openings_listed b is).opened n s ∙ or_none _ _ (opened_only (cells_of b) n s)
-
--- a board that tells what the lists of another tell is that board
-pub lists_equal : (b c : BoardValue) → IsBoard b → IsBoard c → SameTold (told c) (told_by_lists (openings_of b) (issues_of b) (cells_of b)) → c ≡ b
-lists_equal b c is too same = same_board c b too.nested is.nested (record {
-  facts = λ f. same.facts f ∙ sym ((lists_tell b is).facts f);
-  issues = λ n. same.issues n ∙ sym ((lists_tell b is).issues n);
-})

@@ -6,10 +6,9 @@ use Rattle.std.proofs.lemmas.Bool.Decides.{nat_tests}
 use Rattle.std.specs.List.{list_any, AllByRecursion}
 use Rattle.std.specs.Ordering.{nat_cmp}
 use Rattle.std.specs.Cmp.{first_so, second_so}
-use Rattle.squall_key.specs.Keys.{top}
 use Rattle.squall_join.specs.Entries.{IsMap, IsKept}
 use Rattle.squall_join.specs.Facts.{map_says}
-use Rattle.squall_report.specs.Cells.{CellPlace, place_at, is_cell_place}
+use Rattle.squall_report.specs.Cells.{CellPlace, place_at}
 use Rattle.squall_report.specs.Facts.{Fact, LoadedKey, DonePart, OpenedSub, is_fact}
 use Rattle.squall_board.specs.Boards.{CellValue, Parts, Subs, Cells, BoardValue, cells_in, cell_is, cell_bottom, is_nested, says, IsBoard, row_board}
 use Rattle.squall_board.specs.BoardLaws.{says_single, key_below}

@@ -14,7 +14,7 @@ use Rattle.squall_report.specs.declared.report.ReportKind.TheVariants.{Loaded, D
 use Rattle.squall_report.specs.Issues.{PlanPair}
 use Rattle.squall_report.specs.Facts.{is_report, is_key_span, is_opening}
 use Rattle.squall_report.specs.Cells.{place_at, is_cell_place}
-use Rattle.squall_report.specs.Told.{Told, both_issued, told_by_report, told_by, SameTold, TellsBoth}
+use Rattle.squall_report.specs.Told.{Told, both_issued, told_by_report, SameTold, TellsBoth}
 use Rattle.squall_board.specs.Boards.{CellValue, cell_bottom, BoardValue, IsBoard, HasTaken, board_join, told, report_board}
 use Rattle.squall_board.specs.BoardLaws.{same_board, report_tells, cell_board_is, opening_board_is, issue_board_is, joined_tells, has_both, one_tells}
 use Rattle.squall_board.specs.Takes.{Takes}

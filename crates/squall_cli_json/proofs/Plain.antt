@@ -1,5 +1,5 @@
 -- No value here has a float, so that its text is known.
-use Rattle.std.proofs.Common.{◌≡◌, ℕ, List, [], ◌∷◌, ◌++◌, Bool, true, false, ◌||◌, map, refl, ap, sym, ◌∙◌}
+use Rattle.std.proofs.Common.{◌≡◌, ℕ, List, [], ◌∷◌, ◌++◌, Bool, true, false, ◌||◌, map, refl, ◌∙◌}
 use Rattle.std.specs.Prelude.{Option, None, Some, if◌then◌else◌}
 use Rattle.std.specs.List.{flat_map}
 use Rattle.serde_json.specs.Data.{Data}
@@ -20,7 +20,7 @@ use Rattle.squall_status.specs.declared.text.Shown.{Shown}
 use Rattle.squall_status.specs.Texts.{is_shown}
 use Rattle.squall_status.specs.Summary.{StatusValue}
 use Rattle.squall_cli_json.specs.Values.{json_of_span, json_of_range, json_of_plan, json_of_legs, json_of_move, json_of_course, json_of_missing, json_of_move_status, shown_move, json_of_subplan, json_of_open, json_of_status}
-use Rattle.squall_cli_json.specs.Values.{json_of_opening, items_of_issue, issue_items, json_of_cell, json_of_lists, json_of_board, json_of_refusal}
+use Rattle.squall_cli_json.specs.Values.{json_of_opening, items_of_issue, issue_items, json_of_cell, json_of_lists, json_of_board}
 
 -- ---- lists
 

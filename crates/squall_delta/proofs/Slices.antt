@@ -13,7 +13,7 @@ use Rattle.squall_wire.specs.Limits.{body_limit}
 use Rattle.squall_wire.specs.Messages.{BoardLists, lists_of}
 use Rattle.squall_delta.specs.Items.{Item, loaded, items_of, item_board, with_items, items_board}
 use Rattle.squall_delta.specs.Pieces.{body_length}
-use Rattle.squall_delta.specs.Cutting.{CutBoard, cut_with, roomy, turned, put_item, fed, fed_all, FitsAlone, IsFed, HasTooLong, no_lists, add_item, ItemBefore, ItemsRise, IsItem, AreNext, IsMeasured, span_bytes, has_some, last_place, is_last, item_cost}
+use Rattle.squall_delta.specs.Cutting.{CutBoard, cut_with, roomy, turned, put_item, fed, fed_all, FitsAlone, IsFed, HasTooLong, add_item, ItemBefore, ItemsRise, IsItem, AreNext, IsMeasured, span_bytes, has_some, last_place, is_last, item_cost}
 use Rattle.squall_delta.specs.PieceCellLaws.{place_same, not_both}
 use Rattle.squall_delta.specs.PieceListLaws.{lists_added, length_put, cell_fits}
 use Rattle.squall_delta.specs.PieceItemLaws.{all_beyond, items_back, next_put}

@@ -1,5 +1,5 @@
 -- What the pieces of a board are.
-use Rattle.std.specs.Prelude.{◌≡◌, ℕ, suc, ◌+◌, ◌-◌, ◌<◌, ◌≤◌, min, true, List, [], ◌∷◌, ◌++◌, map, length, refl}
+use Rattle.std.specs.Prelude.{◌≡◌, ℕ, suc, ◌+◌, ◌-◌, ◌<◌, ◌≤◌, min, List, [], ◌∷◌, ◌++◌, map, length, refl}
 use Rattle.std.proofs.Common.{sym, ap, subst, ◌∙◌, arith}
 use Rattle.std.proofs.lemmas.List.{append-nil}
 use Rattle.std.specs.List.{flat_map, AllByRecursion}
@@ -15,7 +15,7 @@ use Rattle.squall_wire.specs.Limits.{body_limit}
 use Rattle.squall_wire.specs.Messages.{body_of, spell_body}
 use Rattle.squall_delta.specs.Items.{Item, opening, issue, items_of_cell, items_of, item_board, with_items, items_board}
 use Rattle.squall_delta.specs.Pieces.{body_length, frame_length, FitsBody, FitsFrame, FitsWithin, EachFitsWithin, body_within, AreLongestRuns, items_of_groups, AreCut, ArePieces, ArePiecesWithin, joined_boards}
-use Rattle.squall_delta.specs.Cutting.{CutBoard, uncut, fed_all, pieces_with, cut_items, FitsAlone, IsFed, HasTooLong, IsItem, AreNext}
+use Rattle.squall_delta.specs.Cutting.{CutBoard, uncut, pieces_with, cut_items, FitsAlone, IsFed, HasTooLong, IsItem, AreNext}
 use Rattle.squall_delta.specs.PieceListLaws.{item_board_is}
 use Rattle.squall_delta.specs.PieceItemLaws.{items_next, items_within, items_back}
 use Rattle.squall_delta.specs.PieceRunLaws.{with_append, cut_joined, cut_runs, runs_are_cut, fed_is_cut}

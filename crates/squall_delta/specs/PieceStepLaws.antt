@@ -15,7 +15,7 @@ use Rattle.squall_board.specs.declared.opening.Opening.{Opening}
 use Rattle.squall_wire.specs.Limits.{body_limit}
 use Rattle.squall_wire.specs.Messages.{BoardLists, lists_of}
 use Rattle.squall_wire.specs.Spelling.{spell_range, spell_plan, spell_issue, spell_issued}
-use Rattle.squall_delta.specs.Items.{Item, opening, issue, done, loaded, item_board}
+use Rattle.squall_delta.specs.Items.{Item, issue, done, loaded, item_board}
 use Rattle.squall_delta.specs.Pieces.{body_length}
 use Rattle.squall_delta.specs.Cutting.{CutBoard, cut_with, turned, roomy, put_item, fed, fed_all, FitsAlone, IsFed, HasTooLong, longest_bytes, add_item, no_lists, ItemBefore, ItemsRise, IsItem, AreNext, IsMeasured, done_entry, span_entry, has_some, last_place, is_last, cell_cost, issue_cost, span_bytes, item_cost}
 use Rattle.squall_delta.specs.PieceCellLaws.{last_added}

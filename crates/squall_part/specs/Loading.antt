@@ -2,9 +2,7 @@
 use Rattle.std.specs.Prelude.{◌≡◌, ℕ, ◌<◌, ◌≤◌, ◌&&◌, not, Bool, true, false, [], ◌∷◌, Result, Ok, Err, Some}
 use Rattle.squall_span.specs.Spans.{span_has, has, insert_span, union, minus}
 use Rattle.squall_course.specs.Change.{Change}
-use Rattle.squall_course.specs.Subplans.{moves, sub_of}
 use Rattle.squall_course.specs.Moves.{is_incoming}
-use Rattle.squall_plan.specs.Ranges.{owner_of}
 use Rattle.squall_report.specs.declared.report.ReportKind.{ReportKind}
 use Rattle.squall_report.specs.declared.report.ReportKind.TheVariants.{Done as DoneReport}
 use Rattle.squall_report.specs.Issues.{PlanPair}

@@ -28,7 +28,7 @@ pub fn filled_as_loaded()
 {}
 
 /// No number, bound, span or move needs an escape in SVG: its text has no letter that begins or
-/// ends a tag, an attribute or an entity. All other letters of a picture stand in its definitions.
+/// ends a tag, an attribute or an entity. The definitions of a picture write all its other letters.
 pub fn nothing_needs_an_escape()
     ensures numbers { (n : ℕ) → n < 2 ^ 64 → AllByRecursion IsPlain (decimal n) }
     ensures bounds { (b : ℕ) → b ≤ top → AllByRecursion IsPlain (text_of_bound b) }

@@ -1,12 +1,11 @@
 -- The steps of a walk along two sets for the keys that they have in common.
-use Rattle.std.proofs.Common.{◌≡◌, ℕ, ◌+◌, ◌<◌, ◌≤◌, max, min, Bool, true, false, List, [], ◌∷◌, ◌++◌, length, drop, Some, None, refl, sym, ap, subst, ◌∙◌, arith, inl, inr, ◌||◌}
+use Rattle.std.proofs.Common.{◌≡◌, ℕ, ◌+◌, ◌<◌, ◌≤◌, max, min, Bool, true, false, List, [], ◌∷◌, ◌++◌, drop, Some, None, refl, sym, ap, ◌∙◌, arith, inl, inr, ◌||◌}
 use Rattle.std.specs.Prelude.{◌⊎◌, ◌&&◌}
 use Rattle.std.proofs.Math.Bool.{and_comm, and-false, or-false}
 use Rattle.std.proofs.lemmas.Bool.{cases_lt, false≢true}
 use Rattle.std.proofs.lemmas.Bool.Decides.{nat_tests}
-use Rattle.std.proofs.lemmas.Option.{same_Some}
-use Rattle.squall_span.specs.Spans.{Interval, interval, span_at, span_has, has, Beyond, IsCanonical}
-use Rattle.squall_span.specs.SpanLaws.{has-append, has_below, outside_above}
+use Rattle.squall_span.specs.Spans.{Interval, interval, span_has, has, Beyond, IsCanonical}
+use Rattle.squall_span.specs.SpanLaws.{has_below, outside_above}
 use Rattle.squall_span.specs.Places.{Ended}
 use Rattle.squall_span.proofs.Adding.{EndsBefore, before_weaker, Added, AddedBy, added}
 use Rattle.squall_span.proofs.Places.{ended_same}

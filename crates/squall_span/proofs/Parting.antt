@@ -1,6 +1,6 @@
 -- The steps of a walk along two sets for the keys of the first alone.
-use Rattle.std.proofs.Common.{◌≡◌, ℕ, ◌+◌, ◌<◌, ◌≤◌, max, min, Bool, true, false, List, [], ◌∷◌, ◌++◌, drop, refl, sym, ap, subst, ◌∙◌, arith, inl, inr, ◌||◌}
-use Rattle.std.specs.Prelude.{◌⊎◌, ◌&&◌, not, nat_le, nat_lt}
+use Rattle.std.proofs.Common.{◌≡◌, ℕ, ◌+◌, ◌<◌, ◌≤◌, max, min, Bool, true, false, List, [], ◌∷◌, ◌++◌, refl, sym, ap, subst, ◌∙◌, arith, inl, inr, ◌||◌}
+use Rattle.std.specs.Prelude.{◌⊎◌, ◌&&◌, not, nat_le}
 use Rattle.std.proofs.Math.Bool.{and-true, and-false, or-false}
 use Rattle.std.proofs.lemmas.Bool.{cases_lt}
 use Rattle.std.proofs.lemmas.Bool.Decides.{nat_tests}
@@ -9,8 +9,7 @@ use Rattle.squall_span.specs.Spans.{Interval, interval, span_has, has, Beyond, I
 use Rattle.squall_span.specs.SpanLaws.{has-append, has_below, outside_above, outside_below, inside}
 use Rattle.squall_span.specs.Places.{Ended}
 use Rattle.squall_span.specs.Sweeps.{cut_first}
-use Rattle.squall_span.proofs.Adding.{EndsBefore, before_weaker, canonical_join, Added, AddedBy, added}
-use Rattle.squall_span.proofs.Places.{ended_same}
+use Rattle.squall_span.proofs.Adding.{EndsBefore, canonical_join, Added, AddedBy, added}
 use Rattle.squall_span.proofs.Sweeping.{has_early, rest_ends}
 
 -- no span touches the keys of the first span from the bound on

@@ -1,6 +1,5 @@
 -- The steps of a world at a router that stands for a desk.
-use Rattle.std.proofs.Common.{◌≡◌, ℕ, true, List, [], ◌∷◌, ◌++◌, Some, eqb, eq-eqb, if◌then◌else◌, refl, sym, ap, ◌∙◌, subst}
-use Rattle.std.specs.List.{slice_get}
+use Rattle.std.proofs.Common.{◌≡◌, ℕ, List, [], ◌∷◌, ◌++◌, Some, eq-eqb, if◌then◌else◌, refl, sym, ap, ◌∙◌, subst}
 use Rattle.std.proofs.lemmas.Option.{same_Some}
 use Rattle.squall_course.specs.Change.{Change}
 use Rattle.squall_report.specs.Queries.{Queries, SameQueries, joined_queries}

@@ -14,7 +14,8 @@ use Rattle.squall_board.specs.declared.opening.Opening.{Opening}
 use Rattle.squall_board.specs.Boards.{CellValue, BoardValue, IsBoard, empty_board, board_join, opening_board, issue_board, cell_board, told, told_by_cell, told_by_count, told_by_issue}
 use Rattle.squall_board.specs.BoardLaws.{join_is, empty_is, cell_tells, count_tells, issue_tells, cell_board_is, opening_board_is, issue_board_is, joined_tells}
 use Rattle.squall_board.specs.Listed.{CellEntry, entry_value, has_spans, IsCell, IsOpening, openings_say, entries_say, entries_issue, told_by_lists, openings_of, issues_of, cells_of}
-use Rattle.squall_board.specs.ListedLaws.{any_none, openings_listed, issues_within, cells_listed, lists_equal}
+use Rattle.squall_board.specs.ListedLaws.{any_none, openings_listed, issues_within, cells_listed}
+use Rattle.squall_board.specs.ToldListLaws.{lists_equal}
 use Rattle.squall_board.specs.OneListLaws.{one_openings, one_issues, one_cells}
 use Rattle.squall_wire.specs.Limits.{no_place}
 use Rattle.squall_wire.specs.Messages.{BoardLists, lists_with, lists_of, AreLists}

@@ -7,7 +7,7 @@ use Rattle.std.proofs.lemmas.List.{append_cancel_left, append-nil}
 use Rattle.squall_report.specs.Told.{SameTold}
 use Rattle.squall_board.specs.Boards.{BoardValue, IsBoard, told}
 use Rattle.squall_board.specs.Listed.{told_by_lists}
-use Rattle.squall_board.specs.ListedLaws.{lists_tell, lists_equal}
+use Rattle.squall_board.specs.ToldListLaws.{lists_tell, lists_equal}
 use Rattle.squall_wire.specs.declared.fault.WireFault.{WireFault}
 use Rattle.squall_wire.specs.declared.fault.WireFault.TheVariants.{Short}
 use Rattle.squall_wire.specs.declared.message.Message.{Message}

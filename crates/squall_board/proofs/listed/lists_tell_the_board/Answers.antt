@@ -1,4 +1,4 @@
-use Rattle.squall_board.specs.ListedLaws.{lists_tell}
+use Rattle.squall_board.specs.ToldListLaws.{lists_tell}
 use Rattle.squall_board.proofs.listed.lists_tell_the_board.Goals as goal
 
 pub returns : goal.returns

@@ -1,4 +1,3 @@
-use Rattle.std.proofs.Common.{refl}
 use Rattle.squall_board.specs.Boards.{told, board_of, openings_in, issues_in, cell_board}
 use Rattle.squall_board.specs.BoardLaws.{cell_board_is}
 use Rattle.squall_board.specs.TakesLaws.{took, same_told}

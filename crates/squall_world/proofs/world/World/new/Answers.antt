@@ -1,5 +1,4 @@
 use Rattle.std.proofs.Common.{IfOk, subst}
-use Rattle.std.specs.Arc.{arc_value}
 use Rattle.squall_course.specs.Change.{Change}
 use Rattle.squall_protocol.specs.Worlds.{SameWorld, start}
 use Rattle.squall_world.specs.Views.{view}
