@@ -1,5 +1,5 @@
 -- How much a board tells, in numbers, and which issues clash (this project).
-use Rattle.std.specs.Prelude.{◌≡◌, ℕ, ◌<◌, nat_lt, min, Bool, true, false, ◌&&◌, List, length}
+use Rattle.std.specs.Prelude.{◌≡◌, ℕ, ◌+◌, ◌<◌, ◌≤◌, nat_lt, min, Bool, true, false, ◌&&◌, List, length}
 use Rattle.std.specs.List.{list_any, sum_by}
 use Rattle.squall_join.specs.declared.flat.Flat.{Flat}
 use Rattle.squall_join.specs.declared.flat.Flat.TheVariants.{Unknown, One, Clash}
@@ -51,3 +51,28 @@ tally_of b = record {
   opened = at_most_64_bits (sum_by sub_plans_of (openings_of b));
   issues = length (issues_of b);
 }
+
+-- ---- limits
+
+-- each number of a tally is at most that of another
+pub record IsWithin (t most : Tally) : Type 0 where
+  pub cells : t.cells ≤ most.cells
+  pub spans : t.spans ≤ most.spans
+  pub opened : t.opened ≤ most.opened
+  pub issues : t.issues ≤ most.issues
+
+-- the numbers of two tallies, added
+abbrev pub tally_sum : Tally → Tally → Tally
+tally_sum s t = record {
+  cells = s.cells + t.cells;
+  spans = s.spans + t.spans;
+  opened = s.opened + t.opened;
+  issues = s.issues + t.issues;
+}
+
+-- each number fits 64 bits
+pub record FitsTally (t : Tally) : Type 0 where
+  pub cells : t.cells < 18446744073709551616
+  pub spans : t.spans < 18446744073709551616
+  pub opened : t.opened < 18446744073709551616
+  pub issues : t.issues < 18446744073709551616

@@ -20,6 +20,7 @@
 #![tactic(auto)]
 
 mod clash;
+pub mod laws;
 mod tally;
 
 pub use clash::clashes_above;

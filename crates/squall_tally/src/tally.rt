@@ -1,9 +1,9 @@
 //! How much a board tells, in numbers.
 
-ghost use Rattle.std.specs.Prelude.{◌≡◌, ◌++◌, IfOk, length, map, [], ◌∷◌};
+ghost use Rattle.std.specs.Prelude.{◌≡◌, ◌↔◌, ◌++◌, IfOk, IfSome, IfNone, IsTrue, length, map, [], ◌∷◌};
 ghost use Rattle.std.specs.List.{sum_by};
 ghost use Rattle.squall_board.specs.Listed.{cell_entry};
-ghost use Rattle.squall_tally.specs.Tallies.{at_most_64_bits, spans_of, sub_plans_of, tally_of};
+ghost use Rattle.squall_tally.specs.Tallies.{at_most_64_bits, spans_of, sub_plans_of, tally_of, tally_sum, FitsTally, IsWithin};
 
 use squall_board::{Board, CellParts, Opening};
 use squall_report::CellId;
@@ -60,5 +60,28 @@ impl Tally {
             opened: count_opened(&openings),
             issues: issues.len() as u64,
         })
+    }
+
+    /// The numbers of both, added. `None` if a sum does not fit 64 bits.
+    pub fn plus(self, other: Tally) -> Option<Tally>
+        ensures sum { IfSome result (λ sum. sum ≡ tally_sum self other) }
+        ensures none { IfNone result (FitsTally (tally_sum self other) → ⊥) }
+    {
+        Some(Tally {
+            cells: self.cells.checked_add(other.cells)?,
+            spans: self.spans.checked_add(other.spans)?,
+            opened: self.opened.checked_add(other.opened)?,
+            issues: self.issues.checked_add(other.issues)?,
+        })
+    }
+
+    /// Whether each number is at most that of the other tally.
+    pub fn is_within(self, most: &Tally) -> bool
+        ensures { IsTrue result ↔ IsWithin self most.now }
+    {
+        self.cells <= most.cells
+            && self.spans <= most.spans
+            && self.opened <= most.opened
+            && self.issues <= most.issues
     }
 }
