@@ -26,9 +26,12 @@
 //! Its tests are in `crates/squall_test_nodes/src/router.rt`.
 #![tactic(auto)]
 
+mod fault;
 mod issues;
 pub mod laws;
 mod router;
+mod small;
 
+pub use fault::AbsorbFault;
 pub use router::Router;
 pub use squall_errand::{Errand, Next, Reply, Routes};

@@ -1,6 +1,6 @@
 //! Routers.
 
-ghost use Rattle.std.specs.Prelude.{◌≡◌, ◌++◌, ◌∷◌, [], List, IfOk, OnOk, OnErr, option_map, unwrap_or};
+ghost use Rattle.std.specs.Prelude.{◌≡◌, ◌++◌, ◌∷◌, [], List, Err, IfOk, IfSome, OnOk, OnErr, option_map, unwrap_or};
 ghost use Rattle.std.specs.Arc.{arc_value};
 ghost use Rattle.squall_course.specs.Change.{ArePlans};
 ghost use Rattle.squall_report.specs.declared.report.ReportKind.{ReportKind};
@@ -10,9 +10,13 @@ ghost use Rattle.squall_board.specs.Takes.{TakesBoard, TakesReport};
 ghost use Rattle.squall_board.specs.Boards.{IsBoard, HasTaken, empty_board, board_join, report_board, told};
 ghost use Rattle.squall_board.specs.CourseRoute.{course_by, course_of_board};
 ghost use Rattle.squall_table.specs.Tables.{AreLegs, legs_between};
+ghost use Rattle.squall_tally.specs.Tallies.{tally_of, IsWithin};
+ghost use Rattle.squall_router.specs.declared.fault.AbsorbFault.TheVariants.{Full};
 ghost use Rattle.squall_router.specs.Routers.{router_with, course_of_router, route_of_router, IsTableOf};
 
+use crate::fault::AbsorbFault;
 use crate::issues::{both_issues, is_issue, issue_alone, issues_nothing};
+use crate::small::is_small;
 use squall_board::{Board, Delta};
 use squall_course::Course;
 use squall_errand::Routes;
@@ -22,12 +26,11 @@ use squall_report::{Issue, Report};
 use squall_span::Span;
 use squall_table::laws::legs_are_key_by_key;
 use squall_table::{Leg, RouteTable};
+use squall_tally::Tally;
+use squall_tally::laws::a_join_is_within_the_sum;
 use std::alloc::{AllocError, Global};
 use std::marker::Model;
 use std::sync::Arc;
-
-/// The most spans of a cell that count as few.
-const FEW: usize = 4;
 
 /// A router: it takes boards as messages bring them, in any order and any number of times. It
 /// answers each key from a sorted table, which it patches for what changed.
@@ -40,6 +43,8 @@ pub struct Router {
     course: Shared<Course>,
     board: Board,
     table: RouteTable,
+    /// At most how much the board tells. `None` if that is not known.
+    bound: Option<Tally>,
 }
 
 impl Model for Router {
@@ -49,7 +54,7 @@ impl Model for Router {
 
     ghost view = { λ r. router_with r.first r.board };
 
-    ghost invariant = { λ r. InStep (router_with r.first r.board) r.course r.table };
+    ghost invariant = { λ r. InStep (router_with r.first r.board) r.course r.table r.bound };
 }
 
 /// The newest issue after a first course, with its number. `None` if there is none.
@@ -84,26 +89,6 @@ fn course_of(
     }
 }
 
-/// The item of a list of one. `None` for other lists.
-fn only<T>(list: &[T]) -> Option<&T> {
-    if list.len() == 1 { list.first() } else { None }
-}
-
-/// Whether a delta is of one cell with few spans. To take such a delta is faster than to compare it
-/// with what a board has. A delta that is taken twice changes nothing, so either answer is right.
-fn is_small(delta: &Delta) -> bool {
-    let Some((_, subs)) = only(delta.cell_map().entries()) else {
-        return false;
-    };
-    let Some((_, parts)) = only(subs.entries()) else {
-        return false;
-    };
-    match only(parts.entries()) {
-        Some((_, cell)) => cell.first.spans().len() <= FEW,
-        None => false,
-    }
-}
-
 impl Router {
     /// A router that has heard nothing: it uses the first course, and sends each key to its old
     /// partition. An error means that an allocation failed, or that the count of the course's
@@ -121,6 +106,7 @@ impl Router {
             course,
             board,
             table,
+            bound: None,
         })
     }
 
@@ -156,6 +142,68 @@ impl Router {
         self.take_up(&news)
     }
 
+    /// Takes all that the delta tells, as [`Router::absorb`] does, if its board then tells at most as
+    /// much as `most`. So a limit holds for what strangers send.
+    ///
+    /// - `Full`: the board would tell more.
+    /// - `NoMemory`: an allocation failed, or a count of owners is full.
+    ///
+    /// After either fault the router is unchanged. The router keeps a count that is at least that of
+    /// its board. It makes a copy of its board only if that count and the delta's are above `most`.
+    pub fn absorb_within(&mut self, delta: &Delta, most: &Tally) -> Result<(), AbsorbFault>
+        ensures first { self.new.first ≡ self.old.first }
+        ensures takes { OnOk result (TakesBoard self.old.board delta.now self.new.board) }
+        ensures within { OnOk result (IsWithin (tally_of self.new.board) most.now) }
+        ensures full { result ≡ Err Full → IsWithin (tally_of (board_join self.old.board delta.now)) most.now → ⊥ }
+        ensures err { OnErr result (self.new ≡ self.old) }
+    {
+        let bound = self.bound_with(delta, most)?;
+        self.absorb(delta)?;
+        self.bound = Some(bound);
+        Ok(())
+    }
+
+    /// At most how much the board tells once it takes the delta, if that is at most `most`.
+    fn bound_with(&self, delta: &Delta, most: &Tally) -> Result<Tally, AbsorbFault>
+        ensures bound { IfOk result (λ t. IsWithin (tally_of (board_join self.now.board delta.now)) t) }
+        ensures within { IfOk result (λ t. IsWithin t most.now) }
+        ensures full { result ≡ Err Full → IsWithin (tally_of (board_join self.now.board delta.now)) most.now → ⊥ }
+    {
+        match self.sum_with(delta)? {
+            Some(sum) if sum.is_within(most) => Ok(sum),
+            _ => self.count_with(delta, most),
+        }
+    }
+
+    /// How much the board and the delta tell together at most, without a look at what both tell.
+    fn sum_with(&self, delta: &Delta) -> Result<Option<Tally>, AllocError>
+        ensures { IfOk result (λ sum. IfSome sum (λ t. IsWithin (tally_of (board_join self.now.board delta.now)) t)) }
+    {
+        a_join_is_within_the_sum();
+        let own = match self.bound {
+            Some(bound) => bound,
+            None => Tally::of(&self.board)?,
+        };
+        Ok(own.plus(Tally::of(delta)?))
+    }
+
+    /// How much the board tells once it takes the delta, if that is at most `most`: counted over their
+    /// join.
+    fn count_with(&self, delta: &Delta, most: &Tally) -> Result<Tally, AbsorbFault>
+        ensures bound { IfOk result (λ t. IsWithin (tally_of (board_join self.now.board delta.now)) t) }
+        ensures within { IfOk result (λ t. IsWithin t most.now) }
+        ensures full { result ≡ Err Full → IsWithin (tally_of (board_join self.now.board delta.now)) most.now → ⊥ }
+    {
+        let mut board = self.board.copied(self.alloc)?;
+        board.merge(delta)?;
+        let tally = Tally::of(&board)?;
+        if tally.is_within(most) {
+            Ok(tally)
+        } else {
+            Err(AbsorbFault::Full)
+        }
+    }
+
     /// Takes the report, and answers from then on by it too, as after [`Router::absorb`] of its
     /// board. The router patches its table if the report moves keys, and builds one if the report
     /// makes another course the newest. An error means that an allocation failed, or that a count
@@ -183,6 +231,7 @@ impl Router {
         ensures ok { OnOk result (self.new ≡ router_with self.old.first (board_join self.old.board (report_board report.now))) }
         ensures err { OnErr result (self.new ≡ self.old) }
     {
+        self.bound = None;
         self.table
             .take(self.course.as_arc(), &mut self.board, report)
     }
@@ -194,10 +243,19 @@ impl Router {
     {
         match self.other_course(news)? {
             Some(course) => self.turn_to(course, news),
-            None => self
-                .table
-                .absorb(self.course.as_arc(), &mut self.board, news),
+            None => self.stay(news),
         }
+    }
+
+    /// Takes news after which the course stays.
+    fn stay(&mut self, news: &Delta) -> Result<(), AllocError>
+        requires { course_of_router self.old ≡ course_of_board self.old.first (board_join self.old.board news.now) }
+        ensures ok { OnOk result (self.new ≡ router_with self.old.first (board_join self.old.board news.now)) }
+        ensures err { OnErr result (self.new ≡ self.old) }
+    {
+        self.bound = None;
+        self.table
+            .absorb(self.course.as_arc(), &mut self.board, news)
     }
 
     /// The course that the router has to use once it takes the news. `None` if that is the course
@@ -248,6 +306,7 @@ impl Router {
         ensures err { OnErr result (self.new ≡ self.old) }
     {
         let mut table = RouteTable::build(self.alloc, course.as_arc(), &self.board)?;
+        self.bound = None;
         table.absorb(course.as_arc(), &mut self.board, news)?;
         self.course = course;
         self.table = table;
@@ -306,6 +365,7 @@ impl Router {
             course,
             board,
             table,
+            bound: _,
         } = self;
         drop((first, course, table));
         board
