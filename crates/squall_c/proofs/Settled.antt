@@ -1,7 +1,7 @@
 -- A settled key stays while its course is the newest.
 use Rattle.std.specs.Prelude.{◌≡◌, ℕ, ◌<◌, ◌≤◌, not, ◌||◌, Bool, true, false, List, if◌then◌else◌, refl}
 use Rattle.std.proofs.Common.{sym, ap, ◌∙◌, arith, inl, inr}
-use Rattle.std.proofs.lemmas.Bool.{true≢false, cases_lt}
+use Rattle.std.proofs.lemmas.Bool.{cases_lt}
 use Rattle.squall_key.specs.Keys.{top}
 use Rattle.squall_plan.specs.declared.range.PlanRange.{PlanRange}
 use Rattle.squall_plan.specs.Ranges.{owner_of}
@@ -11,8 +11,8 @@ use Rattle.squall_report.specs.Facts.{Fact, LoadedKey, DonePart}
 use Rattle.squall_board.specs.Route.{has_come, route, place_of_key}
 use Rattle.squall_router.specs.Routers.{RouterValue, course_of_router, route_of_router, IsTableOf}
 use Rattle.squall_c_values.specs.declared.places.CPlace.{CPlace}
-use Rattle.squall_c_values.specs.Values.{place_at, place_of, sub_or_none}
-use Rattle.squall_c.proofs.CutLegs.{is_below, is_not_below, same_part}
+use Rattle.squall_c_values.specs.Values.{place_at, sub_or_none}
+use Rattle.squall_c.proofs.CutLegs.{is_below, is_not_below}
 
 either_more : (a b c d : Bool) → (a ≡ true → c ≡ true) → (b ≡ true → d ≡ true) → (a || b) ≡ true → (c || d) ≡ true
 either_more true b c d f g e = ap (λ x. x || d) (f refl)

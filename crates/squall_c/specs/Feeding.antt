@@ -1,38 +1,68 @@
 -- What a router of the C library hears in the bytes of frames (this project).
-use Rattle.std.specs.Prelude.{◌≡◌, ℕ, Bool, true, false, List, Option, None, Some, Result, Ok, Err}
-use Rattle.squall_board.specs.Boards.{board_join}
+use Rattle.std.specs.Prelude.{◌≡◌, ℕ, Bool, true, false, List, Option, None, Some, Result, Ok, Err, ◌⊎◌}
 use Rattle.squall_wire.specs.declared.fault.WireFault.{WireFault}
 use Rattle.squall_wire.specs.declared.message.Message.{Message}
 use Rattle.squall_wire.specs.Hearing.{FeedValue, HearsOn}
-use Rattle.squall_wire.specs.declared.feed.FeedFault.{FeedFault}
-use Rattle.squall_wire.specs.declared.feed.FeedFault.TheVariants.{Failed, NoMemory}
-use Rattle.squall_delta.specs.Pieces.{joined_boards}
 use Rattle.squall_router.specs.Routers.{router_with}
-use Rattle.squall_c_frames.specs.Joined.{deltas_of, last_digest}
+use Rattle.squall_c_frames.specs.Joined.{last_digest}
+use Rattle.squall_wire.specs.declared.feed.FeedFault.{FeedFault}
+use Rattle.squall_wire.specs.declared.feed.FeedFault.TheVariants.{Failed as FeedFailed, NoMemory as NoMemoryToFeed}
+use Rattle.squall_router.specs.declared.fault.AbsorbFault.{AbsorbFault}
+use Rattle.squall_router.specs.declared.fault.AbsorbFault.TheVariants.{Full as FullBoard, NoMemory as NoMemoryToAbsorb}
+use Rattle.squall_c.specs.declared.feeding.HearFault.{HearFault}
+use Rattle.squall_c.specs.declared.feeding.HearFault.TheVariants.{Failed, Full, NoMemory}
 use Rattle.squall_c.specs.declared.router.RouterSlot.{RouterSlot}
 use Rattle.squall_c.specs.declared.router.Station.{Station}
-use Rattle.squall_c.specs.Status.{closed, failed, heard_status}
+use Rattle.squall_c.specs.Status.{closed, failed, full, heard_status}
 use Rattle.squall_c.specs.Opening.{with_station, Ends}
+use Rattle.squall_c.specs.Limits.{joined_with, IsAdmitted, IsRefused, taken_after}
+
+-- the station whose router has absorbed all that the messages tell
+abbrev pub joined_station : Station → List Message → Station
+joined_station s ms = record s { router = router_with s.router.first (joined_with s ms) }
 
 -- the station that has heard the messages: its board is the join of the old one and those that they bring, and it keeps the last digest
 abbrev pub heard_station : Station → List Message → FeedValue → Station
 heard_station s ms feed = record s {
-  router = router_with s.router.first (board_join s.router.board (joined_boards (deltas_of ms)));
+  router = router_with s.router.first (joined_with s ms);
   feed = feed;
   heard = last_digest s.heard ms;
+  taken = taken_after s ms;
 }
 
--- the messages whose frames end in the piece are heard, up to the first fault
+-- ---- faults
+
+abbrev pub fault_of_feed : FeedFault → HearFault
+fault_of_feed FeedFailed = Failed
+fault_of_feed NoMemoryToFeed = NoMemory
+
+abbrev pub fault_of_absorb : AbsorbFault → HearFault
+fault_of_absorb FullBoard = Full
+fault_of_absorb NoMemoryToAbsorb = NoMemory
+
+-- ---- pieces
+
+-- the messages whose frames end in the piece are heard, up to the first fault, and lie within the limit
 pub record HearsPiece (old : Station) (piece : List ℕ) (fault : Option WireFault) (new : Station) : Type 0 where
   pub messages : List Message
   pub feed : FeedValue
   pub heard : HearsOn old.feed piece messages fault feed
+  pub admitted : IsAdmitted old messages
   pub after : new ≡ heard_station old messages feed
 
--- or nothing is, where a fault ended the stream before, or there was not the memory for it
-abbrev pub HearsInStation : Station → List ℕ → Result (Option WireFault) FeedFault → Station → Type 0
+-- they are beyond the limit
+pub record RefusesPiece (old : Station) (piece : List ℕ) : Type 0 where
+  pub messages : List Message
+  pub fault : Option WireFault
+  pub feed : FeedValue
+  pub heard : HearsOn old.feed piece messages fault feed
+  pub refused : IsRefused old messages
+
+-- they are heard; or nothing is, if a fault ended the stream before, if they are beyond the limit, or if there was not the memory for it
+abbrev pub HearsInStation : Station → List ℕ → Result (Option WireFault) HearFault → Station → Type 0
 HearsInStation old piece (Ok fault) new = HearsPiece old piece fault new × (old.feed.failed ≡ false)
 HearsInStation old piece (Err Failed) new = (old.feed.failed ≡ true) × (new ≡ old)
+HearsInStation old piece (Err Full) new = RefusesPiece old piece × (old.feed.failed ≡ false) × (new ≡ old)
 HearsInStation old piece (Err NoMemory) new = (old.feed.failed ≡ false) × (new ≡ old)
 
 -- the same in a slot: the status tells the fault
@@ -43,10 +73,19 @@ pub record Hears (old : RouterSlot) (s : Station) (piece : List ℕ) (new : Rout
   pub hears : HearsPiece s piece fault station
   pub after : new ≡ with_station old station
 
+-- or the status tells that they are beyond the limit, and nothing changes
+pub record Refuses (old : RouterSlot) (s : Station) (piece : List ℕ) (new : RouterSlot) (status : ℕ) : Type 0 where
+  pub told : status ≡ full
+  pub refuses : RefusesPiece s piece
+  pub after : new ≡ old
+
+abbrev pub HearsOrRefuses : RouterSlot → Station → List ℕ → RouterSlot → ℕ → Type 0
+HearsOrRefuses old s piece new status = Hears old s piece new status ⊎ Refuses old s piece new status
+
 -- nothing is heard after a fault
 abbrev pub hears_unless : Bool → RouterSlot → Station → List ℕ → RouterSlot → ℕ → Type 0
 hears_unless true old s piece new status = (status ≡ failed) × (new ≡ old)
-hears_unless false old s piece new status = Ends old (Hears old s piece) new status
+hears_unless false old s piece new status = Ends old (HearsOrRefuses old s piece) new status
 
 abbrev pub station_hears : RouterSlot → Option Station → List ℕ → RouterSlot → ℕ → Type 0
 station_hears old None piece new status = (status ≡ closed) × (new ≡ old)

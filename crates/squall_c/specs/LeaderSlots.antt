@@ -14,10 +14,9 @@ use Rattle.squall_leader.specs.Leaders.{LeaderValue, new_leader, IsFinished}
 use Rattle.squall_c_values.specs.Rooms.{over}
 use Rattle.squall_c_frames.specs.declared.fault.FrameFault.{FrameFault}
 use Rattle.squall_c_frames.specs.declared.fault.FrameFault.TheVariants.{TooLong, NoMemory as NoMemoryForFrames}
-use Rattle.squall_c_frames.specs.Queues.{frames_after}
 use Rattle.squall_c_leaders.specs.declared.fault.RepairFault.{RepairFault}
 use Rattle.squall_c_leaders.specs.declared.fault.RepairFault.TheVariants.{NoDigest, TooLong as TooLongForRepair, NoMemory as NoMemoryForRepair}
-use Rattle.squall_c_leaders.specs.Nodes.{NodeValue, new_node, begun_leader, Begins, Opens, HearsFrame, KeepsBoard, KeepsDigest, KeepsRepair, with_frames, node_after}
+use Rattle.squall_c_leaders.specs.Nodes.{NodeValue, new_node, begun_leader, Begins, Opens, HearsFrame, KeepsBoard, KeepsDigest, KeepsRepair, node_after}
 use Rattle.squall_c_leaders.specs.Feeding.{Feeds}
 use Rattle.squall_c.specs.declared.status.Cause.{Cause}
 use Rattle.squall_c.specs.declared.courses.HeldCourse.{HeldCourse}

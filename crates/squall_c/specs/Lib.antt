@@ -38,6 +38,7 @@ pub use Rattle.squall_c_leaders.specs.Nodes as LeaderNodes
 pub use Rattle.squall_c_leaders.specs.Feeding as LeaderFeeding
 pub mod Status
 pub mod Opening
+pub mod Limits
 pub mod Reporting
 pub mod Feeding
 pub mod WholeFrames

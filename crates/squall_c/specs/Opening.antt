@@ -6,6 +6,7 @@ use Rattle.squall_plan.specs.Form.{plan_of_text}
 use Rattle.squall_course.specs.Change.{Change}
 use Rattle.squall_board.specs.Boards.{BoardValue, empty_board}
 use Rattle.squall_router.specs.Routers.{router_with}
+use Rattle.squall_tally.specs.declared.tally.Tally.{Tally}
 use Rattle.squall_wire.specs.Hearing.{new_feed}
 use Rattle.squall_c.specs.declared.status.Cause.{Cause}
 use Rattle.squall_c.specs.declared.router.RouterSlot.{RouterSlot}
@@ -25,6 +26,10 @@ with_board s board = record s { router = router_with s.router.first board }
 -- the station with other frames that wait
 abbrev pub with_frames : Station → List (List ℕ) → Station
 with_frames s frames = record s { frames = frames }
+
+-- the station with another limit on what frames may tell
+abbrev pub with_limit : Station → Option Tally → Station
+with_limit s most = record s { most = most }
 
 -- the call ended so, with its status and the slot after it; or there was not the memory for it, and nothing changed
 pub record Ends (old : RouterSlot) (IsEnd : RouterSlot → ℕ → Type 0) (new : RouterSlot) (status : ℕ) : Type 0 where
@@ -50,7 +55,7 @@ first_course number old new = if number == 0 then Err (cause_with limit) else co
 -- a router that has heard nothing
 abbrev pub IsNew : Change → Option Station → Type 0
 IsNew first None = ⊥
-IsNew first (Some s) = (s.router ≡ router_with first empty_board) × (s.feed ≡ new_feed) × (s.heard ≡ None) × (s.frames ≡ [])
+IsNew first (Some s) = (s.router ≡ router_with first empty_board) × (s.feed ≡ new_feed) × (s.heard ≡ None) × (s.frames ≡ []) × (s.most ≡ None) × (s.taken ≡ 0)
 
 -- such a router, or why there is none, unless there was not the memory for it
 abbrev pub IsStationOf : Result Change Cause → Result Station Cause → Type 0

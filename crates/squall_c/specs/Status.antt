@@ -35,6 +35,10 @@ too_long = 5
 abbrev pub no_digest : ℕ
 no_digest = 6
 
+-- the router would hear of more than its limit
+abbrev pub full : ℕ
+full = 7
+
 -- no partition
 abbrev pub nowhere : ℕ
 nowhere = 4294967295

@@ -5,31 +5,54 @@ ghost use Rattle.std.specs.List.{AllByRecursion};
 ghost use Rattle.squall_wire.specs.declared.feed.FeedFault.TheVariants.{Failed};
 ghost use Rattle.squall_wire.specs.Hearing.{HearsOn};
 ghost use Rattle.squall_wire.specs.Messages.{IsMessage};
-ghost use Rattle.squall_board.specs.Boards.{board_join};
-ghost use Rattle.squall_delta.specs.Pieces.{joined_boards};
-ghost use Rattle.squall_router.specs.Routers.{router_with};
-ghost use Rattle.squall_c_frames.specs.Joined.{deltas_of};
-ghost use Rattle.squall_c.specs.Feeding.{heard_station, HearsInStation, Feeds};
+ghost use Rattle.squall_router.specs.declared.fault.AbsorbFault.TheVariants.{Full};
+ghost use Rattle.squall_c.specs.Limits.{IsAdmitted, IsRefused};
+ghost use Rattle.squall_c.specs.Feeding.{heard_station, joined_station, HearsInStation, Feeds};
 
+use crate::limits::{absorb_all, brings_boards, taken_after};
 use crate::router::{RouterSlot, Station};
-use crate::status::{CLOSED, FAILED, NO_MEMORY, heard_status};
-use squall_c_frames::{TwinFeed, alone, joined, keep_digest};
-use squall_router::Router;
+use crate::status::{CLOSED, FAILED, FULL, NO_MEMORY, heard_status};
+use squall_c_frames::{TwinFeed, keep_digest};
+use squall_router::AbsorbFault;
 use squall_wire::{Feed, FeedFault, Heard, Message, WireFault};
-use std::alloc::{AllocError, Global};
 
-/// Has the router absorb all that the messages tell, or nothing where it fails. A delta that came
-/// alone is absorbed as it is, since to join several costs a copy of each.
-fn absorb_all(alloc: Global, router: &mut Router, messages: &[Message]) -> Result<(), AllocError>
-    requires { AllByRecursion IsMessage messages.now }
-    ensures ok { OnOk result (router.new ≡ router_with router.old.first (board_join router.old.board (joined_boards (deltas_of messages.now)))) }
-    ensures err { OnErr result (router.new ≡ router.old) }
-{
-    if let Some(delta) = alone(messages) {
-        return router.absorb(delta);
+/// Why nothing of a piece is heard.
+#[derive(Clone, Copy, Debug, PartialEq, Eq)]
+pub enum HearFault {
+    /// A fault ended the stream before.
+    Failed,
+    /// The router would hear of more than its limit.
+    Full,
+    /// An allocation failed, or a count of owners is full.
+    NoMemory,
+}
+
+impl From<FeedFault> for HearFault {
+    ghost use Rattle.std.specs.Prelude.{◌≡◌};
+    ghost use Rattle.squall_c.specs.Feeding.{fault_of_feed};
+
+    ghost from_gives = { λ fault e. e ≡ fault_of_feed fault };
+
+    fn from(fault: FeedFault) -> HearFault {
+        match fault {
+            FeedFault::Failed => HearFault::Failed,
+            FeedFault::NoMemory => HearFault::NoMemory,
+        }
     }
-    let delta = joined(alloc, messages)?;
-    router.absorb(&delta)
+}
+
+impl From<AbsorbFault> for HearFault {
+    ghost use Rattle.std.specs.Prelude.{◌≡◌};
+    ghost use Rattle.squall_c.specs.Feeding.{fault_of_absorb};
+
+    ghost from_gives = { λ fault e. e ≡ fault_of_absorb fault };
+
+    fn from(fault: AbsorbFault) -> HearFault {
+        match fault {
+            AbsorbFault::Full => HearFault::Full,
+            AbsorbFault::NoMemory => HearFault::NoMemory,
+        }
+    }
 }
 
 /// Has the station wait for what the piece leaves, in which no message ends. `heard` and `ahead` are
@@ -46,27 +69,46 @@ fn wait_on(station: &mut Station, piece: &[u8], heard: &Heard, ahead: Feed) -> R
     Ok(())
 }
 
-/// Has the station hear the messages, and wait for what the feed waits for. It changes
-/// nothing if it fails.
+/// Has the station's router absorb all that the messages tell, unless that is more than its limit. It
+/// changes nothing if it fails.
+fn take_boards(station: &mut Station, messages: &[Message]) -> Result<(), AbsorbFault>
+    requires { AllByRecursion IsMessage messages.now }
+    ensures taken { OnOk result (station.new ≡ joined_station station.old messages.now) }
+    ensures admitted { OnOk result (IsAdmitted station.old messages.now) }
+    ensures full { result ≡ Err Full → IsRefused station.old messages.now }
+    ensures err { OnErr result (station.new ≡ station.old) }
+{
+    station.router.known();
+    if !brings_boards(messages) {
+        return Ok(());
+    }
+    absorb_all(station.alloc, &mut station.router, &station.most, messages)
+}
+
+/// Has the station hear the messages, and wait for what the feed waits for, unless they tell more
+/// than its limit. It changes nothing if it fails.
 fn take_messages(
     station: &mut Station,
     messages: Vec<Message>,
     feed: Feed,
-) -> Result<(), AllocError>
+) -> Result<(), AbsorbFault>
     requires { AllByRecursion IsMessage messages.items }
     ensures heard { OnOk result (station.new ≡ heard_station station.old messages.items feed) }
+    ensures admitted { OnOk result (IsAdmitted station.old messages.items) }
+    ensures full { result ≡ Err Full → IsRefused station.old messages.items }
     ensures err { OnErr result (station.new ≡ station.old) }
 {
-    absorb_all(station.alloc, &mut station.router, &messages)?;
+    take_boards(station, &messages)?;
     // From here on nothing can fail.
     station.feed = TwinFeed::of(feed);
+    station.taken = taken_after(station.taken, messages.len());
     keep_digest(&mut station.heard, messages);
     Ok(())
 }
 
 /// Has the station hear the messages whose frames end in the piece, all of them or none, and gives
 /// the fault of what follows them if there is one. It changes nothing if it fails.
-fn hear(station: &mut Station, piece: &[u8]) -> Result<Option<WireFault>, FeedFault>
+fn hear(station: &mut Station, piece: &[u8]) -> Result<Option<WireFault>, HearFault>
     ensures { HearsInStation station.old piece.now result station.new }
 {
     let (heard, ahead) = station.feed.try_piece(station.alloc, piece)?;
@@ -80,7 +122,8 @@ fn hear(station: &mut Station, piece: &[u8]) -> Result<Option<WireFault>, FeedFa
 }
 
 /// Takes a piece of a stream of frames, cut anywhere: the messages whose frames end in it are heard,
-/// up to the first fault, which the status tells. `FAILED` where a fault ended the stream before.
+/// up to the first fault, which the status tells. `FAILED` if a fault ended the stream before, and `FULL`
+/// if the messages tell more than the limit: then nothing changes.
 pub(crate) fn feed(slot: &mut RouterSlot, piece: &[u8]) -> u32
     ensures { Feeds piece.now slot.old slot.new result }
 {
@@ -89,7 +132,8 @@ pub(crate) fn feed(slot: &mut RouterSlot, piece: &[u8]) -> u32
     };
     match hear(station, piece) {
         Ok(fault) => heard_status(fault),
-        Err(FeedFault::Failed) => FAILED,
-        Err(FeedFault::NoMemory) => NO_MEMORY,
+        Err(HearFault::Failed) => FAILED,
+        Err(HearFault::Full) => FULL,
+        Err(HearFault::NoMemory) => NO_MEMORY,
     }
 }

@@ -20,6 +20,8 @@ mod leader_exports;
 mod leaders;
 mod leading;
 mod legs;
+mod limit_exports;
+mod limits;
 mod part_exports;
 mod parts;
 mod report_exports;

@@ -17,6 +17,7 @@ use squall_course::Course;
 use squall_key::Key;
 use squall_plan::Plan;
 use squall_router::Router;
+use squall_tally::Tally;
 use squall_wire::Digest;
 use std::alloc::{AllocError, Global};
 use std::sync::Arc;
@@ -32,6 +33,10 @@ pub struct Station {
     pub(crate) heard: Option<Digest>,
     /// The frames that wait to be fetched.
     pub(crate) frames: Frames,
+    /// The most that the board may tell after a frame, if there is a limit.
+    pub(crate) most: Option<Tally>,
+    /// How many frames were taken.
+    pub(crate) taken: u64,
 }
 
 /// What lies behind the handle of a router: a router, or why there is none.
@@ -90,6 +95,8 @@ fn station_of(alloc: Global, course: Course) -> Result<Station, AllocError>
         feed: TwinFeed::new(alloc),
         heard: None,
         frames: Frames::new(alloc),
+        most: None,
+        taken: 0,
     })
 }
 

@@ -30,6 +30,9 @@ pub(crate) const TOO_LONG: u32 = 5;
 /// No digest was heard.
 pub(crate) const NO_DIGEST: u32 = 6;
 
+/// The router would hear of more than its limit.
+pub(crate) const FULL: u32 = 7;
+
 /// No partition.
 pub(crate) const NOWHERE: u32 = 4294967295;
 

@@ -91,8 +91,8 @@ pub unsafe extern "C" fn squall_view_routes(
     view_routes(&*(view as *const ViewSlot), ranks, room)
 }
 
-/// Puts where the keys of these ranks stand into the room, as many as it holds, and answers how
-/// many: 0 if there is no view. A key whose `part` is its `dest` stays there until another course
+/// Puts into the room at which partitions the keys of these ranks are, as many as it holds, and answers
+/// how many: 0 if there is no view. A key whose `part` is its `dest` stays there until another course
 /// begins. The rest of the room stays. It allocates nothing.
 #[unsafe(no_mangle)]
 pub unsafe extern "C" fn squall_view_locate(

@@ -9,6 +9,7 @@ mod chunks;
 mod feeding;
 mod frames;
 mod hearing;
+pub mod laws;
 mod node;
 mod status;
 

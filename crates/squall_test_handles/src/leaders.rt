@@ -1,5 +1,6 @@
 //! Leaders behind handles between plans whose moves were worked out by hand.
 
+mod feeding;
 mod frames;
 
 use squall_c_leaders::LeaderNode;
@@ -12,7 +13,6 @@ use squall_wire::WireFault;
 use std::alloc::{AllocError, Global};
 use std::process::Abort;
 use std::sync::Arc;
-use std::test::Fail;
 
 /// What is asked of a leader.
 #[derive(Clone, Copy)]
@@ -116,21 +116,21 @@ pub(crate) fn resumed(alloc: Global) -> Option<LeaderNode> {
     resumed_of(alloc, course(alloc)?)
 }
 
-/// Whether the steps of the leader have these answers.
+/// Whether the steps of the leader have these answers. None if an allocation fails.
 fn has_answers(
     alloc: Global,
     node: Option<LeaderNode>,
     steps: &[Step],
     wanted: &str,
-) -> Result<bool, Fail> {
-    let mut node = node.ok_or("a leader")?;
+) -> Option<bool> {
+    let mut node = node?;
     let mut out = String::new(alloc);
-    write_answers(alloc, &mut node, steps, &mut out).ok_or("memory")?;
-    Ok(out.as_str() == wanted)
+    write_answers(alloc, &mut node, steps, &mut out)?;
+    Some(out.as_str() == wanted)
 }
 
 #[test]
-fn a_leader_leads_there_and_back(rt: HostRuntime) -> Result<(), Fail> {
+fn a_leader_leads_there_and_back(rt: HostRuntime) {
     let steps = [
         Step::Open,
         Step::Tell,
@@ -148,20 +148,18 @@ fn a_leader_leads_there_and_back(rt: HostRuntime) -> Result<(), Fail> {
     ];
     let wanted =
         "Idle; 0 false; begun; Running; 0; NotDone 0 3; true; NotDone 0 4; true; 1 true; NoMore; begun; 2 false; ";
-    assert!(rt; has_answers(rt.alloc(), node(rt.alloc(), 0), &steps, wanted)?);
-    Ok(())
+    holds!(&rt; has_answers(rt.alloc(), node(rt.alloc(), 0), &steps, wanted).expect(&rt, "memory"));
 }
 
 #[test]
-fn numbers_end(rt: HostRuntime) -> Result<(), Fail> {
+fn numbers_end(rt: HostRuntime) {
     let steps = [Step::Begin(OLD), Step::Begin(NEW), Step::Tell];
     let wanted = "begun; NoNumber; 4294967295 true; ";
-    assert!(rt; has_answers(rt.alloc(), node(rt.alloc(), 4294967294), &steps, wanted)?);
-    Ok(())
+    holds!(&rt; has_answers(rt.alloc(), node(rt.alloc(), 4294967294), &steps, wanted).expect(&rt, "memory"));
 }
 
 #[test]
-fn a_leader_resumes_a_course(rt: HostRuntime) -> Result<(), Fail> {
+fn a_leader_resumes_a_course(rt: HostRuntime) {
     let steps = [
         Step::Tell,
         Step::Begin(OLD),
@@ -172,6 +170,5 @@ fn a_leader_resumes_a_course(rt: HostRuntime) -> Result<(), Fail> {
         Step::Tell,
     ];
     let wanted = "1 false; Running; 0; true; true; begun; 2 false; ";
-    assert!(rt; has_answers(rt.alloc(), resumed(rt.alloc()), &steps, wanted)?);
-    Ok(())
+    holds!(&rt; has_answers(rt.alloc(), resumed(rt.alloc()), &steps, wanted).expect(&rt, "memory"));
 }

@@ -6,7 +6,6 @@ use squall_example::NEW;
 use squall_wire::WireFault;
 use std::alloc::Global;
 use std::process::Abort;
-use std::test::Fail;
 
 /// A room for any frame of the example. None if an allocation fails.
 fn room(alloc: Global) -> Option<Vec<u8>> {
@@ -77,10 +76,10 @@ fn passes_a_board(
     from: &mut LeaderNode,
     to: &mut LeaderNode,
 ) -> Option<()> {
-    assert!(rt; know_the_same(alloc, from, to)? == false);
+    holds!(rt; know_the_same(alloc, from, to)? == false);
     from.gather_board(usize::MAX).ok()?;
-    assert!(rt; pass_all(alloc, from, to)? > 0);
-    assert!(rt; know_the_same(alloc, from, to)?);
+    holds!(rt; pass_all(alloc, from, to)? > 0);
+    holds!(rt; know_the_same(alloc, from, to)?);
     Some(())
 }
 
@@ -91,18 +90,16 @@ fn passes_a_board_on(rt: &impl Abort, alloc: Global, from: &mut LeaderNode) -> O
 }
 
 #[test]
-fn a_board_passes(rt: HostRuntime) -> Result<(), Fail> {
-    let mut from = running(rt.alloc()).ok_or("a leader")?;
-    passes_a_board_on(&rt, rt.alloc(), &mut from).ok_or("memory")?;
-    Ok(())
+fn a_board_passes(rt: HostRuntime) {
+    let mut from = running(rt.alloc()).expect(&rt, "a leader");
+    passes_a_board_on(&rt, rt.alloc(), &mut from).expect(&rt, "memory");
 }
 
 #[test]
-fn what_is_no_frame_is_refused(rt: HostRuntime) -> Result<(), Fail> {
-    let mut node = node(rt.alloc(), 0).ok_or("a leader")?;
-    assert!(rt; node.hear(b"") == Err(WireFault::Short));
-    assert!(rt; node.hear(b"XXXXXXXX") == Err(WireFault::Magic));
-    Ok(())
+fn what_is_no_frame_is_refused(rt: HostRuntime) {
+    let mut node = node(rt.alloc(), 0).expect(&rt, "a leader");
+    holds!(&rt; node.hear(b"") == Err(WireFault::Short));
+    holds!(&rt; node.hear(b"XXXXXXXX") == Err(WireFault::Magic));
 }
 
 /// A frame waits until the room is long enough.
@@ -110,17 +107,16 @@ fn waits_for_room(rt: &impl Abort, node: &mut LeaderNode) -> Option<()> {
     let mut short = [7; 7];
     let mut long = [7; 17];
     node.gather_digest(usize::MAX).ok()?;
-    assert!(rt; node.next_frame(&mut short) == 16);
-    assert!(rt; short == [7; 7]);
-    assert!(rt; node.next_frame(&mut long) == 16);
-    assert!(rt; long[0] == 83 && long[16] == 7);
-    assert!(rt; node.next_frame(&mut long) == 0);
+    holds!(rt; node.next_frame(&mut short) == 16);
+    holds!(rt; short == [7; 7]);
+    holds!(rt; node.next_frame(&mut long) == 16);
+    holds!(rt; long[0] == 83 && long[16] == 7);
+    holds!(rt; node.next_frame(&mut long) == 0);
     Some(())
 }
 
 #[test]
-fn a_frame_waits_for_room(rt: HostRuntime) -> Result<(), Fail> {
-    let mut node = node(rt.alloc(), 0).ok_or("a leader")?;
-    waits_for_room(&rt, &mut node).ok_or("memory")?;
-    Ok(())
+fn a_frame_waits_for_room(rt: HostRuntime) {
+    let mut node = node(rt.alloc(), 0).expect(&rt, "a leader");
+    waits_for_room(&rt, &mut node).expect(&rt, "memory");
 }

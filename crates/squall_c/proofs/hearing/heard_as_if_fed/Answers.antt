@@ -6,7 +6,7 @@ use Rattle.squall_wire.specs.HearingLaws.{spelled_are_heard}
 use Rattle.squall_c.proofs.hearing.heard_as_if_fed.Goals as goal
 
 pub returns : goal.returns
-returns c s m is e = record {
+returns c s m is admitted e = record {
   messages = m ∷ [];
   feed = s.feed;
   heard = record {
@@ -15,5 +15,6 @@ returns c s m is e = record {
     heard = subst (λ (t : List ℕ). IsHeard t (m ∷ []) None []) (append-nil (spell m) ∙ ap (λ (f : FeedValue). f.waiting ++ spell m) (sym e)) (spelled_are_heard (m ∷ []) (is, tt));
     after = e;
   };
+  admitted = admitted;
   after = refl;
 }
