@@ -1,5 +1,6 @@
-/* Frames of a megabyte that are made to cost most. A router hears each by itself. Prints for each how long that took, how
- * much memory the router then keeps, and how much there was at most meanwhile, as `NAME: VALUE UNIT` a line. */
+/* Frames of a megabyte that are made to cost most. A router hears each by itself, without a limit and then with one. Prints
+ * for each how long that took, how much memory the router then keeps, and how much there was at most meanwhile, as
+ * `NAME: VALUE UNIT` a line. */
 #define _POSIX_C_SOURCE 200809L
 #include "squall.h"
 
@@ -178,37 +179,55 @@ static double kept(void) {
     return (double)(info.uordblks + info.hblkhd) / 1e6;
 }
 
-static void measure(const char *name, void (*make)(void)) {
+/* What a router costs that hears the frame, with a limit or with none. With one it refuses all frames but the last. */
+static void measure(const char *name, void (*make)(void), bool is_limited) {
     make();
     squall_router *router = malloc(squall_router_size());
     if (router == NULL) {
         exit(2);
     }
     squall_router_open(1, (const uint8_t *)OLD, sizeof OLD - 1, (const uint8_t *)NEW, sizeof NEW - 1, router);
+    if (is_limited && squall_router_limit(router, 10000, 10000, 10000, 64) != SQUALL_OK) {
+        exit(2);
+    }
     malloc_trim(0);
     forget_the_greatest();
     long resident = figure("VmRSS:");
     double before = kept(), begun = now();
-    if (squall_router_hear(router, frame, filled) != SQUALL_OK) {
+    uint32_t status = squall_router_hear(router, frame, filled);
+    double took = now() - begun;
+    if (status != SQUALL_OK && !(is_limited && status == SQUALL_FULL)) {
         printf("the frame of %s was refused\n", name);
         exit(1);
     }
-    double took = now() - begun;
-    printf("%s, hear: %.1f ms\n", name, took);
-    printf("%s, kept: %.1f MB\n", name, kept() - before);
-    printf("%s, at most: %.1f MB\n", name, (double)(figure("VmHWM:") - resident) / 1e3);
+    const char *how = status == SQUALL_FULL ? " above a limit" : is_limited ? " within a limit" : "";
+    printf("%s%s, hear: %.1f ms\n", name, how, took);
+    printf("%s%s, kept: %.1f MB\n", name, how, kept() - before);
+    printf("%s%s, at most: %.1f MB\n", name, how, (double)(figure("VmHWM:") - resident) / 1e3);
     squall_router_close(router);
     free(router);
 }
 
+static const struct {
+    const char *name;
+    void (*make)(void);
+} FRAMES[] = {
+    {"one cell of 65,534 spans", one_cell_of_spans},
+    {"61,680 cells of one course", cells_of_one_course},
+    {"61,680 cells, each of a course of its own", cells_of_own_courses},
+    {"31,774 loads, each of a course of its own", loads_of_own_courses},
+    {"131,071 openings", openings},
+    {"209,712 clashes", clashes},
+    {"28,339 courses of one range", small_issues},
+    {"10 courses of 4,096 ranges", large_issues},
+};
+
 int main(void) {
-    measure("one cell of 65,534 spans", one_cell_of_spans);
-    measure("61,680 cells of one course", cells_of_one_course);
-    measure("61,680 cells, each of a course of its own", cells_of_own_courses);
-    measure("31,774 loads, each of a course of its own", loads_of_own_courses);
-    measure("131,071 openings", openings);
-    measure("209,712 clashes", clashes);
-    measure("28,339 courses of one range", small_issues);
-    measure("10 courses of 4,096 ranges", large_issues);
+    for (size_t i = 0; i < sizeof FRAMES / sizeof FRAMES[0]; i++) {
+        measure(FRAMES[i].name, FRAMES[i].make, false);
+    }
+    for (size_t i = 0; i < sizeof FRAMES / sizeof FRAMES[0]; i++) {
+        measure(FRAMES[i].name, FRAMES[i].make, true);
+    }
     return 0;
 }

@@ -26,10 +26,10 @@
  *    nothing else. After the close the room is plain memory again, and may be opened again.
  * 3. One call at a time. Each handle serves one call at a time, also if the call only reads and its
  *    pointer is to const. Views are the exception, for the calls that only read them:
- *    squall_view_status, _route, _routes, _locate, _legs and _number, and squall_errand_start_at. Any
- *    number of these may run at once with one view, and no other call with it meanwhile. Calls with
- *    different handles may run at the same time, also with views or courses that were made from one
- *    another.
+ *    squall_view_status, _route, _routes, _locate, _legs, _number and _changes, and
+ *    squall_errand_start_at. Any number of these may run at once with one view, and no other call with it
+ *    meanwhile. Calls with different handles may run at the same time, also with views or courses that
+ *    were made from one another.
  *    What the contracts promise rests on one call at a time. That the exception changes nothing of it is
  *    trusted and not proved, for this reason: these calls take the view by a shared borrow and change no
  *    count of owners, and nothing else in a view can change behind a shared borrow.
@@ -83,6 +83,7 @@ enum squall_status {
     SQUALL_FAILED = 4,    /* a frame fault came earlier, and the stream is at its end */
     SQUALL_TOO_LONG = 5,  /* a frame would have more bytes than it may have */
     SQUALL_NO_DIGEST = 6, /* no digest was heard that could be answered */
+    SQUALL_FULL = 7,      /* the router would hear of more than its limit */
 
     /* Why a text is no plan; of squall_router_open the old one. */
     SQUALL_PLAN_JSON = 11,
@@ -163,7 +164,8 @@ enum squall_next {
 #define SQUALL_TOP UINT64_C(18446744069414584320)
 /* No frame has more bytes. */
 #define SQUALL_FRAME_BYTES 1048584u
-/* No limit but that of the format, for the calls that make frames. */
+/* No limit: for squall_router_limit, and for the calls that make frames, which keep to that of the
+ * format. */
 #define SQUALL_NO_LIMIT SIZE_MAX
 /* The alignment of each room. */
 #define SQUALL_ALIGN 16u
@@ -312,6 +314,8 @@ uint32_t squall_router_issued(squall_router *router, uint32_t number, const uint
  *   SQUALL_FRAME_..   bytes are no frame. The messages before them were taken. The stream is at its
  *                     end: from now on the answer is SQUALL_FAILED
  *   SQUALL_FAILED     a fault came before; nothing changed
+ *   SQUALL_FULL       with the deltas that end in these bytes the router would tell more than
+ *                     squall_router_limit allows; nothing changed, and the same bytes may be fed again
  *   SQUALL_NO_MEMORY  an allocation failed; nothing changed, and the same bytes may be fed again
  *   SQUALL_CLOSED     there is no router
  * Allocates. */
@@ -322,12 +326,30 @@ uint32_t squall_router_feed(squall_router *router, const uint8_t *bytes, size_t 
  *   SQUALL_OK         the message was taken
  *   SQUALL_FRAME_..   the bytes are no frame: .._SHORT if they end within it, .._SPARE if bytes follow
  *                     it or are left in it
+ *   SQUALL_FULL       with this delta the router would tell more than squall_router_limit allows
  *   SQUALL_NO_MEMORY  an allocation failed
  *   SQUALL_CLOSED     there is no router
  * At all but SQUALL_OK nothing changed, and the next frame may come. It has nothing to do with the
  * stream of squall_router_feed: what waits there waits on, and a stream that ended takes no bytes, but
  * frames are still heard. Allocates. */
 uint32_t squall_router_hear(squall_router *router, const uint8_t *frame, size_t len);
+
+/* Sets the most that the router may tell after a frame, in the numbers of squall_router_counts: cells,
+ * spans of keys loaded, opened sub-plans and issued numbers. From then on squall_router_feed and
+ * squall_router_hear answer SQUALL_FULL, and nothing changes, if the router would tell more with the
+ * deltas that the bytes bring. That is so too if it tells more already, and they bring nothing new.
+ * Digests are never refused, and reports by the host's own calls (squall_router_loaded, _done, _opened,
+ * _issued) are not limited. SQUALL_NO_LIMIT for one of the four leaves that one without a limit, and for
+ * all of them takes the limit away. At first there is none. Answers
+ *   SQUALL_OK         the limit is set
+ *   SQUALL_CLOSED     there is no router; nothing changed
+ * Allocates nothing. */
+uint32_t squall_router_limit(squall_router *router, uint64_t cells, uint64_t spans, uint64_t opened,
+                             uint64_t issues);
+
+/* How many frames the router has taken by squall_router_feed and squall_router_hear, boards and digests:
+ * 0 if there is no router. Stops at the greatest number of 64 bits. Allocates nothing. */
+uint64_t squall_router_taken(const squall_router *router);
 
 /* The partition to ask for the key of that rank; SQUALL_NOWHERE where the rank is no key's or there
  * is no router. Allocates nothing. */

@@ -97,6 +97,8 @@ static void *take_and_tell(void *unused) {
     }
     CHECK(squall_router_gather_board(opened, SQUALL_NO_LIMIT) == SQUALL_OK);
     size_t len = squall_router_frame(opened, frames, SQUALL_FRAME_BYTES);
+    /* With a limit at what the router tells, frames are joined to a copy of its board. */
+    CHECK(squall_router_limit(opened, 1, SPANS, 0, 0) == SQUALL_OK);
     CHECK(squall_router_feed(opened, frames, len / 2) == SQUALL_OK);
     CHECK(squall_router_feed(opened, frames + len / 2, len - len / 2) == SQUALL_OK);
     CHECK(squall_router_hear(opened, frames, len) == SQUALL_OK);

@@ -2,42 +2,7 @@
  * worked out by hand from the plans of examples/. Each call that allocates is also made once for each of
  * its allocations, with that one refused. The last line is `N passed, M failed`. */
 #include "check.h"
-
-/* ---- the heap, in the place of heap.c */
-
-struct tried {
-    bool ok;
-    void *block;
-};
-
-struct tried rattle_alloc(size_t size, size_t align);
-struct tried rattle_realloc(void *block, size_t kept, size_t size, size_t align);
-void rattle_dealloc(void *block);
-
-static char nowhere[16];
-static long blocks;  /* that are allocated now */
-static long asked;   /* allocations since the count began */
-static long refused; /* the number of the one to refuse, or 0 */
-
-static struct tried tried(void *block) {
-    return (struct tried){block != NULL, block != NULL ? block : nowhere};
-}
-
-struct tried rattle_alloc(size_t size, size_t align) {
-    struct tried answer = tried(++asked == refused ? NULL : malloc(size != 0 ? size : align));
-    blocks += answer.ok;
-    return answer;
-}
-
-struct tried rattle_realloc(void *block, size_t kept, size_t size, size_t align) {
-    (void)kept;
-    return tried(++asked == refused ? NULL : realloc(block, size != 0 ? size : align));
-}
-
-void rattle_dealloc(void *block) {
-    blocks--;
-    free(block);
-}
+#include "counting_heap.h"
 
 /* ---- routers */
 

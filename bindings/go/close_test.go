@@ -2,7 +2,6 @@ package squall_test
 
 import (
 	"bytes"
-	"io"
 	"testing"
 
 	"squall"
@@ -66,22 +65,4 @@ func TestAnErrandThatIsClosed(t *testing.T) {
 		equals(t, []any{next, err}, []any{squall.Next(0), squall.ErrClosed})
 		succeeds(t, errand.Close())
 	}
-}
-
-// A router that is closed while it reads ends the reading when the next bytes come.
-func TestARouterThatIsClosedWhileItReads(t *testing.T) {
-	router := fresh(t)
-	from, to := io.Pipe()
-	ended := make(chan error)
-	go func() {
-		_, err := router.ReadFrom(from)
-		ended <- err
-	}()
-	frame := unhex(loadFrame)
-	_, err := to.Write(frame[:20])
-	succeeds(t, err)
-	router.Close()
-	go to.Write(frame[20:])
-	equals(t, <-ended, squall.ErrClosed)
-	from.Close()
 }

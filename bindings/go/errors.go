@@ -22,13 +22,15 @@ const (
 	ErrLimit Error = C.SQUALL_LIMIT
 	// ErrClosed says that the router, view, course, errand, partition or leader was closed, or is nil.
 	ErrClosed Error = C.SQUALL_CLOSED
-	// ErrFailed says that a frame fault came earlier, so that the router's stream is at its end.
+	// ErrFailed says that a frame fault came earlier, so that the stream is at its end.
 	ErrFailed Error = C.SQUALL_FAILED
 	// ErrTooLong says that a frame would have more bytes than it may have: that of a digest, which is not cut, or
 	// of a single report.
 	ErrTooLong Error = C.SQUALL_TOO_LONG
 	// ErrNoDigest says that no digest was heard that could be answered.
 	ErrNoDigest Error = C.SQUALL_NO_DIGEST
+	// ErrFull says that a router would tell more than [Router.Limit] allows.
+	ErrFull Error = C.SQUALL_FULL
 )
 
 // Why a partition does not give, load or finish.
@@ -68,9 +70,10 @@ const (
 	ErrNoMore Error = C.SQUALL_NO_MORE
 )
 
-// ErrBusy says that a [Router.ReadFrom] is reading the router's stream, so that other bytes would come
-// between those of its frames. Nothing was taken. It is an error of this package and has no status.
-var ErrBusy = errors.New("squall: the router's stream is being read")
+// ErrBusy says that a ReadFrom is reading the stream of the router, the partition or the leader, so that other
+// bytes would come between those of its frames. Nothing was taken. It is an error of this package and has no
+// status.
+var ErrBusy = errors.New("squall: the stream is being read")
 
 var errorTexts = map[Error]string{
 	ErrNoMemory: "no memory",
@@ -79,6 +82,7 @@ var errorTexts = map[Error]string{
 	ErrFailed:   "the stream ended with a fault before",
 	ErrTooLong:  "a frame would be too long",
 	ErrNoDigest: "no digest was heard",
+	ErrFull:     "the router would hear of more than its limit",
 
 	ErrNotOpen:     "the sub-plan is not opened",
 	ErrNothingLeft: "no key is held that goes out",

@@ -97,7 +97,8 @@ func TestTextsOfErrors(t *testing.T) {
 	for status, text := range map[uint32]string{
 		1: "no memory", 2: "a number or a span is outside its limits", 3: "closed",
 		4: "the stream ended with a fault before", 5: "a frame would be too long",
-		6: "no digest was heard", 7: "unknown status 7", 4294967295: "unknown status 4294967295",
+		6: "no digest was heard", 7: "the router would hear of more than its limit",
+		8: "unknown status 8", 4294967295: "unknown status 4294967295",
 		71: "the sub-plan is not opened", 72: "no key is held that goes out", 73: "no key was asked for",
 		74: "the key does not go out", 75: "the key was given before", 76: "the key is not held",
 		77: "the course does not bring these keys here", 78: "keys are missing that come in", 79: "no key comes in",

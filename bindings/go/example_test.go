@@ -111,6 +111,30 @@ func ExampleRouter_ReadFrom() {
 	// [{0:0 2:0 1} {2:0 5:0 3} {5:0 end 1}]
 }
 
+// A router that hears frames of strangers gets a limit on what it may tell after one.
+func ExampleRouter_Limit() {
+	router := exampleRouter()
+	defer router.Close()
+	most := squall.Counts{Cells: 1000, Spans: 1, Opened: 1000, Issues: 10}
+	if err := router.Limit(most); err != nil {
+		log.Fatal(err)
+	}
+	for root := uint32(2); root < 8; root += 2 {
+		frame, err := squall.FrameLoaded(1, 0, 3, squall.Key(root, 0), squall.Key(root, 7))
+		if err != nil {
+			log.Fatal(err)
+		}
+		if err := router.Hear(frame); errors.Is(err, squall.ErrFull) {
+			fmt.Println("refused:", err)
+		}
+	}
+	fmt.Println("taken:", router.Taken())
+	// Output:
+	// refused: squall: the router would hear of more than its limit
+	// refused: squall: the router would hear of more than its limit
+	// taken: 1
+}
+
 // hearFrom hears the frames of a stream one by one, so that one router can have many streams at once. Of
 // a stream alone, ReadFrom does the same.
 func hearFrom(from io.Reader, router *squall.Router) error {

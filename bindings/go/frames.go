@@ -8,8 +8,8 @@ import "io"
 // FrameBytes is how many bytes a frame has at most, for transports that limit their messages.
 const FrameBytes = C.SQUALL_FRAME_BYTES
 
-// noLimit is no limit but that of the format.
-const noLimit = -1
+// anySize is no limit on the bytes of a frame but that of the format.
+const anySize = -1
 
 // Frames are the frames that a router, a partition or a leader has made, in the order in which they are to
 // be sent. Each is one message, and holds for itself: what others hear of them does not depend on their
@@ -37,7 +37,7 @@ func (f Frames) WriteTo(to io.Writer) (int64, error) {
 //
 // Errors: [ErrNoMemory]; [ErrClosed].
 func (r *Router) Board() (Frames, error) {
-	return r.BoardWithin(noLimit)
+	return r.BoardWithin(anySize)
 }
 
 // BoardWithin does the same in frames of at most `limit` bytes each, for a transport that limits its messages.
@@ -54,7 +54,7 @@ func (r *Router) BoardWithin(limit int) (Frames, error) {
 //
 // Errors: [ErrTooLong] if the digest has more rows than a frame holds; [ErrNoMemory]; [ErrClosed].
 func (r *Router) Digest() ([]byte, error) {
-	return r.DigestWithin(noLimit)
+	return r.DigestWithin(anySize)
 }
 
 // DigestWithin does the same in a frame of at most `limit` bytes. A negative limit is none.
@@ -76,7 +76,7 @@ func (r *Router) DigestWithin(limit int) ([]byte, error) {
 //
 // Errors: [ErrNoDigest] if no digest was heard; [ErrNoMemory]; [ErrClosed].
 func (r *Router) Repair() (Frames, error) {
-	return r.RepairWithin(noLimit)
+	return r.RepairWithin(anySize)
 }
 
 // RepairWithin does the same in frames of at most `limit` bytes each. A negative limit is none.
@@ -120,7 +120,8 @@ func fetch(next func(out *C.uint8_t, room C.size_t) C.size_t) Frames {
 // taken as reports. A digest is kept for [Router.Repair]. It has nothing to do with the stream of
 // [Router.Feed], and any number of goroutines may call it.
 //
-// Errors: a [FrameFault] if the bytes are no frame; [ErrNoMemory]; [ErrClosed]. The next frame may come.
+// Errors: a [FrameFault] if the bytes are no frame; [ErrFull] if the router would tell more than [Router.Limit]
+// allows; [ErrNoMemory]; [ErrClosed]. The next frame may come.
 func (r *Router) Hear(frame []byte) error {
 	return r.take(func(at *C.squall_router) C.uint32_t {
 		bytes, size := bytesOf(frame)
@@ -134,81 +135,29 @@ func (r *Router) Hear(frame []byte) error {
 // before bytes of another stream come.
 //
 // Errors: a [FrameFault] if bytes are no frame: the messages before them were taken, and from now on
-// the error is [ErrFailed]. [ErrNoMemory], after which the same bytes may be fed again. [ErrBusy] while
-// a [Router.ReadFrom] runs. [ErrClosed].
+// the error is [ErrFailed]. [ErrFull] if the router would tell more than [Router.Limit] allows, and
+// [ErrNoMemory]: after both the same bytes may be fed again. [ErrBusy] while a [Router.ReadFrom] runs.
+// [ErrClosed].
 func (r *Router) Feed(bytes []byte) error {
-	err := error(ErrClosed)
-	r.use(func(at *C.squall_router) {
-		if err = ErrBusy; !r.reading {
-			err = r.feed(bytes)
-		}
-	})
-	return err
+	return feed(r, bytes)
 }
-
-// feed feeds what is still to be fed, and then the bytes. The router is locked and open.
-func (r *Router) feed(bytes []byte) error {
-	for _, next := range [][]byte{r.unfed, bytes} {
-		at, size := bytesOf(next)
-		if err := r.check(C.squall_router_feed(r.at, at, size)); err != nil {
-			return err
-		}
-		r.unfed = nil
-	}
-	return nil
-}
-
-// readSize is how many bytes ReadFrom asks for at once.
-const readSize = 64 << 10
 
 // ReadFrom feeds the router the bytes of a reader, as [Router.Feed] does, until the reader is at its end.
 // It returns how many bytes it has read. Other calls than Feed and ReadFrom may be made meanwhile.
 // A frame that the reader's end cuts waits for its other bytes, which the next Feed or ReadFrom brings.
 //
-// Errors: those of the reader, unless it is io.EOF; those of Feed. After [ErrNoMemory] the bytes that
-// were read are kept: call ReadFrom again to go on. To stop it, close the reader: after
-// [Router.Close] it returns once the reader has answered.
+// Errors: those of the reader, unless it is io.EOF; those of Feed. After [ErrFull] and [ErrNoMemory] the
+// bytes that were read are kept: call ReadFrom again to go on, after ErrFull once the limit is higher. To
+// stop it, close the reader: after [Router.Close] it returns once the reader has answered.
 func (r *Router) ReadFrom(from io.Reader) (int64, error) {
-	if err := r.beginReading(); err != nil {
-		return 0, err
-	}
-	defer r.use(func(*C.squall_router) { r.reading = false })
-	var sum int64
-	buffer := make([]byte, readSize)
-	for {
-		n, readErr := from.Read(buffer)
-		sum += int64(n)
-		if err := r.feedRead(buffer[:n]); err != nil {
-			return sum, err
-		}
-		if readErr == io.EOF {
-			return sum, nil
-		}
-		if readErr != nil {
-			return sum, readErr
-		}
-	}
+	return readFrom(r, from)
 }
 
-// beginReading takes the stream for a ReadFrom, if bytes can be fed at all.
-func (r *Router) beginReading() error {
-	err := error(ErrClosed)
-	r.use(func(*C.squall_router) {
-		if err = ErrBusy; !r.reading {
-			err = r.feed(nil)
-			r.reading = err == nil
-		}
-	})
-	return err
+func (r *Router) useStream(calls func(s *stream)) bool {
+	return r.use(func(*C.squall_router) { calls(&r.stream) })
 }
 
-// feedRead feeds bytes that were read, and keeps them if there is no memory for them.
-func (r *Router) feedRead(bytes []byte) error {
-	err := error(ErrClosed)
-	r.use(func(*C.squall_router) {
-		if err = r.feed(bytes); err == ErrNoMemory {
-			r.unfed = append(r.unfed, bytes...)
-		}
-	})
-	return err
+func (r *Router) feedNext(bytes []byte) error {
+	at, size := bytesOf(bytes)
+	return r.check(C.squall_router_feed(r.at, at, size))
 }

@@ -5,7 +5,6 @@ import (
 	"errors"
 	"io"
 	"testing"
-	"testing/iotest"
 
 	"squall"
 )
@@ -217,75 +216,6 @@ func TestRoutersThatRepair(t *testing.T) {
 	repair, err = b.Repair()
 	succeeds(t, err)
 	equals(t, len(repair), 0)
-}
-
-func TestReadersThatCutAnywhere(t *testing.T) {
-	stream := unhex(loadFrame + emptyDigest + openingFrame)
-	for name, cut := range map[string]func(io.Reader) io.Reader{
-		"whole": func(r io.Reader) io.Reader { return r }, "byte": iotest.OneByteReader,
-		"half": iotest.HalfReader, "end with bytes": iotest.DataErrReader,
-	} {
-		router := fresh(t)
-		n, err := router.ReadFrom(cut(bytes.NewReader(stream)))
-		if n != int64(len(stream)) || err != nil {
-			t.Errorf("%s: %d bytes, %v", name, n, err)
-		}
-		equals(t, len(boardOf(t, router)[0]), len(unhex(loadFrame))+8)
-		repair, err := router.Repair()
-		succeeds(t, err)
-		equals(t, repair, boardOf(t, router))
-	}
-}
-
-// What a reader's end cuts waits for the next reader.
-func TestAStreamOfSeveralReaders(t *testing.T) {
-	frame := unhex(loadFrame)
-	for cut := range frame {
-		router := fresh(t)
-		lost := errors.New("lost")
-		n, err := router.ReadFrom(io.MultiReader(bytes.NewReader(frame[:cut]), iotest.ErrReader(lost)))
-		equals(t, n, int64(cut))
-		equals(t, err, lost)
-		routes(t, router, squall.Key(2, 0), 1)
-		n, err = router.ReadFrom(bytes.NewReader(frame[cut:]))
-		equals(t, n, int64(len(frame)-cut))
-		succeeds(t, err)
-		routes(t, router, squall.Key(2, 0), 3)
-	}
-}
-
-func TestAFaultInAReader(t *testing.T) {
-	router := fresh(t)
-	n, err := router.ReadFrom(iotest.OneByteReader(bytes.NewReader(unhex(loadFrame + "545454"))))
-	equals(t, n, int64(len(unhex(loadFrame))+1))
-	equals(t, err, squall.FrameMagic)
-	routes(t, router, squall.Key(2, 0), 3)
-}
-
-// While a reader's frames come, no other bytes are taken into the stream, and all else goes on.
-func TestOneReaderAtATime(t *testing.T) {
-	router := fresh(t)
-	from, to := io.Pipe()
-	ended := make(chan error)
-	go func() {
-		_, err := router.ReadFrom(from)
-		ended <- err
-	}()
-	frame := unhex(loadFrame)
-	_, err := to.Write(frame[:20])
-	succeeds(t, err)
-	equals(t, router.Feed(frame), squall.ErrBusy)
-	n, err := router.ReadFrom(bytes.NewReader(frame))
-	equals(t, n, int64(0))
-	equals(t, err, squall.ErrBusy)
-	succeeds(t, router.Hear(unhex(openingFrame)))
-	routes(t, router, squall.Key(2, 0), 1)
-	_, err = to.Write(frame[20:])
-	succeeds(t, err)
-	to.Close()
-	succeeds(t, <-ended)
-	routes(t, router, squall.Key(2, 0), 3)
-	succeeds(t, router.Feed(frame))
 }
 
 // limited takes as many bytes as it has room for. Then it fails, or takes too few and says nothing.

@@ -7,7 +7,7 @@ import (
 	"testing"
 )
 
-// closer is a partition or a leader.
+// closer is a router, a partition or a leader.
 type closer interface {
 	Close() error
 	Hear(frame []byte) error

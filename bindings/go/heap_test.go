@@ -102,10 +102,13 @@ func TestCallsWithoutMemory(t *testing.T) {
 		"Issued": func(r *Router) error { return r.Issued(2, plan) },
 		"Feed":   func(r *Router) error { return r.Feed(frame) },
 		"Hear":   func(r *Router) error { return r.Hear(frame) },
-		"Board":  func(r *Router) error { _, err := r.Board(); return err },
-		"Digest": func(r *Router) error { _, err := r.Digest(); return err },
-		"Repair": func(r *Router) error { _, err := r.Repair(); return err },
-		"View":   func(r *Router) error { view, err := r.View(); view.Close(); return err },
+		// With so low a limit that the frame is joined to a copy of the router's board.
+		"Feed, limited": func(r *Router) error { return firstOf(r.Limit(Counts{Cells: 1, Spans: 2}), r.Feed(frame)) },
+		"Hear, limited": func(r *Router) error { return firstOf(r.Limit(Counts{Cells: 1, Spans: 2}), r.Hear(frame)) },
+		"Board":         func(r *Router) error { _, err := r.Board(); return err },
+		"Digest":        func(r *Router) error { _, err := r.Digest(); return err },
+		"Repair":        func(r *Router) error { _, err := r.Repair(); return err },
+		"View":          func(r *Router) error { view, err := r.View(); view.Close(); return err },
 	} {
 		t.Run(name, func(t *testing.T) { refuseEach(t, call) })
 	}
@@ -127,42 +130,81 @@ func TestOpeningsWithoutMemory(t *testing.T) {
 
 // What a reader gave is not lost if there was no memory for it: the next call feeds it.
 func TestReadersWithoutMemory(t *testing.T) {
-	frame := bytesOfHex(t, frameOfALoad)
-	answered := 0
-	for number, more := 1, true; more; number++ {
-		router := busy(t)
-		from := iotest.HalfReader(bytes.NewReader(frame))
-		refuse(number)
-		n, err := router.ReadFrom(io.LimitReader(from, 20))
-		if err == nil {
-			var rest int64
-			rest, err = router.ReadFrom(from)
-			n += rest
+	for name, open := range map[string]func(*testing.T) streamed{
+		"router":    func(t *testing.T) streamed { return busy(t) },
+		"partition": func(t *testing.T) streamed { return busyPartition(t) },
+		"leader":    func(t *testing.T) streamed { return busyLeader(t) },
+	} {
+		t.Run(name, func(t *testing.T) {
+			answered := 0
+			for number, more := 1, true; more; number++ {
+				var failed bool
+				more, failed = readWithout(t, number, open(t))
+				if failed {
+					answered++
+				}
+			}
+			if answered == 0 {
+				t.Error("no allocation was refused")
+			}
+		})
+	}
+}
+
+// streamed is a router, a partition or a leader.
+type streamed interface {
+	closer
+	io.ReaderFrom
+	Feed(bytes []byte) error
+}
+
+// readWithout has it read a frame in two calls, with the allocation of that number refused. It says whether so
+// many were made, and whether a call failed.
+func readWithout(t *testing.T, number int, it streamed) (more, failed bool) {
+	t.Helper()
+	defer it.Close()
+	frame, err := FrameDone(5, 0, 7)
+	succeed(t, err)
+	from := iotest.HalfReader(bytes.NewReader(frame))
+	refuse(number)
+	n, err := it.ReadFrom(io.LimitReader(from, 20))
+	if err == nil {
+		n, err = readOn(it, from, n)
+	}
+	more = asked() >= number
+	refuse(0)
+	if failed = err != nil; failed {
+		if err != ErrNoMemory {
+			t.Fatal(err)
 		}
-		more = asked() >= number
-		refuse(0)
+		if number%2 == 0 {
+			succeed(t, it.Feed(nil))
+		}
+		n, err = readOn(it, from, n)
+	}
+	succeed(t, err)
+	heard := boardOf(t, it)
+	succeed(t, it.Hear(frame))
+	if again := boardOf(t, it); n != int64(len(frame)) || !reflect.DeepEqual(heard, again) {
+		t.Errorf("allocation %d: %d bytes, and %v is known of %v", number, n, heard, again)
+	}
+	return more, failed
+}
+
+// readOn reads the rest, and says how many bytes that are after those of before.
+func readOn(it streamed, from io.Reader, before int64) (int64, error) {
+	n, err := it.ReadFrom(from)
+	return before + n, err
+}
+
+// firstOf is the first of the errors that is one.
+func firstOf(errs ...error) error {
+	for _, err := range errs {
 		if err != nil {
-			answered++
-			if err != ErrNoMemory {
-				t.Fatal(err)
-			}
-			var rest int64
-			if number%2 == 0 {
-				succeed(t, router.Feed(nil))
-			}
-			rest, err = router.ReadFrom(from)
-			n += rest
+			return err
 		}
-		succeed(t, err)
-		part, _ := router.Route(Key(2, 0))
-		if n != int64(len(frame)) || part != 3 {
-			t.Errorf("allocation %d: %d bytes, routed to %d", number, n, part)
-		}
-		router.Close()
 	}
-	if answered == 0 {
-		t.Error("no allocation was refused")
-	}
+	return nil
 }
 
 // What the documentation says of routes, and each block is freed by Close.

@@ -4,6 +4,7 @@ package squall
 import "C"
 
 import (
+	"io"
 	"runtime"
 	"sync"
 	"unsafe"
@@ -15,8 +16,9 @@ import (
 // A program keeps a log of the calls that returned no error, each before its frames are sent. The same calls,
 // made of a new leader of the same plan and number, lead to the same leader.
 type Leader struct {
-	mu sync.Mutex
-	at *C.squall_leader // nil once it is closed
+	mu     sync.Mutex
+	at     *C.squall_leader // nil once it is closed
+	stream stream
 }
 
 // OpenLeader opens a leader: the keys lie as the plan says, and no course is begun. Its first course has the
@@ -68,7 +70,7 @@ func (l *Leader) Close() error {
 	if l.at != nil {
 		C.squall_leader_close(l.at)
 		C.free(unsafe.Pointer(l.at))
-		l.at = nil
+		l.at, l.stream.unfed = nil, nil
 		runtime.SetFinalizer(l, nil)
 	}
 	return nil
@@ -109,12 +111,29 @@ func (l *Leader) check(status C.uint32_t) error {
 //
 // Errors: a [FrameFault] if bytes are no frame: the messages before them were taken, and from now on
 // the error is [ErrFailed]. Such a call belongs into a log too. [ErrNoMemory], after which the same bytes
-// may be fed again. [ErrClosed].
+// may be fed again. [ErrBusy] while a [Leader.ReadFrom] runs. [ErrClosed].
 func (l *Leader) Feed(bytes []byte) error {
-	return l.take(func(at *C.squall_leader) C.uint32_t {
-		next, size := bytesOf(bytes)
-		return C.squall_leader_feed(at, next, size)
-	})
+	return feed(l, bytes)
+}
+
+// ReadFrom feeds the leader the bytes of a reader, as [Leader.Feed] does, until the reader is at its end.
+// It returns how many bytes it has read. Other calls than Feed and ReadFrom may be made meanwhile. A program
+// that keeps a log of its calls feeds the bytes itself, since it has to know in which order they come.
+//
+// Errors: those of the reader, unless it is io.EOF; those of Feed. After [ErrNoMemory] the bytes that were read
+// are kept: call ReadFrom again to go on. To stop it, close the reader: after [Leader.Close] it returns once
+// the reader has answered.
+func (l *Leader) ReadFrom(from io.Reader) (int64, error) {
+	return readFrom(l, from)
+}
+
+func (l *Leader) useStream(calls func(s *stream)) bool {
+	return l.use(func(*C.squall_leader) { calls(&l.stream) })
+}
+
+func (l *Leader) feedNext(bytes []byte) error {
+	at, size := bytesOf(bytes)
+	return l.check(C.squall_leader_feed(l.at, at, size))
 }
 
 // Hear takes one whole frame, as [Router.Hear] does. A delta is taken as reports. A digest is kept for
@@ -185,7 +204,7 @@ func (l *Leader) Finished() bool {
 //
 // Errors: [ErrNoMemory]; [ErrClosed].
 func (l *Leader) Board() (Frames, error) {
-	return l.BoardWithin(noLimit)
+	return l.BoardWithin(anySize)
 }
 
 // BoardWithin does the same in frames of at most `limit` bytes each, for a transport that limits its messages.
@@ -201,7 +220,7 @@ func (l *Leader) BoardWithin(limit int) (Frames, error) {
 //
 // Errors: [ErrTooLong] if the digest has more rows than a frame holds; [ErrNoMemory]; [ErrClosed].
 func (l *Leader) Digest() ([]byte, error) {
-	return l.DigestWithin(noLimit)
+	return l.DigestWithin(anySize)
 }
 
 // DigestWithin does the same in a frame of at most `limit` bytes. A negative limit is none.
@@ -222,7 +241,7 @@ func (l *Leader) DigestWithin(limit int) ([]byte, error) {
 //
 // Errors: [ErrNoDigest] if no digest was heard; [ErrNoMemory]; [ErrClosed].
 func (l *Leader) Repair() (Frames, error) {
-	return l.RepairWithin(noLimit)
+	return l.RepairWithin(anySize)
 }
 
 // RepairWithin does the same in frames of at most `limit` bytes each. A negative limit is none.

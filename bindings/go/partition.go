@@ -4,6 +4,7 @@ package squall
 import "C"
 
 import (
+	"io"
 	"runtime"
 	"sync"
 	"unsafe"
@@ -16,8 +17,9 @@ import (
 // Or else it keeps a log of the calls that returned no error. The same calls, made of a new partition of the
 // same course, lead to the same partition.
 type Partition struct {
-	mu sync.Mutex
-	at *C.squall_part // nil once it is closed
+	mu     sync.Mutex
+	at     *C.squall_part // nil once it is closed
+	stream stream
 }
 
 // Chunk says that the keys from Lo on, below Hi, are on their way from the partition Source to Dest. They move
@@ -82,7 +84,7 @@ func (p *Partition) Close() error {
 	if p.at != nil {
 		C.squall_part_close(p.at)
 		C.free(unsafe.Pointer(p.at))
-		p.at = nil
+		p.at, p.stream.unfed = nil, nil
 		runtime.SetFinalizer(p, nil)
 	}
 	return nil
@@ -115,12 +117,29 @@ func (p *Partition) take(call func(at *C.squall_part) C.uint32_t) error {
 //
 // Errors: a [FrameFault] if bytes are no frame: the messages before them were taken, and from now on
 // the error is [ErrFailed]. Such a call belongs into a log too. [ErrNoMemory], after which the same bytes
-// may be fed again. [ErrClosed].
+// may be fed again. [ErrBusy] while a [Partition.ReadFrom] runs. [ErrClosed].
 func (p *Partition) Feed(bytes []byte) error {
-	return p.take(func(at *C.squall_part) C.uint32_t {
-		next, size := bytesOf(bytes)
-		return C.squall_part_feed(at, next, size)
-	})
+	return feed(p, bytes)
+}
+
+// ReadFrom feeds the partition the bytes of a reader, as [Partition.Feed] does, until the reader is at its end.
+// It returns how many bytes it has read. Other calls than Feed and ReadFrom may be made meanwhile. A program
+// that keeps a log of its calls feeds the bytes itself, since it has to know in which order they come.
+//
+// Errors: those of the reader, unless it is io.EOF; those of Feed. After [ErrNoMemory] the bytes that were read
+// are kept: call ReadFrom again to go on. To stop it, close the reader: after [Partition.Close] it returns once
+// the reader has answered.
+func (p *Partition) ReadFrom(from io.Reader) (int64, error) {
+	return readFrom(p, from)
+}
+
+func (p *Partition) useStream(calls func(s *stream)) bool {
+	return p.use(func(*C.squall_part) { calls(&p.stream) })
+}
+
+func (p *Partition) feedNext(bytes []byte) error {
+	at, size := bytesOf(bytes)
+	return errorOf(uint32(C.squall_part_feed(p.at, at, size)), C.SQUALL_NO_PLACE)
 }
 
 // Hear takes one whole frame, as [Router.Hear] does. A delta is taken as reports. A digest is kept for
@@ -246,7 +265,7 @@ func (p *Partition) spans(fill func(at *C.squall_part, from C.size_t, out *C.squ
 //
 // Errors: [ErrNoMemory]; [ErrClosed].
 func (p *Partition) Board() (Frames, error) {
-	return p.BoardWithin(noLimit)
+	return p.BoardWithin(anySize)
 }
 
 // BoardWithin does the same in frames of at most `limit` bytes each, for a transport that limits its messages.
@@ -262,7 +281,7 @@ func (p *Partition) BoardWithin(limit int) (Frames, error) {
 //
 // Errors: [ErrTooLong] if the digest has more rows than a frame holds; [ErrNoMemory]; [ErrClosed].
 func (p *Partition) Digest() ([]byte, error) {
-	return p.DigestWithin(noLimit)
+	return p.DigestWithin(anySize)
 }
 
 // DigestWithin does the same in a frame of at most `limit` bytes. A negative limit is none.
@@ -283,7 +302,7 @@ func (p *Partition) DigestWithin(limit int) ([]byte, error) {
 //
 // Errors: [ErrNoDigest] if no digest was heard; [ErrNoMemory]; [ErrClosed].
 func (p *Partition) Repair() (Frames, error) {
-	return p.RepairWithin(noLimit)
+	return p.RepairWithin(anySize)
 }
 
 // RepairWithin does the same in frames of at most `limit` bytes each. A negative limit is none.

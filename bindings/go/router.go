@@ -13,10 +13,9 @@ import (
 // took. Reports may come in any order and more than once: routers that took the same reports say the
 // same.
 type Router struct {
-	mu      sync.Mutex
-	at      *C.squall_router // nil once it is closed
-	reading bool             // whether a ReadFrom reads the stream
-	unfed   []byte           // bytes that a ReadFrom has read, for which there was no memory
+	mu     sync.Mutex
+	at     *C.squall_router // nil once it is closed
+	stream stream
 }
 
 // OpenRouter opens a router of the course `number`, from 1 on, which leads from the old plan to the new
@@ -51,7 +50,7 @@ func (r *Router) Close() error {
 	if r.at != nil {
 		C.squall_router_close(r.at)
 		C.free(unsafe.Pointer(r.at))
-		r.at, r.unfed = nil, nil
+		r.at, r.stream.unfed = nil, nil
 		runtime.SetFinalizer(r, nil)
 	}
 	return nil

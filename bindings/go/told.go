@@ -5,7 +5,8 @@ import "C"
 
 import "sync"
 
-// Counts says how much a router heard. A number that does not fit is the greatest one that does.
+// Counts says how much a router heard, or by [Router.Limit] may hear. A number that does not fit is the greatest
+// one that does.
 type Counts struct {
 	// Cells is of how many partitions in a sub-plan of a course something was reported.
 	Cells uint64
@@ -79,34 +80,40 @@ func (r *Router) text(write func(at *C.squall_router, out *C.uint8_t, room C.siz
 	return string(bytes), err
 }
 
-// pairing is held while a call locks two views, so that no two calls wait for a view of each other.
+// pairing is held while a call locks two views, so that no two calls wait for a view of each other: a close
+// that waits keeps others from its view.
 var pairing sync.Mutex
 
 // Changes are the spans of the keys from lo on, below hi, that this view and a later one route differently,
-// by rising key. Each span is as long as can be. There are none if there are no keys. Calls that read the
-// views do not wait for this one.
+// by rising key. Each span is as long as can be. There are none if there are no keys.
 //
 // Errors: [ErrClosed] if one of the views was closed, or is nil.
 func (v *View) Changes(after *View, lo, hi Rank) ([]Span, error) {
-	if v == nil || after == nil {
-		return nil, ErrClosed
+	if v == after {
+		return v.changesOfNone()
 	}
-	// The call needs both views alone, and two handles. So it takes those from which others are opened.
 	pairing.Lock()
-	v.cloning.Lock()
-	defer v.cloning.Unlock()
-	if after != v {
-		after.cloning.Lock()
-		defer after.cloning.Unlock()
-	}
+	from, to := v.read(), after.read()
 	pairing.Unlock()
-	switch {
-	case v.spare == nil || after.spare == nil:
-		return nil, ErrClosed
-	case after == v:
-		return nil, nil
+	if from != nil {
+		defer v.done()
 	}
-	return allChanges(v.spare, after.spare, lo, hi), nil
+	if to != nil {
+		defer after.done()
+	}
+	if from == nil || to == nil {
+		return nil, ErrClosed
+	}
+	return allChanges(from, to, lo, hi), nil
+}
+
+// changesOfNone are the changes between a view and itself, for which the library would need two handles.
+func (v *View) changesOfNone() ([]Span, error) {
+	if v.read() == nil {
+		return nil, ErrClosed
+	}
+	v.done()
+	return nil, nil
 }
 
 // allChanges asks for the spans from lo on, then for those from the end of the last one on.

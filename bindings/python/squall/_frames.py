@@ -21,6 +21,11 @@ _SMALL = 4096
 _NO_LIMIT = 0xFFFFFFFFFFFFFFFF
 
 
+def limit_of(limit: Optional[int]) -> int:
+    """The limit as the library takes it. Raises `NumberError` if it has no 64 bits."""
+    return _NO_LIMIT if limit is None else wide(limit)
+
+
 class Hears(Handle):
     """Takes frames of others, and makes frames of what it knows."""
 
@@ -47,8 +52,9 @@ class Hears(Handle):
 
         >>> router.hear(frame.opened(1, 0))
 
-        Raises `FrameError` if the bytes are no frame, or more than one. The next frame may come
-        then. Raises `NoMemory` and `ClosedError`.
+        Raises `FrameError` if the bytes are no frame, or more than one, and of a router `FullError`
+        if it would tell more than `Router.limit` allows. The next frame may come then. Raises
+        `NoMemory` and `ClosedError`.
         """
         self._take(frame, self._call_hear, self._call_hear_kept)
 
@@ -61,7 +67,8 @@ class Hears(Handle):
 
         Raises `FrameError` if bytes are no frame. The messages before them were taken, and each
         later call raises `StreamError`. A log of calls of a partition or a leader needs such a call
-        too. Raises `NoMemory`, after which the same bytes may be fed again, and `ClosedError`.
+        too. Raises `NoMemory`, and of a router `FullError` if it would tell more than
+        `Router.limit` allows: after both the same bytes may be fed again. Raises `ClosedError`.
         """
         self._take(data, self._call_feed, self._call_feed_kept)
 
@@ -85,8 +92,8 @@ class Hears(Handle):
         They have at most 1,048,584 bytes each, and at most `limit`, for a transport that limits its
         messages. A limit of 98,337 is enough for any report, and one of 49 for all but courses.
 
-        Raises `TooLongError` if a single report needs a longer frame, `NumberError` if the limit has
-        no 64 bits, `NoMemory` and `ClosedError`.
+        Raises `TooLongError` if a single report needs a longer frame, `NumberError` if the limit
+        has no 64 bits, `NoMemory` and `ClosedError`.
         """
         return self._frames(self._call_board, limit)
 
@@ -108,7 +115,7 @@ class Hears(Handle):
         return self._frames(self._call_repair, limit)
 
     def _frames(self, gather: Callable[[Any, int], int], limit: Optional[int]) -> List[bytes]:
-        most = _NO_LIMIT if limit is None else wide(limit)
+        most = limit_of(limit)
 
         def steps(room: Room) -> Tuple[int, List[bytes]]:
             status = gather(room, most)

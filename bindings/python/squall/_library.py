@@ -128,6 +128,10 @@ router_hear = _slow("router_hear", _U32, _ROUTER, _ADDRESS, _SIZE)
 router_hear_kept: Callable[[RouterRoom, Bytes, int], int]
 router_hear_kept = _quick("router_hear", _U32, _ROUTER, _ADDRESS, _SIZE)
 
+router_limit: Callable[[RouterRoom, int, int, int, int], int]
+router_limit = _quick("router_limit", _U32, _ROUTER, _U64, _U64, _U64, _U64)
+router_taken: Callable[[RouterRoom], int] = _quick("router_taken", _U64, _ROUTER)
+
 router_route: Callable[[RouterRoom, int], int] = _quick("router_route", _U32, _ROUTER, _U64)
 router_legs: Callable[[RouterRoom, int, int, Out, int], int]
 router_legs = _slow("router_legs", _SIZE, _ROUTER, _U64, _U64, _LEGS, _SIZE)

@@ -78,6 +78,12 @@ class NoDigestError(SquallError):
     status = 6
 
 
+class FullError(SquallError):
+    """A router would hear of more than the limit that `Router.limit` has set."""
+
+    status = 7
+
+
 class PartError(SquallError):
     """A partition does not give, load or finish. Each reason is a class of its own below this."""
 

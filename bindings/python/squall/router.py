@@ -2,11 +2,11 @@
 
 from __future__ import annotations
 
-from typing import Callable, NamedTuple, Tuple
+from typing import Callable, NamedTuple, Optional, Tuple
 
 from . import _library as lib
 from ._fork import REFUSED, refuse
-from ._frames import Hears
+from ._frames import Hears, limit_of
 from ._room import CountsRecord, RouterRoom
 from ._routes import Routes
 from ._status import check
@@ -128,6 +128,40 @@ class Router(Routes, Hears):
             return status, lib.router_fault_at(room)
 
         check(*self._undisturbed(steps))
+
+    def limit(
+        self,
+        *,
+        cells: Optional[int] = None,
+        spans: Optional[int] = None,
+        opened: Optional[int] = None,
+        issues: Optional[int] = None,
+    ) -> None:
+        """Sets the most that the router may tell after a frame, as `counts` counts it.
+
+        From then on `hear` and `feed` raise `FullError`, and nothing changes, if the router would
+        tell more with the deltas that the bytes bring. That is so too if it tells more already, and
+        they bring nothing new. Digests are never refused, and `loaded`, `done`, `opened` and
+        `issued` are not limited.
+
+        A number that is None has no limit. Each call takes the place of the one before it, and so
+        `limit()` takes the limit away. At first there is none.
+
+        >>> peer = Router(1, old, new)
+        >>> peer.limit(cells=1000, spans=100_000, opened=1000, issues=100)
+
+        Raises `NumberError` if a number has no 64 bits, and `ClosedError`.
+        """
+        most = [limit_of(it) for it in (cells, spans, opened, issues)]
+        check(self._ask(lib.router_limit, *most))
+
+    @property
+    def taken(self) -> int:
+        """How many frames it has taken by `hear` and `feed`, boards and digests.
+
+        It stops at the greatest number of 64 bits. Raises `ClosedError`.
+        """
+        return self._ask(lib.router_taken)
 
     def clashed(self) -> bool:
         """Whether it heard of different pairs of plans under a number above that of its course.

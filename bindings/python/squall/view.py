@@ -94,13 +94,14 @@ class View(Routes):
         >>> for span in before.changes(Router(1, new, new).view()): print(span)
         [0:0,5:0)
 
-        Other threads run meanwhile. Raises `NumberError` if a rank has no 64 bits, `NoMemory` if a
-        table has more views than can be counted, and `ClosedError`.
+        Other threads run meanwhile. Raises `NumberError` if a rank has no 64 bits, and
+        `ClosedError`.
         """
         bounds = rank(lo), rank(hi)
-        # The library takes two views that no other call has meanwhile: clones, which copy nothing.
-        with self.clone() as one, after.clone() as other:
-            records = one._ask(lambda room: other._ask(partial(_changes, room), *bounds))
+        if after is self:
+            # The library takes two handles, and a view does not differ from itself.
+            return self._ask(lambda _room: [])
+        records = self._ask(lambda room: after._ask(partial(_changes, room), *bounds))
         new = int.__new__
         return [Span(new(Rank, it.lo), new(Rank, it.hi)) for it in records]
 

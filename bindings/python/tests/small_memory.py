@@ -68,9 +68,17 @@ def busy() -> Router:
     return router
 
 
+def near() -> Router:
+    """The same with so low a limit that a frame of its cell is joined to a copy of its board."""
+    router = busy()
+    router.limit(cells=1)
+    return router
+
+
 def seen(router: Router) -> List[object]:
     """What a caller can see of a router."""
-    return [router.board(), router.repair(), router.legs(0, 2**63), router.number]
+    says = [router.legs(0, 2**63), router.number, router.taken]
+    return [router.board(), router.repair(), says]
 
 
 def busy_part() -> Part:
@@ -202,6 +210,7 @@ class SmallMemory(unittest.TestCase):
     def test_a_call_that_fails_changes_nothing(self) -> None:
         groups: List[Any] = [
             (CALLS, busy, seen),
+            (CALLS, near, seen),
             (PART_CALLS, busy_part, seen_of_part),
             ([lambda it: it.finish(0)], full_part, seen_of_part),
             (LEADER_CALLS, busy_leader, seen_of_leader),

@@ -14,6 +14,7 @@ SIMPLE = {
     4: (squall.StreamError, ValueError),
     5: (squall.TooLongError, SquallError),
     6: (squall.NoDigestError, SquallError),
+    7: (squall.FullError, SquallError),
     71: (squall.NotOpenError, squall.PartError),
     72: (squall.NothingLeftError, squall.PartError),
     73: (squall.ZeroMaxError, ValueError),
@@ -74,7 +75,7 @@ class Statuses(unittest.TestCase):
         self.assertEqual(str(error_of(54, NO_PLACE)), "no frame: TooLong")
 
     def test_a_status_that_is_not_known(self) -> None:
-        for status in [7, 19, 39, 60, 70, 90, 96, 255]:
+        for status in [8, 19, 39, 60, 70, 90, 96, 255]:
             error = error_of(status, NO_PLACE)
             self.assertIs(type(error), SquallError)
             self.assertEqual(error.status, status)

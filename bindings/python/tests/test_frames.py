@@ -285,7 +285,7 @@ class Boards(unittest.TestCase):
         self.assertEqual(len(router.board()), 1)
 
     def test_frames_within_a_limit(self) -> None:
-        # A cell with two spans has 65 bytes, one with one span has 49, and a digest of one row has 56.
+        # A cell with two spans has 65 bytes, one with one span has 49. A digest of one row has 56.
         router = fresh()
         for root in [2, 4, 6]:
             router.loaded(1, 0, 3, key(root), key(root + 1))

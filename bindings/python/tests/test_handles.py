@@ -31,6 +31,8 @@ ROUTER_CALLS: Dict[str, Callable[[Router], object]] = {
     "route": lambda it: it.route(0),
     "legs": lambda it: it.legs(0, 7),
     "number": lambda it: it.number,
+    "limit": lambda it: it.limit(),
+    "taken": lambda it: it.taken,
     "board": lambda it: it.board(),
     "digest": lambda it: it.digest(),
     "repair": lambda it: it.repair(),

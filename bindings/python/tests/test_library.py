@@ -102,7 +102,7 @@ class Functions(unittest.TestCase):
     @unittest.skipUnless(HEADER.is_file(), "squall.h is not here")
     def test_each_function_of_the_header_is_called_by_its_types(self) -> None:
         wanted = declared()
-        self.assertEqual(len(wanted), 96)
+        self.assertEqual(len(wanted), 98)
         bound: Dict[str, int] = dict.fromkeys(wanted, 0)
         for function in vars(lib).values():
             name = getattr(function, "__name__", "")
@@ -160,6 +160,7 @@ class Functions(unittest.TestCase):
         found.update(NOWHERE=squall.NOWHERE, TOP=squall.END, FRAME_BYTES=squall.FRAME_BYTES)
         found.update(NO_PLACE=_status.NO_PLACE, ALIGN=_room.ALIGN, BAD_REPLY=255)
         found.update(OK=0, NO_MEMORY=1, LIMIT=2, CLOSED=3, FAILED=4, TOO_LONG=5, NO_DIGEST=6)
+        found.update(FULL=squall.FullError.status)
         reasons = squall.PartError.__subclasses__() + squall.LeaderError.__subclasses__()
         for reason in reasons:
             words = re.findall("[A-Z][a-z]+", reason.__name__.replace("Error", ""))

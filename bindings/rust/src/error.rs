@@ -21,6 +21,8 @@ pub enum Error {
     TooLong,
     /// No digest was fed that could be answered.
     NoDigest,
+    /// A router would hear of more than the limit of [`Router::limit`](crate::Router::limit).
+    Full,
     /// The text of the old plan is no plan, or the one with which a leader was to be opened.
     OldPlan(PlanFault),
     /// The text of the new plan is no plan.
@@ -138,6 +140,7 @@ impl Error {
             4 => Error::Failed,
             5 => Error::TooLong,
             6 => Error::NoDigest,
+            7 => Error::Full,
             11..=18 => Error::OldPlan(PlanFault::of(status, at)),
             31..=38 => Error::NewPlan(PlanFault::of(status - NEW, at)),
             51 => Error::Frame(FrameFault::Magic),
@@ -191,6 +194,7 @@ impl fmt::Display for Error {
             Error::Failed => f.write_str("the stream ended with a fault before"),
             Error::TooLong => f.write_str("a frame would be too long"),
             Error::NoDigest => f.write_str("no digest was heard"),
+            Error::Full => f.write_str("the router would hear of more than its limit"),
             Error::OldPlan(fault) => write!(f, "the old text is no plan: {fault}"),
             Error::NewPlan(fault) => write!(f, "the new text is no plan: {fault}"),
             Error::Frame(fault) => write!(f, "no frame: {fault}"),
@@ -255,12 +259,14 @@ impl fmt::Display for LeaderFault {
 
 impl error::Error for Error {}
 
-/// An error of the kind `OutOfMemory` for [`Error::NoMemory`], `Other` for what a partition or a leader
-/// refuses, and else `InvalidData`, as bytes and texts from elsewhere are its cause.
+/// An error of the kind `OutOfMemory` for [`Error::NoMemory`], `QuotaExceeded` for [`Error::Full`], `Other`
+/// for what a partition or a leader refuses, and else `InvalidData`, as bytes and texts from elsewhere are
+/// its cause.
 impl From<Error> for io::Error {
     fn from(error: Error) -> io::Error {
         let kind = match error {
             Error::NoMemory => io::ErrorKind::OutOfMemory,
+            Error::Full => io::ErrorKind::QuotaExceeded,
             Error::Part(_) | Error::Leader(_) => io::ErrorKind::Other,
             _ => io::ErrorKind::InvalidData,
         };

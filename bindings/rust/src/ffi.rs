@@ -97,6 +97,14 @@ unsafe extern "C" {
     ) -> u32;
     pub(crate) fn squall_router_feed(router: *mut RawRouter, bytes: *const u8, len: usize) -> u32;
     pub(crate) fn squall_router_hear(router: *mut RawRouter, frame: *const u8, len: usize) -> u32;
+    pub(crate) fn squall_router_limit(
+        router: *mut RawRouter,
+        cells: u64,
+        spans: u64,
+        opened: u64,
+        issues: u64,
+    ) -> u32;
+    pub(crate) fn squall_router_taken(router: *const RawRouter) -> u64;
     pub(crate) fn squall_router_route(router: *const RawRouter, rank: u64) -> u32;
     pub(crate) fn squall_router_legs(
         router: *const RawRouter,

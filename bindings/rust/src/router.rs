@@ -7,6 +7,7 @@ use crate::ffi::{self, RawRouter};
 use crate::frames::{Frames, NO_LIMIT};
 use crate::key::{Leg, Rank, all_legs};
 use crate::room::Room;
+use crate::told::Counts;
 use crate::view::View;
 use std::ops::Range;
 
@@ -118,8 +119,8 @@ impl Router {
     /// # Errors
     ///
     /// [`Error::Frame`] where bytes are no frame: the messages before them were taken, and from now
-    /// on the answer is [`Error::Failed`]. [`Error::NoMemory`], after which the same bytes may be
-    /// fed again.
+    /// on the answer is [`Error::Failed`]. [`Error::Full`] if the router would tell more than
+    /// [`Router::limit`] allows, and [`Error::NoMemory`]: after both the same bytes may be fed again.
     pub fn feed(&mut self, bytes: &[u8]) -> Result<(), Error> {
         let router = self.room.get_mut();
         // SAFETY: the router was opened, and the slice is readable.
@@ -131,12 +132,55 @@ impl Router {
     ///
     /// # Errors
     ///
-    /// [`Error::Frame`] if the bytes are no frame; [`Error::NoMemory`]. Nothing has changed then, and
-    /// the next frame may come.
+    /// [`Error::Frame`] if the bytes are no frame; [`Error::Full`] if the router would tell more than
+    /// [`Router::limit`] allows; [`Error::NoMemory`]. Nothing has changed then, and the next frame may
+    /// come.
     pub fn hear(&mut self, frame: &[u8]) -> Result<(), Error> {
         let router = self.room.get_mut();
         // SAFETY: the router was opened, and the slice is readable.
         self.check(unsafe { ffi::squall_router_hear(router, frame.as_ptr(), frame.len()) })
+    }
+
+    /// Sets the most that the router may tell after a frame, as [`Router::counts`] counts it. From
+    /// then on [`Router::feed`] and [`Router::hear`] answer [`Error::Full`], and nothing changes, if
+    /// it would tell more with the deltas that the bytes bring. That is so too if it tells more
+    /// already, and they bring nothing new.
+    ///
+    /// Digests are never refused, and the reports of [`Router::loaded`] and its like are not limited.
+    /// [`Counts::NO_LIMIT`] takes the limit away. At first there is none.
+    ///
+    /// ```
+    /// use squall::{Counts, Error, Rank, Router, frame};
+    ///
+    /// let plan = br#"{"plan":[{"part":1,"from":[0,0],"to":"end"}]}"#;
+    /// let mut router = Router::open(1, plan, plan)?;
+    /// router.limit(Counts { spans: 1, ..Counts::NO_LIMIT });
+    /// router.hear(&frame::loaded(1, 0, 3, Rank(0)..Rank(5))?)?;
+    /// let more = frame::loaded(1, 0, 3, Rank(7)..Rank(9))?;
+    /// assert_eq!(router.hear(&more), Err(Error::Full));
+    /// router.limit(Counts::NO_LIMIT);
+    /// router.hear(&more)?;
+    /// # Ok::<(), Error>(())
+    /// ```
+    pub fn limit(&mut self, most: Counts) {
+        let Counts {
+            cells,
+            spans,
+            opened,
+            issues,
+        } = most;
+        let router = self.room.get_mut();
+        // SAFETY: the router was opened.
+        let status = unsafe { ffi::squall_router_limit(router, cells, spans, opened, issues) };
+        self.check(status)
+            .expect("a router that is open takes any limit");
+    }
+
+    /// How many frames it has taken by [`Router::feed`] and [`Router::hear`], boards and digests. It
+    /// stops at the greatest number.
+    pub fn taken(&self) -> u64 {
+        // SAFETY: the router was opened.
+        unsafe { ffi::squall_router_taken(self.room.get()) }
     }
 
     /// The partition to ask for the key of that rank; none where the rank is no key's.

@@ -7,8 +7,10 @@ use crate::key::{Rank, Span};
 use crate::router::Router;
 use crate::view::View;
 use std::ops::Range;
+use std::ptr;
 
-/// How much a router heard. A number that does not fit is the greatest one that does.
+/// How much a router heard, or by [`Router::limit`] may hear. A number that does not fit is the
+/// greatest one that does.
 #[repr(C)]
 #[derive(Clone, Copy, Debug, Default, PartialEq, Eq)]
 pub struct Counts {
@@ -20,6 +22,17 @@ pub struct Counts {
     pub opened: u64,
     /// The numbers under which plans were issued.
     pub issues: u64,
+}
+
+impl Counts {
+    /// No limit, for [`Router::limit`]. A limit on some of the numbers takes the others from here, as
+    /// `Counts { cells: 1000, ..Counts::NO_LIMIT }`.
+    pub const NO_LIMIT: Counts = Counts {
+        cells: u64::MAX,
+        spans: u64::MAX,
+        opened: u64::MAX,
+        issues: u64::MAX,
+    };
 }
 
 /// How many spans are asked for in one call.
@@ -115,17 +128,20 @@ impl View {
     /// # Ok::<(), squall::Error>(())
     /// ```
     pub fn changes(&self, after: &View, keys: Range<Rank>) -> Vec<Span> {
-        // Other threads may route by both views now, and this call needs two handles alone.
-        let (before, after) = (self.alone(), after.alone());
         let mut spans = Vec::new();
+        // The call needs two handles, and a view does not differ from itself.
+        if ptr::eq(self, after) {
+            return spans;
+        }
+        let (before, after) = (self.room.get(), after.room.get());
         let mut lo = keys.start;
         let mut block = [Span { lo, hi: lo }; AT_ONCE];
         loop {
             // SAFETY: both views were opened, their handles differ, and the places are writable.
             let count = unsafe {
                 ffi::squall_view_changes(
-                    before.get(),
-                    after.get(),
+                    before,
+                    after,
                     lo.0,
                     keys.end.0,
                     block.as_mut_ptr(),

@@ -58,8 +58,8 @@ impl View {
         Ok(room)
     }
 
-    /// One more view of the same, for calls that need a handle alone. No table is copied.
-    pub(crate) fn alone(&self) -> Room<RawView> {
+    /// One more view of the same, for a clone. No table is copied.
+    fn another(&self) -> Room<RawView> {
         // A call with the spare one does not panic, so a lock that is poisoned says nothing of it.
         let spare = self.spare.lock().unwrap_or_else(PoisonError::into_inner);
         // SAFETY: the view was opened, and the lock keeps other calls from it.
@@ -146,8 +146,8 @@ impl View {
 impl Clone for View {
     fn clone(&self) -> View {
         View {
-            room: self.alone(),
-            spare: Mutex::new(self.alone()),
+            room: self.another(),
+            spare: Mutex::new(self.another()),
         }
     }
 }

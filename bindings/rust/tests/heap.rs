@@ -3,7 +3,7 @@
 //!
 //! That takes the archive: a shared library has its own heap, and then nothing is refused.
 
-use squall::{Chunk, Course, Error, Leader, Loaded, Part, Rank, Router, Span, frame};
+use squall::{Chunk, Counts, Course, Error, Leader, Loaded, Part, Rank, Router, Span, frame};
 use std::cell::Cell;
 use std::fmt::Debug;
 use std::ptr::NonNull;
@@ -217,6 +217,27 @@ fn leaders() -> Result<(), Error> {
     refuse_each(leader, seen_of_leader, |it| it.board().map(drop))?;
     refuse_each(leader, seen_of_leader, |it| it.digest().map(drop))?;
     refuse_each(leader, seen_of_leader, |it| it.repair().map(drop))
+}
+
+/// Routers with a limit: far from it, and at it, so that what the frame joins is counted.
+#[test]
+fn routers_with_a_limit() -> Result<(), Error> {
+    let frame = frame::loaded(1, 0, 3, Rank(1)..Rank(4))?;
+    for most in [100, 1] {
+        let router = || {
+            let mut router = Router::open(1, OLD, NEW)?;
+            router.hear(&frame::loaded(1, 0, 3, Rank(0)..Rank(2))?)?;
+            router.limit(Counts {
+                spans: most,
+                ..Counts::NO_LIMIT
+            });
+            Ok(router)
+        };
+        let seen = |it: &mut Router| Ok((it.taken(), it.board()?.collect::<Vec<_>>()));
+        refuse_each(router, seen, |it| it.hear(&frame))?;
+        refuse_each(router, seen, |it| it.feed(&frame))?;
+    }
+    Ok(())
 }
 
 #[test]
