@@ -7,7 +7,7 @@ import random
 from dataclasses import dataclass, field
 
 from plain import PLACES, Course, Facts, Feed, bound, rank, runs, span
-from plain_json import text_of
+from plain_json import object_of
 
 TAIL = PLACES - 1
 
@@ -198,7 +198,7 @@ def in_a_form(draw, trial):
     if not draw.randrange(3):
         command, *words = trial.words
         trial.words = [command, "--json", *words]
-        trial.out, trial.lines = text_of(command, trial.out.decode().splitlines()).encode(), []
+        trial.out, trial.lines = f"{object_of(command, trial.out.decode().splitlines())}\n".encode(), []
     return trial
 
 

@@ -163,7 +163,7 @@ def watch(draw):
     words = drawn.plans()
     frames = [it for _ in range(draw.randrange(5)) for it in drawn.frames(drawn.board())]
     drawn.text = drawn.spoil(b"".join(frames))
-    return drawn.trial("watch", words)
+    return drawn.trial("watch", drawn.optional(words, *drawn.form()))
 
 
 def route(draw):

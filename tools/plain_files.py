@@ -1,7 +1,7 @@
 """The commands over files as docs/SCENARIOS.md says: what they write, and their status."""
 from plain_board import Board, Change, Refused, bound, number_of, plan_of, rank_of, span
 from plain_frames import MOST, TOP, Fault, decoded, digest_frame
-from plain_json import text_of
+from plain_json import object_of
 
 NO_REPORT = "error: the words are no report: see squall help report"
 INPUT_TAKEN = "error: standard input is read as it comes, so that no file can be -"
@@ -114,20 +114,20 @@ def status(words, files, is_waiting):
     return board.status(change, is_waiting)
 
 
-def watch(words, files):
-    """The lines of the status that each frame of standard input changes."""
+def watch(words, files, in_form):
+    """The lines of the status, in some form, that each frame of standard input changes."""
     if "-" in words:
         raise Refused(INPUT_TAKEN, 2)
-    first = Change(1, files.plan("old", words[0]), files.plan("new", words[1]))
     board, before, shown = Board(), [], []
     try:
+        first = Change(1, files.plan("old", words[0]), files.plan("new", words[1]))
         for message in files.messages("-", "delta", files.read("-")):
             board.join(message.openings, message.issues, message.cells)
-            now = list(board.status(board.newest(first), False))
+            now = in_form("status", list(board.status(board.newest(first), False)))
             shown += [line for at, line in enumerate(now) if before[at:at + 1] != [line]]
             before = now
     except Refused as why:
-        raise Refused("\n".join([*shown, why.line])) from None
+        raise Refused("\n".join([*shown, *in_form("status", [why.line])])) from None
     return shown
 
 
@@ -162,13 +162,22 @@ def parsed(words):
     return plain, boards, flags
 
 
+def as_lines(command, lines):
+    return lines
+
+
+def as_json(command, lines):
+    """The line of the object that has what the lines of a command say."""
+    return [object_of(command, lines)]
+
+
 def found(command, words, files, boards, flags):
-    """The lines or the frames that a command writes."""
+    """The lines or the frames that a command writes. Those of `watch` have the form that is asked for."""
     return {
         "report": lambda: report(words, files),
         "board": lambda: files.board(*words).lines(),
         "status": lambda: status(words, files, "--waiting" in flags),
-        "watch": lambda: watch(words, files),
+        "watch": lambda: watch(words, files, as_json if "--json" in flags else as_lines),
         "route": lambda: route(words, files, boards),
         "legs": lambda: legs(words, files, boards),
         "merge": lambda: files.board(*words).pieces(),
@@ -181,14 +190,11 @@ def found(command, words, files, boards, flags):
 def answer(words, files):
     """What the program writes to standard output and standard error, and its status."""
     plain, boards, flags = parsed(words[1:])
+    in_form = as_json if "--json" in flags and words[0] != "watch" else as_lines
     try:
-        told = list(found(words[0], plain, files, boards, flags))
-        if "--json" in flags:
-            return text_of(words[0], told).encode(), b"", 0
+        told = in_form(words[0], list(found(words[0], plain, files, boards, flags)))
     except Refused as why:
-        if "--json" in flags:
-            return text_of(words[0], [why.line]).encode(), b"", why.status
-        line = f"{why.line}\n".encode()
+        line = "".join(f"{it}\n" for it in in_form(words[0], [why.line])).encode()
         return (b"", line, why.status) if why.status == 2 else (line, b"", why.status)
     if "--quiet" in flags:
         return b"", b"", int(bool(told))

@@ -81,9 +81,9 @@ def refusal(command, line):
     return {"refused": words[1], "fault": " ".join(words[2:])}
 
 
-def text_of(command, lines):
-    """The object for the lines of a command, as it is written."""
+def object_of(command, lines):
+    """The object for the lines of a command, as it is written, without its LF."""
     ends = lines[-1].split(" ")[0] in ("refused", "bad")
     told = {"status": status, "board": board, "course": course, "check": check, "legs": legs}[command]
     value = refusal(command, lines[-1]) if ends else told(lines)
-    return json.dumps(value, sort_keys=True, separators=(",", ":"), ensure_ascii=False) + "\n"
+    return json.dumps(value, sort_keys=True, separators=(",", ":"), ensure_ascii=False)

@@ -23,7 +23,7 @@ files_followed f = map string_bytes f.files.items
 -- what was written for the bytes that were read of standard input after these files, by what was returned
 abbrev pub IsStreamed : Stream → Result Ended RunFault → List FileValue → List ℕ → List ℕ → Type 0
 IsStreamed Keys outcome files read written = AnswersKeys outcome files read written
-IsStreamed Frames outcome files read written = WatchesFiles outcome files read written
+IsStreamed (Frames form) outcome files read written = WatchesFiles form outcome files read written
 
 -- the files of these names were read, and then what was read of standard input is answered as far as the outcome with that status
 -- says; with status 0 all of it was read

@@ -59,7 +59,7 @@ fn answer_input<S: Source, O: Sink>(
 {
     match stream {
         Stream::Keys => answer_keys(alloc, files, input, out),
-        Stream::Frames => watch_files(alloc, files, input, out),
+        Stream::Frames(form) => watch_files(alloc, form, files, input, out),
     }
 }
 

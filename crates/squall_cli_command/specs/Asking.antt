@@ -29,7 +29,7 @@ abbrev pub picture_shape : Shape
 picture_shape = (with_rule (of_plans (codes "picture")) (files_rule (codes "FILE"))).top
 
 abbrev pub watch_shape : Shape
-watch_shape = (of_plans (codes "watch")).top
+watch_shape = (with_rule (of_plans (codes "watch")) (flag_rule (codes "json"))).top
 
 abbrev pub route_shape : Shape
 route_shape = (with_rule (with_rule (of_plans (codes "route")) (files_rule (codes "KEY"))) (option_rule (codes "board"))).top

@@ -51,7 +51,7 @@ reports_app = with_subcommand (with_subcommand runs_app report_shape) board_shap
 abbrev pub courses_app : App
 courses_app = with_subcommand (with_subcommand reports_app status_shape) picture_shape
 
--- and that of the same as frames come: `watch OLD NEW`
+-- and that of the same as frames come: `watch OLD NEW [--json]`
 abbrev pub watch_app : App
 watch_app = with_subcommand courses_app watch_shape
 

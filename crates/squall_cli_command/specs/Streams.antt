@@ -4,7 +4,7 @@ use Rattle.std.specs.Str.{bytes_eq}
 use Rattle.clap.specs.Words.{Row, Text}
 use Rattle.squall_cli_command.specs.declared.stream.Stream.{Stream}
 use Rattle.squall_cli_command.specs.declared.stream.Stream.TheVariants.{Keys, Frames}
-use Rattle.squall_cli_command.specs.Asking.{values_in}
+use Rattle.squall_cli_command.specs.Asking.{form_in, values_in}
 
 -- there is no word, or the only one is that of standard input
 abbrev pub is_input_alone : List Text → Bool
@@ -18,9 +18,9 @@ reads_keys rows = is_input_alone (values_in (codes "KEY") rows)
 
 -- what a command's name and entries ask of standard input as it comes: nothing if it is another command
 abbrev pub stream_in : Text → List Row → Option Stream
-stream_in name rows = if bytes_eq name (codes "route") && reads_keys rows then Some Keys else (if bytes_eq name (codes "watch") then Some Frames else None)
+stream_in name rows = if bytes_eq name (codes "route") && reads_keys rows then Some Keys else (if bytes_eq name (codes "watch") then Some (Frames (form_in rows)) else None)
 
 -- the arguments of a stream that are files, in the order in which they are read
 abbrev pub stream_files : Stream → List Text
 stream_files Keys = codes "OLD" ∷ codes "NEW" ∷ codes "board" ∷ []
-stream_files Frames = codes "OLD" ∷ codes "NEW" ∷ []
+stream_files (Frames form) = codes "OLD" ∷ codes "NEW" ∷ []

@@ -33,8 +33,12 @@ input as they come, so that no file can be -. Each frame is answered before the 
 lines of squall status that it changes, and the first frame with all of them. A frame that is broken
 ends the answers.
 
+With --json each frame that changes the object of squall status --json is answered with that object,
+on one line.
+
 Example:
-  tail -c +1 -f board.bin | squall watch old.json new.json";
+  tail -c +1 -f board.bin | squall watch old.json new.json
+  tail -c +1 -f board.bin | squall watch --json old.json new.json";
 
 const ROUTE: &str =
     "OLD and NEW are the plans of the first reconfiguration. A key is written ROOT:SECOND, as 2:0. The
@@ -106,16 +110,15 @@ pub(crate) fn picture_command<'a>(alloc: Global) -> Result<Command<'a>, AllocErr
         .arg(files(alloc, "FILE", "The files of frames, or -"))
 }
 
-/// `watch OLD NEW`
+/// `watch OLD NEW [--json]`
 pub(crate) fn watch_command<'a>(alloc: Global) -> Result<Command<'a>, AllocError>
     ensures shape { IfOk result (λ c. shape_of c ≡ watch_shape) }
     ensures globals { IfOk result (λ c. (fields_of c).has_globals ≡ false) }
 {
-    Ok(
-        of_plans(alloc, "watch")?
-            .about("Shows how far the newest reconfiguration is, as frames come on standard input")
-            .after_help(WATCH),
-    )
+    of_plans(alloc, "watch")?
+        .about("Shows how far the newest reconfiguration is, as frames come on standard input")
+        .after_help(WATCH)
+        .arg(json(alloc))
 }
 
 /// `route OLD NEW [KEY].. [--board FILE]..`

@@ -49,7 +49,9 @@ pub fn keys_of_standard_input()
 
 /// `watch` reads frames from standard input. Its files are the two plans.
 pub fn frames_of_standard_input()
-    ensures { (name : Text) → Asks (name ∷ codes "watch" ∷ codes "o" ∷ codes "n" ∷ []) (stream Frames (codes "o" ∷ codes "n" ∷ [])) }
+    ensures lines { (name : Text) → Asks (name ∷ codes "watch" ∷ codes "o" ∷ codes "n" ∷ []) (stream (Frames Lines) (codes "o" ∷ codes "n" ∷ [])) }
+    ensures json { (name : Text) → Asks (name ∷ codes "watch" ∷ codes "o" ∷ codes "--json" ∷ codes "n" ∷ [])
+        (stream (Frames Json) (codes "o" ∷ codes "n" ∷ [])) }
 {}
 
 /// `--json` is no file either: it asks for the same as JSON.

@@ -6,6 +6,7 @@ ghost use Rattle.squall_cli_command.specs.Line.{words_of};
 ghost use Rattle.squall_cli_command.specs.Asking.{words_in};
 ghost use Rattle.squall_cli_command.specs.Streams.{is_input_alone, reads_keys, stream_in, stream_files};
 
+use crate::form::{Form, form_of};
 use crate::inquiry::words_in;
 use clap::ArgMatches;
 use std::alloc::{AllocError, Global};
@@ -16,9 +17,9 @@ pub enum Stream {
     /// The routes of the keys that its lines write, by the newest course. The files are the old plan,
     /// the new plan and board files.
     Keys,
-    /// How far the newest course comes, as the frames of boards say. The files are the old plan and
-    /// the new plan.
-    Frames,
+    /// How far the newest course comes, as the frames of boards say, as lines or as JSON. The files
+    /// are the old plan and the new plan.
+    Frames(Form),
 }
 
 /// A stream with the files that are read before it.
@@ -60,7 +61,7 @@ pub(crate) fn stream_of(name: &str, matches: &ArgMatches) -> Option<Stream>
         return Some(Stream::Keys);
     }
     if name == "watch" {
-        return Some(Stream::Frames);
+        return Some(Stream::Frames(form_of(matches)));
     }
     None
 }
@@ -71,7 +72,7 @@ fn stream_files(stream: Stream) -> &'static [&'static str]
 {
     match stream {
         Stream::Keys => &["OLD", "NEW", "board"],
-        Stream::Frames => &["OLD", "NEW"],
+        Stream::Frames(_) => &["OLD", "NEW"],
     }
 }
 

@@ -9,37 +9,38 @@ use Rattle.squall_cli_device.specs.States.{SourceState, SinkState, TookBytes, Re
 use Rattle.squall_cli_lines.specs.declared.Ended.{Ended}
 use Rattle.squall_cli_lines.specs.declared.RunFault.{RunFault}
 use Rattle.squall_cli_lines.specs.declared.RunFault.TheVariants.{NoMemory}
-use Rattle.squall_cli_boards.specs.Answers.{AnswerValue, refusing, refused_plan}
-use Rattle.squall_cli_boards.specs.Plans.{refusal_of}
+use Rattle.squall_cli_command.specs.declared.form.Form.{Form}
+use Rattle.squall_cli_boards.specs.Answers.{AnswerValue, refusing_plan}
+use Rattle.squall_cli_boards.specs.Plans.{refusal_in}
 use Rattle.squall_cli_watch.specs.Watched.{Watches}
 use Rattle.squall_cli_watch.proofs.Watching.{nothing_watched}
 use Rattle.squall_cli_stream.specs.Written.{IsRefusal}
 use Rattle.squall_cli_stream.specs.Watching.{WatchesPlans}
 
-module _ (p q : Result (List PlanRange) PlanFault) (result : Result Ended RunFault) (a b : SourceState) (x y : SinkState) where
+module _ (form : Form) (p q : Result (List PlanRange) PlanFault) (result : Result Ended RunFault) (a b : SourceState) (x y : SinkState) where
   -- both are plans
-  pub plans_watched : (old new : List PlanRange) → p ≡ Ok old → q ≡ Ok new → ReadAndWrote a b x y (Watches result old new) → ReadAndWrote a b x y (WatchesPlans p q result)
-  plans_watched old new is also w = subst (λ r. ReadAndWrote a b x y (WatchesPlans r q result)) (sym is) (subst (λ r. ReadAndWrote a b x y (WatchesPlans (Ok old) r result)) (sym also) w)
+  pub plans_watched : (old new : List PlanRange) → p ≡ Ok old → q ≡ Ok new → ReadAndWrote a b x y (Watches form result old new) → ReadAndWrote a b x y (WatchesPlans form p q result)
+  plans_watched old new is also w = subst (λ r. ReadAndWrote a b x y (WatchesPlans form r q result)) (sym is) (subst (λ r. ReadAndWrote a b x y (WatchesPlans form (Ok old) r result)) (sym also) w)
 
 -- one is refused
 some_is : (a b : AnswerValue) → Some a ≡ Some b → b.text ≡ a.text
 some_is a b e = ap (λ (x : AnswerValue). x.text) (sym (same_Some a b e))
 
-refused_written : (p q : Result (List PlanRange) PlanFault) (result : Result Ended RunFault) (answer : AnswerValue) (written : List ℕ) → refusal_of p q ≡ Some answer
-    → IsRefusal result answer.text written → WatchesPlans p q result [] written
-refused_written (Ok old) (Ok new) result answer written e is = absurd (none-some answer e)
-refused_written (Ok old) (Err fault) result answer written e is = (refl, subst (λ t. IsRefusal result t written) (some_is (refusing (refused_plan (codes "new") fault)) answer e) is)
-refused_written (Err fault) q result answer written e is = (refl, subst (λ t. IsRefusal result t written) (some_is (refusing (refused_plan (codes "old") fault)) answer e) is)
+refused_written : (form : Form) (p q : Result (List PlanRange) PlanFault) (result : Result Ended RunFault) (answer : AnswerValue) (written : List ℕ) → refusal_in form p q ≡ Some answer
+    → IsRefusal result answer.text written → WatchesPlans form p q result [] written
+refused_written form (Ok old) (Ok new) result answer written e is = absurd (none-some answer e)
+refused_written form (Ok old) (Err fault) result answer written e is = (refl, subst (λ t. IsRefusal result t written) (some_is (refusing_plan form (codes "new") fault) answer e) is)
+refused_written form (Err fault) q result answer written e is = (refl, subst (λ t. IsRefusal result t written) (some_is (refusing_plan form (codes "old") fault) answer e) is)
 
-pub plans_refused : (p q : Result (List PlanRange) PlanFault) (result : Result Ended RunFault) (a : SourceState) (x y : SinkState) (answer : AnswerValue) → refusal_of p q ≡ Some answer
-    → ((written : List ℕ) × TookBytes x y written × IsRefusal result answer.text written) → ReadAndWrote a a x y (WatchesPlans p q result)
-plans_refused p q result a x y answer e w = ([], w.0, Consumes-nil a.remaining, w.1, refused_written p q result answer w.0 e w.2)
+pub plans_refused : (form : Form) (p q : Result (List PlanRange) PlanFault) (result : Result Ended RunFault) (a : SourceState) (x y : SinkState) (answer : AnswerValue) → refusal_in form p q ≡ Some answer
+    → ((written : List ℕ) × TookBytes x y written × IsRefusal result answer.text written) → ReadAndWrote a a x y (WatchesPlans form p q result)
+plans_refused form p q result a x y answer e w = ([], w.0, Consumes-nil a.remaining, w.1, refused_written form p q result answer w.0 e w.2)
 
 -- an allocation failed before anything was read
-none_watched : (p q : Result (List PlanRange) PlanFault) → WatchesPlans p q (Err NoMemory) [] []
-none_watched (Ok old) (Ok new) = nothing_watched _ (λ f. refl)
-none_watched (Ok old) (Err fault) = (refl, refl)
-none_watched (Err fault) q = (refl, refl)
+none_watched : (form : Form) (p q : Result (List PlanRange) PlanFault) → WatchesPlans form p q (Err NoMemory) [] []
+none_watched form (Ok old) (Ok new) = nothing_watched form _ (λ f. refl)
+none_watched form (Ok old) (Err fault) = (refl, refl)
+none_watched form (Err fault) q = (refl, refl)
 
-pub nothing_followed : (p q : Result (List PlanRange) PlanFault) (a : SourceState) (x : SinkState) → ReadAndWrote a a x x (WatchesPlans p q (Err NoMemory))
-nothing_followed p q a x = ([], [], Consumes-nil a.remaining, Appends-nil x.contents, none_watched p q)
+pub nothing_followed : (form : Form) (p q : Result (List PlanRange) PlanFault) (a : SourceState) (x : SinkState) → ReadAndWrote a a x x (WatchesPlans form p q (Err NoMemory))
+nothing_followed form p q a x = ([], [], Consumes-nil a.remaining, Appends-nil x.contents, none_watched form p q)

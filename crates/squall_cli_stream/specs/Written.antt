@@ -11,7 +11,7 @@ use Rattle.squall_cli_boards.specs.Files.{FileValue}
 use Rattle.squall_cli_stream.specs.Known.{KnownValue, newest_of}
 use Rattle.squall_cli_stream.specs.Keys.{keys_script}
 
--- what was written of a line that refuses a file: all of it; after a write fault a prefix; and after a failed allocation nothing
+-- what was written of the text that refuses a file: all of it; after a write fault a prefix; and after a failed allocation nothing
 abbrev pub IsRefusal : Result Ended RunFault → List ℕ → List ℕ → Type 0
 IsRefusal (Ok Fine) line written = ⊥
 IsRefusal (Ok Refused) line written = written ≡ line

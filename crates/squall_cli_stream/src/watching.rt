@@ -6,15 +6,16 @@ ghost use Rattle.squall_cli_lines.specs.Heeding.{HeedsReads, HeedsWrites};
 ghost use Rattle.squall_cli_stream.specs.Watching.{WatchesFiles};
 
 use crate::lines::refuse;
-use squall_cli_boards::{NamedFile, read_plans};
+use squall_cli_boards::{NamedFile, plans_in};
+use squall_cli_command::Form;
 use squall_cli_device::{Sink, Source};
 use squall_cli_lines::{Ended, RunFault};
 use squall_cli_watch::watch;
 use std::alloc::Global;
 
 /// Watches how far the newest course comes, from that of the first two files on, which are plans. It
-/// reads the frames of boards from `reader`, and answers as [`watch`] does. If a file is no plan,
-/// that is answered, and nothing is read.
+/// reads the frames of boards from `reader`, and answers in the form as [`watch`] does. If a file is
+/// no plan, that is answered, and nothing is read.
 ///
 /// - `Fine`: each frame is answered.
 /// - `Refused`: the input is refused, as the last answer says. Or a plan is.
@@ -27,13 +28,14 @@ use std::alloc::Global;
 /// [`MOST_READS`]: squall_cli_lines::MOST_READS
 pub fn watch_files<S: Source, K: Sink>(
     alloc: Global,
+    form: Form,
     files: &[NamedFile],
     reader: &mut S,
     writer: &mut K,
 ) -> Result<Ended, RunFault>
     // What is written is the answers to the frames that were read, each before the next read; or that a plan is refused.
     ensures text { ReadAndWrote (S.state reader.old) (S.state reader.new) (K.state writer.old) (K.state writer.new)
-        (WatchesFiles result files.now) }
+        (WatchesFiles form result files.now) }
 
     // `Fine` comes only if a read found the end, and then nothing is left.
     ensures fine { result ≡ Ok Ended.Fine → GaveAll (S.state reader.old) (S.state reader.new) }
@@ -42,8 +44,8 @@ pub fn watch_files<S: Source, K: Sink>(
     ensures heeds_reads { HeedsReads result (S.state reader.old) (S.state reader.new) }
     ensures heeds_writes { HeedsWrites result (K.state writer.old) (K.state writer.new) }
 {
-    match read_plans(alloc, files) {
-        Ok(Ok((old, new))) => watch(alloc, &old, &new, reader, writer),
+    match plans_in(alloc, form, files) {
+        Ok(Ok((old, new))) => watch(alloc, form, &old, &new, reader, writer),
         Ok(Err(answer)) => refuse(&answer, writer),
         Err(_) => Err(RunFault::NoMemory),
     }

@@ -14,6 +14,7 @@ use Rattle.squall_wire.specs.HeardLaws.{heard_is}
 use Rattle.squall_wire.specs.HearingLaws.{pieces_are_one_stream}
 use Rattle.squall_wire.specs.ReadingLaws.{nothing_is_short}
 use Rattle.squall_cli_device.specs.States.{SourceState, SinkState, GaveBytes, TookBytes, ReadAndWrote}
+use Rattle.squall_cli_command.specs.declared.form.Form.{Form}
 use Rattle.squall_cli_lines.specs.declared.Flow.{Flow}
 use Rattle.squall_cli_lines.specs.declared.Flow.TheVariants.{On, End}
 use Rattle.squall_cli_lines.specs.declared.Ended.{Ended}
@@ -67,10 +68,10 @@ prefix_on first sent rest p = (p.0, ap (λ w. first ++ w) p.1 ∙ sym (append_as
 prefix_more : (sent text more : List ℕ) → IsPrefix sent text → IsPrefix sent (text ++ more)
 prefix_more sent text more p = (p.0 ++ more, ap (λ w. w ++ more) p.1 ∙ append_assoc sent p.0 more)
 
-module _ (old now : List Body → Option WireFault → Script → Type 0) (reader reader' : SourceState) (writer writer' : SinkState) (waiting : List ℕ)
-    (ends : (f : Option WireFault) → now [] f (last_answer f)) (w : Watching old now reader reader' writer writer' waiting) where
-  played : (f : Option WireFault) → old (map body_of w.messages) f (after w.texts (last_answer f))
-  played f = subst (λ b. old b f (after w.texts (last_answer f))) (append-nil (map body_of w.messages)) (w.answered [] f (last_answer f) (ends f))
+module _ (form : Form) (old now : List Body → Option WireFault → Script → Type 0) (reader reader' : SourceState) (writer writer' : SinkState) (waiting : List ℕ)
+    (ends : (f : Option WireFault) → now [] f (last_answer form f)) (w : Watching old now reader reader' writer writer' waiting) where
+  played : (f : Option WireFault) → old (map body_of w.messages) f (after w.texts (last_answer form f))
+  played f = subst (λ b. old b f (after w.texts (last_answer form f))) (append-nil (map body_of w.messages)) (w.answered [] f (last_answer form f) (ends f))
 
   now_played : AnswersSoFar old w.read (after w.texts silence)
   now_played = so_far old w.read w.messages None waiting (after w.texts silence) w.heard (played None)
@@ -128,7 +129,7 @@ module _ (old now : List Body → Option WireFault → Script → Type 0) (reade
 
   module _ (reader'' : SourceState) (writer'' : SinkState) where
     -- the input ended
-    last : (result : Result Ended RunFault) (sent : List ℕ) → AnswersEnd result waiting sent → IsOutcome result old w.read (concat w.texts ++ sent)
+    last : (result : Result Ended RunFault) (sent : List ℕ) → AnswersEnd form result waiting sent → IsOutcome result old w.read (concat w.texts ++ sent)
     last (Ok Fine) sent a = (
       after w.texts silence,
       whole old w.read w.messages None waiting (after w.texts silence) w.heard
@@ -137,23 +138,23 @@ module _ (old now : List Body → Option WireFault → Script → Type 0) (reade
       refl,
     )
     last (Ok Refused) sent a = (
-      after w.texts (last_word (refused_frame Short)),
-      whole old w.read w.messages None waiting (after w.texts (last_word (refused_frame Short))) w.heard
-          (subst (λ f. old (map body_of w.messages) f (after w.texts (last_word (refused_frame Short)))) (sym (short_at_end waiting a.0)) (played (Some Short))),
-      ap (λ t. concat w.texts ++ t) (a.1 ∙ sym (append-nil (refused_frame Short))) ∙ sym (concat-append w.texts (refused_frame Short ∷ [])),
+      after w.texts (last_word (refused_frame form Short)),
+      whole old w.read w.messages None waiting (after w.texts (last_word (refused_frame form Short))) w.heard
+          (subst (λ f. old (map body_of w.messages) f (after w.texts (last_word (refused_frame form Short)))) (sym (short_at_end waiting a.0)) (played (Some Short))),
+      ap (λ t. concat w.texts ++ t) (a.1 ∙ sym (append-nil (refused_frame form Short))) ∙ sym (concat-append w.texts (refused_frame form Short ∷ [])),
       refl,
     )
     last (Err Read) sent a = absurd a
     last (Err Write) sent a = (
-      after w.texts (last_word (refused_frame Short)),
-      whole old w.read w.messages None waiting (after w.texts (last_word (refused_frame Short))) w.heard
-          (subst (λ f. old (map body_of w.messages) f (after w.texts (last_word (refused_frame Short)))) (sym (short_at_end waiting a.0)) (played (Some Short))),
-      subst (IsPrefix (concat w.texts ++ sent)) (sym (concat-append w.texts (refused_frame Short ∷ [])))
-          (prefix_on (concat w.texts) sent (refused_frame Short ++ []) (prefix_more sent (refused_frame Short) [] a.1)),
+      after w.texts (last_word (refused_frame form Short)),
+      whole old w.read w.messages None waiting (after w.texts (last_word (refused_frame form Short))) w.heard
+          (subst (λ f. old (map body_of w.messages) f (after w.texts (last_word (refused_frame form Short)))) (sym (short_at_end waiting a.0)) (played (Some Short))),
+      subst (IsPrefix (concat w.texts ++ sent)) (sym (concat-append w.texts (refused_frame form Short ∷ [])))
+          (prefix_on (concat w.texts) sent (refused_frame form Short ++ []) (prefix_more sent (refused_frame form Short) [] a.1)),
     )
     last (Err NoMemory) sent a = absurd a
 
-    pub ended_last : (result : Result Ended RunFault) (sent : List ℕ) → GaveBytes reader' reader'' [] → TookBytes writer' writer'' sent → AnswersEnd result waiting sent
+    pub ended_last : (result : Result Ended RunFault) (sent : List ℕ) → GaveBytes reader' reader'' [] → TookBytes writer' writer'' sent → AnswersEnd form result waiting sent
         → ReadAndWrote reader reader'' writer writer'' (IsWatchedBy result old)
     ended_last result sent gave took a = (
       w.read ++ [],
@@ -164,7 +165,7 @@ module _ (old now : List Body → Option WireFault → Script → Type 0) (reade
     )
 
     -- a piece
-    module _ (next : List Body → Option WireFault → Script → Type 0) (next_ends : (f : Option WireFault) → next [] f (last_answer f)) (piece sent left : List ℕ)
+    module _ (next_form : Form) (next : List Body → Option WireFault → Script → Type 0) (next_ends : (f : Option WireFault) → next [] f (last_answer next_form f)) (piece sent left : List ℕ)
         (small : length piece ≤ 65536) (gave : GaveBytes reader' reader'' piece) (took : TookBytes writer' writer'' sent) where
       heard_more : (ms : List Message) (f : Option WireFault) → IsHeard (waiting ++ piece) ms f left → IsHeard (w.read ++ piece) (w.messages ++ ms) f left
       heard_more ms f heard = pieces_are_one_stream w.read piece w.messages ms None f waiting left w.heard heard
@@ -214,12 +215,12 @@ module _ (old now : List Body → Option WireFault → Script → Type 0) (reade
           → (s : Script) × AnswersInput old (w.read ++ piece) s × IsPrefix (concat w.texts ++ sent) (text_of s)
       begins On texts p t =
           let f = fault_at_end t.1 left in
-          let s = after texts (last_answer f) in (
+          let s = after texts (last_answer next_form f) in (
             after w.texts s,
-            all_of t.0 t.1 s t.2 (subst (λ b. now b f s) (append-nil (map body_of t.0)) (t.3.1 [] f (last_answer f) (next_ends f))),
-            subst (IsPrefix (concat w.texts ++ sent)) (sym (concat-append w.texts (texts ++ (last_answer f).answers)))
-                (prefix_on (concat w.texts) sent (concat (texts ++ (last_answer f).answers))
-                (subst (IsPrefix sent) (sym (concat-append texts (last_answer f).answers)) (prefix_more sent (concat texts) (concat (last_answer f).answers) p))),
+            all_of t.0 t.1 s t.2 (subst (λ b. now b f s) (append-nil (map body_of t.0)) (t.3.1 [] f (last_answer next_form f) (next_ends f))),
+            subst (IsPrefix (concat w.texts ++ sent)) (sym (concat-append w.texts (texts ++ (last_answer next_form f).answers)))
+                (prefix_on (concat w.texts) sent (concat (texts ++ (last_answer next_form f).answers))
+                (subst (IsPrefix sent) (sym (concat-append texts (last_answer next_form f).answers)) (prefix_more sent (concat texts) (concat (last_answer next_form f).answers) p))),
           )
       begins End texts p t = (
         after w.texts (refusing texts),
@@ -237,8 +238,8 @@ module _ (old now : List Body → Option WireFault → Script → Type 0) (reade
       ended_stopped e a = grown (IsOutcome (Err e) old) (stopped e a) (prompt piece sent small)
 
 -- an allocation failed before anything was read
-pub nothing_watched : (plays : List Body → Option WireFault → Script → Type 0) → ((f : Option WireFault) → plays [] f (last_answer f)) → IsWatchedBy (Err NoMemory) plays [] []
-nothing_watched plays ends =
+pub nothing_watched : (form : Form) (plays : List Body → Option WireFault → Script → Type 0) → ((f : Option WireFault) → plays [] f (last_answer form f)) → IsWatchedBy (Err NoMemory) plays [] []
+nothing_watched form plays ends =
     let heard : IsHeard [] [] None [] = record { each = tt; frames = refl; ends = nothing_is_short } in
     let so : AnswersSoFar plays [] silence = so_far plays [] [] None [] silence heard (ends None) in (
       ([], [], silence, refl, omega arith, so, refl),

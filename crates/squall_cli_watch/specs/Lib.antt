@@ -11,6 +11,7 @@ pub use Rattle.squall_cli_device.specs.States
 pub use Rattle.squall_cli_lines.specs.Lines
 pub use Rattle.squall_cli_lines.specs.Script
 pub use Rattle.squall_cli_lines.specs.Heeding
+pub use Rattle.squall_cli_json.specs.Values
 pub mod Changed
 pub mod Watched
 pub mod Taken

@@ -13,12 +13,13 @@ use Rattle.squall_cli_lines.specs.declared.Ended.{Ended}
 use Rattle.squall_cli_lines.specs.declared.Ended.TheVariants.{Fine, Refused}
 use Rattle.squall_cli_lines.specs.declared.RunFault.{RunFault}
 use Rattle.squall_cli_lines.specs.declared.RunFault.TheVariants.{Read, Write, NoMemory}
+use Rattle.squall_cli_command.specs.declared.form.Form.{Form}
 use Rattle.squall_cli_watch.specs.declared.watcher.Watcher.{Watcher}
 use Rattle.squall_cli_watch.specs.Watched.{AnswersFrames, fault_at_end, refused_frame}
 
 -- the scripts that answer the frames to come
 abbrev pub plays : Watcher → List Body → Option WireFault → Script → Type 0
-plays w bodies fault s = AnswersFrames w.first w.board (string_bytes w.shown) bodies fault s
+plays w bodies fault s = AnswersFrames w.form w.first w.board (string_bytes w.shown) bodies fault s
 
 -- One frame taken. Whatever answers the frames after it, answers this frame too if this text comes first; or this text ends the answers.
 abbrev pub TakesFrame : Flow → List ℕ → (List Body → Option WireFault → Script → Type 0) → (List Body → Option WireFault → Script → Type 0) → Body → Type 0
@@ -52,9 +53,9 @@ AnswersPiece (Err Write) old new bytes left sent = (flow : Flow) × (texts : Lis
 AnswersPiece (Err NoMemory) old new bytes left sent = sent ≡ []
 
 -- what was sent at the end of the input, when these bytes wait
-abbrev pub AnswersEnd : Result Ended RunFault → List ℕ → List ℕ → Type 0
-AnswersEnd (Ok Fine) waiting sent = (waiting ≡ []) × (sent ≡ [])
-AnswersEnd (Ok Refused) waiting sent = (waiting ≢ []) × (sent ≡ refused_frame Short)
-AnswersEnd (Err Read) waiting sent = ⊥
-AnswersEnd (Err Write) waiting sent = (waiting ≢ []) × IsPrefix sent (refused_frame Short)
-AnswersEnd (Err NoMemory) waiting sent = ⊥
+abbrev pub AnswersEnd : Form → Result Ended RunFault → List ℕ → List ℕ → Type 0
+AnswersEnd form (Ok Fine) waiting sent = (waiting ≡ []) × (sent ≡ [])
+AnswersEnd form (Ok Refused) waiting sent = (waiting ≢ []) × (sent ≡ refused_frame form Short)
+AnswersEnd form (Err Read) waiting sent = ⊥
+AnswersEnd form (Err Write) waiting sent = (waiting ≢ []) × IsPrefix sent (refused_frame form Short)
+AnswersEnd form (Err NoMemory) waiting sent = ⊥

@@ -5,6 +5,9 @@ use Rattle.squall_course.specs.Change.{Change}
 use Rattle.squall_board.specs.Boards.{BoardValue, empty_board, board_join, says}
 use Rattle.squall_board.specs.CourseRoute.{course_of_board}
 use Rattle.squall_status.specs.declared.text.Shown.TheVariants.{EachMove}
+use Rattle.squall_cli_command.specs.declared.form.Form.{Form}
+use Rattle.squall_cli_command.specs.declared.form.Form.TheVariants.{Lines, Json}
+use Rattle.squall_cli_json.specs.Values.{json_line, json_of_refusal, json_of_status}
 use Rattle.squall_status.specs.Summary.{StatusValue, IsStatusOf}
 use Rattle.squall_status.specs.Texts.{status_text}
 use Rattle.squall_wire.specs.declared.fault.WireFault.{WireFault}
@@ -18,40 +21,47 @@ use Rattle.squall_cli_lines.specs.declared.Ended.{Ended}
 use Rattle.squall_cli_lines.specs.declared.Ended.TheVariants.{Fine, Refused}
 use Rattle.squall_cli_lines.specs.declared.RunFault.{RunFault}
 use Rattle.squall_cli_lines.specs.declared.RunFault.TheVariants.{Read, Write, NoMemory}
-use Rattle.squall_cli_watch.specs.Changed.{changed_text}
+use Rattle.squall_cli_watch.specs.Changed.{change_in}
 
 -- ---- the status
 
+-- how far a course has come, as lines or as JSON
+abbrev pub status_in : Form → StatusValue → List ℕ
+status_in Lines status = status_text EachMove status
+status_in Json status = json_line (json_of_status EachMove status)
+
 -- how far the course has come, as the board says
-pub record IsStatusText (c : Change) (b : BoardValue) (text : List ℕ) : Type 0 where
+pub record IsStatusText (form : Form) (c : Change) (b : BoardValue) (text : List ℕ) : Type 0 where
   pub status : StatusValue
   pub is : IsStatusOf c (says b) status
-  pub shown : text ≡ status_text EachMove status
+  pub shown : text ≡ status_in form status
 
 -- the same of the newest course of the board after the first
-abbrev pub IsNewestText : Change → BoardValue → List ℕ → Type 0
-IsNewestText first b text = IsStatusText (course_of_board first b) b text
+abbrev pub IsNewestText : Form → Change → BoardValue → List ℕ → Type 0
+IsNewestText form first b text = IsStatusText form (course_of_board first b) b text
 
 -- ---- frames
 
--- the line that refuses the input for a fault, as a file named `-` is refused
-abbrev pub refused_frame : WireFault → List ℕ
-refused_frame fault = codes "refused - " ++ (text_of_fault fault ++ codes "\n")
+-- what refuses the input for a fault, by a line or as JSON, as a file named `-` is refused
+abbrev pub refused_frame : Form → WireFault → List ℕ
+refused_frame Lines fault = codes "refused - " ++ (text_of_fault fault ++ codes "\n")
+refused_frame Json fault = json_line (json_of_refusal (codes "-") (text_of_fault fault))
 
 -- what is answered after the frames: nothing, or that their input has a fault
-abbrev pub last_answer : Option WireFault → Script
-last_answer None = silence
-last_answer (Some fault) = last_word (refused_frame fault)
+abbrev pub last_answer : Form → Option WireFault → Script
+last_answer form None = silence
+last_answer form (Some fault) = last_word (refused_frame form fault)
 
 -- The script answers what frames say that such a fault follows. Before them a board was known, and a status text was answered. A board
--- is joined in, and its answer is the lines of the status that change. A digest is a frame of another kind, and ends the answers.
-abbrev pub AnswersFrames : Change → BoardValue → List ℕ → List Body → Option WireFault → Script → Type 0
-AnswersFrames first b shown [] fault s = s ≡ last_answer fault
-AnswersFrames first b shown (rows d ∷ bodies) fault s = s ≡ last_word (refused_frame Kind)
-AnswersFrames first b shown (lists d ∷ bodies) fault s = (text : List ℕ) × (rest : Script)
-    × IsNewestText first (board_join b (board_of_lists d)) text
-    × AnswersFrames first (board_join b (board_of_lists d)) text bodies fault rest
-    × (s ≡ after (changed_text shown text ∷ []) rest)
+-- is joined in, and its answer is the lines of the status that change, or the JSON object if it changes. A digest is a frame of another
+-- kind, and ends the answers.
+abbrev pub AnswersFrames : Form → Change → BoardValue → List ℕ → List Body → Option WireFault → Script → Type 0
+AnswersFrames form first b shown [] fault s = s ≡ last_answer form fault
+AnswersFrames form first b shown (rows d ∷ bodies) fault s = s ≡ last_word (refused_frame form Kind)
+AnswersFrames form first b shown (lists d ∷ bodies) fault s = (text : List ℕ) × (rest : Script)
+    × IsNewestText form first (board_join b (board_of_lists d)) text
+    × AnswersFrames form first (board_join b (board_of_lists d)) text bodies fault rest
+    × (s ≡ after (change_in form shown text ∷ []) rest)
 
 -- ---- an input
 
@@ -104,5 +114,5 @@ abbrev pub first_course : List PlanRange → List PlanRange → Change
 first_course old new = record { number = 1; old = old; new = new }
 
 -- `watch`: the course of two plans is watched, of which nothing is told yet and no status is answered
-abbrev pub Watches : Result Ended RunFault → List PlanRange → List PlanRange → List ℕ → List ℕ → Type 0
-Watches result old new read written = IsWatchedBy result (AnswersFrames (first_course old new) empty_board []) read written
+abbrev pub Watches : Form → Result Ended RunFault → List PlanRange → List PlanRange → List ℕ → List ℕ → Type 0
+Watches form result old new read written = IsWatchedBy result (AnswersFrames form (first_course old new) empty_board []) read written

@@ -9,6 +9,7 @@ ghost use Rattle.squall_cli_watch.specs.Watched.{IsWatchedBy, Watches};
 use crate::piece::{answer_end, answer_piece};
 use crate::watcher::Watcher;
 use squall_board::Board;
+use squall_cli_command::Form;
 use squall_cli_device::{Sink, Source};
 use squall_cli_lines::{BLOCK_SIZE, Ended, Flow, MOST_READS, RunFault};
 use squall_course::Course;
@@ -43,7 +44,7 @@ fn answer_frames<S: Source, K: Sink>(
             return Err(RunFault::Read);
         };
         if n == 0 {
-            return answer_end(&waiting, writer);
+            return answer_end(watcher.form, &waiting, writer);
         }
         match answer_piece(alloc, watcher, &mut waiting, &block[..n], writer)? {
             Flow::On => {}
@@ -57,12 +58,13 @@ fn answer_frames<S: Source, K: Sink>(
 /// boards from `reader` to the end of the input or to a fault, and joins the boards. After each
 /// frame it answers with the lines of the status that differ from the line at the same place of the
 /// status after the frame before. Before the first frame there is no status, so that the first frame
-/// is answered with all lines. The answers to the frames that end in one read are written before
-/// the next read.
+/// is answered with all lines. As JSON it answers with the object of the status, on one line, if that
+/// is another than after the frame before. The answers to the frames that end in one read are written
+/// before the next read.
 ///
-/// A frame that is broken is answered with `refused - FAULT`, as a file named `-` is. A digest is a
-/// frame of another kind, `Kind`. Bytes at the end of the input that are too few for a frame are
-/// `Short`.
+/// A frame that is broken is answered with `refused - FAULT`, as a file named `-` is, or with the JSON
+/// object of that. A digest is a frame of another kind, `Kind`. Bytes at the end of the input that are
+/// too few for a frame are `Short`.
 ///
 /// - `Fine`: each frame is answered.
 /// - `Refused`: the input is refused, as the last line says. Each frame before that is answered.
@@ -75,6 +77,7 @@ fn answer_frames<S: Source, K: Sink>(
 /// [`MOST_READS`]: squall_cli_lines::MOST_READS
 pub fn watch<S: Source, K: Sink>(
     alloc: Global,
+    form: Form,
     old: &Plan,
     new: &Plan,
     reader: &mut S,
@@ -82,7 +85,7 @@ pub fn watch<S: Source, K: Sink>(
 ) -> Result<Ended, RunFault>
     // What is written is the answers to the frames that were read, and those of earlier reads came before the last read.
     ensures text { ReadAndWrote (S.state reader.old) (S.state reader.new) (K.state writer.old) (K.state writer.new)
-        (Watches result old.now new.now) }
+        (Watches form result old.now new.now) }
 
     // `Fine` comes only if a read found the end, and then nothing is left.
     ensures fine { result ≡ Ok Ended.Fine → GaveAll (S.state reader.old) (S.state reader.new) }
@@ -93,6 +96,7 @@ pub fn watch<S: Source, K: Sink>(
 {
     let first = Course::first(alloc, old, new)?;
     let mut watcher = Watcher {
+        form,
         first,
         board: Board::new(alloc),
         shown: String::new(alloc),

@@ -7,7 +7,9 @@ ghost use Rattle.squall_cli_lines.specs.Heeding.{HeedsWrites};
 ghost use Rattle.squall_cli_watch.specs.Taken.{plays, TakesPiece, AnswersPiece, AnswersEnd};
 
 use crate::hearing::hear;
+use crate::refusal::unfinished;
 use crate::watcher::Watcher;
+use squall_cli_command::Form;
 use squall_cli_device::{DeviceFault, Sink};
 use squall_cli_lines::{Ended, Flow, RunFault, send};
 use std::alloc::{AllocError, Global};
@@ -53,15 +55,19 @@ pub(crate) fn answer_piece<K: Sink>(
 }
 
 /// Answers the end of the input: bytes that wait are too few for a frame.
-pub(crate) fn answer_end<K: Sink>(waiting: &[u8], writer: &mut K) -> Result<Ended, RunFault>
-    ensures text { (sent : List ℕ) × TookBytes (K.state writer.old) (K.state writer.new) sent × AnswersEnd result waiting.now sent }
+pub(crate) fn answer_end<K: Sink>(
+    form: Form,
+    waiting: &[u8],
+    writer: &mut K,
+) -> Result<Ended, RunFault>
+    ensures text { (sent : List ℕ) × TookBytes (K.state writer.old) (K.state writer.new) sent × AnswersEnd form result waiting.now sent }
     ensures unread { result ≢ Err RunFault.Read }
     ensures heeds { HeedsWrites result (K.state writer.old) (K.state writer.new) }
 {
     if waiting.is_empty() {
         return Ok(Ended::Fine);
     }
-    match send(writer, b"refused - Short\n") {
+    match send(writer, unfinished(form)) {
         Ok(()) => Ok(Ended::Refused),
         Err(DeviceFault) => Err(RunFault::Write),
     }

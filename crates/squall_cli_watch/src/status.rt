@@ -1,31 +1,51 @@
-//! The lines of the status of the newest course.
+//! The status of the newest course.
 
-ghost use Rattle.std.specs.Prelude.{IfOk, string_bytes};
+ghost use Rattle.std.specs.Prelude.{◌≡◌, IfOk, string_bytes};
 ghost use Rattle.squall_board.specs.CourseRoute.{course_of_board};
-ghost use Rattle.squall_cli_watch.specs.Watched.{IsStatusText};
+ghost use Rattle.squall_cli_watch.specs.Watched.{status_in, IsStatusText};
 
 use squall_board::Board;
+use squall_cli_command::Form;
+use squall_cli_json::status_json;
 use squall_course::Course;
 use squall_status::{CourseStatus, Shown, add_status};
 use std::alloc::{AllocError, Global};
 
+/// How far a course has come, in the form.
+fn status_text(alloc: Global, form: Form, status: &CourseStatus) -> Result<String, AllocError>
+    ensures { IfOk result (λ text. string_bytes text ≡ status_in form status.now) }
+{
+    match form {
+        Form::Lines => {
+            let mut text = String::new(alloc);
+            add_status(status, Shown::EachMove, &mut text)?;
+            Ok(text)
+        }
+        Form::Json => status_json(alloc, status, Shown::EachMove),
+    }
+}
+
 /// How far the course has come, as the board says.
-fn course_text(alloc: Global, course: &Course, board: &Board) -> Result<String, AllocError>
-    ensures { IfOk result (λ text. IsStatusText course.now board.now (string_bytes text)) }
+fn course_text(
+    alloc: Global,
+    form: Form,
+    course: &Course,
+    board: &Board,
+) -> Result<String, AllocError>
+    ensures { IfOk result (λ text. IsStatusText form course.now board.now (string_bytes text)) }
 {
     let status = CourseStatus::of(alloc, course, board)?;
-    let mut text = String::new(alloc);
-    add_status(&status, Shown::EachMove, &mut text)?;
-    Ok(text)
+    status_text(alloc, form, &status)
 }
 
 /// How far the newest course has come of which the board tells, or else the first.
 pub(crate) fn newest_text(
     alloc: Global,
+    form: Form,
     first: &Course,
     board: &Board,
 ) -> Result<String, AllocError>
-    ensures { IfOk result (λ text. IsStatusText (course_of_board first.now board.now) board.now (string_bytes text)) }
+    ensures { IfOk result (λ text. IsStatusText form (course_of_board first.now board.now) board.now (string_bytes text)) }
 {
     match board.newest(first) {
         Some((number, issue)) => {
@@ -33,8 +53,8 @@ pub(crate) fn newest_text(
                 // The number is above that of the first course, so that only memory is missing.
                 return Err(AllocError);
             };
-            course_text(alloc, &course, board)
+            course_text(alloc, form, &course, board)
         }
-        None => course_text(alloc, first, board),
+        None => course_text(alloc, form, first, board),
     }
 }

@@ -4,13 +4,15 @@ ghost use Rattle.std.specs.Prelude.{◌≡◌, ◌++◌, ℕ, List, IfOk, OnOk, 
 ghost use Rattle.std.specs.List.{concat};
 ghost use Rattle.squall_board.specs.Boards.{board_join};
 ghost use Rattle.squall_wire.specs.Messages.{body_of};
-ghost use Rattle.squall_cli_watch.specs.Changed.{changed_text};
-ghost use Rattle.squall_cli_watch.specs.Watched.{IsNewestText, refused_frame};
+ghost use Rattle.squall_cli_watch.specs.Changed.{change_in};
+ghost use Rattle.squall_cli_watch.specs.Watched.{IsNewestText};
 ghost use Rattle.squall_cli_watch.specs.Taken.{plays, TakesFrame, TakesFrames};
 
-use crate::changed::add_changed;
+use crate::changed::add_change;
+use crate::refusal::add_refusal;
 use crate::status::newest_text;
 use squall_board::{Board, Delta};
+use squall_cli_command::Form;
 use squall_cli_lines::Flow;
 use squall_course::Course;
 use squall_wire::laws::lists_make_the_board;
@@ -20,6 +22,8 @@ use std::alloc::{AllocError, Global};
 /// What is known of a course that is watched.
 #[derive(Drop)]
 pub(crate) struct Watcher {
+    /// How the status is written.
+    pub(crate) form: Form,
     /// The course of the two plans.
     pub(crate) first: Course,
     /// The join of the boards so far.
@@ -28,25 +32,18 @@ pub(crate) struct Watcher {
     pub(crate) shown: String,
 }
 
-/// Adds the line that refuses the input for a fault.
-fn add_refusal(alloc: Global, fault: WireFault, out: &mut Vec<u8>) -> Result<(), AllocError>
-    ensures { OnOk result (out.new.items ≡ out.old.items ++ refused_frame fault) }
-{
-    let line = format!(in alloc; "refused - {fault}\n")?;
-    out.extend_from_slice(line.as_bytes())
-}
-
 impl Watcher {
-    /// Merges a board, and adds the lines of the status that change.
+    /// Merges a board, and adds what changes of the status.
     fn merge(&mut self, alloc: Global, delta: &Delta, out: &mut Vec<u8>) -> Result<(), AllocError>
+        ensures form { OnOk result (self.new.form ≡ self.old.form) }
         ensures first { OnOk result (self.new.first ≡ self.old.first) }
         ensures board { OnOk result (self.new.board ≡ board_join self.old.board delta.now) }
-        ensures shown { OnOk result (IsNewestText self.old.first (board_join self.old.board delta.now) (string_bytes self.new.shown)) }
-        ensures out { OnOk result (out.new.items ≡ out.old.items ++ changed_text (string_bytes self.old.shown) (string_bytes self.new.shown)) }
+        ensures shown { OnOk result (IsNewestText self.old.form self.old.first (board_join self.old.board delta.now) (string_bytes self.new.shown)) }
+        ensures out { OnOk result (out.new.items ≡ out.old.items ++ change_in self.old.form (string_bytes self.old.shown) (string_bytes self.new.shown)) }
     {
         self.board.merge(delta)?;
-        let text = newest_text(alloc, &self.first, &self.board)?;
-        add_changed(self.shown.as_bytes(), text.as_bytes(), out)?;
+        let text = newest_text(alloc, self.form, &self.first, &self.board)?;
+        add_change(self.form, self.shown.as_bytes(), text.as_bytes(), out)?;
         self.shown = text;
         Ok(())
     }
@@ -68,7 +65,7 @@ impl Watcher {
                 Ok(Flow::On)
             }
             Message::Digest(_) => {
-                add_refusal(alloc, WireFault::Kind, out)?;
+                add_refusal(alloc, self.form, WireFault::Kind, out)?;
                 Ok(Flow::End)
             }
         }
@@ -93,7 +90,7 @@ impl Watcher {
         }
         match fault {
             Some(fault) => {
-                add_refusal(alloc, fault, out)?;
+                add_refusal(alloc, self.form, fault, out)?;
                 Ok(Flow::End)
             }
             None => Ok(Flow::On),

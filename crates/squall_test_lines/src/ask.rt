@@ -168,7 +168,7 @@ const INPUT_TAKEN: &[u8] = b"error: standard input is read as it comes, so that 
 type Followed = (Stream, &'static [&'static str], &'static [u8]);
 
 /// Streams, and what they bring about.
-static STREAMS: [(Followed, Wanted); 9] = [
+static STREAMS: [(Followed, Wanted); 12] = [
     (
         (
             Stream::Keys,
@@ -194,7 +194,7 @@ static STREAMS: [(Followed, Wanted); 9] = [
         (3, b"", b"squall: cannot open none\n"),
     ),
     (
-        (Stream::Frames, &["plan", "plan"], OPENED),
+        (Stream::Frames(Form::Lines), &["plan", "plan"], OPENED),
         (
             0,
             b"course 1 moves 0 sub-plans 0 open none loaded 0 of 0 keys 1000/1000\n",
@@ -202,15 +202,31 @@ static STREAMS: [(Followed, Wanted); 9] = [
         ),
     ),
     (
-        (Stream::Frames, &["plan", "plan"], b"S"),
+        (Stream::Frames(Form::Lines), &["plan", "plan"], b"S"),
         (1, b"refused - Short\n", b""),
     ),
     (
-        (Stream::Frames, &["plan", "opened"], OPENED),
+        (Stream::Frames(Form::Lines), &["plan", "opened"], OPENED),
         (1, b"refused new Json\n", b""),
     ),
     (
-        (Stream::Frames, &["-", "plan"], OPENED),
+        (Stream::Frames(Form::Json), &["plan", "plan"], OPENED),
+        (
+            0,
+            b"{\"course\":1,\"keys\":0,\"loaded\":0,\"move_count\":0,\"moves\":[],\"open\":null,\"subplan_count\":0,\"subplans\":[],\"thousandths\":1000}\n",
+            b"",
+        ),
+    ),
+    (
+        (Stream::Frames(Form::Json), &["plan", "plan"], b"S"),
+        (1, b"{\"fault\":\"Short\",\"refused\":\"-\"}\n", b""),
+    ),
+    (
+        (Stream::Frames(Form::Json), &["plan", "opened"], OPENED),
+        (1, b"{\"fault\":\"Json\",\"refused\":\"new\"}\n", b""),
+    ),
+    (
+        (Stream::Frames(Form::Lines), &["-", "plan"], OPENED),
         (2, b"", INPUT_TAKEN),
     ),
 ];

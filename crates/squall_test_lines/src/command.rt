@@ -225,13 +225,28 @@ fn line_of(alloc: Global, ask: &Ask) -> Result<String, AllocError> {
 }
 
 /// Command lines that ask for standard input to be answered as it comes, and the files that they give.
-static FOLLOWED: [(&[&str], Stream, &str); 3] = [
+static FOLLOWED: [(&[&str], Stream, &str); 6] = [
     (&["squall", "route", "o", "n"], Stream::Keys, "o n "),
     (&["squall", "route", "o", "n", "-"], Stream::Keys, "o n "),
     (
         &["squall", "route", "-", "n", "--board", "-", "-"],
         Stream::Keys,
         "- n - ",
+    ),
+    (
+        &["squall", "watch", "o", "n"],
+        Stream::Frames(Form::Lines),
+        "o n ",
+    ),
+    (
+        &["squall", "watch", "--json", "o", "n"],
+        Stream::Frames(Form::Json),
+        "o n ",
+    ),
+    (
+        &["squall", "watch", "o", "n", "--json"],
+        Stream::Frames(Form::Json),
+        "o n ",
     ),
 ];
 

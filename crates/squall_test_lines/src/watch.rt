@@ -1,4 +1,5 @@
 // What is written while frames come, over readers and writers that give and take one byte, or fail.
+use squall_cli_command::Form;
 use squall_cli_device::{Reader, Writer};
 use squall_cli_lines::{Ended, RunFault};
 use squall_cli_watch::watch;
@@ -50,6 +51,29 @@ course 1 moves 2 sub-plans 1 open 0 loaded 17179869184 of 17179869184 keys 1000/
 sub-plan 0 receivers 1 of 2 done
 move [6:0,9:0) 3 to 4 sub 0 complete
 ";
+
+/// The object of the status after the first frame, with its LF.
+const FIRST_OBJECT: &str = concat!(
+    r#"{"course":1,"keys":17179869184,"loaded":0,"move_count":2,"moves":["#,
+    r#"{"from":1,"hi":"3:0","keys":4294967296,"lo":"2:0","loaded":0,"missing":null,"state":"not started","sub":0,"to":3},"#,
+    r#"{"from":3,"hi":"9:0","keys":12884901888,"lo":"6:0","loaded":0,"missing":null,"state":"not started","sub":0,"to":4}"#,
+    r#"],"open":0,"subplan_count":1,"subplans":[{"done":0,"opened":true,"receivers":2,"sub":0}],"thousandths":0}"#,
+    "\n",
+);
+
+/// The objects after the other two.
+const OTHER_OBJECTS: &str = concat!(
+    r#"{"course":1,"keys":17179869184,"loaded":4294967296,"move_count":2,"moves":["#,
+    r#"{"from":1,"hi":"3:0","keys":4294967296,"lo":"2:0","loaded":4294967296,"missing":null,"state":"complete","sub":0,"to":3},"#,
+    r#"{"from":3,"hi":"9:0","keys":12884901888,"lo":"6:0","loaded":0,"missing":null,"state":"not started","sub":0,"to":4}"#,
+    r#"],"open":0,"subplan_count":1,"subplans":[{"done":0,"opened":true,"receivers":2,"sub":0}],"thousandths":250}"#,
+    "\n",
+    r#"{"course":1,"keys":17179869184,"loaded":17179869184,"move_count":2,"moves":["#,
+    r#"{"from":1,"hi":"3:0","keys":4294967296,"lo":"2:0","loaded":4294967296,"missing":null,"state":"complete","sub":0,"to":3},"#,
+    r#"{"from":3,"hi":"9:0","keys":12884901888,"lo":"6:0","loaded":12884901888,"missing":null,"state":"complete","sub":0,"to":4}"#,
+    r#"],"open":0,"subplan_count":1,"subplans":[{"done":1,"opened":true,"receivers":2,"sub":0}],"thousandths":1000}"#,
+    "\n",
+);
 
 /// Gives at most this many bytes per read. After some reads it fails once, and then continues.
 #[derive(Drop)]
@@ -114,10 +138,11 @@ const FINE: Devices = Devices {
     room: usize::MAX,
 };
 
-/// What is watched of the example plans when these bytes come, and what is written of it. None if an
-/// allocation fails before or after.
+/// What is watched of the example plans when these bytes come, and what is written of it in the form.
+/// None if an allocation fails before or after.
 fn watched(
     alloc: Global,
+    form: Form,
     bytes: &[u8],
     devices: Devices,
 ) -> Option<(Result<Ended, RunFault>, Vec<u8>)> {
@@ -133,7 +158,7 @@ fn watched(
         taken: &mut taken,
         room: devices.room,
     });
-    let ended = watch(alloc, &old, &new, &mut reader, &mut writer);
+    let ended = watch(alloc, form, &old, &new, &mut reader, &mut writer);
     drop(writer);
     Some((ended, taken))
 }
@@ -141,6 +166,7 @@ fn watched(
 /// Whether the bytes bring this end and this text.
 fn brings(
     alloc: Global,
+    form: Form,
     bytes: &[&[u8]],
     devices: Devices,
     wanted: Result<Ended, RunFault>,
@@ -148,25 +174,66 @@ fn brings(
 ) -> Result<bool, Fail> {
     let bytes = bytes.concat(alloc)?;
     let answers = answers.concat(alloc)?;
-    let (ended, text) = watched(alloc, &bytes, devices).ok_or("memory")?;
+    let (ended, text) = watched(alloc, form, &bytes, devices).ok_or("memory")?;
     Ok(ended == wanted && text.as_slice() == answers.as_bytes())
 }
 
 /// How frames are cut into reads changes nothing.
 #[test]
 fn each_frame_is_answered(rt: HostRuntime) -> Result<(), Fail> {
+    let frames = [OPENED, LOADED, DONE];
     for most in [1usize, 7, 24, 25, usize::MAX] {
         let devices = Devices { most, ..FINE };
+        let fine = Ok(Ended::Fine);
         assert!(rt;
             brings(
                 rt.alloc(),
-                &[OPENED, LOADED, DONE],
+                Form::Lines,
+                &frames,
                 devices,
-                Ok(Ended::Fine),
+                fine,
                 &[FIRST, OTHERS]
             )?
         );
+        assert!(rt;
+            brings(
+                rt.alloc(),
+                Form::Json,
+                &frames,
+                devices,
+                fine,
+                &[FIRST_OBJECT, OTHER_OBJECTS]
+            )?
+        );
     }
+    Ok(())
+}
+
+/// A frame that tells nothing new has no answer. The first frame has one in any case.
+#[test]
+fn nothing_new_is_not_answered(rt: HostRuntime) -> Result<(), Fail> {
+    let frames = [OPENED, OPENED, LOADED, OPENED, LOADED, DONE, DONE];
+    let fine = Ok(Ended::Fine);
+    assert!(rt;
+        brings(
+            rt.alloc(),
+            Form::Lines,
+            &frames,
+            FINE,
+            fine,
+            &[FIRST, OTHERS]
+        )?
+    );
+    assert!(rt;
+        brings(
+            rt.alloc(),
+            Form::Json,
+            &frames,
+            FINE,
+            fine,
+            &[FIRST_OBJECT, OTHER_OBJECTS]
+        )?
+    );
     Ok(())
 }
 
@@ -175,9 +242,51 @@ fn each_frame_is_answered(rt: HostRuntime) -> Result<(), Fail> {
 fn faults_end_the_answers(rt: HostRuntime) -> Result<(), Fail> {
     let alloc = rt.alloc();
     let refused = Ok(Ended::Refused);
+    let faults: [(&[u8], &str, &str); 3] = [
+        (
+            b"SX",
+            "refused - Magic\n",
+            "{\"fault\":\"Magic\",\"refused\":\"-\"}\n",
+        ),
+        (
+            DIGEST,
+            "refused - Kind\n",
+            "{\"fault\":\"Kind\",\"refused\":\"-\"}\n",
+        ),
+        (
+            b"SQ",
+            "refused - Short\n",
+            "{\"fault\":\"Short\",\"refused\":\"-\"}\n",
+        ),
+    ];
+    for (bytes, line, object) in faults {
+        let frames = [OPENED, bytes];
+        assert!(rt; brings(alloc, Form::Lines, &frames, FINE, refused, &[FIRST, line])?);
+        assert!(rt;
+            brings(
+                alloc,
+                Form::Json,
+                &frames,
+                FINE,
+                refused,
+                &[FIRST_OBJECT, object]
+            )?
+        );
+    }
+    Ok(())
+}
+
+/// An input without a byte has no answer. What comes after a frame that ends the answers has none.
+#[test]
+fn nothing_else_is_answered(rt: HostRuntime) -> Result<(), Fail> {
+    let alloc = rt.alloc();
+    assert!(rt; brings(alloc, Form::Lines, &[], FINE, Ok(Ended::Fine), &[])?);
+    assert!(rt; brings(alloc, Form::Json, &[], FINE, Ok(Ended::Fine), &[])?);
+    let refused = Ok(Ended::Refused);
     assert!(rt;
         brings(
             alloc,
+            Form::Lines,
             &[OPENED, b"SX", DONE],
             FINE,
             refused,
@@ -187,22 +296,13 @@ fn faults_end_the_answers(rt: HostRuntime) -> Result<(), Fail> {
     assert!(rt;
         brings(
             alloc,
+            Form::Lines,
             &[OPENED, DIGEST, DONE],
             FINE,
             refused,
             &[FIRST, "refused - Kind\n"]
         )?
     );
-    assert!(rt;
-        brings(
-            alloc,
-            &[OPENED, b"SQ"],
-            FINE,
-            refused,
-            &[FIRST, "refused - Short\n"]
-        )?
-    );
-    assert!(rt; brings(alloc, &[], FINE, Ok(Ended::Fine), &[])?);
     Ok(())
 }
 
@@ -210,43 +310,56 @@ fn faults_end_the_answers(rt: HostRuntime) -> Result<(), Fail> {
 #[test]
 fn devices_that_fail_are_told(rt: HostRuntime) -> Result<(), Fail> {
     let alloc = rt.alloc();
+    let frames = [OPENED, LOADED];
     let read = Devices {
         most: 24,
         reads: 1,
         ..FINE
     };
     let write = Devices { room: 10, ..FINE };
+    let (unread, unwritten) = (Err(RunFault::Read), Err(RunFault::Write));
+    assert!(rt; brings(alloc, Form::Lines, &frames, read, unread, &[FIRST])?);
     assert!(rt;
         brings(
             alloc,
-            &[OPENED, LOADED],
-            read,
-            Err(RunFault::Read),
-            &[FIRST]
-        )?
-    );
-    assert!(rt;
-        brings(
-            alloc,
-            &[OPENED, LOADED],
+            Form::Lines,
+            &frames,
             write,
-            Err(RunFault::Write),
+            unwritten,
             &["course 1 m"]
         )?
     );
+    assert!(rt; brings(alloc, Form::Json, &frames, read, unread, &[FIRST_OBJECT])?);
+    assert!(rt;
+        brings(
+            alloc,
+            Form::Json,
+            &frames,
+            write,
+            unwritten,
+            &["{\"course\":"]
+        )?
+    );
     Ok(())
+}
+
+/// Whether the first answer is whole, or memory is short and nothing is written.
+fn is_whole_or_nothing(watched: &(Result<Ended, RunFault>, Vec<u8>), answer: &str) -> bool {
+    let (ended, text) = watched;
+    match ended {
+        Err(RunFault::NoMemory) => text.is_empty(),
+        _ => *ended == Ok(Ended::Fine) && text.as_slice() == answer.as_bytes(),
+    }
 }
 
 /// The first answer is whole, or memory is short and nothing is written, whichever allocation is
 /// refused.
 #[test]
 fn tolerant_watch(rt: HostRuntime) {
-    if let Some((ended, text)) = watched(rt.alloc(), OPENED, FINE) {
-        if ended == Err(RunFault::NoMemory) {
-            assert!(rt; text.is_empty());
-        } else {
-            assert!(rt; ended == Ok(Ended::Fine));
-            assert!(rt; text.as_slice() == FIRST.as_bytes());
-        }
+    if let Some(watched) = watched(rt.alloc(), Form::Lines, OPENED, FINE) {
+        assert!(rt; is_whole_or_nothing(&watched, FIRST));
+    }
+    if let Some(watched) = watched(rt.alloc(), Form::Json, OPENED, FINE) {
+        assert!(rt; is_whole_or_nothing(&watched, FIRST_OBJECT));
     }
 }

@@ -2,6 +2,10 @@ use Rattle.std.proofs.Common.{refl}
 use Rattle.clap.proofs.OnLiterals.{clap_on_literals}
 use Rattle.squall_cli_command.proofs.laws.frames_of_standard_input.Goals as goal
 
-pub returns : goal.returns
+pub returns-clause-lines : goal.returns-clause-lines
 unfolding clap_on_literals
-returns c = λ name. (refl, refl)
+returns-clause-lines c = λ name. (refl, refl)
+
+pub returns-clause-json : goal.returns-clause-json
+unfolding clap_on_literals
+returns-clause-json c = λ name. (refl, refl)

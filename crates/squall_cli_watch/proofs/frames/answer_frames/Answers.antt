@@ -12,7 +12,7 @@ returns-in_err-room-clause-text g c =
     let reader = g.S.Source.state c.args.reader.now in
     let writer = g.K.Sink.state c.args.writer.now in
     let p = err_from_is_err_and c.from_residual.result c.from_residual.ensures.1 in
-    rw (p.1, p.2) (ended_empty first first reader reader writer writer [] (λ f. refl) (watching_start first reader writer))
+    rw (p.1, p.2) (ended_empty c.args.watcher.now.form first first reader reader writer writer [] (λ f. refl) (watching_start first reader writer))
 
 pub loop-turn-init : goal.loop-turn-init
 loop-turn-init g c =
@@ -29,14 +29,14 @@ loop-turn-init g c =
 
 pub returns-in_default-clause-text : goal.returns-in_default-clause-text
 returns-in_default-clause-text g c =
-    ended_read (plays c.args.watcher.now) (plays c.loop-turn.watcher) (g.S.Source.state c.args.reader.now) (g.S.Source.state c.loop-turn.reader)
+    ended_read c.loop-turn.watcher.form (plays c.args.watcher.now) (plays c.loop-turn.watcher) (g.S.Source.state c.args.reader.now) (g.S.Source.state c.loop-turn.reader)
     (g.K.Sink.state c.args.writer.now) (g.K.Sink.state c.loop-turn.writer) c.loop-turn.waiting.items (λ f. refl) c.loop-turn.invariant.watching
     (g.S.Source.state c.read.new.self) c.in_default.ensures.bytes
 
 pub returns-then-n-eq0-clause-text : goal.returns-then-n-eq0-clause-text
 returns-then-n-eq0-clause-text g c =
     let t = c.answer_end.ensures.text in
-    ended_last (plays c.args.watcher.now) (plays c.loop-turn.watcher) (g.S.Source.state c.args.reader.now) (g.S.Source.state c.loop-turn.reader)
+    ended_last c.loop-turn.watcher.form (plays c.args.watcher.now) (plays c.loop-turn.watcher) (g.S.Source.state c.args.reader.now) (g.S.Source.state c.loop-turn.reader)
     (g.K.Sink.state c.args.writer.now) (g.K.Sink.state c.loop-turn.writer) c.loop-turn.waiting.items (λ f. refl) c.loop-turn.invariant.watching
     (g.S.Source.state c.read.new.self) (g.K.Sink.state c.answer_end.new.writer) c.answer_end.result t.0 (rw c.if-n-eq0.true at c.in-Ok.ensures.bytes.0) t.1 (rw c.deref.ensures.value at t.2)
 
@@ -44,18 +44,18 @@ pub returns-in_err-answer_piece-clause-text : goal.returns-in_err-answer_piece-c
 returns-in_err-answer_piece-clause-text g c =
     let p = err_from_is_err_and c.from_residual-in_err-answer_piece.result c.from_residual-in_err-answer_piece.ensures.1 in
     let t = c.in_err-answer_piece.ensures.text in
-    rw (p.1, p.2) (ended_stopped (plays c.args.watcher.now) (plays c.loop-turn.watcher) (g.S.Source.state c.args.reader.now) (g.S.Source.state c.loop-turn.reader)
+    rw (p.1, p.2) (ended_stopped c.loop-turn.watcher.form (plays c.args.watcher.now) (plays c.loop-turn.watcher) (g.S.Source.state c.args.reader.now) (g.S.Source.state c.loop-turn.reader)
     (g.K.Sink.state c.args.writer.now) (g.K.Sink.state c.loop-turn.writer) c.loop-turn.waiting.items (λ f. refl) c.loop-turn.invariant.watching
-    (g.S.Source.state c.read.new.self) (g.K.Sink.state c.answer_piece.new.writer) (plays c.answer_piece.new.watcher) (λ f. refl)
+    (g.S.Source.state c.read.new.self) (g.K.Sink.state c.answer_piece.new.writer) c.answer_piece.new.watcher.form (plays c.answer_piece.new.watcher) (λ f. refl)
     (take c.in-Ok.n c.read.new.buf) t.0 c.answer_piece.new.waiting.items (take_small c.in-Ok.n c.read.new.buf (omega arith)) c.in-Ok.ensures.bytes.0 t.1
     c.in_err-answer_piece.field-0.0 t.2)
 
 pub returns-in-End-clause-text : goal.returns-in-End-clause-text
 returns-in-End-clause-text g c =
     let t = rw c.in-End.is at c.in_ok-answer_piece.ensures.text in
-    ended_refused (plays c.args.watcher.now) (plays c.loop-turn.watcher) (g.S.Source.state c.args.reader.now) (g.S.Source.state c.loop-turn.reader)
+    ended_refused c.loop-turn.watcher.form (plays c.args.watcher.now) (plays c.loop-turn.watcher) (g.S.Source.state c.args.reader.now) (g.S.Source.state c.loop-turn.reader)
     (g.K.Sink.state c.args.writer.now) (g.K.Sink.state c.loop-turn.writer) c.loop-turn.waiting.items (λ f. refl) c.loop-turn.invariant.watching
-    (g.S.Source.state c.read.new.self) (g.K.Sink.state c.answer_piece.new.writer) (plays c.answer_piece.new.watcher) (λ f. refl)
+    (g.S.Source.state c.read.new.self) (g.K.Sink.state c.answer_piece.new.writer) c.answer_piece.new.watcher.form (plays c.answer_piece.new.watcher) (λ f. refl)
     (take c.in-Ok.n c.read.new.buf) t.0 c.answer_piece.new.waiting.items (take_small c.in-Ok.n c.read.new.buf (omega arith)) c.in-Ok.ensures.bytes.0 t.1
     t.2.0 t.2.1 t.2.2
 
@@ -66,9 +66,9 @@ loop-turn-preserved g c =
     let t = rw c.in-On.is at b.text in
     let h = b.heeds.1 (λ e. fine_is_no_error _ _ e) in
     record {
-      watching = watching_more (plays c.args.watcher.now) (plays c.loop-turn.watcher) (g.S.Source.state c.args.reader.now) (g.S.Source.state c.loop-turn.reader)
+      watching = watching_more c.loop-turn.watcher.form (plays c.args.watcher.now) (plays c.loop-turn.watcher) (g.S.Source.state c.args.reader.now) (g.S.Source.state c.loop-turn.reader)
           (g.K.Sink.state c.args.writer.now) (g.K.Sink.state c.loop-turn.writer) c.loop-turn.waiting.items (λ f. refl) i.watching
-          (g.S.Source.state c.read.new.self) (g.K.Sink.state c.answer_piece.new.writer) (plays c.answer_piece.new.watcher) (λ f. refl)
+          (g.S.Source.state c.read.new.self) (g.K.Sink.state c.answer_piece.new.writer) c.answer_piece.new.watcher.form (plays c.answer_piece.new.watcher) (λ f. refl)
           (take c.in-Ok.n c.read.new.buf) t.0 c.answer_piece.new.waiting.items (take_small c.in-Ok.n c.read.new.buf (omega arith)) c.in-Ok.ensures.bytes.0 t.1
           t.2.0 t.2.1 t.2.2;
       room = omega arith;
@@ -78,7 +78,7 @@ loop-turn-preserved g c =
 
 pub returns-clause-text : goal.returns-clause-text
 returns-clause-text g c =
-    ended_now (plays c.args.watcher.now) (plays c.loop-turn.watcher) (g.S.Source.state c.args.reader.now) (g.S.Source.state c.loop-turn.reader)
+    ended_now c.loop-turn.watcher.form (plays c.args.watcher.now) (plays c.loop-turn.watcher) (g.S.Source.state c.args.reader.now) (g.S.Source.state c.loop-turn.reader)
     (g.K.Sink.state c.args.writer.now) (g.K.Sink.state c.loop-turn.writer) c.loop-turn.waiting.items (λ f. refl) c.loop-turn.invariant.watching
 
 pub returns-then-n-eq0-clause-fine : goal.returns-then-n-eq0-clause-fine

@@ -15,7 +15,7 @@ returns-in_err-first-clause-text g c =
       [],
       Consumes-nil (g.S.Source.state c.args.reader.now).remaining,
       Appends-nil (g.K.Sink.state c.args.writer.now).contents,
-      nothing_watched (AnswersFrames (first_course c.args.old.now c.args.new.now) empty_board []) (λ f. refl),
+      nothing_watched c.args.form (AnswersFrames c.args.form (first_course c.args.old.now c.args.new.now) empty_board []) (λ f. refl),
     )
 
 pub returns-clause-text : goal.returns-clause-text
@@ -25,6 +25,7 @@ returns-clause-text g c =
     let w0 = g.K.Sink.state c.args.writer.now in
     let w1 = g.K.Sink.state c.answer_frames.new.writer in
     let result = c.answer_frames.result in
-    subst (λ first. ReadAndWrote r0 r1 w0 w1 (IsWatchedBy result (AnswersFrames first empty_board []))) c.in_ok-first.ensures.course
-    (subst (λ board. ReadAndWrote r0 r1 w0 w1 (IsWatchedBy result (AnswersFrames c.in_ok-first.first board []))) c.new.ensures.empty
-    (subst (λ shown. ReadAndWrote r0 r1 w0 w1 (IsWatchedBy result (AnswersFrames c.in_ok-first.first c.new.result shown))) c.new-2.ensures.bytes c.answer_frames.ensures.text))
+    let form = c.args.form in
+    subst (λ first. ReadAndWrote r0 r1 w0 w1 (IsWatchedBy result (AnswersFrames form first empty_board []))) c.in_ok-first.ensures.course
+    (subst (λ board. ReadAndWrote r0 r1 w0 w1 (IsWatchedBy result (AnswersFrames form c.in_ok-first.first board []))) c.new.ensures.empty
+    (subst (λ shown. ReadAndWrote r0 r1 w0 w1 (IsWatchedBy result (AnswersFrames form c.in_ok-first.first c.new.result shown))) c.new-2.ensures.bytes c.answer_frames.ensures.text))

@@ -38,8 +38,8 @@ returns-in_ok-add_refusal-in-Some c =
     let at = c.loop-message.message-index in
     let ms = c.args.messages.now in
     let ends = begun_fault (plays c.args.self.now) (plays c.loop-message.self) (plays c.loop-message.self) i.0 (map body_of (drop at ms)) (map body_of ms) i.2 c.in-Some.fault
-    (refused_frame c.in-Some.fault) (none_left body_of ms at (omega (arith, c.loop-message-test.false))) refl in (
-      i.0 ++ refused_frame c.in-Some.fault ∷ [],
-      added c.loop-message.out.items c.add_refusal.new.out.items c.args.out.now.items i.0 (refused_frame c.in-Some.fault) i.1 c.in_ok-add_refusal-in-Some.ensures,
+    (refused_frame c.loop-message.self.form c.in-Some.fault) (none_left body_of ms at (omega (arith, c.loop-message-test.false))) refl in (
+      i.0 ++ refused_frame c.loop-message.self.form c.in-Some.fault ∷ [],
+      added c.loop-message.out.items c.add_refusal.new.out.items c.args.out.now.items i.0 (refused_frame c.loop-message.self.form c.in-Some.fault) i.1 c.in_ok-add_refusal-in-Some.ensures,
       rw c.in-Some.is ends,
     )
