@@ -15,7 +15,6 @@ use squall_key::{Key, PartId};
 use squall_report::Report;
 use std::alloc::{AllocError, Global};
 use std::process::Abort;
-use std::test::Fail;
 
 /// The board of these reports.
 pub(crate) fn board_of(alloc: Global, reports: &[Report]) -> Result<Board, AllocError> {
@@ -35,84 +34,82 @@ pub(crate) fn board_of_two(alloc: Global) -> Option<Board> {
     board_of(alloc, &reports).ok()
 }
 
-/// Takes the report, if there is one.
+/// Takes the report, if there is one. None if an allocation fails.
 ///
 /// A helper of its own, as most here are: it owns no board. A proof of a test costs more with each
 /// value that the test owns, on each way out of it. So a test makes its boards, and lends them to a
 /// function that looks at them.
-pub(crate) fn take(board: &mut Board, report: Option<Report>) -> Result<(), Fail> {
-    let report = report.ok_or("report")?;
-    board.take(&report)?;
-    Ok(())
+pub(crate) fn take(board: &mut Board, report: Option<Report>) -> Option<()> {
+    let report = report?;
+    board.take(&report).ok()?;
+    Some(())
 }
 
-/// Whether the board sends the key to the partition, by course 1 of the example plans.
-fn sends(alloc: Global, board: &Board, key: Key, part: u32) -> Result<bool, Fail> {
-    let course = course(alloc).ok_or("a course")?;
-    Ok(Some(board.route(&course, key)) == PartId::new(part))
+/// Whether the board sends the key to the partition, by course 1 of the example plans. None if an
+/// allocation fails.
+fn sends(alloc: Global, board: &Board, key: Key, part: u32) -> Option<bool> {
+    let course = course(alloc)?;
+    Some(Some(board.route(&course, key)) == PartId::new(part))
 }
 
 /// Takes the load, and looks at a key of it before and after.
-fn load_moves(rt: &impl Abort, alloc: Global, board: &mut Board) -> Result<(), Fail> {
-    let key = Key::read("2:0").ok_or("key")?;
-    assert!(rt; sends(alloc, board, key, 1)?);
-    take(board, load("2:0", "3:0"))?;
-    assert!(rt; board.says_loaded(1, 0, 3, key) && !board.says_loaded(2, 0, 3, key));
-    assert!(rt; sends(alloc, board, key, 3)?);
-    Ok(())
+fn load_moves(rt: &impl Abort, alloc: Global, board: &mut Board) {
+    let key = Key::read("2:0").expect(rt, "key");
+    holds!(rt; sends(alloc, board, key, 1).expect(rt, "memory"));
+    take(board, load("2:0", "3:0")).expect(rt, "memory");
+    holds!(rt; board.says_loaded(1, 0, 3, key) && !board.says_loaded(2, 0, 3, key));
+    holds!(rt; sends(alloc, board, key, 3).expect(rt, "memory"));
 }
 
 #[test]
-fn load_moves_the_route(rt: HostRuntime) -> Result<(), Fail> {
+fn load_moves_the_route(rt: HostRuntime) {
     let mut board = Board::new(rt.alloc());
     load_moves(&rt, rt.alloc(), &mut board)
 }
 
 /// Looks at the completion of partition 4, and at a key that it moves.
-fn completion_moves(rt: &impl Abort, alloc: Global, board: &Board) -> Result<(), Fail> {
-    let far = Key::read("8:4294967295").ok_or("far key")?;
-    assert!(rt; board.says_done(1, 0, 4) && !board.says_done(1, 0, 3));
-    assert!(rt; sends(alloc, board, far, 4)?);
-    Ok(())
+fn completion_moves(rt: &impl Abort, alloc: Global, board: &Board) {
+    let far = Key::read("8:4294967295").expect(rt, "far key");
+    holds!(rt; board.says_done(1, 0, 4) && !board.says_done(1, 0, 3));
+    holds!(rt; sends(alloc, board, far, 4).expect(rt, "memory"));
 }
 
 #[test]
-fn completion_moves_the_route(rt: HostRuntime) -> Result<(), Fail> {
-    let board = board_of_two(rt.alloc()).ok_or("a board")?;
+fn completion_moves_the_route(rt: HostRuntime) {
+    let board = board_of_two(rt.alloc()).expect(&rt, "a board");
     completion_moves(&rt, rt.alloc(), &board)
 }
 
-/// Takes completions in another number, in another sub-plan and of another partition.
-fn take_others(board: &mut Board) -> Result<(), Fail> {
+/// Takes completions in another number, in another sub-plan and of another partition. None if an
+/// allocation fails.
+fn take_others(board: &mut Board) -> Option<()> {
     take(board, Report::done(2, 0, 3))?;
     take(board, Report::done(1, 1, 3))?;
     take(board, Report::done(1, 0, 4))
 }
 
 /// Takes reports of others, and looks at a key that they do not move.
-fn others_move_nothing(rt: &impl Abort, alloc: Global, board: &mut Board) -> Result<(), Fail> {
-    let key = Key::read("2:0").ok_or("key")?;
-    take_others(board)?;
-    assert!(rt; sends(alloc, board, key, 1)?);
-    Ok(())
+fn others_move_nothing(rt: &impl Abort, alloc: Global, board: &mut Board) {
+    let key = Key::read("2:0").expect(rt, "key");
+    take_others(board).expect(rt, "memory");
+    holds!(rt; sends(alloc, board, key, 1).expect(rt, "memory"));
 }
 
 #[test]
-fn reports_of_others_move_nothing(rt: HostRuntime) -> Result<(), Fail> {
+fn reports_of_others_move_nothing(rt: HostRuntime) {
     let mut board = Board::new(rt.alloc());
     others_move_nothing(&rt, rt.alloc(), &mut board)
 }
 
 /// Takes two openings, and looks at the counts.
-fn count_openings(rt: &impl Abort, board: &mut Board) -> Result<(), Fail> {
-    take(board, Report::opened(1, 1))?;
-    take(board, Report::opened(1, 0))?;
-    assert!(rt; board.opened(1) == 2 && board.opened(2) == 0);
-    Ok(())
+fn count_openings(rt: &impl Abort, board: &mut Board) {
+    take(board, Report::opened(1, 1)).expect(rt, "memory");
+    take(board, Report::opened(1, 0)).expect(rt, "memory");
+    holds!(rt; board.opened(1) == 2 && board.opened(2) == 0);
 }
 
 #[test]
-fn openings(rt: HostRuntime) -> Result<(), Fail> {
+fn openings(rt: HostRuntime) {
     let mut board = Board::new(rt.alloc());
     count_openings(&rt, &mut board)
 }
@@ -147,22 +144,23 @@ fn is_merged_of(alloc: Global, all: &Board, reports: &[Report; 2]) -> Result<boo
     Ok(are_alike(all, &merged))
 }
 
-/// Whether the board is that of the two reports, merged from the last to the first.
-fn is_merged_from_last(alloc: Global, all: &Board) -> Result<bool, Fail> {
-    let reports = two_reports().ok_or("reports")?;
-    Ok(is_merged_of(alloc, all, &reports)?)
+/// Whether the board is that of the two reports, merged from the last to the first. None if an
+/// allocation fails.
+fn is_merged_from_last(alloc: Global, all: &Board) -> Option<bool> {
+    let reports = two_reports()?;
+    is_merged_of(alloc, all, &reports).ok()
 }
 
-/// Whether the board of the two reports is that of them merged from the last to the first.
-fn two_are_merged(alloc: Global) -> Result<bool, Fail> {
-    let all = board_of_two(alloc).ok_or("a board")?;
+/// Whether the board of the two reports is that of them merged from the last to the first. None if
+/// an allocation fails.
+fn two_are_merged(alloc: Global) -> Option<bool> {
+    let all = board_of_two(alloc)?;
     is_merged_from_last(alloc, &all)
 }
 
 #[test]
-fn lists_and_merges(rt: HostRuntime) -> Result<(), Fail> {
-    assert!(rt; two_are_merged(rt.alloc())?);
-    Ok(())
+fn lists_and_merges(rt: HostRuntime) {
+    holds!(&rt; two_are_merged(rt.alloc()).expect(&rt, "memory"));
 }
 
 /// The load from 2:0 to 3:0, in two pieces.
@@ -176,10 +174,10 @@ pub(crate) fn is_of(alloc: Global, board: &Board, reports: &[Report]) -> Result<
     Ok(*board == wanted)
 }
 
-/// Whether the board is that of the cut load.
-fn is_cut_load(alloc: Global, whole: &Board) -> Result<bool, Fail> {
-    let reports = cut_load().ok_or("a cut load")?;
-    Ok(is_of(alloc, whole, &reports)?)
+/// Whether the board is that of the cut load. None if an allocation fails.
+fn is_cut_load(alloc: Global, whole: &Board) -> Option<bool> {
+    let reports = cut_load()?;
+    is_of(alloc, whole, &reports).ok()
 }
 
 /// Whether a copy of the board is equal to it.
@@ -195,15 +193,14 @@ fn is_empty(alloc: Global, board: &Board) -> bool {
 }
 
 /// Takes the load whole, and looks at what is equal to the board.
-fn compare_copies_and_cuts(rt: &impl Abort, alloc: Global, board: &mut Board) -> Result<(), Fail> {
-    take(board, load("2:0", "3:0"))?;
-    assert!(rt; is_cut_load(alloc, board)?);
-    assert!(rt; is_its_copy(alloc, board)? && !is_empty(alloc, board));
-    Ok(())
+fn compare_copies_and_cuts(rt: &impl Abort, alloc: Global, board: &mut Board) {
+    take(board, load("2:0", "3:0")).expect(rt, "memory");
+    holds!(rt; is_cut_load(alloc, board).expect(rt, "memory"));
+    holds!(rt; is_its_copy(alloc, board).expect(rt, "memory") && !is_empty(alloc, board));
 }
 
 #[test]
-fn copies_and_cuts(rt: HostRuntime) -> Result<(), Fail> {
+fn copies_and_cuts(rt: HostRuntime) {
     let mut whole = Board::new(rt.alloc());
     compare_copies_and_cuts(&rt, rt.alloc(), &mut whole)
 }
@@ -213,14 +210,8 @@ pub(crate) fn issued(alloc: Global, number: u32, old: &str, new: &str) -> Option
     Report::issued(number, issue(alloc, old, new)?)
 }
 
-/// Takes that one plan follows the other under the number.
-fn take_issue(
-    alloc: Global,
-    board: &mut Board,
-    number: u32,
-    old: &str,
-    new: &str,
-) -> Result<(), Fail> {
+/// Takes that one plan follows the other under the number. None if an allocation fails.
+fn take_issue(alloc: Global, board: &mut Board, number: u32, old: &str, new: &str) -> Option<()> {
     take(board, issued(alloc, number, old, new))
 }
 
@@ -230,18 +221,17 @@ fn has_one_issue(board: &Board, number: u32) -> bool {
 }
 
 /// Takes one issue twice, and another under its number.
-fn take_issues_that_clash(rt: &impl Abort, alloc: Global, board: &mut Board) -> Result<(), Fail> {
-    take_issue(alloc, board, 2, OLD, NEW)?;
-    assert!(rt; has_one_issue(board, 2) && matches!(board.issuing(1), Flat::Unknown));
-    take_issue(alloc, board, 2, OLD, NEW)?;
-    assert!(rt; has_one_issue(board, 2));
-    take_issue(alloc, board, 2, NEW, OLD)?;
-    assert!(rt; matches!(board.issuing(2), Flat::Clash));
-    Ok(())
+fn take_issues_that_clash(rt: &impl Abort, alloc: Global, board: &mut Board) {
+    take_issue(alloc, board, 2, OLD, NEW).expect(rt, "memory");
+    holds!(rt; has_one_issue(board, 2) && matches!(board.issuing(1), Flat::Unknown));
+    take_issue(alloc, board, 2, OLD, NEW).expect(rt, "memory");
+    holds!(rt; has_one_issue(board, 2));
+    take_issue(alloc, board, 2, NEW, OLD).expect(rt, "memory");
+    holds!(rt; matches!(board.issuing(2), Flat::Clash));
 }
 
 #[test]
-fn issues_and_clashes(rt: HostRuntime) -> Result<(), Fail> {
+fn issues_and_clashes(rt: HostRuntime) {
     let mut board = Board::new(rt.alloc());
     take_issues_that_clash(&rt, rt.alloc(), &mut board)
 }
@@ -254,32 +244,30 @@ fn newest_after(board: &Board, course: &Course) -> Option<u32> {
     }
 }
 
-/// The number of the newest course after course 1.
-fn newest_number(alloc: Global, board: &Board) -> Result<Option<u32>, Fail> {
-    let course = course(alloc).ok_or("a course")?;
-    Ok(newest_after(board, &course))
+/// The number of the newest course after course 1. None if an allocation fails.
+fn newest_number(alloc: Global, board: &Board) -> Option<Option<u32>> {
+    let course = course(alloc)?;
+    Some(newest_after(board, &course))
 }
 
 /// Takes three issues, and looks at the newest course before and after.
-fn take_three_issues(rt: &impl Abort, alloc: Global, board: &mut Board) -> Result<(), Fail> {
-    assert!(rt; newest_number(alloc, board)?.is_none());
-    take_issue(alloc, board, 1, NEW, OLD)?;
-    take_issue(alloc, board, 3, NEW, OLD)?;
-    take_issue(alloc, board, 2, OLD, NEW)?;
-    assert!(rt; newest_number(alloc, board)? == Some(3));
-    Ok(())
+fn take_three_issues(rt: &impl Abort, alloc: Global, board: &mut Board) {
+    holds!(rt; newest_number(alloc, board).expect(rt, "memory").is_none());
+    take_issue(alloc, board, 1, NEW, OLD).expect(rt, "memory");
+    take_issue(alloc, board, 3, NEW, OLD).expect(rt, "memory");
+    take_issue(alloc, board, 2, OLD, NEW).expect(rt, "memory");
+    holds!(rt; newest_number(alloc, board).expect(rt, "memory") == Some(3));
 }
 
 /// Takes three issues and one that clashes with the newest, and looks at the newest course then.
-fn take_issues_and_a_clash(rt: &impl Abort, alloc: Global, board: &mut Board) -> Result<(), Fail> {
-    take_three_issues(rt, alloc, board)?;
-    take_issue(alloc, board, 3, OLD, NEW)?;
-    assert!(rt; newest_number(alloc, board)? == Some(2));
-    Ok(())
+fn take_issues_and_a_clash(rt: &impl Abort, alloc: Global, board: &mut Board) {
+    take_three_issues(rt, alloc, board);
+    take_issue(alloc, board, 3, OLD, NEW).expect(rt, "memory");
+    holds!(rt; newest_number(alloc, board).expect(rt, "memory") == Some(2));
 }
 
 #[test]
-fn newest_course(rt: HostRuntime) -> Result<(), Fail> {
+fn newest_course(rt: HostRuntime) {
     let mut board = Board::new(rt.alloc());
     take_issues_and_a_clash(&rt, rt.alloc(), &mut board)
 }

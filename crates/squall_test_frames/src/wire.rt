@@ -77,7 +77,7 @@ pub(crate) fn is_framed_as(alloc: Global, board: &Board, text: &str) -> Result<b
 /// fails.
 pub(crate) fn is_still(rt: &impl Abort, alloc: Global, board: &Board, text: &str) {
     if let Ok(same) = is_framed_as(alloc, board, text) {
-        assert!(rt; same);
+        holds!(rt; same);
     }
 }
 

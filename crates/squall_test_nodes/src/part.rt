@@ -14,7 +14,6 @@ use squall_report::{Report, ReportKind};
 use squall_span::SpanSet;
 use std::alloc::{AllocError, Global};
 use std::process::Abort;
-use std::test::Fail;
 
 /// A partition that has heard nothing.
 fn fresh_part(alloc: Global, number: u32) -> Option<Part> {
@@ -50,7 +49,7 @@ fn chunk(number: u32, sub: u32, source: u32, hi: &str) -> Option<Chunk> {
 #[test]
 fn chunks_have_limits(rt: HostRuntime) {
     for (number, sub, is_some) in [(0, 0, false), (1, 10000, false), (1, 9999, true)] {
-        assert!(rt; chunk(number, sub, 1, "2:1").is_some() == is_some);
+        holds!(&rt; chunk(number, sub, 1, "2:1").is_some() == is_some);
     }
 }
 
@@ -175,51 +174,45 @@ enum Step {
     Tell,
 }
 
-/// Writes what comes of the step.
-fn answer(alloc: Global, part: &mut Part, step: Step, out: &mut String) -> Result<(), Fail> {
-    match step {
-        Step::Open(number) => {
-            let heard = hears_opening(alloc, part, number).ok_or("an opening")?;
-            write!(out, "{heard}")?;
-        }
-        Step::Turn => {
-            let heard = hears_of_way_back(alloc, part).ok_or("a way back")?;
-            write!(out, "{heard}")?;
-        }
-        Step::Give(max) => write_gift(out, part.give(max))?,
-        Step::GiveAt(root) => write_gift(out, part.give_at(Key::new(root, 0).ok_or("a key")?))?,
-        Step::Load(number, sub, source, hi) => {
-            let chunk = chunk(number, sub, source, hi).ok_or("a chunk")?;
-            write_outcome(out, part.load(&chunk))?;
-        }
-        Step::Finish => write_ending(out, part.finish(0))?,
-        Step::Serve(after) => write_reply(out, part.serve(Key::new(2, 0).ok_or("a key")?, after))?,
-        Step::Hold => write_spans(out, part.held())?,
-        Step::Tell => write_sets(out, part)?,
-    }
-    out.push_str("; ")?;
-    Ok(())
+/// Writes whether it was heard.
+fn write_heard(out: &mut String, heard: bool) -> Result<(), AllocError> {
+    write!(out, "{heard}")
 }
 
-/// Writes what comes of each of the steps, one after the other.
-fn write_answers(
-    alloc: Global,
-    part: &mut Part,
-    steps: &[Step],
-    out: &mut String,
-) -> Result<(), Fail> {
+/// Writes what comes of the step. None if an allocation fails.
+fn answer(alloc: Global, part: &mut Part, step: Step, out: &mut String) -> Option<()> {
+    let written = match step {
+        Step::Open(number) => write_heard(out, hears_opening(alloc, part, number)?),
+        Step::Turn => write_heard(out, hears_of_way_back(alloc, part)?),
+        Step::Give(max) => write_gift(out, part.give(max)),
+        Step::GiveAt(root) => write_gift(out, part.give_at(Key::new(root, 0)?)),
+        Step::Load(number, sub, source, hi) => {
+            write_outcome(out, part.load(&chunk(number, sub, source, hi)?))
+        }
+        Step::Finish => write_ending(out, part.finish(0)),
+        Step::Serve(after) => write_reply(out, part.serve(Key::new(2, 0)?, after)),
+        Step::Hold => write_spans(out, part.held()),
+        Step::Tell => write_sets(out, part),
+    };
+    written.ok()?;
+    out.push_str("; ").ok()
+}
+
+/// Writes what comes of each of the steps, one after the other. None if an allocation fails.
+fn write_answers(alloc: Global, part: &mut Part, steps: &[Step], out: &mut String) -> Option<()> {
     for step in steps {
         answer(alloc, part, *step, out)?;
     }
-    Ok(())
+    Some(())
 }
 
 /// Whether the steps of a partition of that number, which has heard nothing, have these answers.
-fn has_answers(alloc: Global, number: u32, steps: &[Step], wanted: &str) -> Result<bool, Fail> {
-    let mut part = fresh_part(alloc, number).ok_or("a partition")?;
+/// None if an allocation fails.
+fn has_answers(alloc: Global, number: u32, steps: &[Step], wanted: &str) -> Option<bool> {
+    let mut part = fresh_part(alloc, number)?;
     let mut out = String::new(alloc);
     write_answers(alloc, &mut part, steps, &mut out)?;
-    Ok(part.id().get() == number && out.as_str() == wanted)
+    Some(part.id().get() == number && out.as_str() == wanted)
 }
 
 /// Steps of partitions that have heard nothing, each step with its answer.
@@ -313,14 +306,13 @@ const STEPS: [(u32, &[Step], &str); 7] = [
 ///
 /// A table is lent to a function that goes over it, since a loop over the table itself costs a
 /// proof more with each of its rows.
-fn have_answers(rt: &impl Abort, alloc: Global, rows: &[(u32, &[Step], &str)]) -> Result<(), Fail> {
+fn have_answers(rt: &impl Abort, alloc: Global, rows: &[(u32, &[Step], &str)]) {
     for (number, steps, wanted) in rows {
-        assert!(rt; has_answers(alloc, *number, steps, wanted)?, "{wanted}");
+        holds!(rt; has_answers(alloc, *number, steps, wanted).expect(rt, "memory"), wanted);
     }
-    Ok(())
 }
 
 #[test]
-fn partitions_answer(rt: HostRuntime) -> Result<(), Fail> {
+fn partitions_answer(rt: HostRuntime) {
     have_answers(&rt, rt.alloc(), &STEPS)
 }

@@ -4,6 +4,7 @@ mod clients;
 mod errands;
 mod example;
 mod legs;
+mod limits;
 mod routers;
 mod takes;
 mod tolerant;

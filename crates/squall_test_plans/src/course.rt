@@ -118,37 +118,31 @@ fn has_moves(rt: &impl Abort, course: &Course, wanted: &[(u32, u32, u32, u32, u3
 /// There is no course of the number 0 from the plan to itself, and one of the number 1, which moves nothing.
 fn look_at_still(rt: &impl Abort, alloc: Global, old: &Plan) -> Result<(), Fail> {
     let fault = Course::new(alloc, 0, old, old).err();
-    assert!(rt; fault == Some(CourseFault::ZeroNumber));
+    holds!(rt; fault == Some(CourseFault::ZeroNumber));
     let course = course(alloc, old, old)?;
-    assert!(rt; course.number() == 1 && course.moves().is_empty() && course.subplans() == 0);
+    holds!(rt; course.number() == 1 && course.moves().is_empty() && course.subplans() == 0);
     Ok(())
 }
 
 /// The course has this number, these plans and two moves.
 fn look_at_course(rt: &impl Abort, course: &Course, number: u32, old: &Plan, new: &Plan) {
-    assert!(rt; course.number() == number);
-    assert!(rt; *course.old_plan() == *old && *course.new_plan() == *new);
-    assert!(rt; course.moves().len() == 2);
+    holds!(rt; course.number() == number);
+    holds!(rt; *course.old_plan() == *old && *course.new_plan() == *new);
+    holds!(rt; course.moves().len() == 2);
 }
 
 /// The courses of many numbers from the old plan to the new one.
-fn look_at_numbers(
-    rt: &impl Abort,
-    alloc: Global,
-    old: &Plan,
-    new: &Plan,
-) -> Result<(), CourseFault> {
+fn look_at_numbers(rt: &impl Abort, alloc: Global, old: &Plan, new: &Plan) {
     for number in [2, 7, 4294967295] {
-        let course = Course::new(alloc, number, old, new)?;
+        let course = Course::new(alloc, number, old, new).expect(rt, "memory");
         look_at_course(rt, &course, number, old, new);
     }
-    Ok(())
 }
 
 /// The courses of many numbers from the old plan.
 fn look_at_numbers_from(rt: &impl Abort, alloc: Global, old: &Plan) -> Result<(), Fail> {
     let new = plan(rt, alloc, &NEW)?;
-    look_at_numbers(rt, alloc, old, &new)?;
+    look_at_numbers(rt, alloc, old, &new);
     Ok(())
 }
 
@@ -161,86 +155,76 @@ fn courses_of_many_numbers(rt: HostRuntime) -> Result<(), Fail> {
 
 /// The course has two moves, both in one sub-plan, in which each source has its destination.
 fn look_at_two(rt: &impl Abort, course: &Course) {
-    assert!(rt; has_moves(rt, course, &[(2, 3, 1, 3, 0), (6, 9, 3, 4, 0)]));
-    assert!(rt; course.subplans() == 1);
+    holds!(rt; has_moves(rt, course, &[(2, 3, 1, 3, 0), (6, 9, 3, 4, 0)]));
+    holds!(rt; course.subplans() == 1);
     let source = part(rt, 3);
-    assert!(rt; course.dest(0, source) == Some(part(rt, 4)));
-    assert!(rt; course.dest(1, source).is_none());
+    holds!(rt; course.dest(0, source) == Some(part(rt, 4)));
+    holds!(rt; course.dest(1, source).is_none());
 }
 
 /// Looks at the owners of a key that moves, and of one that does not.
 fn look_at_owners(rt: &impl Abort, course: &Course) {
     let moving = key(rt, 2);
     let still = key(rt, 3);
-    assert!(rt; course.subplan_of(moving) == Some(0));
-    assert!(rt; course.subplan_of(still).is_none());
-    assert!(rt; course.old_owner(moving).get() == 1);
-    assert!(rt; course.new_owner(moving).get() == 3);
+    holds!(rt; course.subplan_of(moving) == Some(0));
+    holds!(rt; course.subplan_of(still).is_none());
+    holds!(rt; course.old_owner(moving).get() == 1);
+    holds!(rt; course.new_owner(moving).get() == 3);
     let old = part(rt, 1);
     let new = part(rt, 3);
     let sub = Some(0);
-    assert!(rt; course.owners(moving) == Owners { old, new, sub });
-    assert!(rt; course.owners(still).sub.is_none());
+    holds!(rt; course.owners(moving) == Owners { old, new, sub });
+    holds!(rt; course.owners(still).sub.is_none());
 }
 
 /// Of the roots of the first sub-plan those from `lo` on, below `hi`, come to the partition.
-fn roots_come(
-    rt: &impl Abort,
-    alloc: Global,
-    course: &Course,
-    number: u32,
-    lo: u32,
-    hi: u32,
-) -> Result<(), AllocError> {
-    let incoming = course.incoming(alloc, 0, part(rt, number))?;
-    assert!(rt; incoming.spans() == [span(rt, (lo, 0), (hi, 0))].as_slice());
-    Ok(())
+fn roots_come(rt: &impl Abort, alloc: Global, course: &Course, number: u32, lo: u32, hi: u32) {
+    let incoming = course
+        .incoming(alloc, 0, part(rt, number))
+        .expect(rt, "memory");
+    holds!(rt; incoming.spans() == [span(rt, (lo, 0), (hi, 0))].as_slice());
 }
 
 /// Of the roots of the first sub-plan those from 2 on, below 3, go from the partition 1.
-fn roots_go(rt: &impl Abort, alloc: Global, course: &Course) -> Result<(), AllocError> {
-    let outgoing = course.outgoing(alloc, 0, part(rt, 1))?;
-    assert!(rt; outgoing.spans() == [span(rt, (2, 0), (3, 0))].as_slice());
-    Ok(())
+fn roots_go(rt: &impl Abort, alloc: Global, course: &Course) {
+    let outgoing = course.outgoing(alloc, 0, part(rt, 1)).expect(rt, "memory");
+    holds!(rt; outgoing.spans() == [span(rt, (2, 0), (3, 0))].as_slice());
 }
 
 /// No keys come to the partition 4 in the second sub-plan.
-fn none_come_later(rt: &impl Abort, alloc: Global, course: &Course) -> Result<(), AllocError> {
-    let later = course.incoming(alloc, 1, part(rt, 4))?;
-    assert!(rt; later.is_empty());
-    Ok(())
+fn none_come_later(rt: &impl Abort, alloc: Global, course: &Course) {
+    let later = course.incoming(alloc, 1, part(rt, 4)).expect(rt, "memory");
+    holds!(rt; later.is_empty());
 }
 
 /// Keys come to the partitions 3 and 4 in the first sub-plan.
-fn two_receive(rt: &impl Abort, alloc: Global, course: &Course) -> Result<(), AllocError> {
-    let receivers = course.receivers(alloc, 0)?;
-    assert!(rt; receivers.as_slice() == [part(rt, 3), part(rt, 4)].as_slice());
-    Ok(())
+fn two_receive(rt: &impl Abort, alloc: Global, course: &Course) {
+    let receivers = course.receivers(alloc, 0).expect(rt, "memory");
+    holds!(rt; receivers.as_slice() == [part(rt, 3), part(rt, 4)].as_slice());
 }
 
 /// A span is complete beside the set of its keys.
-fn look_at_status(rt: &impl Abort, alloc: Global, course: &Course) -> Result<(), AllocError> {
+fn look_at_status(rt: &impl Abort, alloc: Global, course: &Course) {
     let prefix = span(rt, (2, 0), (2, 7));
-    let some = SpanSet::of(alloc, &prefix)?;
-    assert!(rt; course.status(&prefix, &some) == Status::Complete);
-    Ok(())
+    let some = SpanSet::of(alloc, &prefix).expect(rt, "memory");
+    holds!(rt; course.status(&prefix, &some) == Status::Complete);
 }
 
 /// Each call that the course of the example answers.
-fn look_at_example(rt: &impl Abort, alloc: Global, course: &Course) -> Result<(), AllocError> {
+fn look_at_example(rt: &impl Abort, alloc: Global, course: &Course) {
     look_at_two(rt, course);
     look_at_owners(rt, course);
-    roots_come(rt, alloc, course, 4, 6, 9)?;
-    roots_go(rt, alloc, course)?;
-    none_come_later(rt, alloc, course)?;
-    two_receive(rt, alloc, course)?;
+    roots_come(rt, alloc, course, 4, 6, 9);
+    roots_go(rt, alloc, course);
+    none_come_later(rt, alloc, course);
+    two_receive(rt, alloc, course);
     look_at_status(rt, alloc, course)
 }
 
 #[test]
 fn moves_of_the_example(rt: HostRuntime) -> Result<(), Fail> {
     let course = course_between(&rt, rt.alloc(), &OLD, &NEW)?;
-    look_at_example(&rt, rt.alloc(), &course)?;
+    look_at_example(&rt, rt.alloc(), &course);
     Ok(())
 }
 
@@ -248,7 +232,7 @@ fn moves_of_the_example(rt: HostRuntime) -> Result<(), Fail> {
 fn destinations_take_subplans_by_their_numbers(rt: HostRuntime) -> Result<(), Fail> {
     let course = course_between(&rt, rt.alloc(), &ONE, &FOUR)?;
     let wanted = [(10, 20, 1, 4, 2), (20, 30, 1, 2, 0), (30, END, 1, 3, 1)];
-    assert!(rt; has_moves(&rt, &course, &wanted) && course.subplans() == 3);
+    holds!(&rt; has_moves(&rt, &course, &wanted) && course.subplans() == 3);
     Ok(())
 }
 
@@ -260,37 +244,33 @@ pub(crate) fn step(rt: &impl Abort, first: u32, place: u32) -> PlanRange {
 
 /// 4096 ranges: the partition `first`, the one after it and so on have one root each, the last all
 /// that is left.
-fn ranges_of_4096(
-    rt: &impl Abort,
-    alloc: Global,
-    first: u32,
-) -> Result<Vec<PlanRange>, AllocError> {
+fn ranges_of_4096(rt: &impl Abort, alloc: Global, first: u32) -> Vec<PlanRange> {
     let mut ranges = Vec::new(alloc);
     for place in 0..4096u32 {
-        ranges.push(step(rt, first, place))?;
+        ranges.push(step(rt, first, place)).expect(rt, "memory");
     }
-    Ok(ranges)
+    ranges
 }
 
 /// The plan of the 4096 ranges.
-fn plan_of_4096(rt: &impl Abort, alloc: Global, first: u32) -> Result<Plan, Fail> {
-    let ranges = ranges_of_4096(rt, alloc, first)?;
-    Ok(plan_of_ranges(alloc, &ranges).ok_or("a plan")?)
+fn plan_of_4096(rt: &impl Abort, alloc: Global, first: u32) -> Plan {
+    let ranges = ranges_of_4096(rt, alloc, first);
+    plan_of_ranges(alloc, &ranges).expect(rt, "a plan")
 }
 
 /// The course from the old plan to the one of 4096 ranges.
 fn course_to_4096(rt: &impl Abort, alloc: Global, old: &Plan, first: u32) -> Result<Course, Fail> {
-    let new = plan_of_4096(rt, alloc, first)?;
+    let new = plan_of_4096(rt, alloc, first);
     course(alloc, old, &new)
 }
 
 /// The course has 4096 moves, each to another partition in a sub-plan of its own.
 fn look_at_feeds(rt: &impl Abort, course: &Course) {
-    assert!(rt; course.moves().len() == 4096);
-    assert!(rt; course.subplans() == 4096);
+    holds!(rt; course.moves().len() == 4096);
+    holds!(rt; course.subplans() == 4096);
     for one in course.moves() {
-        assert!(rt; one.dest.get() == one.sub.saturating_add(1000));
-        assert!(rt; clients::may_be_opened(course, one.sub));
+        holds!(rt; one.dest.get() == one.sub.saturating_add(1000));
+        holds!(rt; clients::may_be_opened(course, one.sub));
     }
 }
 
@@ -310,45 +290,39 @@ fn receiver_count(alloc: Global, course: &Course) -> Result<usize, AllocError> {
 
 /// The course between two plans of 4096 ranges.
 fn course_of_4096(rt: &impl Abort, alloc: Global) -> Result<Course, Fail> {
-    let old = plan_of_4096(rt, alloc, 1000)?;
+    let old = plan_of_4096(rt, alloc, 1000);
     course_to_4096(rt, alloc, &old, 1001)
 }
 
 /// The course moves each of 4096 ranges to another partition.
-fn look_at_4096(rt: &impl Abort, alloc: Global, course: &Course) -> Result<(), AllocError> {
+fn look_at_4096(rt: &impl Abort, alloc: Global, course: &Course) {
     clients::are_plans(course);
-    assert!(rt; course.moves().len() == 4096);
-    assert!(rt; course.subplans() == 1);
-    assert!(rt; receiver_count(alloc, course)? == 4096);
+    holds!(rt; course.moves().len() == 4096);
+    holds!(rt; course.subplans() == 1);
+    holds!(rt; receiver_count(alloc, course).expect(rt, "memory") == 4096);
     roots_come(rt, alloc, course, 1001, 0, 1)
 }
 
 #[test]
 fn ranges_of_4096_move_on(rt: HostRuntime) -> Result<(), Fail> {
     let course = course_of_4096(&rt, rt.alloc())?;
-    look_at_4096(&rt, rt.alloc(), &course)?;
+    look_at_4096(&rt, rt.alloc(), &course);
     Ok(())
 }
 
 /// How many keys from 2:0 on, below 3:0, are in the set of the keys between these.
-fn status_between(
-    rt: &impl Abort,
-    alloc: Global,
-    lo: (u32, u32),
-    hi: (u32, u32),
-) -> Result<Status, AllocError> {
-    let set = SpanSet::of(alloc, &span(rt, lo, hi))?;
-    Ok(Status::of(&span(rt, (2, 0), (3, 0)), &set))
+fn status_between(rt: &impl Abort, alloc: Global, lo: (u32, u32), hi: (u32, u32)) -> Status {
+    let set = SpanSet::of(alloc, &span(rt, lo, hi)).expect(rt, "memory");
+    Status::of(&span(rt, (2, 0), (3, 0)), &set)
 }
 
 #[test]
-fn status_of_a_span(rt: HostRuntime) -> Result<(), AllocError> {
+fn status_of_a_span(rt: HostRuntime) {
     for (lo, hi, wanted) in [
         ((3, 0), (END, 0), Status::NotStarted),
         ((2, 0), (2, 7), Status::Partial),
         ((0, 0), (END, 0), Status::Complete),
     ] {
-        assert!(rt; status_between(&rt, rt.alloc(), lo, hi)? == wanted);
+        holds!(&rt; status_between(&rt, rt.alloc(), lo, hi) == wanted);
     }
-    Ok(())
 }

@@ -11,7 +11,6 @@ use squall_plan::{Plan, PlanFault, PlanRange};
 use squall_span::Span;
 use std::alloc::{AllocError, Global};
 use std::process::Abort;
-use std::test::Fail;
 
 /// Writes the range, and a semicolon after it.
 fn write_range(out: &mut String, range: &PlanRange) -> Result<(), AllocError> {
@@ -47,15 +46,14 @@ fn shown(alloc: Global, text: &[u8]) -> Result<String, AllocError> {
 ///
 /// What a proof of a test costs grows with the values that the test owns, times the ways out of it: so this function
 /// owns the one string, and the tests own none.
-fn shows(rt: &impl Abort, alloc: Global, text: &[u8], wanted: &str) -> Result<(), Fail> {
-    let shown = shown(alloc, text)?;
-    assert!(rt; shown.as_str() == wanted);
-    Ok(())
+fn shows(rt: &impl Abort, alloc: Global, text: &[u8], wanted: &str) {
+    let shown = shown(alloc, text).expect(rt, "memory");
+    holds!(rt; shown.as_str() == wanted);
 }
 
 /// A text with these entries alone is shown so.
-fn entries_show(rt: &impl Abort, alloc: Global, entries: &str, wanted: &str) -> Result<(), Fail> {
-    let text = format!(in alloc; "{{\"plan\":[{entries}]}}")?;
+fn entries_show(rt: &impl Abort, alloc: Global, entries: &str, wanted: &str) {
+    let text = format!(in alloc; "{{\"plan\":[{entries}]}}").expect(rt, "memory");
     shows(rt, alloc, text.as_bytes(), wanted)
 }
 
@@ -78,11 +76,11 @@ fn range(rt: &impl Abort, number: u32, lo: &str, hi: &str) -> PlanRange {
 }
 
 #[test]
-fn texts(rt: HostRuntime) -> Result<(), Fail> {
+fn texts(rt: HostRuntime) {
     let old = "1 [0:0,3:0);2 [3:0,5:0);3 [5:0,9:0);4 [9:0,end);";
     let new = "1 [0:0,2:0);3 [2:0,3:0);2 [3:0,5:0);3 [5:0,6:0);4 [6:0,end);";
     let one = r#"{"plan":[{"part":9999,"from":[0,0],"to":[4294967295,0],"note":"x"}],"v":1}"#;
-    shows(&rt, rt.alloc(), &[255], "Json")?;
+    shows(&rt, rt.alloc(), &[255], "Json");
     for (text, wanted) in [
         (OLD, old),
         (NEW, new),
@@ -96,13 +94,12 @@ fn texts(rt: HostRuntime) -> Result<(), Fail> {
         (r#"{"plan":[],"plan":{}}"#, "Shape"),
         (r#"{"plan":{},"plan":[]}"#, "Gap 0:0"),
     ] {
-        shows(&rt, rt.alloc(), text.as_bytes(), wanted)?;
+        shows(&rt, rt.alloc(), text.as_bytes(), wanted);
     }
-    Ok(())
 }
 
 #[test]
-fn entries_that_are_no_ranges(rt: HostRuntime) -> Result<(), Fail> {
+fn entries_that_are_no_ranges(rt: HostRuntime) {
     for (entry, wanted) in [
         (r#"{"part":1,"from":[0,0]}"#, "Shape 0"),
         (r#"{"part":-1,"from":[0,0],"to":"end"}"#, "Shape 0"),
@@ -133,13 +130,12 @@ fn entries_that_are_no_ranges(rt: HostRuntime) -> Result<(), Fail> {
             "EmptyRange 0",
         ),
     ] {
-        entries_show(&rt, rt.alloc(), entry, wanted)?;
+        entries_show(&rt, rt.alloc(), entry, wanted);
     }
-    Ok(())
 }
 
 #[test]
-fn entries_that_are_no_plan(rt: HostRuntime) -> Result<(), Fail> {
+fn entries_that_are_no_plan(rt: HostRuntime) {
     for (entries, wanted) in [
         (
             r#"{"part":1,"from":[0,4294967296],"to":"end"},{"part":10000,"from":[0,0],"to":"end"}"#,
@@ -154,9 +150,8 @@ fn entries_that_are_no_plan(rt: HostRuntime) -> Result<(), Fail> {
             "Gap 3:5",
         ),
     ] {
-        entries_show(&rt, rt.alloc(), entries, wanted)?;
+        entries_show(&rt, rt.alloc(), entries, wanted);
     }
-    Ok(())
 }
 
 /// Adds the bracket `times` times.
@@ -178,14 +173,14 @@ fn nested(alloc: Global, depth: u32) -> Result<String, AllocError> {
 }
 
 /// A plan beside that many arrays is shown so.
-fn nested_shows(rt: &impl Abort, alloc: Global, depth: u32, wanted: &str) -> Result<(), Fail> {
-    let text = nested(alloc, depth)?;
+fn nested_shows(rt: &impl Abort, alloc: Global, depth: u32, wanted: &str) {
+    let text = nested(alloc, depth).expect(rt, "memory");
     shows(rt, alloc, text.as_bytes(), wanted)
 }
 
 #[test]
-fn deep_texts(rt: HostRuntime) -> Result<(), Fail> {
-    nested_shows(&rt, rt.alloc(), 126, "1 [0:0,end);")?;
+fn deep_texts(rt: HostRuntime) {
+    nested_shows(&rt, rt.alloc(), 126, "1 [0:0,end);");
     nested_shows(&rt, rt.alloc(), 127, "Json")
 }
 
@@ -210,22 +205,24 @@ fn of_roots(alloc: Global, last: u32) -> Result<String, AllocError> {
 }
 
 /// A text of that many entries and one more is shown so.
-fn long_shows(rt: &impl Abort, alloc: Global, last: u32, wanted: &str) -> Result<(), Fail> {
-    let text = of_roots(alloc, last)?;
+fn long_shows(rt: &impl Abort, alloc: Global, last: u32, wanted: &str) {
+    let text = of_roots(alloc, last).expect(rt, "memory");
     shows(rt, alloc, text.as_bytes(), wanted)
 }
 
 #[test]
-fn long_texts(rt: HostRuntime) -> Result<(), Fail> {
-    long_shows(&rt, rt.alloc(), 4095, "1 [0:0,end);")?;
+fn long_texts(rt: HostRuntime) {
+    long_shows(&rt, rt.alloc(), 4095, "1 [0:0,end);");
     long_shows(&rt, rt.alloc(), 4096, "TooMany")
 }
 
 /// A plan of two ranges that make one, given in falling order.
-fn plan_of_one_range(rt: &impl Abort, alloc: Global) -> Result<Plan, Fail> {
+fn plan_of_one_range(rt: &impl Abort, alloc: Global) -> Plan {
     let ranges = [range(rt, 1, "2:0", "end"), range(rt, 1, "0:0", "2:0")];
-    let plan = Plan::from_ranges(alloc, &ranges).ok().ok_or("one range")?;
-    Ok(plan)
+    let plan = Plan::from_ranges(alloc, &ranges)
+        .ok()
+        .expect(rt, "one range");
+    plan
 }
 
 /// Whether a copy of the plan is equal to it.
@@ -234,26 +231,23 @@ fn is_its_copy(alloc: Global, plan: &Plan) -> Result<bool, AllocError> {
     Ok(copy == *plan)
 }
 
-/// The plan of the new text.
-fn new_plan(alloc: Global) -> Result<Plan, Fail> {
-    let plan = Plan::read(alloc, NEW.as_bytes())
-        .ok()
-        .ok_or("the new plan")?;
-    Ok(plan)
+/// The plan of the new text. None if an allocation fails.
+fn new_plan(alloc: Global) -> Option<Plan> {
+    let plan = Plan::read(alloc, NEW.as_bytes()).ok()?;
+    Some(plan)
 }
 
 /// The plan is of one range, and it is not the new one.
-fn look_at_one_range(rt: &impl Abort, alloc: Global, plan: &Plan) -> Result<(), Fail> {
-    assert!(rt; plan.ranges() == [range(rt, 1, "0:0", "end")].as_slice());
-    assert!(rt; is_its_copy(alloc, plan)?);
-    let new = new_plan(alloc)?;
-    assert!(rt; new != *plan);
-    Ok(())
+fn look_at_one_range(rt: &impl Abort, alloc: Global, plan: &Plan) {
+    holds!(rt; plan.ranges() == [range(rt, 1, "0:0", "end")].as_slice());
+    holds!(rt; is_its_copy(alloc, plan).expect(rt, "memory"));
+    let new = new_plan(alloc).expect(rt, "memory");
+    holds!(rt; new != *plan);
 }
 
 #[test]
-fn ranges_that_are_joined(rt: HostRuntime) -> Result<(), Fail> {
-    let plan = plan_of_one_range(&rt, rt.alloc())?;
+fn ranges_that_are_joined(rt: HostRuntime) {
+    let plan = plan_of_one_range(&rt, rt.alloc());
     look_at_one_range(&rt, rt.alloc(), &plan)
 }
 
@@ -269,42 +263,42 @@ fn look_at_owners(rt: &impl Abort, new: &Plan) {
     ];
     for (text, number) in owners {
         let key = key(rt, text);
-        assert!(rt; new.owner(key).get() == number);
-        assert!(rt; new.names(clients::named_owner(new, key)));
+        holds!(rt; new.owner(key).get() == number);
+        holds!(rt; new.names(clients::named_owner(new, key)));
     }
-    assert!(rt; !new.names(part(rt, 5)));
+    holds!(rt; !new.names(part(rt, 5)));
 }
 
 #[test]
-fn owners(rt: HostRuntime) -> Result<(), Fail> {
-    let new = new_plan(rt.alloc())?;
+fn owners(rt: HostRuntime) {
+    let new = new_plan(rt.alloc()).expect(&rt, "memory");
     look_at_owners(&rt, &new);
-    Ok(())
 }
 
 /// The 4096 ranges of one root each, and of all that is left, in falling order.
-fn falling_ranges(rt: &impl Abort, alloc: Global) -> Result<Vec<PlanRange>, AllocError> {
+fn falling_ranges(rt: &impl Abort, alloc: Global) -> Vec<PlanRange> {
     let mut ranges = Vec::new(alloc);
     for place in 0..4096u32 {
-        ranges.push(step(rt, 1000, 4095 - place))?;
+        ranges
+            .push(step(rt, 1000, 4095 - place))
+            .expect(rt, "memory");
     }
-    Ok(ranges)
+    ranges
 }
 
 /// The plan of these ranges.
-fn plan_of_4096(rt: &impl Abort, alloc: Global) -> Result<Plan, Fail> {
-    let ranges = falling_ranges(rt, alloc)?;
-    let plan = Plan::from_ranges(alloc, &ranges).ok().ok_or("a plan")?;
-    Ok(plan)
+fn plan_of_4096(rt: &impl Abort, alloc: Global) -> Plan {
+    let ranges = falling_ranges(rt, alloc);
+    let plan = Plan::from_ranges(alloc, &ranges).ok().expect(rt, "a plan");
+    plan
 }
 
 #[test]
-fn a_plan_of_4096_ranges(rt: HostRuntime) -> Result<(), Fail> {
-    let plan = plan_of_4096(&rt, rt.alloc())?;
-    assert!(rt; clients::count(&plan) == 4096);
+fn a_plan_of_4096_ranges(rt: HostRuntime) {
+    let plan = plan_of_4096(&rt, rt.alloc());
+    holds!(&rt; clients::count(&plan) == 4096);
     for range in plan.ranges() {
-        assert!(rt; plan.names(range.part));
+        holds!(&rt; plan.names(range.part));
     }
-    assert!(rt; is_its_copy(rt.alloc(), &plan)?);
-    Ok(())
+    holds!(&rt; is_its_copy(rt.alloc(), &plan).expect(&rt, "memory"));
 }

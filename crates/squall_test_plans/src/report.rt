@@ -6,7 +6,7 @@ use squall_join::Exact;
 use squall_plan::Plan;
 use squall_report::*;
 use squall_span::Span;
-use std::alloc::{AllocError, Global};
+use std::alloc::Global;
 use std::process::Abort;
 use std::sync::Arc;
 use std::test::Fail;
@@ -28,7 +28,7 @@ fn cells_within_the_limits(rt: HostRuntime) {
         (1, 0, 10000, false),
     ] {
         let wanted = is_cell.then_some((number, sub, part));
-        assert!(rt; cell(number, sub, part) == wanted);
+        holds!(&rt; cell(number, sub, part) == wanted);
     }
 }
 
@@ -52,8 +52,8 @@ fn rise(cells: &[CellId]) -> bool {
 #[test]
 fn order_of_cells(rt: HostRuntime) {
     let four = four_cells().expect(&rt, "cells");
-    assert!(rt; rise(four.as_slice()));
-    assert!(rt; CellId::new(2, 0, 0) == Some(four[3]));
+    holds!(&rt; rise(four.as_slice()));
+    holds!(&rt; CellId::new(2, 0, 0) == Some(four[3]));
 }
 
 /// Whether there is such a load or such a completion.
@@ -66,25 +66,24 @@ fn is_opening(number: u32, sub: u32) -> bool {
     Report::opened(number, sub).is_some()
 }
 
-/// Whether a plan can be issued under the number.
-fn is_issue(alloc: Global, number: u32) -> Result<bool, Fail> {
-    let issue = issue(alloc, OLD, NEW).ok_or("an issue")?;
-    Ok(Report::issued(number, issue).is_some())
+/// Whether a plan can be issued under the number. None if an allocation fails.
+fn is_issue(alloc: Global, number: u32) -> Option<bool> {
+    let issue = issue(alloc, OLD, NEW)?;
+    Some(Report::issued(number, issue).is_some())
 }
 
 #[test]
-fn reports_outside_the_limits(rt: HostRuntime) -> Result<(), Fail> {
-    let span = span("2:0", "3:0").ok_or("a span")?;
+fn reports_outside_the_limits(rt: HostRuntime) {
+    let span = span("2:0", "3:0").expect(&rt, "a span");
     for (number, sub, part) in [(0, 0, 3), (1, 10000, 3), (1, 0, 10000)] {
-        assert!(rt; !is_of_a_cell(number, sub, part, span));
+        holds!(&rt; !is_of_a_cell(number, sub, part, span));
     }
-    assert!(rt; !is_opening(0, 0) && !is_opening(1, 10000));
-    assert!(rt; !is_issue(rt.alloc(), 0)?);
-    Ok(())
+    holds!(&rt; !is_opening(0, 0) && !is_opening(1, 10000));
+    holds!(&rt; !is_issue(rt.alloc(), 0).expect(&rt, "memory"));
 }
 
 /// Looks at the kind of the load of the span with the greatest numbers.
-fn look_at_load(rt: &impl Abort, load: &Report, wanted: Span) -> Result<(), Fail> {
+fn look_at_load(rt: &impl Abort, load: &Report, wanted: Span) {
     let ReportKind::Loaded {
         number,
         sub,
@@ -92,17 +91,16 @@ fn look_at_load(rt: &impl Abort, load: &Report, wanted: Span) -> Result<(), Fail
         span,
     } = load.kind()
     else {
-        return Err("no load".into());
+        return holds!(rt; false, "no load");
     };
-    assert!(rt; (number, sub, part) == (4294967295, 9999, 9999));
-    assert!(rt; span == wanted);
-    Ok(())
+    holds!(rt; (number, sub, part) == (4294967295, 9999, 9999));
+    holds!(rt; span == wanted);
 }
 
 #[test]
-fn kind_of_a_load(rt: HostRuntime) -> Result<(), Fail> {
-    let span = span("2:0", "3:0").ok_or("a span")?;
-    let load = Report::loaded(4294967295, 9999, 9999, span).ok_or("load")?;
+fn kind_of_a_load(rt: HostRuntime) {
+    let span = span("2:0", "3:0").expect(&rt, "a span");
+    let load = Report::loaded(4294967295, 9999, 9999, span).expect(&rt, "load");
     look_at_load(&rt, &load, span)
 }
 
@@ -137,8 +135,8 @@ fn opening_is_told() -> bool {
 
 #[test]
 fn kinds_of_completions_and_openings(rt: HostRuntime) {
-    assert!(rt; completion_is_told());
-    assert!(rt; opening_is_told());
+    holds!(&rt; completion_is_told());
+    holds!(&rt; opening_is_told());
 }
 
 /// Whether the plan is that of the text.
@@ -150,63 +148,54 @@ fn is_of_text(alloc: Global, told: &Plan, text: &str) -> bool {
 }
 
 /// Looks at the kind of the issue of the new plan after the old one.
-fn look_at_issue(rt: &impl Abort, alloc: Global, issued: &Report) -> Result<(), Fail> {
+fn look_at_issue(rt: &impl Abort, alloc: Global, issued: &Report) {
     let ReportKind::Issued { number, issue } = issued.kind() else {
-        return Err("no issue".into());
+        return holds!(rt; false, "no issue");
     };
-    assert!(rt; number == 2);
-    assert!(rt; is_of_text(alloc, issue.old(), OLD));
-    assert!(rt; is_of_text(alloc, issue.new_plan(), NEW));
-    Ok(())
+    holds!(rt; number == 2);
+    holds!(rt; is_of_text(alloc, issue.old(), OLD));
+    holds!(rt; is_of_text(alloc, issue.new_plan(), NEW));
 }
 
-/// Whether the issue is that of the plans of two texts.
-fn is_issue_of(alloc: Global, one: &Issue, old: &str, new: &str) -> Result<bool, Fail> {
-    let other = issue(alloc, old, new).ok_or("an issue")?;
-    Ok(*one == *other)
+/// Whether the issue is that of the plans of two texts. None if an allocation fails.
+fn is_issue_of(alloc: Global, one: &Issue, old: &str, new: &str) -> Option<bool> {
+    let other = issue(alloc, old, new)?;
+    Some(*one == *other)
 }
 
 /// The issue is equal to that of the same plans, and to no other.
-fn look_at_equal(rt: &impl Abort, alloc: Global, forth: &Issue) -> Result<(), Fail> {
+fn look_at_equal(rt: &impl Abort, alloc: Global, forth: &Issue) {
     for (old, new, is_same) in [(OLD, NEW, true), (OLD, OLD, false), (NEW, NEW, false)] {
-        assert!(rt; is_issue_of(alloc, forth, old, new)? == is_same);
+        holds!(rt; is_issue_of(alloc, forth, old, new).expect(rt, "memory") == is_same);
     }
-    Ok(())
 }
 
 /// A copy is the value, and not the other one.
-fn copies<T: Exact>(
-    rt: &impl Abort,
-    alloc: Global,
-    value: &T,
-    other: &T,
-) -> Result<(), AllocError> {
-    let copy = value.copied(alloc)?;
-    assert!(rt; copy.is_same(value));
-    assert!(rt; !copy.is_same(other));
-    Ok(())
+fn copies<T: Exact>(rt: &impl Abort, alloc: Global, value: &T, other: &T) {
+    let copy = value.copied(alloc).expect(rt, "memory");
+    holds!(rt; copy.is_same(value));
+    holds!(rt; !copy.is_same(other));
 }
 
 /// A copy of the issue is the issue, and not that of the same plans the other way round.
-fn copies_one_way(rt: &impl Abort, alloc: Global, forth: &Issue) -> Result<(), Fail> {
-    let back = issue(alloc, NEW, OLD).ok_or("an issue")?;
-    copies::<Issue>(rt, alloc, forth, &back)?;
-    Ok(())
+fn copies_one_way(rt: &impl Abort, alloc: Global, forth: &Issue) {
+    let back = issue(alloc, NEW, OLD).expect(rt, "an issue");
+    copies::<Issue>(rt, alloc, forth, &back);
 }
 
 #[test]
-fn issues(rt: HostRuntime) -> Result<(), Fail> {
-    let forth = issue(rt.alloc(), OLD, NEW).ok_or("an issue")?;
-    look_at_equal(&rt, rt.alloc(), &forth)?;
-    copies_one_way(&rt, rt.alloc(), &forth)?;
-    let issued = Report::issued(2, forth).ok_or("issue")?;
+fn issues(rt: HostRuntime) {
+    let forth = issue(rt.alloc(), OLD, NEW).expect(&rt, "an issue");
+    look_at_equal(&rt, rt.alloc(), &forth);
+    copies_one_way(&rt, rt.alloc(), &forth);
+    let issued = Report::issued(2, forth).expect(&rt, "issue");
     look_at_issue(&rt, rt.alloc(), &issued)
 }
 
 /// An issue has both plans, or there is none.
 fn new_issue_has_plans(rt: &impl Abort, alloc: Global, old: &Plan, new: &Plan) {
     if let Ok(issue) = Issue::new(alloc, old, new) {
-        assert!(rt; *issue.old() == *old && *issue.new_plan() == *new);
+        holds!(rt; *issue.old() == *old && *issue.new_plan() == *new);
     }
 }
 
@@ -230,9 +219,9 @@ fn still(alloc: Global) -> Option<Arc<Issue>> {
 /// A copy of the issue is the issue.
 fn copy_is_issue(rt: &impl Abort, alloc: Global, issue: &Issue) {
     if let Ok(copy) = issue.copied(alloc) {
-        assert!(rt; copy.is_same(issue));
+        holds!(rt; copy.is_same(issue));
     }
-    assert!(rt; *issue.old() == *issue.new_plan());
+    holds!(rt; *issue.old() == *issue.new_plan());
 }
 
 #[test]

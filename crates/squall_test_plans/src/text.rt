@@ -12,9 +12,9 @@ use std::test::Fail;
 /// The text of the plan is this one, and reads as the plan. Not if an allocation fails.
 fn has_text(rt: &impl Abort, alloc: Global, plan: &Plan, wanted: &str) {
     if let Ok(text) = plan_text(alloc, plan) {
-        assert!(rt; text.as_str() == wanted);
+        holds!(rt; text.as_str() == wanted);
         if let Ok(again) = Plan::read(alloc, text.as_bytes()) {
-            assert!(rt; again == *plan);
+            holds!(rt; again == *plan);
         }
     }
 }

@@ -8,7 +8,6 @@ use squall_blocks::{Blocks, Draft, Entries, ReadyEntries};
 use squall_key::Bound;
 use std::alloc::{AllocError, Global};
 use std::process::Abort;
-use std::test::Fail;
 
 fn bound(rt: &impl Abort, rank: u64) -> Bound {
     Bound::of_rank(rank).expect(rt, "a bound")
@@ -82,32 +81,30 @@ fn begins(
 }
 
 #[test]
-fn entries_of_a_row(rt: HostRuntime) -> Result<(), Fail> {
-    let entries = row(&rt, rt.alloc(), 5, 10, 3, 7)?;
-    assert!(rt; entries.len() == 3 && told(entries.get(0)) == (15, 7));
-    assert!(rt; told(entries.get(2)) == (35, 7) && entries.get(3).is_none());
-    assert!(rt; entries.is_between(bound(&rt, 14), bound(&rt, 35)));
-    assert!(rt; !entries.is_between(bound(&rt, 15), bound(&rt, 35)));
-    assert!(rt; !entries.is_between(bound(&rt, 14), bound(&rt, 34)));
-    Ok(())
+fn entries_of_a_row(rt: HostRuntime) {
+    let entries = row(&rt, rt.alloc(), 5, 10, 3, 7).expect(&rt, "memory");
+    holds!(&rt; entries.len() == 3 && told(entries.get(0)) == (15, 7));
+    holds!(&rt; told(entries.get(2)) == (35, 7) && entries.get(3).is_none());
+    holds!(&rt; entries.is_between(bound(&rt, 14), bound(&rt, 35)));
+    holds!(&rt; !entries.is_between(bound(&rt, 15), bound(&rt, 35)));
+    holds!(&rt; !entries.is_between(bound(&rt, 14), bound(&rt, 34)));
 }
 
 #[test]
-fn entries_pushed_into_room(rt: HostRuntime) -> Result<(), Fail> {
-    let mut ready = ReadyEntries::with_room(rt.alloc(), 2)?;
+fn entries_pushed_into_room(rt: HostRuntime) {
+    let mut ready = ReadyEntries::with_room(rt.alloc(), 2).expect(&rt, "memory");
     ready.push(bound(&rt, 4), 1);
     ready.push(bound(&rt, 9), 2);
     let entries = ready.into_entries();
-    assert!(rt; entries.len() == 2 && told(entries.get(0)) == (4, 1));
-    assert!(rt; told(entries.get(1)) == (9, 2));
-    Ok(())
+    holds!(&rt; entries.len() == 2 && told(entries.get(0)) == (4, 1));
+    holds!(&rt; told(entries.get(1)) == (9, 2));
 }
 
 #[test]
-fn no_entries(rt: HostRuntime) -> Result<(), Fail> {
+fn no_entries(rt: HostRuntime) {
     let mut blocks: Blocks<u16> = Blocks::new(rt.alloc());
-    assert!(rt; blocks.is_empty() && begins(&rt, &blocks, 0, 0, (0, 0)));
-    assert!(rt; blocks.end_before(bound(&rt, 9), bound(&rt, 4)) == bound(&rt, 4));
+    holds!(&rt; blocks.is_empty() && begins(&rt, &blocks, 0, 0, (0, 0)));
+    holds!(&rt; blocks.end_before(bound(&rt, 9), bound(&rt, 4)) == bound(&rt, 4));
     put(
         &rt,
         rt.alloc(),
@@ -115,18 +112,19 @@ fn no_entries(rt: HostRuntime) -> Result<(), Fail> {
         0,
         9,
         &Entries::new(rt.alloc()),
-    )?;
-    assert!(rt; blocks.is_empty());
+    )
+    .expect(&rt, "memory");
+    holds!(&rt; blocks.is_empty());
     put(
         &rt,
         rt.alloc(),
         &mut blocks,
         0,
         9,
-        &row(&rt, rt.alloc(), 0, 3, 3, 2)?,
-    )?;
-    assert!(rt; !blocks.is_empty() && counted(&blocks) == (3, 6));
-    Ok(())
+        &row(&rt, rt.alloc(), 0, 3, 3, 2).expect(&rt, "memory"),
+    )
+    .expect(&rt, "memory");
+    holds!(&rt; !blocks.is_empty() && counted(&blocks) == (3, 6));
 }
 
 /// A thousand entries, at every tenth key.
@@ -140,22 +138,17 @@ fn thousand(rt: &impl Abort, alloc: Global) -> Result<Blocks<u16>, AllocError> {
 }
 
 #[test]
-fn look_ups(rt: HostRuntime) -> Result<(), Fail> {
-    let blocks = thousand(&rt, rt.alloc())?;
-    assert!(rt; counted(&blocks) == (1000, 1000));
-    assert!(rt; begins(&rt, &blocks, 0, 1000, (10, 1)) && begins(&rt, &blocks, 9, 1000, (10, 1)));
-    assert!(rt;
-        begins(&rt, &blocks, 10, 999, (20, 1)) && begins(&rt, &blocks, 5004, 500, (5010, 1))
-    );
-    assert!(rt;
-        begins(&rt, &blocks, 9999, 1, (10000, 1)) && begins(&rt, &blocks, 10000, 0, (0, 0))
-    );
+fn look_ups(rt: HostRuntime) {
+    let blocks = thousand(&rt, rt.alloc()).expect(&rt, "memory");
+    holds!(&rt; counted(&blocks) == (1000, 1000));
+    holds!(&rt; begins(&rt, &blocks, 0, 1000, (10, 1)) && begins(&rt, &blocks, 9, 1000, (10, 1)));
+    holds!(&rt; begins(&rt, &blocks, 10, 999, (20, 1)) && begins(&rt, &blocks, 5004, 500, (5010, 1)));
+    holds!(&rt; begins(&rt, &blocks, 9999, 1, (10000, 1)) && begins(&rt, &blocks, 10000, 0, (0, 0)));
     let least = bound(&rt, 3);
-    assert!(rt; blocks.end_before(bound(&rt, 9), least).rank() == 3);
-    assert!(rt; blocks.end_before(bound(&rt, 10), least).rank() == 10);
-    assert!(rt; blocks.end_before(bound(&rt, 5004), least).rank() == 5000);
-    assert!(rt; blocks.end_before(bound(&rt, 20000), least).rank() == 10000);
-    Ok(())
+    holds!(&rt; blocks.end_before(bound(&rt, 9), least).rank() == 3);
+    holds!(&rt; blocks.end_before(bound(&rt, 10), least).rank() == 10);
+    holds!(&rt; blocks.end_before(bound(&rt, 5004), least).rank() == 5000);
+    holds!(&rt; blocks.end_before(bound(&rt, 20000), least).rank() == 10000);
 }
 
 /// Whether both have the same entries.
@@ -169,42 +162,38 @@ fn are_same(one: &Blocks<u16>, other: &Blocks<u16>) -> bool {
 }
 
 /// Puts two entries of the value 5 in place of those that end beyond 400 and by 4000.
-fn put_two(rt: &impl Abort, alloc: Global, blocks: &mut Blocks<u16>) -> Result<(), AllocError> {
-    let fresh = row(rt, alloc, 400, 1, 2, 5)?;
-    put(rt, alloc, blocks, 400, 4000, &fresh)
+fn put_two(rt: &impl Abort, alloc: Global, blocks: &mut Blocks<u16>) {
+    let fresh = row(rt, alloc, 400, 1, 2, 5).expect(rt, "memory");
+    put(rt, alloc, blocks, 400, 4000, &fresh).expect(rt, "memory")
 }
 
 /// A copy has the thousand entries, and is edited.
-fn look_at_copy(rt: &impl Abort, alloc: Global, blocks: &Blocks<u16>) -> Result<(), AllocError> {
-    let mut copy = blocks.copied(alloc)?;
-    assert!(rt; are_same(&copy, blocks) && begins(rt, &copy, 5004, 500, (5010, 1)));
-    put_two(rt, alloc, &mut copy)?;
-    assert!(rt; counted(&copy) == (642, 650));
-    Ok(())
+fn look_at_copy(rt: &impl Abort, alloc: Global, blocks: &Blocks<u16>) {
+    let mut copy = blocks.copied(alloc).expect(rt, "memory");
+    holds!(rt; are_same(&copy, blocks) && begins(rt, &copy, 5004, 500, (5010, 1)));
+    put_two(rt, alloc, &mut copy);
+    holds!(rt; counted(&copy) == (642, 650));
 }
 
 #[test]
-fn copy_of_its_own(rt: HostRuntime) -> Result<(), Fail> {
-    let blocks = thousand(&rt, rt.alloc())?;
-    look_at_copy(&rt, rt.alloc(), &blocks)?;
-    assert!(rt; counted(&blocks) == (1000, 1000));
-    Ok(())
+fn copy_of_its_own(rt: HostRuntime) {
+    let blocks = thousand(&rt, rt.alloc()).expect(&rt, "memory");
+    look_at_copy(&rt, rt.alloc(), &blocks);
+    holds!(&rt; counted(&blocks) == (1000, 1000));
 }
 
 #[test]
-fn copy_of_no_entries(rt: HostRuntime) -> Result<(), Fail> {
+fn copy_of_no_entries(rt: HostRuntime) {
     let none: Blocks<u16> = Blocks::new(rt.alloc());
-    let copy = none.copied(rt.alloc())?;
-    assert!(rt; copy.is_empty() && are_same(&copy, &none));
-    Ok(())
+    let copy = none.copied(rt.alloc()).expect(&rt, "memory");
+    holds!(&rt; copy.is_empty() && are_same(&copy, &none));
 }
 
 #[test]
-fn allocator_of_blocks(rt: HostRuntime) -> Result<(), Fail> {
-    let blocks = thousand(&rt, rt.alloc())?;
-    let copy = blocks.copied(blocks.allocator())?;
-    assert!(rt; are_same(&copy, &blocks));
-    Ok(())
+fn allocator_of_blocks(rt: HostRuntime) {
+    let blocks = thousand(&rt, rt.alloc()).expect(&rt, "memory");
+    let copy = blocks.copied(blocks.allocator()).expect(&rt, "memory");
+    holds!(&rt; are_same(&copy, &blocks));
 }
 
 /// Puts the fresh entries in place of those between two keys of a draft, if they lie between them.
@@ -242,46 +231,42 @@ fn is_edited_twice(rt: &impl Abort, blocks: &Blocks<u16>) -> bool {
 /// What is lent of a draft has both edits.
 fn look_at_draft(rt: &impl Abort, draft: &Draft<u16>) {
     let lent = draft.lent();
-    assert!(rt; lent.above(bound(rt, 400)) == Some((bound(rt, 401), 5)));
-    assert!(rt; lent.above(bound(rt, 5004)) == Some((bound(rt, 5006), 7)));
-    assert!(rt; lent.end_before(bound(rt, 4009), bound(rt, 0)).rank() == 401);
-    assert!(rt; lent.iter_from(bound(rt, 9990)).next() == Some((bound(rt, 10000), 1)));
+    holds!(rt; lent.above(bound(rt, 400)) == Some((bound(rt, 401), 5)));
+    holds!(rt; lent.above(bound(rt, 5004)) == Some((bound(rt, 5006), 7)));
+    holds!(rt; lent.end_before(bound(rt, 4009), bound(rt, 0)).rank() == 401);
+    holds!(rt; lent.iter_from(bound(rt, 9990)).next() == Some((bound(rt, 10000), 1)));
     let end = lent.block_end(bound(rt, 400));
-    assert!(rt; end.rank() > 400 && lent.block_end(bound(rt, 10000)) == Bound::TOP);
+    holds!(rt; end.rank() > 400 && lent.block_end(bound(rt, 10000)) == Bound::TOP);
 }
 
 #[test]
-fn draft_that_is_kept(rt: HostRuntime) -> Result<(), Fail> {
-    let blocks = thousand(&rt, rt.alloc())?;
+fn draft_that_is_kept(rt: HostRuntime) {
+    let blocks = thousand(&rt, rt.alloc()).expect(&rt, "memory");
     let mut draft = Draft::of(blocks);
-    edit_twice(&rt, draft.allocator(), &mut draft)?;
+    edit_twice(&rt, draft.allocator(), &mut draft).expect(&rt, "memory");
     look_at_draft(&rt, &draft);
-    assert!(rt; is_edited_twice(&rt, &draft.keep()));
-    Ok(())
+    holds!(&rt; is_edited_twice(&rt, &draft.keep()));
 }
 
 /// Edits a copy of the blocks, and undoes the edits.
-fn edit_and_undo(rt: &impl Abort, alloc: Global, blocks: &Blocks<u16>) -> Result<(), AllocError> {
-    let mut draft = Draft::of(blocks.copied(alloc)?);
-    edit_twice(rt, alloc, &mut draft)?;
+fn edit_and_undo(rt: &impl Abort, alloc: Global, blocks: &Blocks<u16>) {
+    let mut draft = Draft::of(blocks.copied(alloc).expect(rt, "memory"));
+    edit_twice(rt, alloc, &mut draft).expect(rt, "memory");
     look_at_draft(rt, &draft);
-    assert!(rt; are_same(&draft.undo(), blocks));
-    Ok(())
+    holds!(rt; are_same(&draft.undo(), blocks));
 }
 
 #[test]
-fn draft_that_is_undone(rt: HostRuntime) -> Result<(), Fail> {
-    let blocks = thousand(&rt, rt.alloc())?;
-    edit_and_undo(&rt, rt.alloc(), &blocks)?;
-    Ok(())
+fn draft_that_is_undone(rt: HostRuntime) {
+    let blocks = thousand(&rt, rt.alloc()).expect(&rt, "memory");
+    edit_and_undo(&rt, rt.alloc(), &blocks);
 }
 
 #[test]
-fn draft_without_an_edit(rt: HostRuntime) -> Result<(), Fail> {
-    let blocks = Draft::of(thousand(&rt, rt.alloc())?).keep();
+fn draft_without_an_edit(rt: HostRuntime) {
+    let blocks = Draft::of(thousand(&rt, rt.alloc()).expect(&rt, "memory")).keep();
     let blocks = Draft::of(blocks).undo();
-    assert!(rt; counted(&blocks) == (1000, 1000));
-    Ok(())
+    holds!(&rt; counted(&blocks) == (1000, 1000));
 }
 
 /// The thousand entries without those that end beyond 30 and by 1670: their first block has few.
@@ -308,11 +293,10 @@ fn is_edited(rt: &impl Abort, blocks: &Blocks<u16>) -> bool {
 }
 
 #[test]
-fn draft_that_joins(rt: HostRuntime) -> Result<(), Fail> {
-    let blocks = with_a_short_block(&rt, rt.alloc())?;
-    assert!(rt; counted(&blocks) == (836, 836));
+fn draft_that_joins(rt: HostRuntime) {
+    let blocks = with_a_short_block(&rt, rt.alloc()).expect(&rt, "memory");
+    holds!(&rt; counted(&blocks) == (836, 836));
     let mut draft = Draft::of(blocks);
-    edit_to_join(&rt, rt.alloc(), &mut draft)?;
-    assert!(rt; is_edited(&rt, &draft.keep()));
-    Ok(())
+    edit_to_join(&rt, rt.alloc(), &mut draft).expect(&rt, "memory");
+    holds!(&rt; is_edited(&rt, &draft.keep()));
 }

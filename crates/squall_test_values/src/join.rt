@@ -12,7 +12,6 @@ use squall_key::Bound;
 use squall_span::{Span, SpanSet};
 use std::alloc::{AllocError, Global};
 use std::process::Abort;
-use std::test::Fail;
 
 /// The map of these entries, by one join for each.
 pub(crate) fn map(alloc: Global, entries: &[(u32, u32)]) -> Result<JoinMap<u32, Max>, AllocError> {
@@ -74,24 +73,22 @@ fn flags(alloc: Global, one: bool, other: bool) -> Result<(bool, bool), AllocErr
 }
 
 #[test]
-fn two_numbers(rt: HostRuntime) -> Result<(), AllocError> {
+fn two_numbers(rt: HostRuntime) {
     for (one, other, both, rest) in [(5, 3, 5, 5), (3, 5, 5, 0), (4, 4, 4, 0)] {
-        assert!(rt; numbers(rt.alloc(), one, other)? == (both, rest));
+        holds!(&rt; numbers(rt.alloc(), one, other).expect(&rt, "memory") == (both, rest));
     }
-    Ok(())
 }
 
 #[test]
-fn two_flags(rt: HostRuntime) -> Result<(), AllocError> {
+fn two_flags(rt: HostRuntime) {
     for (one, other, both, rest) in [
         (true, false, true, true),
         (false, true, true, false),
         (true, true, true, false),
         (false, false, false, false),
     ] {
-        assert!(rt; flags(rt.alloc(), one, other)? == (both, rest));
+        holds!(&rt; flags(rt.alloc(), one, other).expect(&rt, "memory") == (both, rest));
     }
-    Ok(())
 }
 
 /// The clash of values in a table.
@@ -128,7 +125,7 @@ fn flat_rest(alloc: Global, one: &Flat<u32>, other: &Flat<u32>) -> Result<u32, A
 }
 
 #[test]
-fn flat_values(rt: HostRuntime) -> Result<(), AllocError> {
+fn flat_values(rt: HostRuntime) {
     for (one, other, both, rest) in [
         (7, 0, 7, 7),
         (7, 7, 7, 0),
@@ -137,10 +134,9 @@ fn flat_values(rt: HostRuntime) -> Result<(), AllocError> {
         (CLASH, 7, CLASH, CLASH),
         (CLASH, CLASH, CLASH, 0),
     ] {
-        assert!(rt; flat_join(rt.alloc(), &flat(one), &flat(other))? == both);
-        assert!(rt; flat_rest(rt.alloc(), &flat(one), &flat(other))? == rest);
+        holds!(&rt; flat_join(rt.alloc(), &flat(one), &flat(other)).expect(&rt, "memory") == both);
+        holds!(&rt; flat_rest(rt.alloc(), &flat(one), &flat(other)).expect(&rt, "memory") == rest);
     }
-    Ok(())
 }
 
 /// Whether the entry of the map at the index is this one.
@@ -153,17 +149,16 @@ fn has_entry(map: &JoinMap<u32, Max>, index: usize, key: u32, value: u32) -> boo
 
 /// Looks at the entries (1, 3) and (4, 1).
 fn look_at_entries(rt: &impl Abort, joined: &JoinMap<u32, Max>) {
-    assert!(rt; joined.len() == 2 && joined.get(&2).is_none() && joined.at(2).is_none());
+    holds!(rt; joined.len() == 2 && joined.get(&2).is_none() && joined.at(2).is_none());
     for (index, key, value) in [(0, 1, 3), (1, 4, 1)] {
-        assert!(rt; has_entry(joined, index, key, value) && joined.get(&key).is_some());
+        holds!(rt; has_entry(joined, index, key, value) && joined.get(&key).is_some());
     }
 }
 
 #[test]
-fn maps(rt: HostRuntime) -> Result<(), AllocError> {
-    let joined = map(rt.alloc(), &[(4, 1), (1, 2), (7, 0), (1, 3), (1, 1)])?;
+fn maps(rt: HostRuntime) {
+    let joined = map(rt.alloc(), &[(4, 1), (1, 2), (7, 0), (1, 3), (1, 1)]).expect(&rt, "memory");
     look_at_entries(&rt, &joined);
-    Ok(())
 }
 
 /// Whether the entries of the first list have these beyond the map.
@@ -188,24 +183,23 @@ fn forty(alloc: Global) -> Result<JoinMap<u32, Max>, AllocError> {
 }
 
 #[test]
-fn maps_beyond_many(rt: HostRuntime) -> Result<(), AllocError> {
-    let many = forty(rt.alloc())?;
+fn maps_beyond_many(rt: HostRuntime) {
+    let many = forty(rt.alloc()).expect(&rt, "memory");
     let cases: [(&[(u32, u32)], &[(u32, u32)]); 3] = [
         (&[(1, 3), (2, 5), (7, 2), (9, 4)], &[(2, 5), (9, 4)]),
         (&[(38, 4), (41, 1)], &[(38, 4), (41, 1)]),
         (&[(0, 3), (39, 1)], &[]),
     ];
     for (entries, wanted) in cases {
-        assert!(rt; are_left(rt.alloc(), entries, &many, wanted)?);
+        holds!(&rt; are_left(rt.alloc(), entries, &many, wanted).expect(&rt, "memory"));
     }
-    Ok(())
 }
 
 /// The bottom is below the value.
 fn covers_the_bottom<J: Join>(rt: &impl Abort, alloc: Global, value: &J) {
     let bottom = J::bottom(alloc);
-    assert!(rt; bottom.is_bottom());
-    assert!(rt; value.covers(&bottom));
+    holds!(rt; bottom.is_bottom());
+    holds!(rt; value.covers(&bottom));
 }
 
 /// Whether the join of the two is this one.
@@ -215,18 +209,11 @@ fn is_join<J: Join>(alloc: Global, both: &J, one: &J, other: &J) -> Result<bool,
 }
 
 /// A copy of the value is the value, and is the join once the other is joined in.
-fn copy_joins<J: Join>(
-    rt: &impl Abort,
-    alloc: Global,
-    value: &J,
-    other: &J,
-    both: &J,
-) -> Result<(), AllocError> {
-    let mut copy = value.copied(alloc)?;
-    assert!(rt; copy.same(value));
-    copy.join_in(alloc, other)?;
-    assert!(rt; copy.same(both));
-    Ok(())
+fn copy_joins<J: Join>(rt: &impl Abort, alloc: Global, value: &J, other: &J, both: &J) {
+    let mut copy = value.copied(alloc).expect(rt, "memory");
+    holds!(rt; copy.same(value));
+    copy.join_in(alloc, other).expect(rt, "memory");
+    holds!(rt; copy.same(both));
 }
 
 /// Whether the rest, joined with the other, is the join of the two.
@@ -236,27 +223,20 @@ fn restores<J: Beyond>(alloc: Global, rest: &J, both: &J, other: &J) -> Result<b
 }
 
 /// What the value has beyond the other is less than it, and joins with the other to both.
-fn leaves<J: Beyond>(
-    rt: &impl Abort,
-    alloc: Global,
-    value: &J,
-    other: &J,
-    both: &J,
-) -> Result<(), AllocError> {
-    let rest = value.beyond(alloc, other)?;
-    assert!(rt; value.covers(&rest));
-    assert!(rt; restores(alloc, &rest, both, other)?);
-    assert!(rt; rest.is_bottom() == other.covers(value));
-    Ok(())
+fn leaves<J: Beyond>(rt: &impl Abort, alloc: Global, value: &J, other: &J, both: &J) {
+    let rest = value.beyond(alloc, other).expect(rt, "memory");
+    holds!(rt; value.covers(&rest));
+    holds!(rt; restores(alloc, &rest, both, other).expect(rt, "memory"));
+    holds!(rt; rest.is_bottom() == other.covers(value));
 }
 
 /// Each member, through the bound.
-fn joins<J: Beyond>(rt: &impl Abort, alloc: Global, less: &J, more: &J) -> Result<(), AllocError> {
+fn joins<J: Beyond>(rt: &impl Abort, alloc: Global, less: &J, more: &J) {
     covers_the_bottom(rt, alloc, less);
-    let both = less.joined(alloc, more)?;
-    assert!(rt; both.covers(less) && both.covers(more));
-    assert!(rt; is_join(alloc, &both, more, less)?);
-    copy_joins(rt, alloc, less, more, &both)?;
+    let both = less.joined(alloc, more).expect(rt, "memory");
+    holds!(rt; both.covers(less) && both.covers(more));
+    holds!(rt; is_join(alloc, &both, more, less).expect(rt, "memory"));
+    copy_joins(rt, alloc, less, more, &both);
     leaves(rt, alloc, more, less, &both)
 }
 
@@ -272,16 +252,16 @@ fn join_of_two(alloc: Global) -> Result<(u32, bool), AllocError> {
 }
 
 #[test]
-fn pairs_of_a_number_and_a_flag(rt: HostRuntime) -> Result<(), AllocError> {
-    assert!(rt; join_of_two(rt.alloc())? == (3, true));
+fn pairs_of_a_number_and_a_flag(rt: HostRuntime) {
+    holds!(&rt; join_of_two(rt.alloc()).expect(&rt, "memory") == (3, true));
     let (less, more) = (number_and_flag(1, false), number_and_flag(3, true));
     joins(&rt, rt.alloc(), &less, &more)
 }
 
 #[test]
-fn plain_values_through_the_bound(rt: HostRuntime) -> Result<(), AllocError> {
-    joins(&rt, rt.alloc(), &Max::new(3), &Max::new(5))?;
-    joins(&rt, rt.alloc(), &Flag::new(false), &Flag::new(true))?;
+fn plain_values_through_the_bound(rt: HostRuntime) {
+    joins(&rt, rt.alloc(), &Max::new(3), &Max::new(5));
+    joins(&rt, rt.alloc(), &Flag::new(false), &Flag::new(true));
     joins(&rt, rt.alloc(), &flat(7), &flat(8))
 }
 
@@ -292,10 +272,10 @@ fn pair(
     lo: u64,
     hi: u64,
     entries: &[(u32, u32)],
-) -> Result<Pair<SpanSet, JoinMap<u32, Max>>, AllocError> {
-    let set = SpanSet::of(alloc, &span(rt, lo, hi))?;
-    let map = map(alloc, entries)?;
-    Ok(Pair::new(set, map))
+) -> Pair<SpanSet, JoinMap<u32, Max>> {
+    let set = SpanSet::of(alloc, &span(rt, lo, hi)).expect(rt, "memory");
+    let map = map(alloc, entries).expect(rt, "memory");
+    Pair::new(set, map)
 }
 
 /// Whether the rest is of the keys from 4 on, below 9, and of these entries.
@@ -304,9 +284,11 @@ fn is_rest(
     alloc: Global,
     rest: &Pair<SpanSet, JoinMap<u32, Max>>,
     entries: &[(u32, u32)],
-) -> Result<bool, AllocError> {
+) -> bool {
     let spans = rest.first.spans();
-    Ok(spans.len() == 1 && spans[0] == span(rt, 4, 9) && is_map(alloc, &rest.second, entries)?)
+    spans.len() == 1
+        && spans[0] == span(rt, 4, 9)
+        && is_map(alloc, &rest.second, entries).expect(rt, "memory")
 }
 
 /// The second pair has more keys and more entries than the first. Each member, of the pairs and of their halves.
@@ -315,26 +297,22 @@ fn join_pairs(
     alloc: Global,
     first: &Pair<SpanSet, JoinMap<u32, Max>>,
     second: &Pair<SpanSet, JoinMap<u32, Max>>,
-) -> Result<(), AllocError> {
-    let rest = second.beyond(alloc, first)?;
-    assert!(rt; is_rest(rt, alloc, &rest, &[(1, 4), (9, 1)])?);
-    joins(rt, alloc, &first.first, &second.first)?;
-    joins(rt, alloc, &first.second, &second.second)?;
+) {
+    let rest = second.beyond(alloc, first).expect(rt, "memory");
+    holds!(rt; is_rest(rt, alloc, &rest, &[(1, 4), (9, 1)]));
+    joins(rt, alloc, &first.first, &second.first);
+    joins(rt, alloc, &first.second, &second.second);
     joins(rt, alloc, first, second)
 }
 
 /// Joins the pair with another.
-fn join_another(
-    rt: &impl Abort,
-    alloc: Global,
-    first: &Pair<SpanSet, JoinMap<u32, Max>>,
-) -> Result<(), AllocError> {
-    let second = pair(rt, alloc, 3, 9, &[(1, 4), (7, 2), (9, 1)])?;
+fn join_another(rt: &impl Abort, alloc: Global, first: &Pair<SpanSet, JoinMap<u32, Max>>) {
+    let second = pair(rt, alloc, 3, 9, &[(1, 4), (7, 2), (9, 1)]);
     join_pairs(rt, alloc, first, &second)
 }
 
 #[test]
-fn pairs_of_sets_and_maps(rt: HostRuntime) -> Result<(), AllocError> {
-    let first = pair(&rt, rt.alloc(), 1, 4, &[(1, 3), (7, 2)])?;
+fn pairs_of_sets_and_maps(rt: HostRuntime) {
+    let first = pair(&rt, rt.alloc(), 1, 4, &[(1, 3), (7, 2)]);
     join_another(&rt, rt.alloc(), &first)
 }

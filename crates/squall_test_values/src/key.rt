@@ -3,49 +3,42 @@
 mod example;
 
 use squall_key::*;
-use std::alloc::{AllocError, Global};
+use std::alloc::Global;
 use std::fmt::Display;
 use std::process::Abort;
-use std::test::Fail;
 
 /// The value is printed so.
-fn shows<T: Display>(
-    rt: &impl Abort,
-    alloc: Global,
-    value: &T,
-    wanted: &str,
-) -> Result<(), AllocError> {
-    let text = value.to_string(alloc)?;
-    assert!(rt; text.as_str() == wanted);
-    Ok(())
+fn shows<T: Display>(rt: &impl Abort, alloc: Global, value: &T, wanted: &str) {
+    let text = value.to_string(alloc).expect(rt, "memory");
+    holds!(rt; text.as_str() == wanted);
 }
 
 /// The key of the pair has the rank.
 fn look_at_key(rt: &impl Abort, root: u32, second: u32, rank: u64) {
     let key = Key::new(root, second).expect(rt, "a key");
-    assert!(rt; (key.root(), key.second(), key.rank()) == (root, second, rank));
-    assert!(rt; Key::of_rank(rank) == Some(key));
-    assert!(rt; Some(Bound::of_key(key)) == Bound::new(root, second));
-    assert!(rt; Bound::of_key(key) < Bound::TOP);
+    holds!(rt; (key.root(), key.second(), key.rank()) == (root, second, rank));
+    holds!(rt; Key::of_rank(rank) == Some(key));
+    holds!(rt; Some(Bound::of_key(key)) == Bound::new(root, second));
+    holds!(rt; Bound::of_key(key) < Bound::TOP);
 }
 
 #[test]
 fn keys(rt: HostRuntime) {
     look_at_key(&rt, 2, 7, 8589934599);
     look_at_key(&rt, 4294967294, 4294967295, 18446744069414584319);
-    assert!(rt; Key::new(4294967295, 0) == None);
-    assert!(rt; Key::of_rank(18446744069414584320) == None);
-    assert!(rt; Key::new(1, 4294967295) < Key::new(2, 7));
+    holds!(&rt; Key::new(4294967295, 0) == None);
+    holds!(&rt; Key::of_rank(18446744069414584320) == None);
+    holds!(&rt; Key::new(1, 4294967295) < Key::new(2, 7));
 }
 
 #[test]
 fn bounds(rt: HostRuntime) {
-    assert!(rt; Bound::new(4294967295, 0) == Some(Bound::TOP));
-    assert!(rt; Bound::new(4294967295, 1) == None);
-    assert!(rt; Bound::of_rank(18446744069414584320) == Some(Bound::TOP));
-    assert!(rt; Bound::of_rank(18446744069414584321) == None);
-    assert!(rt; Bound::TOP.rank() == 18446744069414584320);
-    assert!(rt; (Bound::TOP.root(), Bound::TOP.second()) == (4294967295, 0));
+    holds!(&rt; Bound::new(4294967295, 0) == Some(Bound::TOP));
+    holds!(&rt; Bound::new(4294967295, 1) == None);
+    holds!(&rt; Bound::of_rank(18446744069414584320) == Some(Bound::TOP));
+    holds!(&rt; Bound::of_rank(18446744069414584321) == None);
+    holds!(&rt; Bound::TOP.rank() == 18446744069414584320);
+    holds!(&rt; (Bound::TOP.root(), Bound::TOP.second()) == (4294967295, 0));
 }
 
 #[test]
@@ -61,7 +54,7 @@ fn steps(rt: HostRuntime) {
         (low, top, usize::MAX, 0),
         (top, next, 0, 0),
     ] {
-        assert!(rt; at.step_beyond(other, step) == wanted);
+        holds!(&rt; at.step_beyond(other, step) == wanted);
     }
 }
 
@@ -73,8 +66,8 @@ fn texts(rt: HostRuntime) {
         ("02:7", 2, 7),
         ("0000000002:0000000007", 2, 7),
     ] {
-        assert!(rt; Bound::read(text) == Bound::new(root, second), "{text}");
-        assert!(rt; Key::read(text) == Key::new(root, second), "{text}");
+        holds!(&rt; Bound::read(text) == Bound::new(root, second), text);
+        holds!(&rt; Key::read(text) == Key::new(root, second), text);
     }
 }
 
@@ -93,32 +86,23 @@ fn other_texts(rt: HostRuntime) {
         "00000000002:7",
         "2:4294967296",
     ] {
-        assert!(rt;
-            Bound::read(text) == None && Key::read(text) == None,
-            "{text}"
-        );
+        holds!(&rt; Bound::read(text) == None && Key::read(text) == None, text);
     }
 }
 
 /// Looks at the printed texts of a bound, of the key and bound of the same pair, and of a partition.
-fn look_at_printed(
-    rt: &impl Abort,
-    alloc: Global,
-    key: Key,
-    part: PartId,
-) -> Result<(), AllocError> {
-    shows(rt, alloc, &Bound::TOP, "end")?;
-    shows(rt, alloc, &key, "2:7")?;
-    shows(rt, alloc, &Bound::of_key(key), "2:7")?;
+fn look_at_printed(rt: &impl Abort, alloc: Global, key: Key, part: PartId) {
+    shows(rt, alloc, &Bound::TOP, "end");
+    shows(rt, alloc, &key, "2:7");
+    shows(rt, alloc, &Bound::of_key(key), "2:7");
     shows(rt, alloc, &part, "9999")
 }
 
 #[test]
-fn parts_and_printed_texts(rt: HostRuntime) -> Result<(), Fail> {
+fn parts_and_printed_texts(rt: HostRuntime) {
     let key = Key::new(2, 7).expect(&rt, "a key");
     let part = PartId::new(9999).expect(&rt, "the last partition");
-    assert!(rt; part.get() == 9999 && PartId::new(10000) == None);
-    assert!(rt; PartId::new(7) < Some(part));
-    look_at_printed(&rt, rt.alloc(), key, part)?;
-    Ok(())
+    holds!(&rt; part.get() == 9999 && PartId::new(10000) == None);
+    holds!(&rt; PartId::new(7) < Some(part));
+    look_at_printed(&rt, rt.alloc(), key, part);
 }

@@ -8,7 +8,7 @@ use std::process::Abort;
 
 /// The row of these bytes belongs to the key of the pair.
 fn looks_up(rt: &impl Abort, bytes: &[u8], root: u32, second: u32) {
-    assert!(rt; Some(key_of(bytes)) == Key::new(root, second));
+    holds!(rt; Some(key_of(bytes)) == Key::new(root, second));
 }
 
 /// Bytes that begin with a pair, of which the greatest is among them.

@@ -9,7 +9,6 @@ use squall_key::{Bound, Key};
 use squall_span::{ReadySet, Span, SpanSet};
 use std::alloc::{AllocError, Global};
 use std::process::Abort;
-use std::test::Fail;
 
 fn bound(rt: &impl Abort, text: &str) -> Bound {
     Bound::read(text).expect(rt, "a bound")
@@ -24,12 +23,12 @@ fn span(rt: &impl Abort, lo: &str, hi: &str) -> Span {
 }
 
 /// The set of these spans, by one insert after the other.
-fn set(rt: &impl Abort, alloc: Global, spans: &[(&str, &str)]) -> Result<SpanSet, AllocError> {
+fn set(rt: &impl Abort, alloc: Global, spans: &[(&str, &str)]) -> SpanSet {
     let mut set = SpanSet::empty(alloc);
     for (lo, hi) in spans {
-        set.insert(span(rt, lo, hi))?;
+        set.insert(span(rt, lo, hi)).expect(rt, "memory");
     }
-    Ok(set)
+    set
 }
 
 /// Whether the spans of the set are these.
@@ -51,41 +50,29 @@ const TWO: [(&str, &str); 2] = [("0:0", "1:0"), ("2:0", "3:0")];
 ///
 /// A proof of a test costs more with each value that the test owns, on each way out of it. So tests
 /// lend what they made to functions that own little, as the ones below.
-fn one(rt: &impl Abort, alloc: Global, lo: &str, hi: &str) -> Result<SpanSet, AllocError> {
-    SpanSet::of(alloc, &span(rt, lo, hi))
+fn one(rt: &impl Abort, alloc: Global, lo: &str, hi: &str) -> SpanSet {
+    SpanSet::of(alloc, &span(rt, lo, hi)).expect(rt, "memory")
 }
 
 /// The union of the set with that of one span.
-fn with(
-    rt: &impl Abort,
-    alloc: Global,
-    set: &SpanSet,
-    lo: &str,
-    hi: &str,
-) -> Result<SpanSet, AllocError> {
-    let other = one(rt, alloc, lo, hi)?;
-    set.union(alloc, &other)
+fn with(rt: &impl Abort, alloc: Global, set: &SpanSet, lo: &str, hi: &str) -> SpanSet {
+    let other = one(rt, alloc, lo, hi);
+    set.union(alloc, &other).expect(rt, "memory")
 }
 
 /// Whether the set without the keys from 1:0 to 2:0 is the other.
-fn is_without_middle(
-    rt: &impl Abort,
-    alloc: Global,
-    whole: &SpanSet,
-    both: &SpanSet,
-) -> Result<bool, AllocError> {
-    let middle = one(rt, alloc, "1:0", "2:0")?;
-    let rest = whole.minus(alloc, &middle)?;
-    Ok(rest == *both)
+fn is_without_middle(rt: &impl Abort, alloc: Global, whole: &SpanSet, both: &SpanSet) -> bool {
+    let middle = one(rt, alloc, "1:0", "2:0");
+    let rest = whole.minus(alloc, &middle).expect(rt, "memory");
+    rest == *both
 }
 
 /// Joins the two spans by the keys between them, and takes these away again.
-fn fill_the_middle(rt: &impl Abort, alloc: Global, both: &SpanSet) -> Result<(), AllocError> {
-    let whole = with(rt, alloc, both, "1:0", "2:0")?;
-    assert!(rt; has_spans(rt, &whole, &[("0:0", "3:0")]));
-    assert!(rt; is_without_middle(rt, alloc, &whole, both)?);
-    assert!(rt; whole != *both);
-    Ok(())
+fn fill_the_middle(rt: &impl Abort, alloc: Global, both: &SpanSet) {
+    let whole = with(rt, alloc, both, "1:0", "2:0");
+    holds!(rt; has_spans(rt, &whole, &[("0:0", "3:0")]));
+    holds!(rt; is_without_middle(rt, alloc, &whole, both));
+    holds!(rt; whole != *both);
 }
 
 /// Whether a copy of the set is equal to it.
@@ -95,54 +82,51 @@ fn is_its_copy(alloc: Global, set: &SpanSet) -> Result<bool, AllocError> {
 }
 
 /// The keys that the set shares with those from 0:5 to 2:5.
-fn met_with_middle(rt: &impl Abort, alloc: Global, set: &SpanSet) -> Result<SpanSet, AllocError> {
-    let middle = one(rt, alloc, "0:5", "2:5")?;
-    set.meet(alloc, &middle)
+fn met_with_middle(rt: &impl Abort, alloc: Global, set: &SpanSet) -> SpanSet {
+    let middle = one(rt, alloc, "0:5", "2:5");
+    set.meet(alloc, &middle).expect(rt, "memory")
 }
 
 /// Meets the set of the two spans with keys of both.
-fn meet(rt: &impl Abort, alloc: Global, two: &SpanSet) -> Result<(), AllocError> {
-    let met = met_with_middle(rt, alloc, two)?;
-    assert!(rt; has_spans(rt, &met, &[("0:5", "1:0"), ("2:0", "2:5")]));
-    Ok(())
+fn meet(rt: &impl Abort, alloc: Global, two: &SpanSet) {
+    let met = met_with_middle(rt, alloc, two);
+    holds!(rt; has_spans(rt, &met, &[("0:5", "1:0"), ("2:0", "2:5")]));
 }
 
 /// Looks at the two spans on either side of 2:5.
 fn look_at_halves(rt: &impl Abort, below: &SpanSet, others: &SpanSet) {
-    assert!(rt; has_spans(rt, below, &[("0:0", "1:0"), ("2:0", "2:5")]));
-    assert!(rt; has_spans(rt, others, &[("2:5", "3:0")]));
+    holds!(rt; has_spans(rt, below, &[("0:0", "1:0"), ("2:0", "2:5")]));
+    holds!(rt; has_spans(rt, others, &[("2:5", "3:0")]));
 }
 
 /// Splits the set of the two spans at 2:5.
-fn split(rt: &impl Abort, alloc: Global, two: &SpanSet) -> Result<(), AllocError> {
-    let (below, others) = two.split_at(alloc, bound(rt, "2:5"))?;
+fn split(rt: &impl Abort, alloc: Global, two: &SpanSet) {
+    let (below, others) = two.split_at(alloc, bound(rt, "2:5")).expect(rt, "memory");
     look_at_halves(rt, &below, &others);
-    Ok(())
 }
 
 /// The set covers one of a part of its keys, and is not covered by it.
-fn covers_a_part(rt: &impl Abort, alloc: Global, two: &SpanSet) -> Result<(), AllocError> {
-    let within = one(rt, alloc, "2:0", "2:7")?;
-    assert!(rt; two.covers(&within));
-    assert!(rt; !within.covers(two));
-    Ok(())
+fn covers_a_part(rt: &impl Abort, alloc: Global, two: &SpanSet) {
+    let within = one(rt, alloc, "2:0", "2:7");
+    holds!(rt; two.covers(&within));
+    holds!(rt; !within.covers(two));
 }
 
 /// The set covers the empty one, which has no first keys.
 fn covers_the_empty(rt: &impl Abort, alloc: Global, two: &SpanSet) {
     let empty = SpanSet::empty(alloc);
-    assert!(rt; two.covers(&empty));
-    assert!(rt; empty.is_empty());
-    assert!(rt; empty.first_keys(3).is_none());
+    holds!(rt; two.covers(&empty));
+    holds!(rt; empty.is_empty());
+    holds!(rt; empty.first_keys(3).is_none());
 }
 
 /// Looks at the keys of the two spans: the first ones, how many there are, and how many spans end by a bound.
 fn look_at_keys(rt: &impl Abort, two: &SpanSet) {
-    assert!(rt; two.first_keys(3) == Some(span(rt, "0:0", "0:3")));
-    assert!(rt; two.first_keys(0).is_none());
-    assert!(rt; two.first_keys(18446744069414584320) == Some(span(rt, "0:0", "1:0")));
-    assert!(rt; two.count() == 8589934592 && !two.is_empty());
-    assert!(rt; two.has(key(rt, "0:4294967295")) && !two.has(key(rt, "1:0")));
+    holds!(rt; two.first_keys(3) == Some(span(rt, "0:0", "0:3")));
+    holds!(rt; two.first_keys(0).is_none());
+    holds!(rt; two.first_keys(18446744069414584320) == Some(span(rt, "0:0", "1:0")));
+    holds!(rt; two.count() == 8589934592 && !two.is_empty());
+    holds!(rt; two.has(key(rt, "0:4294967295")) && !two.has(key(rt, "1:0")));
     for (text, ended) in [
         ("0:0", 0),
         ("0:9", 0),
@@ -151,52 +135,46 @@ fn look_at_keys(rt: &impl Abort, two: &SpanSet) {
         ("3:0", 2),
         ("end", 2),
     ] {
-        assert!(rt; two.ended(bound(rt, text)) == ended, "{text}");
+        holds!(rt; two.ended(bound(rt, text)) == ended, text);
     }
 }
 
 /// Each call that a set of two spans answers.
-fn look_at_two(rt: &impl Abort, alloc: Global, two: &SpanSet) -> Result<(), AllocError> {
+fn look_at_two(rt: &impl Abort, alloc: Global, two: &SpanSet) {
     look_at_keys(rt, two);
     covers_the_empty(rt, alloc, two);
-    covers_a_part(rt, alloc, two)?;
-    meet(rt, alloc, two)?;
-    split(rt, alloc, two)?;
+    covers_a_part(rt, alloc, two);
+    meet(rt, alloc, two);
+    split(rt, alloc, two);
     fill_the_middle(rt, alloc, two)
 }
 
 /// The union of the sets of two spans.
-fn both(rt: &impl Abort, alloc: Global) -> Result<SpanSet, AllocError> {
-    let first = one(rt, alloc, "0:0", "1:0")?;
+fn both(rt: &impl Abort, alloc: Global) -> SpanSet {
+    let first = one(rt, alloc, "0:0", "1:0");
     with(rt, alloc, &first, "2:0", "3:0")
 }
 
 #[test]
-fn union_of_two_spans(rt: HostRuntime) -> Result<(), Fail> {
-    let both = both(&rt, rt.alloc())?;
-    assert!(rt; has_spans(&rt, &both, &TWO));
-    look_at_two(&rt, rt.alloc(), &both)?;
-    Ok(())
+fn union_of_two_spans(rt: HostRuntime) {
+    let both = both(&rt, rt.alloc());
+    holds!(&rt; has_spans(&rt, &both, &TWO));
+    look_at_two(&rt, rt.alloc(), &both);
 }
 
 /// Takes the keys out of the set, whose spans are these then.
-fn leaves(
-    rt: &impl Abort,
-    set: &mut SpanSet,
-    removed: (&str, &str),
-    left: &[(&str, &str)],
-) -> Result<(), AllocError> {
-    set.remove(span(rt, removed.0, removed.1))?;
-    assert!(rt; has_spans(rt, set, left));
-    assert!(rt; set.is_empty() == left.is_empty());
-    Ok(())
+fn leaves(rt: &impl Abort, set: &mut SpanSet, removed: (&str, &str), left: &[(&str, &str)]) {
+    set.remove(span(rt, removed.0, removed.1))
+        .expect(rt, "memory");
+    holds!(rt; has_spans(rt, set, left));
+    holds!(rt; set.is_empty() == left.is_empty());
 }
 
 #[test]
-fn inserts_and_removals(rt: HostRuntime) -> Result<(), Fail> {
+fn inserts_and_removals(rt: HostRuntime) {
     let three = [("0:0", "1:0"), ("2:0", "3:0"), ("4:0", "5:0")];
-    let mut set = set(&rt, rt.alloc(), &three)?;
-    set.insert(span(&rt, "5:0", "6:0"))?;
+    let mut set = set(&rt, rt.alloc(), &three);
+    set.insert(span(&rt, "5:0", "6:0")).expect(&rt, "memory");
     let cases: [((&str, &str), &[(&str, &str)]); 10] = [
         // Nothing, since these keys are not in the set.
         (
@@ -224,15 +202,14 @@ fn inserts_and_removals(rt: HostRuntime) -> Result<(), Fail> {
         (("0:0", "end"), &[]),
     ];
     for (removed, left) in cases {
-        leaves(&rt, &mut set, removed, left)?;
+        leaves(&rt, &mut set, removed, left);
     }
-    Ok(())
 }
 
 /// The set of two spans with that room.
-fn with_room(rt: &impl Abort, alloc: Global, room: usize) -> Result<ReadySet, Fail> {
-    let two = set(rt, alloc, &TWO)?;
-    Ok(two.with_room(room).ok().ok_or("room")?)
+fn with_room(rt: &impl Abort, alloc: Global, room: usize) -> ReadySet {
+    let two = set(rt, alloc, &TWO);
+    two.with_room(room).ok().expect(rt, "room")
 }
 
 /// Whether the spans of the set with room are these, once it is a set again.
@@ -251,26 +228,23 @@ fn edit(rt: &impl Abort, ready: &mut ReadySet) {
 }
 
 #[test]
-fn edits_in_room(rt: HostRuntime) -> Result<(), Fail> {
-    let mut ready = with_room(&rt, rt.alloc(), 3)?;
+fn edits_in_room(rt: HostRuntime) {
+    let mut ready = with_room(&rt, rt.alloc(), 3);
     edit(&rt, &mut ready);
     let edited = [("0:0", "1:9"), ("2:0", "2:3"), ("2:4", "3:0")];
-    assert!(rt; ends_with(&rt, ready, &edited));
-    Ok(())
+    holds!(&rt; ends_with(&rt, ready, &edited));
 }
 
 #[test]
-fn a_set_that_is_not_edited(rt: HostRuntime) -> Result<(), Fail> {
-    let ready = with_room(&rt, rt.alloc(), 0)?;
-    assert!(rt; ends_with(&rt, ready, &TWO));
-    Ok(())
+fn a_set_that_is_not_edited(rt: HostRuntime) {
+    let ready = with_room(&rt, rt.alloc(), 0);
+    holds!(&rt; ends_with(&rt, ready, &TWO));
 }
 
 #[test]
-fn spans_and_all_keys(rt: HostRuntime) -> Result<(), Fail> {
-    assert!(rt; Span::new(bound(&rt, "3:0"), bound(&rt, "3:0")).is_none());
-    assert!(rt; span(&rt, "3:0", "3:7").count() == 7);
-    let all = one(&rt, rt.alloc(), "0:0", "end")?;
-    assert!(rt; all.count() == 18446744069414584320);
-    Ok(())
+fn spans_and_all_keys(rt: HostRuntime) {
+    holds!(&rt; Span::new(bound(&rt, "3:0"), bound(&rt, "3:0")).is_none());
+    holds!(&rt; span(&rt, "3:0", "3:7").count() == 7);
+    let all = one(&rt, rt.alloc(), "0:0", "end");
+    holds!(&rt; all.count() == 18446744069414584320);
 }

@@ -12,7 +12,6 @@ use squall_report::{Issue, Report};
 use std::alloc::{AllocError, Global};
 use std::process::Abort;
 use std::sync::Arc;
-use std::test::Fail;
 
 /// How many sub-plans of the number the list opens.
 fn opened_by(list: &[Report], number: u32) -> u32 {
@@ -37,7 +36,7 @@ fn says_key_without(
     let (number, sub, part) = place;
     let loaded = plain::says_loaded(list, number, sub, part, key);
     let also = plain::says_loaded(other, number, sub, part, key);
-    assert!(rt; board.says_loaded(number, sub, part, key) == (loaded && !also));
+    holds!(rt; board.says_loaded(number, sub, part, key) == (loaded && !also));
 }
 
 /// The board says of a place what the list says and the other does not.
@@ -51,7 +50,7 @@ fn says_without(
     let (number, sub, part) = place;
     let done = plain::says_done(list, number, sub, part);
     let also = plain::says_done(other, number, sub, part);
-    assert!(rt; board.says_done(number, sub, part) == (done && !also));
+    holds!(rt; board.says_done(number, sub, part) == (done && !also));
     for rank in 0..31u64 {
         if let Some(key) = Key::of_rank(rank) {
             says_key_without(rt, board, place, key, list, other);
@@ -120,7 +119,7 @@ fn issue_beyond<'a>(a: Flat<&'a Arc<Issue>>, b: &Flat<&'a Arc<Issue>>) -> Flat<&
 fn greater_openings(rt: &impl Abort, board: &Board, a: &[Report], b: &[Report], number: u32) {
     let (first, second) = (opened_by(a, number), opened_by(b, number));
     let wanted = if second < first { first } else { 0 };
-    assert!(rt; board.opened(number) == wanted);
+    holds!(rt; board.opened(number) == wanted);
 }
 
 /// The board has what the list a has beyond the list b.
@@ -129,7 +128,7 @@ fn tells_beyond(rt: &impl Abort, board: &Board, a: &[Report], b: &[Report]) {
         rows_without(rt, board, number, a, b);
         greater_openings(rt, board, a, b, number);
         let wanted = issue_beyond(plain::issuing(a, number), &plain::issuing(b, number));
-        assert!(rt; same_issue(&board.issuing(number), &wanted));
+        holds!(rt; same_issue(&board.issuing(number), &wanted));
     }
 }
 
@@ -161,25 +160,25 @@ fn repairs(rt: &impl Abort, board: &Board, a: &[Report], b: &[Report]) {
     for number in 1..4u32 {
         repairs_rows(rt, board, a, b, number);
         greater_openings(rt, board, b, a, number);
-        assert!(rt; same_issue(&board.issuing(number), &issue_sent(a, b, number)));
+        holds!(rt; same_issue(&board.issuing(number), &issue_sent(a, b, number)));
     }
 }
 
-/// The join of both boards.
-fn join_of(alloc: Global, a: &Board, b: &Board) -> Result<Board, Fail> {
-    let mut both = a.copied(alloc)?;
-    both.merge(b)?;
-    Ok(both)
+/// The join of both boards. None if an allocation fails.
+fn join_of(alloc: Global, a: &Board, b: &Board) -> Option<Board> {
+    let mut both = a.copied(alloc).ok()?;
+    both.merge(b).ok()?;
+    Some(both)
 }
 
-/// Whether the board is the join of two.
-fn is_join(alloc: Global, board: &Board, a: &Board, b: &Board) -> Result<bool, Fail> {
+/// Whether the board is the join of two. None if an allocation fails.
+fn is_join(alloc: Global, board: &Board, a: &Board, b: &Board) -> Option<bool> {
     let both = join_of(alloc, a, b)?;
-    Ok(*board == both)
+    Some(*board == both)
 }
 
-/// Whether a board, with another joined in, is the join of two.
-fn completes(alloc: Global, part: &Board, whole: &Board, other: &Board) -> Result<bool, Fail> {
+/// Whether a board, with another joined in, is the join of two. None if an allocation fails.
+fn completes(alloc: Global, part: &Board, whole: &Board, other: &Board) -> Option<bool> {
     let joined = join_of(alloc, part, whole)?;
     is_join(alloc, &joined, whole, other)
 }
@@ -192,35 +191,21 @@ struct Taken<'a> {
 }
 
 /// The board is what that of a has beyond that of b.
-fn is_beyond(
-    rt: &impl Abort,
-    alloc: Global,
-    rest: &Board,
-    a: Taken<'_>,
-    b: Taken<'_>,
-) -> Result<(), Fail> {
+fn is_beyond(rt: &impl Abort, alloc: Global, rest: &Board, a: Taken<'_>, b: Taken<'_>) {
     tells_beyond(rt, rest, a.list, b.list);
-    assert!(rt; completes(alloc, rest, b.board, a.board)?);
-    Ok(())
+    holds!(rt; completes(alloc, rest, b.board, a.board).expect(rt, "memory"));
 }
 
 /// What the board of a has beyond that of b.
-fn try_beyond(rt: &impl Abort, alloc: Global, a: Taken<'_>, b: Taken<'_>) -> Result<(), Fail> {
-    let rest = beyond(alloc, a.board, b.board)?;
+fn try_beyond(rt: &impl Abort, alloc: Global, a: Taken<'_>, b: Taken<'_>) {
+    let rest = beyond(alloc, a.board, b.board).expect(rt, "memory");
     is_beyond(rt, alloc, &rest, a, b)
 }
 
 /// The board is the repair of that of b by the digest of that of a.
-fn is_repair(
-    rt: &impl Abort,
-    alloc: Global,
-    rest: &Board,
-    a: Taken<'_>,
-    b: Taken<'_>,
-) -> Result<(), Fail> {
+fn is_repair(rt: &impl Abort, alloc: Global, rest: &Board, a: Taken<'_>, b: Taken<'_>) {
     repairs(rt, rest, a.list, b.list);
-    assert!(rt; completes(alloc, rest, a.board, b.board)?);
-    Ok(())
+    holds!(rt; completes(alloc, rest, a.board, b.board).expect(rt, "memory"));
 }
 
 /// The repair of the second board by the digest of the first.
@@ -230,8 +215,8 @@ fn repaired(alloc: Global, first: &Board, second: &Board) -> Result<Board, Alloc
 }
 
 /// The repair of the board of b by the digest of that of a.
-fn try_repair(rt: &impl Abort, alloc: Global, a: Taken<'_>, b: Taken<'_>) -> Result<(), Fail> {
-    let rest = repaired(alloc, a.board, b.board)?;
+fn try_repair(rt: &impl Abort, alloc: Global, a: Taken<'_>, b: Taken<'_>) {
+    let rest = repaired(alloc, a.board, b.board).expect(rt, "memory");
     is_repair(rt, alloc, &rest, a, b)
 }
 
@@ -257,16 +242,15 @@ fn comes_back(alloc: Global, board: &Board) -> Result<bool, AllocError> {
 }
 
 /// Two boards, and what each sends the other.
-fn try_boards(rt: &impl Abort, alloc: Global, a: Taken<'_>, b: Taken<'_>) -> Result<(), Fail> {
-    try_beyond(rt, alloc, a, b)?;
-    try_repair(rt, alloc, a, b)?;
-    assert!(rt; comes_back(alloc, a.board)?);
-    Ok(())
+fn try_boards(rt: &impl Abort, alloc: Global, a: Taken<'_>, b: Taken<'_>) {
+    try_beyond(rt, alloc, a, b);
+    try_repair(rt, alloc, a, b);
+    holds!(rt; comes_back(alloc, a.board).expect(rt, "memory"));
 }
 
 /// The board of a, beside that of the list b.
-fn try_beside(rt: &impl Abort, alloc: Global, a: Taken<'_>, b: &[Report]) -> Result<(), Fail> {
-    let board = one_by_one(alloc, b)?;
+fn try_beside(rt: &impl Abort, alloc: Global, a: Taken<'_>, b: &[Report]) {
+    let board = one_by_one(alloc, b).expect(rt, "memory");
     let second = Taken {
         list: b,
         board: &board,
@@ -275,8 +259,8 @@ fn try_beside(rt: &impl Abort, alloc: Global, a: Taken<'_>, b: &[Report]) -> Res
 }
 
 /// The boards of two lists.
-fn try_pair(rt: &impl Abort, alloc: Global, a: &[Report], b: &[Report]) -> Result<(), Fail> {
-    let board = one_by_one(alloc, a)?;
+fn try_pair(rt: &impl Abort, alloc: Global, a: &[Report], b: &[Report]) {
+    let board = one_by_one(alloc, a).expect(rt, "memory");
     let first = Taken {
         list: a,
         board: &board,
@@ -285,22 +269,17 @@ fn try_pair(rt: &impl Abort, alloc: Global, a: &[Report], b: &[Report]) -> Resul
 }
 
 /// Boards of the whole list, of its first reports, and of the rest.
-fn try_list(rt: &impl Abort, alloc: Global, list: &[Report], common: usize) -> Result<(), Fail> {
+fn try_list(rt: &impl Abort, alloc: Global, list: &[Report], common: usize) {
     let (a, rest) = list.split_at(common.min(list.len()));
-    try_pair(rt, alloc, a, list)?;
-    try_pair(rt, alloc, list, rest)?;
+    try_pair(rt, alloc, a, list);
+    try_pair(rt, alloc, list, rest);
     try_pair(rt, alloc, a, rest)
 }
 
 /// The same for a random list.
-fn try_random(
-    rt: &impl Abort,
-    alloc: Global,
-    random: &mut Random,
-    issues: &[Arc<Issue>; 2],
-) -> Result<(), Fail> {
+fn try_random(rt: &impl Abort, alloc: Global, random: &mut Random, issues: &[Arc<Issue>; 2]) {
     let count = (random.below(24)) as usize;
-    let list = reports(alloc, random, issues, count)?;
+    let list = reports(alloc, random, issues, count).expect(rt, "memory");
     let common = (random.below(24)) as usize;
     try_list(rt, alloc, &list, common)
 }
@@ -312,16 +291,15 @@ fn try_lists(
     random: &mut Random,
     issues: &[Arc<Issue>; 2],
     count: u32,
-) -> Result<(), Fail> {
+) {
     for _ in 0..count {
-        try_random(rt, alloc, random, issues)?;
+        try_random(rt, alloc, random, issues);
     }
-    Ok(())
 }
 
 #[test]
-fn boards_that_send_each_other_what_they_lack(rt: HostRuntime) -> Result<(), Fail> {
+fn boards_that_send_each_other_what_they_lack(rt: HostRuntime) {
     let alloc = rt.alloc();
-    let issues = two_issues(alloc).ok_or("issues")?;
+    let issues = two_issues(alloc).expect(&rt, "issues");
     try_lists(&rt, alloc, &mut Random::new(20221123), &issues, 200)
 }

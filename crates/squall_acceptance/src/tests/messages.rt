@@ -37,6 +37,6 @@ fn comes_back(alloc: Global, board: &Board) -> Result<bool, Fail> {
 fn a_board_sent(rt: HostRuntime) -> Result<(), Fail> {
     let mut board = Board::new(rt.alloc());
     take_load(&mut board)?;
-    assert!(rt; comes_back(rt.alloc(), &board)?);
+    holds!(&rt; comes_back(rt.alloc(), &board)?);
     Ok(())
 }

@@ -12,7 +12,6 @@ use squall_span::Span;
 use std::alloc::{AllocError, Global};
 use std::process::Abort;
 use std::sync::Arc;
-use std::test::Fail;
 
 /// A linear congruential generator (the multiplier of Knuth's MMIX).
 #[derive(Drop)]
@@ -152,10 +151,8 @@ fn same_keys(rt: &impl Abort, board: &Board, list: &[Report], place: (u32, u32, 
     let (number, sub, part) = place;
     for rank in 0..31u64 {
         if let Some(key) = Key::of_rank(rank) {
-            assert!(rt;
-                board.says_loaded(number, sub, part, key)
-                    == plain::says_loaded(list, number, sub, part, key)
-            );
+            holds!(rt; board.says_loaded(number, sub, part, key)
+                    == plain::says_loaded(list, number, sub, part, key));
         }
     }
 }
@@ -163,9 +160,7 @@ fn same_keys(rt: &impl Abort, board: &Board, list: &[Report], place: (u32, u32, 
 /// The board says of loads and completions in the sub-plan what the list says, at each key.
 fn same_cells(rt: &impl Abort, board: &Board, list: &[Report], number: u32, sub: u32) {
     for part in 0..4u32 {
-        assert!(rt;
-            board.says_done(number, sub, part) == plain::says_done(list, number, sub, part)
-        );
+        holds!(rt; board.says_done(number, sub, part) == plain::says_done(list, number, sub, part));
         same_keys(rt, board, list, (number, sub, part));
     }
 }
@@ -180,7 +175,7 @@ fn same_rows(rt: &impl Abort, board: &Board, list: &[Report], number: u32) {
 /// The board says of openings what the list says.
 fn same_openings(rt: &impl Abort, board: &Board, list: &[Report], number: u32) {
     for sub in 0..4u32 {
-        assert!(rt; (sub < board.opened(number)) == plain::says_opened(list, number, sub));
+        holds!(rt; (sub < board.opened(number)) == plain::says_opened(list, number, sub));
     }
 }
 
@@ -199,7 +194,7 @@ fn tells_the_list(rt: &impl Abort, board: &Board, list: &[Report]) {
     for number in 1..5u32 {
         same_rows(rt, board, list, number);
         same_openings(rt, board, list, number);
-        assert!(rt; same_issue(&board.issuing(number), &plain::issuing(list, number)));
+        holds!(rt; same_issue(&board.issuing(number), &plain::issuing(list, number)));
     }
 }
 
@@ -227,11 +222,10 @@ fn try_board(
     list: &mut [Report],
     board: &Board,
     first: usize,
-) -> Result<(), AllocError> {
+) {
     tells_the_list(rt, board, list);
     shuffle(random, list);
-    assert!(rt; is_in_groups(alloc, list, first, board)?);
-    Ok(())
+    holds!(rt; is_in_groups(alloc, list, first, board).expect(rt, "memory"));
 }
 
 /// One list in two orders and groupings.
@@ -241,20 +235,15 @@ fn try_orders(
     random: &mut Random,
     list: &mut [Report],
     first: usize,
-) -> Result<(), AllocError> {
-    let board = one_by_one(alloc, list)?;
+) {
+    let board = one_by_one(alloc, list).expect(rt, "memory");
     try_board(rt, alloc, random, list, &board, first)
 }
 
 /// A random list in two orders and groupings.
-fn try_list(
-    rt: &impl Abort,
-    alloc: Global,
-    random: &mut Random,
-    issues: &[Arc<Issue>; 2],
-) -> Result<(), AllocError> {
+fn try_list(rt: &impl Abort, alloc: Global, random: &mut Random, issues: &[Arc<Issue>; 2]) {
     let count = (random.below(24)) as usize;
-    let mut list = reports(alloc, random, issues, count)?;
+    let mut list = reports(alloc, random, issues, count).expect(rt, "memory");
     try_orders(rt, alloc, random, &mut list, count / 2)
 }
 
@@ -265,11 +254,10 @@ fn try_lists(
     random: &mut Random,
     issues: &[Arc<Issue>; 2],
     count: u32,
-) -> Result<(), AllocError> {
+) {
     for _ in 0..count {
-        try_list(rt, alloc, random, issues)?;
+        try_list(rt, alloc, random, issues);
     }
-    Ok(())
 }
 
 /// Both issues: of the example plans, and back.
@@ -278,9 +266,8 @@ pub(crate) fn two_issues(alloc: Global) -> Option<[Arc<Issue>; 2]> {
 }
 
 #[test]
-fn any_order_grouping_and_repetition(rt: HostRuntime) -> Result<(), Fail> {
+fn any_order_grouping_and_repetition(rt: HostRuntime) {
     let alloc = rt.alloc();
-    let issues = two_issues(alloc).ok_or("issues")?;
-    try_lists(&rt, alloc, &mut Random::new(20221122), &issues, 200)?;
-    Ok(())
+    let issues = two_issues(alloc).expect(&rt, "issues");
+    try_lists(&rt, alloc, &mut Random::new(20221122), &issues, 200);
 }

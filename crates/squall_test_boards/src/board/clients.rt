@@ -11,7 +11,6 @@ use squall_board::{Board, Cell};
 use squall_span::SpanSet;
 use std::alloc::Global;
 use std::process::Abort;
-use std::test::Fail;
 
 /// Each fact that the board says lies within the limits of facts.
 fn facts_are_within(board: &Board)
@@ -34,25 +33,24 @@ fn place_is_within(cell: &Cell)
     cell.known();
 }
 
-/// Puts the completion of partition 3 into the board.
-fn put_completion(alloc: Global, board: &mut Board) -> Result<(), Fail> {
-    let cell = Cell::new(1, 0, 3, true, SpanSet::empty(alloc)).ok_or("a cell")?;
+/// Puts the completion of partition 3 into the board. None if an allocation fails.
+fn put_completion(alloc: Global, board: &mut Board) -> Option<()> {
+    let cell = Cell::new(1, 0, 3, true, SpanSet::empty(alloc))?;
     place_is_within(&cell);
-    board.put_cell(&cell)?;
-    Ok(())
+    board.put_cell(&cell).ok()?;
+    Some(())
 }
 
 /// Puts the completion into the board, and looks at what callers learn of it then.
-fn learn(rt: &impl Abort, alloc: Global, board: &mut Board) -> Result<(), Fail> {
-    put_completion(alloc, board)?;
+fn learn(rt: &impl Abort, alloc: Global, board: &mut Board) {
+    put_completion(alloc, board).expect(rt, "memory");
     facts_are_within(board);
     lists_are_one(board);
-    assert!(rt; board.says_done(1, 0, 3));
-    Ok(())
+    holds!(rt; board.says_done(1, 0, 3));
 }
 
 #[test]
-fn callers_learn(rt: HostRuntime) -> Result<(), Fail> {
+fn callers_learn(rt: HostRuntime) {
     let mut board = Board::new(rt.alloc());
     learn(&rt, rt.alloc(), &mut board)
 }

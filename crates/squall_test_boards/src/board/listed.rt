@@ -21,7 +21,6 @@ use squall_span::SpanSet;
 use std::alloc::{AllocError, Global};
 use std::process::Abort;
 use std::sync::Arc;
-use std::test::Fail;
 
 /// Puts each opening into the board.
 fn put_openings(board: &mut Board, openings: &[Opening]) -> Result<(), AllocError>
@@ -149,15 +148,14 @@ fn has_cells_of_two(board: &Board) -> Result<bool, AllocError> {
 }
 
 /// Looks at the lists of the board of the two reports.
-fn look_at_lists(rt: &impl Abort, board: &Board) -> Result<(), Fail> {
-    assert!(rt; has_openings(board, &[])?);
-    assert!(rt; has_cells_of_two(board)?);
-    Ok(())
+fn look_at_lists(rt: &impl Abort, board: &Board) {
+    holds!(rt; has_openings(board, &[]).expect(rt, "memory"));
+    holds!(rt; has_cells_of_two(board).expect(rt, "memory"));
 }
 
 #[test]
-fn cells_of_a_board(rt: HostRuntime) -> Result<(), Fail> {
-    let board = board_of_two(rt.alloc()).ok_or("a board")?;
+fn cells_of_a_board(rt: HostRuntime) {
+    let board = board_of_two(rt.alloc()).expect(&rt, "a board");
     look_at_lists(&rt, &board)
 }
 
@@ -167,23 +165,22 @@ pub(crate) fn put_rows_of(board: &Board, again: &mut Board) -> Result<(), AllocE
 }
 
 /// Puts the rows of the board into the other, which is empty, twice.
-fn put_rows_twice(rt: &impl Abort, board: &Board, again: &mut Board) -> Result<(), AllocError> {
-    put_rows_of(board, again)?;
-    assert!(rt; *again == *board && again.cell_map().len() == 1);
-    put_rows_of(board, again)?;
-    assert!(rt; *again == *board);
-    Ok(())
+fn put_rows_twice(rt: &impl Abort, board: &Board, again: &mut Board) {
+    put_rows_of(board, again).expect(rt, "memory");
+    holds!(rt; *again == *board && again.cell_map().len() == 1);
+    put_rows_of(board, again).expect(rt, "memory");
+    holds!(rt; *again == *board);
 }
 
 /// Puts the rows of the board into an empty one.
-fn put_rows_into_empty(rt: &impl Abort, alloc: Global, board: &Board) -> Result<(), Fail> {
+fn put_rows_into_empty(rt: &impl Abort, alloc: Global, board: &Board) {
     let mut again = Board::new(alloc);
-    Ok(put_rows_twice(rt, board, &mut again)?)
+    put_rows_twice(rt, board, &mut again)
 }
 
 #[test]
-fn rows_put_whole(rt: HostRuntime) -> Result<(), Fail> {
-    let board = board_of_two(rt.alloc()).ok_or("a board")?;
+fn rows_put_whole(rt: HostRuntime) {
+    let board = board_of_two(rt.alloc()).expect(&rt, "a board");
     put_rows_into_empty(&rt, rt.alloc(), &board)
 }
 
@@ -214,14 +211,13 @@ fn lends_cells_of_two(board: &Board) -> Result<bool, AllocError> {
 }
 
 /// Looks at the cells that the board of the two reports lends.
-fn look_at_lent_cells(rt: &impl Abort, board: &Board) -> Result<(), Fail> {
-    assert!(rt; lends_cells_of_two(board)?);
-    Ok(())
+fn look_at_lent_cells(rt: &impl Abort, board: &Board) {
+    holds!(rt; lends_cells_of_two(board).expect(rt, "memory"));
 }
 
 #[test]
-fn cells_lent(rt: HostRuntime) -> Result<(), Fail> {
-    let board = board_of_two(rt.alloc()).ok_or("a board")?;
+fn cells_lent(rt: HostRuntime) {
+    let board = board_of_two(rt.alloc()).expect(&rt, "a board");
     look_at_lent_cells(&rt, &board)
 }
 
@@ -239,62 +235,58 @@ fn is_of_its_cells(alloc: Global, board: &Board) -> Result<bool, AllocError> {
 }
 
 /// The board is that of its cells.
-fn look_at_its_cells(rt: &impl Abort, alloc: Global, board: &Board) -> Result<(), Fail> {
-    assert!(rt; is_of_its_cells(alloc, board)?);
-    Ok(())
+fn look_at_its_cells(rt: &impl Abort, alloc: Global, board: &Board) {
+    holds!(rt; is_of_its_cells(alloc, board).expect(rt, "memory"));
 }
 
 #[test]
-fn cells_put_again(rt: HostRuntime) -> Result<(), Fail> {
-    let board = board_of_two(rt.alloc()).ok_or("a board")?;
+fn cells_put_again(rt: HostRuntime) {
+    let board = board_of_two(rt.alloc()).expect(&rt, "a board");
     look_at_its_cells(&rt, rt.alloc(), &board)
 }
 
 /// Puts an opening into an empty board.
-fn put_opening(rt: &impl Abort, board: &mut Board) -> Result<(), Fail> {
+fn put_opening(rt: &impl Abort, board: &mut Board) {
     let opening = Opening {
         number: 1,
         count: 2,
     };
-    board.put_opening(&opening)?;
-    assert!(rt; board.opened(1) == 2 && board.opened(2) == 0);
-    assert!(rt; has_openings(board, &[opening])?);
-    Ok(())
+    board.put_opening(&opening).expect(rt, "memory");
+    holds!(rt; board.opened(1) == 2 && board.opened(2) == 0);
+    holds!(rt; has_openings(board, &[opening]).expect(rt, "memory"));
 }
 
 #[test]
-fn an_opening_put(rt: HostRuntime) -> Result<(), Fail> {
+fn an_opening_put(rt: HostRuntime) {
     let mut board = Board::new(rt.alloc());
     put_opening(&rt, &mut board)
 }
 
 /// The board is the other, and has an issue.
 fn is_again(rt: &impl Abort, board: &Board, again: &Board) {
-    assert!(rt; *again == *board);
-    assert!(rt; matches!(again.issuing(2), Flat::One(_)));
+    holds!(rt; *again == *board);
+    holds!(rt; matches!(again.issuing(2), Flat::One(_)));
 }
 
 /// Puts the lists of the board into another, and looks at it.
-fn look_at_put_again(rt: &impl Abort, alloc: Global, board: &Board) -> Result<(), Fail> {
-    let again = put_again(alloc, board)?;
+fn look_at_put_again(rt: &impl Abort, alloc: Global, board: &Board) {
+    let again = put_again(alloc, board).expect(rt, "memory");
     is_again(rt, board, &again);
-    Ok(())
 }
 
 #[test]
-fn all_put_again(rt: HostRuntime) -> Result<(), Fail> {
-    let board = full(rt.alloc()).ok_or("a board")?;
+fn all_put_again(rt: HostRuntime) {
+    let board = full(rt.alloc()).expect(&rt, "a board");
     look_at_put_again(&rt, rt.alloc(), &board)
 }
 
 #[test]
-fn cells_within_their_limits(rt: HostRuntime) -> Result<(), Fail> {
+fn cells_within_their_limits(rt: HostRuntime) {
     let alloc = rt.alloc();
-    assert!(rt; Cell::new(1, 0, 3, false, SpanSet::empty(alloc)).is_none());
-    assert!(rt; complete(alloc, 0, 0, 3).is_none() && complete(alloc, 1, 0, 3).is_some());
-    assert!(rt; complete(alloc, 1, 10000, 3).is_none() && complete(alloc, 1, 9999, 3).is_some());
-    assert!(rt; complete(alloc, 1, 0, 10000).is_none() && complete(alloc, 1, 0, 9999).is_some());
-    Ok(())
+    holds!(&rt; Cell::new(1, 0, 3, false, SpanSet::empty(alloc)).is_none());
+    holds!(&rt; complete(alloc, 0, 0, 3).is_none() && complete(alloc, 1, 0, 3).is_some());
+    holds!(&rt; complete(alloc, 1, 10000, 3).is_none() && complete(alloc, 1, 9999, 3).is_some());
+    holds!(&rt; complete(alloc, 1, 0, 10000).is_none() && complete(alloc, 1, 0, 9999).is_some());
 }
 
 /// The cell of the keys from 0:0 on, below the bound, at partition 3 in sub-plan 1 of number 2.
@@ -310,24 +302,24 @@ fn keys_there(board: &Board) -> Option<u64> {
 }
 
 /// Gives the cell to the board, which has these many keys there then.
-fn give(rt: &impl Abort, board: &mut Board, cell: Option<Cell>, keys: u64) -> Result<(), Fail> {
-    board.take_cell(cell.ok_or("a cell")?)?;
-    assert!(rt; keys_there(board) == Some(keys));
-    Ok(())
+fn give(rt: &impl Abort, board: &mut Board, cell: Option<Cell>, keys: u64) {
+    board
+        .take_cell(cell.expect(rt, "a cell"))
+        .expect(rt, "memory");
+    holds!(rt; keys_there(board) == Some(keys));
 }
 
 /// Gives cells of one place to the board: it moves the first, and joins the others into it.
-fn give_cells(rt: &impl Abort, alloc: Global, board: &mut Board) -> Result<(), Fail> {
-    give(rt, board, cell_below(alloc, "0:5"), 5)?;
-    give(rt, board, cell_below(alloc, "0:9"), 9)?;
-    assert!(rt; !board.says_done(2, 1, 3));
-    give(rt, board, complete(alloc, 2, 1, 3), 9)?;
-    assert!(rt; board.says_done(2, 1, 3));
-    Ok(())
+fn give_cells(rt: &impl Abort, alloc: Global, board: &mut Board) {
+    give(rt, board, cell_below(alloc, "0:5"), 5);
+    give(rt, board, cell_below(alloc, "0:9"), 9);
+    holds!(rt; !board.says_done(2, 1, 3));
+    give(rt, board, complete(alloc, 2, 1, 3), 9);
+    holds!(rt; board.says_done(2, 1, 3));
 }
 
 #[test]
-fn cells_given_to_a_board(rt: HostRuntime) -> Result<(), Fail> {
+fn cells_given_to_a_board(rt: HostRuntime) {
     let mut board = Board::new(rt.alloc());
     give_cells(&rt, rt.alloc(), &mut board)
 }

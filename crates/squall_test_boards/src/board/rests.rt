@@ -6,7 +6,6 @@ use squall_example::{NEW, OLD, load};
 use squall_report::Report;
 use std::alloc::{AllocError, Global};
 use std::process::Abort;
-use std::test::Fail;
 
 /// What the board has beyond that of these reports.
 fn beyond(alloc: Global, first: &Board, reports: &[Report]) -> Result<Board, AllocError> {
@@ -46,20 +45,19 @@ fn ends() -> Option<[Report; 2]> {
     Some([load("2:9", "3:0")?, load("2:0", "2:7")?])
 }
 
-/// Whether of the whole load the ends are left.
-fn leave_ends(alloc: Global, whole: &[Report], middle: &[Report]) -> Result<bool, Fail> {
-    let ends = ends().ok_or("ends")?;
-    Ok(leave(alloc, whole, middle, &ends)?)
+/// Whether of the whole load the ends are left. None if an allocation fails.
+fn leave_ends(alloc: Global, whole: &[Report], middle: &[Report]) -> Option<bool> {
+    let ends = ends()?;
+    leave(alloc, whole, middle, &ends).ok()
 }
 
 #[test]
-fn loads_and_openings_beyond(rt: HostRuntime) -> Result<(), Fail> {
-    let whole = whole().ok_or("whole")?;
-    let middle = middle().ok_or("middle")?;
+fn loads_and_openings_beyond(rt: HostRuntime) {
+    let whole = whole().expect(&rt, "whole");
+    let middle = middle().expect(&rt, "middle");
     let list = &whole[..];
-    assert!(rt; leave_ends(rt.alloc(), &list[..1], &middle)?);
-    assert!(rt; leave(rt.alloc(), &list[1..], &middle, &list[1..])?);
-    Ok(())
+    holds!(&rt; leave_ends(rt.alloc(), &list[..1], &middle).expect(&rt, "memory"));
+    holds!(&rt; leave(rt.alloc(), &list[1..], &middle, &list[1..]).expect(&rt, "memory"));
 }
 
 fn completions() -> Option<[Report; 3]> {
@@ -71,14 +69,13 @@ fn completions() -> Option<[Report; 3]> {
 }
 
 #[test]
-fn completions_beyond(rt: HostRuntime) -> Result<(), Fail> {
+fn completions_beyond(rt: HostRuntime) {
     let alloc = rt.alloc();
-    let reports = completions().ok_or("reports")?;
+    let reports = completions().expect(&rt, "reports");
     let list = &reports[..];
-    assert!(rt; leave(alloc, list, &list[..1], &list[1..])?);
-    assert!(rt; leave(alloc, list, list, &[])?);
-    assert!(rt; leave(alloc, list, &[], list)?);
-    Ok(())
+    holds!(&rt; leave(alloc, list, &list[..1], &list[1..]).expect(&rt, "memory"));
+    holds!(&rt; leave(alloc, list, list, &[]).expect(&rt, "memory"));
+    holds!(&rt; leave(alloc, list, &[], list).expect(&rt, "memory"));
 }
 
 /// Two issues that clash.
@@ -87,17 +84,16 @@ fn clashing_issues(alloc: Global) -> Option<[Report; 2]> {
 }
 
 /// What is left of each of two issues that clash, and of both.
-fn look_at_issues(rt: &impl Abort, alloc: Global, reports: &[Report; 2]) -> Result<(), Fail> {
+fn look_at_issues(rt: &impl Abort, alloc: Global, reports: &[Report; 2]) {
     let list = &reports[..];
-    assert!(rt; leave(alloc, &list[..1], &list[1..], &list[..1])?);
-    assert!(rt; leave(alloc, &list[..1], list, &[])?);
-    assert!(rt; leave(alloc, list, &list[..1], list)?);
-    Ok(())
+    holds!(rt; leave(alloc, &list[..1], &list[1..], &list[..1]).expect(rt, "memory"));
+    holds!(rt; leave(alloc, &list[..1], list, &[]).expect(rt, "memory"));
+    holds!(rt; leave(alloc, list, &list[..1], list).expect(rt, "memory"));
 }
 
 #[test]
-fn issues_beyond(rt: HostRuntime) -> Result<(), Fail> {
+fn issues_beyond(rt: HostRuntime) {
     let alloc = rt.alloc();
-    let reports = clashing_issues(alloc).ok_or("issues")?;
+    let reports = clashing_issues(alloc).expect(&rt, "issues");
     look_at_issues(&rt, alloc, &reports)
 }

@@ -16,7 +16,6 @@ use squall_key::{Key, PartId};
 use squall_report::Report;
 use std::alloc::Global;
 use std::process::Abort;
-use std::test::Fail;
 
 /// How many sub-plans of the number are opened by the reports that the board has taken.
 fn opened_by_reports(board: &Board, number: u32) -> u32
@@ -46,29 +45,29 @@ fn newest_route(
     }
 }
 
-/// Takes an issue, and an opening under its number.
-fn take_change(alloc: Global, board: &mut Board) -> Result<(), Fail> {
+/// Takes an issue, and an opening under its number. None if an allocation fails.
+fn take_change(alloc: Global, board: &mut Board) -> Option<()> {
     take_issue(alloc, board, 2, NEW, OLD)?;
     take(board, Report::opened(2, 0))
 }
 
-/// Whether the board sends the key to the partition by its newest course after course 1.
-fn sends_by_newest(alloc: Global, board: &Board, key: Key, part: u32) -> Result<bool, Fail> {
-    let first = course(alloc).ok_or("a course")?;
-    Ok(newest_route(alloc, &first, board, key).ok() == PartId::new(part))
+/// Whether the board sends the key to the partition by its newest course after course 1. None if an
+/// allocation fails.
+fn sends_by_newest(alloc: Global, board: &Board, key: Key, part: u32) -> Option<bool> {
+    let first = course(alloc)?;
+    Some(newest_route(alloc, &first, board, key).ok() == PartId::new(part))
 }
 
 /// Takes the change, and looks at the route of a key and at the count of openings.
-fn look_at_change(rt: &impl Abort, alloc: Global, board: &mut Board) -> Result<(), Fail> {
-    let key = Key::read("2:0").ok_or("key")?;
-    take_change(alloc, board)?;
-    assert!(rt; sends_by_newest(alloc, board, key, 3)?);
-    assert!(rt; opened_by_reports(board, 2) == 1);
-    Ok(())
+fn look_at_change(rt: &impl Abort, alloc: Global, board: &mut Board) {
+    let key = Key::read("2:0").expect(rt, "key");
+    take_change(alloc, board).expect(rt, "memory");
+    holds!(rt; sends_by_newest(alloc, board, key, 3).expect(rt, "memory"));
+    holds!(rt; opened_by_reports(board, 2) == 1);
 }
 
 #[test]
-fn clients_of_routes(rt: HostRuntime) -> Result<(), Fail> {
+fn clients_of_routes(rt: HostRuntime) {
     let mut taken = Board::new(rt.alloc());
     look_at_change(&rt, rt.alloc(), &mut taken)
 }

@@ -34,7 +34,7 @@ fn small_board(alloc: Global) -> Option<Board> {
 /// allocation fails.
 fn is_small_or_grown(rt: &impl Abort, alloc: Global, board: &Board, grown: bool) {
     if let Some(before) = small_board(alloc) {
-        assert!(rt; board.covers(&before) && grown == (*board != before));
+        holds!(rt; board.covers(&before) && grown == (*board != before));
     }
 }
 
@@ -134,7 +134,7 @@ fn puts_row(board: &mut Board, other: &Board) -> (bool, bool) {
 fn put_row_into_empty(rt: &impl Abort, alloc: Global, other: &Board) {
     let mut board = Board::new(alloc);
     let put = puts_row(&mut board, other);
-    assert!(rt; put.0 == put.1 && put.0 != is_empty(alloc, &board));
+    holds!(rt; put.0 == put.1 && put.0 != is_empty(alloc, &board));
 }
 
 /// Puts a row of two cells into an empty board, and then into this one.
@@ -149,7 +149,7 @@ fn put_row(rt: &impl Abort, alloc: Global, board: &mut Board) {
 /// The board has what was put into it, or is an unchanged small one. `put` says whether it was put,
 /// and whether the board has it.
 fn is_grown_or_not(rt: &impl Abort, alloc: Global, put: (bool, bool), board: &Board) {
-    assert!(rt; put.0 == put.1);
+    holds!(rt; put.0 == put.1);
     is_small_or_grown(rt, alloc, board, put.0);
 }
 
@@ -161,7 +161,7 @@ fn is_grown_where_made(rt: &impl Abort, alloc: Global, put: Option<(bool, bool)>
 /// Merges the other into the board, which has it then or is unchanged.
 fn merges_or_not(rt: &impl Abort, alloc: Global, board: &mut Board, other: &Board) {
     let merged = board.merge(other).is_ok();
-    assert!(rt; merged == board.covers(other));
+    holds!(rt; merged == board.covers(other));
     is_small_or_grown(rt, alloc, board, merged);
 }
 
@@ -188,9 +188,9 @@ fn is_copy(copy: &Board, board: &Board) -> bool {
 /// A copy of the board is equal to it, if no allocation fails.
 fn look_at_copy(rt: &impl Abort, alloc: Global, board: &Board) {
     if let Ok(copy) = board.copied(alloc) {
-        assert!(rt; is_copy(&copy, board));
+        holds!(rt; is_copy(&copy, board));
     }
-    assert!(rt; board.opened(1) == 1);
+    holds!(rt; board.opened(1) == 1);
 }
 
 /// Whether the board has the rest, which has no opening.
@@ -201,9 +201,9 @@ fn has_rest(board: &Board, rest: &Board) -> bool {
 /// Looks at what the board has beyond itself, if no allocation fails.
 fn look_beyond(rt: &impl Abort, alloc: Global, board: &Board) {
     if let Ok(rest) = board.beyond(alloc, board) {
-        assert!(rt; has_rest(board, &rest));
+        holds!(rt; has_rest(board, &rest));
     }
-    assert!(rt; board.opened(1) == 1);
+    holds!(rt; board.opened(1) == 1);
 }
 
 /// Takes the step with the board.

@@ -5,7 +5,6 @@ use squall_board::Board;
 use squall_delta::{digest, repair};
 use std::alloc::{AllocError, Global};
 use std::process::Abort;
-use std::test::Fail;
 
 /// Brings a board what another one has, by a digest and a repair.
 fn repair_completes(
@@ -23,13 +22,13 @@ fn repair_completes(
 }
 
 /// Repairs the board by that of the load.
-fn repair_by_the_load(rt: &impl Abort, alloc: Global, board: &mut Board) -> Result<(), Fail> {
-    let other = board_of(alloc, LOAD)?;
-    Ok(repair_completes(rt, alloc, board, &other)?)
+fn repair_by_the_load(rt: &impl Abort, alloc: Global, board: &mut Board) {
+    let other = board_of(alloc, LOAD).expect(rt, "memory");
+    repair_completes(rt, alloc, board, &other).expect(rt, "memory")
 }
 
 #[test]
-fn repair_of_an_empty_board(rt: HostRuntime) -> Result<(), Fail> {
-    let mut board = board_of(rt.alloc(), EMPTY_DELTA)?;
+fn repair_of_an_empty_board(rt: HostRuntime) {
+    let mut board = board_of(rt.alloc(), EMPTY_DELTA).expect(&rt, "memory");
     repair_by_the_load(&rt, rt.alloc(), &mut board)
 }

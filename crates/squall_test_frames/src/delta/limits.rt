@@ -7,7 +7,6 @@ use squall_delta::{CutFault, pieces_within};
 use squall_wire::encode_board;
 use std::alloc::Global;
 use std::process::Abort;
-use std::test::Fail;
 
 /// How many pieces the board has within the limit.
 fn count_within(alloc: Global, board: &Board, limit: usize) -> Result<usize, CutFault> {
@@ -30,32 +29,32 @@ fn is_cut_as(alloc: Global, board: &Board, case: Case) -> bool {
 /// The board is cut as each case says.
 fn look_at_cases(rt: &impl Abort, alloc: Global, board: &Board, cases: &[Case]) {
     for case in cases {
-        assert!(rt; is_cut_as(alloc, board, *case));
+        holds!(rt; is_cut_as(alloc, board, *case));
     }
 }
 
 /// Whether no piece has a frame that is longer than the limit, and the pieces, merged from the last
-/// to the first, are the board.
-fn come_back(alloc: Global, cut: &[Board], board: &Board, limit: usize) -> Result<bool, Fail> {
+/// to the first, are the board. None if an allocation fails.
+fn come_back(alloc: Global, cut: &[Board], board: &Board, limit: usize) -> Option<bool> {
     let mut merged = Board::new(alloc);
     for piece in cut.iter().rev() {
-        if encode_board(alloc, piece)?.len() > limit {
-            return Ok(false);
+        if encode_board(alloc, piece).ok()?.len() > limit {
+            return Some(false);
         }
-        merged.merge(piece)?;
+        merged.merge(piece).ok()?;
     }
-    Ok(merged == *board)
+    Some(merged == *board)
 }
 
-/// Cuts the board within the limit, and merges the pieces.
-fn cut_and_merge(alloc: Global, board: &Board, limit: usize) -> Result<bool, Fail> {
-    let cut = pieces_within(alloc, board, limit)?;
+/// Cuts the board within the limit, and merges the pieces. None if an allocation fails.
+fn cut_and_merge(alloc: Global, board: &Board, limit: usize) -> Option<bool> {
+    let cut = pieces_within(alloc, board, limit).ok()?;
     come_back(alloc, &cut, board, limit)
 }
 
 #[test]
-fn an_opening_and_an_issue_within_limits(rt: HostRuntime) -> Result<(), Fail> {
-    let board = board_of(rt.alloc(), OPENED_CLASH)?;
+fn an_opening_and_an_issue_within_limits(rt: HostRuntime) {
+    let board = board_of(rt.alloc(), OPENED_CLASH).expect(&rt, "memory");
     let cases = [
         (1_048_584, Some(1)),
         (33, Some(1)),
@@ -65,14 +64,13 @@ fn an_opening_and_an_issue_within_limits(rt: HostRuntime) -> Result<(), Fail> {
         (0, None),
     ];
     look_at_cases(&rt, rt.alloc(), &board, &cases);
-    assert!(rt; cut_and_merge(rt.alloc(), &board, 25)?);
-    Ok(())
+    holds!(&rt; cut_and_merge(rt.alloc(), &board, 25).expect(&rt, "memory"));
 }
 
 #[test]
-fn spans_within_limits(rt: HostRuntime) -> Result<(), Fail> {
+fn spans_within_limits(rt: HostRuntime) {
     let mut board = Board::new(rt.alloc());
-    take_spans(&mut board, 3)?;
+    take_spans(&mut board, 3).expect(&rt, "memory");
     let cases = [
         (81, Some(1)),
         (80, Some(2)),
@@ -82,21 +80,20 @@ fn spans_within_limits(rt: HostRuntime) -> Result<(), Fail> {
         (48, None),
     ];
     look_at_cases(&rt, rt.alloc(), &board, &cases);
-    assert!(rt; cut_and_merge(rt.alloc(), &board, 64)?);
-    Ok(())
+    holds!(&rt; cut_and_merge(rt.alloc(), &board, 64).expect(&rt, "memory"));
 }
 
 #[test]
 fn no_pieces_within_a_limit_of_nothing(rt: HostRuntime) {
     let empty = Board::new(rt.alloc());
-    assert!(rt; count_within(rt.alloc(), &empty, 0) == Ok(0));
+    holds!(&rt; count_within(rt.alloc(), &empty, 0) == Ok(0));
 }
 
 /// Cuts the board of the load, if no allocation fails.
 fn cut_tolerantly(rt: &impl Abort, alloc: Global, board: &Board) {
     match count_within(alloc, board, 49) {
-        Ok(count) => assert!(rt; count == 1),
-        Err(fault) => assert!(rt; fault == CutFault::NoMemory),
+        Ok(count) => holds!(rt; count == 1),
+        Err(fault) => holds!(rt; fault == CutFault::NoMemory),
     }
     is_still(rt, alloc, board, LOAD);
 }

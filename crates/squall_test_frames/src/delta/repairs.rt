@@ -8,16 +8,16 @@ use squall_board::Board;
 use squall_delta::{digest, repair};
 use std::alloc::{AllocError, Global};
 use std::process::Abort;
-use std::test::Fail;
 
-/// Whether the digest of the board of the delta has the frame that the text writes.
-fn has_digest(alloc: Global, delta: &str, wanted: &str) -> Result<bool, Fail> {
-    let board = board_of(alloc, delta)?;
-    Ok(digest_is_framed_as(alloc, digest(alloc, &board)?, wanted)?)
+/// Whether the digest of the board of the delta has the frame that the text writes. None if an
+/// allocation fails.
+fn has_digest(alloc: Global, delta: &str, wanted: &str) -> Option<bool> {
+    let board = board_of(alloc, delta).ok()?;
+    digest_is_framed_as(alloc, digest(alloc, &board).ok()?, wanted).ok()
 }
 
 #[test]
-fn frames_of_digests(rt: HostRuntime) -> Result<(), Fail> {
+fn frames_of_digests(rt: HostRuntime) {
     for (delta, wanted) in [
         (EMPTY_DELTA, EMPTY_DIGEST),
         (LOAD, LOAD_DIGEST),
@@ -26,9 +26,8 @@ fn frames_of_digests(rt: HostRuntime) -> Result<(), Fail> {
             "53510202 00000038 00000001 00000001 00000001 00000001 00000001 1a7b6c1d735527356ebe61e8de2683038318f3d13fc07f79cef70905824f5a03 00000000",
         ),
     ] {
-        assert!(rt; has_digest(rt.alloc(), delta, wanted)?, "{delta}");
+        holds!(&rt; has_digest(rt.alloc(), delta, wanted).expect(&rt, "memory"), delta);
     }
-    Ok(())
 }
 
 /// The frame of the load and of the completion of partition 4 in sub-plan 1.
@@ -87,42 +86,31 @@ fn repair_by(alloc: Global, first: &Board, second: &Board) -> Result<Board, Allo
 }
 
 /// Merges the repair of the board of the text by the digest of the first board into the first.
-/// Whether the frame of the repair is the wanted one.
-fn merge_repair(
-    alloc: Global,
-    first: &mut Board,
-    second: &str,
-    wanted: &str,
-) -> Result<bool, Fail> {
-    let second = board_of(alloc, second)?;
-    let delta = repair_by(alloc, first, &second)?;
-    first.merge(&delta)?;
-    Ok(is_framed_as(alloc, &delta, wanted)?)
+/// Whether the frame of the repair is the wanted one. None if an allocation fails.
+fn merge_repair(alloc: Global, first: &mut Board, second: &str, wanted: &str) -> Option<bool> {
+    let second = board_of(alloc, second).ok()?;
+    let delta = repair_by(alloc, first, &second).ok()?;
+    first.merge(&delta).ok()?;
+    is_framed_as(alloc, &delta, wanted).ok()
 }
 
-/// Whether the repair has its frame, and makes the first board the merged one.
-fn completes(
-    alloc: Global,
-    first: &str,
-    second: &str,
-    wanted: &str,
-    merged: &str,
-) -> Result<bool, Fail> {
-    let mut board = board_of(alloc, first)?;
+/// Whether the repair has its frame, and makes the first board the merged one. None if an
+/// allocation fails.
+fn completes(alloc: Global, first: &str, second: &str, wanted: &str, merged: &str) -> Option<bool> {
+    let mut board = board_of(alloc, first).ok()?;
     let is_wanted = merge_repair(alloc, &mut board, second, wanted)?;
-    Ok(is_wanted && is_framed_as(alloc, &board, merged)?)
+    Some(is_wanted && is_framed_as(alloc, &board, merged).ok()?)
 }
 
 /// Each repair completes its board.
-fn complete(rt: &impl Abort, alloc: Global, rows: &[(&str, &str, &str, &str)]) -> Result<(), Fail> {
+fn complete(rt: &impl Abort, alloc: Global, rows: &[(&str, &str, &str, &str)]) {
     for (first, second, wanted, merged) in rows {
-        assert!(rt; completes(alloc, first, second, wanted, merged)?, "{first}");
+        holds!(rt; completes(alloc, first, second, wanted, merged).expect(rt, "memory"), first);
     }
-    Ok(())
 }
 
 #[test]
-fn repairs_complete_boards(rt: HostRuntime) -> Result<(), Fail> {
+fn repairs_complete_boards(rt: HostRuntime) {
     complete(&rt, rt.alloc(), &REPAIRS)
 }
 
@@ -130,7 +118,7 @@ fn repairs_complete_boards(rt: HostRuntime) -> Result<(), Fail> {
 /// allocation fails.
 fn repair_tolerantly(rt: &impl Abort, alloc: Global, first: &Board, second: &Board) {
     if let Ok(delta) = repair_by(alloc, first, second) {
-        assert!(rt; delta.says_done(1, 1, 4) && second.covers(&delta) && !delta.covers(first));
+        holds!(rt; delta.says_done(1, 1, 4) && second.covers(&delta) && !delta.covers(first));
     }
     is_still(rt, alloc, second, BOTH);
 }

@@ -8,9 +8,8 @@ use squall_plan::{Plan, PlanRange};
 use squall_report::{Issue, Report};
 use squall_span::Span;
 use squall_wire::EncodeFault;
-use std::alloc::{AllocError, Global};
+use std::alloc::Global;
 use std::process::Abort;
-use std::test::Fail;
 
 /// The completion of partition 4 in sub-plan 0 of number 1.
 const DONE: &str = "53510101 00000019 00000000 00000001 00000001 00000000 00000004 01 00000000";
@@ -40,41 +39,42 @@ fn is_delta_of(alloc: Global, report: &Report, text: &str) -> Result<bool, Encod
 }
 
 #[test]
-fn the_delta_of_a_completion(rt: HostRuntime) -> Result<(), Fail> {
-    let report = Report::done(1, 0, 4).ok_or("a report")?;
-    assert!(rt; is_delta_of(rt.alloc(), &report, DONE)?);
-    Ok(())
+fn the_delta_of_a_completion(rt: HostRuntime) {
+    let report = Report::done(1, 0, 4).expect(&rt, "a report");
+    holds!(&rt; is_delta_of(rt.alloc(), &report, DONE).expect(&rt, "memory"));
 }
 
-/// The board of the load of these keys at partition 3, and of the opening of the sub-plan, in number 1.
-fn take_two(board: &mut Board, lo: &str, hi: &str, sub: u32) -> Result<(), Fail> {
-    let lo = Bound::read(lo).ok_or("a bound")?;
-    let hi = Bound::read(hi).ok_or("a bound")?;
-    let span = Span::new(lo, hi).ok_or("a span")?;
-    board.take(&Report::loaded(1, 0, 3, span).ok_or("a load")?)?;
-    board.take(&Report::opened(1, sub).ok_or("an opening")?)?;
-    Ok(())
+/// The board of the load of these keys at partition 3, and of the opening of the sub-plan, in
+/// number 1. None if an allocation fails.
+fn take_two(board: &mut Board, lo: &str, hi: &str, sub: u32) -> Option<()> {
+    let lo = Bound::read(lo)?;
+    let hi = Bound::read(hi)?;
+    let span = Span::new(lo, hi)?;
+    board.take(&Report::loaded(1, 0, 3, span)?).ok()?;
+    board.take(&Report::opened(1, sub)?).ok()?;
+    Some(())
 }
 
-/// What the board has beyond that of the keys amid its load and of a lower opening.
-fn beyond_middle(alloc: Global, board: &Board) -> Result<Board, Fail> {
+/// What the board has beyond that of the keys amid its load and of a lower opening. None if an
+/// allocation fails.
+fn beyond_middle(alloc: Global, board: &Board) -> Option<Board> {
     let mut middle = Board::new(alloc);
     take_two(&mut middle, "2:7", "2:9", 0)?;
-    Ok(beyond(alloc, board, &middle)?)
+    beyond(alloc, board, &middle).ok()
 }
 
-/// Whether the board has the ends of its load, and its opening, beyond the other.
-fn has_ends_beyond_middle(alloc: Global, board: &Board) -> Result<bool, Fail> {
+/// Whether the board has the ends of its load, and its opening, beyond the other. None if an
+/// allocation fails.
+fn has_ends_beyond_middle(alloc: Global, board: &Board) -> Option<bool> {
     let rest = beyond_middle(alloc, board)?;
-    Ok(is_framed_as(alloc, &rest, ENDS)?)
+    is_framed_as(alloc, &rest, ENDS).ok()
 }
 
 #[test]
-fn a_load_and_an_opening_beyond_others(rt: HostRuntime) -> Result<(), Fail> {
+fn a_load_and_an_opening_beyond_others(rt: HostRuntime) {
     let mut whole = Board::new(rt.alloc());
-    take_two(&mut whole, "2:0", "3:0", 1)?;
-    assert!(rt; has_ends_beyond_middle(rt.alloc(), &whole)?);
-    Ok(())
+    take_two(&mut whole, "2:0", "3:0", 1).expect(&rt, "memory");
+    holds!(&rt; has_ends_beyond_middle(rt.alloc(), &whole).expect(&rt, "memory"));
 }
 
 /// The plan by which partition 1 has all keys. None if an allocation fails.
@@ -95,8 +95,8 @@ fn issued(alloc: Global) -> Option<Report> {
 fn make_delta(rt: &impl Abort, alloc: Global, report: Option<Report>, text: &str) {
     if let Some(report) = report {
         match is_delta_of(alloc, &report, text) {
-            Ok(is_same) => assert!(rt; is_same),
-            Err(fault) => assert!(rt; fault == EncodeFault::NoMemory),
+            Ok(is_same) => holds!(rt; is_same),
+            Err(fault) => holds!(rt; fault == EncodeFault::NoMemory),
         }
     }
 }

@@ -6,7 +6,6 @@ ghost use Rattle.squall_wire.specs.Hearing.{HearsOn};
 use super::*;
 use squall_wire::laws::{faults_end_the_stream, pushes_are_one};
 use std::process::Abort;
-use std::test::Fail;
 
 /// Pushes one piece, and then the other if the first has no fault. What is heard is what the feed
 /// would hear in both as one piece.
@@ -41,19 +40,17 @@ fn hear_both(
 }
 
 /// The feed hears the frame in two pieces, and then nothing after a fault, which ends the stream.
-fn look_at_pieces(rt: &impl Abort, feed: &mut Feed, frame: &[u8]) -> Result<(), FeedFault> {
+fn look_at_pieces(rt: &impl Abort, feed: &mut Feed, frame: &[u8]) {
     assert!(rt; frame.len() == 49);
     let (first, second) = frame.split_at(30);
-    assert!(rt; hear_both(feed, first, second)? == (1, None));
-    assert!(rt; hear_both(feed, &[0x54], frame)? == (0, Some(WireFault::Magic)));
-    assert!(rt; feed.failed() && feed.push(&[]).err() == Some(FeedFault::Failed));
-    Ok(())
+    holds!(rt; hear_both(feed, first, second).expect(rt, "memory") == (1, None));
+    holds!(rt; hear_both(feed, &[0x54], frame).expect(rt, "memory") == (0, Some(WireFault::Magic)));
+    holds!(rt; feed.failed() && feed.push(&[]).err() == Some(FeedFault::Failed));
 }
 
 #[test]
-fn two_pieces_as_one(rt: HostRuntime) -> Result<(), Fail> {
-    let frame = hex(rt.alloc(), LOAD)?;
+fn two_pieces_as_one(rt: HostRuntime) {
+    let frame = hex(rt.alloc(), LOAD).expect(&rt, "memory");
     let mut feed = Feed::new(rt.alloc());
-    look_at_pieces(&rt, &mut feed, &frame)?;
-    Ok(())
+    look_at_pieces(&rt, &mut feed, &frame);
 }

@@ -7,7 +7,6 @@ use squall_report::{CellId, Issue};
 use std::alloc::{AllocError, Global};
 use std::process::Abort;
 use std::sync::Arc;
-use std::test::Fail;
 
 /// A row with a hash of zeros.
 pub(crate) fn row(number: u32, sub: u32) -> DigestRow {
@@ -30,26 +29,26 @@ fn opened(count: u32) -> Opening {
 }
 
 #[test]
-fn the_frame_of_a_digest(rt: HostRuntime) -> Result<(), Fail> {
+fn the_frame_of_a_digest(rt: HostRuntime) {
     let text = concat!(
         "53510202 00000060 00000001 00000001 00002710 00000001 00000001 ",
         "0000000000000000000000000000000000000000000000000000000000000000 00000001 00000001 0000270f ",
         "0000000000000000000000000000000000000000000000000000000000000000",
     );
-    let digest = Digest::of(rt.alloc(), &[opened(10000)], &[ISSUE_ROW], &[row(1, 9999)])?;
-    assert!(rt; digest_is_framed_as(rt.alloc(), digest, text)?);
-    Ok(())
+    let digest = Digest::of(rt.alloc(), &[opened(10000)], &[ISSUE_ROW], &[row(1, 9999)]).expect(
+        &rt, "memory",
+    );
+    holds!(&rt; digest_is_framed_as(rt.alloc(), digest, text).expect(&rt, "memory"));
 }
 
 #[test]
-fn the_digest_of_nothing(rt: HostRuntime) -> Result<(), Fail> {
-    let digest = Digest::of(rt.alloc(), &[], &[], &[])?;
-    assert!(rt; digest_is_framed_as(rt.alloc(), digest, EMPTY_DIGEST)?);
-    Ok(())
+fn the_digest_of_nothing(rt: HostRuntime) {
+    let digest = Digest::of(rt.alloc(), &[], &[], &[]).expect(&rt, "memory");
+    holds!(&rt; digest_is_framed_as(rt.alloc(), digest, EMPTY_DIGEST).expect(&rt, "memory"));
 }
 
 #[test]
-fn rows_of_no_digest(rt: HostRuntime) -> Result<(), Fail> {
+fn rows_of_no_digest(rt: HostRuntime) {
     let alloc = rt.alloc();
     let bad = Some(DigestFault::BadDigest);
     for (first, second) in [
@@ -58,12 +57,11 @@ fn rows_of_no_digest(rt: HostRuntime) -> Result<(), Fail> {
         (row(0, 0), row(1, 0)),
         (row(1, 9999), row(1, 10000)),
     ] {
-        assert!(rt; Digest::of(alloc, &[], &[], &[first, second]).err() == bad);
+        holds!(&rt; Digest::of(alloc, &[], &[], &[first, second]).err() == bad);
     }
-    assert!(rt; Digest::of(alloc, &[], &[], &[row(1, 9999), row(2, 0)]).err() == None);
-    assert!(rt; Digest::of(alloc, &[], &[ISSUE_ROW, ISSUE_ROW], &[]).err() == bad);
-    assert!(rt; Digest::of(alloc, &[opened(10001)], &[], &[]).err() == bad);
-    Ok(())
+    holds!(&rt; Digest::of(alloc, &[], &[], &[row(1, 9999), row(2, 0)]).err() == None);
+    holds!(&rt; Digest::of(alloc, &[], &[ISSUE_ROW, ISSUE_ROW], &[]).err() == bad);
+    holds!(&rt; Digest::of(alloc, &[opened(10001)], &[], &[]).err() == bad);
 }
 
 /// Whether the bytes of the issues, one after the other, are those that the text writes.
@@ -109,9 +107,9 @@ pub(crate) fn look_at_items(
     issues: &str,
     cells: &str,
 ) -> Result<(), AllocError> {
-    assert!(rt; issues_are(alloc, &board.issues()?, issues)?);
-    assert!(rt; cells_are(alloc, &board.cells()?, cells)?);
-    assert!(rt; lent_cells_are(alloc, &board.lent_cells()?, cells)?);
+    holds!(rt; issues_are(alloc, &board.issues()?, issues)?);
+    holds!(rt; cells_are(alloc, &board.cells()?, cells)?);
+    holds!(rt; lent_cells_are(alloc, &board.lent_cells()?, cells)?);
     Ok(())
 }
 
@@ -124,21 +122,21 @@ pub(crate) const CELLS: &str =
     "00000001 00000000 00000003 00 00000001 0000000200000000 0000000300000000 ffffffff 0000270f 0000270f 01 00000000";
 
 #[test]
-fn the_bytes_of_issues_and_cells(rt: HostRuntime) -> Result<(), Fail> {
-    let board = board_of(rt.alloc(), super::frames::EACH)?;
-    look_at_items(&rt, rt.alloc(), &board, ISSUES, CELLS)?;
-    Ok(())
+fn the_bytes_of_issues_and_cells(rt: HostRuntime) {
+    let board = board_of(rt.alloc(), super::frames::EACH).expect(&rt, "memory");
+    look_at_items(&rt, rt.alloc(), &board, ISSUES, CELLS).expect(&rt, "memory");
 }
 
 #[test]
-fn printed_faults(rt: HostRuntime) -> Result<(), Fail> {
+fn printed_faults(rt: HostRuntime) {
     let (wire, encoding) = (WireFault::TooLong, EncodeFault::TooLong);
     let (digest, feed) = (DigestFault::BadDigest, FeedFault::Failed);
-    let first = format!(in rt.alloc(); "{wire} {encoding} {digest} {feed}")?;
-    assert!(rt; first.as_str() == "TooLong TooLong BadDigest Failed");
+    let first = format!(in rt.alloc(); "{wire} {encoding} {digest} {feed}").expect(&rt, "memory");
+    holds!(&rt; first.as_str() == "TooLong TooLong BadDigest Failed");
     let (wire, encoding) = (WireFault::NoMemory, EncodeFault::NoMemory);
     let (digest, feed) = (DigestFault::NoMemory, FeedFault::NoMemory);
-    let second = format!(in rt.alloc(); "{wire}, {encoding}, {digest}, {feed}")?;
-    assert!(rt; second.as_str() == "NoMemory, NoMemory, NoMemory, NoMemory");
-    Ok(())
+    let second = format!(in rt.alloc(); "{wire}, {encoding}, {digest}, {feed}").expect(
+        &rt, "memory",
+    );
+    holds!(&rt; second.as_str() == "NoMemory, NoMemory, NoMemory, NoMemory");
 }

@@ -7,7 +7,6 @@ use squall_key::Key;
 use squall_plan::Plan;
 use std::alloc::Global;
 use std::process::Abort;
-use std::test::Fail;
 
 /// Each kind of item of a delta. Number 1 has 10,000 openings and the greatest number 2. Number 1
 /// leads from partition 1, which has all keys, to partition 2, and number 2 is a clash. The cells
@@ -139,63 +138,62 @@ const FAULTS: [(&str, WireFault); 31] = [
     ),
 ];
 
-/// Why the bytes of the text do not begin with a frame.
-fn fault_of(alloc: Global, text: &str) -> Result<Option<WireFault>, Fail> {
-    let bytes = hex(alloc, text)?;
-    Ok(decode(alloc, &bytes).err())
+/// Why the bytes of the text do not begin with a frame. None if an allocation fails.
+fn fault_of(alloc: Global, text: &str) -> Option<Option<WireFault>> {
+    let bytes = hex(alloc, text).ok()?;
+    Some(decode(alloc, &bytes).err())
 }
 
 /// Each text does not begin with a frame, for the reason beside it.
 ///
 /// A table is lent to a function that goes over it, since a loop over the table itself costs a
 /// proof more with each of its rows.
-fn have_faults(rt: &impl Abort, alloc: Global, rows: &[(&str, WireFault)]) -> Result<(), Fail> {
+fn have_faults(rt: &impl Abort, alloc: Global, rows: &[(&str, WireFault)]) {
     for (text, fault) in rows {
-        assert!(rt; fault_of(alloc, text)? == Some(*fault), "{text}");
+        holds!(rt; fault_of(alloc, text).expect(rt, "memory") == Some(*fault), text);
     }
-    Ok(())
 }
 
 #[test]
-fn faults(rt: HostRuntime) -> Result<(), Fail> {
+fn faults(rt: HostRuntime) {
     have_faults(&rt, rt.alloc(), &FAULTS)
 }
 
 /// Each proper prefix of the bytes, the empty one too, is too short.
 fn are_short(rt: &impl Abort, alloc: Global, bytes: &[u8]) {
     for end in 0..bytes.len() {
-        assert!(rt; decode(alloc, &bytes[..end]).err() == Some(WireFault::Short));
+        holds!(rt; decode(alloc, &bytes[..end]).err() == Some(WireFault::Short));
     }
 }
 
 #[test]
-fn prefixes(rt: HostRuntime) -> Result<(), Fail> {
+fn prefixes(rt: HostRuntime) {
     for text in [LOAD, EMPTY_DIGEST, EACH] {
-        let bytes = hex(rt.alloc(), text)?;
+        let bytes = hex(rt.alloc(), text).expect(&rt, "memory");
         are_short(&rt, rt.alloc(), &bytes);
     }
-    Ok(())
 }
 
-/// Whether a frame of that length is first in the bytes, and its message has that frame.
-fn is_written_again(alloc: Global, bytes: &[u8], length: usize) -> Result<bool, Fail> {
-    let (message, used) = decode(alloc, bytes)?;
-    let again = encode(alloc, &message)?;
-    Ok(used == length && again.len() == length && bytes.starts_with(&again))
+/// Whether a frame of that length is first in the bytes, and its message has that frame. None if an
+/// allocation fails.
+fn is_written_again(alloc: Global, bytes: &[u8], length: usize) -> Option<bool> {
+    let (message, used) = decode(alloc, bytes).ok()?;
+    let again = encode(alloc, &message).ok()?;
+    Some(used == length && again.len() == length && bytes.starts_with(&again))
 }
 
-/// Whether a frame of that length is first in the text, and its message has that frame.
-fn comes_back(alloc: Global, text: &str, length: usize) -> Result<bool, Fail> {
-    let bytes = hex(alloc, text)?;
+/// Whether a frame of that length is first in the text, and its message has that frame. None if an
+/// allocation fails.
+fn comes_back(alloc: Global, text: &str, length: usize) -> Option<bool> {
+    let bytes = hex(alloc, text).ok()?;
     is_written_again(alloc, &bytes, length)
 }
 
 /// The frame of each text comes back.
-fn come_back(rt: &impl Abort, alloc: Global, rows: &[(&str, usize)]) -> Result<(), Fail> {
+fn come_back(rt: &impl Abort, alloc: Global, rows: &[(&str, usize)]) {
     for (text, length) in rows {
-        assert!(rt; comes_back(alloc, text, *length)?, "{text}");
+        holds!(rt; comes_back(alloc, text, *length).expect(rt, "memory"), text);
     }
-    Ok(())
 }
 
 /// Texts that begin with a frame, and how many bytes it has.
@@ -234,7 +232,7 @@ const FRAMES: [(&str, usize); 12] = [
 ];
 
 #[test]
-fn frames_come_back(rt: HostRuntime) -> Result<(), Fail> {
+fn frames_come_back(rt: HostRuntime) {
     come_back(&rt, rt.alloc(), &FRAMES)
 }
 
@@ -253,21 +251,20 @@ fn issues_lead(board: &Board) -> bool {
 }
 
 /// The board says that partition 3 has loaded the keys from 2:0 to 3:0, and no more.
-fn look_at_keys(rt: &impl Abort, board: &Board) -> Result<(), Fail> {
+fn look_at_keys(rt: &impl Abort, board: &Board) {
     for (key, is_loaded) in [("2:0", true), ("2:4294967295", true), ("3:0", false)] {
-        let key = Key::read(key).ok_or("a key")?;
-        assert!(rt; board.says_loaded(1, 0, 3, key) == is_loaded);
+        let key = Key::read(key).expect(rt, "a key");
+        holds!(rt; board.says_loaded(1, 0, 3, key) == is_loaded);
     }
-    Ok(())
 }
 
 /// The board says what the frame of each item says of completions and openings, and no more.
 fn look_at_counts(rt: &impl Abort, board: &Board) {
     let last = u32::MAX;
     let counts = (board.opened(1), board.opened(2), board.opened(last));
-    assert!(rt; counts == (10000, 0, 2));
+    holds!(rt; counts == (10000, 0, 2));
     let done = (board.says_done(last, 9999, 9999), board.says_done(1, 0, 3));
-    assert!(rt; done == (true, false));
+    holds!(rt; done == (true, false));
 }
 
 /// Whether the board has a clash under number 2, and no issue under number 3.
@@ -276,9 +273,9 @@ fn has_clash(board: &Board) -> bool {
 }
 
 #[test]
-fn what_a_delta_says(rt: HostRuntime) -> Result<(), Fail> {
-    let board = board_of(rt.alloc(), EACH)?;
+fn what_a_delta_says(rt: HostRuntime) {
+    let board = board_of(rt.alloc(), EACH).expect(&rt, "memory");
     look_at_counts(&rt, &board);
-    assert!(rt; issues_lead(&board) && has_clash(&board));
+    holds!(&rt; issues_lead(&board) && has_clash(&board));
     look_at_keys(&rt, &board)
 }

@@ -6,13 +6,12 @@ use super::*;
 use squall_board::Board;
 use std::alloc::Global;
 use std::process::Abort;
-use std::test::Fail;
 
 /// Writes the frame of the load, which the bytes are.
 fn write_load(rt: &impl Abort, alloc: Global, message: &Message, bytes: &[u8]) {
     match encode(alloc, message) {
-        Ok(again) => assert!(rt; *bytes == *again.as_slice()),
-        Err(fault) => assert!(rt; fault == EncodeFault::NoMemory),
+        Ok(again) => holds!(rt; *bytes == *again.as_slice()),
+        Err(fault) => holds!(rt; fault == EncodeFault::NoMemory),
     }
 }
 
@@ -20,10 +19,10 @@ fn write_load(rt: &impl Abort, alloc: Global, message: &Message, bytes: &[u8]) {
 fn read_load(rt: &impl Abort, alloc: Global, bytes: &[u8]) {
     match decode(alloc, bytes) {
         Ok((message, used)) => {
-            assert!(rt; used == 49);
+            holds!(rt; used == 49);
             write_load(rt, alloc, &message, bytes);
         }
-        Err(fault) => assert!(rt; fault == WireFault::NoMemory),
+        Err(fault) => holds!(rt; fault == WireFault::NoMemory),
     }
 }
 
@@ -37,8 +36,8 @@ fn tolerant_decode_and_encode(rt: HostRuntime) {
 /// Writes the frame of the board, and the bytes of its issues and of its cells.
 fn write_items(rt: &impl Abort, alloc: Global, board: &Board) {
     match is_framed_as(alloc, board, EACH) {
-        Ok(is_same) => assert!(rt; is_same),
-        Err(fault) => assert!(rt; fault == EncodeFault::NoMemory),
+        Ok(is_same) => holds!(rt; is_same),
+        Err(fault) => holds!(rt; fault == EncodeFault::NoMemory),
     }
     if look_at_items(rt, alloc, board, ISSUES, CELLS).is_err() {
         is_still(rt, alloc, board, EACH);
@@ -57,10 +56,10 @@ fn tolerant_digest_of(rt: HostRuntime) {
     let row = super::digests::row(1, 0);
     match Digest::of(rt.alloc(), &[], &[], &[row]) {
         Ok(digest) => {
-            assert!(rt; digest.rows() == [row].as_slice());
-            assert!(rt; digest.openings().is_empty() && digest.issue_rows().is_empty());
+            holds!(&rt; digest.rows() == [row].as_slice());
+            holds!(&rt; digest.openings().is_empty() && digest.issue_rows().is_empty());
         }
-        Err(fault) => assert!(rt; fault == DigestFault::NoMemory),
+        Err(fault) => holds!(&rt; fault == DigestFault::NoMemory),
     }
 }
 
@@ -69,7 +68,7 @@ fn pushed(rt: &impl Abort, feed: &mut Feed, piece: &[u8]) -> Option<Heard> {
     match feed.push(piece) {
         Ok(heard) => Some(heard),
         Err(fault) => {
-            assert!(rt; fault == FeedFault::NoMemory);
+            holds!(rt; fault == FeedFault::NoMemory);
             feed.push(piece).ok()
         }
     }
@@ -85,7 +84,7 @@ fn hears_in(
     fault: Option<WireFault>,
 ) -> Option<()> {
     let heard = pushed(rt, feed, piece)?;
-    assert!(rt; heard.messages.len() == count && heard.fault == fault);
+    holds!(rt; heard.messages.len() == count && heard.fault == fault);
     Some(())
 }
 
@@ -103,7 +102,7 @@ fn push_pieces(rt: &impl Abort, alloc: Global, feed: &mut Feed, stream: &[u8]) -
     let is_copied = copy_hears(rt, alloc, feed, &stream[10..49]).is_some();
     hears_in(rt, feed, &stream[10..49], 1, None)?;
     hears_in(rt, feed, &stream[49..], 0, Some(WireFault::Magic))?;
-    assert!(rt; feed.push(&[]).err() == Some(FeedFault::Failed));
+    holds!(rt; feed.push(&[]).err() == Some(FeedFault::Failed));
     is_copied.then_some(())
 }
 
@@ -118,10 +117,9 @@ fn feeds_hear(rt: &impl Abort, alloc: Global, stream: &[u8]) -> bool {
 }
 
 #[test]
-fn a_feed_and_its_copy(rt: HostRuntime) -> Result<(), Fail> {
-    let stream = hex(rt.alloc(), LOAD_AND_BYTE)?;
-    assert!(rt; feeds_hear(&rt, rt.alloc(), &stream));
-    Ok(())
+fn a_feed_and_its_copy(rt: HostRuntime) {
+    let stream = hex(rt.alloc(), LOAD_AND_BYTE).expect(&rt, "memory");
+    holds!(&rt; feeds_hear(&rt, rt.alloc(), &stream));
 }
 
 #[test]

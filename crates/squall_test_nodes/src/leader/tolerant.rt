@@ -25,7 +25,7 @@ enum Call {
 /// Whether the course to the plan is begun: there is no other fault than NoMemory.
 fn is_begun(rt: &impl Abort, leader: &mut Leader, new: &Plan) -> bool {
     let begun = leader.begin(new);
-    assert!(rt; matches!(begun, Ok(_) | Err(LeaderFault::NoMemory)));
+    holds!(rt; matches!(begun, Ok(_) | Err(LeaderFault::NoMemory)));
     begun.is_ok()
 }
 
@@ -34,7 +34,7 @@ fn is_begun(rt: &impl Abort, leader: &mut Leader, new: &Plan) -> bool {
 fn begins_to(rt: &impl Abort, alloc: Global, leader: &mut Leader, new: &Plan) -> Option<bool> {
     let copy = new.copied(alloc).ok()?;
     let begun = is_begun(rt, leader, new);
-    assert!(rt; *new == copy);
+    holds!(rt; *new == copy);
     Some(begun)
 }
 
@@ -47,7 +47,7 @@ fn begins(rt: &impl Abort, alloc: Global, leader: &mut Leader) -> Option<bool> {
 /// Whether the next sub-plan is opened: there is no other fault than NoMemory.
 fn opens(rt: &impl Abort, leader: &mut Leader) -> bool {
     let opened = leader.open_next();
-    assert!(rt; matches!(opened, Ok(_) | Err(LeaderFault::NoMemory)));
+    holds!(rt; matches!(opened, Ok(_) | Err(LeaderFault::NoMemory)));
     opened.is_ok()
 }
 
@@ -61,7 +61,7 @@ fn absorbs_delta(
 ) -> Option<bool> {
     let copy = delta.copied(alloc).ok()?;
     let absorbed = leader.absorb(delta).is_ok();
-    assert!(rt; *delta == copy);
+    holds!(rt; *delta == copy);
     Some(absorbed)
 }
 
@@ -137,7 +137,7 @@ fn goes_on(alloc: Global, leader: &mut Leader) -> Option<String> {
 /// The leader has these answers to the calls that follow. None if an allocation fails.
 fn goes_on_so(rt: &impl Abort, alloc: Global, leader: &mut Leader, says: &str) -> Option<()> {
     let other = goes_on(alloc, leader)?;
-    assert!(rt; other.as_str() == says);
+    holds!(rt; other.as_str() == says);
     Some(())
 }
 
@@ -148,10 +148,10 @@ fn is_as_twin(
     leader: &mut Leader,
     twin: &mut Leader,
 ) -> Option<()> {
-    assert!(rt; *leader.board() == *twin.board() && leader.finished() == twin.finished());
+    holds!(rt; *leader.board() == *twin.board() && leader.finished() == twin.finished());
     let says = goes_on(alloc, leader)?;
     goes_on_so(rt, alloc, twin, says.as_str())?;
-    assert!(rt; *leader.board() == *twin.board());
+    holds!(rt; *leader.board() == *twin.board());
     Some(())
 }
 
@@ -165,7 +165,7 @@ fn takes_or_not(
     call: Call,
 ) -> Option<bool> {
     let answered = is_answered(rt, alloc, leader, call)?;
-    assert!(rt; answered != (*leader.board() == *twin.board()));
+    holds!(rt; answered != (*leader.board() == *twin.board()));
     if !answered {
         is_as_twin(rt, alloc, leader, twin)?;
     }
@@ -194,7 +194,7 @@ fn tolerant_leader(rt: HostRuntime) {
 #[test]
 fn leaders_take_calls(rt: HostRuntime) {
     for row in &ROWS {
-        assert!(rt; try_row(&rt, rt.alloc(), row) == Some(true));
+        holds!(&rt; try_row(&rt, rt.alloc(), row) == Some(true));
     }
 }
 
@@ -203,7 +203,7 @@ fn is_made(rt: &impl Abort, alloc: Global, made: Result<Leader, AllocError>) -> 
     match made {
         Ok(leader) => {
             let board = Board::new(alloc);
-            assert!(rt; !leader.finished() && *leader.board() == board);
+            holds!(rt; !leader.finished() && *leader.board() == board);
             true
         }
         Err(_) => false,
@@ -222,7 +222,7 @@ fn try_new(rt: &impl Abort, alloc: Global) -> Option<bool> {
     let plan = plan(alloc, OLD)?;
     let copy = plan.copied(alloc).ok()?;
     let made = makes_both(rt, alloc, &plan);
-    assert!(rt; plan == copy);
+    holds!(rt; plan == copy);
     Some(made)
 }
 
@@ -233,7 +233,7 @@ fn tolerant_new(rt: HostRuntime) {
 
 #[test]
 fn leaders_are_made(rt: HostRuntime) {
-    assert!(rt; try_new(&rt, rt.alloc()) == Some(true));
+    holds!(&rt; try_new(&rt, rt.alloc()) == Some(true));
 }
 
 /// Whether a leader that begins with the course opens sub-plan 0 of number 1. None if an allocation
@@ -258,5 +258,5 @@ fn tolerant_begun(rt: HostRuntime) {
 
 #[test]
 fn leaders_begin_with_a_course(rt: HostRuntime) {
-    assert!(rt; begins_with_a_course(rt.alloc()) == Some(true));
+    holds!(&rt; begins_with_a_course(rt.alloc()) == Some(true));
 }

@@ -13,7 +13,6 @@ use squall_span::SpanSet;
 use std::alloc::Global;
 use std::process::Abort;
 use std::sync::Arc;
-use std::test::Fail;
 
 /// Whether both sets have the same keys, or neither is there.
 fn are_same(one: Option<&SpanSet>, other: Option<&SpanSet>) -> bool {
@@ -62,7 +61,7 @@ enum Call {
 fn absorbs_delta(rt: &impl Abort, alloc: Global, part: &mut Part, delta: &Board) -> Option<bool> {
     let copy = delta.copied(alloc).ok()?;
     let absorbed = part.absorb(delta).is_ok();
-    assert!(rt; *delta == copy);
+    holds!(rt; *delta == copy);
     Some(absorbed)
 }
 
@@ -75,19 +74,19 @@ fn absorbs(rt: &impl Abort, alloc: Global, part: &mut Part, report: &Report) -> 
 
 /// Whether keys were given: there is no other fault than NoMemory.
 fn gave(rt: &impl Abort, given: Result<Chunk, GiveFault>) -> bool {
-    assert!(rt; matches!(given, Ok(_) | Err(GiveFault::NoMemory)));
+    holds!(rt; matches!(given, Ok(_) | Err(GiveFault::NoMemory)));
     given.is_ok()
 }
 
 /// Whether the keys were loaded: there is no other fault than NoMemory.
 fn loaded(rt: &impl Abort, loaded: Result<Load, LoadFault>) -> bool {
-    assert!(rt; matches!(loaded, Ok(Load::Loaded(_)) | Err(LoadFault::NoMemory)));
+    holds!(rt; matches!(loaded, Ok(Load::Loaded(_)) | Err(LoadFault::NoMemory)));
     loaded.is_ok()
 }
 
 /// Whether the sub-plan was finished: there is no other fault than NoMemory.
 fn finished(rt: &impl Abort, done: Result<Report, FinishFault>) -> bool {
-    assert!(rt; matches!(done, Ok(_) | Err(FinishFault::NoMemory)));
+    holds!(rt; matches!(done, Ok(_) | Err(FinishFault::NoMemory)));
     done.is_ok()
 }
 
@@ -151,9 +150,9 @@ fn takes_or_not(
     twin: &Part,
     call: Call,
 ) -> Option<bool> {
-    assert!(rt; is_same(part, twin));
+    holds!(rt; is_same(part, twin));
     let answered = is_answered(rt, alloc, part, call)?;
-    assert!(rt; answered != is_same(part, twin));
+    holds!(rt; answered != is_same(part, twin));
     Some(answered)
 }
 
@@ -179,7 +178,7 @@ fn tolerant_part(rt: HostRuntime) {
 #[test]
 fn parts_take_calls(rt: HostRuntime) {
     for row in &ROWS {
-        assert!(rt; try_row(&rt, rt.alloc(), row) == Some(true));
+        holds!(&rt; try_row(&rt, rt.alloc(), row) == Some(true));
     }
 }
 
@@ -203,7 +202,7 @@ fn makes_or_not(rt: &impl Abort, alloc: Global, course: &Arc<Course>) -> Option<
     let id = PartId::new(1)?;
     match Part::new(alloc, id, course) {
         Ok(part) => {
-            assert!(rt; is_fresh(alloc, &part));
+            holds!(rt; is_fresh(alloc, &part));
             Some(true)
         }
         Err(_) => Some(false),
@@ -215,7 +214,7 @@ fn makes_or_not(rt: &impl Abort, alloc: Global, course: &Arc<Course>) -> Option<
 fn makes_between(rt: &impl Abort, alloc: Global, old: &Plan, new: &Plan) -> Option<bool> {
     let course = course(alloc)?;
     let made = makes_or_not(rt, alloc, &course);
-    assert!(rt; leads(&course, old, new));
+    holds!(rt; leads(&course, old, new));
     made
 }
 
@@ -237,7 +236,6 @@ fn tolerant_new(rt: HostRuntime) {
 }
 
 #[test]
-fn parts_are_made(rt: HostRuntime) -> Result<(), Fail> {
-    assert!(rt; try_new(&rt, rt.alloc()).ok_or("a course")?);
-    Ok(())
+fn parts_are_made(rt: HostRuntime) {
+    holds!(&rt; try_new(&rt, rt.alloc()).expect(&rt, "a course"));
 }

@@ -21,7 +21,6 @@ use squall_router::laws::{all_in_is_the_new_plan, routers_follow_reports, same_t
 use squall_table::Legs;
 use std::process::Abort;
 use std::sync::Arc;
-use std::test::Fail;
 
 /// The course of the reports that the router has taken.
 fn course_by_reports(router: &Router) -> &Arc<Course>
@@ -68,18 +67,17 @@ fn entries_once_all_is_in(router: &Router) -> Legs<'_>
 fn look_at_router(rt: &impl Abort, router: &Router, key: Key) {
     let part = router.route(key);
     let (one, other) = both_parts(router, router, key);
-    assert!(rt; (part_by_reports(router, key), one, other) == (part, part, part));
-    assert!(rt; course_by_reports(router).number() == router.course().number());
+    holds!(rt; (part_by_reports(router, key), one, other) == (part, part, part));
+    holds!(rt; course_by_reports(router).number() == router.course().number());
     let (legs, others) = both_entries(router, router);
-    assert!(rt; are_same(legs, router.table().entries()));
-    assert!(rt; are_same(others, router.table().entries()));
-    assert!(rt; are_same(entries_once_all_is_in(router), router.table().entries()));
+    holds!(rt; are_same(legs, router.table().entries()));
+    holds!(rt; are_same(others, router.table().entries()));
+    holds!(rt; are_same(entries_once_all_is_in(router), router.table().entries()));
 }
 
 #[test]
-fn callers_learn(rt: HostRuntime) -> Result<(), Fail> {
-    let key = Key::read("2:0").ok_or("key")?;
-    let router = heard(rt.alloc(), &[]).ok_or("a router")?;
+fn callers_learn(rt: HostRuntime) {
+    let key = Key::read("2:0").expect(&rt, "key");
+    let router = heard(rt.alloc(), &[]).expect(&rt, "a router");
     look_at_router(&rt, &router, key);
-    Ok(())
 }

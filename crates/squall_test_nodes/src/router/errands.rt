@@ -8,7 +8,6 @@ use squall_key::{Key, PartId};
 use squall_router::{Errand, Next, Reply};
 use std::alloc::{AllocError, Global};
 use std::process::Abort;
-use std::test::Fail;
 
 /// The answers to the replies, one after the other.
 fn answers(alloc: Global, errand: &mut Errand, replies: &[Reply]) -> Result<Vec<Next>, AllocError>
@@ -34,13 +33,13 @@ fn reply(name: &str, part: u32, number: u32) -> Option<Reply> {
     }
 }
 
-/// The replies of those names, each with a partition and a number.
-fn replies(alloc: Global, rows: &[(&str, u32, u32)]) -> Result<Vec<Reply>, Fail> {
+/// The replies of those names, each with a partition and a number. None if an allocation fails.
+fn replies(alloc: Global, rows: &[(&str, u32, u32)]) -> Option<Vec<Reply>> {
     let mut replies = Vec::new(alloc);
     for row in rows {
-        replies.push(reply(row.0, row.1, row.2).ok_or("a reply")?)?;
+        replies.push(reply(row.0, row.1, row.2)?).ok()?;
     }
-    Ok(replies)
+    Some(replies)
 }
 
 /// Writes the answer.
@@ -153,47 +152,37 @@ const ROWS: [(&[(&str, u32, u32)], &str, (u32, u32)); 9] = [
 ];
 
 /// Whether the errand answers so to the replies, and is then at the partition of the place, with its
-/// number.
+/// number. None if an allocation fails.
 fn goes_so(
     alloc: Global,
     begun: Errand,
     replies: &[Reply],
     wanted: &str,
     place: (u32, u32),
-) -> Result<bool, Fail> {
+) -> Option<bool> {
     let mut errand = begun;
     let mut out = String::new(alloc);
-    write_answers(alloc, &mut errand, replies, &mut out)?;
-    Ok(out.as_str() == wanted && (errand.asked().get(), errand.number()) == place)
+    write_answers(alloc, &mut errand, replies, &mut out).ok()?;
+    Some(out.as_str() == wanted && (errand.asked().get(), errand.number()) == place)
 }
 
 /// Whether an errand that begins at partition 1 answers so to the replies, and is then at the
-/// partition of the place, with its number.
-fn answers_so(
-    alloc: Global,
-    replies: &[Reply],
-    wanted: &str,
-    place: (u32, u32),
-) -> Result<bool, Fail> {
-    let errand = Errand::at(PartId::new(1).ok_or("a partition")?);
+/// partition of the place, with its number. None if an allocation fails.
+fn answers_so(alloc: Global, replies: &[Reply], wanted: &str, place: (u32, u32)) -> Option<bool> {
+    let errand = Errand::at(PartId::new(1)?);
     goes_so(alloc, errand, replies, wanted, place)
 }
 
 /// Looks at an errand for each row.
-fn look_at_rows(
-    rt: &impl Abort,
-    alloc: Global,
-    rows: &[(&[(&str, u32, u32)], &str, (u32, u32))],
-) -> Result<(), Fail> {
+fn look_at_rows(rt: &impl Abort, alloc: Global, rows: &[(&[(&str, u32, u32)], &str, (u32, u32))]) {
     for (names, wanted, place) in rows {
-        let replies = replies(alloc, names)?;
-        assert!(rt; answers_so(alloc, &replies, wanted, *place)?, "{wanted}");
+        let replies = replies(alloc, names).expect(rt, "memory");
+        holds!(rt; answers_so(alloc, &replies, wanted, *place).expect(rt, "memory"), wanted);
     }
-    Ok(())
 }
 
 #[test]
-fn errands_answer(rt: HostRuntime) -> Result<(), Fail> {
+fn errands_answer(rt: HostRuntime) {
     look_at_rows(&rt, rt.alloc(), &ROWS)
 }
 
@@ -222,16 +211,12 @@ fn look_at_started(
     alloc: Global,
     errand: Errand,
     rows: &[(&[(&str, u32, u32)], &str, (u32, u32))],
-) -> Result<(), Fail> {
-    assert!(rt; (errand.asked().get(), errand.number()) == (1, 0));
+) {
+    holds!(rt; (errand.asked().get(), errand.number()) == (1, 0));
     for (names, wanted, place) in rows {
-        let replies = replies(alloc, names)?;
-        assert!(rt;
-            goes_so(alloc, errand, &replies, wanted, *place)?,
-            "{wanted}"
-        );
+        let replies = replies(alloc, names).expect(rt, "memory");
+        holds!(rt; goes_so(alloc, errand, &replies, wanted, *place).expect(rt, "memory"), wanted);
     }
-    Ok(())
 }
 
 /// An errand for 2:0 that a new router begins.
@@ -241,7 +226,7 @@ fn started(alloc: Global) -> Option<Errand> {
 }
 
 #[test]
-fn started_errands_answer(rt: HostRuntime) -> Result<(), Fail> {
-    let errand = started(rt.alloc()).ok_or("an errand")?;
+fn started_errands_answer(rt: HostRuntime) {
+    let errand = started(rt.alloc()).expect(&rt, "an errand");
     look_at_started(&rt, rt.alloc(), errand, &STARTED)
 }

@@ -10,25 +10,24 @@ use squall_router::{Errand, Router};
 use squall_span::Span;
 use std::alloc::Global;
 use std::process::Abort;
-use std::test::Fail;
 
 /// The router asks the partition for the key, and an errand for it begins there.
-fn look_at_key(rt: &impl Abort, router: &Router, key: &str, part: u32) -> Result<(), Fail> {
-    let key = Key::read(key).ok_or("a key")?;
+fn look_at_key(rt: &impl Abort, router: &Router, key: &str, part: u32) {
+    let key = Key::read(key).expect(rt, "a key");
     let errand = Errand::start(router, key);
     let found = (
         router.route(key).get(),
         errand.asked().get(),
         errand.number(),
     );
-    assert!(rt; found == (part, part, 0));
-    Ok(())
+    holds!(rt; found == (part, part, 0));
 }
 
-/// Whether the table of the router is the list of the plan of the text.
-fn has_plan(alloc: Global, router: &Router, text: &str) -> Result<bool, Fail> {
-    let plan = plan(alloc, text).ok_or("a plan")?;
-    Ok(is_list(router.table().entries(), plan.ranges()))
+/// Whether the table of the router is the list of the plan of the text. None if an allocation
+/// fails.
+fn has_plan(alloc: Global, router: &Router, text: &str) -> Option<bool> {
+    let plan = plan(alloc, text)?;
+    Some(is_list(router.table().entries(), plan.ranges()))
 }
 
 /// The router uses the course of that number, has the plan as its table if one is given, and asks
@@ -40,16 +39,15 @@ fn look_at_router(
     number: u32,
     text: Option<&str>,
     asked: &[(&str, u32)],
-) -> Result<(), Fail> {
+) {
     let numbers = (router.course().number(), router.first().number());
-    assert!(rt; numbers == (number, 1));
+    holds!(rt; numbers == (number, 1));
     if let Some(text) = text {
-        assert!(rt; has_plan(alloc, router, text)?);
+        holds!(rt; has_plan(alloc, router, text).expect(rt, "memory"));
     }
     for (key, part) in asked {
-        look_at_key(rt, router, key, *part)?;
+        look_at_key(rt, router, key, *part);
     }
-    Ok(())
 }
 
 /// What a router hears, the number of the course that it then uses, its table if that is a plan, and
@@ -158,8 +156,8 @@ fn look_at_come(
     alloc: Global,
     router: Option<Router>,
     row: &(&[Said], u32, Option<&str>, &[(&str, u32)]),
-) -> Result<(), Fail> {
-    let router = router.ok_or("a router")?;
+) {
+    let router = router.expect(rt, "a router");
     look_at_router(rt, alloc, &router, row.1, row.2, row.3)
 }
 
@@ -172,20 +170,19 @@ fn look_at_rows(
     alloc: Global,
     come: Come,
     rows: &[(&[Said], u32, Option<&str>, &[(&str, u32)])],
-) -> Result<(), Fail> {
+) {
     for row in rows {
-        look_at_come(rt, alloc, router_after(alloc, come, row.0), row)?;
+        look_at_come(rt, alloc, router_after(alloc, come, row.0), row);
     }
-    Ok(())
 }
 
 #[test]
-fn routers_answer(rt: HostRuntime) -> Result<(), Fail> {
+fn routers_answer(rt: HostRuntime) {
     look_at_rows(&rt, rt.alloc(), Come::Absorbed, &ROUTERS)
 }
 
 #[test]
-fn routers_answer_what_they_took(rt: HostRuntime) -> Result<(), Fail> {
+fn routers_answer_what_they_took(rt: HostRuntime) {
     look_at_rows(&rt, rt.alloc(), Come::Taken, &ROUTERS)
 }
 
@@ -202,7 +199,7 @@ fn end_alike(alloc: Global, one: &[Said], other: &[Said]) -> Option<bool> {
 }
 
 #[test]
-fn any_order_and_number(rt: HostRuntime) -> Result<(), Fail> {
+fn any_order_and_number(rt: HostRuntime) {
     let (half, done, back) = (Said::Half, Said::Done, Said::Back(2));
     let rows: [(&[Said], &[Said], bool); 4] = [
         (&[half, done], &[done, half, done, half], true),
@@ -211,39 +208,38 @@ fn any_order_and_number(rt: HostRuntime) -> Result<(), Fail> {
         (&[back, done], &[done], false),
     ];
     for (one, other, wanted) in rows {
-        assert!(rt; end_alike(rt.alloc(), one, other) == Some(wanted));
+        holds!(&rt; end_alike(rt.alloc(), one, other) == Some(wanted));
     }
-    Ok(())
 }
 
-/// Writes the legs of the span.
-fn write_legs(alloc: Global, router: &Router, span: &Span, out: &mut String) -> Result<(), Fail> {
-    for leg in &router.route_span(alloc, span)? {
+/// Writes the legs of the span. None if an allocation fails.
+fn write_legs(alloc: Global, router: &Router, span: &Span, out: &mut String) -> Option<()> {
+    for leg in &router.route_span(alloc, span).ok()? {
         let (span, part) = (leg.span, leg.part);
-        write!(out, "{span} {part}; ")?;
+        write!(out, "{span} {part}; ").ok()?;
     }
-    Ok(())
+    Some(())
 }
 
-/// Whether the legs of the span are these.
-fn has_legs(alloc: Global, router: &Router, span: &Span, wanted: &str) -> Result<bool, Fail> {
+/// Whether the legs of the span are these. None if an allocation fails.
+fn has_legs(alloc: Global, router: &Router, span: &Span, wanted: &str) -> Option<bool> {
     let mut out = String::new(alloc);
     write_legs(alloc, router, span, &mut out)?;
-    Ok(out.as_str() == wanted)
+    Some(out.as_str() == wanted)
 }
 
-/// Whether a router that has heard so much has these legs between two bounds.
-fn is_cut(alloc: Global, said: &[Said], lo: &str, hi: &str, wanted: &str) -> Result<bool, Fail> {
-    let span = span(lo, hi).ok_or("a span")?;
-    let router = heard(alloc, said).ok_or("a router")?;
+/// Whether a router that has heard so much has these legs between two bounds. None if an allocation
+/// fails.
+fn is_cut(alloc: Global, said: &[Said], lo: &str, hi: &str, wanted: &str) -> Option<bool> {
+    let span = span(lo, hi)?;
+    let router = heard(alloc, said)?;
     has_legs(alloc, &router, &span, wanted)
 }
 
 #[test]
-fn legs_are_cut_to_the_span(rt: HostRuntime) -> Result<(), Fail> {
+fn legs_are_cut_to_the_span(rt: HostRuntime) {
     let before = "[2:5,3:0) 1; [3:0,5:0) 2; [5:0,5:1) 3; ";
-    assert!(rt; is_cut(rt.alloc(), &[], "2:5", "5:1", before)?);
+    holds!(&rt; is_cut(rt.alloc(), &[], "2:5", "5:1", before).expect(&rt, "memory"));
     let after = "[2:0,3:0) 3; [3:0,4:0) 2; ";
-    assert!(rt; is_cut(rt.alloc(), &[Said::Load], "2:0", "4:0", after)?);
-    Ok(())
+    holds!(&rt; is_cut(rt.alloc(), &[Said::Load], "2:0", "4:0", after).expect(&rt, "memory"));
 }

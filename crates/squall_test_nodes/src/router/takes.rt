@@ -5,7 +5,6 @@ use super::{Said, heard, report, router};
 use squall_router::Router;
 use std::alloc::Global;
 use std::process::Abort;
-use std::test::Fail;
 
 /// The router takes a report.
 fn take(alloc: Global, router: &mut Router, said: Said) -> Option<()> {
@@ -56,12 +55,11 @@ const TAKES: [&[Said]; 7] = [
 /// Each list, taken, ends as its boards do, absorbed.
 fn look_at_takes(rt: &impl Abort, alloc: Global, rows: &[&[Said]]) {
     for said in rows {
-        assert!(rt; ends_as_absorbed(alloc, said) == Some(true));
+        holds!(rt; ends_as_absorbed(alloc, said) == Some(true));
     }
 }
 
 #[test]
-fn taken_as_absorbed(rt: HostRuntime) -> Result<(), Fail> {
+fn taken_as_absorbed(rt: HostRuntime) {
     look_at_takes(&rt, rt.alloc(), &TAKES);
-    Ok(())
 }

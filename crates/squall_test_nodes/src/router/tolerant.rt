@@ -133,7 +133,7 @@ const REPORTS: [Said; 4] = [Said::Load, Said::Done, Said::Opened, Said::Back(2)]
 #[test]
 fn tolerant_absorb(rt: HostRuntime) -> Result<(), Fail> {
     if let Some(mut router) = heard(rt.alloc(), &[Said::Half]) {
-        assert!(rt; hears_each(rt.alloc(), &mut router, &REPORTS, Come::Absorbed));
+        holds!(&rt; hears_each(rt.alloc(), &mut router, &REPORTS, Come::Absorbed));
     }
     Ok(())
 }
@@ -141,7 +141,7 @@ fn tolerant_absorb(rt: HostRuntime) -> Result<(), Fail> {
 #[test]
 fn tolerant_take(rt: HostRuntime) -> Result<(), Fail> {
     if let Some(mut router) = heard(rt.alloc(), &[Said::Half]) {
-        assert!(rt; hears_each(rt.alloc(), &mut router, &REPORTS, Come::Taken));
+        holds!(&rt; hears_each(rt.alloc(), &mut router, &REPORTS, Come::Taken));
     }
     Ok(())
 }
@@ -150,10 +150,10 @@ fn tolerant_take(rt: HostRuntime) -> Result<(), Fail> {
 /// allocation. The course stays.
 fn is_made_or_not(rt: &impl Abort, alloc: Global, course: &Arc<Course>, before: &[Leg]) {
     match Router::new(alloc, course) {
-        Ok(router) => assert!(rt; is_list(router.table().entries(), before)),
+        Ok(router) => holds!(rt; is_list(router.table().entries(), before)),
         Err(AllocError) => {}
     }
-    assert!(rt; course.old_plan().ranges() == before);
+    holds!(rt; course.old_plan().ranges() == before);
 }
 
 #[test]
@@ -170,10 +170,10 @@ fn tolerant_new(rt: HostRuntime) -> Result<(), Fail> {
 /// The legs of the span are three, or the answer is a failed allocation; and the router is as seen.
 fn cuts_or_not(rt: &impl Abort, alloc: Global, router: &Router, seen: &Seen, span: &Span) {
     match router.route_span(alloc, span) {
-        Ok(legs) => assert!(rt; legs.len() == 3),
+        Ok(legs) => holds!(rt; legs.len() == 3),
         Err(AllocError) => {}
     }
-    assert!(rt; is_as_seen(router, seen));
+    holds!(rt; is_as_seen(router, seen));
 }
 
 #[test]

@@ -6,7 +6,6 @@ use squall_key::Key;
 use squall_world::{Answer, Event, Node, World, WorldFault};
 use std::alloc::Global;
 use std::process::Abort;
-use std::test::Fail;
 
 /// Calls in a world, and their answers.
 type Lines = &'static [(Call, Said)];
@@ -76,7 +75,7 @@ static ENDS: [(Call, Said); 8] = [
 fn told(rt: &impl Abort, alloc: Global, world: &mut World, lines: Lines) -> Option<()> {
     for (call, wanted) in lines {
         let answer = answer(alloc, world, *call)?;
-        assert!(rt; said(&answer) == *wanted);
+        holds!(rt; said(&answer) == *wanted);
     }
     Some(())
 }
@@ -84,24 +83,22 @@ fn told(rt: &impl Abort, alloc: Global, world: &mut World, lines: Lines) -> Opti
 /// A world from the old plan to another one answers so.
 fn answers(rt: &impl Abort, alloc: Global, new: &[Range], lines: Lines) -> Option<()> {
     let mut world = world_to(alloc, new)?;
-    assert!(rt; world.parts() == 4);
+    holds!(rt; world.parts() == 4);
     told(rt, alloc, &mut world, lines)
 }
 
 #[test]
-fn calls_answer(rt: HostRuntime) -> Result<(), Fail> {
-    answers(&rt, rt.alloc(), &NEW, &MOVES).ok_or("a world")?;
-    answers(&rt, rt.alloc(), &OLD, &ENDS).ok_or("a world")?;
-    Ok(())
+fn calls_answer(rt: HostRuntime) {
+    answers(&rt, rt.alloc(), &NEW, &MOVES).expect(&rt, "a world");
+    answers(&rt, rt.alloc(), &OLD, &ENDS).expect(&rt, "a world");
 }
 
 #[test]
-fn routers_are_counted(rt: HostRuntime) -> Result<(), Fail> {
-    let old = plan(rt.alloc(), &OLD).ok_or("a plan")?;
+fn routers_are_counted(rt: HostRuntime) {
+    let old = plan(rt.alloc(), &OLD).expect(&rt, "a plan");
     let many = World::new(rt.alloc(), &old, &old, 1001);
-    assert!(rt; matches!(many, Err(WorldFault::TooManyRouters)));
-    assert!(rt; World::new(rt.alloc(), &old, &old, 1000).is_ok());
-    Ok(())
+    holds!(&rt; matches!(many, Err(WorldFault::TooManyRouters)));
+    holds!(&rt; World::new(rt.alloc(), &old, &old, 1000).is_ok());
 }
 
 /// A sub-plan is opened, a router is asked, and a message is delivered that nobody sent.
@@ -122,9 +119,9 @@ fn events() -> Option<[Event; 3]> {
 
 /// Each answer says what is wanted, and there are as many.
 fn all_said(rt: &impl Abort, answers: &[Answer], wanted: &[Said]) {
-    assert!(rt; answers.len() == wanted.len());
+    holds!(rt; answers.len() == wanted.len());
     for (answer, wanted) in answers.iter().zip(wanted) {
-        assert!(rt; said(answer) == *wanted);
+        holds!(rt; said(answer) == *wanted);
     }
 }
 
@@ -134,7 +131,7 @@ fn run_says(rt: &impl Abort, alloc: Global, world: &mut World, events: &[Event])
     let mut answers = Vec::new(alloc);
     let after = asks_after(world, events, &mut answers, 0, key);
     all_said(rt, &answers, &EVENTS_SAY);
-    assert!(rt; said(&after) == EVENTS_SAY[1]);
+    holds!(rt; said(&after) == EVENTS_SAY[1]);
     Some(())
 }
 
@@ -145,7 +142,6 @@ fn runs(rt: &impl Abort, alloc: Global) -> Option<()> {
 }
 
 #[test]
-fn runs_answer(rt: HostRuntime) -> Result<(), Fail> {
-    runs(&rt, rt.alloc()).ok_or("a world")?;
-    Ok(())
+fn runs_answer(rt: HostRuntime) {
+    runs(&rt, rt.alloc()).expect(&rt, "a world");
 }

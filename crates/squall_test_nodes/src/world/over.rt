@@ -17,11 +17,11 @@ fn is_made_over(rt: &impl Abort, alloc: Global, first: &Arc<Course>) -> bool
 {
     match World::over(alloc, first, 2) {
         Ok(world) => {
-            assert!(rt; world.parts() == 4);
+            holds!(rt; world.parts() == 4);
             true
         }
         Err(fault) => {
-            assert!(rt; matches!(fault, WorldFault::NoMemory));
+            holds!(rt; matches!(fault, WorldFault::NoMemory));
             false
         }
     }
@@ -50,5 +50,5 @@ fn tolerant_over(rt: HostRuntime) {
 
 #[test]
 fn worlds_are_made_over_a_course(rt: HostRuntime) {
-    assert!(rt; try_over(&rt, rt.alloc()) == Some(true));
+    holds!(&rt; try_over(&rt, rt.alloc()) == Some(true));
 }

@@ -137,10 +137,10 @@ fn says(alloc: Global, world: &mut World, call: Call) -> Option<Said> {
 /// Both worlds are one: they have as many partitions, and the same answers to the calls that
 /// follow. None if an allocation fails.
 fn are_same(rt: &impl Abort, alloc: Global, world: &mut World, twin: &mut World) -> Option<()> {
-    assert!(rt; world.parts() == twin.parts());
+    holds!(rt; world.parts() == twin.parts());
     for call in &ASKED {
         let (one, other) = (says(alloc, world, *call)?, says(alloc, twin, *call)?);
-        assert!(rt; one == other);
+        holds!(rt; one == other);
     }
     Some(())
 }
@@ -217,7 +217,7 @@ fn tolerant_calls(rt: HostRuntime) {
 #[test]
 fn worlds_take_calls(rt: HostRuntime) {
     for case in &CASES {
-        assert!(rt; try_case(&rt, rt.alloc(), case) == Some(true));
+        holds!(&rt; try_case(&rt, rt.alloc(), case) == Some(true));
     }
 }
 
@@ -253,7 +253,7 @@ fn runs(
 ) -> Option<usize> {
     let mut answers: Vec<Answer> = Vec::new(alloc);
     let failed = world.run(events, &mut answers).is_err();
-    assert!(rt; failed == (answers.len() < events.len()));
+    holds!(rt; failed == (answers.len() < events.len()));
     step_all(twin, events.get(..answers.len())?)?;
     are_same(rt, alloc, world, twin)?;
     Some(answers.len())
@@ -278,7 +278,7 @@ fn tolerant_run(rt: HostRuntime) {
 
 #[test]
 fn events_run(rt: HostRuntime) {
-    assert!(rt; runs_moving(&rt, rt.alloc()) == Some(5));
+    holds!(&rt; runs_moving(&rt, rt.alloc()) == Some(5));
 }
 
 /// Whether the world took the event, as its twin does. If an allocation failed it is equal to its
@@ -334,18 +334,18 @@ fn tolerant_step(rt: HostRuntime) {
 
 #[test]
 fn worlds_step(rt: HostRuntime) {
-    assert!(rt; steps_moving(&rt, rt.alloc()) == Some(true));
+    holds!(&rt; steps_moving(&rt, rt.alloc()) == Some(true));
 }
 
 /// Whether a world of both plans is made. There is no other fault than NoMemory.
 fn is_made(rt: &impl Abort, alloc: Global, old: &Plan, new: &Plan) -> bool {
     match World::new(alloc, old, new, 2) {
         Ok(world) => {
-            assert!(rt; world.parts() == 4);
+            holds!(rt; world.parts() == 4);
             true
         }
         Err(fault) => {
-            assert!(rt; matches!(fault, WorldFault::NoMemory));
+            holds!(rt; matches!(fault, WorldFault::NoMemory));
             false
         }
     }
@@ -355,7 +355,7 @@ fn is_made(rt: &impl Abort, alloc: Global, old: &Plan, new: &Plan) -> bool {
 fn keeps_new(rt: &impl Abort, alloc: Global, old: &Plan, new: &Plan) -> Option<bool> {
     let copy = new.copied(alloc).ok()?;
     let made = is_made(rt, alloc, old, new);
-    assert!(rt; *new == copy);
+    holds!(rt; *new == copy);
     Some(made)
 }
 
@@ -363,7 +363,7 @@ fn keeps_new(rt: &impl Abort, alloc: Global, old: &Plan, new: &Plan) -> Option<b
 fn keeps_old(rt: &impl Abort, alloc: Global, old: &Plan, new: &Plan) -> Option<bool> {
     let copy = old.copied(alloc).ok()?;
     let made = keeps_new(rt, alloc, old, new);
-    assert!(rt; *old == copy);
+    holds!(rt; *old == copy);
     made
 }
 
@@ -386,5 +386,5 @@ fn tolerant_new(rt: HostRuntime) {
 
 #[test]
 fn worlds_are_made(rt: HostRuntime) {
-    assert!(rt; try_new(&rt, rt.alloc()) == Some(true));
+    holds!(&rt; try_new(&rt, rt.alloc()) == Some(true));
 }

@@ -30,23 +30,23 @@ fn course(rt: &impl Abort, alloc: Global) -> Option<Course> {
 /// Makes the course between the plans.
 fn look_at_new(rt: &impl Abort, alloc: Global, old: &Plan, new: &Plan) {
     match Course::new(alloc, 7, old, new) {
-        Ok(course) => assert!(rt; course.moves().len() == 1),
-        Err(fault) => assert!(rt; fault == CourseFault::NoMemory),
+        Ok(course) => holds!(rt; course.moves().len() == 1),
+        Err(fault) => holds!(rt; fault == CourseFault::NoMemory),
     }
 }
 
 /// Makes the course of number 1 between the plans.
 fn look_at_first(rt: &impl Abort, alloc: Global, old: &Plan, new: &Plan) {
     if let Ok(course) = Course::first(alloc, old, new) {
-        assert!(rt; course.number() == 1);
-        assert!(rt; course.moves().len() == 1);
+        holds!(rt; course.number() == 1);
+        holds!(rt; course.moves().len() == 1);
     }
 }
 
 /// The plan is still that of its roots. It looks only if no allocation fails.
 fn is_as_before(rt: &impl Abort, alloc: Global, plan: &Plan, middle: u32) {
     if let Some(before) = self::plan(rt, alloc, middle) {
-        assert!(rt; *plan == before);
+        holds!(rt; *plan == before);
     }
 }
 
@@ -70,15 +70,15 @@ fn tolerant_new(rt: HostRuntime) {
 /// Asks for the keys that come and that go, and for the partitions that receive keys.
 fn look_at_answers(rt: &impl Abort, alloc: Global, course: &Course) {
     if let Ok(keys) = course.incoming(alloc, 0, part(rt, 2)) {
-        assert!(rt; keys.spans().len() == 1);
+        holds!(rt; keys.spans().len() == 1);
     }
     if let Ok(keys) = course.outgoing(alloc, 0, part(rt, 1)) {
-        assert!(rt; keys.spans().len() == 1);
+        holds!(rt; keys.spans().len() == 1);
     }
     if let Ok(parts) = course.receivers(alloc, 0) {
-        assert!(rt; parts.as_slice() == [part(rt, 2)].as_slice());
+        holds!(rt; parts.as_slice() == [part(rt, 2)].as_slice());
     }
-    assert!(rt; has_moves(rt, course, &[(2, 3, 1, 2, 0)]));
+    holds!(rt; has_moves(rt, course, &[(2, 3, 1, 2, 0)]));
 }
 
 #[test]

@@ -10,7 +10,7 @@ fn unless_no_memory(rt: &impl Abort, answer: Result<Plan, PlanFault>) -> Option<
     match answer {
         Ok(plan) => Some(plan),
         Err(fault) => {
-            assert!(rt; fault == PlanFault::NoMemory);
+            holds!(rt; fault == PlanFault::NoMemory);
             None
         }
     }
@@ -30,7 +30,7 @@ fn few(rt: &impl Abort, alloc: Global) -> Option<Plan> {
 #[test]
 fn tolerant_read(rt: HostRuntime) {
     if let Some(plan) = unless_no_memory(&rt, Plan::read(rt.alloc(), OLD.as_bytes())) {
-        assert!(rt; plan.ranges().len() == 4);
+        holds!(&rt; plan.ranges().len() == 4);
     }
 }
 
@@ -44,16 +44,16 @@ fn is_joined(rt: &impl Abort, plan: &Plan) -> bool {
 fn copy_is_few(rt: &impl Abort, alloc: Global, plan: &Plan) {
     if let Some(before) = few(rt, alloc) {
         if let Ok(copy) = plan.copied(alloc) {
-            assert!(rt; copy == before);
+            holds!(rt; copy == before);
         }
-        assert!(rt; *plan == before);
+        holds!(rt; *plan == before);
     }
 }
 
 #[test]
 fn tolerant_from_ranges_and_copied(rt: HostRuntime) {
     if let Some(plan) = few(&rt, rt.alloc()) {
-        assert!(rt; is_joined(&rt, &plan));
+        holds!(&rt; is_joined(&rt, &plan));
         copy_is_few(&rt, rt.alloc(), &plan);
     }
 }

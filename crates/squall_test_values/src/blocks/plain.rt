@@ -4,7 +4,6 @@ use super::{bound, put, row};
 use squall_blocks::{Blocks, Entries};
 use std::alloc::{AllocError, Global};
 use std::process::Abort;
-use std::test::Fail;
 
 /// The next pseudo-random number.
 fn next(state: u64) -> u64 {
@@ -85,29 +84,28 @@ fn turn(
     blocks: &mut Blocks<u16>,
     plain: &[(u64, u16)],
     state: u64,
-) -> Result<Vec<(u64, u16)>, AllocError> {
+) -> Vec<(u64, u16)> {
     let from = (state >> 33) % 90000;
     let wide = if (state >> 20) % 4 == 0 { 20000 } else { 60 };
     let to = from.saturating_add((state >> 40) % wide);
     let few = (state >> 24) % 5;
     let count = if (state >> 28) % 6 == 0 { 700 } else { few };
     let fits = count.min(to.saturating_sub(from));
-    let fresh = row(rt, alloc, from, 1, fits, (state >> 50) as u16)?;
-    let after = replaced(alloc, plain, from, to, &fresh)?;
-    put(rt, alloc, blocks, from, to, &fresh)?;
-    assert!(rt; is_plain(blocks, &after));
-    assert!(rt; finds(rt, blocks, &after, from) && finds(rt, blocks, &after, to));
-    Ok(after)
+    let fresh = row(rt, alloc, from, 1, fits, (state >> 50) as u16).expect(rt, "memory");
+    let after = replaced(alloc, plain, from, to, &fresh).expect(rt, "memory");
+    put(rt, alloc, blocks, from, to, &fresh).expect(rt, "memory");
+    holds!(rt; is_plain(blocks, &after));
+    holds!(rt; finds(rt, blocks, &after, from) && finds(rt, blocks, &after, to));
+    after
 }
 
 #[test]
-fn replacements_in_no_order(rt: HostRuntime) -> Result<(), Fail> {
+fn replacements_in_no_order(rt: HostRuntime) {
     let mut blocks = Blocks::new(rt.alloc());
     let mut plain = Vec::new(rt.alloc());
     let mut state = 1u64;
     for _ in 0..400u32 {
         state = next(state);
-        plain = turn(&rt, rt.alloc(), &mut blocks, &plain, state)?;
+        plain = turn(&rt, rt.alloc(), &mut blocks, &plain, state);
     }
-    Ok(())
 }

@@ -15,7 +15,7 @@ fn tolerant_push(rt: HostRuntime) {
     for place in 0..20u16 {
         let before = entries.len();
         if entries.push(bound(&rt, 7), place).is_err() {
-            assert!(rt; entries.len() == before);
+            holds!(&rt; entries.len() == before);
         }
     }
 }
@@ -25,14 +25,14 @@ fn tolerant_with_room(rt: HostRuntime) {
     if let Ok(mut ready) = ReadyEntries::with_room(rt.alloc(), 2) {
         ready.push(bound(&rt, 7), 1u16);
         ready.push(bound(&rt, 9), 2);
-        assert!(rt; ready.into_entries().len() == 2);
+        holds!(&rt; ready.into_entries().len() == 2);
     }
 }
 
 #[test]
 fn tolerant_of(rt: HostRuntime) {
     if let Ok(blocks) = thousand(&rt, rt.alloc()) {
-        assert!(rt; counted(&blocks) == (1000, 1000));
+        holds!(&rt; counted(&blocks) == (1000, 1000));
     }
 }
 
@@ -47,7 +47,7 @@ fn replace_within(rt: &impl Abort, alloc: Global) -> Result<(), AllocError> {
     let mut blocks = thousand(rt, alloc)?;
     let fresh = row(rt, alloc, 400, 2, 5, 3)?;
     let made = put(rt, alloc, &mut blocks, 400, 410, &fresh).is_ok();
-    assert!(rt; is_whole(rt, &blocks, made, 1004));
+    holds!(rt; is_whole(rt, &blocks, made, 1004));
     Ok(())
 }
 
@@ -61,7 +61,7 @@ fn replace_across(rt: &impl Abort, alloc: Global) -> Result<(), AllocError> {
     let mut blocks = thousand(rt, alloc)?;
     let fresh = row(rt, alloc, 400, 2, 600, 3)?;
     let made = put(rt, alloc, &mut blocks, 400, 8000, &fresh).is_ok();
-    assert!(rt; is_whole(rt, &blocks, made, 840));
+    holds!(rt; is_whole(rt, &blocks, made, 840));
     Ok(())
 }
 
@@ -74,7 +74,7 @@ fn tolerant_replace_across_blocks(rt: HostRuntime) {
 fn replace_by_none(rt: &impl Abort, alloc: Global) -> Result<(), AllocError> {
     let mut blocks = thousand(rt, alloc)?;
     let made = put(rt, alloc, &mut blocks, 30, 1900, &Entries::new(alloc)).is_ok();
-    assert!(rt; is_whole(rt, &blocks, made, 813));
+    holds!(rt; is_whole(rt, &blocks, made, 813));
     Ok(())
 }
 
@@ -88,8 +88,8 @@ fn tolerant_replace_by_none(rt: HostRuntime) {
 fn replace_and_join(rt: &impl Abort, alloc: Global) -> Result<(), AllocError> {
     let mut blocks = with_a_short_block(rt, alloc)?;
     let made = put(rt, alloc, &mut blocks, 1670, 3310, &Entries::new(alloc)).is_ok();
-    assert!(rt; counted(&blocks).0 == if made { 672 } else { 836 });
-    assert!(rt; begins(rt, &blocks, 9990, 1, (10000, 1)));
+    holds!(rt; counted(&blocks).0 == if made { 672 } else { 836 });
+    holds!(rt; begins(rt, &blocks, 9990, 1, (10000, 1)));
     Ok(())
 }
 
@@ -103,8 +103,8 @@ fn tolerant_replace_that_joins(rt: HostRuntime) {
 fn keep_or_undo(rt: &impl Abort, alloc: Global) -> Result<(), AllocError> {
     let mut draft = Draft::of(thousand(rt, alloc)?);
     match edit_twice(rt, alloc, &mut draft) {
-        Ok(()) => assert!(rt; is_edited_twice(rt, &draft.keep())),
-        Err(AllocError) => assert!(rt; counted(&draft.undo()) == (1000, 1000)),
+        Ok(()) => holds!(rt; is_edited_twice(rt, &draft.keep())),
+        Err(AllocError) => holds!(rt; counted(&draft.undo()) == (1000, 1000)),
     }
     Ok(())
 }
@@ -117,10 +117,10 @@ fn tolerant_draft(rt: HostRuntime) {
 /// The entries are copied, or the answer is a failed allocation; and they stay as they are.
 fn copies_or_not(rt: &impl Abort, alloc: Global, blocks: &Blocks<u16>) {
     match blocks.copied(alloc) {
-        Ok(copy) => assert!(rt; are_same(&copy, blocks)),
+        Ok(copy) => holds!(rt; are_same(&copy, blocks)),
         Err(AllocError) => {}
     }
-    assert!(rt; counted(blocks) == (1000, 1000));
+    holds!(rt; counted(blocks) == (1000, 1000));
 }
 
 #[test]
@@ -135,8 +135,8 @@ fn tolerant_copied(rt: HostRuntime) {
 fn keep_and_join(rt: &impl Abort, alloc: Global) -> Result<(), AllocError> {
     let mut draft = Draft::of(with_a_short_block(rt, alloc)?);
     match edit_to_join(rt, alloc, &mut draft) {
-        Ok(()) => assert!(rt; is_edited(rt, &draft.keep())),
-        Err(AllocError) => assert!(rt; counted(&draft.undo()) == (836, 836)),
+        Ok(()) => holds!(rt; is_edited(rt, &draft.keep())),
+        Err(AllocError) => holds!(rt; counted(&draft.undo()) == (836, 836)),
     }
     Ok(())
 }

@@ -5,7 +5,6 @@ ghost use Rattle.std.specs.FinMap.Entries.{is_sorted};
 
 use super::map;
 use squall_join::{Join, JoinMap, MapKey};
-use std::test::Fail;
 
 /// Its keys rise.
 fn keys_rise<K: MapKey, V: Join>(map: &JoinMap<K, V>)
@@ -15,8 +14,7 @@ fn keys_rise<K: MapKey, V: Join>(map: &JoinMap<K, V>)
 }
 
 #[test]
-fn clients(rt: HostRuntime) -> Result<(), Fail> {
-    let map = map(rt.alloc(), &[(4, 1), (1, 3)])?;
+fn clients(rt: HostRuntime) {
+    let map = map(rt.alloc(), &[(4, 1), (1, 3)]).expect(&rt, "memory");
     keys_rise(&map);
-    Ok(())
 }

@@ -72,16 +72,9 @@ fn spans(rt: &impl Abort, alloc: Global, seed: u32, count: u32) -> Result<SpanSe
 }
 
 /// The value, once the other is joined in, is the join that was made apart.
-fn becomes<J: Join>(
-    rt: &impl Abort,
-    alloc: Global,
-    value: &mut J,
-    other: &J,
-    apart: &J,
-) -> Result<(), AllocError> {
-    value.join_in(alloc, other)?;
-    assert!(rt; value.same(apart));
-    Ok(())
+fn becomes<J: Join>(rt: &impl Abort, alloc: Global, value: &mut J, other: &J, apart: &J) {
+    value.join_in(alloc, other).expect(rt, "memory");
+    holds!(rt; value.same(apart));
 }
 
 /// The value, once the other is joined in with what was made ready, is the join that was made apart.
@@ -91,95 +84,67 @@ fn becomes_by_two_steps<J: Join>(
     value: &mut J,
     other: &J,
     apart: &J,
-) -> Result<(), AllocError> {
-    let ready = value.make_ready(alloc, other)?;
+) {
+    let ready = value.make_ready(alloc, other).expect(rt, "memory");
     value.join_ready(other, ready);
-    assert!(rt; value.same(apart));
-    Ok(())
+    holds!(rt; value.same(apart));
 }
 
 /// A copy of the value becomes the join by two steps, and stays it.
-fn alike_by_two_steps<J: Join>(
-    rt: &impl Abort,
-    alloc: Global,
-    value: &J,
-    other: &J,
-    apart: &J,
-) -> Result<(), AllocError> {
-    let mut copy = value.copied(alloc)?;
-    becomes_by_two_steps(rt, alloc, &mut copy, other, apart)?;
+fn alike_by_two_steps<J: Join>(rt: &impl Abort, alloc: Global, value: &J, other: &J, apart: &J) {
+    let mut copy = value.copied(alloc).expect(rt, "memory");
+    becomes_by_two_steps(rt, alloc, &mut copy, other, apart);
     becomes_by_two_steps(rt, alloc, &mut copy, other, apart)
 }
 
 /// The join in place is the join made apart.
-fn alike<J: Join>(rt: &impl Abort, alloc: Global, value: &J, other: &J) -> Result<(), AllocError> {
-    let apart = value.joined(alloc, other)?;
-    alike_by_two_steps(rt, alloc, value, other, &apart)?;
-    let mut copy = value.copied(alloc)?;
+fn alike<J: Join>(rt: &impl Abort, alloc: Global, value: &J, other: &J) {
+    let apart = value.joined(alloc, other).expect(rt, "memory");
+    alike_by_two_steps(rt, alloc, value, other, &apart);
+    let mut copy = value.copied(alloc).expect(rt, "memory");
     becomes(rt, alloc, &mut copy, other, &apart)
 }
 
 /// Joins this many cells into the rows.
-fn alike_rows(
-    rt: &impl Abort,
-    alloc: Global,
-    value: &Rows,
-    seed: u32,
-    count: u32,
-) -> Result<(), AllocError> {
-    let other = rows(rt, alloc, seed, count)?;
+fn alike_rows(rt: &impl Abort, alloc: Global, value: &Rows, seed: u32, count: u32) {
+    let other = rows(rt, alloc, seed, count).expect(rt, "memory");
     alike(rt, alloc, value, &other)
 }
 
 #[test]
-fn rows_in_place(rt: HostRuntime) -> Result<(), AllocError> {
+fn rows_in_place(rt: HostRuntime) {
     for round in 0..24u32 {
-        let value = rows(&rt, rt.alloc(), 2 * round, 3 * round)?;
-        alike_rows(&rt, rt.alloc(), &value, 2 * round + 1, 24 - round)?;
+        let value = rows(&rt, rt.alloc(), 2 * round, 3 * round).expect(&rt, "memory");
+        alike_rows(&rt, rt.alloc(), &value, 2 * round + 1, 24 - round);
     }
-    Ok(())
 }
 
 /// Joins this many numbers into the map.
-fn alike_numbers(
-    rt: &impl Abort,
-    alloc: Global,
-    value: &JoinMap<u32, Max>,
-    seed: u32,
-    count: u32,
-) -> Result<(), AllocError> {
-    let other = numbers(alloc, seed, count)?;
+fn alike_numbers(rt: &impl Abort, alloc: Global, value: &JoinMap<u32, Max>, seed: u32, count: u32) {
+    let other = numbers(alloc, seed, count).expect(rt, "memory");
     alike(rt, alloc, value, &other)
 }
 
 #[test]
-fn numbers_in_place(rt: HostRuntime) -> Result<(), AllocError> {
+fn numbers_in_place(rt: HostRuntime) {
     for (there, more) in [(0, 9), (9, 0), (300, 20), (300, 120), (20, 300)] {
-        let value = numbers(rt.alloc(), 5, there)?;
-        alike_numbers(&rt, rt.alloc(), &value, 8, more)?;
+        let value = numbers(rt.alloc(), 5, there).expect(&rt, "memory");
+        alike_numbers(&rt, rt.alloc(), &value, 8, more);
     }
-    Ok(())
 }
 
 /// Joins this many spans into the set.
-fn alike_spans(
-    rt: &impl Abort,
-    alloc: Global,
-    value: &SpanSet,
-    seed: u32,
-    count: u32,
-) -> Result<(), AllocError> {
-    let other = spans(rt, alloc, seed, count)?;
+fn alike_spans(rt: &impl Abort, alloc: Global, value: &SpanSet, seed: u32, count: u32) {
+    let other = spans(rt, alloc, seed, count).expect(rt, "memory");
     alike(rt, alloc, value, &other)
 }
 
 #[test]
-fn spans_in_place(rt: HostRuntime) -> Result<(), AllocError> {
+fn spans_in_place(rt: HostRuntime) {
     for round in 0..12u32 {
-        let value = spans(&rt, rt.alloc(), round, 20 * round)?;
-        alike_spans(&rt, rt.alloc(), &value, round + 99, 1 + round)?;
+        let value = spans(&rt, rt.alloc(), round, 20 * round).expect(&rt, "memory");
+        alike_spans(&rt, rt.alloc(), &value, round + 99, 1 + round);
     }
-    Ok(())
 }
 
 /// Makes a join ready, which changes nothing if an allocation fails, and joins with what is ready.
@@ -189,9 +154,9 @@ fn tries_two_steps<J: Join>(rt: &impl Abort, alloc: Global, value: &mut J, other
     };
     if let Ok(ready) = value.make_ready(alloc, other) {
         value.join_ready(other, ready);
-        assert!(rt; value.covers(other) && value.covers(&before));
+        holds!(rt; value.covers(other) && value.covers(&before));
     } else {
-        assert!(rt; value.same(&before));
+        holds!(rt; value.same(&before));
     }
 }
 

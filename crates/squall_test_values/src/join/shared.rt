@@ -18,11 +18,10 @@ fn one(alloc: Global, key: u32, value: u32) -> Result<Held, AllocError> {
 }
 
 /// Makes a second owner, and looks at both.
-fn look_at_second(rt: &impl Abort, first: &Shared<u32>) -> Result<(), AllocError> {
-    let second = first.again()?;
-    assert!(rt; Arc::strong_count(first.as_arc()) == 2);
-    assert!(rt; **second.as_arc() == 7 && first.is_same(&second));
-    Ok(())
+fn look_at_second(rt: &impl Abort, first: &Shared<u32>) {
+    let second = first.again().expect(rt, "memory");
+    holds!(rt; Arc::strong_count(first.as_arc()) == 2);
+    holds!(rt; **second.as_arc() == 7 && first.is_same(&second));
 }
 
 /// Whether the value is this one.
@@ -32,13 +31,12 @@ fn is_of(alloc: Global, first: &Shared<u32>, value: u32) -> Result<bool, AllocEr
 }
 
 #[test]
-fn owners_of_one_value(rt: HostRuntime) -> Result<(), AllocError> {
-    let first = shared(rt.alloc(), 7)?;
-    look_at_second(&rt, &first)?;
+fn owners_of_one_value(rt: HostRuntime) {
+    let first = shared(rt.alloc(), 7).expect(&rt, "memory");
+    look_at_second(&rt, &first);
     for (value, is_same) in [(7, true), (8, false)] {
-        assert!(rt; is_of(rt.alloc(), &first, value)? == is_same);
+        holds!(&rt; is_of(rt.alloc(), &first, value).expect(&rt, "memory") == is_same);
     }
-    Ok(())
 }
 
 /// Joins one entry into the map.
@@ -51,9 +49,9 @@ fn join_one(held: &mut Held, key: u32, value: u32) -> Result<(), AllocError> {
 /// The map has the keys 2 and 5, and the value 7 at 5.
 fn look_at_two(rt: &impl Abort, held: &Held) {
     let keys = held.entries();
-    assert!(rt; keys.len() == 2 && keys[0].0 == 2 && keys[1].0 == 5);
+    holds!(rt; keys.len() == 2 && keys[0].0 == 2 && keys[1].0 == 5);
     let found = held.get(&5).map(|value| value.as_ref());
-    assert!(rt; matches!(found, Some(Flat::One(value)) if **value.as_arc() == 7));
+    holds!(rt; matches!(found, Some(Flat::One(value)) if **value.as_arc() == 7));
 }
 
 /// Whether the map has a clash at 5.
@@ -63,20 +61,19 @@ fn clashes_at_5(held: &Held) -> bool {
 }
 
 /// Each member, through the bound, of a map of one entry and this one.
-fn join_with_one(rt: &impl Abort, alloc: Global, held: &Held) -> Result<(), AllocError> {
-    let less = one(alloc, 4, 5)?;
+fn join_with_one(rt: &impl Abort, alloc: Global, held: &Held) {
+    let less = one(alloc, 4, 5).expect(rt, "memory");
     joins(rt, alloc, &less, held)
 }
 
 #[test]
-fn maps_of_shared_values(rt: HostRuntime) -> Result<(), AllocError> {
-    let mut held = one(rt.alloc(), 5, 7)?;
-    join_one(&mut held, 2, 9)?;
+fn maps_of_shared_values(rt: HostRuntime) {
+    let mut held = one(rt.alloc(), 5, 7).expect(&rt, "memory");
+    join_one(&mut held, 2, 9).expect(&rt, "memory");
     look_at_two(&rt, &held);
-    join_with_one(&rt, rt.alloc(), &held)?;
-    join_one(&mut held, 5, 8)?;
-    assert!(rt; clashes_at_5(&held));
-    Ok(())
+    join_with_one(&rt, rt.alloc(), &held);
+    join_one(&mut held, 5, 8).expect(&rt, "memory");
+    holds!(&rt; clashes_at_5(&held));
 }
 
 /// Joins one entry into the map, and asks the map with it.

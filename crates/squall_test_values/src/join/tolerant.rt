@@ -31,17 +31,17 @@ pub(crate) fn tries<J: Join>(rt: &impl Abort, alloc: Global, value: &mut J, othe
         return;
     };
     if value.join_in(alloc, other).is_ok() {
-        assert!(rt; value.covers(other) && value.covers(&before));
+        holds!(rt; value.covers(other) && value.covers(&before));
     } else {
-        assert!(rt; value.same(&before));
+        holds!(rt; value.same(&before));
     }
 }
 
 /// The map of one number at the key 4 has that entry, and none if the number is 0.
 fn look_at_single(rt: &impl Abort, alloc: Global, number: u32) {
     if let Ok(map) = JoinMap::single(alloc, 4, Max::new(number)) {
-        assert!(rt; has_entry(&map, 0, 4, number) == (number != 0));
-        assert!(rt; map.len() == usize::from(number != 0));
+        holds!(rt; has_entry(&map, 0, 4, number) == (number != 0));
+        holds!(rt; map.len() == usize::from(number != 0));
     }
 }
 
@@ -93,20 +93,20 @@ fn tolerant_join_in_of_many(rt: HostRuntime) -> Result<(), Fail> {
 /// The value is still that of one span. It looks only if no allocation fails.
 fn is_as_before(rt: &impl Abort, alloc: Global, value: &Outer) {
     if let Ok(before) = one(rt, alloc, 1, 2, 10, 5) {
-        assert!(rt; value.same(&before));
+        holds!(rt; value.same(&before));
     }
 }
 
 /// Copies the value, joins it with the other and looks at what it has beyond the other.
 pub(crate) fn answers<J: Beyond>(rt: &impl Abort, alloc: Global, value: &J, other: &J) {
     if let Ok(copy) = value.copied(alloc) {
-        assert!(rt; copy.same(value));
+        holds!(rt; copy.same(value));
     }
     if let Ok(joined) = value.joined(alloc, other) {
-        assert!(rt; joined.covers(value) && joined.covers(other));
+        holds!(rt; joined.covers(value) && joined.covers(other));
     }
     if let Ok(rest) = value.beyond(alloc, other) {
-        assert!(rt; value.covers(&rest) && !rest.is_bottom());
+        holds!(rt; value.covers(&rest) && !rest.is_bottom());
     }
 }
 

@@ -50,24 +50,24 @@ fn is_raised_at(map: &JoinMap<u32, JoinMap<u32, Flag>>, key: u32, keys: &[u32]) 
 }
 
 #[test]
-fn a_map_of_one_update(rt: HostRuntime) -> Result<(), AllocError> {
+fn a_map_of_one_update(rt: HostRuntime) {
     let raised: JoinMap<u32, Flag> = put(
         rt.alloc(),
         UpdateAt::new(7, Raised),
         UpdateAt::new(7, Raised),
-    )?;
-    assert!(rt; is_raised(&raised, &[7]));
-    Ok(())
+    )
+    .expect(&rt, "memory");
+    holds!(&rt; is_raised(&raised, &[7]));
 }
 
 #[test]
-fn updates_at_keys(rt: HostRuntime) -> Result<(), AllocError> {
+fn updates_at_keys(rt: HostRuntime) {
     let mut map: JoinMap<u32, JoinMap<u32, Flag>> = JoinMap::empty(rt.alloc());
     for (outer, inner) in [(4, 7), (2, 7), (4, 7), (2, 9)] {
-        map.update_at(rt.alloc(), outer, UpdateAt::new(inner, Raised))?;
+        map.update_at(rt.alloc(), outer, UpdateAt::new(inner, Raised))
+            .expect(&rt, "memory");
     }
-    assert!(rt; map.len() == 2 && is_raised_at(&map, 4, &[7]) && is_raised_at(&map, 2, &[7, 9]));
-    Ok(())
+    holds!(&rt; map.len() == 2 && is_raised_at(&map, 4, &[7]) && is_raised_at(&map, 2, &[7, 9]));
 }
 
 /// Sets the flag at both keys of the map, and sees that a failed allocation changes nothing.
@@ -85,9 +85,9 @@ fn raises(
         .update_at(alloc, outer, UpdateAt::new(inner, Raised))
         .is_ok()
     {
-        assert!(rt; map.covers(&before) && is_raised_at(map, outer, &[inner]));
+        holds!(rt; map.covers(&before) && is_raised_at(map, outer, &[inner]));
     } else {
-        assert!(rt; map.same(&before));
+        holds!(rt; map.same(&before));
     }
 }
 

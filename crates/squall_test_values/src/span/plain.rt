@@ -5,7 +5,6 @@ use squall_key::{Bound, Key};
 use squall_span::{Span, SpanSet};
 use std::alloc::{AllocError, Global};
 use std::process::Abort;
-use std::test::Fail;
 
 const ROUNDS: u32 = 150;
 
@@ -30,14 +29,14 @@ fn span(rt: &impl Abort, lo: u32, hi: u32) -> Span {
 }
 
 /// The set of the keys that the mask has, by one insert for each.
-fn made(rt: &impl Abort, alloc: Global, mask: u32) -> Result<SpanSet, AllocError> {
+fn made(rt: &impl Abort, alloc: Global, mask: u32) -> SpanSet {
     let mut set = SpanSet::empty(alloc);
     for key in 0..24u32 {
         if (mask >> key) & 1 == 1 {
-            set.insert(span(rt, key, key + 1))?;
+            set.insert(span(rt, key, key + 1)).expect(rt, "memory");
         }
     }
-    Ok(set)
+    set
 }
 
 /// The keys from lo on, below hi.
@@ -76,34 +75,19 @@ fn minus_of(alloc: Global, first: &SpanSet, second: &SpanSet) -> Result<u32, All
 }
 
 /// Each operation of the set, whose keys the first mask has, with that of the second mask.
-fn operate(
-    rt: &impl Abort,
-    alloc: Global,
-    first: &SpanSet,
-    second: &SpanSet,
-    a: u32,
-    b: u32,
-) -> Result<(), AllocError> {
-    let either = union_of(alloc, first, second)?;
-    let both = meet_of(alloc, first, second)?;
-    let alone = minus_of(alloc, first, second)?;
-    assert!(rt; either == a | b && both == a & b && alone == a & !b);
-    Ok(())
+fn operate(rt: &impl Abort, alloc: Global, first: &SpanSet, second: &SpanSet, a: u32, b: u32) {
+    let either = union_of(alloc, first, second).expect(rt, "memory");
+    let both = meet_of(alloc, first, second).expect(rt, "memory");
+    let alone = minus_of(alloc, first, second).expect(rt, "memory");
+    holds!(rt; either == a | b && both == a & b && alone == a & !b);
 }
 
 /// The set, whose keys the first mask has, beside that of the second mask.
-fn compare(
-    rt: &impl Abort,
-    alloc: Global,
-    first: &SpanSet,
-    a: u32,
-    b: u32,
-) -> Result<(), AllocError> {
-    let second = made(rt, alloc, b)?;
-    operate(rt, alloc, first, &second, a, b)?;
-    assert!(rt; first.covers(&second) == (b & !a == 0));
-    assert!(rt; (*first == second) == (a == b));
-    Ok(())
+fn compare(rt: &impl Abort, alloc: Global, first: &SpanSet, a: u32, b: u32) {
+    let second = made(rt, alloc, b);
+    operate(rt, alloc, first, &second, a, b);
+    holds!(rt; first.covers(&second) == (b & !a == 0));
+    holds!(rt; (*first == second) == (a == b));
 }
 
 /// How many of the spans end at the bound or before.
@@ -126,52 +110,43 @@ fn counts_ends(rt: &impl Abort, set: &SpanSet) -> bool {
 }
 
 #[test]
-fn sets_of_two(rt: HostRuntime) -> Result<(), Fail> {
+fn sets_of_two(rt: HostRuntime) {
     let mut state = 1u32;
     for _ in 0..ROUNDS {
         let a = mask(state);
         let b = mask(next(state));
         state = next(next(state));
-        let first = made(&rt, rt.alloc(), a)?;
-        assert!(rt; mask_of(&first) == a && counts_ends(&rt, &first));
-        compare(&rt, rt.alloc(), &first, a, b)?;
+        let first = made(&rt, rt.alloc(), a);
+        holds!(&rt; mask_of(&first) == a && counts_ends(&rt, &first));
+        compare(&rt, rt.alloc(), &first, a, b);
     }
-    Ok(())
 }
 
 /// Splits the set, whose keys the mask has, at a key.
-fn split(
-    rt: &impl Abort,
-    alloc: Global,
-    set: &SpanSet,
-    mask: u32,
-    at: u32,
-) -> Result<(), AllocError> {
-    let (below, others) = set.split_at(alloc, bound(rt, at))?;
+fn split(rt: &impl Abort, alloc: Global, set: &SpanSet, mask: u32, at: u32) {
+    let (below, others) = set.split_at(alloc, bound(rt, at)).expect(rt, "memory");
     let low = mask & between(0, u64::from(at));
     let high = mask & between(u64::from(at), 24);
-    assert!(rt; (mask_of(&below), mask_of(&others)) == (low, high));
-    Ok(())
+    holds!(rt; (mask_of(&below), mask_of(&others)) == (low, high));
 }
 
 #[test]
-fn sets_of_one(rt: HostRuntime) -> Result<(), Fail> {
+fn sets_of_one(rt: HostRuntime) {
     let mut state = 2u32;
     for _ in 0..ROUNDS {
         let a = mask(state);
         let at = state % 25;
         state = next(state);
-        let set = made(&rt, rt.alloc(), a)?;
-        split(&rt, rt.alloc(), &set, a, at)?;
-        assert!(rt; set.count() == u64::from(a.count_ones()));
-        assert!(rt; set.is_empty() == (a == 0));
-        assert!(rt; is_its_copy(rt.alloc(), &set)?);
+        let set = made(&rt, rt.alloc(), a);
+        split(&rt, rt.alloc(), &set, a, at);
+        holds!(&rt; set.count() == u64::from(a.count_ones()));
+        holds!(&rt; set.is_empty() == (a == 0));
+        holds!(&rt; is_its_copy(rt.alloc(), &set).expect(&rt, "memory"));
     }
-    Ok(())
 }
 
 #[test]
-fn inserts_and_removals(rt: HostRuntime) -> Result<(), Fail> {
+fn inserts_and_removals(rt: HostRuntime) {
     let mut state = 4u32;
     let mut keys = 0u32;
     let mut set = SpanSet::empty(rt.alloc());
@@ -180,40 +155,36 @@ fn inserts_and_removals(rt: HostRuntime) -> Result<(), Fail> {
         let hi = lo + (state >> 20) % 6 + 1;
         let between = between(u64::from(lo), u64::from(hi));
         if state >> 31 == 1 {
-            set.insert(span(&rt, lo, hi))?;
+            set.insert(span(&rt, lo, hi)).expect(&rt, "memory");
             keys |= between;
         } else {
-            set.remove(span(&rt, lo, hi))?;
+            set.remove(span(&rt, lo, hi)).expect(&rt, "memory");
             keys &= !between;
         }
         state = next(state);
-        assert!(rt; mask_of(&set) == keys);
+        holds!(&rt; mask_of(&set) == keys);
     }
-    Ok(())
 }
 
 #[test]
-fn first_keys(rt: HostRuntime) -> Result<(), Fail> {
+fn first_keys(rt: HostRuntime) {
     let mut state = 5u32;
     for _ in 0..ROUNDS {
         let a = mask(state);
         let most = (state >> 28) % 5;
         state = next(state);
-        let set = made(&rt, rt.alloc(), a)?;
+        let set = made(&rt, rt.alloc(), a);
         match set.first_keys(u64::from(most)) {
-            None => assert!(rt; a == 0 || most == 0),
+            None => holds!(&rt; a == 0 || most == 0),
             Some(span) => {
-                assert!(rt; span.lo().rank() == u64::from(a.trailing_zeros()));
+                holds!(&rt; span.lo().rank() == u64::from(a.trailing_zeros()));
                 let keys = between(span.lo().rank(), span.hi().rank());
-                assert!(rt; keys & !a == 0);
+                holds!(&rt; keys & !a == 0);
                 let room = span.count() == u64::from(most);
-                assert!(rt;
-                    room || a & between(span.hi().rank(), span.hi().rank().saturating_add(1)) == 0
-                );
+                holds!(&rt; room || a & between(span.hi().rank(), span.hi().rank().saturating_add(1)) == 0);
             }
         }
     }
-    Ok(())
 }
 
 /// Whether the set has, of the keys below a thousand, the first five of each ten below the end.
@@ -227,12 +198,12 @@ fn has_fives(rt: &impl Abort, set: &SpanSet, end: u32) -> bool {
 }
 
 #[test]
-fn look_ups_in_sets_of_each_size(rt: HostRuntime) -> Result<(), Fail> {
+fn look_ups_in_sets_of_each_size(rt: HostRuntime) {
     let mut set = SpanSet::empty(rt.alloc());
-    assert!(rt; has_fives(&rt, &set, 0));
+    holds!(&rt; has_fives(&rt, &set, 0));
     for at in 0..100u32 {
-        set.insert(span(&rt, 10 * at, 10 * at + 5))?;
-        assert!(rt; has_fives(&rt, &set, 10 * at + 10));
+        set.insert(span(&rt, 10 * at, 10 * at + 5))
+            .expect(&rt, "memory");
+        holds!(&rt; has_fives(&rt, &set, 10 * at + 10));
     }
-    Ok(())
 }

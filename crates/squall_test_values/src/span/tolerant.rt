@@ -28,7 +28,7 @@ fn few(rt: &impl Abort, alloc: Global, from: u64) -> Result<SpanSet, AllocError>
 fn tolerant_of(rt: HostRuntime) {
     let span = span(&rt, 3, 9);
     if let Ok(set) = SpanSet::of(rt.alloc(), &span) {
-        assert!(rt; set.spans() == [span].as_slice());
+        holds!(&rt; set.spans() == [span].as_slice());
     }
 }
 
@@ -40,10 +40,10 @@ fn tolerant_insert(rt: HostRuntime) -> Result<(), Fail> {
             return Ok(());
         };
         if set.insert(span(&rt, 10 * place, 10 * place + 5)).is_err() {
-            assert!(rt; set == before);
+            holds!(&rt; set == before);
             return Ok(());
         }
-        assert!(rt; set.covers(&before) && !before.covers(&set));
+        holds!(&rt; set.covers(&before) && !before.covers(&set));
     }
     Ok(())
 }
@@ -51,22 +51,22 @@ fn tolerant_insert(rt: HostRuntime) -> Result<(), Fail> {
 /// The set is still that of a few spans from the key on. It looks only if no allocation fails.
 fn is_few(rt: &impl Abort, alloc: Global, set: &SpanSet, from: u64) {
     if let Ok(before) = few(rt, alloc, from) {
-        assert!(rt; *set == before);
+        holds!(rt; *set == before);
     }
 }
 
 /// The set has `count` keys, if no allocation failed.
 fn has_count(rt: &impl Abort, made: Result<SpanSet, AllocError>, count: u64) {
     if let Ok(set) = made {
-        assert!(rt; set.count() == count);
+        holds!(rt; set.count() == count);
     }
 }
 
 /// Splits the set of a few spans.
 fn split_few(rt: &impl Abort, alloc: Global, set: &SpanSet) {
     if let Ok((below, others)) = set.split_at(alloc, bound(rt, 23)) {
-        assert!(rt; below.count() == 15);
-        assert!(rt; others.count() == 21);
+        holds!(rt; below.count() == 15);
+        holds!(rt; others.count() == 21);
     }
 }
 
@@ -106,12 +106,12 @@ fn tolerant_remove(rt: HostRuntime) -> Result<(), Fail> {
             return Ok(());
         };
         if set.remove(span(&rt, 10 * place, 10 * place + 5)).is_err() {
-            assert!(rt; set == before);
+            holds!(&rt; set == before);
             return Ok(());
         }
-        assert!(rt; before.covers(&set) && !set.covers(&before));
+        holds!(&rt; before.covers(&set) && !set.covers(&before));
     }
-    assert!(rt; set.count() == 900);
+    holds!(&rt; set.count() == 900);
     Ok(())
 }
 
@@ -124,7 +124,7 @@ fn tolerant_with_room(rt: HostRuntime) -> Result<(), Fail> {
         Ok(mut ready) => {
             ready.insert(span(&rt, 70, 73));
             ready.remove(span(&rt, 2, 3));
-            assert!(rt; ready.into_set().count() == 38);
+            holds!(&rt; ready.into_set().count() == 38);
         }
         Err(set) => is_few(&rt, rt.alloc(), &set, 0),
     }

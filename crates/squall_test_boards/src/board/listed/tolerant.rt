@@ -9,35 +9,35 @@ use std::test::Fail;
 /// Lists the cells, if no allocation fails.
 fn count_cells(rt: &impl Abort, board: &Board) {
     if let Ok(cells) = board.cells() {
-        assert!(rt; cells.len() == 2);
+        holds!(rt; cells.len() == 2);
     }
 }
 
 /// Lists the cells that the board lends, if no allocation fails.
 fn look_at_lent(rt: &impl Abort, board: &Board) {
     if let Ok(are_wanted) = lends_cells_of_two(board) {
-        assert!(rt; are_wanted);
+        holds!(rt; are_wanted);
     }
 }
 
 /// Lists the openings, if no allocation fails.
 fn count_openings(rt: &impl Abort, board: &Board) {
     if let Ok(openings) = board.openings() {
-        assert!(rt; openings.len() == 1);
+        holds!(rt; openings.len() == 1);
     }
 }
 
 /// Lists the issues, if no allocation fails.
 fn count_issues(rt: &impl Abort, board: &Board) {
     if let Ok(issues) = board.issues() {
-        assert!(rt; issues.len() == 1);
+        holds!(rt; issues.len() == 1);
     }
 }
 
 /// The board is still the full one, if no allocation fails.
 fn is_full(rt: &impl Abort, alloc: Global, board: &Board) {
     if let Some(full) = full(alloc) {
-        assert!(rt; *board == full);
+        holds!(rt; *board == full);
     }
 }
 
@@ -108,7 +108,7 @@ fn put_completion(
     before: &Board,
 ) -> Result<(), Fail> {
     let put = board.put_cell(cell).is_ok();
-    assert!(rt; is_put_or_as_before(board, before, put));
+    holds!(rt; is_put_or_as_before(board, before, put));
     Ok(())
 }
 
@@ -137,7 +137,7 @@ fn give_completion(
     before: &Board,
 ) -> Result<(), Fail> {
     let taken = board.take_cell(cell).is_ok();
-    assert!(rt; is_put_or_as_before(board, before, taken));
+    holds!(rt; is_put_or_as_before(board, before, taken));
     Ok(())
 }
 
