@@ -2,6 +2,7 @@
 
 use crate::conn::Server;
 use crate::fault::{note, say, Done, Fault, Trying};
+use crate::keep_alive::KeepAlive;
 use crate::tls::Peer;
 use std::collections::BTreeMap;
 use std::ffi::OsString;
@@ -31,15 +32,15 @@ impl Args {
         let mut words = words.iter();
         while let Some(word) = words.next() {
             let Some(name) = word.strip_prefix("--") else {
-                return Err(Fault::new(format!("{word} is no option")));
+                return Err(Fault::of_words(format!("{word} is no option")));
             };
             let value = if usage.flags.contains(&name) {
                 String::new()
             } else if usage.options.contains(&name) {
                 let value = words.next();
-                value.ok_or_else(|| Fault::new(format!("--{name} needs a value")))?.clone()
+                value.ok_or_else(|| Fault::of_words(format!("--{name} needs a value")))?.clone()
             } else {
-                return Err(Fault::new(format!("--{name} is not known")));
+                return Err(Fault::of_words(format!("--{name} is not known")));
             };
             pairs.push((name.to_string(), value));
         }
@@ -65,7 +66,7 @@ impl Args {
 
     /// The value, which has to be given.
     pub fn need(&self, name: &str) -> Done<&str> {
-        self.get(name).ok_or_else(|| Fault::new(format!("--{name} is missing")))
+        self.get(name).ok_or_else(|| Fault::of_words(format!("--{name} is missing")))
     }
 
     /// A number in its bounds, or `otherwise` if none is given.
@@ -76,7 +77,7 @@ impl Args {
         let number = value.parse().ok();
         number
             .filter(|number| (least..=most).contains(number))
-            .ok_or_else(|| Fault::new(format!("--{name} {value}: not between {least} and {most}")))
+            .ok_or_else(|| Fault::of_words(format!("--{name} {value}: not between {least} and {most}")))
     }
 
     /// The bytes of the file that an option names.
@@ -100,21 +101,27 @@ impl Args {
 
     /// The partitions of `--part P=HOST:PORT`, without a password.
     pub fn parts(&self) -> Done<BTreeMap<u32, Server>> {
-        let mut parts = BTreeMap::new();
+        let keep_alive = KeepAlive::of(self)?;
+        let mut parts: BTreeMap<u32, Server> = BTreeMap::new();
         for value in self.all("part") {
-            let wrong = || Fault::new(format!("--part {value}: not of the form P=HOST:PORT"));
+            let wrong = || Fault::of_words(format!("--part {value}: not of the form P=HOST:PORT"));
             let (part, addr) = value.split_once('=').ok_or_else(wrong)?;
             let part: u32 = part.parse().map_err(|_| wrong())?;
             if part > 9999 {
-                return Err(Fault::new(format!("--part {value}: a partition is at most 9999")));
+                return Err(Fault::of_words(format!("--part {value}: a partition is at most 9999")));
             }
             let tls = Peer::of(self, "tls-partitions", addr)?;
-            if parts.insert(part, Server { addr: resolve(addr)?, password: None, tls }).is_some() {
-                return Err(Fault::new(format!("--part {part} is given twice")));
+            let server = Server { addr: resolve(addr)?, password: None, tls, keep_alive };
+            if let Some((other, _)) = parts.iter().find(|(_, it)| it.addr == server.addr) {
+                let text = format!("--part {value}: partition {other} has the same address");
+                return Err(Fault::of_words(text));
+            }
+            if parts.insert(part, server).is_some() {
+                return Err(Fault::of_words(format!("--part {part} is given twice")));
             }
         }
         if parts.is_empty() {
-            return Err(Fault::new("--part P=HOST:PORT is missing"));
+            return Err(Fault::of_words("--part P=HOST:PORT is missing"));
         }
         Ok(parts)
     }
@@ -136,17 +143,15 @@ pub fn run(usage: &Usage, program: impl FnOnce(&Args) -> Done<()>) -> ExitCode {
     } else if has(&["--version"]) {
         say(format!("{} {} (squall {})", usage.name, env!("CARGO_PKG_VERSION"), squall::version()))
     } else {
-        let other = |word: OsString| Fault::new(format!("{} is not UTF-8", word.to_string_lossy()));
-        match words.map_err(other).and_then(|words| Args::parse(&words, usage)) {
-            Ok(args) => program(&args),
-            Err(fault) => {
-                note(format!("{}: {fault}; --help shows all options", usage.name));
-                return ExitCode::from(2);
-            }
-        }
+        let other = |word: OsString| Fault::of_words(format!("{} is not UTF-8", word.to_string_lossy()));
+        words.map_err(other).and_then(|words| program(&Args::parse(&words, usage)?))
     };
     match done {
         Ok(()) => ExitCode::SUCCESS,
+        Err(fault) if fault.is_of_words() => {
+            note(format!("{}: {fault}; --help shows all options", usage.name));
+            ExitCode::from(2)
+        }
         Err(fault) => {
             note(format!("{}: {fault}", usage.name));
             ExitCode::FAILURE
@@ -178,7 +183,13 @@ mod tests {
         for words in ["init", "--nothing 1", "--chunk"] {
             assert!(parse(words).is_err(), "{words}");
         }
-        for words in ["--part 1", "--part x=127.0.0.1:1", "--part 10000=127.0.0.1:1", ""] {
+        for words in [
+            "--part 1",
+            "--part x=127.0.0.1:1",
+            "--part 10000=127.0.0.1:1",
+            "",
+            "--part 1=127.0.0.1:1 --part 2=127.0.0.1:1",
+        ] {
             assert!(parse(words).unwrap().parts().is_err(), "{words}");
         }
         assert!(parse("--chunk 0").unwrap().number("chunk", 1, 1, 9).is_err());

@@ -1,6 +1,7 @@
 //! A connection that waits for each answer, for all but the proxy's clients.
 
 use crate::fault::{Done, Fault, Trying};
+use crate::keep_alive::KeepAlive;
 use crate::resp::{push, Scan, Value};
 use crate::tls::{self, Peer};
 use std::io::{Read, Write};
@@ -16,12 +17,14 @@ pub struct Server {
     pub password: Option<String>,
     /// How to connect by TLS, if it needs that.
     pub tls: Option<Peer>,
+    /// When a silent connection is probed.
+    pub keep_alive: KeepAlive,
 }
 
 impl Server {
     /// A server without a password and TLS.
     pub fn plain(addr: SocketAddr) -> Server {
-        Server { addr, password: None, tls: None }
+        Server { addr, password: None, tls: None, keep_alive: KeepAlive::default() }
     }
 }
 
@@ -52,6 +55,7 @@ impl Conn {
         let tcp = TcpStream::connect_timeout(&addr, Duration::from_secs(5))
             .trying(|| format!("to connect to {addr}"))?;
         tcp.set_nodelay(true)?;
+        server.keep_alive.set(&tcp)?;
         tcp.set_read_timeout(Some(PATIENCE))?;
         tcp.set_write_timeout(Some(PATIENCE))?;
         let stream: Box<dyn Stream> = match &server.tls {
@@ -70,6 +74,11 @@ impl Conn {
             conn.ask(&["AUTH", password])?;
         }
         Ok(conn)
+    }
+
+    /// The server's address.
+    pub fn addr(&self) -> SocketAddr {
+        self.addr
     }
 
     /// Puts a command.

@@ -5,7 +5,10 @@ use std::io::{self, Write};
 
 /// Why a program can't go on.
 #[derive(Debug)]
-pub struct Fault(String);
+pub struct Fault {
+    words: String,
+    is_of_words: bool,
+}
 
 /// What is done, or why not.
 pub type Done<T> = Result<T, Fault>;
@@ -13,13 +16,23 @@ pub type Done<T> = Result<T, Fault>;
 impl Fault {
     /// A fault of these words.
     pub fn new(words: impl Into<String>) -> Fault {
-        Fault(words.into())
+        Fault { words: words.into(), is_of_words: false }
+    }
+
+    /// A fault of the command line: what is wrong with its words.
+    pub fn of_words(words: impl Into<String>) -> Fault {
+        Fault { words: words.into(), is_of_words: true }
+    }
+
+    /// Whether it is one of the command line.
+    pub fn is_of_words(&self) -> bool {
+        self.is_of_words
     }
 }
 
 impl fmt::Display for Fault {
     fn fmt(&self, f: &mut fmt::Formatter<'_>) -> fmt::Result {
-        f.write_str(&self.0)
+        f.write_str(&self.words)
     }
 }
 
@@ -27,13 +40,13 @@ impl std::error::Error for Fault {}
 
 impl From<io::Error> for Fault {
     fn from(error: io::Error) -> Fault {
-        Fault(error.to_string())
+        Fault::new(error.to_string())
     }
 }
 
 impl From<squall::Error> for Fault {
     fn from(error: squall::Error) -> Fault {
-        Fault(error.to_string())
+        Fault::new(error.to_string())
     }
 }
 
@@ -59,6 +72,6 @@ pub trait Trying<T> {
 
 impl<T, E: fmt::Display> Trying<T> for Result<T, E> {
     fn trying(self, what: impl FnOnce() -> String) -> Done<T> {
-        self.map_err(|error| Fault(format!("{}: {error}", what())))
+        self.map_err(|error| Fault::new(format!("{}: {error}", what())))
     }
 }

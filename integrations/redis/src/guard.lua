@@ -98,7 +98,7 @@ local function exact(reply, command, key, field)
 end
 
 -- NUMBER PROTO COUNT RANK.. COMMAND..: does a command on keys of these ranks, or says where they are.
-redis.register_function('squall_do', function(_, args)
+local function serve(_, args)
   local course = known()
   if args[1] ~= course.number then
     return refuse('COURSE ' .. course.number)
@@ -112,7 +112,13 @@ redis.register_function('squall_do', function(_, args)
     redis.setresp(3)
   end
   return exact(redis.pcall(unpack(args, first)), args[first], args[first + 1], args[first + 2])
-end)
+end
+
+-- A server refuses a function as it would refuse a command with these flags: one that reads is done also without memory
+-- and disk, and one that needs no memory also without memory.
+redis.register_function('squall_do', serve)
+redis.register_function({ function_name = 'squall_free', flags = { 'allow-oom' }, callback = serve })
+redis.register_function({ function_name = 'squall_read', flags = { 'no-writes' }, callback = serve })
 
 -- NUMBER RANK..: whether all keys of these ranks are here, or where they are. A transaction that watches
 -- squall:number and squall:edge before it asks, and is done, was done while they were here.

@@ -12,11 +12,13 @@ pub mod course;
 pub mod dice;
 pub mod fault;
 pub mod faults;
+pub mod keep_alive;
 pub mod keeper;
 pub mod keymap;
 pub mod mover;
 pub mod proxy;
 pub mod resp;
+pub mod stop;
 pub mod tls;
 
 /// The functions of a partition.

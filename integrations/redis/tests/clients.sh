@@ -235,3 +235,193 @@ test_scripts_in_flight() {
   kill -KILL "$id"
   move 2 old new && [ "$(redis-cli -p "${proxies[1]}" get 600:0)" -eq $((done_once + 1)) ]
 }
+
+# The connections of a program by its process id, with the timers that the system has for them.
+timers() {
+  ss -tnpoH state established | grep "pid=$1,"
+}
+
+# Whether each connection of a program, of which there are so many at least, is probed within that many seconds of silence.
+# One on which bytes are under way has another timer for a moment.
+are_probed() {
+  local id=$1 least=$2 seconds=$3
+  for _ in $(seq 100); do
+    timers "$id" > "$run/timers"
+    [ "$(wc -l < "$run/timers")" -ge "$least" ] \
+      && awk -v most="$seconds" '
+        !match($0, /timer:\(keepalive,[0-9.]+(ms|sec),/) { exit 1 }
+        { left = substr($0, RSTART + 17); if (left ~ /^[0-9]+sec/ && left + 0 > most) exit 1 }' "$run/timers" && return 0
+    sleep 0.1
+  done
+  cat "$run/timers"
+  return 1
+}
+
+# A client that has gone without a word does not keep its place: all connections of proxies, movers and nodes are probed.
+test_keep_alive() {
+  local id node proxy key limits=(--keep-alive 40) mover_words=(--keep-alive 30)
+  command -v ss > /dev/null || { echo "no ss here"; return 1; }
+  deploy || return
+  proxy=${proxies[0]}
+  exec 3<> "/dev/tcp/127.0.0.1/$proxy" || return
+  for key in 1:0 600:0; do redis-cli -p "$proxy" set "$key" x || return; done
+  # A client, two partitions, and two connections to the bus.
+  are_probed "${ids[$proxy]}" 5 40 || return
+  grep -q "127.0.0.1:$proxy " "$run/timers" || { echo "no connection of a client"; return 1; }
+  exec 3>&-
+  launch "$run" node "$bin/squall-redis-node" --first old.json --bus "127.0.0.1:$bus" --board board --keep-alive 20
+  are_probed "$id" 2 20 || return
+  for key in 400:0 401:0 600:0 601:0; do redis-cli -p "$proxy" set "$key" x || return; done
+  # After its first chunks it waits. Of both sources it has two connections, and of the destination two.
+  start_move 2 old new --chunk 1 --pause 600000
+  agrees 3 2 && are_probed "$id" 8 30 || return
+  # Without the option that of Redis counts, and 0 turns it off.
+  limits=(--keep-alive 0)
+  run_proxy 0 env && redis-cli -p "$port" get 1:0 | grep -q x || return
+  timers "${ids[$port]}" > "$run/timers"
+  [ -s "$run/timers" ] && ! grep keepalive "$run/timers" || return
+  limits=()
+  run_proxy 0 env && redis-cli -p "$port" get 1:0 | grep -q x || return
+  timers "${ids[$port]}" > "$run/timers"
+  grep -q 'timer:(keepalive,4min' "$run/timers"
+}
+
+# A wrong word is refused before anything has begun.
+test_wrong_words() {
+  local at option
+  deploy || return
+  redis-cli -p "${proxies[0]}" set 400:0 x || return
+  for option in settle chunk pause keep-alive; do
+    refused "--$option x: not between .*--help" 2 old new "--$option" x || return
+    move 2 old new "--$option" x 2> "$run/said"
+    [ $? -eq 2 ] || { cat "$run/said"; return 1; }
+  done
+  for at in "${servers[@]}"; do redis-cli -p "$at" get squall:number | grep -qx 1 || return; done
+  agrees 1 1 && ! "$bin/squall-redis-proxy" --listen 127.0.0.1:0 --first "$run/old.json" --bus "$bus_at" "${parts[@]}" \
+    --keep-alive 1h 2> "$run/said" || return
+  grep -- "--keep-alive 1h: not between 0 and 32767" "$run/said" || return
+  # One server for two partitions.
+  refused "partition 1 has the same address" 2 old new --part "4=127.0.0.1:${servers[0]}" && refused "is given twice" 2 old new \
+    --part "3=127.0.0.1:1"
+}
+
+# The bytes of slow scripts that count at a key, one after another.
+slow_scripts() {
+  local script='local n = 0 for i = 1, 20000000 do n = n + i end return redis.call("INCR", KEYS[1])'
+  for _ in $(seq "$1"); do
+    printf '*4\r\n$4\r\nEVAL\r\n$%d\r\n%s\r\n$1\r\n1\r\n$3\r\n1:0\r\n' "${#script}" "$script"
+  done
+}
+
+# Whether nothing more comes from the file number of a connection.
+is_closed() {
+  local more status
+  IFS= read -r -t 5 -u "$1" more
+  status=$?
+  # A wait that took too long is above 128.
+  [ "$status" -eq 1 ] && [ -z "$more" ]
+}
+
+# A proxy that is asked to end lets nobody in, and gives the answers to what it was asked before.
+test_proxy_ends_in_order() {
+  local proxy id at
+  deploy || return
+  proxy=${proxies[0]}
+  id=${ids[$proxy]}
+  exec 3<> "/dev/tcp/127.0.0.1/$proxy" 4<> "/dev/tcp/127.0.0.1/$proxy" 5<> "/dev/tcp/127.0.0.1/$proxy" || return
+  printf '*3\r\n$5\r\nBLPOP\r\n$3\r\n2:0\r\n$1\r\n0\r\n' >&5
+  slow_scripts 3 >&3
+  sleep 0.1
+  kill -TERM "$id"
+  for _ in $(seq 50); do is_used "$proxy" || break; sleep 0.01; done
+  ! is_used "$proxy" || { echo "it still lets clients in"; return 1; }
+  for at in 1 2 3; do
+    IFS= read -r -t 20 -u 3 line && [ "$line" = ":$at"$'\r' ] || { echo "answer $at: $line"; return 1; }
+  done
+  for at in 3 4 5; do is_closed "$at" || { echo "connection $at is open"; return 1; }; done
+  exec 3>&- 4>&- 5>&-
+  wait "$id" || { echo "status $?"; return 1; }
+  grep -q "ends; 0 clients wait" "$run"/proxy.* || return
+  # Nobody took it, and it waits for nobody.
+  redis-cli -p "${proxies[1]}" rpush 2:0 x && redis-cli -p "${proxies[1]}" llen 2:0 | grep -qx 1
+}
+
+# A proxy that the system lets open too few files says so at the start, and once when it has none left. It goes on with those
+# whom it has let in, and lets others in when files are free again.
+test_too_few_files() {
+  local proxy log held=() fd
+  deploy || return
+  run_proxy 0 prlimit --nofile=40:40 || return
+  proxy=$port
+  log=$(grep -l "serves at 127.0.0.1:$proxy" "$run"/proxy.*)
+  grep "may need 10[0-9]* open files, and the system allows 40" "$log" || return
+  for _ in $(seq 50); do
+    exec {fd}<> "/dev/tcp/127.0.0.1/$proxy" || return
+    held+=("$fd")
+  done
+  printf '*1\r\n$4\r\nPING\r\n' >&"${held[0]}"
+  IFS= read -r -t 5 -u "${held[0]}" line && [ "$line" = $'+PONG\r' ] || return
+  sleep 0.5
+  [ "$(grep -c 'to accept: Too many open files' "$log")" -eq 1 ] || { cat "$log"; return 1; }
+  for fd in "${held[@]}"; do exec {fd}>&-; done
+  redis-cli -p "$proxy" set 1:0 x | grep -qx OK
+}
+
+# The processor time of a process in hundredths of a second.
+used() {
+  awk '{ print $14 + $15 }' "/proc/$1/stat"
+}
+
+# Clients of a partition that is down wait, and take no processor time from others.
+test_many_wait() {
+  local id proxy held=() fd before alone beside patience=600000
+  deploy || return
+  proxy=${proxies[0]}
+  id=${ids[$proxy]}
+  redis-cli -p "$proxy" set 1:0 x && redis-cli -p "$proxy" set 600:0 x || return
+  before=$(used "$id")
+  redis-benchmark -p "$proxy" -n 40000 -c 10 get 1:0 > "$run/bench" 2>&1 || return
+  alone=$(($(used "$id") - before))
+  stop "${servers[1]}"
+  for _ in $(seq 800); do
+    exec {fd}<> "/dev/tcp/127.0.0.1/$proxy" || return
+    held+=("$fd")
+    printf '*2\r\n$3\r\nGET\r\n$5\r\n600:0\r\n' >&"$fd"
+  done
+  before=$(used "$id")
+  redis-benchmark -p "$proxy" -n 40000 -c 10 get 1:0 > "$run/bench" 2>&1 || return
+  beside=$(($(used "$id") - before))
+  echo "40,000 commands took 0.01 s x $alone alone, and x $beside beside ${#held[@]} that wait"
+  counts="($alone and $beside)"
+  for fd in "${held[@]}"; do exec {fd}>&-; done
+  [ "$beside" -lt $((3 * alone + 30)) ]
+}
+
+# A partition that stops without a word holds its clients up no longer than --answer, and others not at all. Once it goes on,
+# what was not answered was done once or not at all.
+test_silent_partition() {
+  local proxy limits=(--answer 500) patience=1000 id began value
+  deploy || return
+  proxy=${proxies[0]}
+  # Both workers of the proxy are logged in.
+  for _ in 1 2; do redis-cli -p "$proxy" mset 1:0 x 600:0 0 | grep -qx OK || return; done
+  kill -STOP "${ids[${servers[1]}]}"
+  began=$SECONDS
+  launch "$run" silent redis-cli -p "$proxy" incr 600:0
+  sleep 0.1
+  redis-cli -p "$proxy" get 1:0 | grep -qx x || return
+  wait "$id"
+  cat "$run/silent"
+  grep -q "ERR partition 2 did not answer: whether this was done is not known" "$run/silent" && [ $((SECONDS - began)) -lt 10 ] \
+    || return
+  # It is not let in again, since its log-in is not answered.
+  redis-cli -p "$proxy" get 600:0 | grep TRYAGAIN || return
+  kill -CONT "${ids[${servers[1]}]}"
+  for _ in $(seq 100); do
+    value=$(redis-cli -p "$proxy" get 600:0)
+    [[ $value =~ ^[01]$ ]] && return 0
+    sleep 0.05
+  done
+  echo "$value"
+  return 1
+}

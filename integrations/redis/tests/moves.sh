@@ -4,7 +4,7 @@
 
 test_guard() {
   run=$work/guard
-  start_redis && SQUALL_REDIS=127.0.0.1:$port cargo test "${cargo[@]}" --features faults --test guard \
+  start_redis && SQUALL_REDIS=127.0.0.1:$port cargo test "${cargo[@]}" --features faults --test guard --lib \
     -- --ignored --test-threads 1
 }
 
@@ -263,12 +263,15 @@ test_foreign_first() {
 
 # All servers need passwords, and proxies that of a course's users.
 test_passwords() {
-  local at which limits
+  local at which limits began
   deploy || return
   echo operator > "$run/operator"
   echo proxies > "$run/secret"
   for at in "$bus" "${servers[@]}"; do redis-cli -p "$at" config set requirepass operator || return; done
+  # A bus that refuses a mover from the beginning is no fault that passes.
+  began=$SECONDS
   refused "NOAUTH" 2 old new && refused "NOAUTH" 2 old new --password-file "$run/operator" || return
+  [ $((SECONDS - began)) -lt 20 ] || { echo "it took $((SECONDS - began)) s"; return 1; }
   limits=(--bus-password-file "$run/operator" --secret-file "$run/secret")
   for which in 0 1; do
     stop "${proxies[which]}"
@@ -325,4 +328,140 @@ test_deaf_proxies() {
   sleep 0.3
   end_load
   [[ $counts =~ "lost 0 wrong 0" ]] && ! [[ $counts =~ "errors 0" ]]
+}
+
+# A load takes any seed.
+test_largest_seed() {
+  deploy || return
+  start_load 300 --seed 18446744073709551615
+  end_load
+}
+
+# A source sends the names of new keys while a mover reads the others. A server ends a connection that leaves too much of
+# that unread: here 8 MB, and what the system keeps.
+test_news_while_keys_are_read() {
+  local id moving writers=() at redis_words="--enable-debug-command yes"
+  deploy || return
+  # None of these keys moves. Their names are long, so there is much news of few keys.
+  redis-cli -p "${servers[0]}" debug populate 1000000 5 1 || return
+  redis-cli -p "${servers[0]}" config set client-output-buffer-limit "pubsub 8388608 8388608 0" || return
+  redis-cli -p "${proxies[0]}" set 400:0 x || return
+  start_move 2 old new
+  moving=$id
+  until redis-cli -p "${servers[0]}" client list | grep -q 'cmd=scan'; do sleep 0.01; done
+  for at in 1 2 3 4; do
+    launch "$run" "writer.$at" bash -c 'for n in $(seq 9999); do printf "set 5:%s:%05000d x\n" "$0" "$n"; done \
+      | redis-cli -p "$1"' "$at" "${servers[0]}"
+    writers+=("$id")
+  done
+  wait "$moving" || { cat "$run/mover"; return 1; }
+  for id in "${writers[@]}"; do kill "$id"; done 2> /dev/null
+  redis-cli -p "${servers[0]}" dbsize
+  has_moved_one && agrees 3 2
+}
+
+has_moved_one() {
+  [ "$(redis-cli -p "${servers[2]}" exists 400:0)" = 1 ]
+}
+
+# The edges of all moves of a role at some partitions: below each of them keys were given, or loaded.
+edges() {
+  local number=$1 role=$2 at
+  shift 2
+  for at in "$@"; do redis-cli -p "$at" fcall squall_moves 0 "$number"; done | awk -v role="$role" '$3 == role { print $1, $5 }' | sort
+}
+
+# A mover that is asked to end loads what it has given, so no key is left without a partition.
+test_mover_ends_in_order() {
+  local id ends=0
+  deploy || return
+  start_load 20000 --pause 300
+  sleep 0.2
+  while [ "$ends" -lt 5 ]; do
+    start_move 2 old new --pause 10 --chunk 10
+    sleep "0.$((RANDOM % 20 + 12))"
+    kill -TERM "$id"
+    if wait "$id"; then break; fi
+    ends=$((ends + 1))
+    grep "stopped; start it again with the same words" "$run/mover" || { cat "$run/mover"; return 1; }
+    edges 2 out "${servers[@]:0:2}" > "$run/given"
+    edges 2 in "${servers[2]}" | cmp - "$run/given" || return
+  done
+  echo "the mover was ended $ends times"
+  [ "$ends" -gt 0 ] && move 2 old new || return
+  end_load && has_moved && agrees 3 2
+}
+
+# A node that is asked to end writes what it knows. A full disk is said once, and what was written stays.
+test_node_ends_in_order() {
+  local program id node at
+  set_program && deploy || return
+  launch "$run" node "$bin/squall-redis-node" --first old.json --bus "127.0.0.1:$bus" --board board --every 3
+  node=$id
+  until [ -e "$run/board" ]; do sleep 0.02; done
+  ln -s /dev/full "$run/board.new"
+  redis-cli -p "${proxies[0]}" set 400:0 x && cp "$run/board" "$run/before" && move 2 old new && sleep 2.5 || return
+  cmp "$run/board" "$run/before" || return
+  cat "$run/node"
+  [ "$(grep -c 'No space left' "$run/node")" -eq 1 ] || return
+  rm "$run/board.new"
+  for at in $(seq 100); do
+    "$program" status "$run/old.json" "$run/old.json" "$run/board" | grep -q "^course 2 .* 1000/1000" && break
+    sleep 0.05
+  done
+  [ "$at" -lt 100 ] && grep -q "written again" "$run/node" || return
+  kill -TERM "$node"
+  wait "$node" || { echo "status $?"; return 1; }
+  # One that writes seldom writes in the end.
+  launch "$run" node "$bin/squall-redis-node" --first old.json --bus "127.0.0.1:$bus" --board board --every 3600000
+  node=$id
+  sleep 0.3
+  move 3 new old && sleep 0.3 || return
+  ! "$program" status "$run/old.json" "$run/old.json" "$run/board" | grep -q "^course 3 .* 1000/1000" || return
+  kill -TERM "$node"
+  wait "$node" || { echo "status $?"; return 1; }
+  "$program" status "$run/old.json" "$run/old.json" "$run/board" | grep "^course 3 .* 1000/1000"
+}
+
+# Servers that refuse for a while, and a bus that starts anew, end no move.
+test_refusals_that_pass() {
+  local id moving
+  deploy || return
+  start_load 20000 --pause 3000 --tolerant
+  sleep 0.3
+  redis-cli -p "${servers[0]}" config set busy-reply-threshold 20 || return
+  start_move 2 old new --pause 30
+  moving=$id
+  agrees 2 2 900:0 || return
+  redis-cli -p "${servers[2]}" config set maxmemory 1 && sleep 0.6 || return
+  redis-cli -p "${servers[2]}" config set maxmemory 0 || return
+  launch "$run" endless redis-cli -p "${servers[0]}" eval 'while true do end' 0
+  sleep 0.6
+  redis-cli -p "${servers[0]}" script kill || return
+  stop "$bus"
+  sleep 0.3
+  run_redis "$bus" || return
+  kill -0 "$moving" || { cat "$run/mover"; echo "the mover had ended too soon"; return 1; }
+  wait "$moving" || { cat "$run/mover"; return 1; }
+  cat "$run/mover"
+  grep -q "OOM .* tried again" "$run/mover" && grep -q "BUSY .* tried again" "$run/mover" || return
+  end_load && has_moved && agrees 3 2
+}
+
+# While keys move from a server without memory or disk, it does what it would do at rest: it reads, and removes keys.
+test_guard_without_memory() {
+  local id key to
+  deploy || return
+  to=${proxies[0]}
+  for key in 500:0 600:0 601:0 602:0; do redis-cli -p "$to" set "$key" x || return; done
+  # After its first chunks it waits.
+  start_move 2 old new --chunk 1 --pause 600000
+  agrees 3 2 500:0 && sleep 0.1 || return
+  redis-cli -p "${servers[1]}" config set maxmemory 1 || return
+  redis-cli -p "$to" get 600:0 | grep -qx x && redis-cli -p "$to" expire 600:0 100 | grep -qx 1 || return
+  redis-cli -p "$to" del 601:0 | grep -qx 1 && redis-cli -p "$to" set 602:0 y | grep "^OOM" || return
+  redis-cli -p "${servers[1]}" config set maxmemory 0 && redis-cli -p "$to" set 602:0 y | grep -qx OK || return
+  # One that reads alone, as a server does whose disk is full.
+  redis-cli -p "${servers[1]}" replicaof 127.0.0.1 1 || return
+  redis-cli -p "$to" get 602:0 | grep -qx y && redis-cli -p "$to" set 602:0 z | grep "^READONLY"
 }

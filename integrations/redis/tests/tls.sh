@@ -59,7 +59,7 @@ test_tls_refusals() {
   others=("${mover_words[@]}")
   mover_words=(--tls-partitions --tls-bus --tls-ca "$certs/foreign.pem")
   refused "certificate is refused: unable to get local issuer\|certificate is refused: self" 2 old new || return
-  mover_words=("${others[@]}" --part "9=localhost:${servers[0]}")
+  start_redis && mover_words=("${others[@]}" --part "9=localhost:$port") || return
   refused "certificate is refused: hostname mismatch" 2 old new || return
   # Partitions ask for certificates, as Redis does if nothing else is set.
   mover_words=(--tls-partitions --tls-bus --tls-ca "$certs/ca.pem")

@@ -6,6 +6,7 @@ use super::nats_address::Address;
 use crate::args::{resolve, Args};
 use crate::conn::{Conn, Server};
 use crate::fault::Done;
+use crate::keep_alive::KeepAlive;
 use crate::tls::Peer;
 use std::sync::{Mutex, PoisonError};
 
@@ -42,7 +43,8 @@ impl Carrier {
         if let Some(address) = Address::read(addr, name, password.as_deref())? {
             return Nats::new(address, args, hears_all).map(Carrier::Nats);
         }
-        let server = Server { addr: resolve(addr)?, password, tls: Peer::of(args, "tls-bus", addr)? };
+        let (tls, keep_alive) = (Peer::of(args, "tls-bus", addr)?, KeepAlive::of(args)?);
+        let server = Server { addr: resolve(addr)?, password, tls, keep_alive };
         Ok(Carrier::Redis(Redis { server, streams: Streams::new(name), sender: Mutex::new(None) }))
     }
 
@@ -84,12 +86,17 @@ impl Carrier {
 }
 
 impl Redis {
-    fn send(&self, write: impl FnOnce(&Streams, &mut Conn) -> Done<()>) -> Done<()> {
+    /// Writes over the connection that was used last, or over a new one if the server has ended that meanwhile. Frames
+    /// that it had taken are then written twice, which changes nothing.
+    fn send(&self, write: impl Fn(&Streams, &mut Conn) -> Done<()>) -> Done<()> {
         let mut sender = self.sender.lock().unwrap_or_else(PoisonError::into_inner);
-        let mut conn = match sender.take() {
-            Some(conn) => conn,
-            None => Conn::open(&self.server)?,
-        };
+        if let Some(mut conn) = sender.take() {
+            if write(&self.streams, &mut conn).is_ok() {
+                *sender = Some(conn);
+                return Ok(());
+            }
+        }
+        let mut conn = Conn::open(&self.server)?;
         write(&self.streams, &mut conn)?;
         *sender = Some(conn);
         Ok(())

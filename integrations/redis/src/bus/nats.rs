@@ -10,6 +10,7 @@ use super::nats_wire::{Wire, PATIENCE};
 use crate::args::Args;
 use crate::dice::Dice;
 use crate::fault::{note, Done, Fault, Trying};
+use crate::keep_alive::KeepAlive;
 use crate::tls::Peer;
 use std::sync::atomic::{AtomicUsize, Ordering::Relaxed};
 use std::sync::{Arc, Condvar, Mutex, MutexGuard, PoisonError};
@@ -27,6 +28,7 @@ pub struct Nats {
     next: AtomicUsize,
     /// Whether nothing may go in the clear, also if a server would take it.
     is_secure: bool,
+    keep_alive: KeepAlive,
     /// What says who this is, as members of a JSON object.
     login: String,
     frames: String,
@@ -69,7 +71,7 @@ impl Nats {
     ///
     /// # Errors
     ///
-    /// A file of certificates or keys can't be read.
+    /// A file of certificates or keys can't be read, or `--keep-alive` is wrong.
     pub fn new(address: Address, args: &Args, hears_all: bool) -> Done<Nats> {
         let mut dice = Dice::fresh();
         let Address { servers, name, login, is_secure } = address;
@@ -78,6 +80,7 @@ impl Nats {
             servers: servers.into_iter().map(server).collect::<Done<_>>()?,
             next: AtomicUsize::new(0),
             is_secure: is_secure || args.has("tls-bus"),
+            keep_alive: KeepAlive::of(args)?,
             login,
             frames: format!("{name}.frames"),
             digests: format!("{name}.digests"),
@@ -116,7 +119,7 @@ impl Nats {
     }
 
     fn connect<'a>(&'a self, server: &'a Server) -> Done<NatsEars<'a>> {
-        let wire = Arc::new(Wire::connect(&server.addr)?);
+        let wire = Arc::new(Wire::connect(&server.addr, self.keep_alive)?);
         let (parser, heard) = (Parser::default(), Instant::now());
         let mut ears = NatsEars { nats: self, server, wire, parser, heard, is_known: false };
         let most = ears.greet()?;

@@ -1,6 +1,7 @@
 //! A connection to a NATS server, in the clear or by TLS. One thread reads it, and others write.
 
 use crate::fault::{Done, Fault};
+use crate::keep_alive::KeepAlive;
 use crate::tls::{self, Peer};
 use openssl::ssl::{ErrorCode, SslStream};
 use std::collections::VecDeque;
@@ -52,9 +53,10 @@ impl Write for Pipe {
 
 impl Wire {
     /// Connects, in the clear.
-    pub fn connect(addr: &str) -> Done<Wire> {
+    pub fn connect(addr: &str, keep_alive: KeepAlive) -> Done<Wire> {
         let tcp = reach(addr)?;
         tcp.set_nodelay(true)?;
+        keep_alive.set(&tcp)?;
         tcp.set_read_timeout(Some(TURN))?;
         tcp.set_write_timeout(Some(PATIENCE))?;
         Ok(Wire { tcp, tls: Mutex::default() })

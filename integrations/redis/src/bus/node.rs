@@ -7,9 +7,9 @@ use crate::args::Args;
 use crate::course::{Plan, Progress};
 use crate::dice::Dice;
 use crate::fault::{note, Done};
-use crate::faults;
+use crate::{faults, stop};
 use squall::{Course, Error, Router, View};
-use std::sync::atomic::{AtomicU64, Ordering::Relaxed, Ordering::SeqCst};
+use std::sync::atomic::{AtomicBool, AtomicU64, Ordering::Relaxed, Ordering::SeqCst};
 use std::sync::{Arc, Condvar, Mutex, MutexGuard, PoisonError};
 use std::thread;
 use std::time::{Duration, Instant};
@@ -18,6 +18,9 @@ use std::time::{Duration, Instant};
 const ROUND: Duration = Duration::from_secs(1);
 /// Between two digests that are asked for at once.
 const AT_ONCE: Duration = Duration::from_millis(10);
+/// How long a mover bears a bus that takes no report, and the pause before the next try.
+const BORNE: Duration = Duration::from_secs(60);
+const AGAIN: Duration = Duration::from_millis(200);
 /// The longest pause before an answer, in microseconds.
 const PAUSE: u64 = 50_000;
 
@@ -82,6 +85,8 @@ pub struct Node {
     agenda: Mutex<Agenda>,
     speak: Condvar,
     wakers: Mutex<Vec<Box<dyn Fn() + Send>>>,
+    /// Whether the bus has taken anything that a mover had to tell. Until then a fault is no passing one.
+    has_told: AtomicBool,
     /// When a digest was heard last that differs from this node's.
     differed: Mutex<Instant>,
     /// What it has counted.
@@ -112,6 +117,7 @@ impl Node {
             agenda: Mutex::new(Agenda { is_wanted: true, answers: Vec::new() }),
             speak: Condvar::new(),
             wakers: Mutex::default(),
+            has_told: AtomicBool::new(false),
             differed: Mutex::new(Instant::now()),
             counts: Counts::default(),
         });
@@ -190,12 +196,12 @@ impl Node {
         self.speak.notify_one();
     }
 
-    /// Takes a report, and sends it to all nodes.
+    /// Takes a report, and sends it to all nodes. A bus that took one before is asked again for a minute.
     pub fn tell(&self, give: impl FnOnce(&mut Router) -> Result<(), Error>) -> Done<()> {
         self.tell_frames(&outbox::report(give)?)
     }
 
-    /// Takes frames, and sends them to all nodes.
+    /// Takes frames, and sends them to all nodes. A bus that took some before is asked again for a minute.
     pub fn tell_frames(&self, frames: &[Vec<u8>]) -> Done<()> {
         {
             let mut router = lock(&self.router);
@@ -204,7 +210,28 @@ impl Node {
             }
             self.publish(&router)?;
         }
-        self.carrier.write(&self.name, frames, None)
+        let began = Instant::now();
+        let mut is_said = false;
+        loop {
+            match self.carrier.write(&self.name, frames, None) {
+                Err(fault) if self.may_pass() && began.elapsed() < BORNE => {
+                    if !is_said {
+                        note(format!("bus: {fault}; this is tried again for {} s", BORNE.as_secs()));
+                    }
+                    is_said = true;
+                    stop::sleep(AGAIN);
+                }
+                done => {
+                    self.has_told.fetch_or(done.is_ok(), Relaxed);
+                    return done;
+                }
+            }
+        }
+    }
+
+    /// Whether a fault of the bus may pass, and is worth a wait.
+    fn may_pass(&self) -> bool {
+        self.has_told.load(Relaxed) && !stop::is_asked()
     }
 
     /// Frames that the bus takes. If a single report or a digest is too long for it, they are made without a
@@ -232,7 +259,7 @@ impl Node {
         let began = Instant::now();
         let quiet = ROUND + Duration::from_micros(2 * PAUSE);
         *lock(&self.differed) = began;
-        while began.elapsed() < most {
+        while began.elapsed() < most && !stop::is_asked() {
             if lock(&self.differed).elapsed() >= quiet {
                 return true;
             }

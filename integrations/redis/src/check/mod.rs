@@ -65,7 +65,8 @@ pub fn run(args: &Args) -> Done<()> {
 
 /// A proxy of that address.
 fn server(args: &Args, addr: &str) -> Done<Server> {
-    Ok(Server { addr: resolve(addr)?, password: None, tls: Peer::of(args, "tls", addr)? })
+    let server = Server::plain(resolve(addr)?);
+    Ok(Server { tls: Peer::of(args, "tls", addr)?, ..server })
 }
 
 /// The load that the words of the command line ask for.

@@ -51,6 +51,18 @@ impl BoardFile {
         Ok(frames)
     }
 
+    /// The same as `write` if what it holds is new, and else nothing.
+    ///
+    /// # Errors
+    ///
+    /// The system has refused it. The file is as before.
+    pub fn write_if(&self, is_new: bool, frames: &[u8]) -> Done<()> {
+        if is_new {
+            self.write(frames)?;
+        }
+        Ok(())
+    }
+
     /// Writes the frames of a board. If it is ended at any moment, the file holds these or those before.
     ///
     /// # Errors

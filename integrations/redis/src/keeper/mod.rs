@@ -5,10 +5,9 @@ mod file;
 use crate::args::{Args, Usage};
 use crate::bus::{Node, Options};
 use crate::fault::{note, Done};
-use crate::tls;
+use crate::{keep_alive, stop, tls};
 use file::BoardFile;
 use std::sync::mpsc;
-use std::thread;
 use std::time::Duration;
 
 /// What the program is.
@@ -22,6 +21,7 @@ pub const USAGE: Usage = Usage {
         "streams",
         "board",
         "every",
+        keep_alive::OPTION,
         tls::OPTIONS[0],
         tls::OPTIONS[1],
         tls::OPTIONS[2],
@@ -32,7 +32,7 @@ pub const USAGE: Usage = Usage {
 /// The pause after the file could not be written.
 const AGAIN: Duration = Duration::from_secs(1);
 
-/// Runs the program: for ever, unless what it needs is missing.
+/// Runs the program until it is asked to end, unless what it needs is missing.
 pub fn run(args: &Args) -> Done<()> {
     let file = BoardFile::new(args.need("board")?);
     let every = Duration::from_millis(args.number("every", 100, 1, 3_600_000)?);
@@ -42,26 +42,39 @@ pub fn run(args: &Args) -> Done<()> {
     file.write(&known.concat())?;
     let node = Node::join(Options { known, ..options })?;
     let (news, heard) = mpsc::sync_channel(1);
-    node.on_news(move || {
-        // If one waits already, it is as good.
+    // If one waits already, it is as good.
+    let wake = move || {
         let _ = news.try_send(());
-    });
+    };
+    node.on_news(wake.clone());
+    stop::watch(wake)?;
     note(format!("squall-redis-node: keeps {}, course {}", file.path().display(), node.view().0.number()));
-    let mut written = Vec::new();
+    let (mut written, mut said) = (Vec::new(), String::new());
     loop {
+        let is_last = stop::is_asked();
         let board = node.board()?.concat();
-        if board != written {
-            match file.write(&board) {
-                Ok(()) => written = board,
-                Err(fault) => {
-                    note(format!("squall-redis-node: {fault}"));
-                    thread::sleep(AGAIN);
-                    continue;
+        let is_new = board != written;
+        match file.write_if(is_new, &board) {
+            Err(fault) if is_last => return Err(fault),
+            Err(fault) => {
+                // A full disk may stay full for long, and this is said once.
+                let words = fault.to_string();
+                if words != said {
+                    note(format!("squall-redis-node: {words}"));
                 }
+                said = words;
+                stop::sleep(AGAIN);
             }
-            thread::sleep(every);
+            Ok(()) if is_last => return Ok(()),
+            Ok(()) if is_new => {
+                if !said.is_empty() {
+                    note("squall-redis-node: the board is written again");
+                }
+                (written, said) = (board, String::new());
+                stop::sleep(every);
+            }
+            // The node has the other end for ever.
+            Ok(()) => drop(heard.recv()),
         }
-        // The node has the other end for ever.
-        let _ = heard.recv();
     }
 }

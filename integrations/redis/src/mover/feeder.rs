@@ -8,9 +8,9 @@ use crate::conn::Server;
 use crate::course::Move;
 use crate::fault::{Done, Fault};
 use crate::resp::Value;
+use crate::stop;
 use squall::Rank;
 use std::collections::BTreeMap;
-use std::thread;
 use std::time::Duration;
 
 /// What all sources of a course share.
@@ -90,8 +90,9 @@ impl Feeder<'_> {
         if loaded > it.lo {
             self.report(it, it.lo..loaded)?;
         }
+        self.index.listen()?;
         loop {
-            self.index.listen()?;
+            // No new one comes to keys that were given, and those before are known.
             let keys = self.index.take(forgot..loaded);
             self.source.forget(it, &keys, loaded)?;
             self.job.progress.forgot(keys.len());
@@ -99,6 +100,7 @@ impl Feeder<'_> {
             if loaded >= it.hi {
                 return Ok(());
             }
+            stop::check()?;
             loaded = self.chunk(it, loaded)?;
             self.pause()?;
         }
@@ -107,12 +109,12 @@ impl Feeder<'_> {
     /// Waits after a chunk. In a long pause it hears the news.
     fn pause(&mut self) -> Done<()> {
         let mut left = self.job.pause;
-        while left > NEWS {
-            thread::sleep(NEWS);
+        while left > NEWS && !stop::is_asked() {
+            stop::sleep(NEWS);
             left -= NEWS;
             self.index.listen()?;
         }
-        thread::sleep(left);
+        stop::sleep(left);
         Ok(())
     }
 
@@ -128,11 +130,15 @@ impl Feeder<'_> {
             let (block, later) = rest.split_at(self.block.min(rest.len()));
             let bytes = self.copy(block)?;
             self.block = next_block(block.len(), bytes);
-            self.index.listen()?;
+            self.index.keep_up()?;
             rest = later;
         }
         let loaded = self.dest.load(it, hi)?;
         self.report(it, lo..hi)?;
+        if loaded > hi {
+            // Another mover has given and loaded more since: new keys may have come to that before.
+            self.index.listen()?;
+        }
         Ok(loaded)
     }
 
@@ -148,30 +154,34 @@ impl Feeder<'_> {
 
     /// Puts keys where they come to, and says how many bytes their values have. Their clients wait meanwhile.
     fn copy(&mut self, keys: &[Ranked]) -> Done<usize> {
+        loop {
+            if let Some(bytes) = self.try_copy(keys)? {
+                return Ok(bytes);
+            }
+        }
+    }
+
+    /// The same; none if a server refuses for a reason that passes. What was put then is put again.
+    fn try_copy(&mut self, keys: &[Ranked]) -> Done<Option<usize>> {
         for (_, key) in keys {
             self.source.conn.put(&[b"DUMP", key.as_slice()]);
             self.source.conn.put(&[b"PEXPIRETIME", key.as_slice()]);
         }
         let said = self.source.conn.hear_all(2 * keys.len())?;
+        if !self.source.accepts(&said)? {
+            return Ok(None);
+        }
         let (mut count, mut bytes) = (0, 0);
         for ((rank, key), said) in keys.iter().zip(said.chunks(2)) {
-            match dumped(said) {
-                Ok(Some((dump, ends))) => {
-                    self.dest.put(key, *rank, ends, dump);
-                    bytes += dump.len();
-                }
-                Ok(None) => continue,
-                Err(Some(error)) => return Err(self.source.explain(error)),
-                Err(None) => return Err(Fault::new("a dump of another form")),
-            }
-            count += 1;
-        }
-        for answer in self.dest.conn.hear_all(count)? {
-            if let Value::Error(error) = answer {
-                return Err(self.dest.explain(&error));
+            let dumped = dumped(said).ok_or_else(|| Fault::new("a dump of another form"))?;
+            if let Some((dump, ends)) = dumped {
+                self.dest.put(key, *rank, ends, dump);
+                bytes += dump.len();
+                count += 1;
             }
         }
-        Ok(bytes)
+        let said = self.dest.conn.hear_all(count)?;
+        Ok(self.dest.accepts(&said)?.then_some(bytes))
     }
 }
 
@@ -180,14 +190,13 @@ fn next_block(count: usize, bytes: usize) -> usize {
     (BYTES * count / bytes.max(1)).clamp(1, BLOCK.min(2 * count))
 }
 
-/// What a source has said of a key: its dump, and when it ends. None if the key has ended, was deleted, or
-/// another mover has loaded it and forgotten it here. A large value may end while it is dumped.
-fn dumped(said: &[Value]) -> Result<Option<(&[u8], i64)>, Option<&str>> {
+/// What a source has said of a key: its dump, and when it ends. None in it if the key has ended, was deleted, or
+/// another mover has loaded it and forgotten it here. A large value may end while it is dumped. None if it is no dump.
+fn dumped(said: &[Value]) -> Option<Option<(&[u8], i64)>> {
     match said {
-        [Value::Nil, _] | [Value::Bulk(_), Value::Int(GONE)] => Ok(None),
-        [Value::Bulk(dump), Value::Int(ends)] => Ok(Some((dump, *ends))),
-        [Value::Error(error), _] | [_, Value::Error(error)] => Err(Some(error)),
-        _ => Err(None),
+        [Value::Nil, _] | [Value::Bulk(_), Value::Int(GONE)] => Some(None),
+        [Value::Bulk(dump), Value::Int(ends)] => Some(Some((dump, *ends))),
+        _ => None,
     }
 }
 
@@ -205,12 +214,11 @@ mod tests {
     #[test]
     fn keys_that_have_ended_are_not_put() {
         let dump = || Value::Bulk(b"x".to_vec());
-        assert_eq!(dumped(&[dump(), Value::Int(-1)]), Ok(Some((&b"x"[..], -1))));
-        assert_eq!(dumped(&[dump(), Value::Int(7)]), Ok(Some((&b"x"[..], 7))));
+        assert_eq!(dumped(&[dump(), Value::Int(-1)]), Some(Some((&b"x"[..], -1))));
+        assert_eq!(dumped(&[dump(), Value::Int(7)]), Some(Some((&b"x"[..], 7))));
         // Without an end it would be put for ever.
-        assert_eq!(dumped(&[dump(), Value::Int(-2)]), Ok(None));
-        assert_eq!(dumped(&[Value::Nil, Value::Int(-2)]), Ok(None));
-        assert_eq!(dumped(&[dump(), Value::Error("no".into())]), Err(Some("no")));
-        assert_eq!(dumped(&[Value::Int(1), Value::Int(1)]), Err(None));
+        assert_eq!(dumped(&[dump(), Value::Int(-2)]), Some(None));
+        assert_eq!(dumped(&[Value::Nil, Value::Int(-2)]), Some(None));
+        assert_eq!(dumped(&[Value::Int(1), Value::Int(1)]), None);
     }
 }

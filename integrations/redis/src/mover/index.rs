@@ -1,17 +1,27 @@
 //! Which keys of a source move.
 
+use super::patience::Patience;
 use crate::conn::{Conn, Server};
 use crate::course::Move;
 use crate::fault::{Done, Fault};
 use crate::faults;
 use crate::keymap;
 use crate::resp::Value;
+use crate::stop;
 use squall::Rank;
 use std::collections::{BTreeMap, BTreeSet};
 use std::ops::Range;
+use std::time::{Duration, Instant};
 
 /// A Redis key and the rank of its key.
 pub type Ranked = (Rank, Vec<u8>);
+
+/// How long the news of new keys may wait to be heard while others are copied: a server ends a connection that leaves too
+/// much unread.
+const LATE: Duration = Duration::from_millis(20);
+
+/// How many keys a server looks at in one step of a scan. Its clients wait meanwhile, for some 0.1 ms.
+const PAGE: &str = "100";
 
 /// The Redis keys of a source that move in a sub-plan, by rank.
 ///
@@ -19,6 +29,8 @@ pub type Ranked = (Rank, Vec<u8>);
 /// asked for these before the scan began, so none is missed.
 pub struct Index {
     news: Conn,
+    heard: Instant,
+    patience: Patience,
     keys: BTreeMap<Rank, BTreeSet<Vec<u8>>>,
     count: usize,
     spans: Vec<Range<Rank>>,
@@ -32,6 +44,8 @@ impl Index {
         news.ask(&["SUBSCRIBE", "__keyevent@0__:new"])?;
         let mut index = Index {
             news,
+            heard: Instant::now(),
+            patience: Patience::default(),
             keys: BTreeMap::new(),
             count: 0,
             spans: moves.iter().map(|it| it.lo..it.hi).collect(),
@@ -39,8 +53,10 @@ impl Index {
         // A server ends a connection that leaves too much of its news unread.
         scan(&mut Conn::open(server)?, |keys| {
             keys.into_iter().for_each(|key| index.add(key));
-            index.listen()
+            stop::check()?;
+            index.keep_up()
         })?;
+        index.listen()?;
         Ok(index)
     }
 
@@ -52,16 +68,35 @@ impl Index {
         }
     }
 
+    /// The same as `listen`, if that was long ago.
+    pub fn keep_up(&mut self) -> Done<()> {
+        if self.heard.elapsed() < LATE {
+            return Ok(());
+        }
+        self.listen()
+    }
+
     /// Adds all keys that were new before this call.
     pub fn listen(&mut self) -> Done<()> {
         self.news.put(&["PING"]);
         self.news.flush()?;
         loop {
-            let mut said = self.news.hear()?.list();
+            let mut said = match self.news.hear()? {
+                Value::Error(error) if self.patience.bears(&self.news, &error) => {
+                    self.news.put(&["PING"]);
+                    self.news.flush()?;
+                    continue;
+                }
+                said => said.list(),
+            };
             match (said.pop(), said.len()) {
                 (Some(Value::Bulk(key)), 2) if !faults::is_on("miss-new-keys") => self.add(key),
                 (Some(_), 2) => {}
-                (Some(_), 1) => return Ok(()),
+                (Some(_), 1) => {
+                    self.patience.end();
+                    self.heard = Instant::now();
+                    return Ok(());
+                }
                 _ => return Err(Fault::new("the source sends no news of new keys")),
             }
         }
@@ -123,8 +158,12 @@ fn want_news(conn: &mut Conn) -> Done<()> {
 /// Calls the function with the Redis keys of a server, page by page.
 pub fn scan(conn: &mut Conn, mut found: impl FnMut(Vec<Vec<u8>>) -> Done<()>) -> Done<()> {
     let mut cursor = "0".to_string();
+    let mut patience = Patience::default();
     loop {
-        let mut page = conn.ask(&["SCAN", &cursor, "COUNT", "1000"])?.list();
+        let mut page = match patience.ask(conn, &["SCAN", &cursor, "COUNT", PAGE])? {
+            Value::Error(error) => return Err(Fault::new(format!("{}: {error}", conn.addr()))),
+            page => page.list(),
+        };
         let keys = page.pop().map_or(Vec::new(), Value::list);
         cursor = page.pop().map_or("0".to_string(), Value::text);
         found(keys.into_iter().map(Value::bytes).collect())?;

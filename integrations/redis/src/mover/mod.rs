@@ -3,6 +3,7 @@
 mod feeder;
 mod index;
 mod partition;
+mod patience;
 mod progress;
 
 use crate::args::{Args, Usage};
@@ -10,7 +11,7 @@ use crate::bus::{Node, Options};
 use crate::conn::{Conn, Server};
 use crate::course::{self, Move, Plan};
 use crate::fault::{note, say, Done, Fault};
-use crate::{faults, keymap, tls, DEFAULT_SECRET};
+use crate::{faults, keep_alive, keymap, stop, tls, DEFAULT_SECRET};
 pub use index::is_own;
 
 use feeder::Job;
@@ -38,6 +39,7 @@ pub const USAGE: Usage = Usage {
         "chunk",
         "pause",
         "settle",
+        keep_alive::OPTION,
         tls::OPTIONS[0],
         tls::OPTIONS[1],
         tls::OPTIONS[2],
@@ -116,6 +118,7 @@ impl Mover {
             pause: Duration::from_millis(args.number("pause", 5, 0, 3_600_000)?),
         };
         let settle = Duration::from_millis(args.number("settle", 10_000, 0, 3_600_000)?);
+        stop::watch(|| ())?;
         self.begin()?;
         bus.tell_frames(std::slice::from_ref(&self.issue))?;
         thread::sleep(NOTICE);

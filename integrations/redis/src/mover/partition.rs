@@ -1,5 +1,6 @@
 //! What a mover asks of one partition.
 
+use super::patience::Patience;
 use crate::conn::{Conn, Server};
 use crate::course::Move;
 use crate::fault::{Done, Fault, Trying};
@@ -42,6 +43,9 @@ const RIGHTS: &[&str] = &[
     "+script|load",
 ];
 
+/// How many keys are unlinked at once.
+const UNLINKED: usize = 256;
+
 /// A partition, as its operator.
 pub struct Partition {
     /// Its number.
@@ -50,6 +54,8 @@ pub struct Partition {
     pub conn: Conn,
     /// The course's number.
     number: String,
+    /// How long it has refused.
+    patience: Patience,
 }
 
 /// A course, as it begins at one partition.
@@ -76,7 +82,7 @@ impl Partition {
     /// Connects, for the course of that number.
     pub fn open(part: u32, server: &Server, number: u32) -> Done<Partition> {
         let conn = Conn::open(server).trying(|| format!("partition {part}"))?;
-        Ok(Partition { part, conn, number: number.to_string() })
+        Ok(Partition { part, conn, number: number.to_string(), patience: Patience::default() })
     }
 
     /// Loads the functions that make it a partition.
@@ -202,11 +208,11 @@ impl Partition {
     /// Unlinks keys that were given and loaded, and then has forgotten all below the edge.
     pub fn forget(&mut self, it: &Move, keys: &[Vec<u8>], edge: Rank) -> Done<()> {
         let lo = hex(it.lo);
-        let blocks: Vec<&[Vec<u8>]> = keys.chunks(256).collect();
-        for block in &blocks {
+        let (first, last) = keys.split_at(keys.len() - keys.len() % UNLINKED);
+        for block in first.chunks(UNLINKED) {
             self.call_forget(&lo, block, &lo)?;
         }
-        self.call_forget(&lo, &[], &hex(edge))
+        self.call_forget(&lo, last, &hex(edge))
     }
 
     fn call_forget(&mut self, lo: &str, keys: &[Vec<u8>], edge: &str) -> Done<()> {
@@ -227,11 +233,27 @@ impl Partition {
         self.conn.put(&[head, rest].concat());
     }
 
-    /// Asks, and explains what is refused.
+    /// Whether answers are no refusals. If one passes, all of it is to be tried again.
+    ///
+    /// # Errors
+    ///
+    /// One is a refusal that does not pass.
+    pub fn accepts(&mut self, answers: &[Value]) -> Done<bool> {
+        let refusal = answers.iter().find_map(|answer| match answer {
+            Value::Error(error) => Some(error),
+            _ => None,
+        });
+        match refusal {
+            None => self.patience.end(),
+            Some(error) if self.patience.bears(&self.conn, error) => {}
+            Some(error) => return Err(self.explain(error)),
+        }
+        Ok(refusal.is_none())
+    }
+
+    /// Asks, also again if a refusal passes, and explains one that does not.
     pub fn ask<W: AsRef<[u8]>>(&mut self, words: &[W]) -> Done<Value> {
-        self.conn.put(words);
-        self.conn.flush()?;
-        match self.conn.hear()? {
+        match self.patience.ask(&mut self.conn, words)? {
             Value::Error(text) => Err(self.explain(&text)),
             value => Ok(value),
         }

@@ -4,7 +4,7 @@
 //! connection, subscriptions, the administration of a server, and those whose keys are found in another
 //! way. `MOVE` would take a key to a database that no mover knows.
 
-use super::table::COMMANDS;
+use super::table::{Effect, COMMANDS, FREES, READS};
 
 /// The places of a command's keys, as indices of its words.
 #[derive(Clone, Copy, Debug, PartialEq)]
@@ -146,6 +146,27 @@ impl Command {
     /// Whether it waits for a key.
     pub fn waits(&self) -> bool {
         self.kind == Kind::Blocking
+    }
+
+    /// What it does to the data of a server.
+    pub fn effect(&self) -> Effect {
+        if READS.binary_search(&self.name).is_ok() {
+            Effect::Reads
+        } else if FREES.binary_search(&self.name).is_ok() {
+            Effect::Frees
+        } else {
+            Effect::Grows
+        }
+    }
+
+    /// The function of a partition that does it by a guard. A server without memory or disk refuses a function where it
+    /// would refuse the command.
+    pub fn function(&self) -> &'static str {
+        match self.effect() {
+            Effect::Reads => "squall_read",
+            Effect::Frees => "squall_free",
+            Effect::Grows => "squall_do",
+        }
     }
 
     /// The index of the word that says how long a command of `count` words waits.

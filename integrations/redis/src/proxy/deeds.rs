@@ -234,9 +234,9 @@ impl Worker {
                 None
             }
             Deed::Scan(cursor) if reply.first() != Some(&b'-') => {
-                let is_known = self.view.number() == number;
-                let view = &self.view;
                 let ground = self.ground()?;
+                let (it, view) = (&self.upstreams[at], &self.view);
+                let is_known = view.number() == number;
                 let route = |rank| if is_known { view.route(rank) } else { Some(part) };
                 let answer = cursor.answer(reply, it, route, &ground);
                 let large = || error("ERR the partition's cursor is too large");

@@ -4,11 +4,12 @@ use super::counts::{add_kinds, add_waits, sum, Counts};
 use crate::bus::Node;
 use crate::conn::Server;
 use crate::fault::Done;
+use crate::keep_alive::KeepAlive;
 use crate::tls::Acceptor;
 use mio::net::TcpStream;
 use std::collections::BTreeMap;
 use std::fmt::Write as _;
-use std::sync::atomic::{AtomicU64, AtomicUsize, Ordering::Relaxed};
+use std::sync::atomic::{AtomicBool, AtomicU64, AtomicUsize, Ordering::Relaxed};
 use std::sync::{Arc, Mutex};
 use std::time::{Duration, Instant};
 
@@ -28,10 +29,14 @@ pub struct Shared {
     pub wait: Duration,
     /// How long a partition may take for an answer.
     pub answer: Duration,
+    /// When a client that is silent is probed.
+    pub keep_alive: KeepAlive,
     /// How many bytes a client may hold.
     pub memory: usize,
     /// How many clients there are.
     pub clients: AtomicUsize,
+    /// Whether the proxy ends.
+    pub is_ending: AtomicBool,
     /// Clients that have come, for each worker.
     pub arrivals: Vec<Mutex<Vec<TcpStream>>>,
     /// What each worker has counted.

@@ -4,6 +4,7 @@ mod client;
 mod commands;
 mod counts;
 mod deeds;
+mod files;
 mod follow;
 mod http;
 mod link;
@@ -25,13 +26,15 @@ use crate::args::{Args, Usage};
 use crate::bus::{Node, Options};
 use crate::course::Plan;
 use crate::fault::{note, Done, Fault, Trying};
+use crate::keep_alive::{self, KeepAlive};
 use crate::tls::{self, Acceptor};
-use crate::DEFAULT_SECRET;
+use crate::{stop, DEFAULT_SECRET};
 use metrics::Shared;
 use mio::{Poll, Waker};
+use socket2::SockRef;
 use std::io::Write;
-use std::net::{TcpListener, TcpStream};
-use std::sync::atomic::{AtomicUsize, Ordering::SeqCst};
+use std::net::{Shutdown, TcpListener, TcpStream};
+use std::sync::atomic::{AtomicBool, AtomicUsize, Ordering::SeqCst};
 use std::sync::{Arc, Mutex, PoisonError};
 use std::thread;
 use std::time::{Duration, Instant};
@@ -54,6 +57,7 @@ pub const USAGE: Usage = Usage {
         "answer",
         "clients",
         "client-memory",
+        keep_alive::OPTION,
         "metrics",
         "program",
         "tls-cert",
@@ -66,7 +70,12 @@ pub const USAGE: Usage = Usage {
     flags: &tls::FLAGS,
 };
 
-/// Runs the program.
+/// How long clients may take for their last answers, once the program is asked to end.
+const GRACE: Duration = Duration::from_secs(10);
+/// Open files beside those of clients and of partitions.
+const FILES: usize = 64;
+
+/// Runs the program until it is asked to end.
 pub fn run(args: &Args) -> Done<()> {
     let listen = args.need("listen")?;
     let listener = TcpListener::bind(listen).trying(|| format!("--listen {listen}"))?;
@@ -80,9 +89,39 @@ pub fn run(args: &Args) -> Done<()> {
         thread::spawn(move || http::serve(&listener, &Arc::new(page)));
     }
     let most = args.number("clients", 10_000, 1, 1_000_000)? as usize;
-    let wakers = start(&shared)?;
+    let listener = Arc::new(listener);
+    let wakers = Arc::new(start(&shared)?);
+    let files = most + shared.parts.len() * threads * 2 + FILES;
+    files::warn(files);
     note(format!("squall-redis-proxy: serves at {}", listener.local_addr()?));
-    accept(&listener, &shared, &wakers, most)
+    stop::watch(|| ())?;
+    let all = (listener.clone(), shared.clone(), wakers.clone());
+    thread::spawn(move || {
+        let (listener, shared, wakers) = all;
+        if let Err(fault) = accept(&listener, &shared, &wakers, most) {
+            note(format!("squall-redis-proxy: {fault}"));
+            std::process::exit(1);
+        }
+    });
+    stop::wait();
+    end(&listener, &shared, &wakers);
+    Ok(())
+}
+
+/// Lets no client in any more, gives those that are there the answers to what they have sent, and closes them.
+fn end(listener: &TcpListener, shared: &Shared, wakers: &[Arc<Waker>]) {
+    shared.is_ending.store(true, SeqCst);
+    // Nobody is let in any more, also if this fails.
+    let _ = SockRef::from(listener).shutdown(Shutdown::Both);
+    for waker in wakers {
+        let _ = waker.wake();
+    }
+    let began = Instant::now();
+    while shared.clients.load(SeqCst) > 0 && began.elapsed() < GRACE {
+        thread::sleep(Duration::from_millis(5));
+    }
+    let left = shared.clients.load(SeqCst);
+    note(format!("squall-redis-proxy: ends; {left} clients wait for answers"));
 }
 
 fn share(args: &Args, threads: usize) -> Done<Shared> {
@@ -95,8 +134,10 @@ fn share(args: &Args, threads: usize) -> Done<Shared> {
         secret: args.password("secret-file")?.unwrap_or(DEFAULT_SECRET.into()),
         wait: Duration::from_millis(args.number("wait", 5000, 1, 3_600_000)?),
         answer: Duration::from_millis(args.number("answer", 60_000, 1, 3_600_000)?),
+        keep_alive: KeepAlive::of(args)?,
         memory: args.number("client-memory", 64, 1, 4096)? as usize * (1 << 20),
         clients: AtomicUsize::new(0),
+        is_ending: AtomicBool::new(false),
         arrivals: (0..threads).map(|_| Mutex::default()).collect(),
         counts: (0..threads).map(|_| counts::Counts::default()).collect(),
         began: Instant::now(),
@@ -124,14 +165,21 @@ fn start(shared: &Arc<Shared>) -> Done<Vec<Arc<Waker>>> {
     Ok(wakers)
 }
 
-/// Gives clients to the workers in turn, for ever.
+/// Gives clients to the workers in turn, until the program is asked to end.
 fn accept(listener: &TcpListener, shared: &Shared, wakers: &[Arc<Waker>], most: usize) -> Done<()> {
     let mut next = 0;
-    loop {
+    let mut said = String::new();
+    while !shared.is_ending.load(SeqCst) {
         let mut stream: TcpStream = match listener.accept() {
             Ok((stream, _)) => stream,
+            Err(_) if shared.is_ending.load(SeqCst) => break,
             Err(error) => {
-                note(format!("squall-redis-proxy: to accept: {error}"));
+                // With too many open files it fails for long, and this is said once.
+                let words = error.to_string();
+                if words != said {
+                    note(format!("squall-redis-proxy: to accept: {words}"));
+                }
+                said = words;
                 thread::sleep(Duration::from_millis(100));
                 continue;
             }
@@ -140,7 +188,7 @@ fn accept(listener: &TcpListener, shared: &Shared, wakers: &[Arc<Waker>], most: 
             let _ = stream.write_all(b"-ERR max number of clients reached\r\n");
             continue;
         }
-        let Ok(stream) = ready_stream(stream) else {
+        let Ok(stream) = ready_stream(stream, shared.keep_alive) else {
             continue;
         };
         shared.clients.fetch_add(1, SeqCst);
@@ -149,4 +197,5 @@ fn accept(listener: &TcpListener, shared: &Shared, wakers: &[Arc<Waker>], most: 
         wakers[next].wake().map_err(|error| Fault::new(error.to_string()))?;
         next = (next + 1) % wakers.len();
     }
+    Ok(())
 }

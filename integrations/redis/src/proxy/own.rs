@@ -9,6 +9,7 @@ use super::upstream::{Own, State, Upstream};
 use super::worker::Worker;
 use crate::resp::{error, push};
 use std::sync::atomic::Ordering::Relaxed;
+use std::sync::Arc;
 
 /// No more connections to a partition are kept that no client has.
 const MOST_SPARE: usize = 16;
@@ -255,10 +256,17 @@ impl Worker {
         (!may_repeat).then(|| Outcome::Answer(unknown(part)))
     }
 
-    /// The course, if it is that of the view.
-    pub(super) fn ground(&self) -> Option<Ground> {
+    /// The course, if it is that of the view. It is found once for each view: that looks at each move.
+    pub(super) fn ground(&mut self) -> Option<Arc<Ground>> {
+        if let Some((_, ground)) = self.ground.as_ref().filter(|&&(views, _)| views == self.views) {
+            return Some(ground.clone());
+        }
         let (course, progress) = self.shared.node.course().ok()?;
-        let is_quiet = progress.loaded == progress.moving;
-        (course.number() == self.view.number()).then(|| Ground::of(&course, is_quiet))
+        if course.number() != self.view.number() {
+            return None;
+        }
+        let ground = Arc::new(Ground::of(&course, progress.loaded == progress.moving));
+        self.ground = Some((self.views, ground.clone()));
+        Some(ground)
     }
 }

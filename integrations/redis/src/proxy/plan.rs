@@ -137,7 +137,7 @@ impl Plan {
             .into_iter()
             .chain(ranks.iter().map(|&rank| keymap::hex(rank)))
             .collect();
-        let mut all: Vec<&[u8]> = vec![b"FCALL", b"squall_do", b"0"];
+        let mut all: Vec<&[u8]> = vec![b"FCALL", self.command().function().as_bytes(), b"0"];
         all.extend(texts.iter().map(|text| text.as_bytes()));
         match self {
             Plan::Parts(_, _, parts) => all.extend(part_words(&parts[part], words)),
@@ -227,7 +227,7 @@ mod tests {
             plan.put(&mut plain, 0, words, len);
             assert_eq!(plain, words.bytes);
             plan.put_guarded(&mut guarded, 0, words, (5, true));
-            let all = ["FCALL", "squall_do", "0", "5", "3", "1", "0000000200000007", "GET", "2:7"];
+            let all = ["FCALL", "squall_read", "0", "5", "3", "1", "0000000200000007", "GET", "2:7"];
             push(&mut wanted, &all);
             assert_eq!(guarded, wanted);
         });

@@ -53,6 +53,7 @@ impl Socket {
         let stream = TcpStream::connect(server.addr)?;
         // It may refuse this until it is connected; `receive` is called then.
         let _ = stream.set_nodelay(true);
+        server.keep_alive.set(&stream)?;
         Ok(match &server.tls {
             Some(peer) => Session::of(peer.begin(stream)?),
             None => Socket::Plain(stream),

@@ -2,6 +2,39 @@
 
 use super::commands::{row, Command, Guard, Keys, Kind, Split};
 
+/// What a command does to the data of a server.
+#[derive(Clone, Copy, Debug, PartialEq)]
+pub enum Effect {
+    /// It reads. Any server does it that has its data.
+    Reads,
+    /// It changes keys, and needs no memory.
+    Frees,
+    /// It may need memory.
+    Grows,
+}
+
+/// The commands that only read, by name. `PFCOUNT` is none: it may keep its count.
+#[rustfmt::skip]
+pub const READS: &[&str] = &[
+    "BITCOUNT", "BITPOS", "DUMP", "EXISTS", "EXPIRETIME", "GEODIST", "GEOHASH", "GEOPOS", "GEORADIUSBYMEMBER_RO",
+    "GEORADIUS_RO", "GEOSEARCH", "GET", "GETBIT", "GETRANGE", "HEXISTS", "HGET", "HGETALL", "HKEYS", "HLEN",
+    "HMGET", "HRANDFIELD", "HSCAN", "HSTRLEN", "HVALS", "LCS", "LINDEX", "LLEN", "LPOS", "LRANGE", "MEMORY", "MGET",
+    "OBJECT", "PEXPIRETIME", "PTTL", "SCARD", "SDIFF", "SINTER", "SINTERCARD", "SISMEMBER", "SMEMBERS",
+    "SMISMEMBER", "SRANDMEMBER", "SSCAN", "STRLEN", "SUBSTR", "SUNION", "TOUCH", "TTL", "TYPE", "XINFO", "XLEN",
+    "XPENDING", "XRANGE", "XREVRANGE", "ZCARD", "ZCOUNT", "ZDIFF", "ZINTER", "ZINTERCARD", "ZLEXCOUNT", "ZMSCORE",
+    "ZRANDMEMBER", "ZRANGE", "ZRANGEBYLEX", "ZRANGEBYSCORE", "ZRANK", "ZREVRANGE", "ZREVRANGEBYLEX",
+    "ZREVRANGEBYSCORE", "ZREVRANK", "ZSCAN", "ZSCORE", "ZUNION",
+];
+
+/// Those that change keys and that a server without memory does, by name.
+#[rustfmt::skip]
+pub const FREES: &[&str] = &[
+    "DEL", "EXPIRE", "EXPIREAT", "GETDEL", "GETEX", "HDEL", "LMPOP", "LPOP", "LREM", "LTRIM", "PERSIST", "PEXPIRE",
+    "PEXPIREAT", "PFCOUNT", "RENAME", "RENAMENX", "RPOP", "SMOVE", "SPOP", "SREM", "UNLINK", "XACK", "XAUTOCLAIM",
+    "XCLAIM", "XDEL", "XTRIM", "ZMPOP", "ZPOPMAX", "ZPOPMIN", "ZREM", "ZREMRANGEBYLEX", "ZREMRANGEBYRANK",
+    "ZREMRANGEBYSCORE",
+];
+
 /// All commands, by name.
 #[rustfmt::skip]
 pub const COMMANDS: &[Command] = &[
@@ -175,3 +208,50 @@ pub const COMMANDS: &[Command] = &[
     row("ZUNION", Kind::SortedSet, Keys::Counted(1), Guard::Both, None),
     row("ZUNIONSTORE", Kind::SortedSet, Keys::Counted(2), Guard::Both, None),
 ];
+
+#[cfg(test)]
+mod tests {
+    use super::super::commands::Guard;
+    use super::*;
+    use crate::conn::{Conn, Server};
+    use crate::resp::Value;
+
+    #[test]
+    fn names_are_in_order() {
+        for names in [READS, FREES] {
+            assert!(names.windows(2).all(|two| two[0] < two[1]));
+        }
+    }
+
+    /// What a server says that the command of a row does.
+    fn said(conn: &mut Conn, name: &str) -> Effect {
+        let name = match name {
+            "MEMORY" => "MEMORY|USAGE",
+            "OBJECT" => "OBJECT|ENCODING",
+            "XGROUP" => "XGROUP|CREATE",
+            "XINFO" => "XINFO|STREAM",
+            name => name,
+        };
+        let info =
+            conn.ask(&["COMMAND", "INFO", name]).unwrap().list().remove(0).list().swap_remove(2).list();
+        let flags: Vec<String> = info.into_iter().map(Value::text).collect();
+        let has = |flag: &str| flags.iter().any(|it| it == flag);
+        if has("readonly") && name != "PFCOUNT" {
+            Effect::Reads
+        } else if has("denyoom") {
+            Effect::Grows
+        } else {
+            Effect::Frees
+        }
+    }
+
+    #[test]
+    #[ignore = "needs a server"]
+    fn effects_are_those_of_the_server() {
+        let addr = std::env::var("SQUALL_REDIS").expect("SQUALL_REDIS");
+        let mut conn = Conn::open(&Server::plain(addr.parse().unwrap())).unwrap();
+        for command in COMMANDS.iter().filter(|it| it.guard != Guard::Never) {
+            assert_eq!(command.effect(), said(&mut conn, command.name), "{}", command.name);
+        }
+    }
+}

@@ -6,8 +6,10 @@
 use super::client::Client;
 use super::counts::{Counts, Turn};
 use super::metrics::Shared;
+use super::scan::Ground;
 use super::socket::{receive, Received, Socket};
 use super::upstream::{InFlight, Upstream};
+use crate::keep_alive::KeepAlive;
 use mio::net::TcpStream;
 use mio::{Events, Interest, Poll, Token};
 use squall::View;
@@ -30,9 +32,15 @@ pub struct Worker {
     pub(super) poll: Poll,
     pub(super) shared: Arc<Shared>,
     own: usize,
+    /// Whether it does what clients have sent, and reads no more.
+    pub(super) is_ending: bool,
     pub(super) view: View,
     pub(super) views: u64,
     pub(super) now: Instant,
+    /// When it looked last at what waits for time.
+    watched: Instant,
+    /// The course as a walk over all keys sees it, and by which view that was found.
+    pub(super) ground: Option<(u64, Arc<Ground>)>,
     pub(super) clients: Vec<Option<Box<Client>>>,
     free: Vec<usize>,
     last_id: u64,
@@ -67,9 +75,12 @@ impl Worker {
             poll,
             shared,
             own,
+            is_ending: false,
             view,
             views,
             now: Instant::now(),
+            watched: Instant::now(),
+            ground: None,
             clients: Vec::new(),
             free: Vec::new(),
             last_id: 0,
@@ -104,6 +115,9 @@ impl Worker {
             }
             self.now = Instant::now();
             self.refresh();
+            if self.shared.is_ending.load(SeqCst) && !self.is_ending {
+                self.end();
+            }
             for event in &events {
                 let token = event.token();
                 let is_closed = event.is_read_closed() || event.is_error();
@@ -152,6 +166,10 @@ impl Worker {
             let mut arrived = self.shared.arrivals[self.own].lock().unwrap_or_else(PoisonError::into_inner);
             std::mem::take(&mut *arrived)
         };
+        if self.is_ending {
+            self.shared.clients.fetch_sub(streams.len(), SeqCst);
+            return;
+        }
         for mut stream in streams {
             let at = self.free.pop().unwrap_or(self.clients.len());
             let interest = Interest::READABLE | Interest::WRITABLE;
@@ -175,6 +193,23 @@ impl Worker {
         }
     }
 
+    /// Reads what clients have sent until now, and closes them after their last answers. One that waits for a key has
+    /// none.
+    fn end(&mut self) {
+        for at in 0..self.clients.len() {
+            let Some(mut client) = self.clients[at].take() else {
+                continue;
+            };
+            let stands = self.read_client(&mut client, false) && !client.waits();
+            (client.is_shut, client.is_unread) = (true, false);
+            self.put_back(at, client, stands);
+            if stands {
+                self.pump(at);
+            }
+        }
+        self.is_ending = true;
+    }
+
     fn on_client(&mut self, at: usize, is_readable: bool, is_closed: bool) {
         let Some(mut client) = self.clients.get_mut(at).and_then(Option::take) else {
             return;
@@ -195,6 +230,9 @@ impl Worker {
     /// Reads what a client has sent: whether it is still there. One that sends no more gets the answers to
     /// what it has sent, but waits for no key: nobody might take the value.
     pub(super) fn read_client(&mut self, client: &mut Client, is_closed: bool) -> bool {
+        if self.is_ending {
+            return true;
+        }
         let most = (is_closed, self.shared.memory);
         let received = receive(&mut client.stream, &mut self.block, &mut client.input, most);
         client.is_unread = received == Received::Some;
@@ -243,8 +281,13 @@ impl Worker {
         }
     }
 
-    /// Wakes those that waited long enough, and gives up connections that don't answer.
+    /// Wakes those that may have waited long enough, and gives up connections that don't answer. Thousands may wait for
+    /// a partition that is down, so this is not done in each turn.
     fn watch(&mut self) {
+        if self.now - self.watched < SOON {
+            return;
+        }
+        self.watched = self.now;
         if !self.blocked.is_empty() {
             self.wake_blocked();
         }
@@ -301,9 +344,10 @@ impl Worker {
     }
 }
 
-/// Makes a client's connection one that never waits.
-pub fn ready_stream(stream: std::net::TcpStream) -> io::Result<TcpStream> {
+/// Makes a client's connection one that never waits, and that is closed if the client has gone without a word.
+pub fn ready_stream(stream: std::net::TcpStream, keep_alive: KeepAlive) -> io::Result<TcpStream> {
     stream.set_nonblocking(true)?;
     stream.set_nodelay(true)?;
+    keep_alive.set(&stream)?;
     Ok(TcpStream::from_std(stream))
 }
