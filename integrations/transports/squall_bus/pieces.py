@@ -33,7 +33,7 @@ def is_digest(data: bytes) -> bool:
 
 
 def joined(frames: Iterable[bytes], most: Optional[int] = None) -> List[bytes]:
-    """The frames of the board that has the reports of all these frames, each of at most `most` bytes.
+    """The frames of the board with the reports of all these frames, each of at most `most` bytes.
 
     Raises `squall.TooLongError` if a single report needs a longer one.
     """
