@@ -1,6 +1,6 @@
 //! Which keys of a source move.
 
-use super::patience::Patience;
+use super::patience::{self, Patience};
 use crate::conn::{Conn, Server};
 use crate::course::Move;
 use crate::fault::{Done, Fault};
@@ -41,7 +41,7 @@ impl Index {
     pub fn new(server: &Server, moves: &[Move]) -> Done<Index> {
         let mut news = Conn::open(server)?;
         want_news(&mut news)?;
-        news.ask(&["SUBSCRIBE", "__keyevent@0__:new"])?;
+        patience::ask(&mut news, &["SUBSCRIBE", "__keyevent@0__:new"])?;
         let mut index = Index {
             news,
             heard: Instant::now(),
@@ -145,12 +145,12 @@ pub fn is_own(key: &[u8]) -> bool {
 /// Adds to the events that the server sends those of new keys.
 fn want_news(conn: &mut Conn) -> Done<()> {
     let name = "notify-keyspace-events";
-    let answer = conn.ask(&["CONFIG", "GET", name])?.list().pop();
+    let answer = patience::ask(conn, &["CONFIG", "GET", name])?.list().pop();
     let before = answer.map_or(String::new(), Value::text);
     let missing = ['E', 'n'].iter().filter(|&&it| !before.contains(it));
     let wanted: String = before.chars().chain(missing.copied()).collect();
     if wanted != before {
-        conn.ask(&["CONFIG", "SET", name, &wanted])?;
+        patience::ask(conn, &["CONFIG", "SET", name, &wanted])?;
     }
     Ok(())
 }
@@ -158,12 +158,8 @@ fn want_news(conn: &mut Conn) -> Done<()> {
 /// Calls the function with the Redis keys of a server, page by page.
 pub fn scan(conn: &mut Conn, mut found: impl FnMut(Vec<Vec<u8>>) -> Done<()>) -> Done<()> {
     let mut cursor = "0".to_string();
-    let mut patience = Patience::default();
     loop {
-        let mut page = match patience.ask(conn, &["SCAN", &cursor, "COUNT", PAGE])? {
-            Value::Error(error) => return Err(Fault::new(format!("{}: {error}", conn.addr()))),
-            page => page.list(),
-        };
+        let mut page = patience::ask(conn, &["SCAN", &cursor, "COUNT", PAGE])?.list();
         let keys = page.pop().map_or(Vec::new(), Value::list);
         cursor = page.pop().map_or("0".to_string(), Value::text);
         found(keys.into_iter().map(Value::bytes).collect())?;

@@ -160,6 +160,12 @@ impl Partition {
     /// Does commands at once, if the partition is in this course. Else a late mover would let in
     /// routers that another one has shut out.
     fn in_course(&mut self, commands: &[Vec<&str>]) -> Done<()> {
+        while !self.try_in_course(commands)? {}
+        Ok(())
+    }
+
+    /// The same; false if the partition refuses for a reason that passes. Then nothing was done.
+    fn try_in_course(&mut self, commands: &[Vec<&str>]) -> Done<bool> {
         let late = || Fault::new("another course has begun");
         self.ask(&["WATCH", "squall:number"])?;
         if self.ask(&["GET", "squall:number"])?.text() != self.number {
@@ -171,12 +177,15 @@ impl Partition {
         }
         self.conn.put(&["EXEC"]);
         let mut answers = self.conn.hear_all(commands.len() + 2)?;
+        // A command that is refused is not queued. The answer to EXEC is the last one, and does not say why.
+        if !self.accepts(&answers)? {
+            return Ok(false);
+        }
         match answers.pop() {
             Some(Value::List(done)) => match done.into_iter().find(|it| matches!(it, Value::Error(_))) {
-                None => Ok(()),
+                None => Ok(true),
                 Some(error) => Err(self.explain(&error.text())),
             },
-            Some(Value::Error(error)) => Err(self.explain(&error)),
             _ => Err(late()).trying(|| format!("partition {}", self.part)),
         }
     }
@@ -303,4 +312,45 @@ fn read_edges(line: &str) -> Option<(Rank, Edges)> {
 /// The rank of sixteen digits.
 fn rank(hex: &str) -> Option<Rank> {
     u64::from_str_radix(hex, 16).ok().map(Rank)
+}
+
+#[cfg(test)]
+mod tests {
+    use super::*;
+    use std::sync::atomic::{AtomicBool, Ordering::SeqCst};
+    use std::thread;
+    use std::time::Duration;
+
+    /// A partition over the server that `tools/integrations` names.
+    fn partition(number: u32) -> Partition {
+        let addr = std::env::var("SQUALL_REDIS").expect("SQUALL_REDIS");
+        Partition::open(1, &Server::plain(addr.parse().unwrap()), number).unwrap()
+    }
+
+    #[test]
+    #[ignore = "needs a server"]
+    fn refusals_that_pass_end_no_step() {
+        let (mut mover, mut other) = (partition(1), partition(1));
+        mover.prepare().unwrap();
+        let course = Beginning { old: "[]", new: "[]", is_fresh: true, moves: &[] };
+        mover.begin(&course).unwrap();
+        other.ask(&["CONFIG", "SET", "maxmemory", "1"]).unwrap();
+        let has_room = AtomicBool::new(false);
+        thread::scope(|scope| {
+            scope.spawn(|| {
+                thread::sleep(Duration::from_millis(300));
+                has_room.store(true, SeqCst);
+                other.ask(&["CONFIG", "SET", "maxmemory", "0"]).unwrap();
+            });
+            mover.admit("secret").unwrap();
+            assert!(has_room.load(SeqCst));
+        });
+        assert!(mover.ask(&["ACL", "USERS"]).unwrap().list().contains(&Value::Bulk(user("1").into_bytes())));
+        mover.fence().unwrap();
+        // A transaction of which a command is refused for another reason, and one of another course.
+        let unknown = mover.in_course(&[vec!["ACL", "UNKNOWN"]]).unwrap_err().to_string();
+        assert!(unknown.contains("partition 1: ERR"), "{unknown}");
+        let late = partition(2).in_course(&[vec!["PING"]]).unwrap_err().to_string();
+        assert!(late.contains("another course has begun"), "{late}");
+    }
 }
