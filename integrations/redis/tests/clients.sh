@@ -4,8 +4,8 @@
 
 # What one client sees of the first proxy in that course.
 serves() {
-  SQUALL_COURSE=$1 SQUALL_PROXY=127.0.0.1:${proxies[0]} cargo test "${cargo[@]}" --features faults --test serving --test together \
-    -- --ignored --test-threads 1
+  SQUALL_COURSE=$1 SQUALL_PROXY=127.0.0.1:${proxies[0]} SQUALL_PARTITION=127.0.0.1:${servers[0]} \
+    cargo test "${cargo[@]}" --features faults --test serving --test together -- --ignored --test-threads 1
 }
 
 test_serving() {
@@ -15,12 +15,12 @@ test_serving() {
 
 # What the port of the status page shows of a path, into $run/page.
 page() {
-  local head
-  exec 3<> "/dev/tcp/127.0.0.1/$http" || return
-  printf 'GET /%s HTTP/1.1\r\nHost: squall\r\n\r\n' "$1" >&3
-  while read -r head <&3 && [ "$head" != $'\r' ]; do echo "$head"; done > "$run/head"
-  cat <&3 > "$run/page"
-  exec 3>&-
+  local head fd
+  exec {fd}<> "/dev/tcp/127.0.0.1/$http" || return
+  printf 'GET /%s HTTP/1.1\r\nHost: squall\r\n\r\n' "$1" >&"$fd"
+  while read -r head <&"$fd" && [ "$head" != $'\r' ]; do echo "$head"; done > "$run/head"
+  cat <&"$fd" > "$run/page"
+  exec {fd}>&-
   grep -q ' 200 OK' "$run/head"
 }
 
@@ -52,21 +52,24 @@ test_status_page() {
   redis-cli -p "$port" set 400:0 x && redis-cli -p "$port" hset 600:0 f v && redis-cli -p "$port" set 400:1 x || return
   page metrics && counts squall_course 1 && counts squall_moving_keys 0 || return
   counts 'squall_commands_by_kind_total{kind="text"}' 2 && counts 'squall_commands_by_kind_total{kind="hash"}' 1 || return
-  # After the first chunks it waits.
+  # After the first chunks it waits. Until then the board may be older than the metrics.
   start_move 2 old new --chunk 1 --pause 600000
-  agrees 3 2 && sleep 0.2 || return
-  page board && cp "$run/page" "$run/board" && "$program" status "$run/old.json" "$run/old.json" "$run/board" > "$run/status"
+  agrees 3 2 && await has_loaded_of 1 2 && await has_pages_of_board || return
   cat "$run/status"
+  page '' && grep -q '<svg' "$run/page" && grep -q 'http-equiv="refresh"' "$run/page" && ! page nothing
+}
+
+# Whether the pages are those of the board.
+has_pages_of_board() {
   local words loaded moving
+  page board && cp "$run/page" "$run/board" && "$program" status "$run/old.json" "$run/old.json" "$run/board" > "$run/status"
+  "$program" picture "$run/old.json" "$run/old.json" "$run/board" > "$run/picture"
   read -r -a words < "$run/status"
   loaded=$(sed -n '1s/.* loaded \([0-9]*\) of .*/\1/p' "$run/status")
   moving=$(sed -n '1s/.* loaded [0-9]* of \([0-9]*\) .*/\1/p' "$run/status")
   [ "${words[*]:0:2}" = "course 2" ] && [ "$loaded" -gt 0 ] || return
   page metrics && counts squall_course 2 && counts squall_moving_keys "$moving" && counts squall_loaded_keys "$loaded" || return
-  page status && cmp "$run/page" "$run/status" || return
-  "$program" picture "$run/old.json" "$run/old.json" "$run/board" > "$run/picture"
-  page picture.svg && cmp "$run/page" "$run/picture" || return
-  page '' && grep -q '<svg' "$run/page" && grep -q 'http-equiv="refresh"' "$run/page" && ! page nothing
+  page status && cmp "$run/page" "$run/status" && page picture.svg && cmp "$run/page" "$run/picture"
 }
 
 # The same while all keys move. After their first chunks the movers of both sources wait.
@@ -76,7 +79,7 @@ test_serving_by_guard() {
   echo '{"plan":[{"part":3,"from":[0,0],"to":"end"}]}' > "$run/all.json"
   for key in 0:0 0:1 500:0 500:1; do redis-cli -p "${proxies[0]}" set "$key" x || return; done
   start_move 2 old all --chunk 1 --pause 600000
-  agrees 1 2 && sleep 0.1 && serves 2 || return
+  agrees 1 2 && await has_loaded_of 1 2 && serves 2 || return
   # Thousands of commands were guarded.
   redis-cli -p "${servers[0]}" info commandstats | grep -q 'cmdstat_fcall:calls=[0-9][0-9][0-9][0-9]'
 }
@@ -92,13 +95,13 @@ waits_end_in_time() {
     launch "$run" "wait.$key" redis-cli -p "${proxies[0]}" blpop "$key:q" "$seconds"
     waits+=("$id")
   done
-  launch "$run" wait.none redis-cli -p "${proxies[1]}" blpop 400:1:q 410:1:q 2
-  waits+=("$id")
   launch "$run" wait.stays redis-cli -p "${proxies[1]}" blpop 1:0:q "$seconds"
   waits+=("$id")
-  sleep 0.2
+  await has_waiting "${servers[0]}" 2 && await has_waiting "${servers[1]}" 1 || return
+  launch "$run" wait.none redis-cli -p "${proxies[1]}" blpop 400:1:q 410:1:q 3
+  waits+=("$id")
   # Waits begin before the course, in it, and after it.
-  redis-cli -p "${servers[0]}" client list | grep -c 'cmd=blpop' | grep -qx 3 || return
+  await has_waiting "${servers[0]}" 3 || return
   for key in $(seq 330 499); do echo "set $key:0 x"; done | redis-cli -p "${proxies[0]}" > "$run/set"
   start_move 2 old new --chunk 5 --pause 20
   sleep 0.3
@@ -125,17 +128,18 @@ scans_find_all() {
   for number in $(seq 0 1999); do echo "set $((number % 1000)):$number:s x"; done > "$run/sets"
   redis-cli -p "${proxies[0]}" < "$run/sets" > "$run/set"
   cut -d' ' -f2 "$run/sets" | sort > "$run/wanted"
-  for number in 2 3 4; do
+  number=2
+  while [ "$number" -lt 5 ] || [ "$scans" -lt 6 ]; do
     start_move "$number" "${plans[number % 2]}" "${plans[1 - number % 2]}" --chunk 10 --pause 4
-    while kill -0 "$id" 2> /dev/null; do
+    until has_ended "$id"; do
       redis-cli -p "${proxies[scans % 2]}" --scan | sort -u > "$run/found" || return
       cmp "$run/found" "$run/wanted" || return
       scans=$((scans + 1))
     done
     wait "$id" || return
+    number=$((number + 1))
   done
   echo "$scans scans"
-  [ "$scans" -gt 5 ]
 }
 
 # A command on two keys is refused while it waits, if only one of them moves: at the new place it would be done without
@@ -145,14 +149,13 @@ test_keys_that_part() {
   deploy || return
   redis-cli -p "${proxies[0]}" mset 500:0 x 600:0 x 700:0 y || return
   start_move 2 old new --chunk 1 --pause 600000
-  agrees 3 2 500:0 || return
+  agrees 3 2 500:0 && await has_loaded_of 2 || return
   kill -KILL "$id"
   wait "$id"
   # The keys below 601:0 are given, and nobody loads them yet.
   redis-cli -p "${servers[1]}" fcall squall_give 0 2 000001f400000000 0000025900000000 | grep -qx 0000025900000000 || return
   launch "$run" renamed redis-cli -p "${proxies[0]}" rename 600:0 700:0
-  sleep 0.2
-  move 2 old new || return
+  await has_counted "${proxies[0]}" pending 1 && move 2 old new || return
   wait "$id"
   cat "$run/renamed"
   grep -q TRYAGAIN "$run/renamed" && redis-cli -p "${proxies[0]}" mget 600:0 700:0 | tr '\n' ' ' | grep -qx 'x y ' || return
@@ -167,7 +170,7 @@ queues_keep_all() {
   launch "$run" queue env -C "$package" SQUALL_PROXIES="127.0.0.1:${proxies[0]} 127.0.0.1:${proxies[1]}" SQUALL_WHILE="$run/moving" \
     cargo test "${cargo[@]}" --features faults --test queue -- --ignored --nocapture
   queue=$id
-  sleep 0.3
+  await has_counted "${proxies[0]}" commands 1000 || return
   for number in 2 3 4; do
     move "$number" "${plans[number % 2]}" "${plans[1 - number % 2]}" --chunk 1 --pause 60 || return
     sleep 0.2
@@ -191,7 +194,7 @@ test_mutant_of_queues() {
 # A fence that ends no waits leaves them at a partition to which nothing comes.
 test_mutant_of_waits() {
   deploy || return
-  ! SQUALL_FAULT=leave-waits waits_end_in_time 4 && grep -q "of 1:0" "$run/wait.stays" && ! grep -q "of " "$run/wait.400:0"
+  ! SQUALL_FAULT=leave-waits waits_end_in_time 6 && grep -q "of 1:0" "$run/wait.stays" && ! grep -q "of " "$run/wait.400:0"
 }
 
 # A walk that visits no partition twice misses keys.
@@ -209,7 +212,7 @@ send_scripts() {
   for at in $(seq "$count"); do
     printf '*4\r\n$4\r\nEVAL\r\n$%d\r\n%s\r\n$1\r\n1\r\n$%d\r\n%s\r\n' "${#script}" "$script" "${#key}" "$key"
   done >&3
-  for at in $(seq "$count"); do IFS= read -r -t 20 -u 3 line && echo "${line%$'\r'}"; done > "$run/scripts"
+  for at in $(seq "$count"); do IFS= read -r -t 60 -u 3 line && echo "${line%$'\r'}"; done > "$run/scripts"
   exec 3>&-
 }
 
@@ -244,17 +247,23 @@ timers() {
 # Whether each connection of a program, of which there are so many at least, is probed within that many seconds of silence.
 # One on which bytes are under way has another timer for a moment.
 are_probed() {
-  local id=$1 least=$2 seconds=$3
-  for _ in $(seq 100); do
-    timers "$id" > "$run/timers"
-    [ "$(wc -l < "$run/timers")" -ge "$least" ] \
-      && awk -v most="$seconds" '
-        !match($0, /timer:\(keepalive,[0-9.]+(ms|sec),/) { exit 1 }
-        { left = substr($0, RSTART + 17); if (left ~ /^[0-9]+sec/ && left + 0 > most) exit 1 }' "$run/timers" && return 0
-    sleep 0.1
-  done
+  await are_probed_now "$@" && return
   cat "$run/timers"
   return 1
+}
+
+are_probed_now() {
+  local id=$1 least=$2 seconds=$3
+  timers "$id" > "$run/timers"
+  [ "$(wc -l < "$run/timers")" -ge "$least" ] \
+    && awk -v most="$seconds" '
+      !match($0, /timer:\(keepalive,[0-9.]+(ms|sec),/) { exit 1 }
+      { left = substr($0, RSTART + 17); if (left ~ /^[0-9]+sec/ && left + 0 > most) exit 1 }' "$run/timers"
+}
+
+# Whether one of them is probed after so long.
+has_timer() {
+  timers "$1" | grep -q "timer:(keepalive,$2"
 }
 
 # A client that has gone without a word does not keep its place: all connections of proxies, movers and nodes are probed.
@@ -282,8 +291,7 @@ test_keep_alive() {
   [ -s "$run/timers" ] && ! grep keepalive "$run/timers" || return
   limits=()
   run_proxy 0 env && redis-cli -p "$port" get 1:0 | grep -q x || return
-  timers "${ids[$port]}" > "$run/timers"
-  grep -q 'timer:(keepalive,4min' "$run/timers"
+  await has_timer "${ids[$port]}" 4min
 }
 
 # A wrong word is refused before anything has begun.
@@ -313,10 +321,15 @@ slow_scripts() {
   done
 }
 
+# Whether the proxy has begun so many scripts.
+has_begun_scripts() {
+  page metrics && counts 'squall_commands_by_kind_total{kind="script"}' "$1" > "$run/counted"
+}
+
 # Whether nothing more comes from the file number of a connection.
 is_closed() {
   local more status
-  IFS= read -r -t 5 -u "$1" more
+  IFS= read -r -t 60 -u "$1" more
   status=$?
   # A wait that took too long is above 128.
   [ "$status" -eq 1 ] && [ -z "$more" ]
@@ -324,19 +337,23 @@ is_closed() {
 
 # A proxy that is asked to end lets nobody in, and gives the answers to what it was asked before.
 test_proxy_ends_in_order() {
-  local proxy id at
+  local proxy http id at limits
   deploy || return
-  proxy=${proxies[0]}
+  free_port
+  http=$port
+  limits=(--metrics "127.0.0.1:$http")
+  run_proxy 0 env || return
+  proxy=$port
   id=${ids[$proxy]}
   exec 3<> "/dev/tcp/127.0.0.1/$proxy" 4<> "/dev/tcp/127.0.0.1/$proxy" 5<> "/dev/tcp/127.0.0.1/$proxy" || return
   printf '*3\r\n$5\r\nBLPOP\r\n$3\r\n2:0\r\n$1\r\n0\r\n' >&5
+  await has_waiting "${servers[0]}" 1 || return
   slow_scripts 3 >&3
-  sleep 0.1
+  await has_begun_scripts 3 || return
   kill -TERM "$id"
-  for _ in $(seq 50); do is_used "$proxy" || break; sleep 0.01; done
-  ! is_used "$proxy" || { echo "it still lets clients in"; return 1; }
+  await_not is_used "$proxy" || { echo "it still lets clients in"; return 1; }
   for at in 1 2 3; do
-    IFS= read -r -t 20 -u 3 line && [ "$line" = ":$at"$'\r' ] || { echo "answer $at: $line"; return 1; }
+    IFS= read -r -t 60 -u 3 line && [ "$line" = ":$at"$'\r' ] || { echo "answer $at: $line"; return 1; }
   done
   for at in 3 4 5; do is_closed "$at" || { echo "connection $at is open"; return 1; }; done
   exec 3>&- 4>&- 5>&-
@@ -360,8 +377,8 @@ test_too_few_files() {
     held+=("$fd")
   done
   printf '*1\r\n$4\r\nPING\r\n' >&"${held[0]}"
-  IFS= read -r -t 5 -u "${held[0]}" line && [ "$line" = $'+PONG\r' ] || return
-  sleep 0.5
+  IFS= read -r -t 60 -u "${held[0]}" line && [ "$line" = $'+PONG\r' ] || return
+  await is_said 'to accept: Too many open files' "$log" && sleep 0.5 || return
   [ "$(grep -c 'to accept: Too many open files' "$log")" -eq 1 ] || { cat "$log"; return 1; }
   for fd in "${held[@]}"; do exec {fd}>&-; done
   redis-cli -p "$proxy" set 1:0 x | grep -qx OK
@@ -412,16 +429,14 @@ test_silent_partition() {
   redis-cli -p "$proxy" get 1:0 | grep -qx x || return
   wait "$id"
   cat "$run/silent"
-  grep -q "ERR partition 2 did not answer: whether this was done is not known" "$run/silent" && [ $((SECONDS - began)) -lt 10 ] \
+  grep -q "ERR partition 2 did not answer: whether this was done is not known" "$run/silent" && [ $((SECONDS - began)) -lt 30 ] \
     || return
   # It is not let in again, since its log-in is not answered.
   redis-cli -p "$proxy" get 600:0 | grep TRYAGAIN || return
   kill -CONT "${ids[${servers[1]}]}"
-  for _ in $(seq 100); do
-    value=$(redis-cli -p "$proxy" get 600:0)
-    [[ $value =~ ^[01]$ ]] && return 0
-    sleep 0.05
-  done
-  echo "$value"
-  return 1
+  await has_zero_or_one "$proxy" 600:0
+}
+
+has_zero_or_one() {
+  redis-cli -p "$1" get "$2" | grep -qx '[01]'
 }

@@ -25,13 +25,13 @@ start_nats() {
   for at in 0 1 2; do run_nats "$at"; done
   nats=nats://127.0.0.1:${hosts[0]},127.0.0.1:${hosts[1]},127.0.0.1:${hosts[2]}
   for at in 0 1 2; do
-    for _ in $(seq 200); do
-      [ "$(grep -c 'Route connection created' "$run/nats.$at")" -ge 2 ] && continue 2
-      sleep 0.05
-    done
-    cat "$run/nats.$at"
-    return 1
+    await has_routes "$at" || { cat "$run/nats.$at"; return 1; }
   done
+}
+
+# Whether a server of the cluster hears the two others.
+has_routes() {
+  [ "$(grep -c 'Route connection created' "$run/nats.$1" 2> /dev/null)" -ge 2 ]
 }
 
 # Keys move while proxies and the mover hear each other over three NATS servers, one of which is killed, and comes back.
@@ -44,11 +44,13 @@ test_over_nats() {
     --first old.json --key 400:0
   follower=$id
   start_load 30000 --pause 300
-  start_move 2 old new --pause 40
+  await has_keys "${servers[0]}" 400 && await has_keys "${servers[1]}" 400 || return
+  start_move 2 old new --pause 60
   moving=$id
-  sleep 0.5
+  agrees 2 2 900:0 || return
+  sleep 0.2
   stop "${hosts[0]}"
-  kill -0 "$moving" 2> /dev/null || { echo "the mover had ended too soon"; return 1; }
+  ! has_ended "$moving" || { echo "the mover had ended too soon"; return 1; }
   wait "$moving" || { cat "$run/mover"; return 1; }
   agrees 3 2 || return
   run_nats 0
@@ -58,10 +60,7 @@ test_over_nats() {
   end_load && has_moved && agrees 3 4 || return
   grep -h "^bus: " "$run"/proxy.* | sort | uniq -c
   grep -q "^bus: 127.0.0.1" "$run"/proxy.* || { echo "no proxy has missed a server"; return 1; }
-  for _ in $(seq 100); do
-    grep -q "^key 400:0 partition 3 course 4" "$run/follow" && kill "$follower" && return 0
-    sleep 0.05
-  done
+  await is_said "^key 400:0 partition 3 course 4" "$run/follow" && kill "$follower" && return
   cat "$run/follow"
   return 1
 }
@@ -77,8 +76,7 @@ test_over_nats_with_losses() {
   nats=nats://me@127.0.0.1:$port/shop
   mover_words=(--bus-password-file "$run/password")
   limits=("${mover_words[@]}")
-  until is_used "$port"; do sleep 0.02; done
-  deploy SQUALL_MISS=30 || return
+  await is_used "$port" && deploy SQUALL_MISS=30 || return
   start_load 30000 --pause 300
   sleep 0.2
   move 2 old new && move 3 new old && move 4 old new || return

@@ -12,6 +12,8 @@ use std::thread;
 use std::time::Duration;
 
 const PRODUCERS: u64 = 6;
+/// How many texts each of them pushes at least.
+const LEAST: usize = 100;
 const CONSUMERS: u64 = 24;
 /// Lists at all partitions, of which some move.
 const LISTS: [&str; 8] = ["1:0:q", "340:0:q", "400:0:q", "499:0:q", "510:0:q", "660:0:q", "jobs:a", "jobs:b"];
@@ -47,8 +49,10 @@ fn ask(conn: &mut Conn, lines: &[&[&str]]) -> Value {
 fn produce(own: u64, ledger: &Ledger) {
     let file = PathBuf::from(std::env::var("SQUALL_WHILE").expect("SQUALL_WHILE"));
     let (mut conn, mut dice) = (open(own), Dice::of(own));
-    for count in 0.. {
-        if !file.exists() {
+    let mut pushed = 0;
+    // Not for ever, if all are refused.
+    for count in 0..50_000 {
+        if pushed >= LEAST && !file.exists() {
             return;
         }
         let list = LISTS[dice.below(LISTS.len() as u64) as usize];
@@ -60,7 +64,10 @@ fn produce(own: u64, ledger: &Ledger) {
             _ => ask(&mut conn, &[&["EVAL", SCRIPT, "1", list, &text]]),
         };
         match answer {
-            Value::Int(_) | Value::List(_) => note(&ledger.pushed, format!("{list} {text}")),
+            Value::Int(_) | Value::List(_) => {
+                note(&ledger.pushed, format!("{list} {text}"));
+                pushed += 1;
+            }
             Value::Error(error) if error.starts_with("TRYAGAIN") => {}
             other => panic!("{list}: {other:?}"),
         }
@@ -114,5 +121,5 @@ fn what_is_pushed_is_taken_once() {
     let twice: Vec<_> =
         taken.iter().filter(|&(text, &count)| count > 1 || !pushed.contains_key(text)).collect();
     assert!(lost.is_empty() && twice.is_empty(), "lost {lost:?} twice or never pushed {twice:.200?}");
-    assert!(pushed.len() > 500, "{}", pushed.len());
+    assert!(pushed.len() >= LEAST * PRODUCERS as usize, "{}", pushed.len());
 }

@@ -10,6 +10,73 @@ secure=()
 # The process ids of what listens on a port.
 declare -A ids=()
 
+# Waits until a command succeeds, for a minute: the machine may be busy with much else. Tests wait so for what has to come.
+# They sleep only if nothing is to happen meanwhile, or to do the next thing at no certain moment.
+await() {
+  local last=$((SECONDS + 60))
+  until "$@"; do
+    [ "$SECONDS" -lt "$last" ] || { echo "in vain: $*"; return 1; }
+    sleep 0.02
+  done
+}
+
+# The same of a command that is to fail.
+await_not() {
+  await fails "$@"
+}
+
+fails() {
+  ! "$@"
+}
+
+has_ended() {
+  ! kill -0 "$1" 2> /dev/null
+}
+
+# Whether a file is there in which a line matches; the other words are those of grep.
+is_said() {
+  grep -q "$@" 2> /dev/null
+}
+
+# Whether a program has asked to hear of SIGTERM, which ends any other.
+hears_signals() {
+  local caught
+  caught=$(sed -n 's/^SigCgt:\t//p' "/proc/$1/status" 2> /dev/null)
+  [ $((0x${caught:-0} >> 14 & 1)) -eq 1 ]
+}
+
+# Whether a server has at least so many keys; whether so many of its clients wait for a key.
+has_keys() {
+  [ "$(redis-cli -p "$1" dbsize)" -ge "$2" ]
+}
+
+has_waiting() {
+  redis-cli -p "$1" info clients | grep -q "^blocked_clients:$2"$'\r'
+}
+
+# Whether a proxy has counted something so often.
+has_counted() {
+  local said
+  said=$(redis-cli -p "$1" squall info)
+  said=${said#*" $2 "}
+  [ "${said%% *}" -ge "$3" ]
+}
+
+# Whether partition 3 has loaded keys in course 2 of each of these partitions. A mover that pauses for long then does no more.
+has_loaded_of() {
+  local part
+  for part in "$@"; do
+    redis-cli -p "${servers[2]}" fcall squall_moves 0 2 \
+      | awk -v part="$part" '$3 == "in" && $4 == part && $5 != $1 { found = 1 } END { exit !found }' || return
+  done
+}
+
+# Whether all nodes of the bus, of which there are so many at least, have heard all that is there: each waits for more.
+has_heard_all() {
+  redis-cli -p "$bus" client list \
+    | awk -v least="$1" '/ cmd=xread / { if (!/ flags=b /) busy = 1; nodes++ } END { exit busy || nodes < least }'
+}
+
 is_used() {
   (exec 3<> "/dev/tcp/127.0.0.1/$1") 2> /dev/null
 }
@@ -27,20 +94,24 @@ run_redis() {
   local at=$1 id
   shift
   launch "$run/$at" log redis-server --bind 127.0.0.1 "${listen[@]}" "$at" --save '' "$@"
-  for _ in $(seq 200); do
-    if redis-cli "${secure[@]}" -p "$at" ping 2> /dev/null | grep -q PONG; then
-      ids[$at]=$id
-      return 0
-    fi
-    kill -0 "$id" 2> /dev/null || return 1
-    sleep 0.02
-  done
-  return 1
+  await is_up_or_ended "$at" "$id" && ! has_ended "$id" || return
+  ids[$at]=$id
 }
 
-# Starts one on a free port.
+# Whether the server of that process id serves at that port.
+is_up_or_ended() {
+  redis-cli "${secure[@]}" -p "$1" info server 2> /dev/null | grep -q "^process_id:$2"$'\r' || has_ended "$2"
+}
+
+# Starts one on a free port. Another program may take the port first.
 start_redis() {
-  until free_port && run_redis "$port" "$@"; do :; done
+  local _
+  for _ in 1 2 3 4 5; do
+    free_port
+    run_redis "$port" "$@" && return
+  done
+  cat "$run/$port/log"
+  return 1
 }
 
 # Starts a proxy on that port, or on a free one if it is 0, into `port`; the other words are put before the program.
@@ -49,16 +120,13 @@ run_proxy() {
   shift
   launch "$run" "$log" "$@" "$bin/squall-redis-proxy" --listen "127.0.0.1:$at" --first old.json --bus "$bus_at" \
     --threads 2 --wait "${patience:-10000}" "${parts[@]}" "${limits[@]}"
-  for _ in $(seq 200); do
-    port=$(sed -n 's/.*serves at 127.0.0.1://p' "$log" 2> /dev/null)
-    if [ -n "$port" ]; then
-      ids[$port]=$id
-      return 0
-    fi
-    kill -0 "$id" 2> /dev/null || return 1
-    sleep 0.02
-  done
-  return 1
+  await serves_or_ended "$log" "$id" && ! has_ended "$id" || return
+  port=$(sed -n 's/.*serves at 127.0.0.1://p' "$log")
+  ids[$port]=$id
+}
+
+serves_or_ended() {
+  is_said "serves at 127.0.0.1:[0-9]*$" "$1" || has_ended "$2"
 }
 
 # A bus, unless `nats` is the address of one, three partitions in course 1, and two proxies. The other words are put before the programs of the proxies.
@@ -73,7 +141,7 @@ E2
 E2
   bus_at=${nats-}
   if [ -z "$bus_at" ]; then
-    start_redis
+    start_redis || return
     bus=$port
     bus_at=127.0.0.1:$bus
   fi
@@ -81,7 +149,7 @@ E2
   servers=()
   for part in 1 2 3; do
     # shellcheck disable=SC2086
-    start_redis ${redis_words-}
+    start_redis ${redis_words-} || return
     servers+=("$port")
     parts+=(--part "$part=127.0.0.1:$port")
   done
@@ -150,11 +218,12 @@ has_moved() {
 # Both proxies ask that partition in that course for a key.
 agrees() {
   local all key=${3-400:0}
-  for _ in $(seq 100); do
-    all=$(for at in "${proxies[@]}"; do redis-cli "${secure[@]}" -p "$at" squall route "$key"; done | sort -u)
-    [ "$all" = "key $key partition $1 course $2" ] && return 0
-    sleep 0.05
-  done
+  await all_say "key $key partition $1 course $2" && return
   echo "the proxies say: $all"
   return 1
+}
+
+all_say() {
+  all=$(for at in "${proxies[@]}"; do redis-cli "${secure[@]}" -p "$at" squall route "$key"; done | sort -u)
+  [ "$all" = "$1" ]
 }

@@ -4,7 +4,7 @@
 
 mod client;
 
-use client::{command, is_moving, Client};
+use client::{command, is_moving, until_waiting, Client};
 use squall_redis::resp::Value;
 use std::io::Write;
 use std::net::Shutdown;
@@ -181,15 +181,17 @@ fn one_that_sends_no_more_gets_its_answers() {
         assert_eq!(client.hear(), None);
     }
     // It waits for no key.
-    for pause in [0, 50] {
+    for has_begun in [false, true] {
         let (mut client, mut other) = (Client::new(), Client::new());
         client.send(&[command("DEL 4:0:shut"), command("BLPOP 4:0:shut 0")].concat());
         assert_eq!(client.text(), ":1\r\n");
-        sleep(Duration::from_millis(pause));
+        if has_begun {
+            until_waiting(1);
+        }
         client.stream.shutdown(Shutdown::Write).unwrap();
         assert_eq!(client.hear(), None);
         // The partition hears of it too.
-        sleep(Duration::from_millis(100));
+        until_waiting(0);
         assert_eq!(other.ask("RPUSH 4:0:shut v"), ":1\r\n");
         assert_eq!(other.ask("LLEN 4:0:shut"), ":1\r\n");
     }

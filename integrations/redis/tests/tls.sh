@@ -39,10 +39,7 @@ test_tls() {
   redis-cli "${secure[@]}" -p "${proxies[0]}" -x set 400:1:long < "$run/long" && redis-cli "${secure[@]}" \
     -p "${proxies[1]}" get 400:1:long | tr -d '\n' | cmp - "$run/long" || return
   # The node has heard all.
-  for _ in $(seq 100); do
-    [ -s "$run/board" ] && grep -q "$(printf 'SQ')" "$run/board" && return 0
-    sleep 0.05
-  done
+  await is_said "$(printf 'SQ')" "$run/board" && return
   cat "$run/node"
   return 1
 }
@@ -83,10 +80,13 @@ run_secure_nats() {
   log=$run/nats.$port
   launch "$run" "$log" nats-server -V -a 127.0.0.1 -p "$port" "$@"
   ids[$port]=$id
-  until grep -q "Server is ready" "$log"; do
-    kill -0 "$id" 2> /dev/null || { cat "$log"; return 1; }
-    sleep 0.02
-  done
+  await is_ready_or_ended "$log" "$id" && ! has_ended "$id" && return
+  cat "$log"
+  return 1
+}
+
+is_ready_or_ended() {
+  is_said "Server is ready" "$1" || has_ended "$2"
 }
 
 # Keys move while proxies, movers and a program in Python hear each other by TLS over NATS. The server asks for certificates.
@@ -111,11 +111,8 @@ test_tls_over_nats() {
   end_load && has_moved && agrees 3 4 || return
   # Nobody has spoken to the server in the clear.
   ! grep "TLS handshake error" "$said" || return
-  for _ in $(seq 100); do
-    grep -q "^key 400:0 partition 3 course 4" "$run/follow" && grep -q "$(printf 'SQ')" "$run/board" && kill "$follower" \
-      && return 0
-    sleep 0.05
-  done
+  await is_said "^key 400:0 partition 3 course 4" "$run/follow" && await is_said "$(printf 'SQ')" "$run/board" \
+    && kill "$follower" && return
   cat "$run/follow" "$run/node"
   return 1
 }
@@ -126,13 +123,9 @@ says() {
   shift
   rm -f "$run/node"
   launch "$run" node "$bin/squall-redis-node" --first "$top/examples/old.json" --board board "$@"
-  for _ in $(seq 200); do
-    grep -q -- "$said" "$run/node" 2> /dev/null && break
-    sleep 0.02
-  done
+  await is_said -- "$said" "$run/node" || { cat "$run/node"; return 1; }
   kill -KILL "$id"
-  wait "$id" 2> /dev/null
-  grep -q -- "$said" "$run/node" || { cat "$run/node"; return 1; }
+  wait "$id" 2> /dev/null || true
 }
 
 # Nobody talks to a stranger over NATS, or in the clear to who should have TLS.

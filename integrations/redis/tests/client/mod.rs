@@ -1,9 +1,14 @@
-//! A client, whose proxy `tools/integrations` names in SQUALL_PROXY.
+//! A client, whose proxy `tools/integrations` names in SQUALL_PROXY, and the first partition in SQUALL_PARTITION.
 
+use squall_redis::conn::{Conn, Server};
 use squall_redis::resp::{push, Scan};
 use std::io::{Read, Write};
 use std::net::TcpStream;
-use std::time::Duration;
+use std::thread::sleep;
+use std::time::{Duration, Instant};
+
+/// How long the machine may be busy with other things.
+const PATIENCE: Duration = Duration::from_secs(60);
 
 /// A client of a proxy.
 pub struct Client {
@@ -16,7 +21,7 @@ impl Client {
     pub fn new() -> Client {
         let addr = std::env::var("SQUALL_PROXY").expect("SQUALL_PROXY");
         let stream = TcpStream::connect(addr).unwrap();
-        stream.set_read_timeout(Some(Duration::from_secs(20))).unwrap();
+        stream.set_read_timeout(Some(PATIENCE)).unwrap();
         stream.set_nodelay(true).unwrap();
         Client { stream, heard: Vec::new() }
     }
@@ -46,6 +51,22 @@ impl Client {
     pub fn ask(&mut self, line: &str) -> String {
         self.send(&command(line));
         self.text()
+    }
+}
+
+/// Waits until so many clients of the first partition wait for a key. While all keys move none does: the proxy
+/// asks for them again and again, each time in one step, and so this only lets some time pass.
+pub fn until_waiting(count: usize) {
+    if is_moving() {
+        sleep(Duration::from_millis(100));
+        return;
+    }
+    let addr = std::env::var("SQUALL_PARTITION").expect("SQUALL_PARTITION").parse().unwrap();
+    let (mut conn, began) = (Conn::open(&Server::plain(addr)).unwrap(), Instant::now());
+    let wanted = format!("blocked_clients:{count}");
+    while !conn.ask(&["INFO", "clients"]).unwrap().text().lines().any(|line| line == wanted) {
+        assert!(began.elapsed() < PATIENCE, "never {wanted}");
+        sleep(Duration::from_millis(5));
     }
 }
 
