@@ -22,7 +22,8 @@ OLD, NEW = EXAMPLES / "old.json", EXAMPLES / "new.json"
 BUS = [str(HERE / "squall-bus")]
 COURSE = 2
 KEYS = ["2:0", "2:7", "7:1", "9:0"]
-_PATIENCE = 20.0
+#: How long anything may take: the machine may be busy with much else.
+_PATIENCE = 60.0
 
 
 def plan(path: Path) -> Plan:

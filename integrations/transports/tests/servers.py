@@ -17,7 +17,8 @@ from http.client import HTTPConnection
 from pathlib import Path
 from typing import Any, Dict, List, Optional
 
-_PATIENCE = 15.0
+#: How long a start or an answer may take: the machine may be busy with much else.
+_PATIENCE = 60.0
 #: A program that is started so is ended with the tests, however they end.
 _WITH_US = ["setpriv", "--pdeathsig", "KILL"]
 

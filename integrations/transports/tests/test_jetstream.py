@@ -75,9 +75,17 @@ class OnThree(kept.Kept):
         self.server = cluster
         cluster.deployment = f"test{next(NAMES)}.a"
         self.url = cluster.url()
-        # It is there at the second time.
+        # The servers have to find each other first. It is there at the second time.
         for _ in range(2):
+            until("the stream is there", self.is_set_up)
+
+    def is_set_up(self) -> bool:
+        """Whether the servers have made the stream."""
+        try:
             self.bus().setup()
+        except BusError:
+            return False
+        return True
 
 
 @unittest.skipUnless(find("nats-server"), "no nats-server")
@@ -130,11 +138,6 @@ class JetStream(OnThree):
         frames: List[bytes] = []
         until("all come", lambda: len(self.more(bus, frames)) >= wanted)
         self.assertEqual(bus.hear(0.1), [])
-        return frames
-
-    def more(self, bus: Bus, frames: List[bytes]) -> List[bytes]:
-        """Adds those that come."""
-        frames += [it.frame for it in bus.hear(0.2)]
         return frames
 
     def test_writers_and_merges_lose_nothing(self) -> None:

@@ -11,19 +11,17 @@ from squall import END, Course, Plan, Rank, Router, frame
 from squall_bus import BusError, Message, Node, TooLarge, open_bus
 from squall_bus.bus import Bus
 
-from .programs import OLD, CourseTest, plan
+from .programs import OLD, CourseTest, plan, until
 from .servers import Nats, NatsWith, Server, find
 
 FIRST = Plan.of([(0, END, 1)])
 
 
 def hear(bus: Bus) -> List[Message]:
-    """What comes within a second."""
-    for _ in range(20):
-        heard = bus.hear(0.05)
-        if heard:
-            return heard
-    return []
+    """What comes next."""
+    heard: List[Message] = []
+    until("something comes", lambda: bool(heard.extend(bus.hear(0.05)) or heard))
+    return heard
 
 
 class NatsTest(unittest.TestCase):
@@ -91,7 +89,9 @@ class Messages(NatsTest):
         one.ask(digest)
         (shown,) = hear(all_of_them)
         self.assertEqual(shown.frame, digest)
-        self.assertEqual(len(two.hear(0.2)) + len(three.hear(0.2)), 1)
+        group: List[Message] = []
+        until("one gets it", lambda: bool(group.extend(two.hear(0.1) + three.hear(0.1)) or group))
+        self.assertEqual(len(group) + len(two.hear(0.1)) + len(three.hear(0.1)), 1)
         assert shown.reply is not None
         two.answer(shown.reply, frame.opened(2, 0))
         self.assertEqual([it.frame for it in hear(one)], [frame.opened(2, 0)])
@@ -158,10 +158,7 @@ class Messages(NatsTest):
         while node.turn(0.05):
             pass
         server.start()
-        for _ in range(100):
-            node.turn(0.05)
-            if peer.turn(0.05):
-                break
+        until("the peer hears", lambda: bool(node.turn(0.05) or peer.turn(0.05)) and peer.taken > 0)
         self.assertEqual(peer.router.board(), node.router.board())
         for it in (node, peer):
             it.bus.close()
@@ -187,7 +184,7 @@ class Messages(NatsTest):
 
         follower = threading.Thread(target=follow)
         follower.start()
-        is_settled = publisher.settle(0.2, 10.0)
+        is_settled = publisher.settle(0.2, 60.0)
         done.set()
         follower.join()
         self.assertTrue(is_settled)
@@ -201,6 +198,5 @@ class Messages(NatsTest):
         for data in (b"", b"SQ", b"x" * 100, frame.opened(2, 0)[:-1], frame.opened(2, 0) * 2):
             stranger.answer("squall.frames", data)
         stranger.send(frame.opened(2, 0))
-        while not node.turn(0.1):
-            pass
+        until("the frame comes", lambda: node.turn(0.1))
         self.assertEqual((node.refused, node.taken), (5, 1))

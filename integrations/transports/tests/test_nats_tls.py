@@ -6,7 +6,7 @@ import shutil
 import tempfile
 import unittest
 from pathlib import Path
-from typing import ClassVar
+from typing import ClassVar, List
 
 from squall import Rank, Router, frame
 from squall_bus import BusError, Message, Tls, open_bus
@@ -14,6 +14,7 @@ from squall_bus.bus import Bus
 from squall_bus.pieces import ANY
 
 from .certificates import Certificate, authority
+from .programs import until
 from .servers import Nats, NatsWith, find
 
 
@@ -76,10 +77,8 @@ class Secure(unittest.TestCase):
     def is_heard(self, data: bytes, one: Bus, other: Bus) -> None:
         """What one sends comes to the other."""
         one.send(data)
-        for _ in range(50):
-            heard = other.hear(0.1)
-            if heard:
-                break
+        heard: List[Message] = []
+        until("it comes", lambda: bool(heard.extend(other.hear(0.1)) or heard))
         self.assertEqual(heard, [Message(data)])
 
     def test_frames_arrive(self) -> None:
