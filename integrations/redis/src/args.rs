@@ -127,10 +127,15 @@ impl Args {
     }
 }
 
-/// The first address of a name and a port.
+/// The address of a name and a port: the first of IPv4, or else the first. `localhost` is often both `::1` and `127.0.0.1`,
+/// and its servers may listen at the latter alone.
 pub fn resolve(addr: &str) -> Done<SocketAddr> {
-    let found = addr.to_socket_addrs().trying(|| addr.to_string())?.next();
-    found.ok_or_else(|| Fault::new(format!("{addr}: no address")))
+    let found: Vec<SocketAddr> = addr.to_socket_addrs().trying(|| addr.to_string())?.collect();
+    preferred(&found).ok_or_else(|| Fault::new(format!("{addr}: no address")))
+}
+
+fn preferred(found: &[SocketAddr]) -> Option<SocketAddr> {
+    found.iter().find(|it| it.is_ipv4()).or(found.first()).copied()
 }
 
 /// Runs a program: 0 if it is done, 1 if not, 2 if its words are wrong.
@@ -168,6 +173,13 @@ mod tests {
     fn parse(words: &str) -> Done<Args> {
         let words: Vec<String> = words.split_whitespace().map(String::from).collect();
         Args::parse(&words, &USAGE)
+    }
+
+    #[test]
+    fn an_address_of_ipv4_comes_first() {
+        let [old, other, new] = ["127.0.0.1:7", "127.0.0.2:7", "[::1]:7"].map(|it| it.parse().unwrap());
+        assert_eq!(preferred(&[new, old, other]), Some(old));
+        assert_eq!((preferred(&[new]), preferred(&[])), (Some(new), None));
     }
 
     #[test]
