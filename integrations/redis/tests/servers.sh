@@ -1,6 +1,6 @@
 # shellcheck shell=bash disable=SC2154,SC2034
 # Servers, proxies, movers and loads on loopback, for tools/integrations, which reads this file. It has set $work, a
-# temporary folder, and $bin, the folder of the programs.
+# temporary folder, $ports, one of the ports that were given, and $bin, the folder of the programs.
 
 # More words for the proxies, and for movers. How servers listen, and how redis-cli connects.
 limits=()
@@ -81,11 +81,11 @@ is_used() {
   (exec 3<> "/dev/tcp/127.0.0.1/$1") 2> /dev/null
 }
 
-# A port of loopback on which nobody listens, into the variable `port`.
+# A port of loopback on which nobody listens, and that no test was given before, into the variable `port`.
 free_port() {
   while :; do
     port=$((20000 + RANDOM % 12000))
-    is_used "$port" || return 0
+    mkdir "$ports/$port" 2> /dev/null && ! is_used "$port" && return
   done
 }
 

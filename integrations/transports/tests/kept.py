@@ -37,10 +37,15 @@ class Kept(CourseTest):
         self.addCleanup(node.bus.close)
         return node
 
-    def write(self, frames: List[bytes]) -> None:
-        """What a writer does. A server that is slow to answer is asked again."""
+    def write(self, frames: List[bytes], merged: threading.Event) -> None:
+        """What a writer does: after half of its frames it waits for a merge.
+
+        A server that is slow to answer is asked again.
+        """
         writer = self.node()
-        for it in frames:
+        for at, it in enumerate(frames):
+            if 2 * at == len(frames):
+                merged.wait(60)
             writer.tell(it)
 
     def works_in_spite_of_mishaps(self) -> None:
@@ -60,14 +65,17 @@ class Kept(CourseTest):
 
     def writers_and_merges_lose_nothing(self) -> None:
         """Four writers, two that merge, and a reader, all at once."""
-        reader = self.node()
-        writers = [threading.Thread(target=self.write, args=[FRAMES[at::4]]) for at in range(4)]
+        reader, merged = self.node(), threading.Event()
+        parts = [FRAMES[at::4] for at in range(4)]
+        writers = [threading.Thread(target=self.write, args=[it, merged]) for it in parts]
         for it in writers:
             it.start()
         mergers, merges = [self.bus(), self.bus()], 0
         while any(it.is_alive() for it in writers):
             reader.turn(0.01)
-            merges += mergers[merges % 2].merge().before > 1
+            if mergers[merges % 2].merge().before > 1:
+                merges += 1
+                merged.set()
         wanted = joined(FRAMES)
         until("the reader has all", lambda: reader.turn(0.05) or reader.router.board() == wanted)
         mergers[0].merge()

@@ -15,7 +15,7 @@ import time
 from contextlib import closing
 from http.client import HTTPConnection
 from pathlib import Path
-from typing import Any, Dict, List, Optional
+from typing import Any, Dict, List, Optional, Set
 
 #: How long a start or an answer may take: the machine may be busy with much else.
 _PATIENCE = 60.0
@@ -23,13 +23,32 @@ _PATIENCE = 60.0
 _WITH_US = ["setpriv", "--pdeathsig", "KILL"]
 
 
+_GIVEN: Set[int] = set()
+
+
 def free_port() -> int:
-    """A port on which nobody listens now, and none that the system gives to clients."""
+    """A port on which nobody listens now, and none that the system gives to clients.
+
+    It is given once: a server may begin to listen only after the next port is asked for.
+    """
     while True:
         port = random.randrange(20000, 32000)
         with closing(socket.socket()) as it:
-            if it.connect_ex(("127.0.0.1", port)) != 0:
+            if _is_new(port) and it.connect_ex(("127.0.0.1", port)) != 0:
                 return port
+
+
+def _is_new(port: int) -> bool:
+    """Whether no test was given it: here, or in a process that has the same SQUALL_PORTS."""
+    folder = os.environ.get("SQUALL_PORTS")
+    is_new = port not in _GIVEN
+    _GIVEN.add(port)
+    try:
+        if folder is not None:
+            Path(folder, str(port)).mkdir()
+    except FileExistsError:
+        return False
+    return is_new
 
 
 def find(name: str) -> Optional[str]:

@@ -1,7 +1,7 @@
 # shellcheck shell=bash disable=SC2154
 # Runs the tests of integrations/transports, for tools/integrations, which reads this file. It has set $work, a temporary
-# folder, and $top, the top of the clone. The tests start servers on loopback, and end them by their process ids. If the
-# tests are ended, the servers end with them.
+# folder, $ports, one of the ports that were given, and $top, the top of the clone. The tests start servers on loopback, and
+# end them by their process ids. If the tests are ended, the servers end with them.
 
 transports=(parts nodes nats nats_tls jetstream postgres etcd routers)
 
@@ -20,7 +20,7 @@ find_python() {
 # Starts the tests of that name, in a folder of their own.
 start_transport() {
   local path=$top/integrations/transports:$top/bindings/python
-  launch "$work/transports.$1" said env TMPDIR="$work" PYTHONPATH="$path" PYTHONDONTWRITEBYTECODE=1 \
+  launch "$work/transports.$1" said env TMPDIR="$work" SQUALL_PORTS="$ports" PYTHONPATH="$path" PYTHONDONTWRITEBYTECODE=1 \
     "$python" -m unittest "tests.test_$1"
 }
 
