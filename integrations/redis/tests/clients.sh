@@ -417,24 +417,28 @@ test_many_wait() {
 # A partition that stops without a word holds its clients up no longer than --answer, and others not at all. Once it goes on,
 # what was not answered was done once or not at all.
 test_silent_partition() {
-  local proxy limits=(--answer 500) patience=1000 id began value
+  local proxy limits=(--answer 500) patience=1000 began at
   deploy || return
   proxy=${proxies[0]}
-  # Both workers of the proxy are logged in.
-  for _ in 1 2; do redis-cli -p "$proxy" mset 1:0 x 600:0 0 | grep -qx OK || return; done
+  # Both workers of the proxy are logged in, and each then has one of the clients: they come in turn.
+  for _ in 1 2; do redis-cli -p "$proxy" mset 1:0 x 600:0 0 601:0 0 | grep -qx OK || return; done
+  exec 3<> "/dev/tcp/127.0.0.1/$proxy" 4<> "/dev/tcp/127.0.0.1/$proxy" || return
   kill -STOP "${ids[${servers[1]}]}"
   began=$SECONDS
-  launch "$run" silent redis-cli -p "$proxy" incr 600:0
-  sleep 0.1
+  printf '*2\r\n$4\r\nINCR\r\n$5\r\n600:0\r\n' >&3
+  printf '*2\r\n$4\r\nINCR\r\n$5\r\n601:0\r\n' >&4
   redis-cli -p "$proxy" get 1:0 | grep -qx x || return
-  wait "$id"
-  cat "$run/silent"
-  grep -q "ERR partition 2 did not answer: whether this was done is not known" "$run/silent" && [ $((SECONDS - began)) -lt 30 ] \
-    || return
+  for at in 3 4; do
+    IFS= read -r -t 60 -u "$at" line
+    echo "$line"
+    [ "$line" = $'-ERR partition 2 did not answer: whether this was done is not known\r' ] || return
+  done
+  exec 3>&- 4>&-
+  [ $((SECONDS - began)) -lt 30 ] || return
   # It is not let in again, since its log-in is not answered.
   redis-cli -p "$proxy" get 600:0 | grep TRYAGAIN || return
   kill -CONT "${ids[${servers[1]}]}"
-  await has_zero_or_one "$proxy" 600:0
+  await has_zero_or_one "$proxy" 600:0 && has_zero_or_one "$proxy" 601:0
 }
 
 has_zero_or_one() {

@@ -11,6 +11,7 @@ from pathlib import Path
 from typing import Callable, List
 
 from squall import END, Course, Plan, Rank, Router
+from squall_bus import Message
 from squall_bus.pieces import joined
 from squall_bus.publish import work_off
 
@@ -43,6 +44,18 @@ def until(what: str, is_so: Callable[[], bool]) -> None:
         if time.monotonic() > last:
             raise AssertionError(f"{what}: not within {_PATIENCE} s")
         time.sleep(0.02)
+
+
+def heard(hear: Callable[[], List[Message]]) -> List[Message]:
+    """What the first of these calls brings that brings anything."""
+    found: List[Message] = []
+
+    def has_come() -> bool:
+        found.extend(hear())
+        return bool(found)
+
+    until("anything comes", has_come)
+    return found
 
 
 class Program:

@@ -11,7 +11,7 @@ from squall import END, Course, Plan, Rank, Router, frame
 from squall_bus import BusError, Message, Node, TooLarge, open_bus
 from squall_bus.bus import Bus
 
-from .programs import OLD, CourseTest, plan, until
+from .programs import OLD, CourseTest, heard, plan, until
 from .servers import Nats, NatsWith, Server, find
 
 FIRST = Plan.of([(0, END, 1)])
@@ -19,9 +19,7 @@ FIRST = Plan.of([(0, END, 1)])
 
 def hear(bus: Bus) -> List[Message]:
     """What comes next."""
-    heard: List[Message] = []
-    until("something comes", lambda: bool(heard.extend(bus.hear(0.05)) or heard))
-    return heard
+    return heard(lambda: bus.hear(0.05))
 
 
 class NatsTest(unittest.TestCase):
@@ -87,13 +85,12 @@ class Messages(NatsTest):
         with Router(1, FIRST, FIRST) as router:
             digest = router.digest()
         one.ask(digest)
-        (shown,) = hear(all_of_them)
-        self.assertEqual(shown.frame, digest)
-        group: List[Message] = []
-        until("one gets it", lambda: bool(group.extend(two.hear(0.1) + three.hear(0.1)) or group))
+        shown = hear(all_of_them)
+        self.assertEqual([it.frame for it in shown], [digest])
+        group = heard(lambda: two.hear(0.1) + three.hear(0.1))
         self.assertEqual(len(group) + len(two.hear(0.1)) + len(three.hear(0.1)), 1)
-        assert shown.reply is not None
-        two.answer(shown.reply, frame.opened(2, 0))
+        assert shown[0].reply is not None
+        two.answer(shown[0].reply, frame.opened(2, 0))
         self.assertEqual([it.frame for it in hear(one)], [frame.opened(2, 0)])
         self.assertEqual(three.hear(0.05), [])
 
@@ -117,10 +114,9 @@ class Messages(NatsTest):
             one.send(board)
             pieces: List[bytes] = []
             while other.digest() != router.digest():
-                heard = hear(two)
-                self.assertTrue(heard)
-                pieces += [it.frame for it in heard]
-                for it in heard:
+                came = hear(two)
+                pieces += [it.frame for it in came]
+                for it in came:
                     other.hear(it.frame)
             self.assertEqual(other.board(), [board])
             self.assertTrue(all(len(it) <= 1024 for it in pieces))

@@ -6,7 +6,7 @@ import shutil
 import tempfile
 import unittest
 from pathlib import Path
-from typing import ClassVar, List
+from typing import ClassVar
 
 from squall import Rank, Router, frame
 from squall_bus import BusError, Message, Tls, open_bus
@@ -14,7 +14,7 @@ from squall_bus.bus import Bus
 from squall_bus.pieces import ANY
 
 from .certificates import Certificate, authority
-from .programs import until
+from .programs import heard
 from .servers import Nats, NatsWith, find
 
 
@@ -77,9 +77,7 @@ class Secure(unittest.TestCase):
     def is_heard(self, data: bytes, one: Bus, other: Bus) -> None:
         """What one sends comes to the other."""
         one.send(data)
-        heard: List[Message] = []
-        until("it comes", lambda: bool(heard.extend(other.hear(0.1)) or heard))
-        self.assertEqual(heard, [Message(data)])
+        self.assertEqual(heard(lambda: other.hear(0.1)), [Message(data)])
 
     def test_frames_arrive(self) -> None:
         server, tls = self.secure(), Tls(ca=self.known.path)
