@@ -186,7 +186,7 @@ test_node() {
   set_program && deploy || return
   for key in $(seq 330 2 670); do echo "set $key:0 x"; done | redis-cli -p "${proxies[0]}" > "$run/set"
   run_node
-  start_move 2 old new --chunk 1 --pause 40
+  start_move 2 old new --chunk 2 --pause 50
   moving=$id
   while kill -0 "$moving" 2> /dev/null; do
     sleep "0.0$((RANDOM % 90 + 10))"
