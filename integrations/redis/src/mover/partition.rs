@@ -160,12 +160,14 @@ impl Partition {
     /// Does commands at once, if the partition is in this course. Else a late mover would let in
     /// routers that another one has shut out.
     fn in_course(&mut self, commands: &[Vec<&str>]) -> Done<()> {
-        while !self.try_in_course(commands)? {}
+        // That of the partition ends with each command that is not refused.
+        let mut patience = Patience::default();
+        while !self.try_in_course(commands, &mut patience)? {}
         Ok(())
     }
 
     /// The same; false if the partition refuses for a reason that passes. Then nothing was done.
-    fn try_in_course(&mut self, commands: &[Vec<&str>]) -> Done<bool> {
+    fn try_in_course(&mut self, commands: &[Vec<&str>], patience: &mut Patience) -> Done<bool> {
         let late = || Fault::new("another course has begun");
         self.ask(&["WATCH", "squall:number"])?;
         if self.ask(&["GET", "squall:number"])?.text() != self.number {
@@ -178,8 +180,10 @@ impl Partition {
         self.conn.put(&["EXEC"]);
         let mut answers = self.conn.hear_all(commands.len() + 2)?;
         // A command that is refused is not queued. The answer to EXEC is the last one, and does not say why.
-        if !self.accepts(&answers)? {
-            return Ok(false);
+        match refusal(&answers) {
+            Some(error) if patience.bears(&self.conn, error) => return Ok(false),
+            Some(error) => return Err(self.explain(error)),
+            None => {}
         }
         match answers.pop() {
             Some(Value::List(done)) => match done.into_iter().find(|it| matches!(it, Value::Error(_))) {
@@ -248,16 +252,12 @@ impl Partition {
     ///
     /// One is a refusal that does not pass.
     pub fn accepts(&mut self, answers: &[Value]) -> Done<bool> {
-        let refusal = answers.iter().find_map(|answer| match answer {
-            Value::Error(error) => Some(error),
-            _ => None,
-        });
-        match refusal {
+        match refusal(answers) {
             None => self.patience.end(),
-            Some(error) if self.patience.bears(&self.conn, error) => {}
+            Some(error) if self.patience.bears(&self.conn, error) => return Ok(false),
             Some(error) => return Err(self.explain(error)),
         }
-        Ok(refusal.is_none())
+        Ok(true)
     }
 
     /// Asks, also again if a refusal passes, and explains one that does not.
@@ -298,6 +298,14 @@ impl Partition {
             _ => format!("partition {part}: {said}"),
         })
     }
+}
+
+/// The first refusal among answers.
+fn refusal(answers: &[Value]) -> Option<&str> {
+    answers.iter().find_map(|answer| match answer {
+        Value::Error(error) => Some(error.as_str()),
+        _ => None,
+    })
 }
 
 /// The first key and the edges of a line of `squall_moves`.
