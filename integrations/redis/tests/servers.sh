@@ -98,9 +98,10 @@ run_redis() {
   ids[$at]=$id
 }
 
-# Whether the server of that process id serves at that port.
+# Whether the server of that process id serves at that port, with all its data.
 is_up_or_ended() {
-  redis-cli "${secure[@]}" -p "$1" info server 2> /dev/null | grep -q "^process_id:$2"$'\r' || has_ended "$2"
+  [ "$(redis-cli "${secure[@]}" -p "$1" info 2> /dev/null | grep -cE "^(process_id:$2|loading:0)"$'\r')" -eq 2 ] \
+    || has_ended "$2"
 }
 
 # Starts one on a free port. Another program may take the port first.
