@@ -435,19 +435,25 @@ test_refusals_that_pass() {
   redis-cli -p "${servers[0]}" config set busy-reply-threshold 20 && redis-cli -p "${servers[2]}" config set maxmemory 1 || return
   start_move 2 old new --pause 100
   moving=$id
-  await has_borne OOM 1 && redis-cli -p "${servers[2]}" config set maxmemory 0 && agrees 2 2 900:0 || return
-  redis-cli -p "${servers[2]}" config set maxmemory 1 && await has_borne OOM 2 || return
+  bears OOM 1 && redis-cli -p "${servers[2]}" config set maxmemory 0 && agrees 2 2 900:0 || return
+  redis-cli -p "${servers[2]}" config set maxmemory 1 && bears OOM 2 || return
   redis-cli -p "${servers[2]}" config set maxmemory 0 || return
   launch "$run" endless redis-cli -p "${servers[0]}" eval 'while true do end' 0
-  await has_borne BUSY 1 && redis-cli -p "${servers[0]}" script kill || return
+  bears BUSY 1 && redis-cli -p "${servers[0]}" script kill || return
   stop "$bus"
-  await has_borne bus: 1 && run_redis "$bus" || return
+  bears bus: 1 && run_redis "$bus" || return
   wait "$moving" || { cat "$run/mover"; return 1; }
   cat "$run/mover"
   end_load && has_moved && agrees 3 2
 }
 
-# Whether the mover has said so often that it bears this.
+# Waits until the mover has said so often that it bears this.
+bears() {
+  await has_borne "$@" && return
+  cat "$run/mover"
+  return 1
+}
+
 has_borne() {
   [ "$(grep -c "$1.* tried again" "$run/mover")" -ge "$2" ]
 }
