@@ -1,16 +1,16 @@
 //! Readers and writers whose contracts count what happened: how many reads were made, how many
-//! calls failed, and how many gave or took no byte.
+//! calls failed, and how many gave or took no byte. A writer also says whether it is a terminal.
 //!
 //! A program that must say why it stopped needs these counts. With them "the writer failed" is a
 //! fact about the writer, and not only about what the program answers.
 #![tactic(auto)]
 
-ghost use Rattle.std.specs.Prelude.{◌≡◌, ◌≤◌, length, IfOk, is_err};
+ghost use Rattle.std.specs.Prelude.{◌≡◌, ◌≤◌, Bool, false, length, IfOk, is_err};
 ghost use Rattle.std.specs.Io.KnownBytes.{ReadConsumes, WriteAppends};
 ghost use Rattle.squall_cli_device.specs.Counts.{one_more, counted, is_idle};
 ghost use Rattle.squall_cli_device.specs.States.{SourceState, SinkState, unread_source, unwritten_sink};
 
-use std::io::{Read, Write};
+use std::io::{IsTerminal, Read, Write};
 
 /// A device failed. Nothing was read or written by the call that failed.
 #[derive(Clone, Copy, Debug, PartialEq, Eq)]
@@ -35,6 +35,13 @@ pub trait Source {
 pub trait Sink {
     /// What it has taken, and how many writes failed or took nothing.
     ghost state: { Self → SinkState };
+
+    /// Whether it is a terminal.
+    ghost terminal: { Self → Bool };
+
+    /// Whether it is a terminal, so that what it takes is seen at once and can be overwritten.
+    fn is_terminal(&self) -> bool
+        ensures { result ≡ terminal self.now };
 
     /// Takes some bytes from the beginning of `buf`, and returns how many. After a fault none was
     /// taken, and each call counts.
@@ -91,17 +98,35 @@ impl<R: Read> Source for Reader<R> {
 #[derive(Drop)]
 pub struct Writer<W> {
     inner: W,
+    is_terminal: bool,
     faults: u64,
     empties: u64,
 }
 
 impl<W: Write> Writer<W> {
-    /// The sink that adds to what `inner` has taken, with nothing counted yet.
+    /// The sink that adds to what `inner` has taken, with nothing counted yet. It is no terminal.
     pub fn new(inner: W) -> Self
-        ensures { ⟦<Writer<W> as Sink>⟧.state result ≡ unwritten_sink (W.contents inner) }
+        ensures state { ⟦<Writer<W> as Sink>⟧.state result ≡ unwritten_sink (W.contents inner) }
+        ensures plain { ⟦<Writer<W> as Sink>⟧.terminal result ≡ false }
     {
         Writer {
             inner,
+            is_terminal: false,
+            faults: 0,
+            empties: 0,
+        }
+    }
+}
+
+impl<W: Write + IsTerminal> Writer<W> {
+    /// The same, and it is a terminal if `inner` says so. That is asked once, here.
+    pub fn on_stream(inner: W) -> Self
+        ensures { ⟦<Writer<W> as Sink>⟧.state result ≡ unwritten_sink (W.contents inner) }
+    {
+        let is_terminal = inner.is_terminal();
+        Writer {
+            inner,
+            is_terminal,
             faults: 0,
             empties: 0,
         }
@@ -110,6 +135,12 @@ impl<W: Write> Writer<W> {
 
 impl<W: Write> Sink for Writer<W> {
     ghost state = { λ s. record { contents = W.contents s.inner; faults = s.faults; empties = s.empties } };
+
+    ghost terminal = { λ s. s.is_terminal };
+
+    fn is_terminal(&self) -> bool {
+        self.is_terminal
+    }
 
     fn write(&mut self, buf: &[u8]) -> Result<usize, DeviceFault> {
         match self.inner.write(buf) {

@@ -3,7 +3,7 @@ ghost use Rattle.std.specs.Prelude.{◌≡◌, IfOk};
 
 use super::{DeviceFault, Reader, Sink, Source, Writer};
 use std::io;
-use std::io::{ErrorKind, Read, Write};
+use std::io::{ErrorKind, IsTerminal, Read, Write};
 use std::test::Fail;
 
 /// Gives and takes one byte at each second call, and is interrupted at each other one.
@@ -61,12 +61,38 @@ impl Write for Full {
     }
 }
 
+/// Takes no byte, and says whether it is a terminal.
+#[derive(Drop)]
+struct Screen {
+    is_there: bool,
+}
+
+impl Write for Screen {
+    fn write(&mut self, _buf: &[u8]) -> io::Result<usize> {
+        Ok(0)
+    }
+
+    fn flush(&mut self) -> io::Result<()> {
+        Ok(())
+    }
+}
+
+impl IsTerminal for Screen {
+    fn is_terminal(&self) -> bool {
+        self.is_there
+    }
+}
+
 fn first_read<S: Source>(source: &mut S, buf: &mut [u8]) -> Result<usize, DeviceFault> {
     source.read(buf)
 }
 
 fn first_write<K: Sink>(sink: &mut K, buf: &[u8]) -> Result<usize, DeviceFault> {
     sink.write(buf)
+}
+
+fn is_screen<K: Sink>(sink: &K) -> bool {
+    sink.is_terminal()
 }
 
 #[test]
@@ -119,4 +145,16 @@ fn writes_pass_through(rt: HostRuntime) -> Result<(), Fail> {
     assert!(rt; full.write(b"a") == Ok(0));
     assert!(rt; full.empties == 1);
     Ok(())
+}
+
+/// A writer is a terminal only if it was asked and said so. Writes don't change that.
+#[test]
+fn terminals_say_so(rt: HostRuntime) {
+    assert!(rt; !is_screen(&Writer::new(Screen { is_there: true })));
+    for is_there in [false, true] {
+        let mut writer = Writer::on_stream(Screen { is_there });
+        assert!(rt; is_screen(&writer) == is_there);
+        assert!(rt; writer.write(b"a") == Ok(0));
+        assert!(rt; is_screen(&writer) == is_there);
+    }
 }
