@@ -104,17 +104,25 @@ pub struct Writer<W> {
 }
 
 impl<W: Write> Writer<W> {
+    /// The sink that adds to what `inner` has taken, with nothing counted yet.
+    fn starting(inner: W, is_terminal: bool) -> Self
+        ensures state { ⟦<Writer<W> as Sink>⟧.state result ≡ unwritten_sink (W.contents inner) }
+        ensures terminal { ⟦<Writer<W> as Sink>⟧.terminal result ≡ is_terminal }
+    {
+        Writer {
+            inner,
+            is_terminal,
+            faults: 0,
+            empties: 0,
+        }
+    }
+
     /// The sink that adds to what `inner` has taken, with nothing counted yet. It is no terminal.
     pub fn new(inner: W) -> Self
         ensures state { ⟦<Writer<W> as Sink>⟧.state result ≡ unwritten_sink (W.contents inner) }
         ensures plain { ⟦<Writer<W> as Sink>⟧.terminal result ≡ false }
     {
-        Writer {
-            inner,
-            is_terminal: false,
-            faults: 0,
-            empties: 0,
-        }
+        Writer::starting(inner, false)
     }
 }
 
@@ -124,12 +132,7 @@ impl<W: Write + IsTerminal> Writer<W> {
         ensures { ⟦<Writer<W> as Sink>⟧.state result ≡ unwritten_sink (W.contents inner) }
     {
         let is_terminal = inner.is_terminal();
-        Writer {
-            inner,
-            is_terminal,
-            faults: 0,
-            empties: 0,
-        }
+        Writer::starting(inner, is_terminal)
     }
 }
 
