@@ -69,7 +69,7 @@ fn run<R: Threads + Wait + Sync>(rt: &HostRuntime, threads: &R) -> io::Result<u8
     let mut files = SystemFiles { rt };
     let mut input = Reader::new(rt.stdin());
     let mut out = Writer::new(rt.stdout());
-    let mut err = Writer::new(rt.stderr());
+    let mut err = Writer::on_stream(rt.stderr());
     Ok(perform(
         threads,
         rt.alloc(),

@@ -6,10 +6,10 @@ use Rattle.std.specs.Prelude.{IfErr, OnOk, OnErr}
 use Rattle.squall_cli_device.specs.States.{SinkState, TookBytes, OutputFails, NoWriteFails}
 use Rattle.squall_cli_lines.specs.declared.RunFault.{RunFault}
 use Rattle.squall_cli_lines.specs.declared.RunFault.TheVariants.{Write}
-use Rattle.squall_cli_lines.specs.Heeding.{HeedsWrites}
+use Rattle.squall_cli_lines.specs.Heeding.{HeedsWrites, Says}
 use Rattle.squall_cli_lines.proofs.Bytes.{fine_is_no_error}
 use Rattle.squall_cli_ask.specs.Told.{status_of}
-use Rattle.squall_cli_ask.specs.Told.{fault_told, Says, IsTold}
+use Rattle.squall_cli_ask.specs.Told.{fault_told, IsTold}
 
 -- of a call that sends a text it is told whether a write failed
 pub unfailed : {T : Type 0} (x : T) (old new : SinkState) → HeedsWrites (Ok x) old new → NoWriteFails old new

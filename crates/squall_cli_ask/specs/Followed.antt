@@ -1,7 +1,8 @@
 -- What is answered to standard input as it comes (this project's command line).
-use Rattle.std.specs.Prelude.{◌≡◌, ◌⊎◌, ℕ, List, [], Result, MatchBool, map, string_bytes}
+use Rattle.std.specs.Prelude.{◌≡◌, ◌⊎◌, ◌≤◌, ℕ, List, [], Bool, Option, Result, MatchBool, map, string_bytes}
 use Rattle.std.specs.List.{list_any}
 use Rattle.std.specs.Io.KnownBytes.{Appends, Consumes, IsAtEnd}
+use Rattle.squall_cli_device.specs.States.{SinkState}
 use Rattle.squall_cli_lines.specs.declared.Ended.{Ended}
 use Rattle.squall_cli_lines.specs.declared.RunFault.{RunFault}
 use Rattle.squall_cli_command.specs.declared.stream.Stream.{Stream}
@@ -9,7 +10,7 @@ use Rattle.squall_cli_command.specs.declared.stream.Stream.TheVariants.{Keys, Fr
 use Rattle.squall_cli_command.specs.declared.stream.Follow.{Follow}
 use Rattle.squall_cli_boards.specs.Files.{FileValue}
 use Rattle.squall_cli_stream.specs.Written.{AnswersKeys}
-use Rattle.squall_cli_stream.specs.Watching.{WatchesFiles}
+use Rattle.squall_cli_stream.specs.Watching.{WatchesFiles, ShowsBarsOfFiles}
 use Rattle.squall_cli_ask.specs.Files.{is_input}
 use Rattle.squall_cli_ask.specs.Reads.{Bytes}
 use Rattle.squall_cli_ask.specs.Told.{status_of}
@@ -40,3 +41,17 @@ abbrev pub IsFollowed : Stream → Bytes → Bytes → List (List ℕ) → ℕ �
 IsFollowed stream before after names status = MatchBool (list_any is_input names)
     (((status ≡ 2) ⊎ (status ≡ 4)) × Appends before.output after.output [] × Consumes before.input after.input [])
     (AnswersStream stream before after names status ⊎ AnswersNothing before after status)
+
+-- ---- bars
+
+-- what was drawn on standard error after these files, by what was returned: bars of a course that is watched, and otherwise nothing
+abbrev pub IsDrawnFor : Stream → Bool → Result Ended RunFault → List FileValue → Option (List ℕ) → Option (List ℕ) → SinkState → SinkState → Type 0
+IsDrawnFor Keys terminal outcome files before after err err' = err' ≡ err
+IsDrawnFor (Frames form) terminal outcome files before after err err' = ShowsBarsOfFiles terminal files outcome before after err err'
+
+-- the same by the names of the files and by the status; without the files nothing is drawn
+abbrev pub DrawsStream : Stream → Bool → Bytes → Bytes → List (List ℕ) → ℕ → SinkState → SinkState → Type 0
+DrawsStream stream terminal before after names status err err' =
+    ((outcome : Result Ended RunFault) × (files : List FileValue) × (status ≡ status_of outcome)
+    × AreRead before.files before.input before.input names files × IsDrawnFor stream terminal outcome files before.input after.input err err')
+    ⊎ ((2 ≤ status) × (err' ≡ err))

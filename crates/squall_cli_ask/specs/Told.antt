@@ -1,8 +1,6 @@
 -- The status of the program, and what is told with it on standard error (this project's command line).
 use Rattle.std.specs.Prelude.{◌≡◌, ◌≢◌, ◌⊎◌, ℕ, List, [], ◌++◌, Result, Ok, Err, codes}
 use Rattle.std.specs.Io.{StartsWith}
-use Rattle.squall_cli_device.specs.States.{SinkState, TookBytes, OutputFails}
-use Rattle.squall_cli_lines.specs.Script.{IsPrefix}
 use Rattle.squall_cli_lines.specs.Faults.{text_of_run_fault}
 use Rattle.squall_cli_lines.specs.declared.Ended.{Ended}
 use Rattle.squall_cli_lines.specs.declared.Ended.TheVariants.{Fine, Refused}
@@ -47,10 +45,6 @@ abbrev pub input_taken_told : List ℕ
 input_taken_told = codes "error: standard input is read as it comes, so that no file can be -\n"
 
 -- ---- what was told
-
--- a text was told: standard error took a prefix of it, and all of it unless a write there failed or took no byte
-abbrev pub Says : SinkState → SinkState → List ℕ → Type 0
-Says old new text = (said : List ℕ) × TookBytes old new said × IsPrefix said text × ((said ≡ text) ⊎ OutputFails old new)
 
 -- The text goes with the status: it is that of an outcome with this status; or, with status 3, that of a file that can't be opened
 -- and has one of these names; or, with status 2, it says what is wrong with the words.

@@ -3,11 +3,11 @@
 ghost use Rattle.std.specs.Prelude.{◌≡◌, ◌≢◌, ◌⊎◌, ◌↔◌, ◌<◌, ℕ, List, true, false, map, string_bytes, Contains, None};
 ghost use Rattle.std.specs.List.{list_all, list_any};
 ghost use Rattle.squall_cli_device.specs.States.{FoundEnd, NoReadFails, OutputFails, NoWriteFails};
-ghost use Rattle.squall_cli_lines.specs.Heeding.{InputFails};
+ghost use Rattle.squall_cli_lines.specs.Heeding.{InputFails, Says};
 ghost use Rattle.squall_cli_boards.specs.Questions.{IsAskable};
 ghost use Rattle.squall_cli_ask.specs.Files.{is_input};
 ghost use Rattle.squall_cli_ask.specs.Reads.{bytes_at};
-ghost use Rattle.squall_cli_ask.specs.Told.{IsTold, Says, no_report_told};
+ghost use Rattle.squall_cli_ask.specs.Told.{IsTold, no_report_told};
 ghost use Rattle.squall_cli_ask.specs.Asked.{words_asked, question_asked, files_asked, AnswersWith, IsInquired};
 
 use crate::answer::answer_files;

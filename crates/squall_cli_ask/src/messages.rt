@@ -1,8 +1,9 @@
 //! What is written to standard error, and the status that goes with it.
 
 ghost use Rattle.std.specs.Prelude.{◌≡◌, Ok, Err, IfErr, IfOk, IsOk};
+ghost use Rattle.squall_cli_lines.specs.Heeding.{Says};
 ghost use Rattle.squall_cli_ask.specs.Told.{status_of};
-ghost use Rattle.squall_cli_ask.specs.Told.{fault_told, outcome_told, unopened_told, Says};
+ghost use Rattle.squall_cli_ask.specs.Told.{fault_told, outcome_told, unopened_told};
 
 use squall_cli_device::Sink;
 use squall_cli_lines::{Ended, RunFault, send_text};

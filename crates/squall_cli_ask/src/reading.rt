@@ -3,11 +3,11 @@
 ghost use Rattle.std.specs.Prelude.{◌≡◌, ◌≢◌, ◌⊎◌, ◌++◌, ◌∷◌, ◌||◌, ℕ, List, [], true, false, map, string_bytes, Contains, Err, IfErr, IfOk, IsOk, OnOk};
 ghost use Rattle.std.specs.List.{list_all, list_any};
 ghost use Rattle.squall_cli_device.specs.States.{FoundEnd, NoReadFails};
-ghost use Rattle.squall_cli_lines.specs.Heeding.{InputFails};
+ghost use Rattle.squall_cli_lines.specs.Heeding.{InputFails, Says};
 ghost use Rattle.squall_cli_boards.specs.Files.{file_with};
 ghost use Rattle.squall_cli_ask.specs.Files.{is_input};
 ghost use Rattle.squall_cli_ask.specs.Reads.{inputs_at, ReadsFrom, ReadsAll};
-ghost use Rattle.squall_cli_ask.specs.Told.{IsTold, IsUnread, Says};
+ghost use Rattle.squall_cli_ask.specs.Told.{IsTold, IsUnread};
 ghost use Rattle.squall_cli_ask.specs.Gathered.{AreRead, IsNextRead, TakesSome};
 
 use crate::files::Files;

@@ -2,13 +2,13 @@
 
 ghost use Rattle.std.specs.Prelude.{◌≡◌, ◌≢◌, ◌⊎◌, ◌↔◌, ℕ, List, true, false, map, string_bytes, Contains, Ok, Err};
 ghost use Rattle.std.specs.List.{list_all, list_any};
-ghost use Rattle.squall_cli_device.specs.States.{FoundEnd, GaveAll, NoReadFails, OutputFails, NoWriteFails, ReadAndWrote};
-ghost use Rattle.squall_cli_lines.specs.Heeding.{InputFails, HeedsReads, HeedsWrites};
+ghost use Rattle.squall_cli_device.specs.States.{SinkState, FoundEnd, GaveAll, NoReadFails, OutputFails, NoWriteFails, ReadAndWrote};
+ghost use Rattle.squall_cli_lines.specs.Heeding.{InputFails, HeedsReads, HeedsWrites, Says};
 ghost use Rattle.squall_cli_ask.specs.Files.{is_input};
 ghost use Rattle.squall_cli_ask.specs.Reads.{bytes_at};
-ghost use Rattle.squall_cli_ask.specs.Told.{IsTold, Says, input_taken_told};
+ghost use Rattle.squall_cli_ask.specs.Told.{IsTold, input_taken_told};
 ghost use Rattle.squall_cli_ask.specs.Asked.{AnswersNothing};
-ghost use Rattle.squall_cli_ask.specs.Followed.{files_followed, IsStreamed, AnswersStream, IsFollowed};
+ghost use Rattle.squall_cli_ask.specs.Followed.{files_followed, IsStreamed, AnswersStream, IsFollowed, IsDrawnFor, DrawsStream};
 
 use crate::files::Files;
 use crate::messages::{BAD_WORDS, say, tell_outcome};
@@ -44,22 +44,25 @@ fn tell_input_taken<E: Sink>(err: &mut E) -> u8
     BAD_WORDS
 }
 
-/// Answers standard input by the files that were read.
-fn answer_input<S: Source, O: Sink>(
+/// Answers standard input by the files that were read. A course that is watched has a bar on `err`.
+fn answer_input<S: Source, O: Sink, E: Sink>(
     alloc: Global,
     stream: Stream,
     files: &[NamedFile],
     input: &mut S,
     out: &mut O,
+    err: &mut E,
 ) -> Result<Ended, RunFault>
     ensures text { ReadAndWrote (S.state input.old) (S.state input.new) (O.state out.old) (O.state out.new) (IsStreamed stream result files.now) }
     ensures fine { result ≡ Ok Ended.Fine → GaveAll (S.state input.old) (S.state input.new) }
     ensures heeds_reads { HeedsReads result (S.state input.old) (S.state input.new) }
     ensures heeds_writes { HeedsWrites result (O.state out.old) (O.state out.new) }
+    ensures bars { IsDrawnFor stream (E.terminal err.old) result files.now (S.state input.old).remaining (S.state input.new).remaining
+        (E.state err.old) (E.state err.new) }
 {
     match stream {
         Stream::Keys => answer_keys(alloc, files, input, out),
-        Stream::Frames(form) => watch_files(alloc, form, files, input, out),
+        Stream::Frames(form) => watch_files(alloc, form, files, input, out, err),
     }
 }
 
@@ -82,10 +85,15 @@ fn answer_after<F: Files, S: Source, O: Sink, E: Sink>(
         ⊎ (OutputFails (O.state out.old) (O.state out.new) ⊎ (list_all is_input (files_followed follow.now) ≡ false)) }
     ensures taken { result ≢ 2 }
     ensures heeds { result ≢ 3 → NoReadFails (S.state input.old) (S.state input.new) × NoWriteFails (O.state out.old) (O.state out.new) }
-    ensures told { (text : List ℕ) × IsTold (Contains (files_followed follow.now)) result text × Says (E.state err.old) (E.state err.new) text }
+    ensures told { (drawn : SinkState) × DrawsStream follow.now.stream (E.terminal err.old) (bytes_at (F.known files.old) (S.state input.old) (O.state out.old))
+        (bytes_at (F.known files.new) (S.state input.new) (O.state out.new)) (files_followed follow.now) result (E.state err.old) drawn
+        × (text : List ℕ) × IsTold (Contains (files_followed follow.now)) result text × Says drawn (E.state err.new) text }
 {
     match read_files(alloc, &follow.files, files, input, err) {
-        Ok(read) => tell_outcome(answer_input(alloc, follow.stream, &read, input, out), err),
+        Ok(read) => {
+            let outcome = answer_input(alloc, follow.stream, &read, input, out, err);
+            tell_outcome(outcome, err)
+        }
         Err(status) => status,
     }
 }
@@ -101,7 +109,8 @@ fn answer_after<F: Files, S: Source, O: Sink, E: Sink>(
 /// - 3: a file can't be opened, a read failed or found no end, or a write failed or took nothing.
 /// - 4: an allocation failed.
 ///
-/// With status 3 or 4 `err` says which.
+/// With status 3 or 4 `err` says which. If `err` is a terminal and a course is watched, it shows bars
+/// before that, as [`watch_files`] does.
 pub fn answer_stream<F: Files, S: Source, O: Sink, E: Sink>(
     alloc: Global,
     follow: &Follow,
@@ -117,7 +126,9 @@ pub fn answer_stream<F: Files, S: Source, O: Sink, E: Sink>(
         ⊎ (list_all is_input (files_followed follow.now) ≡ false)) }
     ensures bad { (result ≡ 2) ↔ (list_any is_input (files_followed follow.now) ≡ true) }
     ensures heeds { result ≢ 3 → NoReadFails (S.state input.old) (S.state input.new) × NoWriteFails (O.state out.old) (O.state out.new) }
-    ensures told { (text : List ℕ) × IsTold (Contains (files_followed follow.now)) result text × Says (E.state err.old) (E.state err.new) text }
+    ensures told { (drawn : SinkState) × DrawsStream follow.now.stream (E.terminal err.old) (bytes_at (F.known files.old) (S.state input.old) (O.state out.old))
+        (bytes_at (F.known files.new) (S.state input.new) (O.state out.new)) (files_followed follow.now) result (E.state err.old) drawn
+        × (text : List ℕ) × IsTold (Contains (files_followed follow.now)) result text × Says drawn (E.state err.new) text }
 {
     if names_input(&follow.files) {
         return tell_input_taken(err);

@@ -36,6 +36,8 @@ ends the answers.
 With --json each frame that changes the object of squall status --json is answered with that object,
 on one line.
 
+If standard error is a terminal, a bar there shows how many of the keys are loaded.
+
 Example:
   tail -c +1 -f board.bin | squall watch old.json new.json
   tail -c +1 -f board.bin | squall watch --json old.json new.json";

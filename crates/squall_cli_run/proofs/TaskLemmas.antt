@@ -15,15 +15,15 @@ use Rattle.squall_cli_lines.specs.Script.{silence}
 use Rattle.squall_cli_command.specs.declared.form.Form.{Form}
 use Rattle.squall_cli_command.specs.Line.{Job, check, course, run, race, ask, stream, title, Asks, AsksForHelp, IsFaulty, shows_help}
 use Rattle.squall_cli_ask.specs.Files.{KnownFile, Unknown, Missing, Holds, Opens, BeginsFile, IsWholeFile, is_input}
-use Rattle.squall_cli_ask.specs.Reads.{bytes_of, ReadsFrom, ReadsAll}
+use Rattle.squall_cli_ask.specs.Reads.{Bytes, bytes_of, ReadsFrom, ReadsAll}
 use Rattle.squall_cli_ask.specs.Told.{status_of, IsUnread}
 use Rattle.squall_cli_ask.specs.Asked.{question_of, files_of}
 use Rattle.squall_cli_ask.proofs.Inquired.{nothing_inquired}
-use Rattle.squall_cli_ask.proofs.Followed.{nothing_followed}
+use Rattle.squall_cli_ask.proofs.Followed.{nothing_followed, nothing_drawn}
 use Rattle.squall_cli_run.specs.declared.tasks.Purpose.{Purpose}
 use Rattle.squall_cli_run.specs.declared.tasks.Purpose.TheVariants as purpose
 use Rattle.squall_cli_run.specs.Output.{Output, course_in, IsWritten}
-use Rattle.squall_cli_run.specs.Tasks.{ShowsCourseWith, IsDone, EndsInput, NamesFile, ShowsHelp}
+use Rattle.squall_cli_run.specs.Tasks.{ShowsCourseWith, IsDone, DrawsFor, DrawsByWords, EndsInput, NamesFile, ShowsHelp}
 use Rattle.squall_cli_run.specs.Sources.{IsAnswered, NeedsAll, IsDoneBy}
 
 -- ---- nothing is read
@@ -237,3 +237,34 @@ device_of_words A B words job asks (inr (inr n)) = inr (inr (job, asks, n))
 -- an allocation failed before help was written
 pub help_unwritten : (o : SinkState) (status : ℕ) → status ≡ 4 → ShowsHelp o o status
 help_unwritten o status e = (Err NoMemory, title, [], e, refl, Appends-nil o.contents, refl)
+
+-- ---- bars
+
+module _ (terminal : Bool) (before after : Bytes) (status : ℕ) (e : SinkState) where
+  -- nothing is drawn for a task with files of its own
+  pub undrawn_check : (job : Job) (form : Form) (name : List ℕ) → job ≡ check form name → DrawsFor job terminal before after status e e
+  undrawn_check job form name is = subst (λ j. DrawsFor j terminal before after status e e) (sym is) refl
+
+  pub undrawn_course : (job : Job) (form : Form) (old new : List ℕ) → job ≡ course form old new → DrawsFor job terminal before after status e e
+  undrawn_course job form old new is = subst (λ j. DrawsFor j terminal before after status e e) (sym is) refl
+
+  pub undrawn_run : (job : Job) (name : List ℕ) → job ≡ run name → DrawsFor job terminal before after status e e
+  undrawn_run job name is = subst (λ j. DrawsFor j terminal before after status e e) (sym is) refl
+
+  pub undrawn_race : (job : Job) (name : List ℕ) → job ≡ race name → DrawsFor job terminal before after status e e
+  undrawn_race job name is = subst (λ j. DrawsFor j terminal before after status e e) (sym is) refl
+
+  -- nor for any task if an allocation failed before it
+  pub undrawn_unasked : status ≡ 4 → (job : Job) → DrawsFor job terminal before after status e e
+  undrawn_unasked is (check form name) = refl
+  undrawn_unasked is (course form old new) = refl
+  undrawn_unasked is (run name) = refl
+  undrawn_unasked is (race name) = refl
+  undrawn_unasked is (ask inquiry words files) = refl
+  undrawn_unasked is (stream kind files) = nothing_drawn kind terminal before after files status e (omega arith)
+
+-- what is drawn for the task that the words ask for
+pub drawn_for_words : (words : List (List ℕ)) (job : Job) (terminal : Bool) (before after : Bytes) (status : ℕ) (e e' : SinkState) → Asks words job → DrawsFor job terminal before after status e e'
+    → DrawsByWords words terminal before after status e e'
+drawn_for_words words job terminal before after status e e' asks draws =
+    ((λ other also. subst (λ j. DrawsFor j terminal before after status e e') (one_job words job other asks also) draws), inr (job, asks))

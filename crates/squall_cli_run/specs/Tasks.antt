@@ -1,5 +1,5 @@
 -- What the program does for a task, and its status (this project's command line).
-use Rattle.std.specs.Prelude.{◌≡◌, ◌⊎◌, ℕ, ◌<◌, List, [], true, false, ◌&&◌, ◌||◌, None, Result, MatchBool}
+use Rattle.std.specs.Prelude.{◌≡◌, ◌⊎◌, ℕ, ◌<◌, List, [], Bool, true, false, ◌&&◌, ◌||◌, None, Result, MatchBool}
 use Rattle.std.specs.List.{list_all, list_any}
 use Rattle.std.specs.Io.{StartsWith}
 use Rattle.std.specs.Io.KnownBytes.{Appends}
@@ -13,7 +13,7 @@ use Rattle.squall_cli_ask.specs.Files.{is_input}
 use Rattle.squall_cli_ask.specs.Reads.{Bytes, ReadsFrom, ReadsAll}
 use Rattle.squall_cli_ask.specs.Told.{status_of}
 use Rattle.squall_cli_ask.specs.Asked.{question_of, files_of, IsInquired}
-use Rattle.squall_cli_ask.specs.Followed.{IsFollowed}
+use Rattle.squall_cli_ask.specs.Followed.{IsFollowed, DrawsStream}
 use Rattle.squall_cli_scenario.specs.Text.{IsScript}
 use Rattle.squall_cli_run.specs.Output.{check_in, course_in, IsWritten}
 use Rattle.squall_cli_run.specs.Races.{IsRaced}
@@ -64,6 +64,24 @@ IsDone before after (run name) status = RunsWith before after name status
 IsDone before after (race name) status = RacesWith before after name status
 IsDone before after (ask inquiry words files) status = IsInquired (question_of inquiry words) words before after (files_of inquiry words files) status
 IsDone before after (stream kind files) status = IsFollowed kind before after files status
+
+-- ---- what is drawn
+
+-- what is drawn on standard error for a task: bars if it watches a course on a terminal, and otherwise nothing
+abbrev pub DrawsFor : Job → Bool → Bytes → Bytes → ℕ → SinkState → SinkState → Type 0
+DrawsFor (check form name) terminal before after status err err' = err' ≡ err
+DrawsFor (course form old new) terminal before after status err err' = err' ≡ err
+DrawsFor (run name) terminal before after status err err' = err' ≡ err
+DrawsFor (race name) terminal before after status err err' = err' ≡ err
+DrawsFor (ask inquiry words files) terminal before after status err err' = err' ≡ err
+DrawsFor (stream kind files) terminal before after status err err' = DrawsStream kind terminal before after files status err err'
+
+-- the same by the words: nothing is drawn if they ask for no task
+abbrev pub DrawsByWords : List (List ℕ) → Bool → Bytes → Bytes → ℕ → SinkState → SinkState → Type 0
+DrawsByWords words terminal before after status err err' =
+    ((job : Job) → Asks words job → DrawsFor job terminal before after status err err') × ((err' ≡ err) ⊎ ((job : Job) × Asks words job))
+
+-- ---- help
 
 -- a text that begins with the program's name and version is written, as far as the outcome with that status says
 abbrev pub ShowsHelp : SinkState → SinkState → ℕ → Type 0

@@ -1,12 +1,12 @@
 //! What the words of a command line bring about.
 
 ghost use Rattle.std.specs.Prelude.{◌≡◌, ◌≢◌, ◌⊎◌, ◌↔◌, ℕ, List};
-ghost use Rattle.squall_cli_device.specs.States.{FoundEnd, NoReadFails, OutputFails, NoWriteFails};
+ghost use Rattle.squall_cli_device.specs.States.{SinkState, FoundEnd, NoReadFails, OutputFails, NoWriteFails};
 ghost use Rattle.squall_cli_command.specs.Line.{Job, words_of, Asks, AsksForHelp, IsFaulty};
-ghost use Rattle.squall_cli_lines.specs.Heeding.{InputFails};
+ghost use Rattle.squall_cli_lines.specs.Heeding.{InputFails, Says};
 ghost use Rattle.squall_cli_ask.specs.Reads.{bytes_at};
-ghost use Rattle.squall_cli_ask.specs.Told.{IsTold, Says};
-ghost use Rattle.squall_cli_run.specs.Tasks.{IsDone, EndsInput, NamesFile, AreBad, ShowsHelp};
+ghost use Rattle.squall_cli_ask.specs.Told.{IsTold};
+ghost use Rattle.squall_cli_run.specs.Tasks.{IsDone, DrawsByWords, EndsInput, NamesFile, AreBad, ShowsHelp};
 ghost use Rattle.squall_cli_run.specs.Named.{NamesIt};
 
 use crate::output::write_output;
@@ -65,8 +65,9 @@ fn show_fault<'a, E: Sink>(alloc: Global, words: &'a [&'a str], err: &mut E) -> 
 ///   `err` says which.
 /// - 4: an allocation failed, as `err` says.
 ///
-/// Nothing is written to `err` with status 0 or 1. A write to `err` that fails is the last one, and
-/// the status stays what it is.
+/// With status 0 or 1 `err` gets no text. If it is a terminal and a course is watched, it shows a bar
+/// before any text. A write to `err` that fails is the last of the bars or of the text that it is
+/// part of, and the status stays what it is.
 ///
 /// [`run_text`], [`race_text`], [`check_text`] and [`course_text`] say what `out` has after a fault.
 ///
@@ -98,8 +99,11 @@ pub fn perform<'a, R: Threads + Wait + Sync, F: Files, S: Source, O: Sink, E: Si
 
     // A read of standard input that failed gives status 3, and so does a write to `out` that failed or took nothing.
     ensures heeds { result ≢ 3 → NoReadFails (S.state input.old) (S.state input.new) × NoWriteFails (O.state out.old) (O.state out.new) }
-    // What is added to `err` is the text that goes with the status, whole unless a write to `err` failed or took nothing.
-    ensures told { (text : List ℕ) × IsTold (NamesIt (words_of words.entry.now)) result text × Says (E.state err.old) (E.state err.new) text }
+    // `err` gets the bars of a course that is watched, if it is a terminal, and then the text that goes with the status, if no write fails.
+    ensures told { (drawn : SinkState) × DrawsByWords (words_of words.entry.now) (E.terminal err.old)
+        (bytes_at (F.known files.old) (S.state input.old) (O.state out.old)) (bytes_at (F.known files.new) (S.state input.new) (O.state out.new))
+        result (E.state err.old) drawn
+        × (text : List ℕ) × IsTold (NamesIt (words_of words.entry.now)) result text × Says drawn (E.state err.new) text }
 
     // Unless an allocation failed, status 2 comes exactly for bad words,
     ensures bad { result ≢ 4 → (result ≡ 2) ↔ AreBad (words_of words.entry.now) }

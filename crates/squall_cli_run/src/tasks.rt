@@ -1,13 +1,13 @@
 //! What the program does for a task.
 
 ghost use Rattle.std.specs.Prelude.{◌≡◌, ◌≢◌, ◌⊎◌, ◌↔◌, ◌&&◌, ℕ, List, true, false};
-ghost use Rattle.squall_cli_device.specs.States.{FoundEnd, GaveAll, NoReadFails, OutputFails, NoWriteFails, ReadAndWrote};
-ghost use Rattle.squall_cli_lines.specs.Heeding.{InputFails};
+ghost use Rattle.squall_cli_device.specs.States.{SinkState, FoundEnd, GaveAll, NoReadFails, OutputFails, NoWriteFails, ReadAndWrote};
+ghost use Rattle.squall_cli_lines.specs.Heeding.{InputFails, Says};
 ghost use Rattle.squall_cli_command.specs.Line.{course, job_seen};
 ghost use Rattle.squall_cli_ask.specs.Files.{is_input};
 ghost use Rattle.squall_cli_ask.specs.Reads.{bytes_at};
-ghost use Rattle.squall_cli_ask.specs.Told.{status_of, IsTold, Says};
-ghost use Rattle.squall_cli_run.specs.Tasks.{ShowsCourseWith, IsDone, EndsInput, NamesFile, CannotBe};
+ghost use Rattle.squall_cli_ask.specs.Told.{status_of, IsTold};
+ghost use Rattle.squall_cli_run.specs.Tasks.{ShowsCourseWith, IsDone, DrawsFor, EndsInput, NamesFile, CannotBe};
 ghost use Rattle.squall_cli_run.specs.Named.{IsNamed};
 ghost use Rattle.squall_cli_run.specs.Sources.{IsAnswered, NeedsAll, IsDoneBy};
 
@@ -143,7 +143,9 @@ pub(crate) fn do_task<R: Threads + Wait + Sync, F: Files, S: Source, O: Sink, E:
         ⊎ (OutputFails (O.state out.old) (O.state out.new) ⊎ NamesFile (job_seen task.now)) }
     ensures bad { result ≢ 4 → (result ≡ 2) ↔ CannotBe (job_seen task.now) }
     ensures heeds { result ≢ 3 → NoReadFails (S.state input.old) (S.state input.new) × NoWriteFails (O.state out.old) (O.state out.new) }
-    ensures told { (text : List ℕ) × IsTold (IsNamed (job_seen task.now)) result text × Says (E.state err.old) (E.state err.new) text }
+    ensures told { (drawn : SinkState) × DrawsFor (job_seen task.now) (E.terminal err.old) (bytes_at (F.known files.old) (S.state input.old) (O.state out.old))
+        (bytes_at (F.known files.new) (S.state input.new) (O.state out.new)) result (E.state err.old) drawn
+        × (text : List ℕ) × IsTold (IsNamed (job_seen task.now)) result text × Says drawn (E.state err.new) text }
 {
     let file = match task {
         Task::Check(form, plan) => (Purpose::Check(*form), plan.as_str()),

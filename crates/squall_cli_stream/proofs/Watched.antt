@@ -1,5 +1,5 @@
 -- What was written while the course of two texts was watched.
-use Rattle.std.proofs.Common.{◌≡◌, ℕ, List, [], Some, Result, Ok, Err, refl, sym, subst, ap}
+use Rattle.std.proofs.Common.{◌≡◌, ℕ, List, [], Bool, Option, Some, Result, Ok, Err, refl, sym, subst, ap}
 use Rattle.std.proofs.lemmas.Option.{none-some, same_Some}
 use Rattle.std.proofs.KnownBytes.{Appends-nil, Consumes-nil}
 use Rattle.std.specs.Prelude.{codes}
@@ -12,10 +12,13 @@ use Rattle.squall_cli_lines.specs.declared.RunFault.TheVariants.{NoMemory}
 use Rattle.squall_cli_command.specs.declared.form.Form.{Form}
 use Rattle.squall_cli_boards.specs.Answers.{AnswerValue, refusing_plan}
 use Rattle.squall_cli_boards.specs.Plans.{refusal_in}
-use Rattle.squall_cli_watch.specs.Watched.{Watches}
+use Rattle.squall_board.specs.Boards.{empty_board}
+use Rattle.squall_cli_watch.specs.Watched.{Watches, first_course}
+use Rattle.squall_cli_watch.specs.Drawn.{ShowsBars}
 use Rattle.squall_cli_watch.proofs.Watching.{nothing_watched}
+use Rattle.squall_cli_watch.proofs.Shown.{nothing_shown}
 use Rattle.squall_cli_stream.specs.Written.{IsRefusal}
-use Rattle.squall_cli_stream.specs.Watching.{WatchesPlans}
+use Rattle.squall_cli_stream.specs.Watching.{WatchesPlans, ShowsBarsOf}
 
 module _ (form : Form) (p q : Result (List PlanRange) PlanFault) (result : Result Ended RunFault) (a b : SourceState) (x y : SinkState) where
   -- both are plans
@@ -44,3 +47,24 @@ none_watched form (Err fault) q = (refl, refl)
 
 pub nothing_followed : (form : Form) (p q : Result (List PlanRange) PlanFault) (a : SourceState) (x : SinkState) → ReadAndWrote a a x x (WatchesPlans form p q (Err NoMemory))
 nothing_followed form p q a x = ([], [], Consumes-nil a.remaining, Appends-nil x.contents, none_watched form p q)
+
+-- ---- bars
+
+module _ (terminal : Bool) (before after : Option (List ℕ)) (x y : SinkState) where
+  -- both are plans
+  pub plans_shown : (p q : Result (List PlanRange) PlanFault) (result : Result Ended RunFault) (old new : List PlanRange) → p ≡ Ok old → q ≡ Ok new
+      → ShowsBars terminal (first_course old new) empty_board result before after x y → ShowsBarsOf terminal p q result before after x y
+  plans_shown p q result old new is also w = subst (λ r. ShowsBarsOf terminal r q result before after x y) (sym is) (subst (λ r. ShowsBarsOf terminal (Ok old) r result before after x y) (sym also) w)
+
+-- one is refused
+pub refused_unshown : (form : Form) (terminal : Bool) (p q : Result (List PlanRange) PlanFault) (result : Result Ended RunFault) (before after : Option (List ℕ)) (x : SinkState) (answer : AnswerValue)
+    → refusal_in form p q ≡ Some answer → ShowsBarsOf terminal p q result before after x x
+refused_unshown form terminal (Ok old) (Ok new) result before after x answer e = absurd (none-some answer e)
+refused_unshown form terminal (Ok old) (Err fault) result before after x answer e = refl
+refused_unshown form terminal (Err fault) q result before after x answer e = refl
+
+-- an allocation failed before anything was read
+pub memory_unshown : (terminal : Bool) (p q : Result (List PlanRange) PlanFault) (before after : Option (List ℕ)) (x : SinkState) → ShowsBarsOf terminal p q (Err NoMemory) before after x x
+memory_unshown terminal (Ok old) (Ok new) before after x = nothing_shown terminal _ _ before after x
+memory_unshown terminal (Ok old) (Err fault) before after x = refl
+memory_unshown terminal (Err fault) q before after x = refl

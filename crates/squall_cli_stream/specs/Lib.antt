@@ -14,6 +14,7 @@ pub use Rattle.squall_cli_boards.specs.Files
 pub use Rattle.squall_cli_boards.specs.Answers
 pub use Rattle.squall_cli_boards.specs.Courses
 pub use Rattle.squall_cli_watch.specs.Watched
+pub use Rattle.squall_cli_watch.specs.Drawn
 pub mod Known
 pub mod Found
 pub mod Keys

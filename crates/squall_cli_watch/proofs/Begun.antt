@@ -9,7 +9,10 @@ use Rattle.squall_cli_lines.specs.Script.{Script, after, last_word}
 use Rattle.squall_cli_lines.specs.declared.Flow.TheVariants.{On, End}
 use Rattle.squall_cli_lines.proofs.RunningLemmas.{concat-append}
 use Rattle.squall_cli_watch.specs.Watched.{fault_at_end}
+use Rattle.squall_board.specs.Boards.{BoardValue}
 use Rattle.squall_cli_watch.specs.Taken.{TakesFrame, TakesFrames}
+use Rattle.squall_cli_watch.specs.Drawn.{joined}
+use Rattle.squall_cli_watch.specs.Drawing.{JoinsFrame, JoinsFrames}
 
 pub after-after : (a b : List (List ℕ)) (s : Script) → after a (after b s) ≡ after (a ++ b) s
 after-after a b s = ap (λ (w : List (List ℕ)). record { answers = w; refused = s.refused }) (sym (append_assoc a b s.answers))
@@ -58,3 +61,21 @@ module _ (old now next : List Body → Option WireFault → Script → Type 0) (
   begun_fault e text is p = λ tail.
       subst (λ b. old b (Some e) (after texts (last_word text))) (append-nil all)
       (begun [] (Some e) (last_word text) (subst (λ b. now (b ++ []) (Some e) (last_word text)) (sym is) p))
+
+-- These frames are left of all, and a board was made of those before: what is left and what comes after it makes of it what all make of the
+-- old one.
+abbrev pub Joining : BoardValue → BoardValue → List Body → List Body → Type 0
+Joining old now left all = (more : List Body) → joined old (all ++ more) ≡ joined now (left ++ more)
+
+module _ (old now next : BoardValue) (left all : List Body) (begun : Joining old now left all) where
+  pub joining_more : (body : Body) (rest : List Body) → left ≡ body ∷ rest → JoinsFrame On now next body → Joining old next rest all
+  joining_more body rest is j = λ more. begun more ∙ ap (λ w. joined now (w ++ more)) is ∙ j (rest ++ more)
+
+  pub joining_ends : (body : Body) (rest : List Body) (fault : Option WireFault) → left ≡ body ∷ rest → JoinsFrame End now next body → JoinsFrames End old next all fault
+  joining_ends body rest fault is j = sym (ap (joined old) (append-nil all)) ∙ begun [] ∙ ap (λ w. joined now (w ++ [])) is ∙ j (rest ++ [])
+
+pub joining_all : (old now : BoardValue) (left all : List Body) → Joining old now left all → left ≡ [] → JoinsFrames On old now all None
+joining_all old now left all begun is = (refl, λ more. begun more ∙ ap (λ w. joined now (w ++ more)) is)
+
+pub joining_fault : (old now : BoardValue) (left all : List Body) (fault : Option WireFault) → Joining old now left all → left ≡ [] → JoinsFrames End old now all fault
+joining_fault old now left all fault begun is = sym (ap (joined old) (append-nil all)) ∙ begun [] ∙ ap (λ w. joined now (w ++ [])) is

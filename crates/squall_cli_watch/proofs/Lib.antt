@@ -1,3 +1,5 @@
 pub mod Front
 pub mod Begun
 pub mod Watching
+pub mod Drawing
+pub mod Shown

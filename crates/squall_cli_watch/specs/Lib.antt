@@ -11,7 +11,11 @@ pub use Rattle.squall_cli_device.specs.States
 pub use Rattle.squall_cli_lines.specs.Lines
 pub use Rattle.squall_cli_lines.specs.Script
 pub use Rattle.squall_cli_lines.specs.Heeding
+pub use Rattle.squall_cli_bar.specs.Bars
+pub use Rattle.squall_cli_bar.specs.BarLines
 pub use Rattle.squall_cli_json.specs.Values
 pub mod Changed
 pub mod Watched
 pub mod Taken
+pub mod Drawn
+pub mod Drawing

@@ -1,14 +1,19 @@
 //! Watches a course.
 
-ghost use Rattle.std.specs.Prelude.{◌≡◌, ℕ, IfOk, Ok, length};
+ghost use Rattle.std.specs.Prelude.{◌≡◌, ℕ, IfOk, Ok, false, length, true};
+ghost use Rattle.squall_board.specs.Boards.{empty_board};
 ghost use Rattle.squall_cli_device.specs.States.{GaveAll, ReadAndWrote};
 ghost use Rattle.squall_cli_lines.specs.Heeding.{HeedsReads, HeedsWrites};
+ghost use Rattle.squall_cli_watch.specs.Drawn.{ShowsBars};
+ghost use Rattle.squall_cli_watch.specs.Drawing.{DrawsOn};
 ghost use Rattle.squall_cli_watch.specs.Taken.{plays};
-ghost use Rattle.squall_cli_watch.specs.Watched.{IsWatchedBy, Watches};
+ghost use Rattle.squall_cli_watch.specs.Watched.{IsWatchedBy, Watches, first_course};
 
+use crate::bar::start_line;
 use crate::piece::{answer_end, answer_piece};
 use crate::watcher::Watcher;
 use squall_board::Board;
+use squall_cli_bar::BarLine;
 use squall_cli_command::Form;
 use squall_cli_device::{Sink, Source};
 use squall_cli_lines::{BLOCK_SIZE, Ended, Flow, MOST_READS, RunFault};
@@ -23,18 +28,24 @@ fn block_room(alloc: Global, size: usize) -> Result<Vec<u8>, AllocError>
     vec![in alloc; 0u8; size]
 }
 
-/// Answers the frames that `reader` gives.
-fn answer_frames<S: Source, K: Sink>(
+/// Answers the frames that `reader` gives, above the bar. The line is ended before the end of the
+/// input is answered.
+fn answer_frames<S: Source, K: Sink, E: Sink>(
     alloc: Global,
     watcher: &mut Watcher,
     reader: &mut S,
     writer: &mut K,
+    line: &mut BarLine,
+    err: &mut E,
 ) -> Result<Ended, RunFault>
     ensures text { ReadAndWrote (S.state reader.old) (S.state reader.new) (K.state writer.old) (K.state writer.new)
         (IsWatchedBy result (plays watcher.old)) }
     ensures fine { result ≡ Ok Ended.Fine → GaveAll (S.state reader.old) (S.state reader.new) }
     ensures heeds_reads { HeedsReads result (S.state reader.old) (S.state reader.new) }
     ensures heeds_writes { HeedsWrites result (K.state writer.old) (K.state writer.new) }
+    ensures off { line.old.on ≡ false → (line.new.on ≡ false) × (E.state err.new ≡ E.state err.old) }
+    ensures bars { line.old.on ≡ true → DrawsOn watcher.old.first watcher.old.board line.old.shown result
+        (S.state reader.old).remaining (S.state reader.new).remaining (E.state err.old) (E.state err.new) line.new.on }
 {
     let mut room = block_room(alloc, BLOCK_SIZE)?;
     let block = room.as_mut_slice();
@@ -44,14 +55,38 @@ fn answer_frames<S: Source, K: Sink>(
             return Err(RunFault::Read);
         };
         if n == 0 {
+            line.end(err);
             return answer_end(watcher.form, &waiting, writer);
         }
-        match answer_piece(alloc, watcher, &mut waiting, &block[..n], writer)? {
+        let piece = &block[..n];
+        match answer_piece(alloc, watcher, &mut waiting, piece, writer, line, err)? {
             Flow::On => {}
             Flow::End => return Ok(Ended::Refused),
         }
     }
     Err(RunFault::Read)
+}
+
+/// Answers the frames that `reader` gives, with a bar if `err` is a terminal.
+fn answer_with_bar<S: Source, K: Sink, E: Sink>(
+    alloc: Global,
+    watcher: &mut Watcher,
+    reader: &mut S,
+    writer: &mut K,
+    err: &mut E,
+) -> Result<Ended, RunFault>
+    ensures text { ReadAndWrote (S.state reader.old) (S.state reader.new) (K.state writer.old) (K.state writer.new)
+        (IsWatchedBy result (plays watcher.old)) }
+    ensures fine { result ≡ Ok Ended.Fine → GaveAll (S.state reader.old) (S.state reader.new) }
+    ensures heeds_reads { HeedsReads result (S.state reader.old) (S.state reader.new) }
+    ensures heeds_writes { HeedsWrites result (K.state writer.old) (K.state writer.new) }
+    ensures bars { ShowsBars (E.terminal err.old) watcher.old.first watcher.old.board result
+        (S.state reader.old).remaining (S.state reader.new).remaining (E.state err.old) (E.state err.new) }
+{
+    let mut line = start_line(alloc, watcher, err)?;
+    let ended = answer_frames(alloc, watcher, reader, writer, &mut line, err);
+    line.end(err);
+    ended
 }
 
 /// Watches how far the newest course comes, from that of the two plans on. It reads the frames of
@@ -61,6 +96,11 @@ fn answer_frames<S: Source, K: Sink>(
 /// is answered with all lines. As JSON it answers with the object of the status, on one line, if that
 /// is another than after the frame before. The answers to the frames that end in one read are written
 /// before the next read.
+///
+/// If `err` is a terminal, it shows a bar of the newest course: before the first read, and after each
+/// read that of all boards so far. The bar is erased while answers are written, so that both can be on
+/// one terminal. At the end it stays, on a line of its own. If a write to `err` fails, no bar is drawn
+/// any more, and nothing else changes. If it is no terminal, nothing is written to it.
 ///
 /// A frame that is broken is answered with `refused - FAULT`, as a file named `-` is, or with the JSON
 /// object of that. A digest is a frame of another kind, `Kind`. Bytes at the end of the input that are
@@ -75,13 +115,14 @@ fn answer_frames<S: Source, K: Sink>(
 /// A read or a write that failed is always answered so. What was read stays read.
 ///
 /// [`MOST_READS`]: squall_cli_lines::MOST_READS
-pub fn watch<S: Source, K: Sink>(
+pub fn watch<S: Source, K: Sink, E: Sink>(
     alloc: Global,
     form: Form,
     old: &Plan,
     new: &Plan,
     reader: &mut S,
     writer: &mut K,
+    err: &mut E,
 ) -> Result<Ended, RunFault>
     // What is written is the answers to the frames that were read, and those of earlier reads came before the last read.
     ensures text { ReadAndWrote (S.state reader.old) (S.state reader.new) (K.state writer.old) (K.state writer.new)
@@ -93,6 +134,10 @@ pub fn watch<S: Source, K: Sink>(
     // A device is the cause of its fault, no failed read or write is passed over, and reads are limited.
     ensures heeds_reads { HeedsReads result (S.state reader.old) (S.state reader.new) }
     ensures heeds_writes { HeedsWrites result (K.state writer.old) (K.state writer.new) }
+
+    // On a terminal bars are drawn, and on another sink nothing is.
+    ensures bars { ShowsBars (E.terminal err.old) (first_course old.now new.now) empty_board result
+        (S.state reader.old).remaining (S.state reader.new).remaining (E.state err.old) (E.state err.new) }
 {
     let first = Course::first(alloc, old, new)?;
     let mut watcher = Watcher {
@@ -101,5 +146,5 @@ pub fn watch<S: Source, K: Sink>(
         board: Board::new(alloc),
         shown: String::new(alloc),
     };
-    answer_frames(alloc, &mut watcher, reader, writer)
+    answer_with_bar(alloc, &mut watcher, reader, writer, err)
 }

@@ -1,14 +1,18 @@
 //! Answers one piece of the input, and its end.
 
-ghost use Rattle.std.specs.Prelude.{◌≡◌, ◌≢◌, ◌++◌, ℕ, List, Err, IfOk};
+ghost use Rattle.std.specs.Prelude.{◌≡◌, ◌≢◌, ◌++◌, ℕ, List, Err, IfOk, OnOk};
 ghost use Rattle.std.specs.List.{concat};
 ghost use Rattle.squall_cli_device.specs.States.{TookBytes};
 ghost use Rattle.squall_cli_lines.specs.Heeding.{HeedsWrites};
+ghost use Rattle.squall_cli_watch.specs.Drawn.{IsNewestBar};
+ghost use Rattle.squall_cli_watch.specs.Drawing.{JoinsBytes, JoinsPiece, ShowsPiece};
 ghost use Rattle.squall_cli_watch.specs.Taken.{plays, TakesPiece, AnswersPiece, AnswersEnd};
 
+use crate::bar::{next_bar, send_above};
 use crate::hearing::hear;
 use crate::refusal::unfinished;
 use crate::watcher::Watcher;
+use squall_cli_bar::BarLine;
 use squall_cli_command::Form;
 use squall_cli_device::{DeviceFault, Sink};
 use squall_cli_lines::{Ended, Flow, RunFault, send};
@@ -23,8 +27,10 @@ fn take_piece(
     piece: &[u8],
     out: &mut Vec<u8>,
 ) -> Result<Flow, AllocError>
-    ensures { IfOk result (λ flow. (texts : List (List ℕ)) × (out.new.items ≡ out.old.items ++ concat texts)
+    ensures texts { IfOk result (λ flow. (texts : List (List ℕ)) × (out.new.items ≡ out.old.items ++ concat texts)
         × TakesPiece flow texts (plays watcher.old) (plays watcher.new) (waiting.old.items ++ piece.now) waiting.new.items) }
+    ensures board { IfOk result (λ flow. JoinsBytes flow watcher.old.board watcher.new.board (waiting.old.items ++ piece.now) waiting.new.items) }
+    ensures first { OnOk result (watcher.new.first ≡ watcher.old.first) }
 {
     waiting.extend_from_slice(piece)?;
     let (heard, rest) = hear(alloc, waiting)?;
@@ -34,21 +40,27 @@ fn take_piece(
     Ok(flow)
 }
 
-/// Writes the answers to the frames that end in the piece.
-pub(crate) fn answer_piece<K: Sink>(
+/// Writes the answers to the frames that end in the piece, above the bar.
+pub(crate) fn answer_piece<K: Sink, E: Sink>(
     alloc: Global,
     watcher: &mut Watcher,
     waiting: &mut Vec<u8>,
     piece: &[u8],
     writer: &mut K,
+    line: &mut BarLine,
+    err: &mut E,
 ) -> Result<Flow, RunFault>
     ensures text { (sent : List ℕ) × TookBytes (K.state writer.old) (K.state writer.new) sent
         × AnswersPiece result (plays watcher.old) (plays watcher.new) (waiting.old.items ++ piece.now) waiting.new.items sent }
     ensures heeds { HeedsWrites result (K.state writer.old) (K.state writer.new) }
+    ensures board { JoinsPiece result watcher.old.board watcher.new.board (waiting.old.items ++ piece.now) waiting.new.items }
+    ensures first { result ≢ Err RunFault.NoMemory → watcher.new.first ≡ watcher.old.first }
+    ensures bar { ShowsPiece result (IsNewestBar watcher.new.first watcher.new.board) line.old line.new (E.state err.old) (E.state err.new) }
 {
     let mut out = Vec::new(alloc);
     let flow = take_piece(alloc, watcher, waiting, piece, &mut out)?;
-    match send(writer, &out) {
+    let bar = next_bar(alloc, watcher, line, &out)?;
+    match send_above(&out, bar, line, writer, err) {
         Ok(()) => Ok(flow),
         Err(DeviceFault) => Err(RunFault::Write),
     }

@@ -1,7 +1,9 @@
 //! The status of the newest course.
 
 ghost use Rattle.std.specs.Prelude.{◌≡◌, IfOk, string_bytes};
+ghost use Rattle.squall_board.specs.Boards.{says};
 ghost use Rattle.squall_board.specs.CourseRoute.{course_of_board};
+ghost use Rattle.squall_status.specs.Summary.{IsStatusOf};
 ghost use Rattle.squall_cli_watch.specs.Watched.{status_in, IsStatusText};
 
 use squall_board::Board;
@@ -25,20 +27,27 @@ fn status_text(alloc: Global, form: Form, status: &CourseStatus) -> Result<Strin
     }
 }
 
-/// How far the course has come, as the board says.
-fn course_text(
+/// How far the newest course has come of which the board tells, or else the first.
+pub(crate) fn newest_status(
     alloc: Global,
-    form: Form,
-    course: &Course,
+    first: &Course,
     board: &Board,
-) -> Result<String, AllocError>
-    ensures { IfOk result (λ text. IsStatusText form course.now board.now (string_bytes text)) }
+) -> Result<CourseStatus, AllocError>
+    ensures { IfOk result (λ status. IsStatusOf (course_of_board first.now board.now) (says board.now) status) }
 {
-    let status = CourseStatus::of(alloc, course, board)?;
-    status_text(alloc, form, &status)
+    match board.newest(first) {
+        Some((number, issue)) => {
+            let Ok(course) = Course::new(alloc, number, issue.old(), issue.new_plan()) else {
+                // The number is above that of the first course, so that only memory is missing.
+                return Err(AllocError);
+            };
+            CourseStatus::of(alloc, &course, board)
+        }
+        None => CourseStatus::of(alloc, first, board),
+    }
 }
 
-/// How far the newest course has come of which the board tells, or else the first.
+/// The same in the form.
 pub(crate) fn newest_text(
     alloc: Global,
     form: Form,
@@ -47,14 +56,6 @@ pub(crate) fn newest_text(
 ) -> Result<String, AllocError>
     ensures { IfOk result (λ text. IsStatusText form (course_of_board first.now board.now) board.now (string_bytes text)) }
 {
-    match board.newest(first) {
-        Some((number, issue)) => {
-            let Ok(course) = Course::new(alloc, number, issue.old(), issue.new_plan()) else {
-                // The number is above that of the first course, so that only memory is missing.
-                return Err(AllocError);
-            };
-            course_text(alloc, form, &course, board)
-        }
-        None => course_text(alloc, form, first, board),
-    }
+    let status = newest_status(alloc, first, board)?;
+    status_text(alloc, form, &status)
 }

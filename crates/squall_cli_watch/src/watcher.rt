@@ -6,6 +6,7 @@ ghost use Rattle.squall_board.specs.Boards.{board_join};
 ghost use Rattle.squall_wire.specs.Messages.{body_of};
 ghost use Rattle.squall_cli_watch.specs.Changed.{change_in};
 ghost use Rattle.squall_cli_watch.specs.Watched.{IsNewestText};
+ghost use Rattle.squall_cli_watch.specs.Drawing.{JoinsFrame, JoinsFrames};
 ghost use Rattle.squall_cli_watch.specs.Taken.{plays, TakesFrame, TakesFrames};
 
 use crate::changed::add_change;
@@ -55,8 +56,10 @@ impl Watcher {
         message: &Message,
         out: &mut Vec<u8>,
     ) -> Result<Flow, AllocError>
-        ensures { IfOk result (λ flow. (text : List ℕ) × (out.new.items ≡ out.old.items ++ text)
+        ensures text { IfOk result (λ flow. (text : List ℕ) × (out.new.items ≡ out.old.items ++ text)
             × TakesFrame flow text (plays self.old) (plays self.new) (body_of message.now)) }
+        ensures board { IfOk result (λ flow. JoinsFrame flow self.old.board self.new.board (body_of message.now)) }
+        ensures first { OnOk result (self.new.first ≡ self.old.first) }
     {
         match message {
             Message::Delta(delta) => {
@@ -79,8 +82,10 @@ impl Watcher {
         fault: Option<WireFault>,
         out: &mut Vec<u8>,
     ) -> Result<Flow, AllocError>
-        ensures { IfOk result (λ flow. (texts : List (List ℕ)) × (out.new.items ≡ out.old.items ++ concat texts)
+        ensures texts { IfOk result (λ flow. (texts : List (List ℕ)) × (out.new.items ≡ out.old.items ++ concat texts)
             × TakesFrames flow texts (plays self.old) (plays self.new) (map body_of messages.now) fault) }
+        ensures board { IfOk result (λ flow. JoinsFrames flow self.old.board self.new.board (map body_of messages.now) fault) }
+        ensures first { OnOk result (self.new.first ≡ self.old.first) }
     {
         for message in messages {
             match self.take_message(alloc, message, out)? {

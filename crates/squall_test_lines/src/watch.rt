@@ -1,4 +1,6 @@
 // What is written while frames come, over readers and writers that give and take one byte, or fail.
+mod bar;
+
 use squall_cli_command::Form;
 use squall_cli_device::{Reader, Writer};
 use squall_cli_lines::{Ended, RunFault};
@@ -158,7 +160,15 @@ fn watched(
         taken: &mut taken,
         room: devices.room,
     });
-    let ended = watch(alloc, form, &old, &new, &mut reader, &mut writer);
+    let ended = watch(
+        alloc,
+        form,
+        &old,
+        &new,
+        &mut reader,
+        &mut writer,
+        &mut Writer::new(io::sink()),
+    );
     drop(writer);
     Some((ended, taken))
 }

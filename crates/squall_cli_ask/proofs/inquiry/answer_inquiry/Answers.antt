@@ -2,11 +2,11 @@ use Rattle.std.proofs.Common.{◌≡◌, ◌⊎◌, inl, List, ℕ, Err, false, 
 use Rattle.std.specs.Prelude.{Contains, map, string_bytes}
 use Rattle.std.specs.List.{list_all}
 use Rattle.squall_cli_device.specs.States.{OutputFails}
-use Rattle.squall_cli_lines.specs.Heeding.{InputFails}
+use Rattle.squall_cli_lines.specs.Heeding.{InputFails, Says}
 use Rattle.squall_cli_lines.specs.declared.RunFault.TheVariants.{NoMemory}
 use Rattle.squall_cli_ask.specs.Files.{is_input}
 use Rattle.squall_cli_ask.specs.Reads.{bytes_at}
-use Rattle.squall_cli_ask.specs.Told.{IsTold, Says, fault_told}
+use Rattle.squall_cli_ask.specs.Told.{IsTold, fault_told}
 use Rattle.squall_cli_ask.specs.Asked.{words_asked, question_asked, files_asked, AnswersWith}
 use Rattle.squall_cli_ask.proofs.Inquired.{nothing_inquired, inquired}
 use Rattle.squall_cli_ask.proofs.inquiry.answer_inquiry.Goals as goal

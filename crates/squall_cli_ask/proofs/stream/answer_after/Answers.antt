@@ -1,9 +1,48 @@
-use Rattle.std.proofs.Common.{List, ℕ, subst}
+use Rattle.std.proofs.Common.{◌≡◌, false, List, ℕ, inl, refl, sym, subst}
 use Rattle.std.specs.Prelude.{Contains, map, string_bytes}
-use Rattle.squall_cli_ask.specs.Told.{IsTold, Says}
+use Rattle.std.specs.List.{list_any}
+use Rattle.squall_cli_lines.specs.Heeding.{Says}
+use Rattle.squall_cli_ask.specs.Files.{is_input}
+use Rattle.squall_cli_ask.specs.Reads.{bytes_at}
+use Rattle.squall_cli_ask.specs.Told.{IsTold, outcome_told}
+use Rattle.squall_cli_ask.specs.Gathered.{AreRead}
+use Rattle.squall_cli_ask.specs.Followed.{files_followed, IsDrawnFor, DrawsStream}
+use Rattle.squall_cli_ask.proofs.Followed.{unread_undrawn}
 use Rattle.squall_cli_ask.proofs.stream.answer_after.Goals as goal
 
+pub returns-in-Ok-clause-told : goal.returns-in-Ok-clause-told
+returns-in-Ok-clause-told g c =
+    let read = c.in-Ok.ensures in
+    let answered = c.answer_input-outcome.ensures in
+    let outcome = c.answer_input-outcome.result in
+    let stream = c.args.follow.now.stream in
+    let known = g.F.Files.known c.args.files.now in
+    let input = (g.S.Source.state c.args.input.now).remaining in
+    let after = (g.S.Source.state c.answer_input-outcome.new.input).remaining in
+    let drawn = g.E.Sink.state c.answer_input-outcome.new.err in
+    let other : list_any is_input (map string_bytes c.deref.result.now) ≡ false =
+    subst (λ w. list_any is_input (map string_bytes w) ≡ false) (sym c.deref.ensures.value) c.requires in
+    let kept = read.kept other refl in
+    let quiet = read.quiet refl in
+    let are_read = subst (λ w. AreRead known input input (map string_bytes w) c.in-Ok.read.items) c.deref.ensures.value
+    (subst (λ d. AreRead known input (g.S.Source.state d).remaining (map string_bytes c.deref.result.now) c.in-Ok.read.items) kept read.read) in
+    let bars = subst (λ w. IsDrawnFor stream (g.E.Sink.terminal c.args.err.now) outcome w input after (g.E.Sink.state c.args.err.now) drawn) c.deref-2.ensures.value
+    (subst (λ e. IsDrawnFor stream (g.E.Sink.terminal e) outcome c.deref-2.result.now input after (g.E.Sink.state e) drawn) quiet
+    (subst (λ d. IsDrawnFor stream (g.E.Sink.terminal c.read_files.new.err) outcome c.deref-2.result.now (g.S.Source.state d).remaining after (g.E.Sink.state c.read_files.new.err) drawn) kept answered.bars)) in (
+      drawn,
+      inl (outcome, c.in-Ok.read.items, c.tell_outcome.ensures.status, are_read, bars),
+      outcome_told outcome,
+      inl (outcome, c.tell_outcome.ensures.status, refl),
+      c.tell_outcome.ensures.told,
+    )
+
 pub returns-in-Err-clause-told : goal.returns-in-Err-clause-told
-returns-in-Err-clause-told g c =
-    subst (λ w. (text : List ℕ) × IsTold (Contains (map string_bytes w)) c.in-Err.status text × Says (g.E.Sink.state c.args.err.now) (g.E.Sink.state c.read_files.new.err) text)
-    c.deref.ensures.value c.in-Err.ensures.told
+returns-in-Err-clause-told g c = (
+  g.E.Sink.state c.args.err.now,
+  unread_undrawn c.args.follow.now.stream (g.E.Sink.terminal c.args.err.now)
+      (bytes_at (g.F.Files.known c.args.files.now) (g.S.Source.state c.args.input.now) (g.O.Sink.state c.args.out.now))
+      (bytes_at (g.F.Files.known c.read_files.new.files) (g.S.Source.state c.read_files.new.input) (g.O.Sink.state c.args.out.now))
+      (files_followed c.args.follow.now) c.in-Err.status (g.E.Sink.state c.args.err.now) c.in-Err.ensures.fault,
+  subst (λ w. (text : List ℕ) × IsTold (Contains (map string_bytes w)) c.in-Err.status text × Says (g.E.Sink.state c.args.err.now) (g.E.Sink.state c.read_files.new.err) text)
+      c.deref.ensures.value c.in-Err.ensures.told,
+)

@@ -1,8 +1,9 @@
 use Rattle.std.proofs.Common.{inl, inr, Err, refl}
 use Rattle.squall_cli_lines.specs.declared.RunFault.TheVariants.{NoMemory}
+use Rattle.squall_cli_ask.specs.Reads.{bytes_at}
 use Rattle.squall_cli_ask.specs.Told.{fault_told}
 use Rattle.squall_cli_run.specs.Named.{IsNamed, NamesIt}
-use Rattle.squall_cli_run.proofs.TaskLemmas.{nothing_done, device_of_words, help_unwritten}
+use Rattle.squall_cli_run.proofs.TaskLemmas.{nothing_done, device_of_words, help_unwritten, drawn_for_words, undrawn_unasked, no_help, no_fault}
 use Rattle.squall_cli_ask.proofs.Telling.{told_of}
 use Rattle.squall_cli_command.specs.Line.{words_of, job_seen}
 use Rattle.squall_cli_run.proofs.program.perform.Goals as goal
@@ -12,8 +13,26 @@ returns-in-Ok-clause-device g c = λ e. device_of_words _ _ (words_of c.args.wor
 
 pub returns-in-Ok-clause-told : goal.returns-in-Ok-clause-told
 returns-in-Ok-clause-told g c =
-    let t = c.do_task.ensures.told in
-    (t.0, told_of (IsNamed (job_seen c.in-Ok.task)) (NamesIt (words_of c.args.words.now)) c.do_task.result t.0 (λ name named. (job_seen c.in-Ok.task, c.in-Ok.ensures.task, named)) t.1, t.2)
+    let t = c.do_task.ensures.told in (
+      t.0,
+      drawn_for_words (words_of c.args.words.now) (job_seen c.in-Ok.task) (g.E.Sink.terminal c.args.err.now)
+          (bytes_at (g.F.Files.known c.args.files.now) (g.S.Source.state c.args.input.now) (g.O.Sink.state c.args.out.now))
+          (bytes_at (g.F.Files.known c.do_task.new.files) (g.S.Source.state c.do_task.new.input) (g.O.Sink.state c.do_task.new.out)) c.do_task.result (g.E.Sink.state c.args.err.now) t.0
+          c.in-Ok.ensures.task t.1,
+      t.2,
+      told_of (IsNamed (job_seen c.in-Ok.task)) (NamesIt (words_of c.args.words.now)) c.do_task.result t.2 (λ name named. (job_seen c.in-Ok.task, c.in-Ok.ensures.task, named)) t.3,
+      t.4,
+    )
+
+pub returns-in-Err-Help-clause-told : goal.returns-in-Err-Help-clause-told
+returns-in-Err-Help-clause-told g c =
+    let asks = (c.in-Err-Help.ensures.help (λ e. cc)).0 (rw c.in-Err-Help.field-0-is refl) in
+    (g.E.Sink.state c.args.err.now, ((λ job also. absurd (no_help (words_of c.args.words.now) job also asks)), inl refl), c.show_help.ensures.told)
+
+pub returns-in-Err-Bad-clause-told : goal.returns-in-Err-Bad-clause-told
+returns-in-Err-Bad-clause-told g c =
+    let faulty = (c.in-Err-Bad.ensures.refused (λ e. cc)).0 (rw c.in-Err-Bad.field-0-is refl) in
+    (g.E.Sink.state c.args.err.now, ((λ job also. absurd (no_fault (words_of c.args.words.now) job also faulty)), inl refl), c.show_fault.ensures.told faulty)
 
 pub returns-in-Err-Help-clause-device : goal.returns-in-Err-Help-clause-device
 returns-in-Err-Help-clause-device g c = λ e. inr (inl (c.show_help.ensures.device e))
@@ -28,4 +47,4 @@ pub returns-in-Err-NoMemory-clause-help : goal.returns-in-Err-NoMemory-clause-he
 returns-in-Err-NoMemory-clause-help g c = λ _. help_unwritten (g.O.Sink.state c.args.out.now) c.tell_fault.result c.tell_fault.ensures.status
 
 pub returns-in-Err-NoMemory-clause-told : goal.returns-in-Err-NoMemory-clause-told
-returns-in-Err-NoMemory-clause-told g c = (fault_told NoMemory, inl (Err NoMemory, c.tell_fault.ensures.status, refl), c.tell_fault.ensures.told)
+returns-in-Err-NoMemory-clause-told g c = (g.E.Sink.state c.args.err.now, ((λ job asks. undrawn_unasked _ _ _ c.tell_fault.result (g.E.Sink.state c.args.err.now) c.tell_fault.ensures.status job), inl refl), fault_told NoMemory, inl (Err NoMemory, c.tell_fault.ensures.status, refl), c.tell_fault.ensures.told)

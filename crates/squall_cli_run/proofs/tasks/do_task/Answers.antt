@@ -1,4 +1,4 @@
-use Rattle.std.proofs.Common.{◌≡◌, ◌⊎◌, List, ℕ, ap, sym, subst, ◌∙◌}
+use Rattle.std.proofs.Common.{◌≡◌, ◌⊎◌, List, ℕ, ap, refl, sym, subst, ◌∙◌}
 use Rattle.std.specs.Borrow.{Bor}
 use Rattle.std.specs.Prelude.{Contains}
 use Rattle.squall_cli_device.specs.States.{OutputFails}
@@ -7,18 +7,27 @@ use Rattle.squall_cli_command.specs.declared.form.Form.TheVariants.{Lines}
 use Rattle.squall_cli_command.specs.Line.{course, job_seen}
 use Rattle.squall_cli_ask.specs.Asked.{files_asked}
 use Rattle.squall_cli_ask.specs.Followed.{files_followed}
-use Rattle.squall_cli_run.specs.Tasks.{NamesFile}
+use Rattle.squall_cli_ask.specs.Reads.{bytes_at}
+use Rattle.squall_cli_run.specs.Tasks.{DrawsFor, NamesFile}
 use Rattle.squall_cli_run.specs.declared.tasks.Purpose.{Purpose}
 use Rattle.squall_cli_run.specs.Named.{IsNamed}
 use Rattle.squall_cli_ask.proofs.Telling.{told_of}
 use Rattle.squall_cli_run.proofs.Telling.{named_check, named_course, named_run, named_race}
+use Rattle.squall_cli_run.proofs.TaskLemmas.{undrawn_check, undrawn_course, undrawn_run, undrawn_race}
 use Rattle.squall_cli_run.proofs.tasks.do_task.Goals.{in-Check, in-Run, in-Race}
 use Rattle.squall_cli_run.proofs.tasks.do_task.Goals as goal
 
 pub returns-in-Course-clause-told : goal.returns-in-Course-clause-told
 returns-in-Course-clause-told g c =
     let t = c.course_files.ensures.told in
-    (t.0, told_of (IsNamed (course Lines c.as_str-old.result.now c.as_str-new.result.now)) (IsNamed (job_seen c.args.task.now)) c.course_files.result t.0 (named_course (job_seen c.args.task.now) _ _ _ _ _ (ap job_seen c.in-Course.is) c.as_str-old.ensures.value c.as_str-new.ensures.value) t.1, t.2)
+    let e = g.E.Sink.state c.args.err.now in (
+      e,
+      undrawn_course (g.E.Sink.terminal c.args.err.now) (bytes_at (g.F.Files.known c.args.files.now) (g.S.Source.state c.args.input.now) (g.O.Sink.state c.args.out.now))
+          (bytes_at (g.F.Files.known c.course_files.new.files) (g.S.Source.state c.course_files.new.input) (g.O.Sink.state c.course_files.new.out)) c.course_files.result e (job_seen c.args.task.now) _ _ _ (ap job_seen c.in-Course.is),
+      t.0,
+      told_of (IsNamed (course Lines c.as_str-old.result.now c.as_str-new.result.now)) (IsNamed (job_seen c.args.task.now)) c.course_files.result t.0 (named_course (job_seen c.args.task.now) _ _ _ _ _ (ap job_seen c.in-Course.is) c.as_str-old.ensures.value c.as_str-new.ensures.value) t.1,
+      t.2,
+    )
 
 pub returns-in-Ask-clause-device : goal.returns-in-Ask-clause-device
 returns-in-Ask-clause-device g c = λ three.
@@ -27,7 +36,12 @@ returns-in-Ask-clause-device g c = λ three.
 
 pub returns-in-Ask-clause-told : goal.returns-in-Ask-clause-told
 returns-in-Ask-clause-told g c =
-    let t = c.answer_inquiry.ensures.told in (
+    let t = c.answer_inquiry.ensures.told in
+    let e = g.E.Sink.state c.args.err.now in (
+      e,
+      subst (λ j. DrawsFor j (g.E.Sink.terminal c.args.err.now) (bytes_at (g.F.Files.known c.args.files.now) (g.S.Source.state c.args.input.now) (g.O.Sink.state c.args.out.now))
+          (bytes_at (g.F.Files.known c.answer_inquiry.new.files) (g.S.Source.state c.answer_inquiry.new.input) (g.O.Sink.state c.answer_inquiry.new.out)) c.answer_inquiry.result e e)
+          (sym (ap job_seen c.in-Ask.is)) refl,
       t.0,
       told_of (Contains (files_asked c.in-Ask.ask)) (IsNamed (job_seen c.args.task.now)) c.answer_inquiry.result t.0
           (λ name. subst (λ j. IsNamed j name) (sym (ap job_seen c.in-Ask.is))) t.1,
@@ -43,9 +57,13 @@ pub returns-in-Stream-clause-told : goal.returns-in-Stream-clause-told
 returns-in-Stream-clause-told g c =
     let t = c.answer_stream.ensures.told in (
       t.0,
-      told_of (Contains (files_followed c.in-Stream.follow)) (IsNamed (job_seen c.args.task.now)) c.answer_stream.result t.0
-          (λ name. subst (λ j. IsNamed j name) (sym (ap job_seen c.in-Stream.is))) t.1,
+      subst (λ j. DrawsFor j (g.E.Sink.terminal c.args.err.now) (bytes_at (g.F.Files.known c.args.files.now) (g.S.Source.state c.args.input.now) (g.O.Sink.state c.args.out.now))
+          (bytes_at (g.F.Files.known c.answer_stream.new.files) (g.S.Source.state c.answer_stream.new.input) (g.O.Sink.state c.answer_stream.new.out)) c.answer_stream.result
+          (g.E.Sink.state c.args.err.now) t.0) (sym (ap job_seen c.in-Stream.is)) t.1,
       t.2,
+      told_of (Contains (files_followed c.in-Stream.follow)) (IsNamed (job_seen c.args.task.now)) c.answer_stream.result t.2
+          (λ name. subst (λ j. IsNamed j name) (sym (ap job_seen c.in-Stream.is))) t.3,
+      t.4,
     )
 
 abbrev file_name : Purpose × Bor (List ℕ) → List ℕ
@@ -60,4 +78,13 @@ returns-clause-told g c =
       | in-Run w ↦ named_run job _ _ (ap job_seen w.in-Run.is) (ap file_name w.file-is ∙ w.as_str-in-Run.ensures.value)
       | in-Race w ↦ named_race job _ _ (ap job_seen w.in-Race.is) (ap file_name w.file-is ∙ w.as_str-in-Race.ensures.value)
     ] in
-    (t.0, told_of (λ name. name ≡ c.match-task.file.1.now) (IsNamed job) c.answer_file.result t.0 named t.1, t.2)
+    let e = g.E.Sink.state c.args.err.now in
+    let terminal = g.E.Sink.terminal c.args.err.now in
+    let before = bytes_at (g.F.Files.known c.args.files.now) (g.S.Source.state c.args.input.now) (g.O.Sink.state c.args.out.now) in
+    let after = bytes_at (g.F.Files.known c.answer_file.new.files) (g.S.Source.state c.answer_file.new.input) (g.O.Sink.state c.answer_file.new.out) in
+    let undrawn : DrawsFor job terminal before after c.answer_file.result e e = elim c.match-task.branch [
+      | in-Check w ↦ undrawn_check terminal before after c.answer_file.result e job _ _ (ap job_seen w.in-Check.is)
+      | in-Run w ↦ undrawn_run terminal before after c.answer_file.result e job _ (ap job_seen w.in-Run.is)
+      | in-Race w ↦ undrawn_race terminal before after c.answer_file.result e job _ (ap job_seen w.in-Race.is)
+    ] in
+    (e, undrawn, t.0, told_of (λ name. name ≡ c.match-task.file.1.now) (IsNamed job) c.answer_file.result t.0 named t.1, t.2)

@@ -1,8 +1,14 @@
-use Rattle.std.proofs.Common.{◌∙◌, ◌<◌, [], sym, subst, Err, length, take, ap, arith, refl}
+use Rattle.std.proofs.Common.{◌∙◌, ◌<◌, [], sym, subst, Ok, Err, length, take, ap, arith, refl}
 use Rattle.std.proofs.lemmas.Result.{err_from_is_err_and}
 use Rattle.squall_cli_lines.proofs.Bytes.{reading_start, reading_more, gave_all, heeds_fault, heeds_other, heeds_limit, heeds_later, heeds_passed, fine_is_no_error}
 use Rattle.squall_cli_lines.proofs.Outcomes.{take_small}
+use Rattle.squall_cli_lines.specs.declared.Flow.TheVariants.{On, End}
+use Rattle.squall_cli_lines.specs.declared.Ended.TheVariants.{Refused}
+use Rattle.squall_cli_lines.specs.declared.RunFault.TheVariants.{Read}
+use Rattle.squall_cli_bar.specs.BarLines.{Ends}
+use Rattle.squall_cli_watch.specs.Drawn.{IsNewestBar}
 use Rattle.squall_cli_watch.specs.Taken.{plays}
+use Rattle.squall_cli_watch.proofs.Drawing.{Drawing, drawing_start, closed_now, closed_read, closed_last, draws_on, draws_ended, draws_more, draws_refused, draws_stopped, quiet_piece}
 use Rattle.squall_cli_watch.proofs.Watching.{Watching, watching_start, ended_now, ended_read, ended_empty, ended_last, watching_more, ended_refused, ended_stopped, stops_unread}
 use Rattle.squall_cli_watch.proofs.frames.answer_frames.Goals as goal
 
@@ -25,6 +31,11 @@ loop-turn-init g c =
       room = omega (arith, c.as_mut_slice-block.ensures);
       reads = reading_start reader;
       kept = (refl, refl);
+      first = refl;
+      off = λ e. (e, refl);
+      drawing = λ on. subst (Drawing c.args.watcher.now.first c.args.watcher.now.board c.args.watcher.now.board c.args.line.now.shown reader.remaining reader.remaining
+          (g.E.Sink.state c.args.err.now) (g.E.Sink.state c.args.err.now) c.args.line.now) waiting_is
+          (drawing_start c.args.watcher.now.first c.args.watcher.now.board reader.remaining (g.E.Sink.state c.args.err.now) c.args.line.now on);
     }
 
 pub returns-in_default-clause-text : goal.returns-in_default-clause-text
@@ -74,6 +85,14 @@ loop-turn-preserved g c =
       room = omega arith;
       reads = reading_more _ (g.S.Source.state c.args.reader.now) (g.S.Source.state c.loop-turn.reader) (g.S.Source.state c.read.new.self) i.reads _ c.in-Ok.n c.in-Ok.ensures.reads c.in-Ok.ensures.faults c.in-Ok.ensures.ends c.if-n-eq0.false;
       kept = (h.0 ∙ i.kept.0, h.1 ∙ i.kept.1);
+      first = b.first (λ e. cc) ∙ i.first;
+      off = λ off. quiet_piece (Ok On) (IsNewestBar c.answer_piece.new.watcher.first c.answer_piece.new.watcher.board) c.loop-turn.line c.answer_piece.new.line
+          (g.E.Sink.state c.args.err.now) (g.E.Sink.state c.loop-turn.err) (g.E.Sink.state c.answer_piece.new.err) (i.off off) b.bar;
+      drawing = λ on. draws_more c.answer_piece.new.watcher.first c.args.watcher.now.first c.args.watcher.now.board c.loop-turn.watcher.board c.answer_piece.new.watcher.board c.args.line.now.shown
+          (g.S.Source.state c.args.reader.now).remaining (g.S.Source.state c.loop-turn.reader).remaining (g.S.Source.state c.read.new.self).remaining
+          (g.E.Sink.state c.args.err.now) (g.E.Sink.state c.loop-turn.err) (g.E.Sink.state c.answer_piece.new.err) c.loop-turn.line c.answer_piece.new.line c.loop-turn.waiting.items
+          (take c.in-Ok.n c.read.new.buf) c.answer_piece.new.waiting.items (i.drawing on) c.in-Ok.ensures.bytes.0 (take_small c.in-Ok.n c.read.new.buf (omega arith))
+          (b.first (λ e. cc) ∙ i.first) b.bar (rw c.in-On.is at b.board);
     }
 
 pub returns-clause-text : goal.returns-clause-text
@@ -112,3 +131,85 @@ pub returns-in_err-answer_piece-clause-heeds_writes : goal.returns-in_err-answer
 returns-in_err-answer_piece-clause-heeds_writes g c =
     let p = err_from_is_err_and c.from_residual-in_err-answer_piece.result c.from_residual-in_err-answer_piece.ensures.1 in
     rw (p.1, p.2) (heeds_later _ (g.K.Sink.state c.args.writer.now) (g.K.Sink.state c.loop-turn.writer) (g.K.Sink.state c.answer_piece.new.writer) c.loop-turn.invariant.kept (heeds_passed c.in_err-answer_piece.field-0.0 (g.K.Sink.state c.loop-turn.writer) (g.K.Sink.state c.answer_piece.new.writer) c.in_err-answer_piece.ensures.heeds))
+
+-- ---- the bar
+
+pub returns-in_err-room-clause-bars : goal.returns-in_err-room-clause-bars
+returns-in_err-room-clause-bars g c = λ on.
+    let first = c.args.watcher.now.first in
+    let b = c.args.watcher.now.board in
+    let before = (g.S.Source.state c.args.reader.now).remaining in
+    let err = g.E.Sink.state c.args.err.now in
+    draws_on first b c.args.line.now.shown c.from_residual.result before before err err c.args.line.now.on
+    (closed_now first b b c.args.line.now.shown before before err err c.args.line.now [] (drawing_start first b before err c.args.line.now on))
+
+pub returns-in_default-clause-off : goal.returns-in_default-clause-off
+returns-in_default-clause-off g c = c.loop-turn.invariant.off
+
+pub returns-in_default-clause-bars : goal.returns-in_default-clause-bars
+returns-in_default-clause-bars g c = λ on.
+    draws_on c.args.watcher.now.first c.args.watcher.now.board c.args.line.now.shown (Err Read) (g.S.Source.state c.args.reader.now).remaining (g.S.Source.state c.read.new.self).remaining
+    (g.E.Sink.state c.args.err.now) (g.E.Sink.state c.loop-turn.err) c.loop-turn.line.on
+    (closed_read c.args.watcher.now.first c.args.watcher.now.board c.loop-turn.watcher.board c.args.line.now.shown (g.S.Source.state c.args.reader.now).remaining (g.S.Source.state c.loop-turn.reader).remaining
+    (g.E.Sink.state c.args.err.now) (g.E.Sink.state c.loop-turn.err) c.loop-turn.line c.loop-turn.waiting.items (c.loop-turn.invariant.drawing on) (g.S.Source.state c.read.new.self).remaining c.in_default.ensures.bytes)
+
+pub returns-then-n-eq0-clause-off : goal.returns-then-n-eq0-clause-off
+returns-then-n-eq0-clause-off g c = λ off.
+    let quiet = c.loop-turn.invariant.off off in
+    (c.end.ensures.off, subst (λ t. Ends t (g.E.Sink.state c.loop-turn.err) (g.E.Sink.state c.end.new.err)) quiet.0 c.end.ensures.ended ∙ quiet.1)
+
+pub returns-then-n-eq0-clause-bars : goal.returns-then-n-eq0-clause-bars
+returns-then-n-eq0-clause-bars g c = λ on.
+    let first = c.args.watcher.now.first in
+    let b = c.args.watcher.now.board in
+    let before = (g.S.Source.state c.args.reader.now).remaining in
+    let after = (g.S.Source.state c.loop-turn.reader).remaining in
+    let after' = (g.S.Source.state c.read.new.self).remaining in
+    let err = g.E.Sink.state c.args.err.now in
+    let err' = g.E.Sink.state c.loop-turn.err in
+    let result = c.answer_end.result in
+    draws_ended first b c.args.line.now.shown result before after' err err' c.loop-turn.line.on c.end.new.self.on (g.E.Sink.state c.end.new.err)
+    (draws_on first b c.args.line.now.shown result before after' err err' c.loop-turn.line.on
+    (closed_last first b c.loop-turn.watcher.board c.args.line.now.shown before after err err' c.loop-turn.line c.loop-turn.waiting.items (c.loop-turn.invariant.drawing on) after' (rw c.if-n-eq0.true at c.in-Ok.ensures.bytes.0)))
+    c.end.ensures.ended c.end.ensures.off
+
+pub returns-in_err-answer_piece-clause-off : goal.returns-in_err-answer_piece-clause-off
+returns-in_err-answer_piece-clause-off g c = λ off.
+    quiet_piece (Err c.in_err-answer_piece.field-0.0) (IsNewestBar c.answer_piece.new.watcher.first c.answer_piece.new.watcher.board) c.loop-turn.line c.answer_piece.new.line
+    (g.E.Sink.state c.args.err.now) (g.E.Sink.state c.loop-turn.err) (g.E.Sink.state c.answer_piece.new.err) (c.loop-turn.invariant.off off) c.in_err-answer_piece.ensures.bar
+
+pub returns-in_err-answer_piece-clause-bars : goal.returns-in_err-answer_piece-clause-bars
+returns-in_err-answer_piece-clause-bars g c = λ on.
+    let i = c.loop-turn.invariant in
+    let b = c.in_err-answer_piece.ensures in
+    let p = err_from_is_err_and c.from_residual-in_err-answer_piece.result c.from_residual-in_err-answer_piece.ensures.1 in
+    rw (p.1, p.2) (draws_stopped c.answer_piece.new.watcher.first c.args.watcher.now.first c.args.watcher.now.board c.loop-turn.watcher.board c.answer_piece.new.watcher.board c.args.line.now.shown
+    (g.S.Source.state c.args.reader.now).remaining (g.S.Source.state c.loop-turn.reader).remaining (g.S.Source.state c.read.new.self).remaining
+    (g.E.Sink.state c.args.err.now) (g.E.Sink.state c.loop-turn.err) (g.E.Sink.state c.answer_piece.new.err) c.loop-turn.line c.answer_piece.new.line c.loop-turn.waiting.items
+    (take c.in-Ok.n c.read.new.buf) c.answer_piece.new.waiting.items (i.drawing on) c.in-Ok.ensures.bytes.0 (take_small c.in-Ok.n c.read.new.buf (omega arith))
+    c.in_err-answer_piece.field-0.0 (λ e. b.first e ∙ i.first) b.bar b.board)
+
+pub returns-in-End-clause-off : goal.returns-in-End-clause-off
+returns-in-End-clause-off g c = λ off.
+    quiet_piece (Ok End) (IsNewestBar c.answer_piece.new.watcher.first c.answer_piece.new.watcher.board) c.loop-turn.line c.answer_piece.new.line
+    (g.E.Sink.state c.args.err.now) (g.E.Sink.state c.loop-turn.err) (g.E.Sink.state c.answer_piece.new.err) (c.loop-turn.invariant.off off) c.in_ok-answer_piece.ensures.bar
+
+pub returns-in-End-clause-bars : goal.returns-in-End-clause-bars
+returns-in-End-clause-bars g c = λ on.
+    let i = c.loop-turn.invariant in
+    let b = c.in_ok-answer_piece.ensures in
+    draws_refused c.answer_piece.new.watcher.first c.args.watcher.now.first c.args.watcher.now.board c.loop-turn.watcher.board c.answer_piece.new.watcher.board c.args.line.now.shown
+    (g.S.Source.state c.args.reader.now).remaining (g.S.Source.state c.loop-turn.reader).remaining (g.S.Source.state c.read.new.self).remaining
+    (g.E.Sink.state c.args.err.now) (g.E.Sink.state c.loop-turn.err) (g.E.Sink.state c.answer_piece.new.err) c.loop-turn.line c.answer_piece.new.line c.loop-turn.waiting.items
+    (take c.in-Ok.n c.read.new.buf) c.answer_piece.new.waiting.items (i.drawing on) c.in-Ok.ensures.bytes.0 (take_small c.in-Ok.n c.read.new.buf (omega arith))
+    (b.first (λ e. cc) ∙ i.first) b.bar (rw c.in-End.is at b.board) (Ok Refused)
+
+pub returns-clause-off : goal.returns-clause-off
+returns-clause-off g c = c.loop-turn.invariant.off
+
+pub returns-clause-bars : goal.returns-clause-bars
+returns-clause-bars g c = λ on.
+    draws_on c.args.watcher.now.first c.args.watcher.now.board c.args.line.now.shown (Err Read) (g.S.Source.state c.args.reader.now).remaining (g.S.Source.state c.loop-turn.reader).remaining
+    (g.E.Sink.state c.args.err.now) (g.E.Sink.state c.loop-turn.err) c.loop-turn.line.on
+    (closed_now c.args.watcher.now.first c.args.watcher.now.board c.loop-turn.watcher.board c.args.line.now.shown (g.S.Source.state c.args.reader.now).remaining (g.S.Source.state c.loop-turn.reader).remaining
+    (g.E.Sink.state c.args.err.now) (g.E.Sink.state c.loop-turn.err) c.loop-turn.line c.loop-turn.waiting.items (c.loop-turn.invariant.drawing on))

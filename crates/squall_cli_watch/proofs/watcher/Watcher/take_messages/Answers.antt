@@ -1,17 +1,17 @@
-use Rattle.std.proofs.Common.{◌+◌, ◌++◌, ◌∷◌, [], drop, arith, refl}
+use Rattle.std.proofs.Common.{◌+◌, ◌∙◌, ◌++◌, ◌∷◌, [], drop, arith, refl}
 use Rattle.std.specs.Prelude.{map}
 use Rattle.squall_wire.specs.Messages.{body_of}
 use Rattle.squall_cli_watch.specs.Watched.{refused_frame}
 use Rattle.squall_cli_watch.specs.Taken.{plays}
-use Rattle.squall_cli_watch.proofs.Begun.{next_left, none_left, added, begun_more, begun_ends, begun_fault}
+use Rattle.squall_cli_watch.proofs.Begun.{next_left, none_left, added, begun_more, begun_ends, begun_fault, begun_all, joining_more, joining_ends, joining_all, joining_fault}
 use Rattle.squall_cli_watch.proofs.watcher.Watcher.take_messages.Goals as goal
 
-pub returns-in-End : goal.returns-in-End
-returns-in-End c =
-    let i = c.loop-message.invariant in
+pub returns-in-End-clause-texts : goal.returns-in-End-clause-texts
+returns-in-End-clause-texts c =
+    let i = c.loop-message.invariant.answered in
     let at = c.loop-message.message-index in
     let ms = c.args.messages.now in
-    let t = c.in_ok-take_message.ensures in
+    let t = c.in_ok-take_message.ensures.text in
     let taken = rw c.in-End.is at t.2 in (
       i.0 ++ t.0 ∷ [],
       added c.loop-message.out.items c.take_message.new.out.items c.args.out.now.items i.0 t.0 i.1 t.1,
@@ -19,22 +19,36 @@ returns-in-End c =
           (map body_of (drop (at + 1) ms)) c.args.fault (next_left body_of ms at c.message-item.result c.loop-message-test.true c.message-item.is) taken,
     )
 
-pub loop-message-preserved : goal.loop-message-preserved
-loop-message-preserved c =
-    let i = c.loop-message.invariant in
+pub returns-in-End-clause-board : goal.returns-in-End-clause-board
+returns-in-End-clause-board c =
     let at = c.loop-message.message-index in
     let ms = c.args.messages.now in
-    let t = c.in_ok-take_message.ensures in
-    let taken = rw c.in-On.is at t.2 in (
-      i.0 ++ t.0 ∷ [],
-      added c.loop-message.out.items c.take_message.new.out.items c.args.out.now.items i.0 t.0 i.1 t.1,
-      begun_more (plays c.args.self.now) (plays c.loop-message.self) (plays c.take_message.new.self) i.0 (map body_of (drop at ms)) (map body_of ms) i.2 t.0 (body_of c.message-item.result)
-          (map body_of (drop (at + 1) ms)) (next_left body_of ms at c.message-item.result c.loop-message-test.true c.message-item.is) taken,
-    )
+    joining_ends c.args.self.now.board c.loop-message.self.board c.take_message.new.self.board (map body_of (drop at ms)) (map body_of ms) c.loop-message.invariant.joined
+    (body_of c.message-item.result) (map body_of (drop (at + 1) ms)) c.args.fault (next_left body_of ms at c.message-item.result c.loop-message-test.true c.message-item.is)
+    (rw c.in-End.is at c.in_ok-take_message.ensures.board)
 
-pub returns-in_ok-add_refusal-in-Some : goal.returns-in_ok-add_refusal-in-Some
-returns-in_ok-add_refusal-in-Some c =
-    let i = c.loop-message.invariant in
+pub loop-message-preserved : goal.loop-message-preserved
+loop-message-preserved c =
+    let i = c.loop-message.invariant.answered in
+    let at = c.loop-message.message-index in
+    let ms = c.args.messages.now in
+    let t = c.in_ok-take_message.ensures.text in
+    let left = next_left body_of ms at c.message-item.result c.loop-message-test.true c.message-item.is in
+    record {
+      answered = (
+        i.0 ++ t.0 ∷ [],
+        added c.loop-message.out.items c.take_message.new.out.items c.args.out.now.items i.0 t.0 i.1 t.1,
+        begun_more (plays c.args.self.now) (plays c.loop-message.self) (plays c.take_message.new.self) i.0 (map body_of (drop at ms)) (map body_of ms) i.2 t.0 (body_of c.message-item.result)
+            (map body_of (drop (at + 1) ms)) left (rw c.in-On.is at t.2),
+      );
+      joined = joining_more c.args.self.now.board c.loop-message.self.board c.take_message.new.self.board (map body_of (drop at ms)) (map body_of ms) c.loop-message.invariant.joined
+          (body_of c.message-item.result) (map body_of (drop (at + 1) ms)) left (rw c.in-On.is at c.in_ok-take_message.ensures.board);
+      first = c.in_ok-take_message.ensures.first ∙ c.loop-message.invariant.first;
+    }
+
+pub returns-in_ok-add_refusal-in-Some-clause-texts : goal.returns-in_ok-add_refusal-in-Some-clause-texts
+returns-in_ok-add_refusal-in-Some-clause-texts c =
+    let i = c.loop-message.invariant.answered in
     let at = c.loop-message.message-index in
     let ms = c.args.messages.now in
     let ends = begun_fault (plays c.args.self.now) (plays c.loop-message.self) (plays c.loop-message.self) i.0 (map body_of (drop at ms)) (map body_of ms) i.2 c.in-Some.fault
@@ -43,3 +57,28 @@ returns-in_ok-add_refusal-in-Some c =
       added c.loop-message.out.items c.add_refusal.new.out.items c.args.out.now.items i.0 (refused_frame c.loop-message.self.form c.in-Some.fault) i.1 c.in_ok-add_refusal-in-Some.ensures,
       rw c.in-Some.is ends,
     )
+
+pub returns-in_ok-add_refusal-in-Some-clause-board : goal.returns-in_ok-add_refusal-in-Some-clause-board
+returns-in_ok-add_refusal-in-Some-clause-board c =
+    let at = c.loop-message.message-index in
+    let ms = c.args.messages.now in
+    joining_fault c.args.self.now.board c.loop-message.self.board (map body_of (drop at ms)) (map body_of ms) c.args.fault c.loop-message.invariant.joined
+    (none_left body_of ms at (omega (arith, c.loop-message-test.false)))
+
+pub returns-in-None-clause-texts : goal.returns-in-None-clause-texts
+returns-in-None-clause-texts c =
+    let i = c.loop-message.invariant.answered in
+    let at = c.loop-message.message-index in
+    let ms = c.args.messages.now in (
+      i.0,
+      i.1,
+      rw c.in-None.is (begun_all (plays c.args.self.now) (plays c.loop-message.self) (plays c.loop-message.self) i.0 (map body_of (drop at ms)) (map body_of ms) i.2
+          (none_left body_of ms at (omega (arith, c.loop-message-test.false)))),
+    )
+
+pub returns-in-None-clause-board : goal.returns-in-None-clause-board
+returns-in-None-clause-board c =
+    let at = c.loop-message.message-index in
+    let ms = c.args.messages.now in
+    rw c.in-None.is (joining_all c.args.self.now.board c.loop-message.self.board (map body_of (drop at ms)) (map body_of ms) c.loop-message.invariant.joined
+    (none_left body_of ms at (omega (arith, c.loop-message-test.false))))

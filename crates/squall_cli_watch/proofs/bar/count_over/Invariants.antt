@@ -1,0 +1,10 @@
+use Rattle.std.proofs.Common.{◌≡◌, ◌≤◌, take}
+use Rattle.std.specs.List.{count_by}
+use Rattle.squall_cli_watch.specs.Drawn.{is_over}
+use Rattle.squall_cli_watch.proofs.bar.count_over.Given as goal
+
+abbrev pub invariant-loop-status : goal.invariant-loop-status
+invariant-loop-status l = record {
+  so_far : l.over ≡ count_by is_over (take l.status-index l.moves);
+  few : l.over ≤ l.status-index;
+}

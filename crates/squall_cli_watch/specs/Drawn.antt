@@ -1,0 +1,77 @@
+-- What is drawn on a terminal while a course is watched (this project's command line).
+use Rattle.std.specs.Prelude.{◌≡◌, ◌⊎◌, ◌≤◌, ℕ, List, [], ◌∷◌, ◌++◌, length, All, Bool, true, false, Option, Result, Err}
+use Rattle.std.specs.List.{concat, count_by}
+use Rattle.std.specs.Io.KnownBytes.{Consumes}
+use Rattle.squall_course.specs.Change.{Change}
+use Rattle.squall_board.specs.Boards.{BoardValue, board_join, says}
+use Rattle.squall_board.specs.CourseRoute.{course_of_board}
+use Rattle.squall_status.specs.declared.progress.MoveStatus.{MoveStatus}
+use Rattle.squall_status.specs.Coming.{is_complete}
+use Rattle.squall_status.specs.Summary.{StatusValue, IsStatusOf, thousandths}
+use Rattle.squall_wire.specs.Messages.{Body, lists, rows}
+use Rattle.squall_wire.specs.BoardOf.{board_of_lists}
+use Rattle.squall_wire.specs.Heard.{heard_of}
+use Rattle.squall_cli_device.specs.States.{SinkState, OutputFails}
+use Rattle.squall_cli_lines.specs.Script.{block_size}
+use Rattle.squall_cli_lines.specs.Heeding.{Says}
+use Rattle.squall_cli_lines.specs.declared.Ended.{Ended}
+use Rattle.squall_cli_lines.specs.declared.RunFault.{RunFault}
+use Rattle.squall_cli_lines.specs.declared.RunFault.TheVariants.{NoMemory}
+use Rattle.squall_cli_bar.specs.declared.text.Bar.{Bar}
+use Rattle.squall_cli_bar.specs.Bars.{bar_text, all_bars}
+
+-- ---- one bar
+
+-- whether each key of the move is loaded
+abbrev pub is_over : MoveStatus → Bool
+is_over s = is_complete s.progress
+
+-- what the bar of a status shows
+abbrev pub bar_of : StatusValue → Bar
+bar_of s = record { thousandths = thousandths s.loaded s.keys; loaded = s.loaded; keys = s.keys; complete = count_by is_over s.moves; moves = length s.moves }
+
+-- the text is the bar of the newest course of the board after the first
+pub record IsNewestBar (first : Change) (b : BoardValue) (text : List ℕ) : Type 0 where
+  pub status : StatusValue
+  pub is : IsStatusOf (course_of_board first b) (says b) status
+  pub shown : text ≡ bar_text (bar_of status)
+
+-- ---- bars after reads
+
+-- the board with those of frames joined in, up to a frame of another kind
+abbrev pub joined : BoardValue → List Body → BoardValue
+joined b [] = b
+joined b (rows d ∷ bodies) = b
+joined b (lists d ∷ bodies) = joined (board_join b (board_of_lists d)) bodies
+
+-- the text is the bar after what was read, if a board was known before
+abbrev pub IsBarAfter : Change → BoardValue → List ℕ → List ℕ → Type 0
+IsBarAfter first b read text = IsNewestBar first (joined b (heard_of read).bodies) text
+
+-- These bars are drawn while blocks are read, after other bytes were read and a bar was shown: after each block its bar, or
+-- none if the bar that is shown is already that.
+abbrev pub AreDrawn : Change → BoardValue → List ℕ → List ℕ → List (List ℕ) → List (List ℕ) → Type 0
+AreDrawn first b before shown [] bars = bars ≡ []
+AreDrawn first b before shown (block ∷ blocks) bars = (bar : List ℕ) × (rest : List (List ℕ))
+    × IsBarAfter first b (before ++ block) bar × AreDrawn first b (before ++ block) bar blocks rest
+    × ((bars ≡ bar ∷ rest) ⊎ ((bar ≡ shown) × (bars ≡ rest)))
+
+-- What is drawn on a terminal while a course is watched, if a board was known before. A first bar comes before the first read. After
+-- each read the bar that is shown is that of all that was read. The rest of what was read has none: it is empty unless an allocation
+-- failed, or a write to the terminal. The line of the last bar is ended.
+pub record Draws (first : Change) (b : BoardValue) (result : Result Ended RunFault) (before after : Option (List ℕ)) (err err' : SinkState) : Type 0 where
+  pub shown : List ℕ
+  pub blocks : List (List ℕ)
+  pub rest : List ℕ
+  pub bars : List (List ℕ)
+  pub start : IsNewestBar first b shown
+  pub read : Consumes before after (concat blocks ++ rest)
+  pub small : All (λ block. length block ≤ block_size) blocks
+  pub drawn : AreDrawn first b [] shown blocks bars
+  pub said : Says err err' (all_bars shown bars)
+  pub whole : (rest ≡ []) ⊎ ((result ≡ Err NoMemory) ⊎ OutputFails err err')
+
+-- What is drawn on standard error: nothing if it is no terminal, or if an allocation failed before the first bar.
+abbrev pub ShowsBars : Bool → Change → BoardValue → Result Ended RunFault → Option (List ℕ) → Option (List ℕ) → SinkState → SinkState → Type 0
+ShowsBars false first b result before after err err' = err' ≡ err
+ShowsBars true first b result before after err err' = Draws first b result before after err err' ⊎ ((result ≡ Err NoMemory) × (err' ≡ err))
