@@ -73,13 +73,13 @@ impl IsTerminal for Screen<'_> {
 
 /// How a watch ended, what it wrote, and what it drew.
 #[derive(Drop)]
-struct Watched {
+struct Seen {
     ended: Result<Ended, RunFault>,
     text: Vec<u8>,
     drawn: Vec<u8>,
 }
 
-impl Watched {
+impl Seen {
     /// Whether it is this end, with this text and these bars.
     fn is(&self, ended: Result<Ended, RunFault>, text: &[u8], drawn: &[u8]) -> bool {
         self.ended == ended && self.text.as_slice() == text && self.drawn.as_slice() == drawn
@@ -101,7 +101,7 @@ const TERMINAL: Room = Room {
 
 /// What is watched of the example plans when these pieces come, with so much room for the text. None
 /// if an allocation fails before.
-fn watched(alloc: Global, pieces: &[&[u8]], text_room: usize, room: Room) -> Option<Watched> {
+fn watched(alloc: Global, pieces: &[&[u8]], text_room: usize, room: Room) -> Option<Seen> {
     let old = Plan::read(alloc, OLD.as_bytes()).ok()?;
     let new = Plan::read(alloc, NEW.as_bytes()).ok()?;
     let mut text = Vec::with_capacity(alloc, 1024).ok()?;
@@ -127,7 +127,7 @@ fn watched(alloc: Global, pieces: &[&[u8]], text_room: usize, room: Room) -> Opt
     );
     drop(writer);
     drop(err);
-    Some(Watched { ended, text, drawn })
+    Some(Seen { ended, text, drawn })
 }
 
 /// What is drawn while the three example frames come.
@@ -259,7 +259,7 @@ fn has_counts(
     text: &str,
 ) -> Result<bool, Fail> {
     let bar = Bar {
-        thousandths,
+        thousandths: thousandths.min(1000),
         loaded: keys.0,
         keys: keys.1,
         complete: moves.0,
