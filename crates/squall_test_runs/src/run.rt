@@ -15,6 +15,7 @@ use std::thread::Threads;
 mod asked;
 mod jobs;
 mod program;
+mod terminal;
 
 /// The texts, one after another.
 fn joined(alloc: Global, texts: &[&str]) -> Result<String, AllocError> {

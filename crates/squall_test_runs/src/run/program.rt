@@ -15,7 +15,7 @@ use std::thread::Threads;
 /// Four files: `new.json`, a plan; `gap.json`, which is none; `race.txt`, a race; and `broken.json`, of
 /// which a read fails.
 #[derive(Drop)]
-struct FourFiles;
+pub(super) struct FourFiles;
 
 /// The text of a file of that name, and which read of it fails.
 fn file(name: &str) -> Option<(&'static str, usize)> {
