@@ -6,3 +6,4 @@ mod Iterating
 mod Turned
 mod Joining
 mod Undoing
+mod Counted

@@ -9,7 +9,7 @@ use crate::entries::Entries;
 use crate::iter::Iter;
 use crate::lent::BlocksRef;
 use crate::search::End;
-use squall_key::Bound;
+use squall_key::{Bound, Ends};
 use std::alloc::{AllocError, Global};
 use std::marker::Model;
 
@@ -132,6 +132,22 @@ impl<V: Copy> Blocks<V> {
         ensures { IsTrue result ↔ (length self.now ≡ 0) }
     {
         self.lent().is_empty()
+    }
+
+    /// How many entries there are: one look at each block.
+    pub fn len(&self) -> usize
+        ensures { result ≡ length self.now }
+    {
+        let Some(last) = self.lasts.last() else {
+            return 0;
+        };
+        // The proof learns that the last entry ends by the top, so that the count fits.
+        let _top = last.end().rank();
+        let mut len = 0;
+        for block in &self.blocks {
+            len += block.len();
+        }
+        len
     }
 
     /// The entries, lent for look-ups.
