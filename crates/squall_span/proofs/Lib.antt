@@ -12,3 +12,6 @@ pub mod Made
 pub mod Adding
 pub mod Meeting
 pub mod Parting
+pub mod Changing
+pub mod Beyond
+pub mod Drafted

@@ -1,5 +1,5 @@
 -- The steps of a walk along two sets for the keys of the first alone.
-use Rattle.std.proofs.Common.{◌≡◌, ℕ, ◌+◌, ◌<◌, ◌≤◌, max, min, Bool, true, false, List, [], ◌∷◌, ◌++◌, refl, sym, ap, subst, ◌∙◌, arith, inl, inr, ◌||◌}
+use Rattle.std.proofs.Common.{◌≡◌, ℕ, ◌<◌, ◌≤◌, max, min, Bool, true, false, List, [], ◌∷◌, ◌++◌, refl, sym, ap, subst, ◌∙◌, arith, inl, inr, ◌||◌}
 use Rattle.std.specs.Prelude.{◌⊎◌, ◌&&◌, not, nat_le}
 use Rattle.std.proofs.Math.Bool.{and-true, and-false, or-false}
 use Rattle.std.proofs.lemmas.Bool.{cases_lt}
@@ -7,7 +7,6 @@ use Rattle.std.proofs.lemmas.Bool.Decides.{nat_tests}
 use Rattle.std.proofs.lemmas.List.{append-nil}
 use Rattle.squall_span.specs.Spans.{Interval, interval, span_has, has, Beyond, IsCanonical, EndsBeyond}
 use Rattle.squall_span.specs.SpanLaws.{has-append, has_below, outside_above, outside_below, inside}
-use Rattle.squall_span.specs.Places.{Ended}
 use Rattle.squall_span.specs.Sweeps.{cut_first}
 use Rattle.squall_span.proofs.Adding.{EndsBefore, canonical_join, Added, AddedBy, added}
 use Rattle.squall_span.proofs.Sweeping.{has_early, rest_ends}

@@ -1,5 +1,7 @@
 -- The steps of a walk along two sets.
-use Rattle.std.proofs.Common.{◌≡◌, ℕ, ◌+◌, ◌-◌, ◌<◌, ◌≤◌, Bool, true, false, List, [], ◌∷◌, refl, sym, ap, ◌∙◌, arith, inl, inr, ◌||◌}
+use Rattle.std.proofs.Common.{◌≡◌, ℕ, ◌+◌, ◌-◌, ◌<◌, ◌≤◌, Bool, true, false, List, [], ◌∷◌, ◌++◌, Option, None, Some, option_to_list, refl, sym, ap, ◌∙◌, arith, inl, inr, ◌||◌}
+use Rattle.std.proofs.Common.{subst}
+use Rattle.std.specs.Iterator.{YieldsFirst}
 use Rattle.std.proofs.lemmas.Bool.{cases_lt, false≢true}
 use Rattle.squall_span.specs.Spans.{Interval, span_has, has, Beyond, IsCanonical}
 use Rattle.squall_span.specs.SpanLaws.{has_after, has_in, outside_below}
@@ -14,6 +16,11 @@ StartsNear k (s ∷ ss) = s.lo ≤ k + 1
 abbrev pub EndsNear : ℕ → List Interval → Type 0
 EndsNear k [] = ⊥
 EndsNear k (s ∷ ss) = s.hi ≤ k + 1
+
+-- a span that was taken off a list, and the others; none was taken only off an empty list
+abbrev pub IsHead : Option Interval → List Interval → Type 0
+IsHead None rest = rest ≡ []
+IsHead (Some s) rest = Unit {0}
 
 -- what is known when own is left of a and rest is left of b
 pub record Walking (a b own rest : List Interval) : Type 0 where
@@ -100,3 +107,11 @@ walking_out a b t ts w all =
     let some = w.canonical_rest.0 in
     let here = all (t.hi - 1) (w.asked (t.hi - 1) (has_in t ts (t.hi - 1) (omega arith) (omega arith))) in
     false≢true (w.passed (t.hi - 1) (omega arith) here)
+
+-- what one step of a walk takes off a list
+pub after_step : (o : Option Interval) (old rest : List Interval) → YieldsFirst (λ s. s) old o rest → (old ≡ option_to_list o ++ rest) × IsHead o rest
+after_step None old rest y = (y.0 ∙ sym y.1, y.1)
+after_step (Some s) old rest y = (y, tt)
+
+pub is_none : (o : Option Interval) (rest : List Interval) → o ≡ None → IsHead o rest → option_to_list o ++ rest ≡ []
+is_none o rest e h = (λ i. option_to_list (e i) ++ rest) ∙ subst (λ x. IsHead x rest) e h

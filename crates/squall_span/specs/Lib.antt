@@ -1,5 +1,13 @@
 pub mod Spans
 pub mod SpanLaws
+pub mod BeyondLaws
 pub mod Places
 pub mod Sweeps
 pub mod Ready
+pub mod Many
+pub mod Left
+pub mod Listed
+pub mod Stored
+pub mod Within
+pub mod Drafts
+pub mod Pending

@@ -117,6 +117,11 @@ abbrev pub meet : List Interval → List Interval → List Interval
 meet ss [] = []
 meet ss (t ∷ ts) = keys_from t.lo (keys_below t.hi ss) ++ meet ss ts
 
+-- the spans from the first on that ends beyond the bound
+abbrev pub spans_beyond : ℕ → List Interval → List Interval
+spans_beyond h [] = []
+spans_beyond h (s ∷ ss) = if nat_lt h s.hi then s ∷ ss else spans_beyond h ss
+
 -- the first span of a set
 abbrev pub first_span : List Interval → Option Interval
 first_span [] = None

@@ -18,7 +18,7 @@
 //!     assert!(rt; set.has(Key::new(2, 0).expect(&rt, "a key")));
 //!     assert!(rt; !set.has(Key::new(5, 0).expect(&rt, "a key")));
 //!     set.insert(Span::new(five, nine).expect(&rt, "a span"))?;
-//!     assert!(rt; set.spans().len() == 1);
+//!     assert!(rt; set.len() == 1);
 //!     Ok(())
 //! }
 //! ```
@@ -26,17 +26,26 @@
 //! Its tests are in `crates/squall_test_values/src/span.rt`.
 #![tactic(auto)]
 
+mod algebra;
 mod alone;
+mod changes;
 mod common;
+mod draft;
 mod edit;
 pub mod laws;
+mod list;
+mod many;
 mod ready;
 mod search;
 mod set;
 mod span;
+mod spans;
 mod sweep;
 mod walk;
 
+pub use draft::SetDraft;
+pub use list::SpanList;
 pub use ready::ReadySet;
 pub use set::SpanSet;
 pub use span::Span;
+pub use spans::Spans;

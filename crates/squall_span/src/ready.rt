@@ -1,19 +1,18 @@
 //! Sets of keys with room for more spans.
 
-ghost use Rattle.std.specs.Prelude.{◌≡◌, ℕ, ◌+◌, ◌-◌, ◌<◌, ◌≤◌, ◌&&◌, ◌||◌, not, vec_len, vec_capacity};
-ghost use Rattle.squall_span.specs.Spans.{has, span_has, IsSet, insert_span, without_span};
+ghost use Rattle.std.specs.Prelude.{◌≡◌, ℕ, ◌+◌, ◌-◌, ◌<◌, ◌≤◌, ◌&&◌, ◌||◌, not, [], IfOk};
+ghost use Rattle.squall_span.specs.Spans.{has, span_has, insert_span, without_span};
 
 use crate::edit::{insert_ready, remove_ready};
 use crate::set::SpanSet;
 use crate::span::Span;
+use std::alloc::{AllocError, Global};
 use std::marker::Model;
 
-/// A set of keys with room for more spans. With room for `n` of them, `n` edits cannot fail.
-///
-/// Use it to make all of several edits or none, without a copy of a set. A caller takes its sets
-/// out of its fields and makes each ready by [`SpanSet::with_room`]. Then it does whatever else can
-/// fail. If anything has failed, it puts the unchanged sets back. Otherwise it edits them, which
+/// A set of keys that is made span by span, with room for more. With room for `n` of them, `n` edits
 /// cannot fail.
+///
+/// Use it where the number of spans is known: then memory is asked for once, and not at each span.
 ///
 /// Contracts see it as the list of its spans, `set`, and how many more spans it has room for,
 /// `room`. An edit adds one span at most.
@@ -35,21 +34,13 @@ impl Model for ReadySet {
 }
 
 impl ReadySet {
-    /// The set of these spans, with the room that the vector has.
-    pub(crate) fn of_spans(spans: Vec<Span>) -> ReadySet
-        requires { IsSet spans.items }
-        ensures set { result.set ≡ spans.items }
-        ensures room { result.room ≡ vec_capacity spans - vec_len spans }
+    /// The set of no keys, with room for `count` spans. An error means that an allocation failed.
+    pub fn with_room(alloc: Global, count: usize) -> Result<ReadySet, AllocError>
+        ensures none { IfOk result (λ r. r.set ≡ []) }
+        ensures room { IfOk result (λ r. r.room ≡ count) }
     {
-        ReadySet { spans }
-    }
-
-    /// The spans of the set, in order, none of which overlaps or touches the next.
-    pub fn spans(&self) -> &[Span]
-        ensures value { result.now ≡ self.now.set }
-        ensures set { IsSet result.now }
-    {
-        &self.spans
+        let spans = Vec::with_capacity(alloc, count)?;
+        Ok(ReadySet { spans })
     }
 
     /// How many more spans the set has room for.

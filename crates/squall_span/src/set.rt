@@ -1,42 +1,83 @@
 //! Sets of keys.
 
-ghost use Rattle.std.specs.Prelude.{◌≡◌, ◌↔◌, ℕ, ◌+◌, ◌-◌, ◌<◌, ◌≤◌, ◌&&◌, ◌||◌, not, min, true, false, nat_lt, nat_le, List, [], ◌∷◌, IsTrue, IfOk};
-ghost use Rattle.std.specs.Prelude.{IfErr, IfSome, OnOk, OnErr};
+ghost use Rattle.std.specs.Prelude.{◌≡◌, ◌↔◌, ℕ, ◌+◌, ◌<◌, ◌≤◌, true, false, List, [], ◌∷◌, length, IsTrue, IfOk, IfSome, OnOk, OnErr};
+ghost use Rattle.std.specs.Prelude.{◌&&◌, ◌||◌, not};
 ghost use Rattle.squall_key.specs.Keys.{top};
-ghost use Rattle.squall_span.specs.Spans.{Interval, has, span_has, IsSet, union, minus, meet, keys_below, keys_from, insert_span, without_span};
-ghost use Rattle.squall_span.specs.Spans.{first_keys, total_length, how_many, spans_eq};
-ghost use Rattle.squall_span.specs.Places.{Ended};
+ghost use Rattle.squall_span.specs.Spans.{Interval, has, span_has, IsSet, insert_span, without_span};
+ghost use Rattle.squall_span.specs.Spans.{first_span, spans_beyond, first_keys, total_length, how_many, spans_eq};
+ghost use Rattle.squall_span.specs.Stored.{spans_in};
 ghost use Rattle.squall_span.specs.SpanLaws.{spans_eq-laws, spans_eq-equivalence};
 
-use crate::alone::alone;
-use crate::common::common;
-use crate::edit::{cut, insert, remove};
-use crate::ready::ReadySet;
-use crate::search::ended;
+use crate::edit::{insert, remove};
+use crate::list::{SpanList, listed};
+use crate::many::ManySpans;
+use crate::search::{all_apart, ended};
 use crate::span::Span;
-use crate::sweep::merge;
-use crate::walk::covers;
+use crate::spans::Spans;
+use crate::walk::{are_same, covers};
 use squall_key::{Bound, Key};
 use std::alloc::{AllocError, Global};
 use std::marker::Model;
 
-/// A set of keys, kept as spans in order, none of which overlaps or touches the next.
+/// The most spans of a list in which a span is put before others. A longer list is made blocks
+/// first: an edit then moves the spans of one block alone.
+const FEW: usize = 256;
+
+/// A set of keys, kept as spans in order, none of which overlaps or touches the next. A few spans
+/// are in one list, and many are in blocks, so an edit takes about as long in a large set as in a
+/// small one.
 ///
 /// Contracts see a set as the list of its spans. No other such list has the same keys.
-#[derive(Drop, Debug)]
+#[derive(Drop)]
 pub struct SpanSet {
-    spans: Vec<Span>,
+    pub(crate) store: Store,
+}
+
+/// The spans of a set: in one list, or in blocks.
+#[derive(Drop)]
+pub(crate) enum Store {
+    Few(Vec<Span>),
+    Many(Box<ManySpans>),
+}
+
+impl Store {
+    /// Adds the keys of a span. An error means that an allocation failed: the spans are then
+    /// unchanged.
+    fn insert(&mut self, span: Span) -> Result<(), AllocError>
+        requires { IsSet (spans_in self.old) }
+        ensures ok { OnOk result (spans_in self.new ≡ insert_span span (spans_in self.old)) }
+        ensures err { OnErr result (spans_in self.new ≡ spans_in self.old) }
+    {
+        match self {
+            Store::Few(spans) => insert(spans, span),
+            Store::Many(many) => many.insert(span),
+        }
+    }
+
+    /// Removes the keys of a span. An error means that an allocation failed: the spans are then
+    /// unchanged.
+    fn remove(&mut self, span: Span) -> Result<(), AllocError>
+        requires { IsSet (spans_in self.old) }
+        ensures ok { OnOk result (spans_in self.new ≡ without_span span (spans_in self.old)) }
+        ensures err { OnErr result (spans_in self.new ≡ spans_in self.old) }
+    {
+        match self {
+            Store::Few(spans) => remove(spans, span),
+            Store::Many(many) => many.remove(span),
+        }
+    }
 }
 
 impl Model for SpanSet {
     ghost use Rattle.std.specs.Prelude.{List};
     ghost use Rattle.squall_span.specs.Spans.{Interval, IsSet};
+    ghost use Rattle.squall_span.specs.Stored.{spans_in};
 
     ghost Value = { List Interval };
 
-    ghost view = { λ s. s.spans.items };
+    ghost view = { λ s. spans_in s.store };
 
-    ghost invariant = { λ s. IsSet s.spans.items };
+    ghost invariant = { λ s. IsSet (spans_in s.store) };
 }
 
 impl SpanSet {
@@ -44,9 +85,7 @@ impl SpanSet {
     pub fn empty(alloc: Global) -> SpanSet
         ensures { result ≡ [] }
     {
-        SpanSet {
-            spans: Vec::new(alloc),
-        }
+        SpanSet::of_spans(Vec::new(alloc))
     }
 
     /// The set of these spans.
@@ -54,7 +93,9 @@ impl SpanSet {
         requires { IsSet spans.items }
         ensures { result ≡ spans.items }
     {
-        SpanSet { spans }
+        SpanSet {
+            store: Store::Few(spans),
+        }
     }
 
     /// The set of spans that are in the order of a set: each ends before the next begins, and none
@@ -64,7 +105,7 @@ impl SpanSet {
         ensures { IfOk result (λ set. set ≡ spans.now) }
     {
         let spans = Vec::from_slice(alloc, spans)?;
-        Ok(SpanSet { spans })
+        Ok(SpanSet::of_spans(spans))
     }
 
     /// The set of the keys of a span. An error means that an allocation failed.
@@ -80,46 +121,110 @@ impl SpanSet {
     pub fn copied(&self, alloc: Global) -> Result<SpanSet, AllocError>
         ensures { IfOk result (λ set. set ≡ self.now) }
     {
-        let spans = Vec::from_slice(alloc, &self.spans)?;
-        Ok(SpanSet { spans })
+        match &self.store {
+            Store::Few(spans) => SpanSet::from_spans(alloc, spans),
+            Store::Many(many) => {
+                let many = many.copied(alloc)?;
+                let store = Store::Many(Box::new(alloc, many)?);
+                Ok(SpanSet { store })
+            }
+        }
+    }
+
+    /// Changes nothing: after it a proof knows that the list of the set is that of a set.
+    pub fn known(&self)
+        ensures { IsSet self.now }
+    {
+        let _store = &self.store;
     }
 
     /// The spans of the set, in order, none of which overlaps or touches the next.
-    pub fn spans(&self) -> &[Span]
-        ensures value { result.now ≡ self.now }
-        ensures set { IsSet result.now }
+    pub fn spans(&self) -> Spans<'_>
+        ensures value { result ≡ self.now }
+        ensures set { IsSet self.now }
     {
-        &self.spans
+        match &self.store {
+            Store::Few(spans) => Spans::few(spans),
+            Store::Many(many) => Spans::many(many.iter()),
+        }
+    }
+
+    /// The spans of the set from the first on that ends beyond the bound, which a binary search
+    /// finds.
+    pub fn spans_beyond(&self, bound: Bound) -> Spans<'_>
+        ensures value { result ≡ spans_beyond bound self.now }
+        ensures set { IsSet self.now }
+    {
+        match &self.store {
+            Store::Few(spans) => Spans::few(&spans[ended(spans, bound)..]),
+            Store::Many(many) => Spans::many(many.iter_beyond(bound)),
+        }
+    }
+
+    /// The first span that ends beyond the bound, which a binary search finds.
+    pub fn first_beyond(&self, bound: Bound) -> Option<Span>
+        ensures value { result ≡ first_span (spans_beyond bound self.now) }
+        ensures set { IsSet self.now }
+    {
+        match &self.store {
+            Store::Few(spans) => {
+                let at = ended(spans, bound);
+                if at < spans.len() {
+                    Some(spans[at])
+                } else {
+                    None
+                }
+            }
+            Store::Many(many) => many.first_beyond(bound),
+        }
+    }
+
+    /// The first span of the set. None if the set is empty.
+    pub fn first(&self) -> Option<Span>
+        ensures value { result ≡ first_span self.now }
+        ensures set { IsSet self.now }
+    {
+        match &self.store {
+            Store::Few(spans) => spans.first().copied(),
+            Store::Many(many) => many.first(),
+        }
+    }
+
+    /// How many spans the set has.
+    pub fn len(&self) -> usize
+        ensures { result ≡ length self.now }
+    {
+        match &self.store {
+            Store::Few(spans) => spans.len(),
+            Store::Many(many) => many.len(),
+        }
     }
 
     /// Whether the set has no key.
     pub fn is_empty(&self) -> bool
         ensures value { IsTrue result ↔ (self.now ≡ []) }
     {
-        self.spans.is_empty()
+        match &self.store {
+            Store::Few(spans) => spans.is_empty(),
+            Store::Many(many) => many.is_empty(),
+        }
     }
 
     /// Whether the key is in the set, by a binary search.
     pub fn has(&self, key: Key) -> bool
         ensures { result ≡ has self.now key }
     {
-        let at = ended(&self.spans, Bound::of_key(key));
-        at < self.spans.len() && self.spans[at].has(key)
-    }
-
-    /// How many spans of the set end at the bound or before it, by a binary search. If a span ends
-    /// beyond it, this is the place of the first such span.
-    pub fn ended(&self, bound: Bound) -> usize
-        ensures { Ended self.now bound result }
-    {
-        ended(&self.spans, bound)
+        match self.first_beyond(Bound::of_key(key)) {
+            Some(span) => span.has(key),
+            None => false,
+        }
     }
 
     /// Whether each key of the other set is in this one.
     pub fn covers(&self, other: &SpanSet) -> bool
         ensures { IsTrue result ↔ ((k : ℕ) → has other.now k ≡ true → has self.now k ≡ true) }
     {
-        covers(&self.spans, &other.spans)
+        covers(self.spans(), other.spans())
     }
 
     /// How many keys the set has.
@@ -128,7 +233,7 @@ impl SpanSet {
         ensures number { result ≡ how_many (has self.now) top }
     {
         let mut count = 0;
-        for span in &self.spans {
+        for span in self.spans() {
             count += span.count();
         }
         count
@@ -143,53 +248,68 @@ impl SpanSet {
         ensures few { IfSome result (λ s. s.hi ≤ s.lo + max) }
         ensures whole { IfSome result (λ s. s.hi < s.lo + max → has self.now s.hi ≡ false) }
     {
-        let first = self.spans.first()?;
+        let first = self.first()?;
         if max == 0 {
             return None;
         }
         if first.count() <= max {
-            return Some(*first);
+            return Some(first);
         }
         let hi = Bound::of_rank(first.lo().rank() + max)?;
         Some(Span::between(first.lo(), hi))
     }
 
-    /// The keys of either set. An error means that an allocation failed.
-    pub fn union(&self, alloc: Global, other: &SpanSet) -> Result<SpanSet, AllocError>
-        ensures value { IfOk result (λ set. set ≡ union self.now other.now) }
-        ensures keys { IfOk result (λ set. (k : ℕ) → has set k ≡ (has self.now k || has other.now k)) }
+    /// The spans of the set in one list. A few are lent, and many are copied. An error means that an
+    /// allocation failed.
+    pub fn list(&self, alloc: Global) -> Result<SpanList<'_>, AllocError>
+        ensures { IfOk result (λ list. list ≡ self.now) }
     {
-        let spans = merge(alloc, &self.spans, &other.spans)?;
-        Ok(SpanSet { spans })
+        match &self.store {
+            Store::Few(spans) => Ok(SpanList::lent(spans)),
+            Store::Many(_) => {
+                let spans = listed(alloc, self.spans())?;
+                Ok(SpanList::own(spans))
+            }
+        }
     }
 
-    /// The keys of this set that the other lacks. An error means that an allocation failed.
-    pub fn minus(&self, alloc: Global, other: &SpanSet) -> Result<SpanSet, AllocError>
-        ensures value { IfOk result (λ set. set ≡ minus self.now other.now) }
-        ensures keys { IfOk result (λ set. (k : ℕ) → has set k ≡ (has self.now k && not (has other.now k))) }
+    /// The spans of the set in one list. A few are moved, and many are copied. An error means that an
+    /// allocation failed: the set is then gone.
+    pub fn into_list(self, alloc: Global) -> Result<Vec<Span>, AllocError>
+        ensures { IfOk result (λ list. list.items ≡ self) }
     {
-        let spans = alone(alloc, &self.spans, &other.spans)?;
-        Ok(SpanSet { spans })
+        let SpanSet { store } = self;
+        match store {
+            Store::Few(spans) => Ok(spans),
+            Store::Many(many) => listed(alloc, Spans::many(many.iter())),
+        }
     }
 
-    /// The keys that are in both sets. An error means that an allocation failed.
-    pub fn meet(&self, alloc: Global, other: &SpanSet) -> Result<SpanSet, AllocError>
-        ensures value { IfOk result (λ set. set ≡ meet self.now other.now) }
-        ensures keys { IfOk result (λ set. (k : ℕ) → has set k ≡ (has self.now k && has other.now k)) }
+    /// Puts the spans into blocks if they are in a list that is too long for an edit in it.
+    pub(crate) fn spread(&mut self) -> Result<(), AllocError>
+        ensures { self.new ≡ self.old }
     {
-        let spans = common(alloc, &self.spans, &other.spans)?;
-        Ok(SpanSet { spans })
+        if let Store::Few(spans) = &self.store {
+            if spans.len() >= FEW {
+                let alloc = *spans.allocator();
+                let many = ManySpans::of_spans(alloc, spans)?;
+                self.store = Store::Many(Box::new(alloc, many)?);
+            }
+        }
+        Ok(())
     }
 
-    /// The keys below the bound, and the others. An error means that an allocation failed.
-    pub fn split_at(&self, alloc: Global, bound: Bound) -> Result<(SpanSet, SpanSet), AllocError>
-        ensures first { IfOk result (λ sets. sets.0 ≡ keys_below bound self.now) }
-        ensures second { IfOk result (λ sets. sets.1 ≡ keys_from bound self.now) }
-        ensures below { IfOk result (λ sets. (k : ℕ) → has sets.0 k ≡ (has self.now k && nat_lt k bound)) }
-        ensures others { IfOk result (λ sets. (k : ℕ) → has sets.1 k ≡ (has self.now k && nat_le bound k)) }
+    /// Puts the spans into blocks if they are in a list that is too long for the span to be added in
+    /// it. A span behind all others is added at the end of a list, however long it is.
+    fn ready_for(&mut self, span: Span) -> Result<(), AllocError>
+        ensures { self.new ≡ self.old }
     {
-        let (below, others) = cut(alloc, &self.spans, bound)?;
-        Ok((SpanSet { spans: below }, SpanSet { spans: others }))
+        if let Store::Few(spans) = &self.store {
+            if all_apart(spans, span.lo()) {
+                return Ok(());
+            }
+        }
+        self.spread()
     }
 
     /// Adds the keys of a span. An error means that an allocation failed: the set is then
@@ -199,7 +319,8 @@ impl SpanSet {
         ensures keys { OnOk result ((k : ℕ) → has self.new k ≡ (span_has span k || has self.old k)) }
         ensures err { OnErr result (self.new ≡ self.old) }
     {
-        insert(&mut self.spans, span)
+        self.ready_for(span)?;
+        self.store.insert(span)
     }
 
     /// Removes the keys of a span. An error means that an allocation failed: the set is then
@@ -209,20 +330,8 @@ impl SpanSet {
         ensures keys { OnOk result ((k : ℕ) → has self.new k ≡ (has self.old k && not (span_has span k))) }
         ensures err { OnErr result (self.new ≡ self.old) }
     {
-        remove(&mut self.spans, span)
-    }
-
-    /// The set with room for at least `more` further spans. If an allocation fails, the error is
-    /// the unchanged set.
-    pub fn with_room(self, more: usize) -> Result<ReadySet, SpanSet>
-        ensures ok { IfOk result (λ r. (r.set ≡ self) × (more ≤ r.room)) }
-        ensures err { IfErr result (λ s. s ≡ self) }
-    {
-        let mut spans = self.spans;
-        match spans.reserve(more) {
-            Ok(()) => Ok(ReadySet::of_spans(spans)),
-            Err(_) => Err(SpanSet { spans }),
-        }
+        self.spread()?;
+        self.store.remove(span)
     }
 }
 
@@ -233,7 +342,7 @@ impl PartialEq for SpanSet {
     ghost laws = { spans_eq-laws };
 
     fn eq(&self, other: &SpanSet) -> bool {
-        self.spans == other.spans
+        are_same(self.spans(), other.spans())
     }
 }
 

@@ -1,14 +1,22 @@
-use Rattle.std.proofs.Common.{List, sym, subst, ◌∙◌}
-use Rattle.squall_span.specs.Spans.{Interval, IsSet, minus}
-use Rattle.squall_span.proofs.Made.{made_minus, minus_set}
+use Rattle.std.proofs.Common.{◌∙◌, sym, subst}
+use Rattle.squall_span.specs.Spans.{IsSet}
+use Rattle.squall_span.specs.Within.{HasBeside}
+use Rattle.squall_span.specs.SpanLaws.{set-minus}
+use Rattle.squall_span.proofs.Made.{minus_beside}
 use Rattle.squall_span.proofs.set.SpanSet.minus.Goals as goal
 
-pub invariant_of-result : goal.invariant_of-result
-invariant_of-result c = minus_set c.deref.result.now c.deref-2.result.now _ (subst IsSet (sym c.deref.ensures.value) c.self.invariant) (subst IsSet (sym c.deref-2.ensures.value) c.other.invariant) c.in_ok-spans.ensures.canonical c.in_ok-spans.ensures.keys
+pub of_spans-requires : goal.of_spans-requires
+of_spans-requires c =
+    let own = subst IsSet (c.spans-2.ensures.value ∙ c.in_ok-own.ensures) c.spans-2.ensures.set in
+    let beside = subst (λ l. HasBeside l c.args.other.now c.in_ok-others.others) (c.spans.ensures.value ∙ sym c.spans-2.ensures.value) c.in_ok-others.ensures in
+    let near = subst (HasBeside c.spans-2.result.now c.args.other.now) (sym c.spans-3.ensures.value) beside in
+    let is = minus_beside c.in_ok-own.own c.spans-2.result.now c.args.self.now c.args.other.now c.spans-3.result.now c.in_ok-spans.spans.items c.spans-2.ensures.value c.in_ok-own.ensures own c.known.ensures near c.in_ok-spans.ensures.canonical c.in_ok-spans.ensures.keys in
+    subst IsSet (sym is) (set-minus c.args.self.now c.args.other.now own c.known.ensures)
 
 pub returns-clause-value : goal.returns-clause-value
 returns-clause-value c =
-    let a : List Interval = c.deref.result.now in
-    let b : List Interval = c.deref-2.result.now in
-    made_minus a b _ (subst IsSet (sym c.deref.ensures.value) c.self.invariant) (subst IsSet (sym c.deref-2.ensures.value) c.other.invariant) c.in_ok-spans.ensures.canonical c.in_ok-spans.ensures.keys
-    ∙ (λ i. minus ((c.deref.ensures.value ∙ c.self.view_is) i) ((c.deref-2.ensures.value ∙ c.other.view_is) i))
+    let own = subst IsSet (c.spans-2.ensures.value ∙ c.in_ok-own.ensures) c.spans-2.ensures.set in
+    let beside = subst (λ l. HasBeside l c.args.other.now c.in_ok-others.others) (c.spans.ensures.value ∙ sym c.spans-2.ensures.value) c.in_ok-others.ensures in
+    let near = subst (HasBeside c.spans-2.result.now c.args.other.now) (sym c.spans-3.ensures.value) beside in
+    c.of_spans.ensures
+    ∙ minus_beside c.in_ok-own.own c.spans-2.result.now c.args.self.now c.args.other.now c.spans-3.result.now c.in_ok-spans.spans.items c.spans-2.ensures.value c.in_ok-own.ensures own c.known.ensures near c.in_ok-spans.ensures.canonical c.in_ok-spans.ensures.keys

@@ -1,15 +1,8 @@
-use Rattle.std.proofs.Common.{List, sym, ap, subst, ◌∙◌, ◌||◌}
-use Rattle.squall_span.specs.Spans.{Interval, has, IsSet}
-use Rattle.squall_span.specs.SpanLaws.{set-union, has-union}
+use Rattle.squall_span.proofs.Made.{union_keys}
 use Rattle.squall_span.proofs.set.SpanSet.union.Goals as goal
 
-pub invariant_of-result : goal.invariant_of-result
-invariant_of-result c = subst IsSet (sym c.in_ok-spans.ensures) (set-union c.deref.result.now c.deref-2.result.now (subst IsSet (sym c.deref.ensures.value) c.self.invariant) (subst IsSet (sym c.deref-2.ensures.value) c.other.invariant))
+pub returns-then-are_few-clause-keys : goal.returns-then-are_few-clause-keys
+returns-then-are_few-clause-keys c = union_keys c.args.self.now c.args.other.now c.with_few.result c.known.ensures c.known-2.ensures c.with_few.ensures
 
-pub returns-clause-keys : goal.returns-clause-keys
-returns-clause-keys c k =
-    let a = c.deref.result.now in
-    let b = c.deref-2.result.now in
-    ap (λ (l : List Interval). has l k) c.in_ok-spans.ensures
-    ∙ has-union a b k (subst IsSet (sym c.deref.ensures.value) c.self.invariant).0 (subst IsSet (sym c.deref-2.ensures.value) c.other.invariant).0
-    ∙ (λ i. has ((c.deref.ensures.value ∙ c.self.view_is) i) k || has ((c.deref-2.ensures.value ∙ c.other.view_is) i) k)
+pub returns-else-are_few-clause-keys : goal.returns-else-are_few-clause-keys
+returns-else-are_few-clause-keys c = union_keys c.args.self.now c.args.other.now c.merged.result c.known.ensures c.known-2.ensures c.merged.ensures

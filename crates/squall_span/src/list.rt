@@ -1,0 +1,100 @@
+//! The spans of a set in one list.
+
+ghost use Rattle.std.specs.Prelude.{◌≡◌, IfOk};
+ghost use Rattle.squall_span.specs.Spans.{IsSet};
+ghost use Rattle.squall_span.specs.Within.{spans_before};
+
+use crate::span::Span;
+use crate::spans::Spans;
+use squall_key::Bound;
+use std::alloc::{AllocError, Global};
+use std::marker::Model;
+
+/// Spans of a set in one list: that of the set itself, or a copy if the set keeps them in blocks.
+///
+/// Contracts see the list of the spans.
+#[derive(Drop)]
+pub struct SpanList<'a> {
+    held: Held<'a>,
+}
+
+/// A list of spans that is lent, or one that is kept.
+#[derive(Drop)]
+enum Held<'a> {
+    Lent(&'a [Span]),
+    Own(Vec<Span>),
+}
+
+impl<'a> Model for SpanList<'a> {
+    ghost use Rattle.std.specs.Prelude.{List};
+    ghost use Rattle.squall_span.specs.Spans.{Interval, IsSet};
+    ghost use Rattle.squall_span.specs.Listed.{spans_held};
+
+    ghost Value = { List Interval };
+
+    ghost view = { λ s. spans_held s.held };
+
+    ghost invariant = { λ s. IsSet (spans_held s.held) };
+}
+
+impl<'a> SpanList<'a> {
+    /// A list that is lent.
+    pub(crate) fn lent(spans: &'a [Span]) -> SpanList<'a>
+        requires { IsSet spans.now }
+        ensures { result ≡ spans.now }
+    {
+        SpanList {
+            held: Held::Lent(spans),
+        }
+    }
+
+    /// A list that is kept.
+    pub(crate) fn own(spans: Vec<Span>) -> SpanList<'a>
+        requires { IsSet spans.items }
+        ensures { result ≡ spans.items }
+    {
+        SpanList {
+            held: Held::Own(spans),
+        }
+    }
+
+    /// The spans, in order, none of which overlaps or touches the next.
+    pub fn spans(&self) -> &[Span]
+        ensures value { result.now ≡ self.now }
+        ensures set { IsSet result.now }
+    {
+        match &self.held {
+            Held::Lent(spans) => spans,
+            Held::Own(spans) => spans,
+        }
+    }
+}
+
+/// The spans in one list. An error means that an allocation failed.
+pub(crate) fn listed(alloc: Global, spans: Spans<'_>) -> Result<Vec<Span>, AllocError>
+    ensures { IfOk result (λ list. list.items ≡ spans.entry) }
+{
+    let mut list = Vec::new(alloc);
+    for span in spans {
+        list.push(span)?;
+    }
+    Ok(list)
+}
+
+/// The spans that begin below the bound, in one list. An error means that an allocation failed.
+pub(crate) fn listed_below(
+    alloc: Global,
+    spans: Spans<'_>,
+    hi: Bound,
+) -> Result<Vec<Span>, AllocError>
+    ensures { IfOk result (λ list. list.items ≡ spans_before hi spans.entry) }
+{
+    let mut list = Vec::new(alloc);
+    for span in spans {
+        if hi <= span.lo() {
+            return Ok(list);
+        }
+        list.push(span)?;
+    }
+    Ok(list)
+}
