@@ -41,7 +41,7 @@ impl Cell {
         if !complete && spans.is_empty() {
             return None;
         }
-        let _canonical = spans.spans();
+        spans.known();
         place.known();
         Some(Cell {
             place,

@@ -21,7 +21,7 @@ pub enum Status {
 fn first_beyond(set: &SpanSet, from: Bound) -> Option<Span>
     ensures { IsFirst set.now from result }
 {
-    set.spans().get(set.ended(from)).copied()
+    set.first_beyond(from)
 }
 
 impl Status {

@@ -20,7 +20,7 @@ pub(crate) fn is_small(delta: &Delta) -> bool {
         return false;
     };
     match only(parts.entries()) {
-        Some((_, cell)) => cell.first.spans().len() <= FEW,
+        Some((_, cell)) => cell.first.len() <= FEW,
         None => false,
     }
 }

@@ -5,30 +5,21 @@ use Rattle.std.proofs.Math.Bool.{and-false}
 use Rattle.std.proofs.lemmas.Bool.{cases_lt}
 use Rattle.std.proofs.lemmas.Bool.Decides.{nat_tests}
 use Rattle.squall_key.specs.Keys.{top}
-use Rattle.squall_span.specs.Spans.{Interval, interval, span_at, span_has, has, Beyond, IsCanonical, EndsBeyond, how_many}
+use Rattle.squall_span.specs.Spans.{Interval, interval, span_at, span_has, has, Beyond, IsCanonical, EndsBeyond, spans_beyond, how_many}
 use Rattle.squall_span.specs.SpanLaws.{has_below, has_in, has_after, has_first, outside_below, outside_above}
-use Rattle.squall_span.specs.Places.{Ended}
+use Rattle.squall_span.specs.BeyondLaws.{canonical_beyond, beyond_ends, has_beyond}
 use Rattle.squall_status.specs.Coming.{IsFirstMissing}
 use Rattle.squall_status.specs.Steps.{shared_count, start_upto, missing_in, AreBeyond}
 use Rattle.squall_status.proofs.Counts.{same_many, many_upto, many_none, many_either, many_of_span}
 
--- ---- the spans from a place on
+-- ---- the spans from a bound on
 
--- the spans from the first on that ends beyond the bound
-pub beyond_at : (xs : List Interval) (bound i : ℕ) → IsCanonical xs → ((j : ℕ) (d : Interval) → j < i → j < length xs → (get_or xs j d).hi ≤ bound) → ((j : ℕ) (d : Interval) → i ≤ j → j < length xs → bound < (get_or xs j d).hi) → AreBeyond xs bound (drop i xs)
-beyond_at [] bound zero c below from = record { canonical = tt; ends = tt; same = λ k le. refl }
-beyond_at [] bound (suc i) c below from = record { canonical = tt; ends = tt; same = λ k le. refl }
-beyond_at (x ∷ xs) bound zero c below from = record { canonical = c; ends = from 0 x (omega arith) (omega arith); same = λ k le. refl }
-beyond_at (x ∷ xs) bound (suc i) c below from =
-    let rest = beyond_at xs bound i c.2 (λ j d lt in'. below (suc j) d (omega arith) (omega arith)) (λ j d le lt. from (suc j) d (omega arith) (omega arith)) in
-    record {
-      canonical = rest.canonical;
-      ends = rest.ends;
-      same = λ k le. rest.same k le ∙ sym (has_after x xs k (omega (arith, below 0 x (omega arith) (omega arith))));
-    }
-
-pub beyond_place : (xs set : List Interval) (bound i : ℕ) → xs ≡ set → IsCanonical set → Ended set bound i → AreBeyond set bound (drop i xs)
-beyond_place xs set bound i e c ended = rw e (beyond_at set bound i c (λ j d lt in'. ended.before j d lt) ended.from)
+pub are_beyond : (set : List Interval) (bound : ℕ) → IsCanonical set → AreBeyond set bound (spans_beyond bound set)
+are_beyond set bound c = record {
+  canonical = canonical_beyond bound set c;
+  ends = beyond_ends bound set;
+  same = λ k le. has_beyond bound k set le;
+}
 
 -- ---- how many keys are shared
 

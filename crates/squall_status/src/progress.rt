@@ -4,12 +4,12 @@ ghost use Rattle.std.specs.Prelude.{◌≡◌, ◌≤◌};
 ghost use Rattle.squall_key.specs.Keys.{top};
 ghost use Rattle.squall_span.specs.Spans.{has, IsCanonical, EndsBeyond};
 ghost use Rattle.squall_status.specs.Coming.{IsProgress, loaded_in, is_complete};
-ghost use Rattle.squall_status.specs.Steps.{shared_count, start_upto, missing_in, AreBeyond};
+ghost use Rattle.squall_status.specs.Steps.{shared_count, start_upto, missing_in};
 ghost use Rattle.squall_status.specs.Summary.{move_keys, move_loaded};
 
 use squall_course::Move;
 use squall_key::Bound;
-use squall_span::{Span, SpanSet};
+use squall_span::{Span, SpanSet, Spans};
 
 /// How far the keys of a span have come: a key has come once it is loaded.
 #[derive(Clone, Copy, Debug, PartialEq, Eq)]
@@ -27,19 +27,12 @@ pub enum Progress {
     Complete,
 }
 
-/// The spans of the set that end beyond the bound.
-fn beyond(set: &SpanSet, bound: Bound) -> &[Span]
-    ensures { AreBeyond set.now bound result.now }
-{
-    &set.spans()[set.ended(bound)..]
-}
-
 /// How many keys of the span lie in the spans, each of which ends beyond the start of the span. It
 /// stops at the first that shares no key with the span.
-fn count_shared(span: Span, spans: &[Span]) -> u64
-    requires canonical { IsCanonical spans.now }
-    requires ends { EndsBeyond span.lo spans.now }
-    ensures { result ≡ shared_count span spans.now }
+fn count_shared(span: Span, spans: Spans<'_>) -> u64
+    requires canonical { IsCanonical spans }
+    requires ends { EndsBeyond span.lo spans }
+    ensures { result ≡ shared_count span spans.entry }
 {
     let mut count = 0;
     for one in spans {
@@ -54,10 +47,10 @@ fn count_shared(span: Span, spans: &[Span]) -> u64
 }
 
 /// The bound at which the first span begins, but at most `bound`.
-fn start_upto(spans: &[Span], bound: Bound) -> Bound
-    ensures { result ≡ start_upto bound spans.now }
+fn start_upto(mut spans: Spans<'_>, bound: Bound) -> Bound
+    ensures { result ≡ start_upto bound spans.entry }
 {
-    match spans.first() {
+    match spans.next() {
         Some(first) => first.lo().min(bound),
         None => bound,
     }
@@ -65,14 +58,14 @@ fn start_upto(spans: &[Span], bound: Bound) -> Bound
 
 /// The first run of keys of the span that lie in none of the spans, each of which ends beyond the
 /// start of the span.
-fn first_missing(span: Span, spans: &[Span]) -> Option<Span>
-    ensures { result ≡ missing_in span spans.now }
+fn first_missing(span: Span, mut spans: Spans<'_>) -> Option<Span>
+    ensures { result ≡ missing_in span spans.entry }
 {
-    let Some((first, rest)) = spans.split_first() else {
+    let Some(first) = spans.next() else {
         return Some(span);
     };
     if first.lo() <= span.lo() {
-        Span::new(first.hi(), start_upto(rest, span.hi()))
+        Span::new(first.hi(), start_upto(spans, span.hi()))
     } else {
         Span::new(span.lo(), first.lo().min(span.hi()))
     }
@@ -85,11 +78,11 @@ impl Progress {
     {
         // The proof learns that the span ends by the top.
         let _hi = span.hi();
-        let spans = beyond(set, span.lo());
+        let spans = set.spans_beyond(span.lo());
         let Some(missing) = first_missing(span, spans) else {
             return Progress::Complete;
         };
-        let loaded = count_shared(span, spans);
+        let loaded = count_shared(span, set.spans_beyond(span.lo()));
         if loaded == 0 {
             Progress::NotStarted
         } else {

@@ -29,7 +29,7 @@ fn count_spans(cells: &[(CellId, &CellParts)]) -> u64
 {
     let mut spans: u64 = 0;
     for entry in cells {
-        spans = spans.saturating_add(entry.1.first.spans().len() as u64);
+        spans = spans.saturating_add(entry.1.first.len() as u64);
     }
     spans
 }
