@@ -1,5 +1,5 @@
 -- Items that are written one by one at the start of a room.
-use Rattle.std.proofs.Common.{◌≡◌, ℕ, zero, suc, ◌<◌, min, List, [], ◌∷◌, length, take, map, get_or, set, refl, sym, ap, ◌∙◌, arith, length-take-le, inl, inr}
+use Rattle.std.proofs.Common.{◌≡◌, ℕ, zero, suc, ◌<◌, ◌≤◌, min, List, [], ◌∷◌, length, take, drop, map, get_or, set, refl, sym, ap, ◌∙◌, arith, length-take-le, inl, inr}
 use Rattle.std.proofs.lemmas.Bool.{cases_lt}
 use Rattle.std.proofs.lemmas.List.{take_all, length-map}
 use Rattle.squall_c_values.specs.Rooms.{over}
@@ -28,3 +28,17 @@ taken_count f ks xs n e =
       | inl lt ↦ (let all = ap length (take_all (length xs) (map f ks) (omega (arith, m, lt))) in omega (arith, all, m, e, lt))
       | inr ge ↦ (let some = length-take-le (length xs) (map f ks) (omega (arith, m, ge)) in omega (arith, some, e, ge))
     ]
+
+-- ---- items that come one by one
+
+-- the next of the items from a place on
+pub next_item : {X : Type 0} → (xs rest : List X) (n : ℕ) (x : X) → drop n xs ≡ x ∷ rest → (n < length xs) × ((d : X) → x ≡ get_or xs n d) × (drop (suc n) xs ≡ rest)
+next_item [] rest zero x e = absurd cc
+next_item [] rest (suc n) x e = absurd cc
+next_item (y ∷ ys) rest zero x e = (omega arith, λ d. cc, cc)
+next_item (y ∷ ys) rest (suc n) x e = let next = next_item ys rest n x e in (omega (arith, next.0), next.1, next.2)
+
+pub no_item : {X : Type 0} → (xs : List X) (n : ℕ) → drop n xs ≡ [] → length xs ≤ n
+no_item [] n e = omega arith
+no_item (y ∷ ys) zero e = absurd cc
+no_item (y ∷ ys) (suc n) e = let next = no_item ys n e in omega (arith, next)

@@ -1,11 +1,10 @@
 //! Spans of keys, as C sees them.
 
-ghost use Rattle.std.specs.Prelude.{◌≡◌, length};
+ghost use Rattle.std.specs.Prelude.{◌≡◌, length, drop};
 ghost use Rattle.squall_c_values.specs.Rooms.{over};
 ghost use Rattle.squall_c_values.specs.Values.{c_span, spans_that_fit};
 
-use crate::tail::tail_from;
-use squall_span::Span;
+use squall_span::{Span, Spans};
 
 /// The keys from rank `lo` on, below rank `hi`.
 #[repr(C)]
@@ -18,8 +17,8 @@ pub struct CSpan {
 }
 
 /// The span as C sees it.
-fn span_of(span: &Span) -> CSpan
-    ensures { result ≡ c_span span.now }
+fn span_of(span: Span) -> CSpan
+    ensures { result ≡ c_span span }
 {
     CSpan {
         lo: span.lo().rank(),
@@ -27,23 +26,41 @@ fn span_of(span: &Span) -> CSpan
     }
 }
 
-/// Writes the spans into the room, from its start on, as many as it holds, and answers how many.
-fn put_all(spans: &[Span], room: &mut [CSpan]) -> usize
-    ensures spans { room.new ≡ over (spans_that_fit spans.now 0 room.old) room.old }
-    ensures count { result ≡ length (spans_that_fit spans.now 0 room.old) }
+/// The spans without the first `count` of them.
+fn without_first<'a>(mut spans: Spans<'a>, count: usize) -> Spans<'a>
+    ensures { result ≡ drop count spans.entry }
 {
-    let count = spans.len().min(room.len());
-    for at in 0..count {
-        room[at] = span_of(&spans[at]);
+    let mut passed = 0;
+    while passed < count {
+        let Some(_) = spans.next() else {
+            return spans;
+        };
+        passed += 1;
+    }
+    spans
+}
+
+/// Writes the spans into the room, from its start on, as many as it holds, and answers how many.
+fn put_all(mut spans: Spans<'_>, room: &mut [CSpan]) -> usize
+    ensures spans { room.new ≡ over (spans_that_fit spans.entry 0 room.old) room.old }
+    ensures count { result ≡ length (spans_that_fit spans.entry 0 room.old) }
+{
+    let mut count = 0;
+    while count < room.len() {
+        let Some(span) = spans.next() else {
+            return count;
+        };
+        room[count] = span_of(span);
+        count += 1;
     }
     count
 }
 
 /// Writes the spans, from the place `from` on, into the room, as many as it holds, and answers how
 /// many.
-pub fn put_spans(spans: &[Span], from: usize, room: &mut [CSpan]) -> usize
-    ensures spans { room.new ≡ over (spans_that_fit spans.now from room.old) room.old }
-    ensures count { result ≡ length (spans_that_fit spans.now from room.old) }
+pub fn put_spans(spans: Spans<'_>, from: usize, room: &mut [CSpan]) -> usize
+    ensures spans { room.new ≡ over (spans_that_fit spans.entry from room.old) room.old }
+    ensures count { result ≡ length (spans_that_fit spans.entry from room.old) }
 {
-    put_all(tail_from(spans, from), room)
+    put_all(without_first(spans, from), room)
 }

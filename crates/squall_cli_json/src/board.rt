@@ -88,7 +88,8 @@ fn cell_value(alloc: Global, place: CellId, cell: &CellParts) -> Result<Value, A
     let sub = place.sub();
     let part = place.part().get();
     let done = cell.second.get();
-    let loaded = Value::Array(span_values(alloc, cell.first.spans())?);
+    let list = cell.first.list(alloc)?;
+    let loaded = Value::Array(span_values(alloc, list.spans())?);
     json!(in alloc; {"course": number, "sub": sub, "part": part, "done": done, "loaded": loaded})
 }
 

@@ -10,7 +10,7 @@ ghost use Rattle.squall_cli_words.specs.BoardText.{cell_line, cell_lines, text_o
 use squall_board::{Board, CellParts, Opening};
 use squall_join::Flat;
 use squall_report::{CellId, Issue};
-use squall_span::Span;
+use squall_span::Spans;
 use std::alloc::AllocError;
 use std::sync::Arc;
 
@@ -55,8 +55,8 @@ fn complete_text(complete: bool) -> &'static str
 }
 
 /// Adds the spans, with a blank before each.
-fn add_spans(spans: &[Span], out: &mut String) -> Result<(), AllocError>
-    ensures { OnOk result (string_bytes out.new ≡ string_bytes out.old ++ next_spans spans.now) }
+fn add_spans(spans: Spans<'_>, out: &mut String) -> Result<(), AllocError>
+    ensures { OnOk result (string_bytes out.new ≡ string_bytes out.old ++ next_spans spans.entry) }
 {
     for span in spans {
         write!(out, " {span}")?;

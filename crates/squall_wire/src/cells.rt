@@ -59,7 +59,8 @@ pub(crate) fn write_cell(
     ensures written { OnOk result (out.new.items ≡ out.old.items ++ spell_cell (entry_with place complete spans.now)) }
     ensures known { OnOk result (place.number < word_limit) }
 {
-    let spans = spans.spans();
+    let list = spans.list(*out.allocator())?;
+    let spans = list.spans();
     out.extend_from_slice(&head_bytes(place, complete, spans.len()))?;
     write_items(out, spans)
 }
@@ -80,7 +81,7 @@ fn write_within(out: &mut Vec<u8>, place: CellId, cell: &CellParts) -> Result<()
     ensures known { OnOk result (place.number < word_limit) }
     ensures long { result ≡ Err TooLong → body_limit < length (out.old.items ++ spell_cell (cell_entry place cell.now)) }
 {
-    if cell.first.spans().len() > SPAN_LIMIT {
+    if cell.first.len() > SPAN_LIMIT {
         return Err(EncodeFault::TooLong);
     }
     write_cell(out, place, cell.second.get(), &cell.first)?;

@@ -321,7 +321,8 @@ impl Cutter {
         ensures long { result ≡ Err TooLong → HasTooLong self.old.most (items_of_cell (cell_entry place cell.now)) }
     {
         self.put_flag(place, cell.second.get())?;
-        self.put_spans(place, cell.first.spans())
+        let list = cell.first.list(self.alloc)?;
+        self.put_spans(place, list.spans())
     }
 
     /// Puts cells into pieces.

@@ -55,10 +55,7 @@ fn room_for(alloc: Global, count: u32, bytes: &[u8]) -> Result<ReadySet, WireFau
     ensures err { IfErr result (λ e. e ≡ NoMemory) }
 {
     let most = (count as usize).min(bytes.len() / SPAN_LENGTH);
-    match SpanSet::empty(alloc).with_room(most) {
-        Ok(ready) => Ok(ready),
-        Err(_) => Err(WireFault::NoMemory),
-    }
+    Ok(ReadySet::with_room(alloc, most)?)
 }
 
 /// The first `count` spans of the bytes as a set, and the bytes after them. Each begins above the
