@@ -18,12 +18,9 @@ fn is_near(set: &SpanSet, lo: Bound, hi: Bound) -> bool
     requires order { lo ≤ hi }
     ensures { IsTrue result → is_near set.now (interval lo hi) ≡ true }
 {
-    let at = set.ended(bound_before(lo));
-    let spans = set.spans();
-    if at >= spans.len() {
+    let Some(span) = set.first_beyond(bound_before(lo)) else {
         return false;
-    }
-    let span = spans[at];
+    };
     span.lo().rank() <= hi.rank() && lo.rank() <= span.hi().rank()
 }
 

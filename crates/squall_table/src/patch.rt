@@ -1,6 +1,6 @@
 //! Patches of route tables.
 
-ghost use Rattle.std.specs.Prelude.{◌≡◌, ℕ, ◌<◌, ◌≤◌, ◌+◌, ◌^◌, false, OnOk, OnErr};
+ghost use Rattle.std.specs.Prelude.{◌≡◌, ℕ, ◌<◌, ◌≤◌, ◌+◌, ◌^◌, false, IfOk, OnOk, OnErr};
 ghost use Rattle.squall_key.specs.Keys.{top};
 ghost use Rattle.squall_span.specs.Spans.{has, IsSet};
 ghost use Rattle.squall_plan.specs.Ranges.{owner_of};
@@ -25,8 +25,17 @@ use squall_board::{Board, Delta};
 use squall_course::Course;
 use squall_report::Report;
 use squall_span::{Span, SpanSet};
-use std::alloc::AllocError;
+use std::alloc::{AllocError, Global};
 use std::mem::replace;
+
+/// The spans of the set in one list. An error means that an allocation failed.
+fn listed(alloc: Global, set: SpanSet) -> Result<Vec<Span>, AllocError>
+    ensures value { IfOk result (λ list. list.items ≡ set) }
+    ensures set { IfOk result (λ list. IsSet list.items) }
+{
+    set.known();
+    set.into_list(alloc)
+}
 
 impl RouteTable {
     /// Makes the table that of the board. Before, it has to be that of an older board, whose routes
@@ -56,13 +65,13 @@ impl RouteTable {
         ensures unmetered { OnErr result (meter.new ≡ meter.old) }
     {
         know_moves(course);
-        let spans = set.spans();
-        if spans.is_empty() {
+        if set.is_empty() {
             return Ok(());
         }
         let alloc = self.legs.allocator();
+        let list = set.list(alloc)?;
         let table = self.legs.lent();
-        let made = renew(alloc, &table, course, Heard::Board(board), spans)?;
+        let made = renew(alloc, &table, course, Heard::Board(board), list.spans())?;
         let entries = near_count(&table, set, made.lo, made.hi);
         self.legs.replace(alloc, made.lo, made.hi, &made.fresh)?;
         meter.count += made.moves as u64;
@@ -123,8 +132,9 @@ impl RouteTable {
         if let Some(span) = touched_span(course, delta) {
             return self.absorb_touched(course, board, News::Delta(delta), &[span]);
         }
-        let set = touched(self.legs.allocator(), course, delta)?;
-        self.absorb_touched(course, board, News::Delta(delta), set.spans())
+        let alloc = self.legs.allocator();
+        let list = listed(alloc, touched(alloc, course, delta)?)?;
+        self.absorb_touched(course, board, News::Delta(delta), &list)
     }
 
     /// Takes the report into the board whose table this is, and patches the table for what the
@@ -150,7 +160,8 @@ impl RouteTable {
         if let Some(span) = reported_span(course, report) {
             return self.absorb_touched(course, board, News::Report(report), &[span]);
         }
-        let set = touched_by_report(self.legs.allocator(), course, report)?;
-        self.absorb_touched(course, board, News::Report(report), set.spans())
+        let alloc = self.legs.allocator();
+        let list = listed(alloc, touched_by_report(alloc, course, report)?)?;
+        self.absorb_touched(course, board, News::Report(report), &list)
     }
 }

@@ -2,8 +2,6 @@
 
 ghost use Rattle.std.specs.Prelude.{◌≡◌, ℕ, ◌≤◌, OnOk, IfOk, option_copied};
 ghost use Rattle.squall_key.specs.Keys.{top};
-ghost use Rattle.squall_span.specs.Spans.{IsCanonical as IsCanonicalSet};
-ghost use Rattle.squall_span.specs.Places.{Ended};
 ghost use Rattle.squall_plan.specs.Ranges.{owner_of, IsCanonical};
 ghost use Rattle.squall_report.specs.Cells.{place_at};
 ghost use Rattle.squall_board.specs.Boards.{says};
@@ -17,7 +15,7 @@ use squall_board::{Board, CellParts};
 use squall_course::Move;
 use squall_key::{Bound, PartId};
 use squall_report::CellId;
-use squall_span::{Span, SpanSet};
+use squall_span::SpanSet;
 use std::alloc::AllocError;
 
 /// What is heard of the keys of moves.
@@ -29,50 +27,44 @@ pub(crate) enum Heard<'a> {
     All,
 }
 
-/// Makes room for the legs of the keys from `lo` to `hi`, if many spans share a key with them. It
-/// reserves two legs a span, so a list that becomes long is not copied again and again. An eighth
-/// more spares a copy at the next patch. It does nothing if the spans are few, or if the middle one
-/// does not begin among these keys.
+/// Makes room for the legs of a set of many spans, if it begins among the keys from `lo` to `hi`. It
+/// reserves two legs a span, so a list that becomes long is not copied again and again. It does
+/// nothing if the spans are few.
 fn make_room(out: &mut Vec<Leg>, set: &SpanSet, lo: Bound, hi: Bound) -> Result<(), AllocError>
     ensures { out.new.items ≡ out.old.items }
 {
-    let spans = set.spans();
-    if spans.len() < 64 {
+    let Some(first) = set.first() else {
+        return Ok(());
+    };
+    let count = set.len();
+    if count < 64 || first.lo() < lo || hi <= first.lo() {
         return Ok(());
     }
-    let middle = spans[spans.len() / 2].lo();
-    if middle < lo || hi <= middle {
-        return Ok(());
-    }
-    let count = set.ended(hi).saturating_sub(set.ended(lo));
-    out.reserve(2 * count + count / 4)
+    out.reserve(count.saturating_mul(2))
 }
 
-/// Adds the keys from `lo` to `hi`: those of the spans to `dest`, the others to `source`. `first`
-/// is the index of the first span that ends beyond `lo`.
+/// Adds the keys from `lo` to `hi`: those of the set to `dest`, the others to `source`.
 fn push_picked(
     out: &mut Vec<Leg>,
-    spans: &[Span],
-    first: usize,
+    set: &SpanSet,
     dest: PartId,
     source: PartId,
     lo: Bound,
     hi: Bound,
 ) -> Result<(), AllocError>
-    requires canonical { IsCanonicalSet spans.now }
-    requires first { Ended spans.now lo first }
-    requires order { lo ≤ hi }
-    ensures { OnOk result (Grows (pick spans.now dest source) lo hi out.old.items out.new.items) }
+    requires { lo ≤ hi }
+    ensures { OnOk result (Grows (pick set.now dest source) lo hi out.old.items out.new.items) }
 {
     let mut reach = lo;
-    let mut at = first;
-    while at < spans.len() && spans[at].lo().rank() < hi.rank() {
-        let span = spans[at];
+    for span in set.spans_beyond(lo) {
+        if hi.rank() <= span.lo().rank() {
+            push_leg(out, reach, hi, source)?;
+            return Ok(());
+        }
         let start = span.lo().max(reach);
         push_leg(out, reach, start, source)?;
         reach = span.hi().min(hi);
         push_leg(out, start, reach, dest)?;
-        at += 1;
     }
     push_leg(out, reach, hi, source)?;
     Ok(())
@@ -114,8 +106,7 @@ fn push_move(
     }
     let set = &cell.first;
     make_room(out, set, lo, hi)?;
-    let first = set.ended(lo);
-    push_picked(out, set.spans(), first, moved.dest, moved.source, lo, hi)
+    push_picked(out, set, moved.dest, moved.source, lo, hi)
 }
 
 /// Index of the first move that ends beyond `bound`, by a binary search.

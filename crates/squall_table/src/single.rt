@@ -22,11 +22,10 @@ fn single_span(cell: &CellParts) -> Option<Span>
     ensures span { IfSome result (λ s. cell.now.first ≡ s ∷ []) }
     ensures open { IfSome result (λ s. cell.now.second ≡ false) }
 {
-    let spans = cell.first.spans();
-    if cell.second.get() || spans.len() != 1 {
+    if cell.second.get() || cell.first.len() != 1 {
         return None;
     }
-    Some(spans[0])
+    cell.first.first()
 }
 
 /// The one load of sub-plans that tell nothing else: its sub-plan, its partition and its keys.

@@ -19,7 +19,7 @@ use squall_board::{CellParts, Delta};
 use squall_course::{Course, Move};
 use squall_join::JoinMap;
 use squall_report::{CellId, Report, ReportKind};
-use squall_span::{Span, SpanSet};
+use squall_span::{Span, SpanSet, Spans};
 use std::alloc::{AllocError, Global};
 
 /// The keys that are in both spans. `None` if they share none.
@@ -103,13 +103,13 @@ fn add_spans(
     moves: &[Move],
     sub: u32,
     part: u32,
-    spans: &[Span],
+    spans: Spans<'_>,
 ) -> Result<(), AllocError>
     requires { MovesRise 0 moves.now }
-    ensures { OnOk result ((k : ℕ) → has out.new k ≡ (has out.old k || (has spans.now k && brought sub part moves.now k))) }
+    ensures { OnOk result ((k : ℕ) → has out.new k ≡ (has out.old k || (has spans.entry k && brought sub part moves.now k))) }
 {
     for span in spans {
-        add_span(out, moves, sub, part, *span)?;
+        add_span(out, moves, sub, part, span)?;
     }
     Ok(())
 }

@@ -7,4 +7,4 @@ pub absorb_touched-requires-clause-keys : goal.absorb_touched-requires-clause-ke
 absorb_touched-requires-clause-keys c k = c.in-Some.ensures.keys k ∙ board_touches c.args.course.now c.args.report.now k
 
 pub absorb_touched-requires-2-clause-keys : goal.absorb_touched-requires-2-clause-keys
-absorb_touched-requires-2-clause-keys c k = ap (λ s. has s k) c.spans.ensures.value ∙ c.in_ok-set.ensures k ∙ board_touches c.args.course.now c.args.report.now k
+absorb_touched-requires-2-clause-keys c k = ap (λ s. has s k) (c.deref.ensures.value ∙ c.in_ok-list.ensures.value) ∙ c.in_ok-touched_by_report.ensures k ∙ board_touches c.args.course.now c.args.report.now k
