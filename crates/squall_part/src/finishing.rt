@@ -68,8 +68,8 @@ impl Part {
         }
         let incoming = course.incoming(alloc, sub, self.id)?;
         let missing = incoming.minus(alloc, &log.loaded)?;
-        if let Some(first) = missing.spans().first() {
-            return Err(FinishFault::NotAll(*first));
+        if let Some(first) = missing.first() {
+            return Err(FinishFault::NotAll(first));
         }
         if incoming.is_empty() {
             return Err(FinishFault::NothingDue);

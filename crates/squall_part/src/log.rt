@@ -125,8 +125,7 @@ impl Log {
         ensures same { self.new ≡ log_with self.old.course self.old.given self.new.loaded }
         ensures err { OnErr result ((board.new ≡ board.old) × (held.new ≡ held.old) × (self.new.loaded ≡ self.old.loaded)) }
     {
-        // The proof learns that what is loaded is a set.
-        let _spans = self.loaded.spans();
+        self.loaded.known();
         load_awaited(
             alloc,
             board,

@@ -1,50 +1,64 @@
 //! Edits of several sets: all of them or none, and without a copy of a set.
 
-ghost use Rattle.std.specs.Prelude.{◌≡◌, ◌≤◌, [], ◌∷◌, length, IfOk, OnOk, OnErr};
+ghost use Rattle.std.specs.Prelude.{◌≡◌, [], ◌∷◌, IfOk, OnOk, OnErr};
 ghost use Rattle.squall_span.specs.Spans.{insert_span, without_span, union, minus};
 ghost use Rattle.squall_board.specs.Boards.{IsBoard};
 ghost use Rattle.squall_board.specs.Takes.{TakesReport};
 
 use squall_board::Board;
 use squall_report::Report;
-use squall_span::{ReadySet, Span, SpanSet};
+use squall_span::{SetDraft, Span, SpanSet};
 use std::alloc::{AllocError, Global};
 use std::mem;
 
-/// Takes the set out, with room for `more` edits. An error means that an allocation failed. The set
-/// is then unchanged.
-fn made_ready(alloc: Global, set: &mut SpanSet, more: usize) -> Result<ReadySet, AllocError>
-    ensures ok { IfOk result (λ r. (r.set ≡ set.old) × (more ≤ r.room)) }
+/// Takes the set out, with a draft that adds the keys of the spans. An error means that an
+/// allocation failed. The set is then unchanged.
+fn drafted_with_all(
+    alloc: Global,
+    set: &mut SpanSet,
+    spans: Vec<Span>,
+) -> Result<SetDraft, AllocError>
+    ensures before { IfOk result (λ d. d.before ≡ set.old) }
+    ensures after { IfOk result (λ d. d.after ≡ union set.old spans.items) }
     ensures err { OnErr result (set.new ≡ set.old) }
 {
-    let taken = mem::replace(set, SpanSet::empty(alloc));
-    match taken.with_room(more) {
-        Ok(ready) => Ok(ready),
-        Err(taken) => {
-            *set = taken;
+    match mem::replace(set, SpanSet::empty(alloc)).draft_insert_all(spans) {
+        Ok(draft) => Ok(draft),
+        Err(unchanged) => {
+            *set = unchanged;
             Err(AllocError)
         }
     }
 }
 
-/// Takes both sets out, the first with room for `more` edits and the second for one. An error means
-/// that an allocation failed. Both sets are then unchanged.
-fn both_ready(
-    alloc: Global,
-    first: &mut SpanSet,
-    more: usize,
-    second: &mut SpanSet,
-) -> Result<(ReadySet, ReadySet), AllocError>
-    ensures first { IfOk result (λ r. (r.0.set ≡ first.old) × (more ≤ r.0.room)) }
-    ensures second { IfOk result (λ r. (r.1.set ≡ second.old) × (1 ≤ r.1.room)) }
-    ensures err { OnErr result ((first.new ≡ first.old) × (second.new ≡ second.old)) }
+/// Takes the set out, with a draft that adds the keys of the span. An error means that an allocation
+/// failed. The set is then unchanged.
+fn drafted_with(alloc: Global, set: &mut SpanSet, span: Span) -> Result<SetDraft, AllocError>
+    ensures before { IfOk result (λ d. d.before ≡ set.old) }
+    ensures after { IfOk result (λ d. d.after ≡ insert_span span set.old) }
+    ensures err { OnErr result (set.new ≡ set.old) }
 {
-    let ready = made_ready(alloc, first, more)?;
-    match made_ready(alloc, second, 1) {
-        Ok(other) => Ok((ready, other)),
-        Err(error) => {
-            *first = ready.into_set();
-            Err(error)
+    match mem::replace(set, SpanSet::empty(alloc)).draft_insert(span) {
+        Ok(draft) => Ok(draft),
+        Err(unchanged) => {
+            *set = unchanged;
+            Err(AllocError)
+        }
+    }
+}
+
+/// Takes the set out, with a draft that removes the keys of the span. An error means that an
+/// allocation failed. The set is then unchanged.
+fn drafted_without(alloc: Global, set: &mut SpanSet, span: Span) -> Result<SetDraft, AllocError>
+    ensures before { IfOk result (λ d. d.before ≡ set.old) }
+    ensures after { IfOk result (λ d. d.after ≡ without_span span set.old) }
+    ensures err { OnErr result (set.new ≡ set.old) }
+{
+    match mem::replace(set, SpanSet::empty(alloc)).draft_remove(span) {
+        Ok(draft) => Ok(draft),
+        Err(unchanged) => {
+            *set = unchanged;
+            Err(AllocError)
         }
     }
 }
@@ -61,23 +75,39 @@ pub(crate) fn hand_over(
     ensures given { OnOk result (given.new ≡ insert_span span given.old) }
     ensures err { OnErr result ((held.new ≡ held.old) × (given.new ≡ given.old)) }
 {
-    let (mut ready_held, mut ready_given) = both_ready(alloc, held, 1, given)?;
-    ready_held.remove(span);
-    ready_given.insert(span);
-    *held = ready_held.into_set();
-    *given = ready_given.into_set();
-    Ok(())
+    let less = drafted_without(alloc, held, span)?;
+    match given.insert(span) {
+        Ok(()) => {
+            *held = less.keep();
+            Ok(())
+        }
+        Err(error) => {
+            *held = less.undo();
+            Err(error)
+        }
+    }
 }
 
-/// Adds the keys of spans, for each of which there is room.
-fn insert_all(set: &mut ReadySet, spans: &[Span])
-    requires { length spans.now ≤ set.old.room }
-    ensures { set.new.set ≡ union set.old.set spans.now }
+/// Takes both sets out, with drafts that add the keys of the fresh spans to the first, and those of
+/// the span to the second. An error means that an allocation failed. Both sets are then unchanged.
+fn both_drafted(
+    alloc: Global,
+    held: &mut SpanSet,
+    fresh: Vec<Span>,
+    loaded: &mut SpanSet,
+    span: Span,
+) -> Result<(SetDraft, SetDraft), AllocError>
+    ensures held { IfOk result (λ d. (d.0.before ≡ held.old) × (d.0.after ≡ union held.old fresh.items)) }
+    ensures loaded { IfOk result (λ d. (d.1.before ≡ loaded.old) × (d.1.after ≡ insert_span span loaded.old)) }
+    ensures err { OnErr result ((held.new ≡ held.old) × (loaded.new ≡ loaded.old)) }
 {
-    let mut at = spans.len();
-    while at > 0 {
-        at -= 1;
-        set.insert(spans[at]);
+    let more = drafted_with_all(alloc, held, fresh)?;
+    match drafted_with(alloc, loaded, span) {
+        Ok(other) => Ok((more, other)),
+        Err(error) => {
+            *held = more.undo();
+            Err(error)
+        }
     }
 }
 
@@ -97,16 +127,18 @@ fn load_keys(
     ensures loaded { OnOk result (loaded.new ≡ insert_span span loaded.old) }
     ensures err { OnErr result ((board.new ≡ board.old) × (held.new ≡ held.old) × (loaded.new ≡ loaded.old)) }
 {
-    let fresh = SpanSet::of(alloc, &span)?.minus(alloc, loaded)?;
-    let count = fresh.spans().len();
-    let (mut ready_held, mut ready_loaded) = both_ready(alloc, held, count, loaded)?;
+    let fresh = SpanSet::of(alloc, &span)?
+        .minus(alloc, loaded)?
+        .into_list(alloc)?;
+    let (more_held, more_loaded) = both_drafted(alloc, held, fresh, loaded, span)?;
     let taken = board.take(report);
     if taken.is_ok() {
-        insert_all(&mut ready_held, fresh.spans());
-        ready_loaded.insert(span);
+        *held = more_held.keep();
+        *loaded = more_loaded.keep();
+    } else {
+        *held = more_held.undo();
+        *loaded = more_loaded.undo();
     }
-    *held = ready_held.into_set();
-    *loaded = ready_loaded.into_set();
     board.known();
     taken
 }
@@ -129,11 +161,12 @@ pub(crate) fn load_awaited(
     ensures awaited { OnOk result (awaited.new ≡ without_span span awaited.old) }
     ensures err { OnErr result ((board.new ≡ board.old) × (held.new ≡ held.old) × (loaded.new ≡ loaded.old) × (awaited.new ≡ awaited.old)) }
 {
-    let mut ready = made_ready(alloc, awaited, 1)?;
+    let less = drafted_without(alloc, awaited, span)?;
     let result = load_keys(alloc, board, held, loaded, span, report);
-    if result.is_ok() {
-        ready.remove(span);
-    }
-    *awaited = ready.into_set();
+    *awaited = if result.is_ok() {
+        less.keep()
+    } else {
+        less.undo()
+    };
     result
 }

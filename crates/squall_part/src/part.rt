@@ -48,7 +48,7 @@ impl Model for Part {
 fn know_set(set: &SpanSet)
     ensures { IsSet set.now }
 {
-    let _spans = set.spans();
+    set.known();
 }
 
 /// The keys that the plan gives a partition.

@@ -1,11 +1,9 @@
-use Rattle.std.proofs.Common.{◌≡◌, ℕ, [], Some, None, get_or, subst, sym, ap, ◌∙◌, refl, rules, arith}
+use Rattle.std.proofs.Common.{◌≡◌, ℕ, [], Some, None, get_or, subst, sym, ap, ◌∙◌, refl, rules}
 use Rattle.std.proofs.lemmas.Bool.{false≢true}
-use Rattle.std.proofs.lemmas.Grind.{common_steps}
-use Rattle.std.proofs.lemmas.Option.{gets}
 use Rattle.squall_span.specs.Spans.{IsSet, has, first_span}
 use Rattle.squall_course.specs.Moves.{is_incoming}
 use Rattle.squall_part.specs.Loading.{is_missing, comes_in, IsOpen, done_report}
-use Rattle.squall_part.proofs.Steps.{missing_keys, incoming_keys, missing_run, first_of, none_missing, some_key, finished_part, finish_after}
+use Rattle.squall_part.proofs.Steps.{missing_keys, incoming_keys, missing_run, none_missing, some_key, finished_part, finish_after}
 use Rattle.squall_part.proofs.part.Part.finish.Goals as goal
 
 pub returns-in-Some : goal.returns-in-Some
@@ -17,9 +15,8 @@ returns-in-Some c =
     λ k. (c.in_ok-incoming.ensures k ∙ ap (λ p. is_incoming c.course-course.result.now.old c.course-course.result.now.new c.args.sub p.id k) c.self.view_is) in
     let keys = missing_keys p c.args.sub c.newest_place.result c.index-log.result.now c.in_ok-incoming.incoming c.in_ok-missing.missing c.log.inside.loaded c.course-course.result.now c.known.ensures c.newest_place.ensures course loaded comes c.in_ok-missing.ensures.keys in
     let opened : IsOpen p c.args.sub = search rules in
-    let set = subst IsSet c.spans.ensures.value c.spans.ensures.set in
-    let first : first_span c.in_ok-missing.missing ≡ Some c.in-Some.first.now = grind (arith, common_steps, gets, first_of) in
-    record { answer = (opened, missing_run (is_missing p c.args.sub) c.in_ok-missing.missing c.in-Some.first.now set first keys, refl) }
+    let first : first_span c.in_ok-missing.missing ≡ Some c.in-Some.first = sym c.first.ensures.value ∙ c.in-Some.is in
+    record { answer = (opened, missing_run (is_missing p c.args.sub) c.in_ok-missing.missing c.in-Some.first c.first.ensures.set first keys, refl) }
 
 pub invariant_of-self-2 : goal.invariant_of-self-2
 invariant_of-self-2 c =
@@ -34,7 +31,7 @@ returns c =
     λ k. (c.in_ok-incoming.ensures k ∙ ap (λ p. is_incoming c.course-course.result.now.old c.course-course.result.now.new c.args.sub p.id k) c.self.view_is) in
     let keys = missing_keys p c.args.sub c.newest_place.result c.index-log.result.now c.in_ok-incoming.incoming c.in_ok-missing.missing c.log.inside.loaded c.course-course.result.now c.known.ensures c.newest_place.ensures course loaded comes c.in_ok-missing.ensures.keys in
     let opened : IsOpen p c.args.sub = search rules in
-    let empty : first_span c.in_ok-missing.missing ≡ None = grind (arith, common_steps, gets, first_of) in
+    let empty : first_span c.in_ok-missing.missing ≡ None = sym c.first.ensures.value ∙ c.in_default.is in
     let some : c.in_ok-incoming.incoming ≡ [] → ⊥ = λ e. false≢true (sym c.if-is_empty.false ∙ c.is_empty.ensures.value.1 e) in
     let set = subst IsSet c.incoming-2.view_is c.incoming-2.invariant in
     let due = some_key (comes_in p c.args.sub) c.in_ok-incoming.incoming set some (incoming_keys p c.args.sub c.newest_place.result c.index-log.result.now c.in_ok-incoming.incoming c.course-course.result.now c.newest_place.ensures course comes) in
