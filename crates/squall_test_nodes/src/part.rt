@@ -111,7 +111,6 @@ fn write_reply(out: &mut String, reply: Reply) -> Result<(), AllocError> {
 /// Writes the spans of a set.
 fn write_spans(out: &mut String, set: &SpanSet) -> Result<(), AllocError> {
     for span in set.spans() {
-        let span = *span;
         write!(out, "{span}")?;
     }
     Ok(())

@@ -285,9 +285,8 @@ fn is_rest(
     rest: &Pair<SpanSet, JoinMap<u32, Max>>,
     entries: &[(u32, u32)],
 ) -> bool {
-    let spans = rest.first.spans();
-    spans.len() == 1
-        && spans[0] == span(rt, 4, 9)
+    rest.first.len() == 1
+        && rest.first.first() == Some(span(rt, 4, 9))
         && is_map(alloc, &rest.second, entries).expect(rt, "memory")
 }
 

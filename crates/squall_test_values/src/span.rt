@@ -2,11 +2,12 @@
 
 mod clients;
 mod example;
+mod many;
 mod plain;
 mod tolerant;
 
 use squall_key::{Bound, Key};
-use squall_span::{ReadySet, Span, SpanSet};
+use squall_span::{ReadySet, SetDraft, Span, SpanSet};
 use std::alloc::{AllocError, Global};
 use std::process::Abort;
 
@@ -33,15 +34,13 @@ fn set(rt: &impl Abort, alloc: Global, spans: &[(&str, &str)]) -> SpanSet {
 
 /// Whether the spans of the set are these.
 fn has_spans(rt: &impl Abort, set: &SpanSet, spans: &[(&str, &str)]) -> bool {
-    if set.spans().len() != spans.len() {
-        return false;
-    }
-    for (at, (lo, hi)) in spans.iter().enumerate() {
-        if set.spans()[at] != span(rt, lo, hi) {
+    let mut rest = set.spans();
+    for (lo, hi) in spans {
+        if rest.next() != Some(span(rt, lo, hi)) {
             return false;
         }
     }
-    true
+    set.len() == spans.len() && rest.next().is_none()
 }
 
 const TWO: [(&str, &str); 2] = [("0:0", "1:0"), ("2:0", "3:0")];
@@ -120,22 +119,22 @@ fn covers_the_empty(rt: &impl Abort, alloc: Global, two: &SpanSet) {
     holds!(rt; empty.first_keys(3).is_none());
 }
 
-/// Looks at the keys of the two spans: the first ones, how many there are, and how many spans end by a bound.
+/// Looks at the keys of the two spans: the first ones, how many there are, and how many spans end beyond a bound.
 fn look_at_keys(rt: &impl Abort, two: &SpanSet) {
     holds!(rt; two.first_keys(3) == Some(span(rt, "0:0", "0:3")));
     holds!(rt; two.first_keys(0).is_none());
     holds!(rt; two.first_keys(18446744069414584320) == Some(span(rt, "0:0", "1:0")));
     holds!(rt; two.count() == 8589934592 && !two.is_empty());
     holds!(rt; two.has(key(rt, "0:4294967295")) && !two.has(key(rt, "1:0")));
-    for (text, ended) in [
-        ("0:0", 0),
-        ("0:9", 0),
+    for (text, left) in [
+        ("0:0", 2),
+        ("0:9", 2),
         ("1:0", 1),
         ("2:5", 1),
-        ("3:0", 2),
-        ("end", 2),
+        ("3:0", 0),
+        ("end", 0),
     ] {
-        holds!(rt; two.ended(bound(rt, text)) == ended, text);
+        holds!(rt; two.spans_beyond(bound(rt, text)).count() == left, text);
     }
 }
 
@@ -206,12 +205,6 @@ fn inserts_and_removals(rt: HostRuntime) {
     }
 }
 
-/// The set of two spans with that room.
-fn with_room(rt: &impl Abort, alloc: Global, room: usize) -> ReadySet {
-    let two = set(rt, alloc, &TWO);
-    two.with_room(room).ok().expect(rt, "room")
-}
-
 /// Whether the spans of the set with room are these, once it is a set again.
 fn ends_with(rt: &impl Abort, ready: ReadySet, spans: &[(&str, &str)]) -> bool {
     let set = ready.into_set();
@@ -222,23 +215,49 @@ fn ends_with(rt: &impl Abort, ready: ReadySet, spans: &[(&str, &str)]) -> bool {
 fn edit(rt: &impl Abort, ready: &mut ReadySet) {
     assert!(rt; ready.room() >= 3);
     ready.insert(span(rt, "1:5", "1:9"));
-    ready.remove(span(rt, "2:3", "2:4"));
+    ready.remove(span(rt, "1:6", "1:7"));
     ready.insert(span(rt, "0:7", "1:5"));
-    assert!(rt; ready.spans().len() == 3);
+    assert!(rt; ready.room() >= 1);
 }
 
 #[test]
 fn edits_in_room(rt: HostRuntime) {
-    let mut ready = with_room(&rt, rt.alloc(), 3);
+    let mut ready = ReadySet::with_room(rt.alloc(), 3).expect(&rt, "memory");
     edit(&rt, &mut ready);
-    let edited = [("0:0", "1:9"), ("2:0", "2:3"), ("2:4", "3:0")];
-    holds!(&rt; ends_with(&rt, ready, &edited));
+    holds!(&rt; ends_with(&rt, ready, &[("0:7", "1:6"), ("1:7", "1:9")]));
+}
+
+/// Whether the drafted edit of the set of two spans is kept with one list, and undone with another.
+fn keeps(rt: &impl Abort, draft: SetDraft, spans: &[(&str, &str)]) -> bool {
+    let set = draft.keep();
+    has_spans(rt, &set, spans)
+}
+
+fn undoes(rt: &impl Abort, draft: SetDraft) -> bool {
+    let set = draft.undo();
+    has_spans(rt, &set, &TWO)
+}
+
+fn drafted_with(rt: &impl Abort, alloc: Global) -> SetDraft {
+    let draft = set(rt, alloc, &TWO).draft_insert(span(rt, "0:7", "2:5"));
+    draft.ok().expect(rt, "memory")
+}
+
+fn drafted_without(rt: &impl Abort, alloc: Global) -> SetDraft {
+    let draft = set(rt, alloc, &TWO).draft_remove(span(rt, "0:7", "2:5"));
+    draft.ok().expect(rt, "memory")
 }
 
 #[test]
-fn a_set_that_is_not_edited(rt: HostRuntime) {
-    let ready = with_room(&rt, rt.alloc(), 0);
-    holds!(&rt; ends_with(&rt, ready, &TWO));
+fn drafts_that_are_kept(rt: HostRuntime) {
+    holds!(&rt; keeps(&rt, drafted_with(&rt, rt.alloc()), &[("0:0", "3:0")]));
+    holds!(&rt; keeps(&rt, drafted_without(&rt, rt.alloc()), &[("0:0", "0:7"), ("2:5", "3:0")]));
+}
+
+#[test]
+fn drafts_that_are_undone(rt: HostRuntime) {
+    holds!(&rt; undoes(&rt, drafted_with(&rt, rt.alloc())));
+    holds!(&rt; undoes(&rt, drafted_without(&rt, rt.alloc())));
 }
 
 #[test]

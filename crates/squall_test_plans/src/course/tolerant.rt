@@ -70,10 +70,10 @@ fn tolerant_new(rt: HostRuntime) {
 /// Asks for the keys that come and that go, and for the partitions that receive keys.
 fn look_at_answers(rt: &impl Abort, alloc: Global, course: &Course) {
     if let Ok(keys) = course.incoming(alloc, 0, part(rt, 2)) {
-        holds!(rt; keys.spans().len() == 1);
+        holds!(rt; keys.len() == 1);
     }
     if let Ok(keys) = course.outgoing(alloc, 0, part(rt, 1)) {
-        holds!(rt; keys.spans().len() == 1);
+        holds!(rt; keys.len() == 1);
     }
     if let Ok(parts) = course.receivers(alloc, 0) {
         holds!(rt; parts.as_slice() == [part(rt, 2)].as_slice());

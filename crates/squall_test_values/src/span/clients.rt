@@ -12,7 +12,7 @@ use squall_span::laws::same_keys_same_set;
 fn is_set(set: &SpanSet)
     ensures { IsSet set.now }
 {
-    let _spans = set.spans();
+    set.known();
 }
 
 /// It is equal to each set with the same keys.

@@ -15,6 +15,6 @@ fn set_of_two_spans(rt: HostRuntime) -> Result<(), Fail> {
     assert!(rt; set.has(Key::new(2, 0).expect(&rt, "a key")));
     assert!(rt; !set.has(Key::new(5, 0).expect(&rt, "a key")));
     set.insert(Span::new(five, nine).expect(&rt, "a span"))?;
-    assert!(rt; set.spans().len() == 1);
+    assert!(rt; set.len() == 1);
     Ok(())
 }

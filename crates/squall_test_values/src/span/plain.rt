@@ -90,21 +90,23 @@ fn compare(rt: &impl Abort, alloc: Global, first: &SpanSet, a: u32, b: u32) {
     holds!(rt; (*first == second) == (a == b));
 }
 
-/// How many of the spans end at the bound or before.
-fn count_ended(spans: &[Span], at: Bound) -> usize {
-    let mut count = 0usize;
-    for span in spans {
-        count = count.wrapping_add(usize::from(span.hi() <= at));
+/// The first of the spans that ends beyond the bound.
+fn first_beyond(set: &SpanSet, at: Bound) -> Option<Span> {
+    for span in set.spans() {
+        if span.hi() > at {
+            return Some(span);
+        }
     }
-    count
+    None
 }
 
-/// Whether the set says of each bound how many of its spans end at it or before.
-fn counts_ends(rt: &impl Abort, set: &SpanSet) -> bool {
+/// Whether the set finds for each bound the first of its spans that ends beyond it.
+fn finds_firsts(rt: &impl Abort, set: &SpanSet) -> bool {
     let mut right = true;
     for rank in 0..26u32 {
         let at = bound(rt, rank);
-        right &= set.ended(at) == count_ended(set.spans(), at);
+        let first = first_beyond(set, at);
+        right &= set.first_beyond(at) == first && set.spans_beyond(at).next() == first;
     }
     right
 }
@@ -117,7 +119,7 @@ fn sets_of_two(rt: HostRuntime) {
         let b = mask(next(state));
         state = next(next(state));
         let first = made(&rt, rt.alloc(), a);
-        holds!(&rt; mask_of(&first) == a && counts_ends(&rt, &first));
+        holds!(&rt; mask_of(&first) == a && finds_firsts(&rt, &first));
         compare(&rt, rt.alloc(), &first, a, b);
     }
 }
