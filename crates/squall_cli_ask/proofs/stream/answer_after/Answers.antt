@@ -26,9 +26,9 @@ returns-in-Ok-clause-told g c =
     let quiet = read.quiet refl in
     let are_read = subst (λ w. AreRead known input input (map string_bytes w) c.in-Ok.read.items) c.deref.ensures.value
     (subst (λ d. AreRead known input (g.S.Source.state d).remaining (map string_bytes c.deref.result.now) c.in-Ok.read.items) kept read.read) in
-    let bars = subst (λ w. IsDrawnFor stream (g.E.Sink.terminal c.args.err.now) outcome w input after (g.E.Sink.state c.args.err.now) drawn) c.deref-2.ensures.value
-    (subst (λ e. IsDrawnFor stream (g.E.Sink.terminal e) outcome c.deref-2.result.now input after (g.E.Sink.state e) drawn) quiet
-    (subst (λ d. IsDrawnFor stream (g.E.Sink.terminal c.read_files.new.err) outcome c.deref-2.result.now (g.S.Source.state d).remaining after (g.E.Sink.state c.read_files.new.err) drawn) kept answered.bars)) in (
+    let bars = subst (λ w. IsDrawnFor stream (g.E.Sink.terminal c.args.err.now) outcome w input after (g.E.Sink.state c.args.err.now) drawn) c.deref-in-Ok.ensures.value
+    (subst (λ e. IsDrawnFor stream (g.E.Sink.terminal e) outcome c.deref-in-Ok.result.now input after (g.E.Sink.state e) drawn) quiet
+    (subst (λ d. IsDrawnFor stream (g.E.Sink.terminal c.read_files.new.err) outcome c.deref-in-Ok.result.now (g.S.Source.state d).remaining after (g.E.Sink.state c.read_files.new.err) drawn) kept answered.bars)) in (
       drawn,
       inl (outcome, c.in-Ok.read.items, c.tell_outcome.ensures.status, are_read, bars),
       outcome_told outcome,
@@ -37,12 +37,15 @@ returns-in-Ok-clause-told g c =
     )
 
 pub returns-in-Err-clause-told : goal.returns-in-Err-clause-told
-returns-in-Err-clause-told g c = (
-  g.E.Sink.state c.args.err.now,
-  unread_undrawn c.args.follow.now.stream (g.E.Sink.terminal c.args.err.now)
-      (bytes_at (g.F.Files.known c.args.files.now) (g.S.Source.state c.args.input.now) (g.O.Sink.state c.args.out.now))
-      (bytes_at (g.F.Files.known c.read_files.new.files) (g.S.Source.state c.read_files.new.input) (g.O.Sink.state c.args.out.now))
-      (files_followed c.args.follow.now) c.in-Err.status (g.E.Sink.state c.args.err.now) c.in-Err.ensures.fault,
-  subst (λ w. (text : List ℕ) × IsTold (Contains (map string_bytes w)) c.in-Err.status text × Says (g.E.Sink.state c.args.err.now) (g.E.Sink.state c.read_files.new.err) text)
-      c.deref.ensures.value c.in-Err.ensures.told,
-)
+returns-in-Err-clause-told g c =
+    let t = subst (λ w. (text : List ℕ) × IsTold (Contains (map string_bytes w)) c.in-Err.status text × Says (g.E.Sink.state c.args.err.now) (g.E.Sink.state c.read_files.new.err) text)
+    c.deref.ensures.value c.in-Err.ensures.told in (
+      g.E.Sink.state c.args.err.now,
+      unread_undrawn c.args.follow.now.stream (g.E.Sink.terminal c.args.err.now)
+          (bytes_at (g.F.Files.known c.args.files.now) (g.S.Source.state c.args.input.now) (g.O.Sink.state c.args.out.now))
+          (bytes_at (g.F.Files.known c.read_files.new.files) (g.S.Source.state c.read_files.new.input) (g.O.Sink.state c.args.out.now))
+          (files_followed c.args.follow.now) c.in-Err.status (g.E.Sink.state c.args.err.now) c.in-Err.ensures.fault,
+      t.0,
+      t.1,
+      t.2,
+    )

@@ -27,12 +27,14 @@ returns-in-Ok-clause-told g c =
 pub returns-in-Err-Help-clause-told : goal.returns-in-Err-Help-clause-told
 returns-in-Err-Help-clause-told g c =
     let asks = (c.in-Err-Help.ensures.help (λ e. cc)).0 (rw c.in-Err-Help.field-0-is refl) in
-    (g.E.Sink.state c.args.err.now, ((λ job also. absurd (no_help (words_of c.args.words.now) job also asks)), inl refl), c.show_help.ensures.told)
+    let t = c.show_help.ensures.told in
+    (g.E.Sink.state c.args.err.now, ((λ job also. absurd (no_help (words_of c.args.words.now) job also asks)), inl refl), t.0, t.1, t.2)
 
 pub returns-in-Err-Bad-clause-told : goal.returns-in-Err-Bad-clause-told
 returns-in-Err-Bad-clause-told g c =
     let faulty = (c.in-Err-Bad.ensures.refused (λ e. cc)).0 (rw c.in-Err-Bad.field-0-is refl) in
-    (g.E.Sink.state c.args.err.now, ((λ job also. absurd (no_fault (words_of c.args.words.now) job also faulty)), inl refl), c.show_fault.ensures.told faulty)
+    let t = c.show_fault.ensures.told faulty in
+    (g.E.Sink.state c.args.err.now, ((λ job also. absurd (no_fault (words_of c.args.words.now) job also faulty)), inl refl), t.0, t.1, t.2)
 
 pub returns-in-Err-Help-clause-device : goal.returns-in-Err-Help-clause-device
 returns-in-Err-Help-clause-device g c = λ e. inr (inl (c.show_help.ensures.device e))
