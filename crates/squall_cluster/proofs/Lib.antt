@@ -1,4 +1,5 @@
 pub mod Ends
 pub mod Joined
+mod Draining
 mod Races
 mod Unions
