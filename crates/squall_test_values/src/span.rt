@@ -134,7 +134,7 @@ fn look_at_keys(rt: &impl Abort, two: &SpanSet) {
         ("3:0", 0),
         ("end", 0),
     ] {
-        holds!(rt; two.spans_beyond(bound(rt, text)).count() == left, text);
+        holds!(rt; many::left(two, bound(rt, text)) == left, text);
     }
 }
 

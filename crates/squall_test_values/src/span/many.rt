@@ -18,7 +18,8 @@ fn span(rt: &impl Abort, lo: u64, hi: u64) -> Span {
 
 /// The span at a place: six keys of ten.
 fn at(rt: &impl Abort, place: u64) -> Span {
-    span(rt, 10 * place, 10 * place + 6)
+    let lo = place.saturating_mul(10);
+    span(rt, lo, lo.saturating_add(6))
 }
 
 /// The spans at all places, put in by steps of that many places.
@@ -27,7 +28,7 @@ fn many(rt: &impl Abort, alloc: Global, step: u64) -> SpanSet {
     let mut place = 0u64;
     for _ in 0..MANY {
         set.insert(at(rt, place)).expect(rt, "memory");
-        place = (place + step) % MANY;
+        place = place.saturating_add(step) % MANY;
     }
     set
 }
@@ -44,6 +45,15 @@ fn are_all(rt: &impl Abort, set: &SpanSet) -> bool {
     place == MANY
 }
 
+/// How many spans end beyond the bound.
+pub(super) fn left(set: &SpanSet, bound: Bound) -> usize {
+    let mut count = 0usize;
+    for _ in set.spans_beyond(bound) {
+        count = count.saturating_add(1);
+    }
+    count
+}
+
 /// Looks at keys, and at spans from a bound on.
 fn look(rt: &impl Abort, set: &SpanSet) {
     holds!(rt; set.len() == 601 && set.count() == 3606 && !set.is_empty());
@@ -53,7 +63,7 @@ fn look(rt: &impl Abort, set: &SpanSet) {
     holds!(rt; set.first_beyond(bound(rt, 3005)) == Some(at(rt, 300)));
     holds!(rt; set.first_beyond(bound(rt, 3006)) == Some(at(rt, 301)));
     holds!(rt; set.first_beyond(bound(rt, 6006)).is_none());
-    holds!(rt; set.spans_beyond(bound(rt, 3006)).count() == 300);
+    holds!(rt; left(set, bound(rt, 3006)) == 300);
 }
 
 #[test]
@@ -117,9 +127,10 @@ fn moved(rt: &impl Abort, alloc: Global) -> SpanSet {
     let mut set = SpanSet::empty(alloc);
     let mut place = 0u64;
     for _ in 0..MANY {
-        let lo = 10 * place + 3;
-        set.insert(span(rt, lo, lo + 6)).expect(rt, "memory");
-        place = (place + 17) % MANY;
+        let lo = place.saturating_mul(10).saturating_add(3);
+        set.insert(span(rt, lo, lo.saturating_add(6)))
+            .expect(rt, "memory");
+        place = place.saturating_add(17) % MANY;
     }
     set
 }
@@ -155,15 +166,21 @@ fn edits_over_blocks(rt: HostRuntime) {
     holds!(&rt; set.count() == 6);
 }
 
+/// Fills the gap behind the span at the place.
+fn fill(rt: &impl Abort, set: &mut SpanSet, place: u64) {
+    let lo = place.saturating_mul(10).saturating_add(6);
+    set.insert(span(rt, lo, lo.saturating_add(4)))
+        .expect(rt, "memory");
+}
+
 /// The gaps are filled one by one: each joins two spans, at times of two blocks.
 #[test]
 fn gaps_are_filled(rt: HostRuntime) {
     let mut set = many(&rt, rt.alloc(), 211);
     let mut place = 0u64;
     for _ in 0..MANY {
-        let gap = span(&rt, 10 * place + 6, 10 * place + 10);
-        set.insert(gap).expect(&rt, "memory");
-        place = (place + 97) % MANY;
+        fill(&rt, &mut set, place);
+        place = place.saturating_add(97) % MANY;
     }
     holds!(&rt; set.len() == 1 && set.count() == 6010);
 }
