@@ -28,14 +28,15 @@ const ERASED: &str =
 #[derive(Drop)]
 struct Pieces<'a> {
     pieces: &'a [&'a [u8]],
+    next: usize,
 }
 
 impl Read for Pieces<'_> {
     fn read(&mut self, buf: &mut [u8]) -> io::Result<usize> {
-        let Some((piece, rest)) = self.pieces.split_first() else {
+        let Some(piece) = self.pieces.get(self.next) else {
             return Ok(0);
         };
-        self.pieces = rest;
+        self.next = self.next.saturating_add(1);
         let n = piece.len().min(buf.len());
         buf[..n].copy_from_slice(&piece[..n]);
         Ok(n)
@@ -106,7 +107,7 @@ fn watched(alloc: Global, pieces: &[&[u8]], text_room: usize, room: Room) -> Opt
     let new = Plan::read(alloc, NEW.as_bytes()).ok()?;
     let mut text = Vec::with_capacity(alloc, 1024).ok()?;
     let mut drawn = Vec::with_capacity(alloc, 1024).ok()?;
-    let mut reader = Reader::new(Pieces { pieces });
+    let mut reader = Reader::new(Pieces { pieces, next: 0 });
     let mut writer = Writer::new(Narrow {
         taken: &mut text,
         room: text_room,
@@ -311,10 +312,11 @@ fn counts_are_short(rt: HostRuntime) -> Result<(), Fail> {
 #[test]
 fn tolerant_bars(rt: HostRuntime) {
     if let Some(watched) = watched(rt.alloc(), &[OPENED], usize::MAX, TERMINAL) {
-        let drawn = watched.drawn.as_slice();
-        match watched.ended {
+        let Seen { ended, text, drawn } = watched;
+        let drawn = drawn.as_slice();
+        match ended {
             Err(RunFault::NoMemory) => {
-                assert!(rt; watched.text.is_empty());
+                assert!(rt; text.is_empty());
                 assert!(rt; drawn.is_empty() || drawn.last() == Some(&b'\n'));
                 assert!(rt;
                     drawn.is_empty()
@@ -323,7 +325,7 @@ fn tolerant_bars(rt: HostRuntime) {
             }
             ended => {
                 assert!(rt; ended == Ok(Ended::Fine));
-                assert!(rt; watched.text.as_slice() == FIRST.as_bytes());
+                assert!(rt; text.as_slice() == FIRST.as_bytes());
                 assert!(rt; drawn.len() == 2 * NONE.len() + ERASED.len() + 1);
             }
         }
