@@ -142,3 +142,21 @@ undone_once ss ss' s ls ls' bs bs' e k w el eb =
       lasts_len = omega (arith, n, a, i.same);
       blocks_len = omega (arith, m, b);
     }
+
+-- items that changed places with others
+pub record Traded {X : Type 0} (xs xs' f g : List X) (m stop : ℕ) : Type 0 where
+  pub back : splice xs' m stop g ≡ xs
+  pub len : length g ≡ length f
+  pub within : stop ≤ length xs'
+
+pub traded : {X : Type 0} (xs xs' f g : List X) (m n stop : ℕ) → n ≡ length f → m + n ≤ length xs → stop ≡ m + length f → xs' ≡ splice xs m (m + n) f → g ≡ take n (drop m xs) → Traded xs xs' f g m stop
+traded xs xs' f g m n stop count within s e gone =
+    let order : m ≤ m + n = omega arith in
+    let part : g ≡ take (m + n - m) (drop m xs) = gone ∙ ap (λ k. take k (drop m xs)) (omega arith) in
+    let a = length_spliced xs f m (m + n) order within in
+    let long = ap length e in
+    record {
+      back = ap (λ l. splice l m stop g) e ∙ spliced_back xs f g m (m + n) stop order within s part;
+      len = ap length part ∙ length_part xs m (m + n) order within ∙ omega (arith, count);
+      within = omega (arith, a, long, count, s, within);
+    }

@@ -92,7 +92,7 @@ impl<V: Copy> Draft<V> {
         self.steps.reserve(1)?;
         let (lasts, blocks) = (&mut self.lasts, &mut self.blocks);
         let end = at.end + 1;
-        let step = exchange(lasts, blocks, at.first, end, &ends, fresh, self.kept)?;
+        let step = exchange(lasts, blocks, at.first, end, ends, fresh, self.kept)?;
         self.kept += end - at.first;
         self.steps.push_reserved(step);
         Ok(())

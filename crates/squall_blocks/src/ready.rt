@@ -33,7 +33,7 @@ fn move_up_from<T: Copy>(items: &mut [T], first: usize, by: usize)
 }
 
 /// Moves the items from `end` on to the place `at`. Of the items before it, some are not yet right:
-/// others are to be written over them.
+/// others are to be written over them. If both places are the same, nothing moves.
 fn move_tail<T: Copy>(items: &mut Vec<T>, end: usize, at: usize, fresh: &[T])
     requires within { end ≤ length items.old.items }
     requires fits { at ≤ end + length fresh.now }
@@ -45,7 +45,7 @@ fn move_tail<T: Copy>(items: &mut Vec<T>, end: usize, at: usize, fresh: &[T])
         let len = items.len();
         items.copy_within(end..len, at);
         items.truncate(len - (end - at));
-    } else {
+    } else if end < at {
         let _done = items.extend_from_slice(&fresh[..at - end]);
         move_up_from(items, end, at - end);
     }
@@ -98,15 +98,17 @@ fn swap_out<U: Drop>(items: &mut Vec<U>, first: usize, end: usize, fresh: Vec<U>
     items.truncate(len - (end - first) + more);
 }
 
-/// Puts other items in place of as many from `first` on.
-fn swap_in<U: Drop>(items: &mut Vec<U>, first: usize, fresh: Vec<U>)
+/// Puts other items in place of as many from `first` on, and returns those that were there.
+pub(crate) fn swap_in<U: Drop>(items: &mut Vec<U>, first: usize, fresh: Vec<U>) -> Vec<U>
     requires within { first + vec_len fresh ≤ length items.old.items }
     ensures capacity { vec_capacity items.old ≤ vec_capacity items.new }
     ensures items { items.new.items ≡ splice items.old.items first (first + vec_len fresh) fresh.items }
+    ensures gone { result.items ≡ take (vec_len fresh) (drop first items.old.items) }
 {
     let mut fresh = fresh;
     let end = first + fresh.len();
     items[first..end].swap_with_slice(&mut fresh);
+    fresh
 }
 
 /// Puts other items in place of those from `first` to `end`, in room that was reserved. It cannot
@@ -120,7 +122,8 @@ pub(crate) fn exchange_ready<U: Drop>(items: &mut Vec<U>, first: usize, end: usi
 {
     let rest = items.len() - end;
     if fresh.len() == end - first {
-        return swap_in(items, first, fresh);
+        let _gone = swap_in(items, first, fresh);
+        return;
     }
     swap_out(items, first, end, fresh);
     turn_from(items, first, rest);

@@ -5,7 +5,7 @@ ghost use Rattle.std.specs.List.{splice};
 ghost use Rattle.squall_blocks.specs.Drafts.{IsWithin, Undoes};
 
 use crate::entries::Entries;
-use crate::ready::{exchange_ready, replace_ready, reserve_both};
+use crate::ready::{exchange_ready, replace_ready, reserve_both, swap_in};
 use crate::search::End;
 use std::alloc::{AllocError, Global};
 use std::marker::Model;
@@ -64,36 +64,63 @@ fn take_out<V: Copy>(
     Ok(gone)
 }
 
-/// Puts other blocks in place of those from `first` to `end`, and returns what undoes it. Both
-/// lists then have room for what was there, and for `kept` blocks more. An error means that an
-/// allocation failed: both lists are then unchanged.
-pub(crate) fn exchange<V: Copy>(
+/// Puts other blocks in place of as many from `first` on, and returns what undoes it: the blocks
+/// change places with those that were there. It cannot fail.
+fn trade<V: Copy>(
+    lasts: &mut Vec<End>,
+    blocks: &mut Vec<Entries<V>>,
+    first: usize,
+    ends: Vec<End>,
+    fresh: Vec<Entries<V>>,
+) -> Step<V>
+    requires lasts { first + length ends.items ≤ length lasts.old.items }
+    requires blocks { first + length fresh.items ≤ length blocks.old.items }
+    requires same { length ends.items ≡ length fresh.items }
+    ensures lasts { lasts.new.items ≡ splice lasts.old.items first (first + length ends.items) ends.items }
+    ensures blocks { blocks.new.items ≡ splice blocks.old.items first (first + length fresh.items) fresh.items }
+    ensures step { Undoes result lasts.old.items lasts.new.items blocks.old.items blocks.new.items }
+    ensures few { length result.blocks ≡ length fresh.items }
+    ensures lasts_capacity { vec_capacity lasts.old ≤ vec_capacity lasts.new }
+    ensures blocks_capacity { vec_capacity blocks.old ≤ vec_capacity blocks.new }
+{
+    let end = first + fresh.len();
+    let old = swap_in(lasts, first, ends);
+    let gone = swap_in(blocks, first, fresh);
+    Step {
+        first,
+        end,
+        lasts: old,
+        blocks: gone,
+    }
+}
+
+/// Puts more or fewer blocks in place of those from `first` to `end`, and returns what undoes it.
+/// There must be room for the fresh ones. An error means that an allocation failed: both lists are
+/// then unchanged.
+fn exchange_other<V: Copy>(
     lasts: &mut Vec<End>,
     blocks: &mut Vec<Entries<V>>,
     first: usize,
     end: usize,
     ends: &[End],
     fresh: Vec<Entries<V>>,
-    kept: usize,
 ) -> Result<Step<V>, AllocError>
     requires order { first ≤ end }
     requires lasts { end ≤ length lasts.old.items }
     requires blocks { end ≤ length blocks.old.items }
     requires same { length ends.now ≡ length fresh.items }
+    requires lasts_room { vec_len lasts.old + length ends.now ≤ vec_capacity lasts.old }
+    requires blocks_room { vec_len blocks.old + length ends.now ≤ vec_capacity blocks.old }
     ensures lasts { OnOk result (lasts.new.items ≡ splice lasts.old.items first end ends.now) }
     ensures blocks { OnOk result (blocks.new.items ≡ splice blocks.old.items first end fresh.items) }
     ensures step { IfOk result (λ s. Undoes s lasts.old.items lasts.new.items blocks.old.items blocks.new.items) }
     ensures few { IfOk result (λ s. length s.blocks ≡ end - first) }
-    ensures lasts_room { OnOk result (vec_len lasts.new + (kept + (end - first)) ≤ vec_capacity lasts.new) }
-    ensures blocks_room { OnOk result (vec_len blocks.new + (kept + (end - first)) ≤ vec_capacity blocks.new) }
     ensures lasts_err { OnErr result (lasts.new.items ≡ lasts.old.items) }
     ensures blocks_err { OnErr result (blocks.new.items ≡ blocks.old.items) }
     ensures lasts_capacity { vec_capacity lasts.old ≤ vec_capacity lasts.new }
     ensures blocks_capacity { vec_capacity blocks.old ≤ vec_capacity blocks.new }
 {
     let alloc = *lasts.allocator();
-    let room = kept.saturating_add(ends.len());
-    reserve_both(lasts, blocks, room, room)?;
     let old = Vec::from_slice(alloc, &lasts[first..end])?;
     let gone = take_out(alloc, blocks, first, end)?;
     let stop = first + fresh.len();
@@ -105,6 +132,41 @@ pub(crate) fn exchange<V: Copy>(
         lasts: old,
         blocks: gone,
     })
+}
+
+/// Puts other blocks in place of those from `first` to `end`, and returns what undoes it. Both
+/// lists then have room for what was there, and for `kept` blocks more. An error means that an
+/// allocation failed: both lists are then unchanged.
+pub(crate) fn exchange<V: Copy>(
+    lasts: &mut Vec<End>,
+    blocks: &mut Vec<Entries<V>>,
+    first: usize,
+    end: usize,
+    ends: Vec<End>,
+    fresh: Vec<Entries<V>>,
+    kept: usize,
+) -> Result<Step<V>, AllocError>
+    requires order { first ≤ end }
+    requires lasts { end ≤ length lasts.old.items }
+    requires blocks { end ≤ length blocks.old.items }
+    requires same { length ends.items ≡ length fresh.items }
+    ensures lasts { OnOk result (lasts.new.items ≡ splice lasts.old.items first end ends.items) }
+    ensures blocks { OnOk result (blocks.new.items ≡ splice blocks.old.items first end fresh.items) }
+    ensures step { IfOk result (λ s. Undoes s lasts.old.items lasts.new.items blocks.old.items blocks.new.items) }
+    ensures few { IfOk result (λ s. length s.blocks ≡ end - first) }
+    ensures lasts_room { OnOk result (vec_len lasts.new + (kept + (end - first)) ≤ vec_capacity lasts.new) }
+    ensures blocks_room { OnOk result (vec_len blocks.new + (kept + (end - first)) ≤ vec_capacity blocks.new) }
+    ensures lasts_err { OnErr result (lasts.new.items ≡ lasts.old.items) }
+    ensures blocks_err { OnErr result (blocks.new.items ≡ blocks.old.items) }
+    ensures lasts_capacity { vec_capacity lasts.old ≤ vec_capacity lasts.new }
+    ensures blocks_capacity { vec_capacity blocks.old ≤ vec_capacity blocks.new }
+{
+    let room = kept.saturating_add(ends.len());
+    reserve_both(lasts, blocks, room, room)?;
+    if ends.len() == end - first {
+        return Ok(trade(lasts, blocks, first, ends, fresh));
+    }
+    exchange_other(lasts, blocks, first, end, &ends, fresh)
 }
 
 /// Undoes an edit, in room that was reserved. It cannot fail.

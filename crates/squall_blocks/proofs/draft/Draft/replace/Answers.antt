@@ -19,14 +19,14 @@ exchange-requires-clause-blocks g c =
     omega (arith, n, c.places_of-at.ensures.edit.last.within)
 
 pub exchange-requires-clause-same : goal.exchange-requires-clause-same
-exchange-requires-clause-same g c = ap length c.deref.ensures.value ∙ ap length c.made.invariant.lasts ∙ length-lasts_of c.made.inside.blocks.items
+exchange-requires-clause-same g c = ap length c.made.invariant.lasts ∙ length-lasts_of c.made.inside.blocks.items
 
 pub invariant_of-self-2 : goal.invariant_of-self-2
 invariant_of-self-2 g c =
     let rise = replaced_rises c.args.from c.args.to c.args.fresh.now (flat c.self.inside.blocks.items) c.self.invariant.0.now_blocks.rise c.requires.rise c.requires.last in
-    let ends = c.deref.ensures.value ∙ c.made.invariant.lasts in
+    let ends = c.made.invariant.lasts in
     let steps : c.push_reserved.new.self.items ≡ c.self.inside.steps.items ++ c.in_ok-step.step ∷ [] = c.push_reserved.ensures.items ∙ ap (λ l. l ++ c.in_ok-step.step ∷ []) c.in_ok-reserve.ensures.items in
-    let blocks = edit_blocks c.self.inside.lasts.items c.deref.result.now c.exchange.new.lasts.items c.self.inside.blocks.items c.made.inside.blocks.items c.exchange.new.blocks.items c.args.fresh.now c.args.from c.args.to
+    let blocks = edit_blocks c.self.inside.lasts.items c.made.inside.lasts.items c.exchange.new.lasts.items c.self.inside.blocks.items c.made.inside.blocks.items c.exchange.new.blocks.items c.args.fresh.now c.args.from c.args.to
     c.places_of-at.result.first c.places_of-at.result.end (c.places_of-at.result.end + 1) c.places_of-at.result.start c.places_of-at.result.stop c.places_of-at.ensures.edit ends c.made.invariant.full (c.made.view_is ∙ c.in_ok-made.ensures) refl
     c.in_ok-step.ensures.lasts c.in_ok-step.ensures.blocks rise in (
       drafted c.self.inside.lasts.items c.exchange.new.lasts.items c.self.inside.blocks.items c.exchange.new.blocks.items c.self.inside.steps.items c.push_reserved.new.self.items c.in_ok-step.step c.self.invariant.0 c.in_ok-step.ensures.step steps blocks,
