@@ -11,6 +11,7 @@ pub mod Equality
 pub mod Made
 pub mod Adding
 pub mod Meeting
+pub mod Nearing
 pub mod Parting
 pub mod Changing
 pub mod Beyond

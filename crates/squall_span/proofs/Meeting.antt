@@ -1,15 +1,16 @@
 -- The steps of a walk along two sets for the keys that they have in common.
-use Rattle.std.proofs.Common.{◌≡◌, ℕ, ◌≤◌, max, min, Bool, true, false, List, [], ◌∷◌, drop, refl, sym, ap, ◌∙◌, arith, inl, inr, ◌||◌}
-use Rattle.std.specs.Prelude.{◌⊎◌, ◌&&◌}
+use Rattle.std.proofs.Common.{◌≡◌, ℕ, ◌≤◌, max, min, Bool, true, false, List, [], ◌∷◌, Some, drop, refl, sym, ap, subst, ◌∙◌, arith, inl, inr, ◌||◌}
+use Rattle.std.specs.Prelude.{◌⊎◌, ◌&&◌, Result, Ok, Err, IfOk}
 use Rattle.std.proofs.Math.Bool.{and_comm, and-false, or-false}
 use Rattle.std.proofs.lemmas.Bool.{cases_lt, false≢true}
 use Rattle.std.proofs.lemmas.Bool.Decides.{nat_tests}
-use Rattle.squall_span.specs.Spans.{Interval, interval, span_has, has, Beyond, IsCanonical}
+use Rattle.squall_span.specs.Spans.{Interval, interval, span_has, has, Beyond, IsCanonical, first_span, spans_beyond}
 use Rattle.squall_span.specs.SpanLaws.{has_below, outside_above}
 use Rattle.squall_span.specs.Places.{Ended}
 use Rattle.squall_span.proofs.Adding.{EndsBefore, before_weaker, Added, AddedBy, added}
 use Rattle.squall_span.proofs.Places.{ended_same}
-use Rattle.squall_span.proofs.Sweeping.{has_early}
+use Rattle.squall_span.specs.BeyondLaws.{has_beyond, canonical_beyond, first_cons}
+use Rattle.squall_span.proofs.Sweeping.{has_early, first_least}
 
 -- no span touches the keys that the two first spans share
 abbrev pub ClearOf : List Interval → List Interval → List Interval → Type 0
@@ -118,3 +119,55 @@ ahead_same xs t ts i k c e = elim (cases_lt k t.lo) [
   | inl early ↦ ap (λ u. has (drop i xs) k && u) (has_early k t ts c early) ∙ and-false (has (drop i xs) k) ∙ sym (ap (λ u. has xs k && u) (has_early k t ts c early) ∙ and-false (has xs k))
   | inr from ↦ ap (λ u. u && has (t ∷ ts) k) (sym (ended_same xs t.lo i k e from))
 ]
+
+-- ---- a walk along what two sets have from where both have begun
+
+-- a walk begins
+pub meeting_start : (x y out : List Interval) → IsCanonical x → IsCanonical y → out ≡ [] → Meeting x y out x y
+meeting_start x y out c d e = subst (λ (o : List Interval). Meeting x y o x y) (sym e) (meeting_none x y c d)
+
+-- the first span of a is passed, and those behind it are left
+pub meeting_next : (x y out new : List Interval) (s : Interval) (ss left : List Interval) (t : Interval) (ts : List Interval) → s.hi ≤ t.hi → AddedBy (max s.lo t.lo) (min s.hi t.hi) out new → ss ≡ left → Meeting x y out (s ∷ ss) (t ∷ ts) → Meeting x y new left (t ∷ ts)
+meeting_next x y out new s ss left t ts le how is m = subst (λ (l : List Interval). Meeting x y new l (t ∷ ts)) is (meeting_first x y out new s ss t ts le how m)
+
+-- the first span of b is passed
+pub meeting_other : (x y out new : List Interval) (s : Interval) (ss : List Interval) (t : Interval) (ts left : List Interval) → t.hi ≤ s.hi → AddedBy (max s.lo t.lo) (min s.hi t.hi) out new → ts ≡ left → Meeting x y out (s ∷ ss) (t ∷ ts) → Meeting x y new (s ∷ ss) left
+meeting_other x y out new s ss t ts left le how is m = subst (λ (l : List Interval). Meeting x y new (s ∷ ss) l) is (meeting_second x y out new s ss t ts le how m)
+
+and_where : (x y z : Bool) → (x ≡ true → y ≡ z) → (x && y) ≡ (x && z)
+and_where true y z f = f refl
+and_where false y z f = refl
+
+-- the keys from where the other set begins
+pub from_start : (a b : List Interval) (t : Interval) (lo k : ℕ) → IsCanonical b → first_span b ≡ Some t → lo ≡ t.lo → (has (spans_beyond lo a) k && has b k) ≡ (has a k && has b k)
+from_start a b t lo k c is at = elim (cases_lt k lo) [
+  | inl early ↦
+      let l = first_cons b t is in
+      let none : has b k ≡ false = ap (λ u. has u k) l.1 ∙ has_early k t l.0 (subst IsCanonical l.1 c) (omega (arith, at, early)) in
+      ap (λ u. has (spans_beyond lo a) k && u) none ∙ and-false (has (spans_beyond lo a) k) ∙ sym (ap (λ u. has a k && u) none ∙ and-false (has a k))
+  | inr from ↦ ap (λ u. u && has b k) (has_beyond lo k a from)
+]
+
+-- what both have, of which each begins where the other has begun
+pub from_both : (a b own others : List Interval) (t s : Interval) (ss : List Interval) (lo from k : ℕ) → IsCanonical a → IsCanonical b → first_span b ≡ Some t → lo ≡ t.lo → own ≡ spans_beyond lo a → own ≡ s ∷ ss → from ≡ s.lo → others ≡ spans_beyond from b → (has (s ∷ ss) k && has others k) ≡ (has a k && has b k)
+from_both a b own others t s ss lo from k c d is at o split start e =
+    let canonical : IsCanonical (s ∷ ss) = subst IsCanonical (sym o ∙ split) (canonical_beyond lo a c) in
+    and_where (has (s ∷ ss) k) (has others k) (has b k) (λ h. ap (λ l. has l k) e ∙ has_beyond from k b (let le = first_least s ss k canonical h in omega (arith, start, le)))
+    ∙ ap (λ l. has l k && has b k) (sym split ∙ o) ∙ from_start a b t lo k d is at
+
+-- none of the first ends beyond where the other begins
+pub none_own : (a b own out : List Interval) (t : Interval) (lo k : ℕ) → IsCanonical b → first_span b ≡ Some t → lo ≡ t.lo → own ≡ spans_beyond lo a → own ≡ [] → out ≡ [] → has out k ≡ (has a k && has b k)
+none_own a b own out t lo k d is at o none e =
+    ap (λ l. has l k) e ∙ sym (ap (λ l. has l k && has b k) (sym o ∙ none)) ∙ from_start a b t lo k d is at
+
+-- none of the other ends beyond where the first begins
+pub none_other : (a b own others out : List Interval) (t s : Interval) (ss : List Interval) (lo from k : ℕ) → IsCanonical a → IsCanonical b → first_span b ≡ Some t → lo ≡ t.lo → own ≡ spans_beyond lo a → own ≡ s ∷ ss → from ≡ s.lo → others ≡ spans_beyond from b → others ≡ [] → out ≡ [] → has out k ≡ (has a k && has b k)
+none_other a b own others out t s ss lo from k c d is at o split start e none empty =
+    ap (λ l. has l k) empty ∙ sym (ap (λ l. has (s ∷ ss) k && has l k) none ∙ and-false (has (s ∷ ss) k)) ∙ from_both a b own others t s ss lo from k c d is at o split start e
+
+-- what a walk along both finds
+pub found_both : {V E : Type 0} (items : V → List Interval) (r : Result V E) (a b own others : List Interval) (t s u : Interval) (ss us : List Interval) (lo from : ℕ) → IsCanonical a → IsCanonical b → first_span b ≡ Some t → lo ≡ t.lo → own ≡ spans_beyond lo a → own ≡ s ∷ ss → from ≡ s.lo → others ≡ spans_beyond from b → others ≡ u ∷ us
+    → IfOk r (λ v. (k : ℕ) → has (items v) k ≡ (has (s ∷ ss) k && has (u ∷ us) k)) → IfOk r (λ v. (k : ℕ) → has (items v) k ≡ (has a k && has b k))
+found_both items (Ok v) a b own others t s u ss us lo from c d is at o split start e rest keys =
+    λ k. keys k ∙ ap (λ l. has (s ∷ ss) k && has l k) (sym rest) ∙ from_both a b own others t s ss lo from k c d is at o split start e
+found_both items (Err x) a b own others t s u ss us lo from c d is at o split start e rest keys = tt

@@ -1,9 +1,10 @@
 -- The steps of a merge of two lists of spans.
-use Rattle.std.proofs.Common.{◌≡◌, ℕ, zero, suc, ◌+◌, ◌<◌, ◌≤◌, max, Bool, true, false, List, [], ◌∷◌, ◌++◌, length, get_or, set, refl, sym, ap, subst, ◌∙◌, arith, inl, inr, ◌||◌}
+use Rattle.std.proofs.Common.{◌≡◌, ℕ, zero, suc, ◌<◌, ◌≤◌, max, Bool, true, false, List, [], ◌∷◌, ◌++◌, length, get_or, set, refl, sym, ap, subst, ◌∙◌, arith, ◌||◌}
+use Rattle.std.specs.Prelude.{Result, Ok, Err, IfOk}
 use Rattle.std.proofs.Math.Bool.{or_comm, or-false}
 use Rattle.std.proofs.lemmas.Bool.Decides.{nat_tests}
 use Rattle.squall_span.specs.Spans.{Interval, interval, span_has, has, Beyond, IsCanonical, StartsBy, hull, insert_span, union}
-use Rattle.squall_span.specs.Sweeps.{StartsNoEarlier, IsLower}
+use Rattle.squall_span.specs.Sweeps.{StartsNoEarlier}
 use Rattle.squall_span.specs.SpanLaws.{canonical-insert, canonical-union, has-insert, has-union, same_lists, insert_cases}
 
 pub insert_after : (s t : Interval) (ts : List Interval) → s.lo < s.hi → t.lo < t.hi → t.hi < s.lo → insert_span s (t ∷ ts) ≡ t ∷ insert_span s ts
@@ -103,27 +104,58 @@ merging_first x y out xs b s e m = record {
   starts_b = starts_beside s b out e m.starts_b;
 }
 
-pub merging_step : (x y out new a b xs ys : List Interval) (s : Interval) → IsLower a b s xs ys → new ≡ insert_span s out → Merging x y out a b → Merging x y new xs ys
-merging_step x y out new a b xs ys s (inl h) e m =
-    subst (λ o. Merging x y o xs ys) (sym e) (subst (Merging x y (insert_span s out) xs) h.1 (merging_first x y out xs b s h.2 (subst (λ l. Merging x y out l b) h.0 m)))
-merging_step x y out new a b xs ys s (inr h) e m =
-    subst (λ o. Merging x y o xs ys) (sym e) (merging_swap y x (insert_span s out) ys xs
-    (subst (Merging y x (insert_span s out) ys) h.1 (merging_first y x out ys a s h.2 (merging_swap x y out a (s ∷ ys) (subst (λ l. Merging x y out a l) h.0 m)))))
+-- the first span of a is taken, and those behind it are left
+pub merging_left : (x y out new xs left ys : List Interval) (s t : Interval) → s.lo ≤ t.lo → new ≡ insert_span s out → xs ≡ left → Merging x y out (s ∷ xs) (t ∷ ys) → Merging x y new left (t ∷ ys)
+merging_left x y out new xs left ys s t le e is m =
+    subst (λ l. Merging x y new l (t ∷ ys)) is (subst (λ o. Merging x y o xs (t ∷ ys)) (sym e) (merging_first x y out xs (t ∷ ys) s le m))
 
--- the next span starts no earlier than those that are there
-pub merging_starts : (x y out a b xs ys : List Interval) (s : Interval) → IsLower a b s xs ys → Merging x y out a b → StartsBy s.lo out
-merging_starts x y out a b xs ys s (inl h) m = subst (λ l. StartsByFirst l out) h.0 m.starts_a
-merging_starts x y out a b xs ys s (inr h) m = subst (λ l. StartsByFirst l out) h.0 m.starts_b
+-- the first span of b is taken
+pub merging_right : (x y out new xs ys left : List Interval) (s t : Interval) → t.lo ≤ s.lo → new ≡ insert_span t out → ys ≡ left → Merging x y out (s ∷ xs) (t ∷ ys) → Merging x y new (s ∷ xs) left
+merging_right x y out new xs ys left s t le e is m =
+    merging_swap y x new left (s ∷ xs) (merging_left y x out new ys left xs t s le e is (merging_swap x y out (s ∷ xs) (t ∷ ys) m))
 
-merging_end : (x y out a b : List Interval) → IsCanonical x → IsCanonical y → length a + length b ≡ 0 → Merging x y out a b → out ≡ union x y
-merging_end x y out [] [] c d e m = same_lists out (union x y) m.canonical (canonical-union x y c d) (λ k. sym (or-false (has out k)) ∙ m.keys k ∙ sym (has-union x y k c d))
-merging_end x y out [] (t ∷ ts) c d e m = absurd (omega arith)
-merging_end x y out (s ∷ ss) b c d e m = absurd (omega arith)
+-- none is left of a
+pub merging_none_left : (x y out b made : List Interval) → IsCanonical x → IsCanonical y → made ≡ union out b → Merging x y out [] b → made ≡ union x y
+merging_none_left x y out b made c d is m =
+    is ∙ same_lists (union out b) (union x y) (canonical-union out b m.canonical m.canonical_b) (canonical-union x y c d)
+    (λ k. has-union out b k m.canonical m.canonical_b ∙ m.keys k ∙ sym (has-union x y k c d))
 
-pub merging_done : (x y out a b : List Interval) → IsCanonical x → IsCanonical y → length a + length b ≡ 0 → Merging x y out a b → out ≡ union x y
-merging_done = merging_end
+-- none is left of b
+pub merging_none_right : (x y out a made : List Interval) → IsCanonical x → IsCanonical y → made ≡ union out a → Merging x y out a [] → made ≡ union x y
+merging_none_right x y out a made c d is m =
+    is ∙ same_lists (union out a) (union x y) (canonical-union out a m.canonical m.canonical_a) (canonical-union x y c d)
+    (λ k. has-union out a k m.canonical m.canonical_a ∙ ap (λ u. has out k || u) (sym (or-false (has a k))) ∙ m.keys k ∙ sym (has-union x y k c d))
 
--- one list is shorter by the step
-pub lower_shorter : (a b xs ys : List Interval) (s : Interval) → IsLower a b s xs ys → length xs + length ys < length a + length b
-lower_shorter a b xs ys s (inl h) = omega (arith, ap length h.0, ap length h.1)
-lower_shorter a b xs ys s (inr h) = omega (arith, ap length h.0, ap length h.1)
+-- spans are added behind those that are there: the first one
+pub merging_pushed : (old new rest : List Interval) (s : Interval) → IsCanonical old → StartsBy s.lo old → IsCanonical (s ∷ rest) → new ≡ insert_span s old → Merging old (s ∷ rest) new rest []
+merging_pushed old new rest s c b d e =
+    subst (λ o. Merging old (s ∷ rest) o rest []) (sym e)
+    (merging_first old (s ∷ rest) old rest [] s tt
+    (record {
+      canonical = c;
+      canonical_a = d;
+      canonical_b = tt;
+      keys = λ k. ap (λ u. has old k || u) (or-false (has (s ∷ rest) k));
+      starts_a = b;
+      starts_b = tt;
+    }))
+
+-- and the next one
+pub merging_next : (x y out new it rest : List Interval) (s : Interval) → it ≡ s ∷ rest → new ≡ insert_span s out → Merging x y out it [] → Merging x y new rest []
+merging_next x y out new it rest s is e m =
+    subst (λ o. Merging x y o rest []) (sym e) (merging_first x y out rest [] s tt (subst (λ l. Merging x y out l []) is m))
+
+pub merging_starts : (x y out it rest : List Interval) (s : Interval) → it ≡ s ∷ rest → Merging x y out it [] → StartsBy s.lo out
+merging_starts x y out it rest s is m = subst (λ l. StartsByFirst l out) is m.starts_a
+
+-- all were added
+pub merging_done : (x y out it : List Interval) → IsCanonical x → IsCanonical y → it ≡ [] → Merging x y out it [] → out ≡ union x y
+merging_done x y out it c d is m = merging_none_left x y out [] out c d refl (subst (λ l. Merging x y out l []) is m)
+
+-- the union of no keys and others
+none_first : (ys : List Interval) → IsCanonical ys → ys ≡ union [] ys
+none_first ys c = sym (same_lists (union [] ys) ys (canonical-union [] ys tt c) c (λ k. has-union [] ys k tt c))
+
+pub union_none : {V E : Type 0} (items : V → List Interval) (none ys : List Interval) (r : Result V E) → none ≡ [] → IsCanonical ys → IfOk r (λ v. items v ≡ ys) → IfOk r (λ v. items v ≡ union none ys)
+union_none items none ys (Ok v) is c e = e ∙ none_first ys c ∙ ap (λ l. union l ys) (sym is)
+union_none items none ys (Err v) is c e = tt

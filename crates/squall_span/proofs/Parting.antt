@@ -152,6 +152,27 @@ parting_second x y out new s ss t ts from lt how m =
       ]
     ]
 
+-- a walk begins
+pub parting_start : (y out : List Interval) (s : Interval) (ss : List Interval) (t : Interval) (ts : List Interval) (from : ℕ) → IsCanonical (s ∷ ss) → IsCanonical y → EndsBeyond s.lo y → y ≡ t ∷ ts → out ≡ [] → from ≡ s.lo → Parting (s ∷ ss) y out (s ∷ ss) (t ∷ ts) from
+parting_start y out s ss t ts from c d ends is none at =
+    subst (λ n. Parting (s ∷ ss) y out (s ∷ ss) (t ∷ ts) n) (sym at)
+    (subst (λ (o : List Interval). Parting (s ∷ ss) y o (s ∷ ss) (t ∷ ts) s.lo) (sym none)
+    (subst (λ (l : List Interval). Parting (s ∷ ss) y [] (s ∷ ss) l s.lo) is (parting_none y y s ss c d ends (λ k le. refl))))
+
+-- the first span of a is passed, and those behind it are left
+pub parting_next : (x y out new : List Interval) (s : Interval) (ss left : List Interval) (t : Interval) (ts : List Interval) (from : ℕ) → s.hi ≤ t.hi → AddedBy (max from s.lo) (min s.hi t.lo) out new → ss ≡ left → Parting x y out (s ∷ ss) (t ∷ ts) from → Parting x y new left (t ∷ ts) from
+parting_next x y out new s ss left t ts from le how is m =
+    subst (λ (l : List Interval). Parting x y new l (t ∷ ts) from) is (parting_first x y out new s ss t ts from le how m)
+
+-- the first span of b is passed
+pub parting_other : (x y out new : List Interval) (s : Interval) (ss : List Interval) (t : Interval) (ts left : List Interval) (from upto : ℕ) → t.hi < s.hi → AddedBy (max from s.lo) (min s.hi t.lo) out new → ts ≡ left → upto ≡ t.hi → Parting x y out (s ∷ ss) (t ∷ ts) from → Parting x y new (s ∷ ss) left upto
+parting_other x y out new s ss t ts left from upto lt how is at m =
+    subst (λ n. Parting x y new (s ∷ ss) left n) (sym at) (subst (λ (l : List Interval). Parting x y new (s ∷ ss) l t.hi) is (parting_second x y out new s ss t ts from lt how m))
+
+-- none is left of a
+pub parting_out : (x y out b : List Interval) (from : ℕ) → Parting x y out [] b from → (k : ℕ) → has out k ≡ (has x k && not (has y k))
+parting_out x y out b from m k = sym (or-false (has out k)) ∙ m.keys k
+
 -- a list of spans of the keys of x that y lacks
 pub record IsApart (x y out : List Interval) : Type 0 where
   pub canonical : IsCanonical out

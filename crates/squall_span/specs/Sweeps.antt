@@ -1,5 +1,5 @@
 -- One pass over two sets (this project).
-use Rattle.std.specs.Prelude.{◌≡◌, ◌≤◌, ℕ, max, List, [], ◌∷◌, ◌⊎◌}
+use Rattle.std.specs.Prelude.{◌≤◌, ℕ, max, List, [], ◌∷◌}
 use Rattle.squall_span.specs.Spans.{Interval, interval}
 
 -- the spans, the first of them cut to its keys from the bound on
@@ -11,7 +11,3 @@ cut_first from (s ∷ ss) = interval (max from s.lo) s.hi ∷ ss
 abbrev pub StartsNoEarlier : Interval → List Interval → Type 0
 StartsNoEarlier s [] = Unit {0}
 StartsNoEarlier s (t ∷ ts) = s.lo ≤ t.lo
-
--- of two lists, s is taken off the one that starts first, and xs and ys are left
-abbrev pub IsLower : List Interval → List Interval → Interval → List Interval → List Interval → Type 0
-IsLower a b s xs ys = ((a ≡ s ∷ xs) × (b ≡ ys) × StartsNoEarlier s b) ⊎ ((b ≡ s ∷ ys) × (a ≡ xs) × StartsNoEarlier s a)

@@ -1,14 +1,14 @@
 //! Sets that are made of two, or of one at a bound.
 
 ghost use Rattle.std.specs.Prelude.{◌≡◌, ℕ, ◌&&◌, ◌||◌, not, nat_lt, nat_le, IfOk, OnOk, OnErr};
-ghost use Rattle.squall_span.specs.Spans.{has, IsCanonical, union, minus, meet, keys_below, keys_from};
-ghost use Rattle.squall_span.specs.Within.{HasWithin, HasBeside};
+ghost use Rattle.squall_span.specs.Spans.{has, union, minus, meet, keys_below, keys_from};
+ghost use Rattle.squall_span.specs.Within.{HasBeside};
 
 use crate::alone::alone;
 use crate::common::common;
 use crate::edit::cut;
-use crate::list::{SpanList, listed_below};
-use crate::set::{SpanSet, Store};
+use crate::near::listed_near;
+use crate::set::SpanSet;
 use crate::span::Span;
 use crate::sweep::merge;
 use squall_key::Bound;
@@ -17,51 +17,6 @@ use std::mem::replace;
 
 /// The most spans that are added in place.
 const FEW: usize = 64;
-
-/// Spans of the set in one list: at least those with a key from `lo` on, below `hi`. Of a few spans
-/// all are lent, and of many those are copied. An error means that an allocation failed.
-fn list_within(
-    alloc: Global,
-    set: &SpanSet,
-    lo: Bound,
-    hi: Bound,
-) -> Result<SpanList<'_>, AllocError>
-    ensures { IfOk result (λ list. HasWithin lo hi set.now list) }
-{
-    match &set.store {
-        Store::Few(_) => set.list(alloc),
-        Store::Many(_) => {
-            let spans = listed_below(alloc, set.spans_beyond(lo), hi)?;
-            Ok(SpanList::own(spans))
-        }
-    }
-}
-
-/// Spans of the set in one list: at least those that share a key with the others.
-fn list_beside<'a>(
-    alloc: Global,
-    own: &[Span],
-    set: &'a SpanSet,
-) -> Result<SpanList<'a>, AllocError>
-    requires { IsCanonical own.now }
-    ensures { IfOk result (λ list. HasBeside own.now set.now list) }
-{
-    match (own.first(), own.last()) {
-        (Some(first), Some(last)) => list_within(alloc, set, first.lo(), last.hi()),
-        _ => Ok(SpanList::lent(&[])),
-    }
-}
-
-/// The keys that are in both sets, of which the first has no more spans.
-fn meet_fewer(alloc: Global, fewer: &SpanSet, other: &SpanSet) -> Result<SpanSet, AllocError>
-    ensures { IfOk result (λ set. set ≡ meet fewer.now other.now) }
-{
-    other.known();
-    let own = fewer.list(alloc)?;
-    let others = list_beside(alloc, own.spans(), other)?;
-    let spans = common(alloc, own.spans(), others.spans())?;
-    Ok(SpanSet::of_spans(spans))
-}
 
 impl SpanSet {
     /// The keys of either set. An error means that an allocation failed.
@@ -84,9 +39,8 @@ impl SpanSet {
     fn merged(&self, alloc: Global, other: &SpanSet) -> Result<SpanSet, AllocError>
         ensures { IfOk result (λ set. set ≡ union self.now other.now) }
     {
-        let own = self.list(alloc)?;
-        let others = other.list(alloc)?;
-        let spans = merge(alloc, own.spans(), others.spans())?;
+        let room = self.len().saturating_add(other.len());
+        let spans = merge(alloc, room, self.spans(), other.spans())?;
         Ok(SpanSet::of_spans(spans))
     }
 
@@ -96,8 +50,51 @@ impl SpanSet {
     {
         let list = other.list(alloc)?;
         let mut both = self.copied(alloc)?;
-        both.add_few(alloc, list.spans())?;
+        both.insert_each(list.spans())?;
         Ok(both)
+    }
+
+    /// Adds the keys of spans one by one, from the last to the first. After an error some may have
+    /// been added.
+    fn insert_each(&mut self, spans: &[Span]) -> Result<(), AllocError>
+        ensures { OnOk result (self.new ≡ union self.old spans.now) }
+    {
+        let mut at = spans.len();
+        while at > 0 {
+            at -= 1;
+            self.insert(spans[at])?;
+        }
+        Ok(())
+    }
+
+    /// Whether this set has so few spans beside the other that a search for each of them is faster
+    /// than a walk along the other.
+    fn is_far_less(&self, other: &SpanSet) -> bool {
+        self.len() <= other.len() / 32
+    }
+
+    /// The spans of this set that share a key with the other, which has far fewer. An error means
+    /// that an allocation failed.
+    fn beside(&self, alloc: Global, other: &SpanSet) -> Result<SpanSet, AllocError>
+        ensures { IfOk result (λ near. HasBeside other.now self.now near) }
+    {
+        let list = other.list(alloc)?;
+        let spans = listed_near(alloc, list.spans(), self)?;
+        Ok(SpanSet::of_spans(spans))
+    }
+
+    /// The keys of this set that the other lacks, by a walk along both.
+    fn walked_minus(&self, alloc: Global, other: &SpanSet) -> Result<SpanSet, AllocError>
+        ensures { IfOk result (λ set. set ≡ minus self.now other.now) }
+    {
+        other.known();
+        let mut rest = self.spans();
+        let Some(first) = rest.next() else {
+            return Ok(SpanSet::empty(alloc));
+        };
+        let others = other.spans_beyond(first.lo());
+        let spans = alone(alloc, self.len(), first, rest, others)?;
+        Ok(SpanSet::of_spans(spans))
     }
 
     /// The keys of this set that the other lacks. An error means that an allocation failed.
@@ -105,10 +102,23 @@ impl SpanSet {
         ensures value { IfOk result (λ set. set ≡ minus self.now other.now) }
         ensures keys { IfOk result (λ set. (k : ℕ) → has set k ≡ (has self.now k && not (has other.now k))) }
     {
+        self.known();
         other.known();
-        let own = self.list(alloc)?;
-        let others = list_beside(alloc, own.spans(), other)?;
-        let spans = alone(alloc, own.spans(), others.spans())?;
+        if self.is_far_less(other) {
+            let near = other.beside(alloc, self)?;
+            near.known();
+            return self.walked_minus(alloc, &near);
+        }
+        self.walked_minus(alloc, other)
+    }
+
+    /// The keys that are in both sets, by a walk along both.
+    fn walked_meet(&self, alloc: Global, other: &SpanSet) -> Result<SpanSet, AllocError>
+        ensures { IfOk result (λ set. set ≡ meet self.now other.now) }
+    {
+        self.known();
+        other.known();
+        let spans = common(alloc, self, other)?;
         Ok(SpanSet::of_spans(spans))
     }
 
@@ -119,11 +129,17 @@ impl SpanSet {
     {
         self.known();
         other.known();
-        if self.len() <= other.len() {
-            meet_fewer(alloc, self, other)
-        } else {
-            meet_fewer(alloc, other, self)
+        if self.is_far_less(other) {
+            let near = other.beside(alloc, self)?;
+            near.known();
+            return self.walked_meet(alloc, &near);
         }
+        if other.is_far_less(self) {
+            let near = self.beside(alloc, other)?;
+            near.known();
+            return near.walked_meet(alloc, other);
+        }
+        self.walked_meet(alloc, other)
     }
 
     /// The keys below the bound, and the others. An error means that an allocation failed.
@@ -170,15 +186,16 @@ impl SpanSet {
         ensures ok { OnOk result (self.new ≡ union self.old other.now) }
         ensures err { OnErr result (self.new ≡ self.old) }
     {
+        if other.len() > 1 && !self.are_few(other.len()) {
+            let both = self.merged(alloc, other)?;
+            *self = both;
+            return Ok(());
+        }
         let list = other.list(alloc)?;
-        if let [span] = list.spans() {
-            return self.insert(*span);
+        match list.spans() {
+            [] => Ok(()),
+            [span] => self.insert(*span),
+            spans => self.add_few(alloc, spans),
         }
-        if self.are_few(list.spans().len()) {
-            return self.add_few(alloc, list.spans());
-        }
-        let both = self.merged(alloc, other)?;
-        *self = both;
-        Ok(())
     }
 }

@@ -1,11 +1,12 @@
 //! The keys of a set that another one lacks.
 
-ghost use Rattle.std.specs.Prelude.{◌≡◌, ℕ, ◌≤◌, ◌&&◌, not, max, min, ◌++◌, IfOk, OnOk};
+ghost use Rattle.std.specs.Prelude.{◌≡◌, ℕ, ◌<◌, ◌&&◌, not, max, min, ◌∷◌, ◌++◌, IfOk, OnOk};
 ghost use Rattle.squall_span.specs.Spans.{has, IsCanonical, EndsBeyond, span_at};
 ghost use Rattle.squall_span.specs.Sweeps.{cut_first};
 
-use crate::search::ended;
+use crate::list::listed_with;
 use crate::span::Span;
+use crate::spans::Spans;
 use squall_key::Bound;
 use std::alloc::{AllocError, Global};
 
@@ -16,47 +17,59 @@ fn before(from: Bound, span: Span, other: Span) -> Option<Span>
     Span::new(from.max(span.lo()), span.hi().min(other.lo()))
 }
 
-/// Adds spans, the first of them cut to its keys from the bound on. After an error some may have
+/// Adds the keys of a span from the bound on, and the spans behind it. After an error some may have
 /// been added.
-fn push_rest(out: &mut Vec<Span>, rest: &[Span], from: Bound) -> Result<(), AllocError>
-    requires canonical { IsCanonical rest.now }
-    requires ends { EndsBeyond from rest.now }
-    ensures { OnOk result (out.new.items ≡ out.old.items ++ cut_first from rest.now) }
+fn push_rest(
+    out: &mut Vec<Span>,
+    span: Span,
+    rest: Spans<'_>,
+    from: Bound,
+) -> Result<(), AllocError>
+    requires { from < span.hi }
+    ensures { OnOk result (out.new.items ≡ out.old.items ++ cut_first from (span ∷ rest.entry)) }
 {
-    if let Some((first, others)) = rest.split_first() {
-        out.push(Span::between(from.max(first.lo()), first.hi()))?;
-        out.extend_from_slice(others)?;
-    }
-    Ok(())
+    out.push(Span::between(from.max(span.lo()), span.hi()))?;
+    rest.append_to(out)
 }
 
-/// The spans of the keys of the first list that the second lacks. Of a span that both walks have
-/// reached, the keys from `from` on are still to come.
-pub(crate) fn alone(alloc: Global, first: &[Span], second: &[Span]) -> Result<Vec<Span>, AllocError>
-    requires first { IsCanonical first.now }
-    requires second { IsCanonical second.now }
+/// The spans of the keys of a list that the second one lacks, with room for `room` of them. The list
+/// is given as its first span and the others, and all of the second list ends beyond where that span
+/// begins. Of a span that both walks have reached, the keys from `from` on are still to come.
+pub(crate) fn alone(
+    alloc: Global,
+    room: usize,
+    one: Span,
+    first: Spans<'_>,
+    second: Spans<'_>,
+) -> Result<Vec<Span>, AllocError>
+    requires first { IsCanonical (one ∷ first) }
+    requires second { IsCanonical second }
+    requires ends { EndsBeyond one.lo second }
     ensures canonical { IfOk result (λ out. IsCanonical out.items) }
-    ensures keys { IfOk result (λ out. (k : ℕ) → has out.items k ≡ (has first.now k && not (has second.now k))) }
+    ensures keys { IfOk result (λ out. (k : ℕ) → has out.items k ≡ (has (one ∷ first.entry) k && not (has second.entry k))) }
 {
-    let mut out = Vec::new(alloc);
-    let Some(start) = first.first() else {
-        return Ok(out);
+    let (mut first, mut second) = (first, second);
+    let Some(two) = second.next() else {
+        return listed_with(alloc, room, one, first);
     };
-    let mut from = start.lo();
-    let mut at = 0;
-    let mut other = ended(second, from);
-    while at < first.len() && other < second.len() {
-        let (one, two) = (first[at], second[other]);
-        if let Some(span) = before(from, one, two) {
+    let mut out = Vec::with_capacity(alloc, room)?;
+    let (mut own, mut other, mut from) = (one, two, one.lo());
+    loop {
+        if let Some(span) = before(from, own, other) {
             out.push(span)?;
         }
-        if one.hi() <= two.hi() {
-            at += 1;
+        if own.hi() <= other.hi() {
+            let Some(next) = first.next() else {
+                return Ok(out);
+            };
+            own = next;
         } else {
-            from = two.hi();
-            other += 1;
+            from = other.hi();
+            let Some(next) = second.next() else {
+                push_rest(&mut out, own, first, from)?;
+                return Ok(out);
+            };
+            other = next;
         }
     }
-    push_rest(&mut out, &first[at..], from)?;
-    Ok(out)
 }

@@ -35,6 +35,7 @@ mod edit;
 pub mod laws;
 mod list;
 mod many;
+mod near;
 mod ready;
 mod search;
 mod set;

@@ -1,12 +1,10 @@
 //! The spans of a set in one list.
 
-ghost use Rattle.std.specs.Prelude.{◌≡◌, IfOk};
+ghost use Rattle.std.specs.Prelude.{◌≡◌, ◌∷◌, IfOk};
 ghost use Rattle.squall_span.specs.Spans.{IsSet};
-ghost use Rattle.squall_span.specs.Within.{spans_before};
 
 use crate::span::Span;
 use crate::spans::Spans;
-use squall_key::Bound;
 use std::alloc::{AllocError, Global};
 use std::marker::Model;
 
@@ -70,31 +68,27 @@ impl<'a> SpanList<'a> {
     }
 }
 
-/// The spans in one list. An error means that an allocation failed.
-pub(crate) fn listed(alloc: Global, spans: Spans<'_>) -> Result<Vec<Span>, AllocError>
+/// The spans in one list, with room for `room` of them. An error means that an allocation failed.
+pub(crate) fn listed(alloc: Global, room: usize, spans: Spans<'_>) -> Result<Vec<Span>, AllocError>
     ensures { IfOk result (λ list. list.items ≡ spans.entry) }
 {
-    let mut list = Vec::new(alloc);
-    for span in spans {
-        list.push(span)?;
-    }
+    let mut list = Vec::with_capacity(alloc, room)?;
+    spans.append_to(&mut list)?;
     Ok(list)
 }
 
-/// The spans that begin below the bound, in one list. An error means that an allocation failed.
-pub(crate) fn listed_below(
+/// A span and those behind it in one list, with room for `room` of them. An error means that an
+/// allocation failed.
+pub(crate) fn listed_with(
     alloc: Global,
-    spans: Spans<'_>,
-    hi: Bound,
+    room: usize,
+    span: Span,
+    rest: Spans<'_>,
 ) -> Result<Vec<Span>, AllocError>
-    ensures { IfOk result (λ list. list.items ≡ spans_before hi spans.entry) }
+    ensures { IfOk result (λ list. list.items ≡ span ∷ rest.entry) }
 {
-    let mut list = Vec::new(alloc);
-    for span in spans {
-        if hi <= span.lo() {
-            return Ok(list);
-        }
-        list.push(span)?;
-    }
+    let mut list = Vec::with_capacity(alloc, room)?;
+    list.push(span)?;
+    rest.append_to(&mut list)?;
     Ok(list)
 }

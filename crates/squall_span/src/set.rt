@@ -267,7 +267,7 @@ impl SpanSet {
         match &self.store {
             Store::Few(spans) => Ok(SpanList::lent(spans)),
             Store::Many(_) => {
-                let spans = listed(alloc, self.spans())?;
+                let spans = listed(alloc, self.len(), self.spans())?;
                 Ok(SpanList::own(spans))
             }
         }
@@ -281,7 +281,7 @@ impl SpanSet {
         let SpanSet { store } = self;
         match store {
             Store::Few(spans) => Ok(spans),
-            Store::Many(many) => listed(alloc, Spans::many(many.iter())),
+            Store::Many(many) => listed(alloc, many.len(), Spans::many(many.iter())),
         }
     }
 

@@ -1,6 +1,6 @@
 //! The spans of a set, one after the other.
 
-ghost use Rattle.std.specs.Prelude.{◌≡◌};
+ghost use Rattle.std.specs.Prelude.{◌≡◌, ◌++◌, OnOk};
 ghost use Rattle.std.specs.Iterator.{YieldsFirst, item_count};
 ghost use Rattle.squall_span.specs.Spans.{IsCanonical};
 ghost use Rattle.squall_span.specs.Many.{spans_of};
@@ -9,6 +9,7 @@ ghost use Rattle.squall_span.specs.Left.{spans_left};
 use crate::span::Span;
 use squall_blocks::Iter;
 use squall_key::Bound;
+use std::alloc::AllocError;
 use std::marker::Model;
 
 /// The spans of a set that are still to come, by rising key.
@@ -57,6 +58,21 @@ impl<'a> Spans<'a> {
         Spans {
             rest: Rest::Many(entries),
         }
+    }
+
+    /// Adds the spans behind others: those of one list at once. After an error some may have been
+    /// added.
+    pub(crate) fn append_to(self, out: &mut Vec<Span>) -> Result<(), AllocError>
+        ensures { OnOk result (out.new.items ≡ out.old.items ++ self.entry) }
+    {
+        if let Rest::Few(spans) = &self.rest {
+            out.extend_from_slice(spans)?;
+            return Ok(());
+        }
+        for span in self {
+            out.push(span)?;
+        }
+        Ok(())
     }
 }
 

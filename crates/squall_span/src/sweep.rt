@@ -1,10 +1,11 @@
 //! The keys of either of two sets.
 
-ghost use Rattle.std.specs.Prelude.{◌≡◌, ◌+◌, length, IfOk, OnOk, MatchOption};
+ghost use Rattle.std.specs.Prelude.{◌≡◌, ◌∷◌, IfOk, OnOk};
 ghost use Rattle.squall_span.specs.Spans.{IsCanonical, StartsBy, insert_span, union};
-ghost use Rattle.squall_span.specs.Sweeps.{IsLower};
 
+use crate::list::{listed, listed_with};
 use crate::span::Span;
+use crate::spans::Spans;
 use std::alloc::{AllocError, Global};
 
 /// Adds a span that starts no earlier than those that are there.
@@ -25,51 +26,73 @@ fn push_span(out: &mut Vec<Span>, span: Span) -> Result<(), AllocError>
     Ok(())
 }
 
-/// A span that was taken off one of two lists, and what is left of both.
-#[derive(Drop)]
-struct Taken<'a> {
-    span: Span,
-    first: &'a [Span],
-    second: &'a [Span],
+/// Adds a span and those behind it, the first of which starts no earlier than those that are there.
+/// After an error some may have been added.
+fn push_spans(out: &mut Vec<Span>, span: Span, rest: Spans<'_>) -> Result<(), AllocError>
+    requires canonical { IsCanonical out.old.items }
+    requires starts { StartsBy span.lo out.old.items }
+    requires rest { IsCanonical (span ∷ rest) }
+    ensures { OnOk result (out.new.items ≡ union out.old.items (span ∷ rest.entry)) }
+{
+    push_span(out, span)?;
+    for next in rest {
+        push_span(out, next)?;
+    }
+    Ok(())
 }
 
-/// Takes off the span that starts first. None if both lists are empty.
-fn take_lower<'a>(first: &'a [Span], second: &'a [Span]) -> Option<Taken<'a>>
-    ensures { MatchOption result (length first.now + length second.now ≡ 0) (λ r. IsLower first.now second.now r.span r.first.now r.second.now) }
+/// The spans of the keys of either list, each of which is given as its first span and the others.
+fn merge_both(
+    alloc: Global,
+    room: usize,
+    one: Span,
+    first: Spans<'_>,
+    two: Span,
+    second: Spans<'_>,
+) -> Result<Vec<Span>, AllocError>
+    requires first { IsCanonical (one ∷ first) }
+    requires second { IsCanonical (two ∷ second) }
+    ensures { IfOk result (λ out. out.items ≡ union (one ∷ first.entry) (two ∷ second.entry)) }
 {
-    match (first.split_first(), second.split_first()) {
-        (Some((a, rest)), Some((b, _))) if a.lo() <= b.lo() => Some(Taken {
-            span: *a,
-            first: rest,
-            second,
-        }),
-        (_, Some((b, rest))) => Some(Taken {
-            span: *b,
-            first,
-            second: rest,
-        }),
-        (Some((a, rest)), None) => Some(Taken {
-            span: *a,
-            first: rest,
-            second,
-        }),
-        (None, None) => None,
+    let mut out = Vec::with_capacity(alloc, room)?;
+    let (mut a, mut first) = (one, first);
+    let (mut b, mut second) = (two, second);
+    loop {
+        if a.lo() <= b.lo() {
+            push_span(&mut out, a)?;
+            let Some(next) = first.next() else {
+                push_spans(&mut out, b, second)?;
+                return Ok(out);
+            };
+            a = next;
+        } else {
+            push_span(&mut out, b)?;
+            let Some(next) = second.next() else {
+                push_spans(&mut out, a, first)?;
+                return Ok(out);
+            };
+            b = next;
+        }
     }
 }
 
-/// The spans of the keys of either list.
-pub(crate) fn merge(alloc: Global, first: &[Span], second: &[Span]) -> Result<Vec<Span>, AllocError>
-    requires first { IsCanonical first.now }
-    requires second { IsCanonical second.now }
-    ensures { IfOk result (λ out. out.items ≡ union first.now second.now) }
+/// The spans of the keys of either list, with room for `room` of them.
+pub(crate) fn merge(
+    alloc: Global,
+    room: usize,
+    first: Spans<'_>,
+    second: Spans<'_>,
+) -> Result<Vec<Span>, AllocError>
+    requires first { IsCanonical first }
+    requires second { IsCanonical second }
+    ensures { IfOk result (λ out. out.items ≡ union first.entry second.entry) }
 {
-    let mut out = Vec::new(alloc);
-    let mut a = first;
-    let mut b = second;
-    while let Some(taken) = take_lower(a, b) {
-        push_span(&mut out, taken.span)?;
-        a = taken.first;
-        b = taken.second;
-    }
-    Ok(out)
+    let (mut first, mut second) = (first, second);
+    let Some(one) = first.next() else {
+        return listed(alloc, room, second);
+    };
+    let Some(two) = second.next() else {
+        return listed_with(alloc, room, one, first);
+    };
+    merge_both(alloc, room, one, first, two, second)
 }

@@ -1,12 +1,9 @@
-use Rattle.std.proofs.Common.{◌+◌, ◌-◌, ◌≤◌, length, drop}
+use Rattle.std.proofs.Common.{◌+◌, ◌∷◌, length}
 use Rattle.squall_span.proofs.Parting.{Parting}
 use Rattle.squall_span.proofs.alone.alone.Given as goal
 
-abbrev pub invariant-loop-at : goal.invariant-loop-at
-invariant-loop-at l = record {
-  within : l.at ≤ length l.first;
-  parting : Parting l.first l.second l.out.items (drop l.at l.first) (drop l.other l.second) l.from;
-}
+abbrev pub invariant-loop-span : goal.invariant-loop-span
+invariant-loop-span l = Parting (l.fn.one ∷ l.fn.first) l.fn.second l.out.items (l.own ∷ l.first) (l.other ∷ l.second) l.from
 
-abbrev pub decreases-loop-at : goal.decreases-loop-at
-decreases-loop-at l = (length l.first - l.at) + (length l.second - l.other)
+abbrev pub decreases-loop-span : goal.decreases-loop-span
+decreases-loop-span l = length l.first + length l.second

@@ -1,22 +1,17 @@
-use Rattle.std.proofs.Common.{◌∙◌, sym, subst}
-use Rattle.squall_span.specs.Spans.{IsSet}
-use Rattle.squall_span.specs.Within.{HasBeside}
-use Rattle.squall_span.specs.SpanLaws.{set-minus}
-use Rattle.squall_span.proofs.Made.{minus_beside}
+use Rattle.std.proofs.Common.{◌≡◌, subst}
+use Rattle.std.specs.Prelude.{IfOk}
+use Rattle.squall_span.specs.Spans.{minus}
+use Rattle.squall_span.proofs.Made.{near_minus, minus_keys}
 use Rattle.squall_span.proofs.set.SpanSet.minus.Goals as goal
 
-pub of_spans-requires : goal.of_spans-requires
-of_spans-requires c =
-    let own = subst IsSet (c.spans-2.ensures.value ∙ c.in_ok-own.ensures) c.spans-2.ensures.set in
-    let beside = subst (λ l. HasBeside l c.args.other.now c.in_ok-others.others) (c.spans.ensures.value ∙ sym c.spans-2.ensures.value) c.in_ok-others.ensures in
-    let near = subst (HasBeside c.spans-2.result.now c.args.other.now) (sym c.spans-3.ensures.value) beside in
-    let is = minus_beside c.in_ok-own.own c.spans-2.result.now c.args.self.now c.args.other.now c.spans-3.result.now c.in_ok-spans.spans.items c.spans-2.ensures.value c.in_ok-own.ensures own c.known.ensures near c.in_ok-spans.ensures.canonical c.in_ok-spans.ensures.keys in
-    subst IsSet (sym is) (set-minus c.args.self.now c.args.other.now own c.known.ensures)
+pub returns-then-is_far_less-clause-value : goal.returns-then-is_far_less-clause-value
+returns-then-is_far_less-clause-value c =
+    let same : minus c.args.self.now c.in_ok-near.near ≡ minus c.args.self.now c.args.other.now =
+    near_minus c.args.self.now c.args.other.now c.in_ok-near.near c.known.ensures c.known-2.ensures c.known-then-is_far_less.ensures c.in_ok-near.ensures in
+    subst (λ m. IfOk c.walked_minus.result (λ set. set ≡ m)) same c.walked_minus.ensures
 
-pub returns-clause-value : goal.returns-clause-value
-returns-clause-value c =
-    let own = subst IsSet (c.spans-2.ensures.value ∙ c.in_ok-own.ensures) c.spans-2.ensures.set in
-    let beside = subst (λ l. HasBeside l c.args.other.now c.in_ok-others.others) (c.spans.ensures.value ∙ sym c.spans-2.ensures.value) c.in_ok-others.ensures in
-    let near = subst (HasBeside c.spans-2.result.now c.args.other.now) (sym c.spans-3.ensures.value) beside in
-    c.of_spans.ensures
-    ∙ minus_beside c.in_ok-own.own c.spans-2.result.now c.args.self.now c.args.other.now c.spans-3.result.now c.in_ok-spans.spans.items c.spans-2.ensures.value c.in_ok-own.ensures own c.known.ensures near c.in_ok-spans.ensures.canonical c.in_ok-spans.ensures.keys
+pub returns-then-is_far_less-clause-keys : goal.returns-then-is_far_less-clause-keys
+returns-then-is_far_less-clause-keys c = minus_keys c.args.self.now c.args.other.now c.walked_minus.result (returns-then-is_far_less-clause-value c)
+
+pub returns-clause-keys : goal.returns-clause-keys
+returns-clause-keys c = minus_keys c.args.self.now c.args.other.now c.walked_minus-2.result c.walked_minus-2.ensures

@@ -2,7 +2,7 @@ use Rattle.std.proofs.Common.{sym, subst}
 use Rattle.std.proofs.lemmas.List.{take_rest}
 use Rattle.squall_span.specs.Spans.{IsCanonical}
 use Rattle.squall_span.proofs.Places.{canonical_drop}
-use Rattle.squall_span.proofs.common.common.Goals as goal
+use Rattle.squall_span.proofs.common.common_lists.Goals as goal
 
 pub ahead-requires-2-clause-second : goal.ahead-requires-2-clause-second
 ahead-requires-2-clause-second c = subst IsCanonical (sym (take_rest c.args.first.now c.ahead.result)) (canonical_drop c.args.first.now c.ahead.result c.requires.first)
