@@ -1,6 +1,6 @@
 //! A move.
 
-use squall_key::PartId;
+use squall_key::{Bound, Ends, PartId};
 use squall_span::Span;
 
 /// The keys of `span` go from `source` to `dest` in the sub-plan `sub`. Contracts see `span` as
@@ -11,4 +11,13 @@ pub struct Move {
     pub source: PartId,
     pub dest: PartId,
     pub sub: u32,
+}
+
+/// A move ends where its span does.
+impl Ends for Move {
+    ghost end = { λ m. m.span.hi };
+
+    fn end(&self) -> Bound {
+        self.span.hi()
+    }
 }

@@ -2,10 +2,11 @@
 use Rattle.std.proofs.Common.{◌≡◌, ℕ, zero, suc, ◌<◌, ◌≤◌, ◌==◌, ◌||◌, not, Bool, true, false, cond, nat_lt, nat_le, leb, List, [], ◌∷◌, length, get_or, Option, None, Some, refl, sym, ap, subst, ◌∙◌, arith, inl, inr}
 use Rattle.std.specs.Prelude.{IsTrue, ◌↔◌}
 use Rattle.std.specs.List.{find, slice_get, AllByRecursion}
-use Rattle.std.specs.List.Sorted.{IsNonDecreasingBy, IsPartitionPoint}
+use Rattle.std.specs.List.Sorted.{IsNonDecreasingBy}
 use Rattle.std.proofs.lemmas.Bool.{cases_lt, and_parts, and_from, leb-true, leb-false, false≢true}
 use Rattle.std.proofs.lemmas.Bool.Decides.{nat_tests}
 use Rattle.std.proofs.lemmas.Option.{same_Some}
+use Rattle.squall_key.specs.Search.{EndedBy}
 use Rattle.squall_span.specs.Spans.{span_has}
 use Rattle.squall_span.specs.SpanLaws.{inside, outside_below, outside_above}
 use Rattle.squall_plan.specs.declared.range.PlanRange.{PlanRange}
@@ -35,8 +36,8 @@ ends_rise from (m ∷ ms) old new each rise (suc i) (suc j) d le lt = ends_rise 
 pub moves_rise : (c : Change) (ms : List Move) → AreMoves c.old c.new ms → IsNonDecreasingBy (λ m. m.span.hi) ms
 moves_rise c ms are = ends_rise 0 ms c.old c.new are.each are.rise
 
-pub beyond_at : (ms : List Move) (bound i : ℕ) (o : Option Move) → IsPartitionPoint (λ m. leb m.span.hi bound ≡ true) (λ m. leb m.span.hi bound ≡ false) ms i → o ≡ slice_get ms i → o ≡ find (ends_beyond bound) ms
-beyond_at ms bound i o point e = e ∙ place ms i (λ j d lt in'. leb-true _ _ (point.0 j d (omega arith) lt)) (λ j d le in'. leb-false _ _ (point.1 j d le in'))
+pub beyond_at : (ms : List Move) (bound i : ℕ) (o : Option Move) → EndedBy (λ m. m.span.hi) ms bound i → o ≡ slice_get ms i → o ≡ find (ends_beyond bound) ms
+beyond_at ms bound i o point e = e ∙ place ms i (λ j d lt in'. point.before j d lt) (λ j d le in'. point.from j d le in')
   where
     place : (ms : List Move) (i : ℕ) → ((j : ℕ) (d : Move) → j < i → j < length ms → (get_or ms j d).span.hi ≤ bound) → ((j : ℕ) (d : Move) → i ≤ j → j < length ms → bound < (get_or ms j d).span.hi) → slice_get ms i ≡ find (ends_beyond bound) ms
     place [] i below beyond = refl

@@ -11,7 +11,7 @@ ghost use Rattle.squall_protocol.specs.Chunks.{load_report};
 
 use crate::part::Part;
 use squall_course::{Course, Move, Status};
-use squall_key::Bound;
+use squall_key::{Bound, ended};
 use squall_protocol::Chunk;
 use squall_report::Report;
 use std::alloc::AllocError;
@@ -67,7 +67,7 @@ fn move_beyond(moves: &[Move], bound: Bound) -> Option<&Move>
     requires { IsNonDecreasingBy (λ m. m.span.hi) moves.now }
     ensures { option_copied result ≡ find (ends_beyond bound) moves.now }
 {
-    moves.get(moves.partition_point(|m| m.span.hi() <= bound))
+    moves.get(ended(moves, bound))
 }
 
 /// Whether the move has each key of the chunk, on its way and in its sub-plan.

@@ -77,13 +77,6 @@ starts_rise h (x ∷ xs) c i zero d le lt = absurd (omega arith)
 starts_rise h (x ∷ xs) c zero (suc j) d le lt = (moves_above x.span.hi xs j d c.2 (omega arith)).0
 starts_rise h (x ∷ xs) c (suc i) (suc j) d le lt = starts_rise x.span.hi xs c.2 i j d (omega arith) (omega arith)
 
-pub first_is : (xs : List Move) (bound i : ℕ) → i ≤ length xs → IsPartitionPoint (λ r. leb r.span.hi bound ≡ true) (λ r. leb r.span.hi bound ≡ false) xs i → FirstMove xs bound i
-first_is xs bound i w p = record {
-  within = w;
-  before = λ j d lt. leb-true _ _ (p.0 j d (omega arith) lt);
-  after = λ j d le lt. leb-false _ _ (p.1 j d le lt);
-}
-
 -- what is from a place on, at keys from a bound on
 pub first_routes : (old : List PlanRange) (xs : List Move) (cs : Said) (bound i : ℕ) → FirstMove xs bound i → (k : ℕ) → bound ≤ k → route old xs cs k ≡ route old (drop i xs) cs k
 first_routes old xs cs bound zero p k le = refl

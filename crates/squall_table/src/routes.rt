@@ -13,7 +13,7 @@ use crate::table::Leg;
 use squall_board::laws::coming_by_the_cell;
 use squall_board::{Board, CellParts};
 use squall_course::Move;
-use squall_key::{Bound, PartId};
+use squall_key::{Bound, PartId, ended};
 use squall_report::CellId;
 use squall_span::SpanSet;
 use std::alloc::AllocError;
@@ -109,12 +109,12 @@ fn push_move(
     push_picked(out, set, moved.dest, moved.source, lo, hi)
 }
 
-/// Index of the first move that ends beyond `bound`, by a binary search.
+/// Index of the first move that ends beyond `bound`, by a search without a branch on it.
 pub(crate) fn first_move(moves: &[Move], bound: Bound) -> usize
     requires { MovesRise 0 moves.now }
     ensures { FirstMove moves.now bound result }
 {
-    moves.partition_point(|moved| moved.span.hi() <= bound)
+    ended(moves, bound)
 }
 
 /// What decides the route of each key. For a key of a move it is the course's number, the move, and
