@@ -13,7 +13,8 @@ use Rattle.squall_c.specs.declared.feeding.HearFault.{HearFault}
 use Rattle.squall_c.specs.declared.feeding.HearFault.TheVariants.{Failed, Full, NoMemory}
 use Rattle.squall_c.specs.declared.router.RouterSlot.{RouterSlot}
 use Rattle.squall_c.specs.declared.router.Station.{Station}
-use Rattle.squall_c.specs.Status.{closed, failed, full, heard_status}
+use Rattle.squall_c.specs.Status.{closed, failed, full}
+use Rattle.squall_c_frames.specs.FrameStatus.{heard_status}
 use Rattle.squall_c.specs.Opening.{with_station, Ends}
 use Rattle.squall_c.specs.Limits.{joined_with, IsAdmitted, IsRefused, taken_after}
 

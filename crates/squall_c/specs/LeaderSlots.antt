@@ -22,7 +22,8 @@ use Rattle.squall_c.specs.declared.status.Cause.{Cause}
 use Rattle.squall_c.specs.declared.courses.HeldCourse.{HeldCourse}
 use Rattle.squall_c.specs.declared.courses.CourseSlot.{CourseSlot}
 use Rattle.squall_c.specs.declared.leaders.LeaderSlot.{LeaderSlot}
-use Rattle.squall_c.specs.Status.{ok, no_memory, closed, failed as failed_before, too_long, no_digest, no_place, in_new_plan, plan_status, plan_place, wire_status, heard_status, cause_with, cause_of_fault}
+use Rattle.squall_c.specs.Status.{ok, no_memory, closed, failed as failed_before, too_long, no_digest, no_place, in_new_plan, plan_status, plan_place, cause_with, cause_of_fault}
+use Rattle.squall_c_frames.specs.FrameStatus.{wire_status, heard_status}
 use Rattle.squall_c.specs.Courses.{IsSlotWith, IsCourseSlot, course_seen}
 
 -- ---- opening

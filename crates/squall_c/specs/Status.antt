@@ -3,8 +3,6 @@ use Rattle.std.specs.Prelude.{◌≡◌, ◌≢◌, ℕ, ◌+◌, List, Option, 
 use Rattle.squall_plan.specs.declared.fault.PlanFault.{PlanFault}
 use Rattle.squall_plan.specs.declared.range.PlanRange.{PlanRange}
 use Rattle.squall_plan.specs.declared.fault.PlanFault.TheVariants.{Json, Shape, BadPart, BadBound, EmptyRange, TooMany, Overlap, Gap, NoMemory}
-use Rattle.squall_wire.specs.declared.fault.WireFault.{WireFault}
-use Rattle.squall_wire.specs.declared.fault.WireFault.TheVariants.{Magic, Version, Kind, TooLong, Short, Count, Range, Order, Spare, NoMemory as NoMemoryForFrame}
 use Rattle.squall_c.specs.declared.status.Cause.{Cause}
 
 -- it was done
@@ -75,24 +73,6 @@ plan_place TooMany = no_place
 plan_place (Overlap bound) = bound
 plan_place (Gap bound) = bound
 plan_place NoMemory = no_place
-
--- the number of a fault of a frame; a feed tells neither `Short` nor want of memory
-abbrev pub wire_status : WireFault → ℕ
-wire_status Magic = 51
-wire_status Version = 52
-wire_status Kind = 53
-wire_status TooLong = 54
-wire_status Short = 55
-wire_status Count = 56
-wire_status Range = 57
-wire_status Order = 58
-wire_status Spare = 59
-wire_status NoMemoryForFrame = no_memory
-
--- that of the fault which ended a stream, where there is one
-abbrev pub heard_status : Option WireFault → ℕ
-heard_status None = ok
-heard_status (Some fault) = wire_status fault
 
 -- ---- why a call does nothing
 

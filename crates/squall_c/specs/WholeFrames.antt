@@ -11,7 +11,8 @@ use Rattle.squall_router.specs.Routers.{router_with}
 use Rattle.squall_c_frames.specs.WholeFrames.{whole_at}
 use Rattle.squall_c.specs.declared.router.RouterSlot.{RouterSlot}
 use Rattle.squall_c.specs.declared.router.Station.{Station}
-use Rattle.squall_c.specs.Status.{ok, no_memory, closed, full, wire_status}
+use Rattle.squall_c.specs.Status.{ok, no_memory, closed, full}
+use Rattle.squall_c_frames.specs.FrameStatus.{wire_status}
 use Rattle.squall_c.specs.Opening.{with_station, Ends}
 use Rattle.squall_c.specs.Limits.{IsAdmitted, IsRefused, count_after}
 use Rattle.squall_c.specs.Feeding.{heard_station}

@@ -11,8 +11,8 @@ ghost use Rattle.squall_c.specs.Feeding.{heard_station, joined_station, HearsInS
 
 use crate::limits::{absorb_all, brings_boards, taken_after};
 use crate::router::{RouterSlot, Station};
-use crate::status::{CLOSED, FAILED, FULL, NO_MEMORY, heard_status};
-use squall_c_frames::{TwinFeed, keep_digest};
+use crate::status::{CLOSED, FAILED, FULL, NO_MEMORY};
+use squall_c_frames::{TwinFeed, heard_status, keep_digest};
 use squall_router::AbsorbFault;
 use squall_wire::{Feed, FeedFault, Heard, Message, WireFault};
 

@@ -13,9 +13,9 @@ ghost use Rattle.squall_c.specs.WholeFrames.{HearsFrame, absorbed_station, kept_
 
 use crate::limits::{absorb, taken_after};
 use crate::router::{RouterSlot, Station};
-use crate::status::{CLOSED, FULL, NO_MEMORY, OK, wire_status};
+use crate::status::{CLOSED, FULL, NO_MEMORY, OK};
 use squall_board::Delta;
-use squall_c_frames::whole;
+use squall_c_frames::{whole, wire_status};
 use squall_router::AbsorbFault;
 use squall_wire::{Digest, Message};
 

@@ -9,10 +9,8 @@ ghost use Rattle.squall_c.specs.LeaderSlots.{LeaderHears, LeaderFeeds, LeaderBeg
 
 use crate::leaders::LeaderSlot;
 use crate::router::read_plan;
-use crate::status::{
-    CLOSED, FAILED, IN_NEW_PLAN, NO_DIGEST, NO_MEMORY, OK, TOO_LONG, heard_status, wire_status,
-};
-use squall_c_frames::FrameFault;
+use crate::status::{CLOSED, FAILED, IN_NEW_PLAN, NO_DIGEST, NO_MEMORY, OK, TOO_LONG};
+use squall_c_frames::{FrameFault, heard_status, wire_status};
 use squall_c_leaders::{LeaderNode, RepairFault};
 use squall_leader::LeaderFault;
 use squall_plan::Plan;

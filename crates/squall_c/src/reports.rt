@@ -6,7 +6,8 @@ ghost use Rattle.squall_report.specs.Issues.{plan_pair};
 ghost use Rattle.squall_c.specs.Reporting.{loaded_report, told_station, TakesInStation, Takes, Issues};
 
 use crate::router::{RouterSlot, Station, read_plan};
-use crate::status::{CLOSED, IN_NEW_PLAN, LIMIT, NO_MEMORY, memory_status};
+use crate::status::{CLOSED, IN_NEW_PLAN, LIMIT, NO_MEMORY};
+use squall_c_frames::memory_status;
 use squall_key::Bound;
 use squall_plan::Plan;
 use squall_report::{Issue, Report};

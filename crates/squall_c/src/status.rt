@@ -1,12 +1,10 @@
 //! The numbers that say how a call ended.
 
-ghost use Rattle.std.specs.Prelude.{◌≡◌, ◌≢◌, ◌≤◌, is_ok, if◌then◌else◌};
+ghost use Rattle.std.specs.Prelude.{◌≡◌, ◌≢◌, ◌≤◌};
 ghost use Rattle.squall_plan.specs.declared.fault.PlanFault.TheVariants.{NoMemory};
-ghost use Rattle.squall_wire.specs.declared.fault.WireFault.TheVariants.{NoMemory as NoMemoryForFrame};
-ghost use Rattle.squall_c.specs.Status.{ok, no_memory, no_place, plan_status, plan_place, wire_status, heard_status, cause_with, cause_of_fault};
+ghost use Rattle.squall_c.specs.Status.{no_memory, no_place, plan_status, plan_place, cause_with, cause_of_fault};
 
 use squall_plan::PlanFault;
-use squall_wire::WireFault;
 use std::alloc::AllocError;
 
 /// It was done.
@@ -123,43 +121,5 @@ fn plan_place(fault: &PlanFault) -> u64
         PlanFault::Shape(None) => NO_PLACE,
         PlanFault::TooMany => NO_PLACE,
         PlanFault::NoMemory => NO_PLACE,
-    }
-}
-
-/// The number of a fault of a frame. A feed tells neither `Short` nor a failed allocation.
-pub(crate) fn wire_status(fault: WireFault) -> u32
-    ensures { result ≡ wire_status fault }
-{
-    match fault {
-        WireFault::Magic => 51,
-        WireFault::Version => 52,
-        WireFault::Kind => 53,
-        WireFault::TooLong => 54,
-        WireFault::Short => 55,
-        WireFault::Count => 56,
-        WireFault::Range => 57,
-        WireFault::Order => 58,
-        WireFault::Spare => 59,
-        WireFault::NoMemory => NO_MEMORY,
-    }
-}
-
-/// The number of what ended a stream, or that nothing did.
-pub(crate) fn heard_status(fault: Option<WireFault>) -> u32
-    ensures { result ≡ heard_status fault }
-{
-    match fault {
-        Some(fault) => wire_status(fault),
-        None => OK,
-    }
-}
-
-/// How a call ended that fails only if an allocation fails, or if a count of owners is full.
-pub(crate) fn memory_status(outcome: Result<(), AllocError>) -> u32
-    ensures { result ≡ (if is_ok outcome then ok else no_memory) }
-{
-    match outcome {
-        Ok(()) => OK,
-        Err(_) => NO_MEMORY,
     }
 }

@@ -14,3 +14,4 @@ pub mod BoardFrames
 pub mod WholeFrames
 pub mod Joined
 pub mod JoinedLaws
+pub mod FrameStatus

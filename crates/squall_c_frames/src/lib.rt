@@ -9,6 +9,7 @@ mod fault;
 mod frames;
 mod messages;
 mod single;
+mod status;
 mod twin_feed;
 
 pub use boards::{board_frames, digest_frame, repair_frames};
@@ -16,4 +17,5 @@ pub use fault::FrameFault;
 pub use frames::Frames;
 pub use messages::{alone, joined, keep_digest};
 pub use single::whole;
+pub use status::{heard_status, memory_status, wire_status};
 pub use twin_feed::TwinFeed;

@@ -9,7 +9,8 @@ use Rattle.squall_delta.specs.Pieces.{joined_boards}
 use Rattle.squall_part.specs.Parts.{PartValue}
 use Rattle.squall_replay.specs.Calls.{Absorbs}
 use Rattle.squall_c_frames.specs.Joined.{deltas_of, last_digest}
-use Rattle.squall_c_parts.specs.PartStatus.{failed, heard_status}
+use Rattle.squall_c_parts.specs.PartStatus.{failed}
+use Rattle.squall_c_frames.specs.FrameStatus.{heard_status}
 use Rattle.squall_c_parts.specs.Nodes.{NodeValue, with_feed, Ends}
 
 -- the node with another partition and another feed, which keeps the last digest among the messages

@@ -8,7 +8,8 @@ use Rattle.squall_wire.specs.Messages.{Body, IsMessage, body_of, spell}
 use Rattle.squall_part.specs.Parts.{PartValue}
 use Rattle.squall_replay.specs.Calls.{Absorbs}
 use Rattle.squall_c_frames.specs.WholeFrames.{whole_at}
-use Rattle.squall_c_parts.specs.PartStatus.{ok, wire_status}
+use Rattle.squall_c_parts.specs.PartStatus.{ok}
+use Rattle.squall_c_frames.specs.FrameStatus.{wire_status}
 use Rattle.squall_c_parts.specs.Nodes.{NodeValue, with_part, with_heard, Ends}
 
 -- the node's partition has absorbed the delta

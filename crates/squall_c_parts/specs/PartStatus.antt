@@ -1,9 +1,7 @@
 -- The numbers by which calls of a partition of the C library say how they ended (this project).
-use Rattle.std.specs.Prelude.{ℕ, Option, None, Some, Result, Ok, Err}
+use Rattle.std.specs.Prelude.{ℕ, Result, Ok, Err}
 use Rattle.squall_report.specs.declared.report.ReportKind.{ReportKind}
 use Rattle.squall_report.specs.Issues.{PlanPair}
-use Rattle.squall_wire.specs.declared.fault.WireFault.{WireFault}
-use Rattle.squall_wire.specs.declared.fault.WireFault.TheVariants.{Magic, Version, Kind, TooLong, Short, Count, Range, Order, Spare, NoMemory as NoMemoryForFrame}
 use Rattle.squall_protocol.specs.Chunks.{ChunkValue}
 use Rattle.squall_part.specs.declared.giving.GiveFault.{GiveFault}
 use Rattle.squall_part.specs.declared.giving.GiveFault.TheVariants.{NotOpen, NothingLeft, ZeroMax, NotOutgoing, Given, NotHeld, NoMemory}
@@ -68,21 +66,3 @@ finish_status (Err NotOpenToFinish) = not_open
 finish_status (Err (NotAll span)) = 78
 finish_status (Err NothingDue) = 79
 finish_status (Err NoMemoryToFinish) = no_memory
-
--- of a fault of a frame
-abbrev pub wire_status : WireFault → ℕ
-wire_status Magic = 51
-wire_status Version = 52
-wire_status Kind = 53
-wire_status TooLong = 54
-wire_status Short = 55
-wire_status Count = 56
-wire_status Range = 57
-wire_status Order = 58
-wire_status Spare = 59
-wire_status NoMemoryForFrame = no_memory
-
--- of the fault that ended a stream, if there is one
-abbrev pub heard_status : Option WireFault → ℕ
-heard_status None = ok
-heard_status (Some fault) = wire_status fault

@@ -12,8 +12,8 @@ ghost use Rattle.squall_c_parts.specs.PartFeeding.{AbsorbsAll, TakesAll, HearsIn
 
 use crate::hearing::absorb;
 use crate::node::Node;
-use crate::status::{FAILED, NO_MEMORY, heard_status};
-use squall_c_frames::{TwinFeed, alone, joined, keep_digest};
+use crate::status::{FAILED, NO_MEMORY};
+use squall_c_frames::{TwinFeed, alone, heard_status, joined, keep_digest};
 use squall_part::Part;
 use squall_wire::{Feed, FeedFault, Heard, Message, WireFault};
 use std::alloc::{AllocError, Global};

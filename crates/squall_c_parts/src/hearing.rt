@@ -5,9 +5,8 @@ ghost use Rattle.squall_replay.specs.Calls.{Absorbs};
 ghost use Rattle.squall_c_parts.specs.PartHearing.{AbsorbsDelta, TakesMessage, HearsFrame};
 
 use crate::node::Node;
-use crate::status::{memory_status, wire_status};
 use squall_board::Delta;
-use squall_c_frames::whole;
+use squall_c_frames::{memory_status, whole, wire_status};
 use squall_part::Part;
 use squall_wire::Message;
 use std::alloc::AllocError;

@@ -1,12 +1,10 @@
 //! The numbers that say how a call of a partition ended.
 
-ghost use Rattle.std.specs.Prelude.{◌≡◌, is_ok, if◌then◌else◌};
-ghost use Rattle.squall_c_parts.specs.PartStatus.{ok, no_memory, give_status, load_status, finish_status, wire_status, heard_status};
+ghost use Rattle.std.specs.Prelude.{◌≡◌};
+ghost use Rattle.squall_c_parts.specs.PartStatus.{give_status, load_status, finish_status};
 
 use squall_part::{Chunk, FinishFault, GiveFault, Load, LoadFault};
 use squall_report::Report;
-use squall_wire::WireFault;
-use std::alloc::AllocError;
 
 /// It was done.
 pub(crate) const OK: u32 = 0;
@@ -68,44 +66,5 @@ pub(crate) fn finish_status(answer: &Result<Report, FinishFault>) -> u32
         Err(FinishFault::NotAll(_)) => 78,
         Err(FinishFault::NothingDue) => 79,
         Err(FinishFault::NoMemory) => NO_MEMORY,
-    }
-}
-
-/// The number of a fault of a frame.
-pub(crate) fn wire_status(fault: WireFault) -> u32
-    ensures { result ≡ wire_status fault }
-{
-    match fault {
-        WireFault::Magic => 51,
-        WireFault::Version => 52,
-        WireFault::Kind => 53,
-        WireFault::TooLong => 54,
-        WireFault::Short => 55,
-        WireFault::Count => 56,
-        WireFault::Range => 57,
-        WireFault::Order => 58,
-        WireFault::Spare => 59,
-        WireFault::NoMemory => NO_MEMORY,
-    }
-}
-
-/// The number of the fault that ended a stream, if there is one.
-pub(crate) fn heard_status(fault: Option<WireFault>) -> u32
-    ensures { result ≡ heard_status fault }
-{
-    match fault {
-        Some(fault) => wire_status(fault),
-        None => OK,
-    }
-}
-
-/// The number of the end of a call that fails only if an allocation fails, or if a count of owners is
-/// full.
-pub(crate) fn memory_status(outcome: Result<(), AllocError>) -> u32
-    ensures { result ≡ (if is_ok outcome then ok else no_memory) }
-{
-    match outcome {
-        Ok(()) => OK,
-        Err(_) => NO_MEMORY,
     }
 }
