@@ -1,4 +1,4 @@
 pub mod Places
 pub mod Searching
 pub mod Remains
-pub mod Joining
+pub mod Drafting

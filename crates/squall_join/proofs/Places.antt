@@ -26,7 +26,7 @@ elements_more P xs i x within is before here k d lt =
       | inr at_least ↦ let same : k ≡ i = omega arith in subst P (is ∙ get_or_default xs i x d within ∙ ap (λ j. get_or xs j d) (sym same)) here
     ]
 
-not_None : {A : Type 0} (x : A) → Some x ≢ None
+pub not_None : {A : Type 0} (x : A) → Some x ≢ None
 not_None x e = cc
 
 module _ {K V : Type 0} {R : K → K → Ordering} (o : IsTotalOrder R) where
@@ -42,7 +42,7 @@ module _ {K V : Type 0} {R : K → K → Ordering} (o : IsTotalOrder R) where
   sorted_at (e ∷ es) h (suc i) (suc j) d lt in_range = sorted_at es (second _ _ h) i j d (omega arith) (omega arith)
 
   -- past a smaller key
-  find_past : (k : K) (e : K × V) (es : List (K × V)) → R e.0 k ≡ Less → find R k (e ∷ es) ≡ find R k es
+  pub find_past : (k : K) (e : K × V) (es : List (K × V)) → R e.0 k ≡ Less → find R k (e ∷ es) ≡ find R k es
   find_past k e es p = ap (λ r. cond (is_eq r) (Some e.1) (find R k es)) (o.antisymm k e.0 ∙ ap ordering_reverse p)
 
   at_tail : (k : K) (e : K × V) (es : List (K × V)) (i : ℕ) → IsAt R (e ∷ es) k (suc i) → IsAt R es k i

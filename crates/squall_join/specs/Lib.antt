@@ -2,7 +2,7 @@ pub mod Laws
 pub mod Basic
 pub mod Pairs
 pub mod Entries
-pub mod InPlace
+pub mod Drafts
 pub mod Looked
 pub mod Facts
 pub mod Flats

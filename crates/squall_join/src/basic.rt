@@ -7,7 +7,7 @@ ghost use Rattle.squall_join.specs.Rests.{max_beyond, flag_covered, flag_beyond}
 ghost use Rattle.squall_join.specs.Units.{whole_unit};
 ghost use Rattle.squall_join.specs.BeyondLaws.{max_beyond_laws, flag_beyond_laws};
 
-use crate::{Beyond, Join};
+use crate::{Beyond, Join, Whole};
 use std::alloc::{AllocError, Global};
 use std::marker::Model;
 
@@ -54,9 +54,13 @@ impl Join for Max {
 
     ghost laws = { max_laws };
 
-    type Ready = ();
+    type Draft = Whole<Max>;
 
-    ghost is_ready = { λ _ _ _. Unit {0} };
+    ghost is_draft = { λ _. Unit {0} };
+
+    ghost before = { λ d. d.before };
+
+    ghost after = { λ d. d.after };
 
     fn known(&self) {
         let _number = self.number;
@@ -83,16 +87,23 @@ impl Join for Max {
     }
 
     fn join_in(&mut self, _alloc: Global, other: &Max) -> Result<(), AllocError> {
-        self.join_ready(other, ());
-        Ok(())
-    }
-
-    fn make_ready(&self, _alloc: Global, _other: &Max) -> Result<(), AllocError> {
-        Ok(())
-    }
-
-    fn join_ready(&mut self, other: &Max, _ready: ()) {
         self.number = self.number.max(other.number);
+        Ok(())
+    }
+
+    fn draft_join(&mut self, alloc: Global, other: &Max) -> Result<Whole<Max>, AllocError> {
+        let before = *self;
+        let after = Max::new(before.number.max(other.number));
+        *self = Max::bottom(alloc);
+        Ok(Whole { before, after })
+    }
+
+    fn keep(draft: Whole<Max>) -> Max {
+        draft.after
+    }
+
+    fn undo(draft: Whole<Max>) -> Max {
+        draft.before
     }
 }
 
@@ -154,9 +165,13 @@ impl Join for Flag {
 
     ghost laws = { flag_laws };
 
-    type Ready = ();
+    type Draft = Whole<Flag>;
 
-    ghost is_ready = { λ _ _ _. Unit {0} };
+    ghost is_draft = { λ _. Unit {0} };
+
+    ghost before = { λ d. d.before };
+
+    ghost after = { λ d. d.after };
 
     fn known(&self) {}
 
@@ -181,16 +196,23 @@ impl Join for Flag {
     }
 
     fn join_in(&mut self, _alloc: Global, other: &Flag) -> Result<(), AllocError> {
-        self.join_ready(other, ());
-        Ok(())
-    }
-
-    fn make_ready(&self, _alloc: Global, _other: &Flag) -> Result<(), AllocError> {
-        Ok(())
-    }
-
-    fn join_ready(&mut self, other: &Flag, _ready: ()) {
         self.is_set = self.is_set | other.is_set;
+        Ok(())
+    }
+
+    fn draft_join(&mut self, alloc: Global, other: &Flag) -> Result<Whole<Flag>, AllocError> {
+        let before = *self;
+        let after = Flag::new(before.is_set | other.is_set);
+        *self = Flag::bottom(alloc);
+        Ok(Whole { before, after })
+    }
+
+    fn keep(draft: Whole<Flag>) -> Flag {
+        draft.after
+    }
+
+    fn undo(draft: Whole<Flag>) -> Flag {
+        draft.before
     }
 }
 

@@ -7,8 +7,9 @@ ghost use Rattle.squall_join.specs.Rests.{flat_covered, flat_beyond};
 ghost use Rattle.squall_join.specs.Units.{whole_unit};
 ghost use Rattle.squall_join.specs.BeyondLaws.{flat_beyond_laws};
 
-use crate::{Beyond, Join};
+use crate::{Beyond, Join, Whole};
 use std::alloc::{AllocError, Global};
+use std::mem::replace;
 
 /// A type whose values can be compared exactly, and copied.
 pub trait Exact: Drop {
@@ -84,9 +85,13 @@ impl<T: Exact> Join for Flat<T> {
 
     ghost laws = { flat_laws T.exact };
 
-    type Ready = Flat<T>;
+    type Draft = Whole<Flat<T>>;
 
-    ghost is_ready = { λ x y joined. joined ≡ flat_join T.eq x y };
+    ghost is_draft = { λ _. Unit {0} };
+
+    ghost before = { λ d. d.before };
+
+    ghost after = { λ d. d.after };
 
     fn known(&self) {
         if let Flat::One(x) = self {
@@ -140,12 +145,18 @@ impl<T: Exact> Join for Flat<T> {
         Ok(())
     }
 
-    fn make_ready(&self, alloc: Global, other: &Self) -> Result<Self, AllocError> {
-        self.joined(alloc, other)
+    fn draft_join(&mut self, alloc: Global, other: &Self) -> Result<Whole<Self>, AllocError> {
+        let after = self.joined(alloc, other)?;
+        let before = replace(self, Flat::Unknown);
+        Ok(Whole { before, after })
     }
 
-    fn join_ready(&mut self, _other: &Self, ready: Self) {
-        *self = ready;
+    fn keep(draft: Whole<Self>) -> Self {
+        draft.after
+    }
+
+    fn undo(draft: Whole<Self>) -> Self {
+        draft.before
     }
 }
 

@@ -5,6 +5,15 @@ ghost use Rattle.squall_join.specs.Laws.{JoinLaws, Covers};
 
 use std::alloc::{AllocError, Global};
 
+/// The values before a join and after it, if the joined value was made anew.
+#[derive(Drop)]
+pub struct Whole<V> {
+    /// The value before the join.
+    pub(crate) before: V,
+    /// The value after it.
+    pub(crate) after: V,
+}
+
 /// A type whose values have a join: a join semilattice with a least value.
 pub trait Join: Drop {
     /// What holds of each value of the type.
@@ -46,21 +55,37 @@ pub trait Join: Drop {
         ensures ok { OnOk result (self.new ≡ join self.old other.now) }
         ensures err { OnErr result (self.new ≡ self.old) };
 
-    /// What a join of two values needs beside them: all that it allocates.
-    type Ready: Drop;
+    /// A value with the join of another one drafted. It is kept or undone, neither of which can
+    /// fail. So several values can be joined in place, either all or none.
+    type Draft: Drop;
 
-    /// That it was made ready for the join of these two values.
-    ghost is_ready: { Self → Self → Self.Ready → Type 0 };
+    /// What holds of each draft.
+    ghost is_draft: { Self.Draft → Type 0 };
 
-    /// Makes ready what the join of both needs. An error means that an allocation failed.
-    fn make_ready(&self, alloc: Global, other: &Self) -> Result<Self::Ready, AllocError>
-        ensures { IfOk result (is_ready self.now other.now) };
+    /// The value before the drafted join.
+    ghost before: { Self.Draft → Self };
 
-    /// Joins the other value into this one, with what was made ready for both. It cannot fail. So
-    /// several values can be joined in place, either all or none.
-    fn join_ready(&mut self, other: &Self, ready: Self::Ready)
-        requires { is_ready self.old other.now ready }
-        ensures { self.new ≡ join self.old other.now };
+    /// The value with it.
+    ghost after: { Self.Draft → Self };
+
+    /// Takes the value out, with the join of the other one drafted: the least value takes its
+    /// place. An error means that an allocation failed: the value is then unchanged.
+    fn draft_join(&mut self, alloc: Global, other: &Self) -> Result<Self::Draft, AllocError>
+        ensures draft { IfOk result (λ d. is_draft d) }
+        ensures before { IfOk result (λ d. before d ≡ self.old) }
+        ensures after { IfOk result (λ d. after d ≡ join self.old other.now) }
+        ensures ok { OnOk result (self.new ≡ bottom) }
+        ensures err { OnErr result (self.new ≡ self.old) };
+
+    /// The value with the drafted join.
+    fn keep(draft: Self::Draft) -> Self
+        requires { is_draft draft }
+        ensures { result ≡ after draft };
+
+    /// The value before the drafted join.
+    fn undo(draft: Self::Draft) -> Self
+        requires { is_draft draft }
+        ensures { result ≡ before draft };
 
     /// The laws of the join.
     ghost laws: { JoinLaws is_value bottom join };

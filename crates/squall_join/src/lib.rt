@@ -25,13 +25,13 @@
 
 mod basic;
 mod beyond;
+mod draft;
 mod flat;
 mod join;
 pub mod laws;
 mod map;
 mod merge;
 mod pair;
-mod ready;
 mod rest;
 mod search;
 mod set;
@@ -41,7 +41,7 @@ mod update;
 pub use basic::{Flag, Max};
 pub use beyond::Beyond;
 pub use flat::{Exact, Flat};
-pub use join::Join;
+pub use join::{Join, Whole};
 pub use map::{JoinMap, MapKey};
 pub use pair::Pair;
 pub use shared::Shared;

@@ -6,19 +6,20 @@ ghost use Rattle.std.proofs.lemmas.Map.Lookups.{CmpEqualImpliesEq, exact_unsigne
 ghost use Rattle.std.specs.declared.cmp.Ordering.TheVariants.{Less};
 ghost use Rattle.squall_join.specs.Entries.{merged, IsMap, IsAt, IsGap};
 ghost use Rattle.squall_join.specs.MapLaws.{map_laws};
-ghost use Rattle.squall_join.specs.InPlace.{IsReadyMap};
+ghost use Rattle.squall_join.specs.Drafts.{IsMapDraft, map_before, map_after};
 ghost use Rattle.squall_join.specs.Rests.{map_covered, map_beyond};
 ghost use Rattle.squall_join.specs.Units.{entry_unit};
 ghost use Rattle.squall_join.specs.MapBeyondLaws.{map_beyond_laws};
 
+use crate::draft::{MapDraft, adds_few, draft_entries, join_entries, kept_entries, undone_entries};
 use crate::merge::{merge, push_copies};
-use crate::ready::{ReadyMap, adds_few, join_entries, join_with, make_parts};
 use crate::rest::rests;
 use crate::search::seek;
 use crate::update::Borrowed;
 use crate::{Beyond, Join};
 use std::alloc::{AllocError, Global};
 use std::marker::Model;
+use std::mem::replace;
 
 /// Keys of a map: in an order in which only equal keys tie.
 pub trait MapKey: Ord + Copy {
@@ -144,9 +145,13 @@ impl<K: MapKey, V: Join> Join for JoinMap<K, V> {
 
     ghost laws = { map_laws K.total K.exact V.laws };
 
-    type Ready = ReadyMap<K, V, V::Ready>;
+    type Draft = MapDraft<K, V, V::Draft>;
 
-    ghost is_ready = { IsReadyMap K.cmp V.is_ready V.join };
+    ghost is_draft = { IsMapDraft K.cmp V.before V.after V.is_draft (IsMap K.cmp V.is_value V.bottom) };
+
+    ghost before = { map_before K.cmp V.before V.after };
+
+    ghost after = { map_after K.cmp V.before V.after };
 
     fn known(&self) {
         let _ = &self.entries;
@@ -189,8 +194,8 @@ impl<K: MapKey, V: Join> Join for JoinMap<K, V> {
 
     /// Joins a map of one entry in place: a binary search, and at most one insertion.
     ///
-    /// A map of more entries is joined in place too, by a search for each of its keys, once all is
-    /// ready that the joins need. Each new key moves the entries behind it. If more than 64 keys
+    /// A map of more entries is joined in place too. The join at each of its keys is drafted, which
+    /// a failed allocation undoes. Each new key moves the entries behind it. If more than 64 keys
     /// are new, it makes the joined map instead, which copies each value of both.
     fn join_in(&mut self, alloc: Global, other: &Self) -> Result<(), AllocError> {
         if other.entries.len() == 1 {
@@ -206,22 +211,28 @@ impl<K: MapKey, V: Join> Join for JoinMap<K, V> {
         Ok(())
     }
 
-    /// Makes ready the join at each key of the other map, and room for all entries if keys are new.
+    /// Drafts the join at each key of the other map, and makes room for all entries if keys are new.
     /// If more than 64 keys are new, it makes the joined map.
-    fn make_ready(&self, alloc: Global, other: &Self) -> Result<Self::Ready, AllocError> {
+    fn draft_join(&mut self, alloc: Global, other: &Self) -> Result<Self::Draft, AllocError> {
         if !adds_few(&self.entries, &other.entries) {
-            let entries = merge(alloc, &self.entries, &other.entries)?;
-            return Ok(ReadyMap::Whole(entries));
+            let after = merge(alloc, &self.entries, &other.entries)?;
+            let before = replace(&mut self.entries, Vec::new(alloc));
+            return Ok(MapDraft::Whole(before, after));
         }
-        let has = self.entries.capacity();
-        let parts = make_parts(alloc, &self.entries, has, &other.entries)?;
-        Ok(ReadyMap::Parts(parts))
+        let parts = draft_entries(alloc, &mut self.entries, &other.entries)?;
+        let entries = replace(&mut self.entries, Vec::new(alloc));
+        Ok(MapDraft::Parts(entries, parts))
     }
 
-    fn join_ready(&mut self, other: &Self, ready: Self::Ready) {
-        match ready {
-            ReadyMap::Whole(entries) => self.entries = entries,
-            ReadyMap::Parts(parts) => join_with(&mut self.entries, &other.entries, parts),
+    fn keep(draft: Self::Draft) -> Self {
+        JoinMap {
+            entries: kept_entries(draft),
+        }
+    }
+
+    fn undo(draft: Self::Draft) -> Self {
+        JoinMap {
+            entries: undone_entries(draft),
         }
     }
 }

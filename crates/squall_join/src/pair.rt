@@ -37,9 +37,13 @@ impl<A: Join, B: Join> Join for Pair<A, B> {
 
     ghost laws = { pair_laws A.laws B.laws };
 
-    type Ready = Pair<A::Ready, B::Ready>;
+    type Draft = Pair<A::Draft, B::Draft>;
 
-    ghost is_ready = { λ x y ready. A.is_ready x.first y.first ready.first × B.is_ready x.second y.second ready.second };
+    ghost is_draft = { λ d. A.is_draft d.first × B.is_draft d.second };
+
+    ghost before = { λ d. pair_of (A.before d.first) (B.before d.second) };
+
+    ghost after = { λ d. pair_of (A.after d.first) (B.after d.second) };
 
     fn known(&self) {
         self.first.known();
@@ -75,9 +79,9 @@ impl<A: Join, B: Join> Join for Pair<A, B> {
         })
     }
 
-    /// Joins one half in place if the other half of the argument is the least value. Else it makes
-    /// the join of the first halves ready, and joins them once the second halves are joined. So
-    /// both halves are joined, or neither is.
+    /// Joins one half in place if the other half of the argument is the least value. Else it drafts
+    /// the join of the first halves, and keeps it if the second halves are joined. So both halves
+    /// are joined, or neither is.
     fn join_in(&mut self, alloc: Global, other: &Pair<A, B>) -> Result<(), AllocError> {
         if other.second.is_bottom() {
             self.second.known();
@@ -87,22 +91,42 @@ impl<A: Join, B: Join> Join for Pair<A, B> {
             self.first.known();
             return self.second.join_in(alloc, &other.second);
         }
-        let first = self.first.make_ready(alloc, &other.first)?;
-        self.second.join_in(alloc, &other.second)?;
-        self.first.join_ready(&other.first, first);
-        Ok(())
+        let first = self.first.draft_join(alloc, &other.first)?;
+        match self.second.join_in(alloc, &other.second) {
+            Ok(()) => {
+                self.first = A::keep(first);
+                Ok(())
+            }
+            Err(e) => {
+                self.first = A::undo(first);
+                Err(e)
+            }
+        }
     }
 
-    fn make_ready(&self, alloc: Global, other: &Pair<A, B>) -> Result<Self::Ready, AllocError> {
-        Ok(Pair {
-            first: self.first.make_ready(alloc, &other.first)?,
-            second: self.second.make_ready(alloc, &other.second)?,
-        })
+    fn draft_join(&mut self, alloc: Global, other: &Pair<A, B>) -> Result<Self::Draft, AllocError> {
+        let first = self.first.draft_join(alloc, &other.first)?;
+        match self.second.draft_join(alloc, &other.second) {
+            Ok(second) => Ok(Pair { first, second }),
+            Err(e) => {
+                self.first = A::undo(first);
+                Err(e)
+            }
+        }
     }
 
-    fn join_ready(&mut self, other: &Pair<A, B>, ready: Self::Ready) {
-        self.first.join_ready(&other.first, ready.first);
-        self.second.join_ready(&other.second, ready.second);
+    fn keep(draft: Self::Draft) -> Pair<A, B> {
+        Pair {
+            first: A::keep(draft.first),
+            second: B::keep(draft.second),
+        }
+    }
+
+    fn undo(draft: Self::Draft) -> Pair<A, B> {
+        Pair {
+            first: A::undo(draft.first),
+            second: B::undo(draft.second),
+        }
     }
 }
 

@@ -67,16 +67,30 @@ pub(crate) fn value_at<K: MapKey, V: Join>(entries: &[(K, V)], key: K, at: usize
     }
 }
 
+/// The index of the key, or as an error the index at which it would be inserted, if `at` entries
+/// have smaller keys.
+pub(crate) fn settle<K: MapKey, V: Join>(
+    entries: &[(K, V)],
+    key: K,
+    at: usize,
+) -> Result<usize, usize>
+    requires sorted { T (is_sorted K.cmp entries.now) }
+    requires place { IsPlace K.cmp entries.now key at }
+    ensures found { IfOk result (IsAt K.cmp entries.now key) }
+    ensures absent { IfErr result (IsGap K.cmp entries.now key) }
+{
+    if at < entries.len() && entries[at].0.cmp(&key).is_eq() {
+        Ok(at)
+    } else {
+        Err(at)
+    }
+}
+
 /// The index of the key, or as an error the index at which it would be inserted.
 pub(crate) fn seek<K: MapKey, V: Join>(entries: &[(K, V)], key: K) -> Result<usize, usize>
     requires { T (is_sorted K.cmp entries.now) }
     ensures found { IfOk result (IsAt K.cmp entries.now key) }
     ensures absent { IfErr result (IsGap K.cmp entries.now key) }
 {
-    let at = place_of(entries, key);
-    if at < entries.len() && entries[at].0.cmp(&key).is_eq() {
-        Ok(at)
-    } else {
-        Err(at)
-    }
+    settle(entries, key, place_of(entries, key))
 }

@@ -8,8 +8,9 @@ ghost use Rattle.squall_join.specs.Units.{key_unit};
 ghost use Rattle.squall_join.specs.BeyondLaws.{set_beyond_laws};
 
 use crate::{Beyond, Join};
-use squall_span::SpanSet;
+use squall_span::{SetDraft, SpanSet};
 use std::alloc::{AllocError, Global};
+use std::mem::replace;
 
 impl Join for SpanSet {
     ghost is_value = { IsSet };
@@ -20,9 +21,13 @@ impl Join for SpanSet {
 
     ghost laws = { set_laws };
 
-    type Ready = SpanSet;
+    type Draft = SetDraft;
 
-    ghost is_ready = { λ x y joined. joined ≡ union x y };
+    ghost is_draft = { λ _. Unit {0} };
+
+    ghost before = { λ d. d.before };
+
+    ghost after = { λ d. d.after };
 
     fn known(&self) {
         SpanSet::known(self);
@@ -56,13 +61,22 @@ impl Join for SpanSet {
         self.add(alloc, other)
     }
 
-    /// The joined set. Contracts see no spare capacity of a set, so what is ready is a whole set.
-    fn make_ready(&self, alloc: Global, other: &SpanSet) -> Result<SpanSet, AllocError> {
-        self.joined(alloc, other)
+    fn draft_join(&mut self, alloc: Global, other: &SpanSet) -> Result<SetDraft, AllocError> {
+        match replace(self, SpanSet::empty(alloc)).draft_add(alloc, other) {
+            Ok(draft) => Ok(draft),
+            Err(unchanged) => {
+                *self = unchanged;
+                Err(AllocError)
+            }
+        }
     }
 
-    fn join_ready(&mut self, _other: &SpanSet, ready: SpanSet) {
-        *self = ready;
+    fn keep(draft: SetDraft) -> SpanSet {
+        draft.keep()
+    }
+
+    fn undo(draft: SetDraft) -> SpanSet {
+        draft.undo()
     }
 }
 

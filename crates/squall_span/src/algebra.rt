@@ -1,12 +1,14 @@
 //! Sets that are made of two, or of one at a bound.
 
-ghost use Rattle.std.specs.Prelude.{◌≡◌, ℕ, ◌&&◌, ◌||◌, not, nat_lt, nat_le, IfOk, OnOk, OnErr};
+ghost use Rattle.std.specs.Prelude.{◌≡◌, ℕ, ◌&&◌, ◌||◌, not, nat_lt, nat_le, IfOk, IfErr, OnOk, OnErr};
 ghost use Rattle.squall_span.specs.Spans.{has, union, minus, meet, keys_below, keys_from};
 ghost use Rattle.squall_span.specs.Within.{HasBeside};
 
 use crate::alone::alone;
 use crate::common::common;
+use crate::draft::{SetDraft, draft_whole};
 use crate::edit::cut;
+use crate::list::listed;
 use crate::near::listed_near;
 use crate::set::SpanSet;
 use crate::span::Span;
@@ -36,7 +38,7 @@ impl SpanSet {
     }
 
     /// The keys of either set, whose spans are merged.
-    fn merged(&self, alloc: Global, other: &SpanSet) -> Result<SpanSet, AllocError>
+    pub(crate) fn merged(&self, alloc: Global, other: &SpanSet) -> Result<SpanSet, AllocError>
         ensures { IfOk result (λ set. set ≡ union self.now other.now) }
     {
         let room = self.len().saturating_add(other.len());
@@ -196,6 +198,22 @@ impl SpanSet {
             [] => Ok(()),
             [span] => self.insert(*span),
             spans => self.add_few(alloc, spans),
+        }
+    }
+
+    /// A draft that adds the keys of the other set: one span, or a few to many, in place, and else
+    /// by the union of both. If an allocation fails, the error is the unchanged set.
+    pub fn draft_add(self, alloc: Global, other: &SpanSet) -> Result<SetDraft, SpanSet>
+        ensures before { IfOk result (λ d. d.before ≡ self) }
+        ensures after { IfOk result (λ d. d.after ≡ union self other.now) }
+        ensures err { IfErr result (λ s. s ≡ self) }
+    {
+        if other.len() > 1 && !self.are_few(other.len()) {
+            return draft_whole(alloc, self, other);
+        }
+        match listed(alloc, other.len(), other.spans()) {
+            Ok(spans) => self.draft_insert_all(spans),
+            Err(_) => Err(self),
         }
     }
 }

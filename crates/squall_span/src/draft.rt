@@ -12,7 +12,7 @@ use crate::set::{SpanSet, Store};
 use crate::span::Span;
 use squall_blocks::{Blocks, Draft};
 use squall_key::Bound;
-use std::alloc::AllocError;
+use std::alloc::{AllocError, Global};
 use std::marker::Model;
 use std::mem::replace;
 
@@ -29,11 +29,12 @@ pub struct SetDraft {
 }
 
 /// An edit, and the spans: in a list that has room for it, or in blocks in which it is made. The
-/// box is that of the blocks, without them.
+/// box is that of the blocks, without them. An edit that makes the set anew keeps both sets.
 #[derive(Drop)]
 enum Pending {
     Few(Vec<Span>, Edit),
     Many(Box<ManySpans>, Draft<Bound>),
+    Whole(SpanSet, SpanSet),
 }
 
 /// An edit of a set.
@@ -243,6 +244,21 @@ fn draft(set: SpanSet, edit: Edit) -> Result<SetDraft, SpanSet>
     }
 }
 
+/// A draft of the union with the other set, which is made anew. If an allocation fails, the error
+/// is the unchanged set.
+pub(crate) fn draft_whole(alloc: Global, set: SpanSet, other: &SpanSet) -> Result<SetDraft, SpanSet>
+    ensures before { IfOk result (λ d. d.before ≡ set) }
+    ensures after { IfOk result (λ d. d.after ≡ union set other.now) }
+    ensures err { IfErr result (λ s. s ≡ set) }
+{
+    match set.merged(alloc, other) {
+        Ok(both) => Ok(SetDraft {
+            pending: Pending::Whole(set, both),
+        }),
+        Err(_) => Err(set),
+    }
+}
+
 impl SpanSet {
     /// A draft that adds the keys of a span. If an allocation fails, the error is the unchanged set.
     pub fn draft_insert(self, span: Span) -> Result<SetDraft, SpanSet>
@@ -285,6 +301,7 @@ impl SetDraft {
                 SpanSet::of_spans(list)
             }
             Pending::Many(room, draft) => set_of(room, draft.keep()),
+            Pending::Whole(_, after) => after,
         }
     }
 
@@ -295,6 +312,7 @@ impl SetDraft {
         match self.pending {
             Pending::Few(list, _) => SpanSet::of_spans(list),
             Pending::Many(room, draft) => set_of(room, draft.undo()),
+            Pending::Whole(before, _) => before,
         }
     }
 }

@@ -77,30 +77,30 @@ fn becomes<J: Join>(rt: &impl Abort, alloc: Global, value: &mut J, other: &J, ap
     holds!(rt; value.same(apart));
 }
 
-/// The value, once the other is joined in with what was made ready, is the join that was made apart.
-fn becomes_by_two_steps<J: Join>(
-    rt: &impl Abort,
-    alloc: Global,
-    value: &mut J,
-    other: &J,
-    apart: &J,
-) {
-    let ready = value.make_ready(alloc, other).expect(rt, "memory");
-    value.join_ready(other, ready);
+/// The join of the other, drafted and undone, leaves the value as it was. Drafted and kept, it is
+/// the join that was made apart.
+fn becomes_by_drafts<J: Join>(rt: &impl Abort, alloc: Global, value: &mut J, other: &J, apart: &J) {
+    let before = value.copied(alloc).expect(rt, "memory");
+    let undone = value.draft_join(alloc, other).expect(rt, "memory");
+    holds!(rt; value.is_bottom());
+    *value = J::undo(undone);
+    holds!(rt; value.same(&before));
+    let kept = value.draft_join(alloc, other).expect(rt, "memory");
+    *value = J::keep(kept);
     holds!(rt; value.same(apart));
 }
 
-/// A copy of the value becomes the join by two steps, and stays it.
-fn alike_by_two_steps<J: Join>(rt: &impl Abort, alloc: Global, value: &J, other: &J, apart: &J) {
+/// A copy of the value becomes the join by a draft, and stays it.
+fn alike_by_drafts<J: Join>(rt: &impl Abort, alloc: Global, value: &J, other: &J, apart: &J) {
     let mut copy = value.copied(alloc).expect(rt, "memory");
-    becomes_by_two_steps(rt, alloc, &mut copy, other, apart);
-    becomes_by_two_steps(rt, alloc, &mut copy, other, apart)
+    becomes_by_drafts(rt, alloc, &mut copy, other, apart);
+    becomes_by_drafts(rt, alloc, &mut copy, other, apart)
 }
 
 /// The join in place is the join made apart.
 fn alike<J: Join>(rt: &impl Abort, alloc: Global, value: &J, other: &J) {
     let apart = value.joined(alloc, other).expect(rt, "memory");
-    alike_by_two_steps(rt, alloc, value, other, &apart);
+    alike_by_drafts(rt, alloc, value, other, &apart);
     let mut copy = value.copied(alloc).expect(rt, "memory");
     becomes(rt, alloc, &mut copy, other, &apart)
 }
@@ -147,13 +147,13 @@ fn spans_in_place(rt: HostRuntime) {
     }
 }
 
-/// Makes a join ready, which changes nothing if an allocation fails, and joins with what is ready.
-fn tries_two_steps<J: Join>(rt: &impl Abort, alloc: Global, value: &mut J, other: &J) {
+/// Drafts a join, which changes nothing if an allocation fails, and keeps it.
+fn tries_drafts<J: Join>(rt: &impl Abort, alloc: Global, value: &mut J, other: &J) {
     let Ok(before) = value.copied(alloc) else {
         return;
     };
-    if let Ok(ready) = value.make_ready(alloc, other) {
-        value.join_ready(other, ready);
+    if let Ok(draft) = value.draft_join(alloc, other) {
+        *value = J::keep(draft);
         holds!(rt; value.covers(other) && value.covers(&before));
     } else {
         holds!(rt; value.same(&before));
@@ -163,7 +163,7 @@ fn tries_two_steps<J: Join>(rt: &impl Abort, alloc: Global, value: &mut J, other
 /// Joins a few cells into the rows.
 fn tries_rows(rt: &impl Abort, alloc: Global, value: &mut Rows) {
     if let Ok(other) = rows(rt, alloc, 4, 5) {
-        tries_two_steps(rt, alloc, value, &other);
+        tries_drafts(rt, alloc, value, &other);
     }
     if let Ok(other) = rows(rt, alloc, 6, 4) {
         tries(rt, alloc, value, &other);
@@ -180,7 +180,7 @@ fn tolerant_join_in_of_rows(rt: HostRuntime) {
 /// Joins two spans into the set.
 fn tries_spans(rt: &impl Abort, alloc: Global, value: &mut SpanSet) {
     if let Ok(other) = spans(rt, alloc, 4, 2) {
-        tries_two_steps(rt, alloc, value, &other);
+        tries_drafts(rt, alloc, value, &other);
     }
     if let Ok(other) = spans(rt, alloc, 6, 2) {
         tries(rt, alloc, value, &other);

@@ -1,6 +1,6 @@
 use Rattle.std.proofs.Common.{sym, subst}
 use Rattle.squall_join.specs.Entries.{IsMap}
-use Rattle.squall_join.proofs.Joining.{map_either_way}
+use Rattle.squall_join.proofs.Drafting.{map_either_way}
 use Rattle.squall_join.proofs.map.JoinMapJoin.join_in.Goals as goal
 
 pub invariant_of-self : goal.invariant_of-self

@@ -1,0 +1,12 @@
+use Rattle.std.proofs.Common.{◌≡◌, vec_len}
+use Rattle.squall_join.specs.Drafts.{IsDrafted, undone}
+use Rattle.squall_join.proofs.draft.undo_parts.Given as goal
+
+abbrev pub invariant-loop-last : goal.invariant-loop-last
+invariant-loop-last g l = record {
+  drafted : IsDrafted g.K.Ord.cmp g.V.Join.before g.V.Join.after g.V.Join.is_draft l.entries.items l.left.items;
+  so_far : undone g.K.Ord.cmp g.V.Join.before g.V.Join.after l.entries.items l.left.items ≡ undone g.K.Ord.cmp g.V.Join.before g.V.Join.after l.fn.entries.items l.fn.parts.items;
+}
+
+abbrev pub decreases-loop-last : goal.decreases-loop-last
+decreases-loop-last g l = vec_len l.left
