@@ -77,15 +77,16 @@ fn finds(rt: &impl Abort, blocks: &Blocks<u16>, plain: &[(u64, u16)], key: u64) 
     found == above && blocks.end_before(bound(rt, key), bound(rt, 0)).rank() == before
 }
 
-/// One replacement between keys below 100,000: of few entries or many, by few or many.
+/// One replacement that begins below a key: of few entries or many, by few or many.
 fn turn(
     rt: &impl Abort,
     alloc: Global,
     blocks: &mut Blocks<u16>,
     plain: &[(u64, u16)],
     state: u64,
+    below: u64,
 ) -> Vec<(u64, u16)> {
-    let from = (state >> 33) % 90000;
+    let from = (state >> 33).checked_rem(below).expect(rt, "a key");
     let wide = if (state >> 20) % 4 == 0 { 20000 } else { 60 };
     let to = from.saturating_add((state >> 40) % wide);
     let few = (state >> 24) % 5;
@@ -106,6 +107,27 @@ fn replacements_in_no_order(rt: HostRuntime) {
     let mut state = 1u64;
     for _ in 0..400u32 {
         state = next(state);
-        plain = turn(&rt, rt.alloc(), &mut blocks, &plain, state);
+        plain = turn(&rt, rt.alloc(), &mut blocks, &plain, state, 90000);
+    }
+}
+
+/// A million entries, in blocks and in a plain list.
+fn million(rt: &impl Abort, alloc: Global) -> Result<(Blocks<u16>, Vec<(u64, u16)>), AllocError> {
+    let entries = row(rt, alloc, 0, 2, 1000000, 7)?;
+    let mut plain = Vec::with_capacity(alloc, entries.len())?;
+    push_fresh(&mut plain, &entries)?;
+    let mut blocks = Blocks::new(alloc);
+    put(rt, alloc, &mut blocks, 0, 2000000, &entries)?;
+    Ok((blocks, plain))
+}
+
+#[test]
+fn replacements_among_a_million(rt: HostRuntime) {
+    let (mut blocks, mut plain) = million(&rt, rt.alloc()).expect(&rt, "memory");
+    holds!(&rt; blocks.len() == 1000000 && is_plain(&blocks, &plain));
+    let mut state = 9u64;
+    for _ in 0..4u32 {
+        state = next(state);
+        plain = turn(&rt, rt.alloc(), &mut blocks, &plain, state, 1980000);
     }
 }
