@@ -1,14 +1,14 @@
 -- What an insert leaves, at the places that a search found.
 use Rattle.std.proofs.Common.{◌≡◌, ℕ, zero, suc, ◌+◌, ◌-◌, ◌<◌, ◌≤◌, max, min, List, [], ◌∷◌, ◌++◌, length, get_or, set, take, drop, refl, sym, ap, subst, ◌∙◌, arith, inl, inr}
 use Rattle.std.proofs.lemmas.Bool.{cases_lt}
-use Rattle.std.proofs.lemmas.List.{get_or_default, take_more_set, drop-set-lt, append_assoc}
+use Rattle.std.proofs.lemmas.List.{get_or_default, take_more_set, drop-set-lt, append_assoc, take-append-drop}
 use Rattle.std.specs.Prelude.{Result, Ok, Err, OnOk, OnErr, ◌||◌}
 use Rattle.squall_key.specs.Keys.{top}
 use Rattle.squall_span.specs.Spans.{Interval, interval, has, span_has, Beyond, IsCanonical, IsSet, hull, insert_span}
 use Rattle.squall_span.specs.SpanLaws.{set-insert, has-insert}
 use Rattle.squall_span.specs.Places.{Apart, Started}
 use Rattle.squall_span.proofs.Merging.{insert_after, insert_touching, insert_before}
-use Rattle.squall_span.proofs.Places.{canonical_at, starts_above}
+use Rattle.squall_span.proofs.Places.{canonical_at, ends_before, starts_above, starts_rise}
 
 apart_tail : (x : Interval) (xs : List Interval) (bound i : ℕ) → Apart (x ∷ xs) bound (suc i) → Apart xs bound i
 apart_tail x xs bound i e = record {
@@ -139,3 +139,44 @@ insert_found s xs i j lo hi h x y p c f lt xi yi hi_is low high =
     let high2 : hi ≡ max s.hi (get_or xs last y).hi = high ∙ ap (λ (t : Interval). max s.hi t.hi) yi in
     ap (λ t. take i xs ++ (t ∷ drop j xs)) (hi_is ∙ (λ m. interval (low2 m) (high2 m))) ∙ ap (λ n. take i xs ++ (interval (min s.lo (get_or xs i x).lo) (max s.hi (get_or xs last y).hi) ∷ drop n xs)) (sym next)
     ∙ insert_over s xs i last x y c p f.apart (subst (Started xs s.hi) (sym next) f.started) (omega arith) (omega (arith, f.within))
+
+-- the place of the last span, if the new one touches it and starts no earlier
+found_last : (s : Interval) (xs : List Interval) (x : Interval) → s.lo < s.hi → IsCanonical xs → 0 < length xs → x ≡ get_or xs (length xs - 1) x → x.lo ≤ s.lo → s.lo ≤ x.hi → Found s xs (length xs - 1) (length xs - 1 + 1)
+found_last s xs x p c some is starts touches =
+    let i = length xs - 1 in
+    let same : (d : Interval) → x ≡ get_or xs i d = λ d. is ∙ get_or_default xs i x d (omega arith) in
+    record {
+      apart = record {
+        within = omega arith;
+        before = λ j d lt.
+            let gap = ends_before xs j i d c lt (omega arith) in
+            let start : x.lo ≡ (get_or xs i d).lo = ap (λ (t : Interval). t.lo) (same d) in
+            omega (arith, gap, start, starts);
+        from = λ j d le lt.
+            let at : j ≡ i = omega arith in
+            let end : x.hi ≡ (get_or xs j d).hi = ap (λ (t : Interval). t.hi) (same d) ∙ ap (λ n. (get_or xs n d).hi) (sym at) in
+            omega (arith, end, touches);
+      };
+      started = record {
+        within = omega arith;
+        before = λ j d lt.
+            let rise = starts_rise xs c j i d (omega arith) (omega arith) in
+            let start : x.lo ≡ (get_or xs i d).lo = ap (λ (t : Interval). t.lo) (same d) in
+            omega (arith, rise, start, starts, p);
+        from = λ j d le lt. absurd (omega arith);
+      };
+      order = omega arith;
+      within = omega arith;
+    }
+
+-- such a span becomes one with the last one
+pub lengthened : (s : Interval) (xs : List Interval) (lo hi : ℕ) (h x : Interval) → s.lo < s.hi → IsCanonical xs → 0 < length xs → x ≡ get_or xs (length xs - 1) x → x.lo ≤ s.lo → s.lo ≤ x.hi → h ≡ interval lo hi → lo ≡ x.lo → hi ≡ max s.hi x.hi
+    → set xs (length xs - 1) h ≡ insert_span s xs
+lengthened s xs lo hi h x p c some is starts touches hi_is low high =
+    let i = length xs - 1 in
+    let f = found_last s xs x p c some is starts touches in
+    let last : x ≡ get_or xs (i + 1 - 1) x = is ∙ ap (λ n. get_or xs n x) (let same : i ≡ i + 1 - 1 = omega arith in same) in
+    let least : lo ≡ min s.lo x.lo = low ∙ (let same : x.lo ≡ min s.lo x.lo = omega arith in same) in
+    sym (take-append-drop (i + 1) (set xs i h))
+    ∙ become_one xs i (i + 1) h (omega arith) (omega arith)
+    ∙ insert_found s xs i (i + 1) lo hi h x x p c f (omega arith) is last hi_is least high

@@ -94,7 +94,7 @@ last_apart xs bound x c some is lt = record {
 }
 
 -- a span ends before the next one starts
-ends_before : (xs : List Interval) (i j : ℕ) (d : Interval) → IsCanonical xs → i < j → j < length xs → (get_or xs i d).hi < (get_or xs j d).lo
+pub ends_before : (xs : List Interval) (i j : ℕ) (d : Interval) → IsCanonical xs → i < j → j < length xs → (get_or xs i d).hi < (get_or xs j d).lo
 ends_before [] i j d c lt fits = absurd (omega arith)
 ends_before (x ∷ xs) zero zero d c lt fits = absurd (omega arith)
 ends_before (x ∷ xs) zero (suc j) d c lt fits = starts_above x.hi xs j d c.1 c.2 (omega arith)

@@ -1,6 +1,6 @@
 //! Edits of the spans of a set.
 
-ghost use Rattle.std.specs.Prelude.{◌≡◌, ◌+◌, ◌<◌, ◌≤◌, ◌++◌, length, take, drop, option_to_list, vec_len, vec_capacity, IfOk, OnOk, OnErr};
+ghost use Rattle.std.specs.Prelude.{◌≡◌, ◌+◌, ◌<◌, ◌≤◌, ◌++◌, length, take, drop, option_to_list, vec_len, vec_capacity, IsTrue, IsFalse, IfOk, OnOk, OnErr};
 ghost use Rattle.std.specs.List.{insert as inserted};
 ghost use Rattle.squall_span.specs.Places.{Ended, IsCut};
 ghost use Rattle.squall_span.specs.Spans.{IsCanonical, IsSet, insert_span, keys_below, keys_from, without_span};
@@ -66,12 +66,36 @@ pub(crate) fn insert_ready(spans: &mut Vec<Span>, span: Span)
     cut_out(spans, from + 1, to);
 }
 
+/// Adds the keys of a span to the last span, if that one starts no later and is touched. Says
+/// whether it did.
+///
+/// A load in chunks makes the last span longer again and again. That takes no search and no memory.
+fn lengthen(spans: &mut Vec<Span>, span: Span) -> bool
+    requires { IsCanonical spans.old.items }
+    ensures yes { IsTrue result → spans.new.items ≡ insert_span span spans.old.items }
+    ensures no { IsFalse result → spans.new.items ≡ spans.old.items }
+{
+    let Some(last) = spans.last() else {
+        return false;
+    };
+    if span.lo() < last.lo() || last.hi() < span.lo() {
+        return false;
+    }
+    let both = Span::between(last.lo(), span.hi().max(last.hi()));
+    let at = spans.len() - 1;
+    spans[at] = both;
+    true
+}
+
 /// Adds the keys of a span.
 pub(crate) fn insert(spans: &mut Vec<Span>, span: Span) -> Result<(), AllocError>
     requires { IsCanonical spans.old.items }
     ensures value { OnOk result (spans.new.items ≡ insert_span span spans.old.items) }
     ensures err { OnErr result (spans.new.items ≡ spans.old.items) }
 {
+    if lengthen(spans, span) {
+        return Ok(());
+    }
     spans.reserve(1)?;
     insert_ready(spans, span);
     Ok(())

@@ -11,7 +11,7 @@ ghost use Rattle.squall_span.specs.SpanLaws.{spans_eq-laws, spans_eq-equivalence
 use crate::edit::{insert, remove};
 use crate::list::{SpanList, listed};
 use crate::many::ManySpans;
-use crate::search::{all_apart, ended};
+use crate::search::ended;
 use crate::span::Span;
 use crate::spans::Spans;
 use crate::walk::{are_same, covers};
@@ -300,13 +300,16 @@ impl SpanSet {
     }
 
     /// Puts the spans into blocks if they are in a list that is too long for the span to be added in
-    /// it. A span behind all others is added at the end of a list, however long it is.
+    /// it. A span that starts where the last one does, or beyond, changes only the end of a list,
+    /// however long it is.
     fn ready_for(&mut self, span: Span) -> Result<(), AllocError>
         ensures { self.new ≡ self.old }
     {
         if let Store::Few(spans) = &self.store {
-            if all_apart(spans, span.lo()) {
-                return Ok(());
+            if let Some(last) = spans.last() {
+                if last.lo() <= span.lo() {
+                    return Ok(());
+                }
             }
         }
         self.spread()
