@@ -73,6 +73,26 @@ fn many_in_any_order(rt: HostRuntime) {
     holds!(&rt; are_all(&rt, &set));
 }
 
+/// Puts the span at a place into the set, in four chunks. The second starts in the first, the third
+/// where the second ends, and the last has been put in before.
+fn put_in_chunks(rt: &impl Abort, set: &mut SpanSet, place: u64) {
+    let lo = place.saturating_mul(10);
+    for (from, to) in [(0u64, 2u64), (1, 4), (4, 6), (2, 3)] {
+        let chunk = span(rt, lo.saturating_add(from), lo.saturating_add(to));
+        set.insert(chunk).expect(rt, "memory");
+    }
+}
+
+#[test]
+fn many_in_chunks(rt: HostRuntime) {
+    let mut set = SpanSet::empty(rt.alloc());
+    for place in 0..MANY {
+        put_in_chunks(&rt, &mut set, place);
+    }
+    look(&rt, &set);
+    holds!(&rt; are_all(&rt, &set));
+}
+
 #[test]
 fn many_in_order(rt: HostRuntime) {
     let set = many(&rt, rt.alloc(), 1);
