@@ -98,6 +98,21 @@ module _ {K V : Type 0} {R : K → K → Ordering} (o : IsTotalOrder R) (es : Li
     no_less_from = λ j d at below. absurd (omega arith);
   }
 
+module _ {K V : Type 0} {R : K → K → Ordering} (o : IsTotalOrder R) (es : List (K × V)) (sorted : T (is_sorted R es)) (key : K) where
+  -- the place of an entry that has the key
+  pub place_at_key : (i : ℕ) (x : K × V) → i < length es → x ≡ get_or es i x → is_eq (R x.0 key) ≡ true → IsPlace R es key i
+  place_at_key i x lt is same = record {
+    in_range = omega arith;
+    less_before = λ j d below. sym (alike_right o (get_or es i d).0 key (get_or es j d).0 (tie d)) ∙ sorted_at o es sorted j i d below lt;
+    no_less_from = λ j d le below e. equal_not_less (sym (tie x) ∙ less_upto o es sorted key j i d x below le e);
+  }
+    where
+      tie : (d : K × V) → R (get_or es i d).0 key ≡ Equal
+      tie d = subst (λ (y : K × V). R y.0 key ≡ Equal) (is ∙ get_or_default es i x d lt) (equal _ same)
+
+      equal_not_less : Equal ≢ Less
+      equal_not_less e = cc
+
 pub place_by_none : {K V : Type 0} (R : K → K → Ordering) (es : List (K × V)) (key : K) (from size : ℕ) → size ≡ 0 → IsAmong R es key from size → IsPlace R es key from
 place_by_none R es key from size e m = record {
   in_range = omega (arith, m.in_range);

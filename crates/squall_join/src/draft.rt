@@ -4,7 +4,8 @@ ghost use Rattle.std.specs.Prelude.{◌≡◌, ◌+◌, ◌<◌, ◌≤◌, T, [
 ghost use Rattle.std.specs.List.{insert as inserted};
 ghost use Rattle.std.specs.FinMap.Entries.{is_sorted, find};
 ghost use Rattle.squall_join.specs.Entries.{merged, IsMap, IsPlace};
-ghost use Rattle.squall_join.specs.Drafts.{later, missing, fresh_of, fresh_count, value_after, entry_before, IsThere, IsValid, IsPartOf, IsDrafted, undone, kept, map_before, map_after, IsMapDraft};
+ghost use Rattle.squall_join.specs.Drafts.{later, missing, fresh_of, fresh_count, value_after, entry_before, IsThere, IsValid};
+ghost use Rattle.squall_join.specs.Drafts.{IsPartOf, IsDrafted, undone, kept, map_before, map_after, IsMapDraft};
 
 use crate::Join;
 use crate::map::MapKey;

@@ -29,6 +29,10 @@ pub trait MapKey: Ord + Copy {
         ensures less { Self.cmp self other ≡ Less → result ≡ step }
         ensures not_less { Self.cmp self other ≢ Less → result ≡ 0 };
 
+    /// How far this key is behind the first key of a map, as a number of keys: its index if no key
+    /// between is absent. A search looks there first, so any number will do.
+    fn steps_from(self, first: Self) -> usize;
+
     /// Keys that tie are equal.
     ghost exact: { CmpEqualImpliesEq Self.cmp };
 }
@@ -40,6 +44,10 @@ impl MapKey for u32 {
     fn step_if_less(self, other: u32, step: usize) -> usize {
         let borrow = u128::from(self).wrapping_sub(u128::from(other)) >> 64;
         step & borrow as usize
+    }
+
+    fn steps_from(self, first: u32) -> usize {
+        self.wrapping_sub(first) as usize
     }
 }
 

@@ -1,6 +1,6 @@
 //! Searches for a key among the entries of a map.
 
-ghost use Rattle.std.specs.Prelude.{T, option_copied, ◌≡◌, IfOk, IfErr};
+ghost use Rattle.std.specs.Prelude.{T, option_copied, ◌≡◌, IfOk, IfErr, IfSome};
 ghost use Rattle.std.specs.FinMap.Entries.{is_sorted, find};
 ghost use Rattle.squall_join.specs.Entries.{IsPlace, IsAmong, IsFrom, IsAt, IsGap};
 
@@ -27,12 +27,33 @@ fn place_among<K: MapKey, V: Join>(entries: &[(K, V)], key: K, low: usize, left:
     from
 }
 
+/// The index of the key, if none is absent between the first key and it. None if one is, or the key
+/// is absent.
+///
+/// Keys mostly follow one another. So this looks where a search, which waits for memory at each step
+/// in a large map, would end.
+fn place_in_row<K: MapKey, V: Join>(entries: &[(K, V)], key: K) -> Option<usize>
+    requires { T (is_sorted K.cmp entries.now) }
+    ensures { IfSome result (IsPlace K.cmp entries.now key) }
+{
+    let first = entries.first()?;
+    let at = key.steps_from(first.0);
+    if at < entries.len() && entries[at].0.cmp(&key).is_eq() {
+        Some(at)
+    } else {
+        None
+    }
+}
+
 /// How many entries have smaller keys.
 pub(crate) fn place_of<K: MapKey, V: Join>(entries: &[(K, V)], key: K) -> usize
     requires { T (is_sorted K.cmp entries.now) }
     ensures { IsPlace K.cmp entries.now key result }
 {
-    place_among(entries, key, 0, entries.len())
+    match place_in_row(entries, key) {
+        Some(at) => at,
+        None => place_among(entries, key, 0, entries.len()),
+    }
 }
 
 /// How many entries have smaller keys, if the first `from` have. It looks from there on by doubled
@@ -42,6 +63,9 @@ pub(crate) fn reach<K: MapKey, V: Join>(entries: &[(K, V)], key: K, from: usize)
     requires from { IsFrom K.cmp entries.now key from }
     ensures { IsPlace K.cmp entries.now key result }
 {
+    if let Some(at) = place_in_row(entries, key) {
+        return at;
+    }
     let mut low = from;
     while low < entries.len() {
         let step = (low - from).min(entries.len() - 1 - low);

@@ -7,7 +7,7 @@ mod shared;
 mod tolerant;
 mod updates;
 
-use squall_join::{Beyond, Flag, Flat, Join, JoinMap, Max, Pair};
+use squall_join::{Beyond, Flag, Flat, Join, JoinMap, MapKey, Max, Pair};
 use squall_key::Bound;
 use squall_span::{Span, SpanSet};
 use std::alloc::{AllocError, Global};
@@ -159,6 +159,18 @@ fn look_at_entries(rt: &impl Abort, joined: &JoinMap<u32, Max>) {
 fn maps(rt: HostRuntime) {
     let joined = map(rt.alloc(), &[(4, 1), (1, 2), (7, 0), (1, 3), (1, 1)]).expect(&rt, "memory");
     look_at_entries(&rt, &joined);
+}
+
+/// A look-up finds keys that follow one another, keys that do not, and no other.
+#[test]
+fn keys_in_a_row_and_apart(rt: HostRuntime) {
+    let entries = [(7, 1), (8, 1), (9, 1), (12, 1), (20, 1)];
+    let map = map(rt.alloc(), &entries).expect(&rt, "memory");
+    for key in 0..32u32 {
+        holds!(&rt; map.get(&key).is_some() == matches!(key, 7 | 8 | 9 | 12 | 20));
+    }
+    holds!(&rt; map.get(&u32::MAX).is_none());
+    holds!(&rt; 9u32.steps_from(7) == 2);
 }
 
 /// Whether the entries of the first list have these beyond the map.
