@@ -1,6 +1,6 @@
 //! Reports.
 
-ghost use Rattle.std.specs.Prelude.{◌≡◌, true};
+ghost use Rattle.std.specs.Prelude.{◌≡◌, true, IfOk};
 ghost use Rattle.std.specs.Arc.{arc_value};
 ghost use Rattle.squall_report.specs.Facts.{is_opening, is_report, loaded_of, done_of, opened_of, issued_of, kind_with};
 
@@ -8,7 +8,7 @@ use crate::{CellId, Issue};
 use squall_join::Shared;
 use squall_key::PART_LIMIT;
 use squall_span::Span;
-use std::alloc::Global;
+use std::alloc::{AllocError, Global};
 use std::marker::Model;
 use std::sync::Arc;
 
@@ -123,6 +123,33 @@ impl Report {
             issue: Shared::new(issue),
         };
         Some(Report { kind })
+    }
+
+    /// A copy of the report. An issue is not copied, and has one more owner then. An error means that
+    /// the count of its owners is full.
+    pub fn copied(&self) -> Result<Report, AllocError>
+        ensures value { IfOk result (λ r. r ≡ self.now) }
+    {
+        let kind = match self.kind() {
+            ReportKind::Loaded {
+                number,
+                sub,
+                part,
+                span,
+            } => ReportKind::Loaded {
+                number,
+                sub,
+                part,
+                span,
+            },
+            ReportKind::Done { number, sub, part } => ReportKind::Done { number, sub, part },
+            ReportKind::Opened { number, sub } => ReportKind::Opened { number, sub },
+            ReportKind::Issued { number, issue } => ReportKind::Issued {
+                number,
+                issue: Shared::new(Arc::try_clone(issue)?),
+            },
+        };
+        Ok(Report { kind })
     }
 
     /// What the report says. An issue is lent, and stays the report's own.

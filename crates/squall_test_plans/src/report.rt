@@ -101,42 +101,42 @@ fn look_at_load(rt: &impl Abort, load: &Report, wanted: Span) {
 fn kind_of_a_load(rt: HostRuntime) {
     let span = span("2:0", "3:0").expect(&rt, "a span");
     let load = Report::loaded(4294967295, 9999, 9999, span).expect(&rt, "load");
-    look_at_load(&rt, &load, span)
+    look_at_load(&rt, &load, span);
+    let copy = load.copied().expect(&rt, "a copy");
+    look_at_load(&rt, &copy, span)
 }
 
-/// Whether the report of the completion of partition 4 in sub-plan 2 of number 1 says so.
-fn completion_is_told() -> bool {
-    match Report::done(1, 2, 4) {
-        Some(done) => matches!(
-            done.kind(),
-            ReportKind::Done {
-                number: 1,
-                sub: 2,
-                part: 4
-            }
-        ),
-        None => false,
-    }
+/// Whether the report says that partition 4 is done in sub-plan 2 of number 1.
+fn tells_completion(report: &Report) -> bool {
+    matches!(
+        report.kind(),
+        ReportKind::Done {
+            number: 1,
+            sub: 2,
+            part: 4
+        }
+    )
 }
 
-/// Whether the report of the opening of the last sub-plan of number 1 says so.
-fn opening_is_told() -> bool {
-    match Report::opened(1, 9999) {
-        Some(opened) => matches!(
-            opened.kind(),
-            ReportKind::Opened {
-                number: 1,
-                sub: 9999
-            }
-        ),
-        None => false,
-    }
+/// Whether the report says that the last sub-plan of number 1 is opened.
+fn tells_opening(report: &Report) -> bool {
+    matches!(
+        report.kind(),
+        ReportKind::Opened {
+            number: 1,
+            sub: 9999
+        }
+    )
 }
 
 #[test]
 fn kinds_of_completions_and_openings(rt: HostRuntime) {
-    holds!(&rt; completion_is_told());
-    holds!(&rt; opening_is_told());
+    let done = Report::done(1, 2, 4).expect(&rt, "a completion");
+    holds!(&rt; tells_completion(&done) && !tells_opening(&done));
+    let opened = Report::opened(1, 9999).expect(&rt, "an opening");
+    holds!(&rt; tells_opening(&opened) && !tells_completion(&opened));
+    holds!(&rt; tells_completion(&done.copied().expect(&rt, "a copy")));
+    holds!(&rt; tells_opening(&opened.copied().expect(&rt, "a copy")));
 }
 
 /// Whether the plan is that of the text.
@@ -189,7 +189,10 @@ fn issues(rt: HostRuntime) {
     look_at_equal(&rt, rt.alloc(), &forth);
     copies_one_way(&rt, rt.alloc(), &forth);
     let issued = Report::issued(2, forth).expect(&rt, "issue");
-    look_at_issue(&rt, rt.alloc(), &issued)
+    look_at_issue(&rt, rt.alloc(), &issued);
+    let copy = issued.copied().expect(&rt, "a copy");
+    drop(issued);
+    look_at_issue(&rt, rt.alloc(), &copy)
 }
 
 /// An issue has both plans, or there is none.
