@@ -32,6 +32,6 @@ mod sender;
 mod taker;
 
 pub use constants::Constants;
-pub use letter::{Letter, Parcel};
+pub use letter::{Letter, News, Parcel};
 pub use sender::{Full, Sender, Spent};
 pub use taker::Taker;
