@@ -6,7 +6,7 @@ ghost use Rattle.squall_router.specs.Routers.{router_with};
 
 use crate::track::Prefix;
 use left_right::Absorb;
-use squall_cluster_inbox::Letter;
+use squall_cluster_inbox::{Letter, News};
 use squall_router::Router;
 use std::alloc::AllocError;
 
@@ -32,7 +32,10 @@ impl Absorb<Entry> for Shown {
     ghost applied = { λ t x. (router_with t.0.first (board_join t.0.board x.letter), x.prefix) };
 
     fn absorb_first(&mut self, operation: &Entry, _other: &Shown) -> Result<(), AllocError> {
-        self.router.absorb(operation.letter.delta())?;
+        match operation.letter.news() {
+            News::Delta(delta) => self.router.absorb(delta)?,
+            News::Report(report) => self.router.take(report)?,
+        }
         self.prefix = operation.prefix.again();
         Ok(())
     }
