@@ -10,23 +10,22 @@ use crate::gate::{Actor, Gate, Steps};
 use crate::halt::{Off, Stop};
 use crate::shared::Shared;
 use squall_cluster_inbox::{Constants, Full, Letter, Sender, Spent};
-use squall_delta::delta_of;
 use squall_report::Report;
-use std::alloc::{AllocError, Global};
+use std::alloc::AllocError;
 use std::snapshot::Snapshot;
 use std::sync::Wait;
 use std::thread;
 use std::thread::{Promise, Threads};
 
-/// The letter that brings one report. It fails (memory).
-fn letter_of(alloc: Global, report: &Report) -> Result<Letter, AllocError>
+/// The letter that brings one report. It fails if the report is an issue whose count of owners is
+/// full.
+fn letter_of(report: &Report) -> Result<Letter, AllocError>
     ensures value { IfOk result (λ l. l ≡ report_board report.now) }
     ensures taken { IfOk result (λ l. HasTaken l (report.now ∷ [])) }
     ensures board { IfOk result IsBoard }
 {
-    let delta = delta_of(alloc, report)?;
-    delta.known();
-    Ok(Letter::new(delta))
+    let report = report.copied()?;
+    Ok(Letter::of(report))
 }
 
 /// Leaves the processor to other threads that many times. It answers how many times to do so if the
@@ -78,7 +77,7 @@ fn post_all<K: Constants, G: Gate, R: Wait>(
     ensures ok { OnOk result (Bring sender.new.posted list.now) }
 {
     for report in list {
-        let Ok(letter) = letter_of(shared.alloc, report) else {
+        let Ok(letter) = letter_of(report) else {
             return Err(shared.stop(Stop::NoMemory));
         };
         post_one(shared, &mut steps, sender, letter)?;
