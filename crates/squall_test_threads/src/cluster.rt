@@ -58,22 +58,28 @@ fn letter(alloc: Global, report: &Report) -> Option<Letter> {
     Some(Letter::new(board))
 }
 
-/// The letter of the load. None if an allocation fails.
+/// The letter with the board of the load. None if an allocation fails.
 pub(crate) fn load_letter(alloc: Global) -> Option<Letter> {
     let report = load()?;
     letter(alloc, &report)
 }
 
-/// The letter of the completion. None if an allocation fails.
-fn done_letter(alloc: Global) -> Option<Letter> {
+/// The letter of the load alone.
+pub(crate) fn load_alone() -> Option<Letter> {
+    let report = load()?;
+    Some(Letter::of(report))
+}
+
+/// The letter of the completion alone.
+fn done_letter() -> Option<Letter> {
     let report = done()?;
-    letter(alloc, &report)
+    Some(Letter::of(report))
 }
 
 /// The letter of the load, and that of the completion. None if an allocation fails.
 fn two_letters(alloc: Global) -> Option<(Letter, Letter)> {
     let first = load_letter(alloc)?;
-    let second = done_letter(alloc)?;
+    let second = done_letter()?;
     Some((first, second))
 }
 

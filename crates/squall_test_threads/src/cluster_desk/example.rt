@@ -4,7 +4,7 @@ ghost use Rattle.std.specs.Prelude.{◌≡◌, [], None};
 ghost use Rattle.squall_cluster_inbox.specs.Letters.{IsLetter};
 ghost use Rattle.squall_cluster_desk.specs.Start.{IsStartOf};
 
-use crate::cluster::{empty_origin, load_letter};
+use crate::cluster::{empty_origin, load_alone, load_letter};
 use squall_cluster_desk::{Places, Publisher, Seat, Start};
 use squall_cluster_inbox::{Constants, Letter};
 use squall_key::{Key, PartId};
@@ -32,18 +32,17 @@ fn sees_what_is_published<K: Constants, R: Abort + Wait>(
     Ok(())
 }
 
-/// The same with a seat of these places, and the letter of the load.
+/// The same with a seat of these places.
 fn sees_the_load<K: Constants, R: Abort + Wait>(
     rt: &R,
-    alloc: Global,
     publisher: &mut Publisher<K, &R>,
     places: &Places<K>,
+    letter: Letter,
 ) -> Result<(), Fail>
     requires hand { publisher.old.hand ≡ [] }
     requires allowed { K.allowed ≡ None }
 {
     let mut seat = places.seat().ok().ok_or("a seat")?;
-    let letter = load_letter(alloc).ok_or("a letter")?;
     letter.known();
     sees_what_is_published(rt, publisher, &mut seat, letter)
 }
@@ -53,16 +52,25 @@ fn shows_the_load<K: Constants, R: Abort + Wait>(
     rt: &R,
     alloc: Global,
     start: Start,
+    letter: Letter,
 ) -> Result<(), Fail>
     requires start { IsStartOf K.book K.first K.opening start }
     requires allowed { K.allowed ≡ None }
 {
     let (mut publisher, places) = Publisher::<K, &R>::open(rt, alloc, start, 1)?;
-    sees_the_load(rt, alloc, &mut publisher, &places)
+    sees_the_load(rt, &mut publisher, &places, letter)
 }
 
 #[test]
-fn load_published(rt: HostRuntime) -> Result<(), Fail> {
+fn board_published(rt: HostRuntime) -> Result<(), Fail> {
     let origin = empty_origin(rt.alloc()).ok_or("an origin")?;
-    shows_the_load::<Brand, _>(&rt, rt.alloc(), origin.start())
+    let letter = load_letter(rt.alloc()).ok_or("a letter")?;
+    shows_the_load::<Brand, _>(&rt, rt.alloc(), origin.start(), letter)
+}
+
+#[test]
+fn report_published(rt: HostRuntime) -> Result<(), Fail> {
+    let origin = empty_origin(rt.alloc()).ok_or("an origin")?;
+    let letter = load_alone().ok_or("a letter")?;
+    shows_the_load::<Brand, _>(&rt, rt.alloc(), origin.start(), letter)
 }
