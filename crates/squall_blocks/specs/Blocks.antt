@@ -5,11 +5,11 @@ use Rattle.squall_blocks.specs.Entries.{RiseFrom, last_from, beyond, up_to}
 
 -- the most entries of a block
 abbrev pub most : ℕ
-most = 256
+most = 128
 
 -- neighbours with at most this many entries together are made one block
 abbrev pub few : ℕ
-few = 128
+few = 64
 
 -- the entries of all blocks
 abbrev pub flat : {V : Type 0} → List (List (ℕ × V)) → List (ℕ × V)

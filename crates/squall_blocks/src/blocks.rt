@@ -14,12 +14,12 @@ use std::alloc::{AllocError, Global};
 use std::marker::Model;
 
 /// The most entries of a block.
-pub(crate) const MOST: usize = 256;
+pub(crate) const MOST: usize = 128;
 
 /// The most entries that each block gets if there are too many for one block.
-const SOME: usize = 192;
+const SOME: usize = 96;
 
-/// Entries by rising end, in blocks of at most 256. The bounds at which blocks end are kept beside
+/// Entries by rising end, in blocks of at most 128. The bounds at which blocks end are kept beside
 /// them, so a search looks into one block alone.
 ///
 /// Contracts see one list of all entries.

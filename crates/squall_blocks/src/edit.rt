@@ -13,7 +13,7 @@ use squall_key::Bound;
 use std::alloc::{AllocError, Global};
 
 /// Two neighbours with at most this many entries together are made one block.
-const FEW: usize = 128;
+const FEW: usize = 64;
 
 /// The places of an edit: the blocks `first` and `end` of the first and the last entry that goes.
 /// Of the one block the entries before `start` stay, of the other those from `stop` on.
