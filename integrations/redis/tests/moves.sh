@@ -200,7 +200,8 @@ test_node() {
   done 2> /dev/null
   wait "$moving" || return
   echo "the node was killed $kills times"
-  [ "$kills" -gt 5 ] || return
+  # On a machine with much other work a node takes most of a second until its board is there.
+  [ "$kills" -gt 2 ] || { echo "too few to show anything"; return 1; }
   await has_board_of 2 || return
   kill -KILL "$node"
   wait "$node"
