@@ -186,7 +186,8 @@ test_node() {
   set_program && deploy || return
   for key in $(seq 330 2 670); do echo "set $key:0 x"; done | redis-cli -p "${proxies[0]}" > "$run/set"
   run_node
-  start_move 2 old new --chunk 2 --pause 50
+  # On a machine with much other work a node takes more than a second until its board is there, so the move is slow.
+  start_move 2 old new --chunk 2 --pause 150
   moving=$id
   while kill -0 "$moving" 2> /dev/null; do
     sleep "0.0$((RANDOM % 90 + 10))"
@@ -200,8 +201,7 @@ test_node() {
   done 2> /dev/null
   wait "$moving" || return
   echo "the node was killed $kills times"
-  # On a machine with much other work a node takes most of a second until its board is there.
-  [ "$kills" -gt 2 ] || { echo "too few to show anything"; return 1; }
+  [ "$kills" -gt 5 ] || { echo "too few to show anything"; return 1; }
   await has_board_of 2 || return
   kill -KILL "$node"
   wait "$node"
