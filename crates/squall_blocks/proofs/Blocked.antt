@@ -25,6 +25,11 @@ pub length-lasts_of : {V : Type 0} (bs : List (List (ℕ × V))) → length (las
 length-lasts_of [] = refl
 length-lasts_of (b ∷ bs) = ap suc (length-lasts_of bs)
 
+pub first_at : {X : Type 0} (xs : List X) (n : ℕ) → slice_get (drop n xs) 0 ≡ slice_get xs n
+first_at xs zero = refl
+first_at [] (suc n) = refl
+first_at (x ∷ xs) (suc n) = first_at xs n
+
 -- ---- the ends of blocks rise
 
 last_above_at : {V : Type 0} (b : ℕ) (bs : List (List (ℕ × V))) (j : ℕ) → AreFull bs → RiseFrom b (flat bs) → j < length (lasts_of bs) → b ≤ slice_index (lasts_of bs) j

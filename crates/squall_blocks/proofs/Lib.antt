@@ -7,3 +7,4 @@ mod Turned
 mod Joining
 mod Undoing
 mod Counted
+mod Preparing

@@ -6,7 +6,7 @@ use Rattle.std.proofs.lemmas.Bool.{cases_lt}
 use Rattle.std.proofs.lemmas.List.{get_or_read, nil_from_length, set_split, drop_more}
 use Rattle.squall_key.specs.Search.{Rises, IsSought}
 use Rattle.squall_blocks.specs.Entries.{RiseFrom, last_from, beyond, up_to, replaced}
-use Rattle.squall_blocks.specs.Blocks.{most, flat, lasts_of, AreFull, AreBlocks, IsNear, IsEdit, IsReady}
+use Rattle.squall_blocks.specs.Blocks.{most, flat, lasts_of, AreFull, AreBlocks, IsNear, IsEdit}
 use Rattle.squall_blocks.specs.EntriesLaws.{up_to_first, up_to_next, rise_front, rise_back, rise_weaker, last_any, beyond_none, beyond_some, up_to_all, up_to_some}
 use Rattle.squall_blocks.proofs.Blocked.{flat-append, lasts_of-append, full-append, length-lasts_of, lasts_rise}
 
@@ -51,6 +51,10 @@ near_beyond b k (x ∷ bs) (suc m) f r h =
     let past : last_from b x ≤ k = (let e = last_any b 0 x f.0 in let l = h.before 0 (omega arith) in omega (arith, e, l)) in
     beyond_none b k x (flat bs) (rise_front b x (flat bs) r) past
     ∙ near_beyond (last_from b x) k bs m f.2 (rise_back b x (flat bs) r) (near_tail (last_from 0 x) (lasts_of bs) k m h)
+
+-- the blocks before one that is near a key end before a later key, too
+pub before_later : (ls ms : List ℕ) (a b m : ℕ) → ls ≡ ms → a ≤ b → IsNear ls a m → (j : ℕ) → j < m → slice_index ms j ≤ b
+before_later ls ms a b m e le h = subst (λ (l : List ℕ). (j : ℕ) → j < m → slice_index l j ≤ b) e (λ j lt. (let x = h.before j lt in omega (arith, x, le)))
 
 -- ---- parts of blocks
 
@@ -126,7 +130,7 @@ edit_blocks ls ks ms bs ps cs fresh a b m e n o p h l f q ne k c r = record {
 
 -- ---- one block for another
 
-one_is : {X : Type 0} (xs ys : List X) (m n : ℕ) (x : X) → m < length xs → n ≡ m + 1 → ys ≡ set xs m x → ys ≡ splice xs m n (x ∷ [])
+pub one_is : {X : Type 0} (xs ys : List X) (m n : ℕ) (x : X) → m < length xs → n ≡ m + 1 → ys ≡ set xs m x → ys ≡ splice xs m n (x ∷ [])
 one_is xs ys m n x lt e is = let next : suc m ≡ n = omega (arith, e) in is ∙ set_split xs m x lt ∙ ap (λ k. take m xs ++ x ∷ drop k xs) next
 
 -- a block edited in its place
@@ -200,7 +204,7 @@ in_order bs x y a b m e o p me lt xs ys le ups upt ox py =
     let fits : p ≤ length x = (let n = ap length same in omega (arith, n, py)) in
     (places_rise a b o p x le ups (subst (λ t. up_to b t ≡ take p t) same upt) ox fits, fits)
 
-length-splice : {X : Type 0} (xs f : List X) (m n : ℕ) → m ≤ n → n ≤ length xs → length (splice xs m n f) ≡ length xs - (n - m) + length f
+pub length-splice : {X : Type 0} (xs f : List X) (m n : ℕ) → m ≤ n → n ≤ length xs → length (splice xs m n f) ≡ length xs - (n - m) + length f
 length-splice xs f m n le within =
     let a = length-append (take m xs) (f ++ drop n xs) in
     let b = length-append f (drop n xs) in
@@ -246,21 +250,6 @@ pub block_some : {V : Type 0} (bs : List (List (ℕ × V))) (m : ℕ) → AreFul
 block_some [] m f lt = absurd (omega arith)
 block_some (b ∷ bs) zero f lt = f.0
 block_some (b ∷ bs) (suc m) f lt = block_some bs m f.2 (omega arith)
-
--- ---- an edit that is prepared
-
-pub ready_by : {V : Type 0} (ls ls' ks : List ℕ) (bs bs' ps : List (List (ℕ × V))) (fresh : List (ℕ × V)) (a b m e o p : ℕ) → IsEdit ls bs a b m e o p → ls' ≡ ls → bs' ≡ bs → ks ≡ lasts_of ps → AreFull ps
-    → flat ps ≡ take o (get_or bs m []) ++ (fresh ++ drop p (get_or bs e [])) → RiseFrom 0 (replaced a b fresh (flat bs)) → IsReady ls' bs' ks ps m (e + 1)
-ready_by ls ls' ks bs bs' ps fresh a b m e o p h le be l f q r =
-    let n = count_of ls bs h.blocks in
-    let ready : IsReady ls bs ks ps m (e + 1) = record {
-      now_blocks = h.blocks;
-      next_blocks = edit_blocks ls ks (splice ls m (e + 1) ks) bs ps (splice bs m (e + 1) ps) fresh a b m e (e + 1) o p h l f q refl refl refl r;
-      order = omega (arith, h.order);
-      keys = omega (arith, h.last.within);
-      items = omega (arith, h.last.within, n);
-    } in
-    subst (λ t. IsReady t bs' ks ps m (e + 1)) (sym le) (subst (λ t. IsReady ls t ks ps m (e + 1)) (sym be) ready)
 
 pub some_blocks : {V : Type 0} (bs : List (List (ℕ × V))) → 0 < length (flat bs) → 0 < length bs
 some_blocks [] lt = lt

@@ -63,10 +63,14 @@ pub record IsIter {V : Type 0} (ends : List ℕ) (values : List V) (behind : Lis
   pub full : AreFull behind
   pub last : length ends ≡ 0 → length behind ≡ 0
 
--- blocks, and those that come in place of others when a prepared edit is made
-pub record IsReady {V : Type 0} (ls : List ℕ) (bs : List (List (ℕ × V))) (ks : List ℕ) (ps : List (List (ℕ × V))) (m n : ℕ) : Type 0 where
-  pub now_blocks : AreBlocks ls bs
-  pub next_blocks : AreBlocks (splice ls m n ks) (splice bs m n ps)
-  pub order : m ≤ n
-  pub keys : n ≤ length ls
-  pub items : n ≤ length bs
+-- the blocks with another one at a place
+abbrev pub put : {V : Type 0} → List (List (ℕ × V)) → ℕ → List (ℕ × V) → List (List (ℕ × V))
+put bs m b = splice bs m (m + 1) (b ∷ [])
+
+-- Blocks with an edit that is prepared. The block at m is out of its place: b is what it has, and c what it has after the edit. With
+-- either of them in its place they are blocks
+pub record IsPrepared {V : Type 0} (ls : List ℕ) (bs : List (List (ℕ × V))) (m : ℕ) (b c : List (ℕ × V)) : Type 0 where
+  pub before : AreBlocks ls (put bs m b)
+  pub after : AreBlocks (splice ls m (m + 1) (last_from 0 c ∷ [])) (put bs m c)
+  pub within : m < length bs
+  pub some : 0 < length c

@@ -8,7 +8,7 @@ ghost use Rattle.squall_blocks.specs.Blocks.{flat, most, few, joined_at, AreBloc
 use crate::blocks::{Blocks, MOST};
 use crate::entries::Entries;
 use crate::ready::splice_both;
-use crate::search::{End, near};
+use crate::search::{End, near, near_from};
 use squall_key::Bound;
 use std::alloc::{AllocError, Global};
 
@@ -39,7 +39,7 @@ pub(crate) fn places_of<V: Copy>(
     ensures order { result.first ≡ result.end → result.start ≤ result.stop }
 {
     let first = near(lasts, from);
-    let end = near(lasts, to);
+    let end = near_from(lasts, first, to);
     let head = &blocks[first];
     let tail = &blocks[end];
     let start = head.ended(from);
@@ -54,7 +54,7 @@ pub(crate) fn places_of<V: Copy>(
 
 /// Whether an edit stays in one block, of `len` entries. With `more` fresh ones the block is then
 /// neither empty nor too long.
-fn fits(at: Places, len: usize, more: usize) -> bool
+pub(crate) fn fits(at: Places, len: usize, more: usize) -> bool
     requires order { at.first ≡ at.end → at.start ≤ at.stop }
     requires within { at.first ≡ at.end → at.stop ≤ len }
     ensures one { IsTrue result → at.first ≡ at.end }

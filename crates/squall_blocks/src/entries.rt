@@ -1,6 +1,7 @@
 //! Entries, each an end and a value, in one list.
 
-ghost use Rattle.std.specs.Prelude.{◌≡◌, ◌↔◌, ◌+◌, ◌-◌, ◌<◌, ◌≤◌, [], ◌∷◌, ◌++◌, length, take, drop, slice_get, IsTrue, Some, IfOk, OnOk, OnErr};
+ghost use Rattle.std.specs.Prelude.{◌≡◌, ◌↔◌, ◌+◌, ◌-◌, ◌<◌, ◌≤◌, [], ◌∷◌, ◌++◌, length, take, drop, slice_get, IsTrue};
+ghost use Rattle.std.specs.Prelude.{Some, IfSome, IfOk, OnOk, OnErr, option_map};
 ghost use Rattle.std.specs.List.{zip, splice};
 ghost use Rattle.squall_blocks.specs.Entries.{RiseFrom, last_from, beyond, up_to};
 
@@ -60,6 +61,15 @@ impl<V: Copy> Entries<V> {
         ensures { result ≡ zip ends.items values.items }
     {
         Entries { ends, values }
+    }
+
+    /// The ends and the values, with the room that they have.
+    pub(crate) fn into_lists(self) -> (Vec<End>, Vec<V>)
+        ensures same { length result.0.items ≡ length result.1.items }
+        ensures both { zip result.0.items result.1.items ≡ self }
+    {
+        let Entries { ends, values } = self;
+        (ends, values)
     }
 
     /// How many entries there are.
@@ -148,6 +158,21 @@ impl<V: Copy> Entries<V> {
         } else {
             None
         }
+    }
+
+    /// The first entry that ends beyond the key, after the bound at which it begins: the end of the
+    /// entry before it, `least` if there is none.
+    pub(crate) fn whole_above(&self, key: Bound, least: Bound) -> Option<(Bound, (Bound, V))>
+        requires { RiseFrom 0 self.now }
+        ensures begin { IfSome result (λ e. e.0 ≡ last_from least (up_to key self.now)) }
+        ensures entry { option_map (λ e. e.1) result ≡ slice_get (beyond key self.now) 0 }
+    {
+        let at = self.ended(key);
+        if at >= self.len() {
+            return None;
+        }
+        let begin = if at == 0 { least } else { self.at(at - 1).0 };
+        Some((begin, self.at(at)))
     }
 
     /// The bound at which the last entry ends.

@@ -1,6 +1,6 @@
 //! Blocks that are lent for look-ups.
 
-ghost use Rattle.std.specs.Prelude.{◌≡◌, ◌↔◌, ◌-◌, ◌<◌, ◌≤◌, length, slice_get, slice_index, IsTrue};
+ghost use Rattle.std.specs.Prelude.{◌≡◌, ◌↔◌, ◌-◌, ◌<◌, ◌≤◌, length, slice_get, slice_index, IsTrue, IfSome, option_map};
 ghost use Rattle.squall_blocks.specs.Entries.{last_from, beyond, up_to};
 ghost use Rattle.squall_blocks.specs.Blocks.{flat, AreBlocks};
 
@@ -81,6 +81,20 @@ impl<'a, V: Copy> BlocksRef<'a, V> {
             return last;
         }
         self.blocks[at].end_before(key, last)
+    }
+
+    /// The first entry that ends beyond the key, after the bound at which it begins: the end of the
+    /// entry before it, `least` if there is none. It takes one search.
+    pub fn whole_above(&self, key: Bound, least: Bound) -> Option<(Bound, (Bound, V))>
+        ensures begin { IfSome result (λ e. e.0 ≡ last_from least (up_to key self.now)) }
+        ensures entry { option_map (λ e. e.1) result ≡ slice_get (beyond key self.now) 0 }
+    {
+        let at = ended(self.lasts, key);
+        let last = last_before(self.lasts, at, least);
+        if at >= self.blocks.len() {
+            return None;
+        }
+        self.blocks[at].whole_above(key, last)
     }
 
     /// The entries that end beyond the key, by rising end.

@@ -1,8 +1,10 @@
 //! Entries with room for more.
 
-ghost use Rattle.std.specs.Prelude.{◌≡◌, ◌+◌, ◌<◌, [], ◌∷◌, ◌++◌, IfOk};
+ghost use Rattle.std.specs.Prelude.{◌≡◌, ◌+◌, ◌<◌, ◌≤◌, [], ◌∷◌, ◌++◌, length, IfOk, IfErr};
+ghost use Rattle.std.specs.List.{splice};
 
 use crate::entries::Entries;
+use crate::ready::{replace_ready, reserve_both};
 use crate::search::End;
 use squall_key::Bound;
 use std::alloc::{AllocError, Global};
@@ -21,15 +23,18 @@ pub struct ReadyEntries<V: Copy> {
 }
 
 impl<V: Copy> Model for ReadyEntries<V> {
-    ghost use Rattle.std.specs.Prelude.{◌≡◌, ◌-◌, length, vec_len, vec_capacity};
+    ghost use Rattle.std.specs.Prelude.{◌≡◌, ◌-◌, min, length, vec_len, vec_capacity};
     ghost use Rattle.std.specs.List.{zip};
     ghost use Rattle.squall_blocks.specs.Room.{ReadyValue};
 
     ghost Value = { ReadyValue V };
 
-    ghost view = { λ s. record { entries = zip s.ends.items s.values.items; room = vec_capacity s.ends - vec_len s.ends } };
+    ghost view = { λ s. record {
+      entries = zip s.ends.items s.values.items;
+      room = min (vec_capacity s.ends - vec_len s.ends) (vec_capacity s.values - vec_len s.values);
+    } };
 
-    ghost invariant = { λ s. (length s.ends.items ≡ length s.values.items) × (vec_capacity s.ends ≡ vec_capacity s.values) };
+    ghost invariant = { λ s. length s.ends.items ≡ length s.values.items };
 }
 
 impl<V: Copy> ReadyEntries<V> {
@@ -51,6 +56,35 @@ impl<V: Copy> ReadyEntries<V> {
     {
         self.ends.push_reserved(End { bound: end });
         self.values.push_reserved(value);
+    }
+
+    /// The entries with room for `more`. An error means that an allocation failed, and hands the
+    /// entries back.
+    pub(crate) fn of(entries: Entries<V>, more: usize) -> Result<ReadyEntries<V>, Entries<V>>
+        ensures entries { IfOk result (λ r. r.entries ≡ entries) }
+        ensures room { IfOk result (λ r. more ≤ r.room) }
+        ensures err { IfErr result (λ e. e ≡ entries) }
+    {
+        let (ends, values) = entries.into_lists();
+        let mut ends = ends;
+        let mut values = values;
+        match reserve_both(&mut ends, &mut values, more, more) {
+            Ok(()) => Ok(ReadyEntries { ends, values }),
+            Err(_) => Err(Entries::of_lists(ends, values)),
+        }
+    }
+
+    /// Puts the fresh entries in place of those from `first` to `end`. It needs room for them, and
+    /// allocates nothing.
+    pub(crate) fn replace(&mut self, first: usize, end: usize, fresh: &Entries<V>)
+        requires order { first ≤ end }
+        requires within { end ≤ length self.old.entries }
+        requires room { length fresh.now ≤ self.old.room }
+        ensures { self.new.entries ≡ splice self.old.entries first end fresh.now }
+    {
+        let (ends, values) = fresh.lists();
+        replace_ready(&mut self.ends, first, end, ends);
+        replace_ready(&mut self.values, first, end, values);
     }
 
     /// The entries alone. They keep the room that is left.

@@ -1,6 +1,6 @@
 //! Searches among the ends of entries, and among those of blocks.
 
-ghost use Rattle.std.specs.Prelude.{◌≡◌, ◌+◌, ◌-◌, ◌<◌, ◌≤◌, length, slice_index};
+ghost use Rattle.std.specs.Prelude.{◌≡◌, ℕ, ◌+◌, ◌-◌, ◌<◌, ◌≤◌, length, slice_index};
 ghost use Rattle.squall_key.specs.Search.{Rises, IsSought};
 ghost use Rattle.squall_blocks.specs.Blocks.{IsNear};
 
@@ -47,4 +47,18 @@ pub(crate) fn near(lasts: &[End], key: Bound) -> usize
     ensures { IsNear lasts.now key result }
 {
     ended(lasts, key).min(lasts.len() - 1)
+}
+
+/// The block to look into for a key, if all blocks before `first` end at the key or before it. If
+/// that block has the key, no search is needed.
+pub(crate) fn near_from(lasts: &[End], first: usize, key: Bound) -> usize
+    requires rise { Rises (slice_index lasts.now) (length lasts.now) }
+    requires within { first < length lasts.now }
+    requires before { (j : ℕ) → j < first → slice_index lasts.now j ≤ key }
+    ensures { IsNear lasts.now key result }
+{
+    if key.rank() < lasts[first].end().rank() {
+        return first;
+    }
+    near(lasts, key)
 }

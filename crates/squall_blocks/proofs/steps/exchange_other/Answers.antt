@@ -1,4 +1,4 @@
-use Rattle.std.proofs.Common.{rules, ◌≡◌, ◌+◌, ◌-◌, ◌≤◌, ◌∙◌, ap, sym, arith, length, take, drop}
+use Rattle.std.proofs.Common.{rules, ◌≡◌, ◌+◌, ◌-◌, ◌∙◌, ap, sym, arith, length, take, drop}
 use Rattle.std.specs.List.{splice}
 use Rattle.squall_blocks.proofs.Undoing.{spliced_back, spliced_as, length_spliced, length_part}
 use Rattle.squall_blocks.proofs.steps.exchange_other.Goals as goal

@@ -1,4 +1,4 @@
-use Rattle.std.proofs.Common.{rules, ◌≡◌, ◌+◌, ◌≤◌, ◌∙◌, sym, arith, length, vec_len}
+use Rattle.std.proofs.Common.{rules, ◌≡◌, ◌+◌, ◌∙◌, sym, arith, length, vec_len}
 use Rattle.squall_blocks.proofs.Undoing.{traded}
 use Rattle.squall_blocks.proofs.steps.trade.Goals as goal
 
