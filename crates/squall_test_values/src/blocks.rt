@@ -2,6 +2,7 @@
 
 mod example;
 mod plain;
+mod prepared;
 mod tolerant;
 
 use squall_blocks::{Blocks, Draft, Entries, ReadyEntries};
