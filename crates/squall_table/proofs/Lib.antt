@@ -17,3 +17,4 @@ mod Entered
 mod Walked
 mod Renewed
 mod Renewals
+mod Loaded

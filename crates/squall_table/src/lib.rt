@@ -36,6 +36,7 @@ mod entries;
 mod fresh;
 pub mod laws;
 mod legs;
+mod load;
 mod meter;
 mod near;
 mod news;

@@ -1,6 +1,6 @@
 //! Patches of route tables.
 
-ghost use Rattle.std.specs.Prelude.{◌≡◌, ℕ, ◌<◌, ◌≤◌, ◌+◌, ◌^◌, false, IfOk, OnOk, OnErr};
+ghost use Rattle.std.specs.Prelude.{◌≡◌, ℕ, ◌<◌, ◌≤◌, ◌+◌, ◌^◌, false, [], ◌∷◌, IfOk, OnOk, OnErr};
 ghost use Rattle.squall_key.specs.Keys.{top};
 ghost use Rattle.squall_span.specs.Spans.{has, IsSet};
 ghost use Rattle.squall_plan.specs.Ranges.{owner_of};
@@ -9,15 +9,17 @@ ghost use Rattle.squall_board.specs.Boards.{board_join, report_board, says};
 ghost use Rattle.squall_table.specs.Tables.{IsTable};
 ghost use Rattle.squall_table.specs.Touched.{WasTable, is_touched};
 ghost use Rattle.squall_table.specs.Reach.{moves_in, reach};
+ghost use Rattle.squall_table.specs.Patching.{ComesTo};
 ghost use Rattle.squall_table.specs.News.{news_board};
 
 use crate::fresh::{know_moves, renew};
+use crate::load::prepare_load;
 use crate::meter::Meter;
 use crate::near::near_count;
 use crate::news::{News, take_news};
 use crate::routes::Heard;
 use crate::runs::renew_and_take;
-use crate::single::{reported_span, touched_span};
+use crate::single::{Brought, reported_load, touched_load};
 use crate::table::RouteTable;
 use crate::touch::{touched, touched_by_report};
 use squall_blocks::{Blocks, Draft};
@@ -114,6 +116,46 @@ impl RouteTable {
         }
     }
 
+    /// The same for a load that one move brings. The edit of the table is prepared, which may fail.
+    /// Then the board takes the news, and at last the edit is made, which cannot fail.
+    fn absorb_load(
+        &mut self,
+        course: &Course,
+        board: &mut Board,
+        news: News,
+        load: Brought,
+    ) -> Result<(), AllocError>
+        requires was { IsTable course.now board.old self.old }
+        requires set { IsSet (load.span ∷ []) }
+        requires keys { (k : ℕ) → has (load.span ∷ []) k ≡ is_touched course.now (says (news_board news)) k }
+        requires comes { ComesTo (moves_of course.now.old course.now.new) load.span load.dest }
+        ensures board { OnOk result (board.new ≡ board_join board.old (news_board news.entry)) }
+        ensures table { OnOk result (IsTable course.now board.new self.new) }
+        ensures err { OnErr result (self.new ≡ self.old) }
+        ensures board_err { OnErr result (board.new ≡ board.old) }
+    {
+        know_moves(course);
+        let spans = [load.span];
+        let none = Blocks::new(self.legs.allocator());
+        let whole = replace(&mut self.legs, none);
+        match prepare_load(whole, course, load) {
+            Ok(ready) => match take_news(board, news) {
+                Ok(()) => {
+                    self.legs = ready.make();
+                    Ok(())
+                }
+                Err(error) => {
+                    self.legs = ready.leave();
+                    Err(error)
+                }
+            },
+            Err(whole) => {
+                self.legs = whole;
+                self.absorb_touched(course, board, news, &spans)
+            }
+        }
+    }
+
     /// Merges the delta into the board whose table this is, and patches the table for what the
     /// delta touches. Both change, or neither if an allocation fails. The table is patched first.
     /// If the merge then fails, the patch is undone, which needs no memory. Neither is ever copied.
@@ -129,8 +171,8 @@ impl RouteTable {
         ensures err { OnErr result (self.new ≡ self.old) }
         ensures board_err { OnErr result (board.new ≡ board.old) }
     {
-        if let Some(span) = touched_span(course, delta) {
-            return self.absorb_touched(course, board, News::Delta(delta), &[span]);
+        if let Some(load) = touched_load(course, delta) {
+            return self.absorb_load(course, board, News::Delta(delta), load);
         }
         let alloc = self.legs.allocator();
         let list = listed(alloc, touched(alloc, course, delta)?)?;
@@ -157,8 +199,8 @@ impl RouteTable {
         ensures err { OnErr result (self.new ≡ self.old) }
         ensures board_err { OnErr result (board.new ≡ board.old) }
     {
-        if let Some(span) = reported_span(course, report) {
-            return self.absorb_touched(course, board, News::Report(report), &[span]);
+        if let Some(load) = reported_load(course, report) {
+            return self.absorb_load(course, board, News::Report(report), load);
         }
         let alloc = self.legs.allocator();
         let list = listed(alloc, touched_by_report(alloc, course, report)?)?;

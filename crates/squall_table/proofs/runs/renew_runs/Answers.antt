@@ -20,11 +20,11 @@ loop-at-init c = (
   none_renewed (route_by_moves c.args.course.now.number c.args.course.now.old (moves_of c.args.course.now.old c.args.course.now.new) (said All)) (legs_from 0 c.args.draft.now.1) c.args.spans.now c.requires.table,
 )
 
-pub renew-requires-clause-table : goal.renew-requires-clause-table
-renew-requires-clause-table c = subst (λ (es : List (ℕ × ℕ)). IsCanonical (legs_from 0 es)) (sym c.lent-table.ensures) (canonical_of_legs _ _ c.loop-at.invariant.2)
+pub renew_run-requires-clause-table : goal.renew_run-requires-clause-table
+renew_run-requires-clause-table c = subst (λ (es : List (ℕ × ℕ)). IsCanonical (legs_from 0 es)) (sym c.lent-table.ensures) (canonical_of_legs _ _ c.loop-at.invariant.2)
 
-pub renew-requires-clause-set : goal.renew-requires-clause-set
-renew-requires-clause-set c = run_is_set c.loop-at.at (c.run_end-end.result - c.loop-at.at) c.args.spans.now c.requires.set
+pub renew_run-requires-clause-set : goal.renew_run-requires-clause-set
+renew_run-requires-clause-set c = run_is_set c.loop-at.at (c.run_end-end.result - c.loop-at.at) c.args.spans.now c.requires.set
 
 pub loop-at-preserved : goal.loop-at-preserved
 loop-at-preserved c =
