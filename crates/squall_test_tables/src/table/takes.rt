@@ -81,7 +81,7 @@ const BEFORE: &str = "1 [0:0,3:0);2 [3:0,5:0);3 [5:0,9:0);4 [9:0,end);";
 const LOADED: &str = "1 [0:0,2:0);3 [2:0,3:0);2 [3:0,5:0);3 [5:0,9:0);4 [9:0,end);";
 
 /// Two reports, and the rows of the table that has taken both.
-const TAKES: [(Said, Said, &str); 7] = [
+const TAKES: [(Said, Said, &str); 10] = [
     (OPENED, OPENED, BEFORE),
     // One move brings all keys of the span, or some of them.
     (OPENED, Said::Load("2:0", "3:0"), LOADED),
@@ -91,6 +91,10 @@ const TAKES: [(Said, Said, &str); 7] = [
         Said::Load("2:5", "2:9"),
         "1 [0:0,2:0);3 [2:0,2:9);1 [2:9,3:0);2 [3:0,5:0);3 [5:0,9:0);4 [9:0,end);",
     ),
+    // The leg of the load joins the one below it, the one above it, or has been there.
+    (Said::Load("2:0", "2:7"), Said::Load("2:7", "3:0"), LOADED),
+    (Said::Load("2:7", "3:0"), Said::Load("2:0", "2:7"), LOADED),
+    (Said::Load("2:0", "3:0"), Said::Load("2:3", "2:7"), LOADED),
     // None of the span goes to partition 3.
     (OPENED, Said::Load("5:0", "9:0"), BEFORE),
     (
