@@ -116,8 +116,8 @@ impl RouteTable {
         }
     }
 
-    /// The same for a load that one move brings. The edit of the table is prepared, which may fail.
-    /// Then the board takes the news, and at last the edit is made, which cannot fail.
+    /// The same for one load, all of whose keys one move brings. The edit of the table is prepared,
+    /// which may fail. Then the board takes the load. Last, the edit is made, which cannot fail.
     fn absorb_load(
         &mut self,
         course: &Course,
@@ -157,8 +157,9 @@ impl RouteTable {
     }
 
     /// Merges the delta into the board whose table this is, and patches the table for what the
-    /// delta touches. Both change, or neither if an allocation fails. The table is patched first.
-    /// If the merge then fails, the patch is undone, which needs no memory. Neither is ever copied.
+    /// delta touches. Both change, or neither if an allocation fails. The patch comes first. If the
+    /// merge then fails, the patch is undone or left out, which needs no memory. Neither is ever
+    /// copied.
     pub fn absorb(
         &mut self,
         course: &Course,
