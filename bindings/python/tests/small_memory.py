@@ -205,7 +205,12 @@ class SmallMemory(unittest.TestCase):
                 self.assertEqual(sees(handle), wanted)
             if is_last:
                 break
-        self.assertGreater(failed, 0)
+        # A load makes up for one refusal: its edit is prepared, and drafted if that gets no memory.
+        if call is not CALLS[0]:
+            self.assertGreater(failed, 0)
+        handle = makes()
+        self.assertTrue(self.fails(-1, partial(call, handle)))
+        self.assertEqual(sees(handle), before)
 
     def test_a_call_that_fails_changes_nothing(self) -> None:
         groups: List[Any] = [
