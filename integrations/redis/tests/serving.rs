@@ -9,7 +9,7 @@ use squall_redis::resp::Value;
 use std::io::Write;
 use std::net::Shutdown;
 use std::thread::sleep;
-use std::time::Duration;
+use std::time::{Duration, Instant};
 
 #[test]
 #[ignore = "needs a proxy"]
@@ -238,6 +238,22 @@ fn too_many_clients_are_refused() {
         }
     }
     assert!((1..30).contains(&refused), "{refused}");
+    drop(clients);
+    until_served();
+}
+
+/// Waits until the proxy serves a new client: it may not have seen yet that others are gone.
+fn until_served() {
+    let began = Instant::now();
+    loop {
+        let mut client = Client::new();
+        client.stream.write_all(&command("PING")).ok();
+        if client.hear().is_some_and(|reply| reply == b"+PONG\r\n") {
+            return;
+        }
+        assert!(began.elapsed() < Duration::from_secs(60), "no client is served");
+        sleep(Duration::from_millis(5));
+    }
 }
 
 #[test]
