@@ -59,7 +59,16 @@ is_set id rows = option_map_or (λ value. bytes_eq value (codes "true")) (first_
 abbrev pub form_in : List Row → Form
 form_in rows = if is_set (codes "json") rows then Json else Lines
 
--- what a command's name and entries ask of board files: nothing if it is another command
+-- what a command's name and entries ask of boards as frames: nothing if it is another command
+abbrev pub exchange_in : Text → List Row → Option Inquiry
+exchange_in name rows =
+    if bytes_eq name (codes "merge") then Some Merge
+    else (if bytes_eq name (codes "beyond") then Some (if is_set (codes "quiet") rows then Cover else Beyond)
+    else (if bytes_eq name (codes "digest") then Some Digest
+    else (if bytes_eq name (codes "repair") then Some Repair
+    else None)))
+
+-- what they ask of board files: nothing if it is another command
 abbrev pub inquiry_in : Text → List Row → Option Inquiry
 inquiry_in name rows =
     if bytes_eq name (codes "report") then Some Report
@@ -68,11 +77,7 @@ inquiry_in name rows =
     else (if bytes_eq name (codes "picture") then Some Picture
     else (if bytes_eq name (codes "route") then Some Routes
     else (if bytes_eq name (codes "legs") then Some (Legs (form_in rows))
-    else (if bytes_eq name (codes "merge") then Some Merge
-    else (if bytes_eq name (codes "beyond") then Some (if is_set (codes "quiet") rows then Cover else Beyond)
-    else (if bytes_eq name (codes "digest") then Some Digest
-    else (if bytes_eq name (codes "repair") then Some Repair
-    else None)))))))))
+    else exchange_in name rows)))))
 
 -- the arguments of an inquiry that are no files: the words of a report, keys or bounds
 abbrev pub word_arguments : Inquiry → List Text

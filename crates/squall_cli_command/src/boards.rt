@@ -1,7 +1,7 @@
 //! The commands about reports and boards, with their help, as `clap` reads them.
 
 ghost use Rattle.std.specs.Prelude.{◌≡◌, IfOk, false, codes};
-ghost use Rattle.clap.specs.Words.{shape_of, rule_of};
+ghost use Rattle.clap.specs.Words.{app_of, new_app, shape_of, rule_of};
 ghost use Rattle.clap.specs.declared.builder.command.Command.TheViews.{out-Command as fields_of};
 ghost use Rattle.squall_cli_command.specs.Rules.{words_rule, files_rule, flag_rule};
 ghost use Rattle.squall_cli_command.specs.Asking.{report_shape, board_shape, merge_shape};
@@ -29,6 +29,21 @@ const MERGE: &str = "A file has the frames of a board. The output has as few fra
 
 Example:
   squall merge a.bin b.bin >both.bin";
+
+/// A command with its help, and with no arguments yet.
+pub(crate) fn described<'a>(
+    alloc: Global,
+    name: &'a str,
+    about: &'a str,
+    after_help: &'a str,
+) -> Command<'a>
+    ensures app { app_of result ≡ new_app name.entry.now }
+    ensures globals { (fields_of result).has_globals ≡ false }
+{
+    Command::new(alloc, name)
+        .about(about)
+        .after_help(after_help)
+}
 
 /// A word, of which there is one or more.
 pub(crate) fn words<'a>(alloc: Global, name: &'a str, help: &'a str) -> Arg<'a>
@@ -73,10 +88,11 @@ pub(crate) fn report_command<'a>(alloc: Global) -> Result<Command<'a>, AllocErro
     ensures shape { IfOk result (λ c. shape_of c ≡ report_shape) }
     ensures globals { IfOk result (λ c. (fields_of c).has_globals ≡ false) }
 {
-    Command::new(alloc, "report")
-        .about("Writes the frame of a report")
-        .after_help(REPORTS)
-        .arg(words(alloc, "WORD", "The words of the report"))
+    described(alloc, "report", "Writes the frame of a report", REPORTS).arg(words(
+        alloc,
+        "WORD",
+        "The words of the report",
+    ))
 }
 
 /// `board FILE.. [--json]`
@@ -84,11 +100,14 @@ pub(crate) fn board_command<'a>(alloc: Global) -> Result<Command<'a>, AllocError
     ensures shape { IfOk result (λ c. shape_of c ≡ board_shape) }
     ensures globals { IfOk result (λ c. (fields_of c).has_globals ≡ false) }
 {
-    Command::new(alloc, "board")
-        .about("Shows the board that files tell of, as lines")
-        .after_help(BOARD)
-        .arg(words(alloc, "FILE", "The files of frames, or -"))?
-        .arg(json(alloc))
+    described(
+        alloc,
+        "board",
+        "Shows the board that files tell of, as lines",
+        BOARD,
+    )
+    .arg(words(alloc, "FILE", "The files of frames, or -"))?
+    .arg(json(alloc))
 }
 
 /// `merge FILE..`
@@ -96,8 +115,11 @@ pub(crate) fn merge_command<'a>(alloc: Global) -> Result<Command<'a>, AllocError
     ensures shape { IfOk result (λ c. shape_of c ≡ merge_shape) }
     ensures globals { IfOk result (λ c. (fields_of c).has_globals ≡ false) }
 {
-    Command::new(alloc, "merge")
-        .about("Joins the boards of files, and writes the frames of the result")
-        .after_help(MERGE)
-        .arg(words(alloc, "FILE", "The files of frames, or -"))
+    described(
+        alloc,
+        "merge",
+        "Joins the boards of files, and writes the frames of the result",
+        MERGE,
+    )
+    .arg(words(alloc, "FILE", "The files of frames, or -"))
 }

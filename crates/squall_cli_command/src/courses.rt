@@ -6,7 +6,7 @@ ghost use Rattle.clap.specs.declared.builder.command.Command.TheViews.{out-Comma
 ghost use Rattle.squall_cli_command.specs.Asking.{of_plans, status_shape, picture_shape, watch_shape, route_shape, legs_shape};
 ghost use Rattle.squall_cli_command.specs.Rules.{option_rule};
 
-use crate::boards::{files, flag, json};
+use crate::boards::{described, files, flag, json};
 use crate::parser::file;
 use clap::{Arg, ArgAction, Command};
 use std::alloc::{AllocError, Global};
@@ -75,11 +75,16 @@ fn option<'a>(alloc: Global, name: &'a str, help: &'a str) -> Arg<'a>
 }
 
 /// A command of two plans, without what may follow: `NAME OLD NEW`.
-fn of_plans<'a>(alloc: Global, name: &'a str) -> Result<Command<'a>, AllocError>
+pub(crate) fn of_plans<'a>(
+    alloc: Global,
+    name: &'a str,
+    about: &'a str,
+    after_help: &'a str,
+) -> Result<Command<'a>, AllocError>
     ensures app { IfOk result (λ c. app_of c ≡ of_plans name.entry.now) }
     ensures globals { IfOk result (λ c. (fields_of c).has_globals ≡ false) }
 {
-    Command::new(alloc, name)
+    described(alloc, name, about, after_help)
         .arg(file(alloc, "OLD", "The file of the old plan, or -"))?
         .arg(file(alloc, "NEW", "The file of the new plan, or -"))
 }
@@ -89,16 +94,19 @@ pub(crate) fn status_command<'a>(alloc: Global) -> Result<Command<'a>, AllocErro
     ensures shape { IfOk result (λ c. shape_of c ≡ status_shape) }
     ensures globals { IfOk result (λ c. (fields_of c).has_globals ≡ false) }
 {
-    of_plans(alloc, "status")?
-        .about("Shows how far the newest reconfiguration is")
-        .after_help(STATUS)
-        .arg(files(alloc, "FILE", "The files of frames, or -"))?
-        .arg(flag(
-            alloc,
-            "waiting",
-            "Shows only the moves that are not complete",
-        ))?
-        .arg(json(alloc))
+    of_plans(
+        alloc,
+        "status",
+        "Shows how far the newest reconfiguration is",
+        STATUS,
+    )?
+    .arg(files(alloc, "FILE", "The files of frames, or -"))?
+    .arg(flag(
+        alloc,
+        "waiting",
+        "Shows only the moves that are not complete",
+    ))?
+    .arg(json(alloc))
 }
 
 /// `picture OLD NEW [FILE..]`
@@ -106,10 +114,13 @@ pub(crate) fn picture_command<'a>(alloc: Global) -> Result<Command<'a>, AllocErr
     ensures shape { IfOk result (λ c. shape_of c ≡ picture_shape) }
     ensures globals { IfOk result (λ c. (fields_of c).has_globals ≡ false) }
 {
-    of_plans(alloc, "picture")?
-        .about("Draws how far the newest reconfiguration is, as an SVG image")
-        .after_help(PICTURE)
-        .arg(files(alloc, "FILE", "The files of frames, or -"))
+    of_plans(
+        alloc,
+        "picture",
+        "Draws how far the newest reconfiguration is, as an SVG image",
+        PICTURE,
+    )?
+    .arg(files(alloc, "FILE", "The files of frames, or -"))
 }
 
 /// `watch OLD NEW [--json]`
@@ -117,10 +128,13 @@ pub(crate) fn watch_command<'a>(alloc: Global) -> Result<Command<'a>, AllocError
     ensures shape { IfOk result (λ c. shape_of c ≡ watch_shape) }
     ensures globals { IfOk result (λ c. (fields_of c).has_globals ≡ false) }
 {
-    of_plans(alloc, "watch")?
-        .about("Shows how far the newest reconfiguration is, as frames come on standard input")
-        .after_help(WATCH)
-        .arg(json(alloc))
+    of_plans(
+        alloc,
+        "watch",
+        "Shows how far the newest reconfiguration is, as frames come on standard input",
+        WATCH,
+    )?
+    .arg(json(alloc))
 }
 
 /// `route OLD NEW [KEY].. [--board FILE]..`
@@ -128,15 +142,18 @@ pub(crate) fn route_command<'a>(alloc: Global) -> Result<Command<'a>, AllocError
     ensures shape { IfOk result (λ c. shape_of c ≡ route_shape) }
     ensures globals { IfOk result (λ c. (fields_of c).has_globals ≡ false) }
 {
-    of_plans(alloc, "route")?
-        .about("Shows which partition to ask for keys")
-        .after_help(ROUTE)
-        .arg(files(
-            alloc,
-            "KEY",
-            "The keys; without one they are read from standard input",
-        ))?
-        .arg(option(alloc, "board", "A file of frames, or -"))
+    of_plans(
+        alloc,
+        "route",
+        "Shows which partition to ask for keys",
+        ROUTE,
+    )?
+    .arg(files(
+        alloc,
+        "KEY",
+        "The keys; without one they are read from standard input",
+    ))?
+    .arg(option(alloc, "board", "A file of frames, or -"))
 }
 
 /// `legs OLD NEW [BOUND].. [--board FILE].. [--json]`
@@ -144,10 +161,13 @@ pub(crate) fn legs_command<'a>(alloc: Global) -> Result<Command<'a>, AllocError>
     ensures shape { IfOk result (λ c. shape_of c ≡ legs_shape) }
     ensures globals { IfOk result (λ c. (fields_of c).has_globals ≡ false) }
 {
-    of_plans(alloc, "legs")?
-        .about("Shows which partitions to ask for all keys, or for those of a span")
-        .after_help(LEGS)
-        .arg(files(alloc, "BOUND", "LO and HI, the bounds of the span"))?
-        .arg(option(alloc, "board", "A file of frames, or -"))?
-        .arg(json(alloc))
+    of_plans(
+        alloc,
+        "legs",
+        "Shows which partitions to ask for all keys, or for those of a span",
+        LEGS,
+    )?
+    .arg(files(alloc, "BOUND", "LO and HI, the bounds of the span"))?
+    .arg(option(alloc, "board", "A file of frames, or -"))?
+    .arg(json(alloc))
 }

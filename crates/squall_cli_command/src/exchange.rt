@@ -5,7 +5,7 @@ ghost use Rattle.clap.specs.Words.{shape_of};
 ghost use Rattle.clap.specs.declared.builder.command.Command.TheViews.{out-Command as fields_of};
 ghost use Rattle.squall_cli_command.specs.Asking.{beyond_shape, digest_shape, repair_shape};
 
-use crate::boards::flag;
+use crate::boards::{described, flag};
 use crate::parser::file;
 use clap::Command;
 use std::alloc::{AllocError, Global};
@@ -30,16 +30,19 @@ pub(crate) fn beyond_command<'a>(alloc: Global) -> Result<Command<'a>, AllocErro
     ensures shape { IfOk result (λ c. shape_of c ≡ beyond_shape) }
     ensures globals { IfOk result (λ c. (fields_of c).has_globals ≡ false) }
 {
-    Command::new(alloc, "beyond")
-        .about("Writes the frames of what one board tells and another does not")
-        .after_help(BEYOND)
-        .arg(file(alloc, "A", "The file of frames that tells more, or -"))?
-        .arg(file(
-            alloc,
-            "B",
-            "The file of frames that may lack something, or -",
-        ))?
-        .arg(flag(alloc, "quiet", "Writes nothing: the status says it"))
+    described(
+        alloc,
+        "beyond",
+        "Writes the frames of what one board tells and another does not",
+        BEYOND,
+    )
+    .arg(file(alloc, "A", "The file of frames that tells more, or -"))?
+    .arg(file(
+        alloc,
+        "B",
+        "The file of frames that may lack something, or -",
+    ))?
+    .arg(flag(alloc, "quiet", "Writes nothing: the status says it"))
 }
 
 /// `digest A`
@@ -47,10 +50,13 @@ pub(crate) fn digest_command<'a>(alloc: Global) -> Result<Command<'a>, AllocErro
     ensures shape { IfOk result (λ c. shape_of c ≡ digest_shape) }
     ensures globals { IfOk result (λ c. (fields_of c).has_globals ≡ false) }
 {
-    Command::new(alloc, "digest")
-        .about("Writes the frame of a board's digest")
-        .after_help(DIGEST)
-        .arg(file(alloc, "A", "The file of frames, or -"))
+    described(
+        alloc,
+        "digest",
+        "Writes the frame of a board's digest",
+        DIGEST,
+    )
+    .arg(file(alloc, "A", "The file of frames, or -"))
 }
 
 /// `repair A DIGEST`
@@ -58,9 +64,12 @@ pub(crate) fn repair_command<'a>(alloc: Global) -> Result<Command<'a>, AllocErro
     ensures shape { IfOk result (λ c. shape_of c ≡ repair_shape) }
     ensures globals { IfOk result (λ c. (fields_of c).has_globals ≡ false) }
 {
-    Command::new(alloc, "repair")
-        .about("Writes the frames of what a board has that a digest does not show")
-        .after_help(REPAIR)
-        .arg(file(alloc, "A", "The file of frames, or -"))?
-        .arg(file(alloc, "DIGEST", "The file of the digest's frame, or -"))
+    described(
+        alloc,
+        "repair",
+        "Writes the frames of what a board has that a digest does not show",
+        REPAIR,
+    )
+    .arg(file(alloc, "A", "The file of frames, or -"))?
+    .arg(file(alloc, "DIGEST", "The file of the digest's frame, or -"))
 }

@@ -3,7 +3,7 @@
 ghost use Rattle.std.specs.Prelude.{◌≡◌, ◌++◌, map, string_bytes, IfOk, OnOk, if◌then◌else◌};
 ghost use Rattle.clap.specs.Words.{found_of, rows_of};
 ghost use Rattle.squall_cli_command.specs.Line.{words_of};
-ghost use Rattle.squall_cli_command.specs.Asking.{is_set, inquiry_in, word_arguments, file_arguments, values_in, words_in};
+ghost use Rattle.squall_cli_command.specs.Asking.{is_set, exchange_in, inquiry_in, word_arguments, file_arguments, values_in, words_in};
 
 use crate::form::{Form, form_of, is_set};
 use clap::ArgMatches;
@@ -56,6 +56,25 @@ fn by_flag(matches: &ArgMatches, id: &str, with: Inquiry, without: Inquiry) -> I
     if is_set(matches, id) { with } else { without }
 }
 
+/// What a command asks of boards as frames. None if it is another command.
+fn exchange_of(name: &str, matches: &ArgMatches) -> Option<Inquiry>
+    ensures { result ≡ exchange_in name.now (rows_of (found_of matches.now)) }
+{
+    if name == "merge" {
+        return Some(Inquiry::Merge);
+    }
+    if name == "beyond" {
+        return Some(by_flag(matches, "quiet", Inquiry::Cover, Inquiry::Beyond));
+    }
+    if name == "digest" {
+        return Some(Inquiry::Digest);
+    }
+    if name == "repair" {
+        return Some(Inquiry::Repair);
+    }
+    None
+}
+
 /// What a command asks of board files. None if it is another command.
 pub(crate) fn inquiry_of(name: &str, matches: &ArgMatches) -> Option<Inquiry>
     ensures { result ≡ inquiry_in name.now (rows_of (found_of matches.now)) }
@@ -80,19 +99,7 @@ pub(crate) fn inquiry_of(name: &str, matches: &ArgMatches) -> Option<Inquiry>
     if name == "legs" {
         return Some(Inquiry::Legs(form_of(matches)));
     }
-    if name == "merge" {
-        return Some(Inquiry::Merge);
-    }
-    if name == "beyond" {
-        return Some(by_flag(matches, "quiet", Inquiry::Cover, Inquiry::Beyond));
-    }
-    if name == "digest" {
-        return Some(Inquiry::Digest);
-    }
-    if name == "repair" {
-        return Some(Inquiry::Repair);
-    }
-    None
+    exchange_of(name, matches)
 }
 
 /// The arguments of an inquiry that are no files.

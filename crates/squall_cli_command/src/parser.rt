@@ -6,9 +6,12 @@ ghost use Rattle.clap.specs.declared.builder.command.Command.TheViews.{out-Comma
 ghost use Rattle.squall_cli_command.specs.Line.{squall_app, boards_app, routes_app, watch_app, courses_app, reports_app, runs_app, plans_app, program_app};
 ghost use Rattle.squall_cli_command.specs.Line.{check_shape, course_shape, run_shape, race_shape};
 ghost use Rattle.squall_cli_command.specs.Rules.{file_rule};
+ghost use Rattle.squall_cli_command.specs.Commands.{Adds};
 
-use crate::boards::{board_command, json, merge_command, report_command};
-use crate::courses::{legs_command, picture_command, route_command, status_command, watch_command};
+use crate::boards::{board_command, described, json, merge_command, report_command};
+use crate::courses::{
+    legs_command, of_plans, picture_command, route_command, status_command, watch_command,
+};
 use crate::exchange::{beyond_command, digest_command, repair_command};
 use clap::{Arg, ArgAction, Command};
 use std::alloc::{AllocError, Global};
@@ -83,11 +86,14 @@ fn check_command<'a>(alloc: Global) -> Result<Command<'a>, AllocError>
     ensures shape { IfOk result (λ c. shape_of c ≡ check_shape) }
     ensures globals { IfOk result (λ c. (fields_of c).has_globals ≡ false) }
 {
-    Command::new(alloc, "check")
-        .about("Checks a plan: shows its ranges by rising key, or the fault that makes it no plan")
-        .after_help(CHECK)
-        .arg(file(alloc, "PLAN", "The file of the plan, or -"))?
-        .arg(json(alloc))
+    described(
+        alloc,
+        "check",
+        "Checks a plan: shows its ranges by rising key, or the fault that makes it no plan",
+        CHECK,
+    )
+    .arg(file(alloc, "PLAN", "The file of the plan, or -"))?
+    .arg(json(alloc))
 }
 
 /// `course OLD NEW [--json]`
@@ -95,14 +101,13 @@ fn course_command<'a>(alloc: Global) -> Result<Command<'a>, AllocError>
     ensures shape { IfOk result (λ c. shape_of c ≡ course_shape) }
     ensures globals { IfOk result (λ c. (fields_of c).has_globals ≡ false) }
 {
-    Command::new(alloc, "course")
-        .about(
-            "Shows which ranges move between two plans, from and to which partition, and in which sub-plan",
-        )
-        .after_help(COURSE)
-        .arg(file(alloc, "OLD", "The file of the old plan, or -"))?
-        .arg(file(alloc, "NEW", "The file of the new plan, or -"))?
-        .arg(json(alloc))
+    of_plans(
+        alloc,
+        "course",
+        "Shows which ranges move between two plans, from and to which partition, and in which sub-plan",
+        COURSE,
+    )?
+    .arg(json(alloc))
 }
 
 /// `run FILE`
@@ -110,12 +115,13 @@ fn run_command<'a>(alloc: Global) -> Result<Command<'a>, AllocError>
     ensures shape { IfOk result (λ c. shape_of c ≡ run_shape) }
     ensures globals { IfOk result (λ c. (fields_of c).has_globals ≡ false) }
 {
-    Command::new(alloc, "run")
-        .about(
-            "Answers the lines of a scenario: plans, reports of what was loaded, and questions for routes",
-        )
-        .after_help(SCENARIO)
-        .arg(file(alloc, "FILE", "The file of the scenario, or -"))
+    described(
+        alloc,
+        "run",
+        "Answers the lines of a scenario: plans, reports of what was loaded, and questions for routes",
+        SCENARIO,
+    )
+    .arg(file(alloc, "FILE", "The file of the scenario, or -"))
 }
 
 /// `race FILE`
@@ -123,12 +129,13 @@ fn race_command<'a>(alloc: Global) -> Result<Command<'a>, AllocError>
     ensures shape { IfOk result (λ c. shape_of c ≡ race_shape) }
     ensures globals { IfOk result (λ c. (fields_of c).has_globals ≡ false) }
 {
-    Command::new(alloc, "race")
-        .about(
-            "Runs senders, readers and an owner as threads at once, and shows the board they come to",
-        )
-        .after_help(RACE)
-        .arg(file(alloc, "FILE", "The file of the race, or -"))
+    described(
+        alloc,
+        "race",
+        "Runs senders, readers and an owner as threads at once, and shows the board they come to",
+        RACE,
+    )
+    .arg(file(alloc, "FILE", "The file of the race, or -"))
 }
 
 /// The program without its commands. `help` is no command of its own: it is read as `--help`.
@@ -142,72 +149,91 @@ fn program<'a>(alloc: Global) -> Command<'a>
         .after_help(AFTER_HELP)
 }
 
+/// The program with one more command, if both could be made. It takes results, so that a caller has
+/// no way out while it owns a command.
+fn added<'a>(
+    program: Result<Command<'a>, AllocError>,
+    command: Result<Command<'a>, AllocError>,
+) -> Result<Command<'a>, AllocError>
+    requires { IfOk command (λ s. (fields_of s).has_globals ≡ false) }
+    ensures { IfOk result (λ c. Adds program.entry command.entry c) }
+{
+    program?.subcommand(command?)
+}
+
 /// The program with its commands about plans.
 fn with_plans<'a>(alloc: Global) -> Result<Command<'a>, AllocError>
     ensures { IfOk result (λ c. app_of c ≡ plans_app) }
 {
-    program(alloc)
-        .subcommand(check_command(alloc)?)?
-        .subcommand(course_command(alloc)?)
+    added(
+        added(Ok(program(alloc)), check_command(alloc)),
+        course_command(alloc),
+    )
 }
 
 /// And with those of scenarios and races.
 fn with_runs<'a>(alloc: Global) -> Result<Command<'a>, AllocError>
     ensures { IfOk result (λ c. app_of c ≡ runs_app) }
 {
-    with_plans(alloc)?
-        .subcommand(run_command(alloc)?)?
-        .subcommand(race_command(alloc)?)
+    added(
+        added(with_plans(alloc), run_command(alloc)),
+        race_command(alloc),
+    )
 }
 
 /// And with those of one board.
 fn with_reports<'a>(alloc: Global) -> Result<Command<'a>, AllocError>
     ensures { IfOk result (λ c. app_of c ≡ reports_app) }
 {
-    with_runs(alloc)?
-        .subcommand(report_command(alloc)?)?
-        .subcommand(board_command(alloc)?)
+    added(
+        added(with_runs(alloc), report_command(alloc)),
+        board_command(alloc),
+    )
 }
 
 /// And with those of the newest course.
 fn with_courses<'a>(alloc: Global) -> Result<Command<'a>, AllocError>
     ensures { IfOk result (λ c. app_of c ≡ courses_app) }
 {
-    with_reports(alloc)?
-        .subcommand(status_command(alloc)?)?
-        .subcommand(picture_command(alloc)?)
+    added(
+        added(with_reports(alloc), status_command(alloc)),
+        picture_command(alloc),
+    )
 }
 
 /// And with that of the same as frames come.
 fn with_watch<'a>(alloc: Global) -> Result<Command<'a>, AllocError>
     ensures { IfOk result (λ c. app_of c ≡ watch_app) }
 {
-    with_courses(alloc)?.subcommand(watch_command(alloc)?)
+    added(with_courses(alloc), watch_command(alloc))
 }
 
 /// And with those of its routes.
 fn with_routes<'a>(alloc: Global) -> Result<Command<'a>, AllocError>
     ensures { IfOk result (λ c. app_of c ≡ routes_app) }
 {
-    with_watch(alloc)?
-        .subcommand(route_command(alloc)?)?
-        .subcommand(legs_command(alloc)?)
+    added(
+        added(with_watch(alloc), route_command(alloc)),
+        legs_command(alloc),
+    )
 }
 
 /// And with those of several boards.
 fn with_boards<'a>(alloc: Global) -> Result<Command<'a>, AllocError>
     ensures { IfOk result (λ c. app_of c ≡ boards_app) }
 {
-    with_routes(alloc)?
-        .subcommand(merge_command(alloc)?)?
-        .subcommand(beyond_command(alloc)?)
+    added(
+        added(with_routes(alloc), merge_command(alloc)),
+        beyond_command(alloc),
+    )
 }
 
 /// The program's command line.
 pub(crate) fn parser<'a>(alloc: Global) -> Result<Command<'a>, AllocError>
     ensures { IfOk result (λ c. app_of c ≡ squall_app) }
 {
-    with_boards(alloc)?
-        .subcommand(digest_command(alloc)?)?
-        .subcommand(repair_command(alloc)?)
+    added(
+        added(with_boards(alloc), digest_command(alloc)),
+        repair_command(alloc),
+    )
 }
