@@ -65,9 +65,8 @@ func seenOf(t *testing.T, router *Router) seen {
 	return seen{board, router.Legs(0, End), router.Number()}
 }
 
-// refuseOneByOne makes a call of a busy router with each of its allocations refused in turn, and says how
-// often it failed.
-func refuseOneByOne(t *testing.T, call func(router *Router) error) int {
+// refuseEach makes a call of a busy router with each of its allocations refused in turn.
+func refuseEach(t *testing.T, call func(router *Router) error) {
 	t.Helper()
 	answered := 0
 	for number, more := 1, true; more; number++ {
@@ -89,39 +88,15 @@ func refuseOneByOne(t *testing.T, call func(router *Router) error) int {
 		}
 		router.Close()
 	}
-	return answered
-}
-
-// refuseEach does that with a call that fails if some allocation does.
-func refuseEach(t *testing.T, call func(router *Router) error) {
-	t.Helper()
-	if refuseOneByOne(t, call) == 0 {
+	if answered == 0 {
 		t.Error("no allocation was refused")
 	}
-}
-
-// The edit of a load is prepared, and drafted if that gets no memory. So one refused allocation is not enough.
-func TestLoadWithoutMemory(t *testing.T) {
-	load := func(r *Router) error { return r.Loaded(1, 0, 3, Key(2, 0), Key(3, 0)) }
-	refuseOneByOne(t, load)
-	router := busy(t)
-	defer router.Close()
-	before := seenOf(t, router)
-	refuse(-1)
-	err := load(router)
-	refuse(0)
-	if err != ErrNoMemory {
-		t.Fatal(err)
-	}
-	if after := seenOf(t, router); !reflect.DeepEqual(before, after) {
-		t.Errorf("%v became %v", before, after)
-	}
-	succeed(t, load(router))
 }
 
 func TestCallsWithoutMemory(t *testing.T) {
 	frame, plan := bytesOfHex(t, frameOfALoad), file(t, "old.json")
 	for name, call := range map[string]func(*Router) error{
+		"Loaded": func(r *Router) error { return r.Loaded(1, 0, 3, Key(2, 0), Key(3, 0)) },
 		"Done":   func(r *Router) error { return r.Done(1, 0, 4) },
 		"Opened": func(r *Router) error { return r.Opened(1, 0) },
 		"Issued": func(r *Router) error { return r.Issued(2, plan) },

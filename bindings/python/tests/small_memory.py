@@ -205,9 +205,7 @@ class SmallMemory(unittest.TestCase):
                 self.assertEqual(sees(handle), wanted)
             if is_last:
                 break
-        # A load makes up for one refusal: its edit is prepared, and drafted if that gets no memory.
-        if call is not CALLS[0]:
-            self.assertGreater(failed, 0)
+        self.assertGreater(failed, 0)
         handle = makes()
         self.assertTrue(self.fails(-1, partial(call, handle)))
         self.assertEqual(sees(handle), before)

@@ -45,5 +45,5 @@ pub use draft::Draft;
 pub use entries::Entries;
 pub use iter::Iter;
 pub use lent::BlocksRef;
-pub use prepared::Prepared;
+pub use prepared::{Prepared, Unprepared, Unready};
 pub use room::ReadyEntries;

@@ -12,6 +12,22 @@ use squall_key::Bound;
 use std::marker::Model;
 use std::mem::replace;
 
+/// Why an edit is not prepared.
+#[derive(Clone, Copy, Debug, PartialEq, Eq)]
+pub enum Unready {
+    /// The edit does not stay in one block, or leaves too many entries in it, or none.
+    Spread,
+    /// An allocation failed.
+    NoMemory,
+}
+
+/// Blocks of which an edit is not prepared: they are as they were.
+#[derive(Drop)]
+pub struct Unprepared<V: Copy> {
+    pub blocks: Blocks<V>,
+    pub why: Unready,
+}
+
 /// Blocks with an edit that is prepared. To make it cannot fail, and neither can leaving it out.
 ///
 /// The edit stays in one block. That block is out of its place meanwhile, and has room for the
@@ -49,29 +65,33 @@ impl<V: Copy> Model for Prepared<V> {
 
 impl<V: Copy> Prepared<V> {
     /// Prepares to put the fresh entries in place of those that end beyond `from` and not beyond
-    /// `to`. An error hands the blocks back: the edit does not stay in one block, or an allocation
-    /// failed. [`Draft`](crate::Draft) makes any edit.
+    /// `to`. An error hands the blocks back as they were.
+    ///
+    /// - `Spread`: the edit does not stay in one block, or leaves too many entries in it, or none.
+    ///   [`Draft`](crate::Draft) makes any edit.
+    /// - `NoMemory`: an allocation failed.
     pub fn of(
         whole: Blocks<V>,
         from: Bound,
         to: Bound,
         fresh: Entries<V>,
-    ) -> Result<Prepared<V>, Blocks<V>>
+    ) -> Result<Prepared<V>, Unprepared<V>>
         requires some { 0 < length whole }
         requires rise { RiseFrom from fresh }
         requires last { last_from from fresh ≤ to }
         ensures before { IfOk result (λ p. p.0 ≡ whole) }
         ensures after { IfOk result (λ p. p.1 ≡ replaced from to fresh whole) }
-        ensures err { IfErr result (λ b. b ≡ whole) }
+        ensures err { IfErr result (λ e. e.blocks ≡ whole) }
     {
         let Blocks { lasts, blocks } = whole;
         let mut blocks = blocks;
         let at = places_of(&lasts, &blocks, from, to);
         if !fits(at, blocks[at.first].len(), fresh.len()) {
-            return Err(Blocks { lasts, blocks });
+            let blocks = Blocks { lasts, blocks };
+            let why = Unready::Spread;
+            return Err(Unprepared { blocks, why });
         }
-        let none = Entries::new(*lasts.allocator());
-        let block = replace(&mut blocks[at.first], none);
+        let block = replace(&mut blocks[at.first], Entries::new(*lasts.allocator()));
         match ReadyEntries::of(block, fresh.len()) {
             Ok(block) => Ok(Prepared {
                 lasts,
@@ -84,7 +104,9 @@ impl<V: Copy> Prepared<V> {
             }),
             Err(block) => {
                 blocks[at.first] = block;
-                Err(Blocks { lasts, blocks })
+                let blocks = Blocks { lasts, blocks };
+                let why = Unready::NoMemory;
+                Err(Unprepared { blocks, why })
             }
         }
     }

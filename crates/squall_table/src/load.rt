@@ -15,7 +15,7 @@ use crate::entries::bound_before;
 use crate::fresh::Renewal;
 use crate::single::Brought;
 use crate::table::bottom;
-use squall_blocks::{Blocks, BlocksRef, Entries, Prepared, ReadyEntries};
+use squall_blocks::{Blocks, BlocksRef, Entries, Prepared, ReadyEntries, Unprepared, Unready};
 use squall_course::Course;
 use squall_key::{Bound, PartId};
 use squall_span::Span;
@@ -125,21 +125,25 @@ pub(crate) fn renew_load(
 }
 
 /// Prepares the entries of a table for a load all of whose keys go to one partition. An error hands
-/// them back: the edit does not stay in one block, or an allocation failed.
+/// them back as they were, and says why: the edit does not stay in one block, or an allocation
+/// failed.
 pub(crate) fn prepare_load(
     whole: Blocks<PartId>,
     course: &Course,
     load: Brought,
-) -> Result<Prepared<PartId>, Blocks<PartId>>
+) -> Result<Prepared<PartId>, Unprepared<PartId>>
     requires table { IsCanonical (legs_from 0 whole) }
     requires set { IsSet (load.span ∷ []) }
     requires comes { ComesTo (moves_of course.now.old course.now.new) load.span load.dest }
     ensures before { IfOk result (λ p. p.0 ≡ whole) }
     ensures after { IfOk result (λ p. IsRenewed course.now (said All) (load.span ∷ []) (legs_from 0 whole) (legs_from 0 p.1)) }
-    ensures err { IfErr result (λ b. b ≡ whole) }
+    ensures err { IfErr result (λ e. e.blocks ≡ whole) }
 {
     match renew_load(whole.allocator(), &whole.lent(), course, load) {
         Ok(made) => Prepared::of(whole, made.lo, made.hi, made.fresh),
-        Err(_) => Err(whole),
+        Err(_) => Err(Unprepared {
+            blocks: whole,
+            why: Unready::NoMemory,
+        }),
     }
 }

@@ -22,7 +22,7 @@ use crate::runs::renew_and_take;
 use crate::single::{Brought, reported_load, touched_load};
 use crate::table::RouteTable;
 use crate::touch::{touched, touched_by_report};
-use squall_blocks::{Blocks, Draft};
+use squall_blocks::{Blocks, Draft, Unready};
 use squall_board::{Board, Delta};
 use squall_course::Course;
 use squall_report::Report;
@@ -149,9 +149,12 @@ impl RouteTable {
                     Err(error)
                 }
             },
-            Err(whole) => {
-                self.legs = whole;
-                self.absorb_touched(course, board, news, &spans)
+            Err(left) => {
+                self.legs = left.blocks;
+                match left.why {
+                    Unready::NoMemory => Err(AllocError),
+                    Unready::Spread => self.absorb_touched(course, board, news, &spans),
+                }
             }
         }
     }

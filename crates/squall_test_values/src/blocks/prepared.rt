@@ -1,7 +1,7 @@
 //! Tests of edits that are prepared.
 
 use super::{are_same, begins, bound, counted, row, thousand};
-use squall_blocks::{Blocks, Entries, Prepared};
+use squall_blocks::{Blocks, Entries, Prepared, Unprepared, Unready};
 use squall_key::Bound;
 use std::alloc::{AllocError, Global};
 use std::process::Abort;
@@ -13,7 +13,7 @@ fn prepare(
     from: u64,
     to: u64,
     fresh: Entries<u16>,
-) -> Result<Prepared<u16>, Blocks<u16>> {
+) -> Result<Prepared<u16>, Unprepared<u16>> {
     let (low, high) = (bound(rt, from), bound(rt, to));
     assert!(rt; !blocks.is_empty() && fresh.is_between(low, high));
     Prepared::of(blocks, low, high, fresh)
@@ -24,7 +24,7 @@ fn prepare_five(
     rt: &impl Abort,
     alloc: Global,
     blocks: Blocks<u16>,
-) -> Result<Result<Prepared<u16>, Blocks<u16>>, AllocError> {
+) -> Result<Result<Prepared<u16>, Unprepared<u16>>, AllocError> {
     let fresh = row(rt, alloc, 400, 2, 5, 3)?;
     Ok(prepare(rt, blocks, 400, 410, fresh))
 }
@@ -64,7 +64,9 @@ fn edit_of_two_blocks_is_not_prepared(rt: HostRuntime) {
     let blocks = thousand(&rt, rt.alloc()).expect(&rt, "memory");
     let fresh = row(&rt, rt.alloc(), 400, 2, 5, 3).expect(&rt, "memory");
     let tried = prepare(&rt, blocks, 400, 8000, fresh);
-    let same = tried.err().expect(&rt, "the blocks");
+    let left = tried.err().expect(&rt, "the blocks");
+    holds!(&rt; left.why == Unready::Spread);
+    let same = left.blocks;
     holds!(&rt; counted(&same) == (1000, 1000) && begins(&rt, &same, 400, 960, (410, 1)));
 }
 
@@ -94,7 +96,9 @@ fn make_or_not(rt: &impl Abort, alloc: Global) -> Result<(), AllocError> {
     let blocks = thousand(rt, alloc)?;
     match prepare_five(rt, alloc, blocks)? {
         Ok(ready) => holds!(rt; has_five(rt, &ready.make())),
-        Err(same) => holds!(rt; counted(&same) == (1000, 1000)),
+        Err(left) => {
+            holds!(rt; left.why == Unready::NoMemory && counted(&left.blocks) == (1000, 1000));
+        }
     }
     Ok(())
 }

@@ -18,8 +18,8 @@ index-requires g c = omega (arith, c.places_of-at.ensures.edit.first.within, cou
 pub index_mut-requires : goal.index_mut-requires
 index_mut-requires g c = omega (arith, c.places_of-at.ensures.edit.first.within, count_of c.whole.inside.lasts.items c.whole.inside.blocks.items c.whole.invariant)
 
-pub invariant_of-result-in-Ok : goal.invariant_of-result-in-Ok
-invariant_of-result-in-Ok g c =
+pub invariant_of-result : goal.invariant_of-result
+invariant_of-result g c =
     let bs = c.whole.inside.blocks.items in
     let m = c.places_of-at.result.first in
     let is : c.replace-block.result ≡ get_or bs m c.replace-block.result = c.replace-block.ensures.value ∙ c.index_mut.ensures.value ∙ ap (λ d. get_or bs m d) (sym c.replace-block.ensures.value) in
@@ -60,8 +60,8 @@ returns-in-Ok-clause-after g c =
 pub index_mut-requires-in-Err : goal.index_mut-requires-in-Err
 index_mut-requires-in-Err g c = omega (arith, c.places_of-at.ensures.edit.first.within, count_of c.whole.inside.lasts.items c.whole.inside.blocks.items c.whole.invariant)
 
-pub invariant_of-result-in-Err : goal.invariant_of-result-in-Err
-invariant_of-result-in-Err g c =
+pub invariant_of-blocks-in-Err : goal.invariant_of-blocks-in-Err
+invariant_of-blocks-in-Err g c =
     let bs = c.whole.inside.blocks.items in
     let m = c.places_of-at.result.first in
     let is : c.replace-block.result ≡ get_or bs m c.replace-block.result = c.replace-block.ensures.value ∙ c.index_mut.ensures.value ∙ ap (λ d. get_or bs m d) (sym c.replace-block.ensures.value) in
