@@ -6,5 +6,6 @@ mod Iterating
 mod Turned
 mod Joining
 mod Undoing
+mod Edited
 mod Counted
 mod Preparing

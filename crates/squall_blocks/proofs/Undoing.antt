@@ -5,35 +5,38 @@ use Rattle.std.proofs.lemmas.List.{drop-drop, drop_at, get_or-drop, take_more, t
 use Rattle.std.proofs.lemmas.Grind.{drop_more_same}
 use Rattle.std.proofs.Math.Seq.{take-append_seam}
 use Rattle.squall_blocks.specs.Blocks.{AreBlocks}
-use Rattle.squall_blocks.specs.Drafts.{StepValue, undone_lasts, undone, kept_in, IsWithin, AreWithin, Undoes, IsDraft}
+use Rattle.std.specs.Prelude.{slice_index_or}
+use Rattle.squall_blocks.specs.declared.steps.Step.{Step}
+use Rattle.squall_blocks.specs.declared.steps.Step.TheVariants.{Blocks, Entries}
+use Rattle.squall_blocks.specs.Drafts.{lasts_before, blocks_before, kept_by, undone_lasts, undone, kept_in, IsWithin, AreWithin, Undoes, IsDraft}
 
 -- ---- one step more
 
-pub undone_lasts-append : {V : Type 0} (ss : List (StepValue V)) (s : StepValue V) (ls : List ℕ) → undone_lasts (ss ++ s ∷ []) ls ≡ undone_lasts ss (splice ls s.first s.end s.lasts)
+pub undone_lasts-append : {V : Type 0} (ss : List (Step V)) (s : Step V) (ls : List ℕ) → undone_lasts (ss ++ s ∷ []) ls ≡ undone_lasts ss (lasts_before s ls)
 undone_lasts-append [] s ls = refl
-undone_lasts-append (t ∷ ss) s ls = ap (λ l. splice l t.first t.end t.lasts) (undone_lasts-append ss s ls)
+undone_lasts-append (t ∷ ss) s ls = ap (lasts_before t) (undone_lasts-append ss s ls)
 
-pub undone-append : {V : Type 0} (ss : List (StepValue V)) (s : StepValue V) (bs : List (List (ℕ × V))) → undone (ss ++ s ∷ []) bs ≡ undone ss (splice bs s.first s.end s.blocks)
+pub undone-append : {V : Type 0} (ss : List (Step V)) (s : Step V) (bs : List (List (ℕ × V))) → undone (ss ++ s ∷ []) bs ≡ undone ss (blocks_before s bs)
 undone-append [] s bs = refl
-undone-append (t ∷ ss) s bs = ap (λ l. splice l t.first t.end t.blocks) (undone-append ss s bs)
+undone-append (t ∷ ss) s bs = ap (blocks_before t) (undone-append ss s bs)
 
-pub kept_in-append : {V : Type 0} (ss : List (StepValue V)) (s : StepValue V) → kept_in (ss ++ s ∷ []) ≡ kept_in ss + length s.blocks
+pub kept_in-append : {V : Type 0} (ss : List (Step V)) (s : Step V) → kept_in (ss ++ s ∷ []) ≡ kept_in ss + kept_by s
 kept_in-append [] s = omega arith
 kept_in-append (t ∷ ss) s = let rest = kept_in-append ss s in omega (arith, rest)
 
-pub within_more : {V : Type 0} (ss : List (StepValue V)) (s : StepValue V) (ls : List ℕ) (bs : List (List (ℕ × V))) → AreWithin ss (splice ls s.first s.end s.lasts) (splice bs s.first s.end s.blocks) → IsWithin s ls bs → AreWithin (ss ++ s ∷ []) ls bs
+pub within_more : {V : Type 0} (ss : List (Step V)) (s : Step V) (ls : List ℕ) (bs : List (List (ℕ × V))) → AreWithin ss (lasts_before s ls) (blocks_before s bs) → IsWithin s ls bs → AreWithin (ss ++ s ∷ []) ls bs
 within_more [] s ls bs w is = (is, tt)
 within_more (t ∷ ss) s ls bs w is = (
-  subst (λ l. IsWithin t l (undone (ss ++ s ∷ []) bs)) (sym (undone_lasts-append ss s ls)) (subst (IsWithin t (undone_lasts ss (splice ls s.first s.end s.lasts))) (sym (undone-append ss s bs)) w.0),
+  subst (λ l. IsWithin t l (undone (ss ++ s ∷ []) bs)) (sym (undone_lasts-append ss s ls)) (subst (IsWithin t (undone_lasts ss (lasts_before s ls))) (sym (undone-append ss s bs)) w.0),
   within_more ss s ls bs w.1 is,
 )
 
-pub within_less : {V : Type 0} (ss : List (StepValue V)) (s : StepValue V) (ls : List ℕ) (bs : List (List (ℕ × V))) → AreWithin (ss ++ s ∷ []) ls bs → AreWithin ss (splice ls s.first s.end s.lasts) (splice bs s.first s.end s.blocks) × IsWithin s ls bs
+pub within_less : {V : Type 0} (ss : List (Step V)) (s : Step V) (ls : List ℕ) (bs : List (List (ℕ × V))) → AreWithin (ss ++ s ∷ []) ls bs → AreWithin ss (lasts_before s ls) (blocks_before s bs) × IsWithin s ls bs
 within_less [] s ls bs w = (tt, w.0)
 within_less (t ∷ ss) s ls bs w =
     let rest = within_less ss s ls bs w.1 in (
       (
-        subst (λ l. IsWithin t l (undone ss (splice bs s.first s.end s.blocks))) (undone_lasts-append ss s ls) (subst (IsWithin t (undone_lasts (ss ++ s ∷ []) ls)) (undone-append ss s bs) w.0),
+        subst (λ l. IsWithin t l (undone ss (blocks_before s bs))) (undone_lasts-append ss s ls) (subst (IsWithin t (undone_lasts (ss ++ s ∷ []) ls)) (undone-append ss s bs) w.0),
         rest.0,
       ),
       rest.1,
@@ -97,35 +100,44 @@ length_part xs m n le within = length-take-le (n - m) (drop m xs) (let d = lengt
 
 -- ---- drafts
 
-pub drafted : {V : Type 0} (ls ls' : List ℕ) (bs bs' : List (List (ℕ × V))) (ss ss' : List (StepValue V)) (s : StepValue V) → IsDraft ls bs ss → Undoes s ls ls' bs bs' → ss' ≡ ss ++ s ∷ [] → AreBlocks ls' bs' → IsDraft ls' bs' ss'
+pub drafted : {V : Type 0} (ls ls' : List ℕ) (bs bs' : List (List (ℕ × V))) (ss ss' : List (Step V)) (s : Step V) → IsDraft ls bs ss → Undoes s ls ls' bs bs' → ss' ≡ ss ++ s ∷ [] → AreBlocks ls' bs' → IsDraft ls' bs' ss'
 drafted ls ls' bs bs' ss ss' s d u e k =
     let made : IsDraft ls' bs' (ss ++ s ∷ []) = record {
       now_blocks = k;
       first_blocks = subst (λ l. AreBlocks l (undone (ss ++ s ∷ []) bs')) (sym (undone_lasts-append ss s ls' ∙ ap (undone_lasts ss) u.lasts))
           (subst (AreBlocks (undone_lasts ss ls)) (sym (undone-append ss s bs' ∙ ap (undone ss) u.blocks)) d.first_blocks);
-      within = within_more ss s ls' bs' (subst (λ l. AreWithin ss l (splice bs' s.first s.end s.blocks)) (sym u.lasts) (subst (AreWithin ss ls) (sym u.blocks) d.within)) u.within;
+      within = within_more ss s ls' bs' (subst (λ l. AreWithin ss l (blocks_before s bs')) (sym u.lasts) (subst (AreWithin ss ls) (sym u.blocks) d.within)) u.within;
     } in
     subst (IsDraft ls' bs') (sym e) made
 
-pub drafted_before : {V : Type 0} (ls ls' : List ℕ) (bs bs' : List (List (ℕ × V))) (ss ss' : List (StepValue V)) (s : StepValue V) → Undoes s ls ls' bs bs' → ss' ≡ ss ++ s ∷ [] → undone ss' bs' ≡ undone ss bs
+pub drafted_before : {V : Type 0} (ls ls' : List ℕ) (bs bs' : List (List (ℕ × V))) (ss ss' : List (Step V)) (s : Step V) → Undoes s ls ls' bs bs' → ss' ≡ ss ++ s ∷ [] → undone ss' bs' ≡ undone ss bs
 drafted_before ls ls' bs bs' ss ss' s u e = ap (λ t. undone t bs') e ∙ undone-append ss s bs' ∙ ap (undone ss) u.blocks
 
+-- to undo a step takes room for the blocks that it keeps
+before_lens : {V : Type 0} (s : Step V) (ls : List ℕ) (bs : List (List (ℕ × V))) → IsWithin s ls bs → (length (lasts_before s ls) ≤ length ls + kept_by s) × (length (blocks_before s bs) ≤ length bs + kept_by s)
+before_lens (Blocks s) ls bs i =
+    let a = length_spliced ls s.lasts s.first s.end i.order i.lasts in
+    let b = length_spliced bs s.blocks s.first s.end i.order i.blocks in (omega (arith, a, i.same), omega (arith, b))
+before_lens (Entries s) ls bs i =
+    let a = length_spliced ls (s.last ∷ []) s.at (s.at + 1) (omega arith) (omega (arith, i.lasts)) in
+    let b = length_spliced bs (splice (slice_index_or bs s.at []) s.first s.end s.gone ∷ []) s.at (s.at + 1) (omega arith) (omega (arith, i.blocks)) in (omega (arith, a), omega (arith, b))
+
 -- the newest step is undone
-pub record UndoneOnce {V : Type 0} (ss ss' : List (StepValue V)) (s : StepValue V) (ls ls' : List ℕ) (bs bs' : List (List (ℕ × V))) : Type 0 where
+pub record UndoneOnce {V : Type 0} (ss ss' : List (Step V)) (s : Step V) (ls ls' : List ℕ) (bs bs' : List (List (ℕ × V))) : Type 0 where
   pub blocks : AreBlocks (undone_lasts ss' ls') (undone ss' bs')
   pub same : undone ss' bs' ≡ undone ss bs
   pub within : AreWithin ss' ls' bs'
-  pub lasts_len : length ls' ≤ length ls + length s.blocks
-  pub blocks_len : length bs' ≤ length bs + length s.blocks
+  pub lasts_len : length ls' ≤ length ls + kept_by s
+  pub blocks_len : length bs' ≤ length bs + kept_by s
 
-pub last_within : {V : Type 0} (ss ss' : List (StepValue V)) (s : StepValue V) (ls : List ℕ) (bs : List (List (ℕ × V))) → ss ≡ ss' ++ s ∷ [] → AreWithin ss ls bs → IsWithin s ls bs
+pub last_within : {V : Type 0} (ss ss' : List (Step V)) (s : Step V) (ls : List ℕ) (bs : List (List (ℕ × V))) → ss ≡ ss' ++ s ∷ [] → AreWithin ss ls bs → IsWithin s ls bs
 last_within ss ss' s ls bs e w = (within_less ss' s ls bs (subst (λ t. AreWithin t ls bs) e w)).1
 
-pub last_kept : {V : Type 0} (ss ss' : List (StepValue V)) (s : StepValue V) → ss ≡ ss' ++ s ∷ [] → kept_in ss ≡ kept_in ss' + length s.blocks
+pub last_kept : {V : Type 0} (ss ss' : List (Step V)) (s : Step V) → ss ≡ ss' ++ s ∷ [] → kept_in ss ≡ kept_in ss' + kept_by s
 last_kept ss ss' s e = ap kept_in e ∙ kept_in-append ss' s
 
-pub undone_once : {V : Type 0} (ss ss' : List (StepValue V)) (s : StepValue V) (ls ls' : List ℕ) (bs bs' : List (List (ℕ × V))) → ss ≡ ss' ++ s ∷ [] → AreBlocks (undone_lasts ss ls) (undone ss bs) → AreWithin ss ls bs
-    → ls' ≡ splice ls s.first s.end s.lasts → bs' ≡ splice bs s.first s.end s.blocks → UndoneOnce ss ss' s ls ls' bs bs'
+pub undone_once : {V : Type 0} (ss ss' : List (Step V)) (s : Step V) (ls ls' : List ℕ) (bs bs' : List (List (ℕ × V))) → ss ≡ ss' ++ s ∷ [] → AreBlocks (undone_lasts ss ls) (undone ss bs) → AreWithin ss ls bs
+    → ls' ≡ lasts_before s ls → bs' ≡ blocks_before s bs → UndoneOnce ss ss' s ls ls' bs bs'
 undone_once ss ss' s ls ls' bs bs' e k w el eb =
     let lasts : undone_lasts ss ls ≡ undone_lasts ss' ls' = ap (λ t. undone_lasts t ls) e ∙ undone_lasts-append ss' s ls ∙ ap (undone_lasts ss') (sym el) in
     let blocks : undone ss bs ≡ undone ss' bs' = ap (λ t. undone t bs) e ∙ undone-append ss' s bs ∙ ap (undone ss') (sym eb) in
@@ -133,14 +145,13 @@ undone_once ss ss' s ls ls' bs bs' e k w el eb =
     let i = less.1 in
     let n = ap length el in
     let m = ap length eb in
-    let a = length_spliced ls s.lasts s.first s.end i.order i.lasts in
-    let b = length_spliced bs s.blocks s.first s.end i.order i.blocks in
+    let l = before_lens s ls bs i in
     record {
       blocks = subst (λ l. AreBlocks l (undone ss' bs')) lasts (subst (AreBlocks (undone_lasts ss ls)) blocks k);
       same = sym blocks;
-      within = subst (λ l. AreWithin ss' l bs') (sym el) (subst (AreWithin ss' (splice ls s.first s.end s.lasts)) (sym eb) less.0);
-      lasts_len = omega (arith, n, a, i.same);
-      blocks_len = omega (arith, m, b);
+      within = subst (λ l. AreWithin ss' l bs') (sym el) (subst (AreWithin ss' (lasts_before s ls)) (sym eb) less.0);
+      lasts_len = omega (arith, n, l.0);
+      blocks_len = omega (arith, m, l.1);
     }
 
 -- items that changed places with others

@@ -4,7 +4,7 @@ ghost use Rattle.std.specs.Prelude.{◌≡◌, ◌<◌, ◌≤◌, length, IfOk,
 ghost use Rattle.squall_blocks.specs.Entries.{RiseFrom, last_from, replaced};
 
 use crate::blocks::Blocks;
-use crate::edit::{join_around, pieces, places_of};
+use crate::edit::{edit_within, fits_again, join_around, pieces, places_of};
 use crate::entries::Entries;
 use crate::lent::BlocksRef;
 use crate::search::End;
@@ -13,8 +13,8 @@ use squall_key::Bound;
 use std::alloc::{AllocError, Global};
 use std::marker::Model;
 
-/// Blocks with edits that may still be undone. Undoing them cannot fail, since each edit keeps the
-/// blocks that it replaces.
+/// Blocks with edits that may still be undone. Undoing them cannot fail, since each edit keeps what
+/// goes: the entries of one block if at least as many come in, and else whole blocks.
 ///
 /// Contracts see the entries before the first edit, and those after the last one.
 #[derive(Drop)]
@@ -70,6 +70,33 @@ impl<V: Copy> Draft<V> {
     /// Puts the fresh entries in place of those that end beyond `from` and not beyond `to`. An
     /// error means that an allocation failed: the entries are then unchanged.
     pub fn replace(
+        &mut self,
+        alloc: Global,
+        from: Bound,
+        to: Bound,
+        fresh: &Entries<V>,
+    ) -> Result<(), AllocError>
+        requires some { 0 < length self.old.1 }
+        requires rise { RiseFrom from fresh.now }
+        requires last { last_from from fresh.now ≤ to }
+        ensures before { self.new.0 ≡ self.old.0 }
+        ensures after { OnOk result (self.new.1 ≡ replaced from to fresh.now self.old.1) }
+        ensures err { OnErr result (self.new.1 ≡ self.old.1) }
+    {
+        let at = places_of(&self.lasts, &self.blocks, from, to);
+        let len = self.blocks[at.first].len();
+        if !fits_again(at, len, fresh.len()) {
+            return self.trade(alloc, from, to, fresh);
+        }
+        self.steps.reserve(1)?;
+        let (lasts, blocks) = (&mut self.lasts, &mut self.blocks);
+        let step = edit_within(alloc, lasts, blocks, from, to, at, fresh)?;
+        self.steps.push_reserved(step);
+        Ok(())
+    }
+
+    /// Makes any edit by new blocks, which change places with the old ones.
+    fn trade(
         &mut self,
         alloc: Global,
         from: Bound,

@@ -1,16 +1,19 @@
 //! Edits of blocks.
 
-ghost use Rattle.std.specs.Prelude.{◌≡◌, ◌+◌, ◌-◌, ◌<◌, ◌≤◌, [], ◌∷◌, ◌++◌, length, take, drop, slice_index_or, IsTrue, IfOk, OnOk, OnErr};
+ghost use Rattle.std.specs.Prelude.{◌≡◌, ◌+◌, ◌-◌, ◌<◌, ◌≤◌, [], ◌∷◌, ◌++◌, length, take, drop, slice_index_or, vec_capacity, IsTrue, IfOk, OnOk, OnErr};
 ghost use Rattle.std.specs.List.{splice};
 ghost use Rattle.squall_blocks.specs.Entries.{RiseFrom, replaced};
 ghost use Rattle.squall_blocks.specs.Blocks.{flat, most, few, joined_at, AreBlocks, IsEdit};
+ghost use Rattle.squall_blocks.specs.Drafts.{kept_by, Undoes};
 
 use crate::blocks::{Blocks, MOST};
 use crate::entries::Entries;
 use crate::ready::splice_both;
 use crate::search::{End, near, near_from};
+use crate::steps::{OldEntries, Step};
 use squall_key::Bound;
 use std::alloc::{AllocError, Global};
+use std::mem::replace;
 
 /// Two neighbours with at most this many entries together are made one block.
 const FEW: usize = 64;
@@ -68,6 +71,22 @@ pub(crate) fn fits(at: Places, len: usize, more: usize) -> bool
     more <= MOST && left <= MOST - more && (left > 0 || more > 0)
 }
 
+/// Whether an edit fits, and puts in no fewer entries than go. What goes then needs no room if it
+/// is put in again.
+pub(crate) fn fits_again(at: Places, len: usize, more: usize) -> bool
+    requires order { at.first ≡ at.end → at.start ≤ at.stop }
+    requires within { at.first ≡ at.end → at.stop ≤ len }
+    ensures one { IsTrue result → at.first ≡ at.end }
+    ensures some { IsTrue result → 0 < len - (at.stop - at.start) + more }
+    ensures few { IsTrue result → len - (at.stop - at.start) + more ≤ most }
+    ensures no_fewer { IsTrue result → at.stop - at.start ≤ more }
+{
+    if !fits(at, len, more) {
+        return false;
+    }
+    at.stop - at.start <= more
+}
+
 /// Makes an edit that stays in one block.
 fn replace_within<V: Copy>(
     lasts: &mut Vec<End>,
@@ -91,6 +110,48 @@ fn replace_within<V: Copy>(
     let last = block.last_end();
     lasts[at.first] = last;
     Ok(())
+}
+
+/// Makes an edit that stays in one block and puts in no fewer entries than go. It answers what
+/// undoes it. An error means that an allocation failed: the blocks are then unchanged.
+pub(crate) fn edit_within<V: Copy>(
+    alloc: Global,
+    lasts: &mut Vec<End>,
+    blocks: &mut Vec<Entries<V>>,
+    from: Bound,
+    to: Bound,
+    at: Places,
+    fresh: &Entries<V>,
+) -> Result<Step<V>, AllocError>
+    requires edit { IsEdit lasts.old.items blocks.old.items from to at.first at.first at.start at.stop }
+    requires order { at.start ≤ at.stop }
+    requires rise { RiseFrom 0 (replaced from to fresh.now (flat blocks.old.items)) }
+    requires some { 0 < length (splice (slice_index_or blocks.old.items at.first []) at.start at.stop fresh.now) }
+    requires few { length (splice (slice_index_or blocks.old.items at.first []) at.start at.stop fresh.now) ≤ most }
+    requires no_fewer { at.stop - at.start ≤ length fresh.now }
+    ensures blocks { OnOk result (AreBlocks lasts.new.items blocks.new.items) }
+    ensures ok { OnOk result (flat blocks.new.items ≡ replaced from to fresh.now (flat blocks.old.items)) }
+    ensures step { IfOk result (λ s. Undoes s lasts.old.items lasts.new.items blocks.old.items blocks.new.items) }
+    ensures few { IfOk result (λ s. kept_by s ≡ 0) }
+    ensures lasts_err { OnErr result (lasts.new.items ≡ lasts.old.items) }
+    ensures blocks_err { OnErr result (blocks.new.items ≡ blocks.old.items) }
+    ensures lasts_len { length lasts.new.items ≡ length lasts.old.items }
+    ensures blocks_len { length blocks.new.items ≡ length blocks.old.items }
+    ensures lasts_capacity { vec_capacity lasts.old ≤ vec_capacity lasts.new }
+    ensures blocks_capacity { vec_capacity blocks.old ≤ vec_capacity blocks.new }
+{
+    let block = &mut blocks[at.first];
+    let gone = block.part(alloc, at.start, at.stop)?;
+    block.replace(at.start, at.stop, fresh)?;
+    let last = block.last_end();
+    let last = replace(&mut lasts[at.first], last);
+    Ok(Step::Entries(OldEntries {
+        at: at.first,
+        first: at.start,
+        end: at.start + fresh.len(),
+        last,
+        gone,
+    }))
 }
 
 /// The blocks that come in place of those of an edit, from the first to the last.

@@ -5,7 +5,7 @@ ghost use Rattle.std.specs.Prelude.{Some, IfSome, IfOk, OnOk, OnErr, option_map}
 ghost use Rattle.std.specs.List.{zip, splice};
 ghost use Rattle.squall_blocks.specs.Entries.{RiseFrom, last_from, beyond, up_to};
 
-use crate::ready::replace_ready;
+use crate::ready::{replace_ready, reserve_some};
 use crate::search::{End, ended};
 use squall_key::{Bound, Ends};
 use std::alloc::{AllocError, Global};
@@ -255,10 +255,23 @@ impl<V: Copy> Entries<V> {
         ensures err { OnErr result (self.new ≡ self.old) }
     {
         let (ends, values) = fresh.lists();
-        self.ends.reserve(ends.len())?;
-        self.values.reserve(values.len())?;
+        reserve_some(&mut self.ends, ends.len())?;
+        reserve_some(&mut self.values, values.len())?;
         replace_ready(&mut self.ends, first, end, ends);
         replace_ready(&mut self.values, first, end, values);
         Ok(())
+    }
+
+    /// Puts the fresh entries in place of those from `first` to `end`, which are as many or more.
+    /// It needs no room, and allocates nothing.
+    pub(crate) fn replace_by_fewer(&mut self, first: usize, end: usize, fresh: &Entries<V>)
+        requires order { first ≤ end }
+        requires within { end ≤ length self.old }
+        requires fewer { length fresh.now ≤ end - first }
+        ensures { self.new ≡ splice self.old first end fresh.now }
+    {
+        let (ends, values) = fresh.lists();
+        replace_ready(&mut self.ends, first, end, ends);
+        replace_ready(&mut self.values, first, end, values);
     }
 }

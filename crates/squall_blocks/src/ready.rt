@@ -3,7 +3,27 @@
 ghost use Rattle.std.specs.Prelude.{◌≡◌, ◌+◌, ◌-◌, ◌≤◌, ◌++◌, length, take, drop, vec_len, vec_capacity, OnOk, OnErr};
 ghost use Rattle.std.specs.List.{splice, copy_within};
 
+use crate::blocks::MOST;
 use std::alloc::AllocError;
+
+/// By how many items the list of a block grows, if it needs more room.
+const GROWTH: usize = 32;
+
+/// Reserves room in the list of a block: for these items more, and if there is none for some beyond
+/// them, up to the length of the longest block. Doubled lists would leave a third of their memory
+/// empty. After an error the list is unchanged.
+pub(crate) fn reserve_some<T>(items: &mut Vec<T>, more: usize) -> Result<(), AllocError>
+    ensures items { items.new.items ≡ items.old.items }
+    ensures room { OnOk result (vec_len items.new + more ≤ vec_capacity items.new) }
+    ensures capacity { vec_capacity items.old ≤ vec_capacity items.new }
+{
+    let len = items.len();
+    if items.capacity() - len >= more {
+        return Ok(());
+    }
+    let some = MOST.saturating_sub(len).min(GROWTH);
+    items.reserve_exact(more.max(some))
+}
 
 /// Reserves room in both lists. After an error there may be more room than before.
 pub(crate) fn reserve_both<T, U>(
@@ -82,22 +102,6 @@ fn turn_from<U>(items: &mut Vec<U>, from: usize, by: usize)
     tail.rotate_left(by);
 }
 
-/// Puts items at the end, and takes some out.
-fn swap_out<U: Drop>(items: &mut Vec<U>, first: usize, end: usize, fresh: Vec<U>)
-    requires order { first ≤ end }
-    requires within { end ≤ length items.old.items }
-    requires room { vec_len items.old + vec_len fresh ≤ vec_capacity items.old }
-    ensures capacity { vec_capacity items.old ≤ vec_capacity items.new }
-    ensures items { items.new.items ≡ take first items.old.items ++ (drop end items.old.items ++ fresh.items) }
-{
-    let mut fresh = fresh;
-    let len = items.len();
-    let more = fresh.len();
-    let _done = items.append(&mut fresh);
-    turn_from(items, first, end - first);
-    items.truncate(len - (end - first) + more);
-}
-
 /// Puts other items in place of as many from `first` on, and returns those that were there.
 pub(crate) fn swap_in<U: Drop>(items: &mut Vec<U>, first: usize, fresh: Vec<U>) -> Vec<U>
     requires within { first + vec_len fresh ≤ length items.old.items }
@@ -111,6 +115,56 @@ pub(crate) fn swap_in<U: Drop>(items: &mut Vec<U>, first: usize, fresh: Vec<U>) 
     fresh
 }
 
+/// Lets the first fresh items change places with as many others, from `first` on.
+fn swap_first<U: Drop>(items: &mut Vec<U>, first: usize, fresh: &mut Vec<U>, count: usize)
+    requires within { first + count ≤ length items.old.items }
+    requires some { count ≤ length fresh.old.items }
+    ensures capacity { vec_capacity items.old ≤ vec_capacity items.new }
+    ensures items { items.new.items ≡ take first items.old.items ++ (take count fresh.old.items ++ drop (first + count) items.old.items) }
+    ensures fresh { fresh.new.items ≡ take count (drop first items.old.items) ++ drop count fresh.old.items }
+    ensures len { vec_len items.new ≡ vec_len items.old }
+    ensures fresh_len { vec_len fresh.new ≡ vec_len fresh.old }
+{
+    items[first..first + count].swap_with_slice(&mut fresh[0..count]);
+}
+
+/// Puts more items, or as many, in place of those from `first` to `end`. What follows is moved once.
+fn put_more<U: Drop>(items: &mut Vec<U>, first: usize, end: usize, fresh: Vec<U>)
+    requires order { first ≤ end }
+    requires within { end ≤ length items.old.items }
+    requires more { end - first ≤ vec_len fresh }
+    requires room { vec_len items.old + vec_len fresh ≤ vec_capacity items.old }
+    ensures capacity { vec_capacity items.old ≤ vec_capacity items.new }
+    ensures items { items.new.items ≡ splice items.old.items first end fresh.items }
+{
+    let mut fresh = fresh;
+    let len = items.len();
+    let gone = end - first;
+    let more = fresh.len() - gone;
+    swap_first(items, first, &mut fresh, gone);
+    let _done = items.append(&mut fresh);
+    turn_from(items, end, len - first);
+    items.truncate(len + more);
+}
+
+/// Puts fewer items, or as many, in place of those from `first` to `end`. What follows is moved at
+/// most once.
+fn put_fewer<U: Drop>(items: &mut Vec<U>, first: usize, end: usize, fresh: Vec<U>)
+    requires order { first ≤ end }
+    requires within { end ≤ length items.old.items }
+    requires fewer { vec_len fresh ≤ end - first }
+    ensures capacity { vec_capacity items.old ≤ vec_capacity items.new }
+    ensures items { items.new.items ≡ splice items.old.items first end fresh.items }
+{
+    let stop = first + fresh.len();
+    let left = items.len() - (end - stop);
+    let _gone = swap_in(items, first, fresh);
+    if stop < end {
+        turn_from(items, stop, end - stop);
+        items.truncate(left);
+    }
+}
+
 /// Puts other items in place of those from `first` to `end`, in room that was reserved. It cannot
 /// fail, and needs no copies. What follows is moved only if their number changes.
 pub(crate) fn exchange_ready<U: Drop>(items: &mut Vec<U>, first: usize, end: usize, fresh: Vec<U>)
@@ -120,13 +174,11 @@ pub(crate) fn exchange_ready<U: Drop>(items: &mut Vec<U>, first: usize, end: usi
     ensures capacity { vec_capacity items.old ≤ vec_capacity items.new }
     ensures items { items.new.items ≡ splice items.old.items first end fresh.items }
 {
-    let rest = items.len() - end;
-    if fresh.len() == end - first {
-        let _gone = swap_in(items, first, fresh);
-        return;
+    if fresh.len() > end - first {
+        put_more(items, first, end, fresh);
+    } else {
+        put_fewer(items, first, end, fresh);
     }
-    swap_out(items, first, end, fresh);
-    turn_from(items, first, rest);
 }
 
 /// Puts other items in place of those from `first` to `end`, in both lists or in none.

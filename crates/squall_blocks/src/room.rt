@@ -4,7 +4,7 @@ ghost use Rattle.std.specs.Prelude.{◌≡◌, ◌+◌, ◌<◌, ◌≤◌, [], 
 ghost use Rattle.std.specs.List.{splice};
 
 use crate::entries::Entries;
-use crate::ready::{replace_ready, reserve_both};
+use crate::ready::{replace_ready, reserve_some};
 use crate::search::End;
 use squall_key::Bound;
 use std::alloc::{AllocError, Global};
@@ -68,10 +68,10 @@ impl<V: Copy> ReadyEntries<V> {
         let (ends, values) = entries.into_lists();
         let mut ends = ends;
         let mut values = values;
-        match reserve_both(&mut ends, &mut values, more, more) {
-            Ok(()) => Ok(ReadyEntries { ends, values }),
-            Err(_) => Err(Entries::of_lists(ends, values)),
+        if reserve_some(&mut ends, more).is_err() || reserve_some(&mut values, more).is_err() {
+            return Err(Entries::of_lists(ends, values));
         }
+        Ok(ReadyEntries { ends, values })
     }
 
     /// Puts the fresh entries in place of those from `first` to `end`. It needs room for them, and

@@ -1,7 +1,7 @@
 //! Replacements in no order beside a plain list: blocks are split, joined and dropped.
 
-use super::{bound, put, row};
-use squall_blocks::{Blocks, Entries};
+use super::{bound, edit, put, row, thousand};
+use squall_blocks::{Blocks, Draft, Entries};
 use std::alloc::{AllocError, Global};
 use std::process::Abort;
 
@@ -108,6 +108,68 @@ fn replacements_in_no_order(rt: HostRuntime) {
     for _ in 0..400u32 {
         state = next(state);
         plain = turn(&rt, rt.alloc(), &mut blocks, &plain, state, 90000);
+    }
+}
+
+/// One edit of a draft, of few entries by few. It answers the plain list after it.
+fn edit_plainly(
+    rt: &impl Abort,
+    alloc: Global,
+    draft: &mut Draft<u16>,
+    plain: &[(u64, u16)],
+    state: u64,
+) -> Vec<(u64, u16)> {
+    let from = (state >> 33) % 3000;
+    let to = from.saturating_add((state >> 40) % 40);
+    let count = ((state >> 24) % 6).min(to.saturating_sub(from));
+    let fresh = row(rt, alloc, from, 1, count, (state >> 50) as u16).expect(rt, "memory");
+    let after = replaced(alloc, plain, from, to, &fresh).expect(rt, "memory");
+    edit(rt, alloc, draft, from, to, &fresh).expect(rt, "memory");
+    after
+}
+
+/// Three edits of one draft, which is kept or undone. It answers the blocks, and the plain list if
+/// the draft is kept.
+fn draft_plainly(
+    rt: &impl Abort,
+    alloc: Global,
+    blocks: Blocks<u16>,
+    plain: &[(u64, u16)],
+    state: u64,
+) -> (Blocks<u16>, Option<Vec<(u64, u16)>>) {
+    let mut draft = Draft::of(blocks);
+    let first = edit_plainly(rt, alloc, &mut draft, plain, next(state));
+    let second = edit_plainly(rt, alloc, &mut draft, &first, next(next(state)));
+    let third = edit_plainly(rt, alloc, &mut draft, &second, next(next(next(state))));
+    if (state >> 20) % 2 == 0 {
+        (draft.undo(), None)
+    } else {
+        (draft.keep(), Some(third))
+    }
+}
+
+/// The entries in a plain list.
+fn listed(alloc: Global, blocks: &Blocks<u16>) -> Result<Vec<(u64, u16)>, AllocError> {
+    let mut all = Vec::new(alloc);
+    for (end, value) in blocks.iter() {
+        all.push((end.rank(), value))?;
+    }
+    Ok(all)
+}
+
+#[test]
+fn drafts_in_no_order(rt: HostRuntime) {
+    let mut blocks = thousand(&rt, rt.alloc()).expect(&rt, "memory");
+    let mut plain = listed(rt.alloc(), &blocks).expect(&rt, "memory");
+    let mut state = 1u64;
+    for _ in 0..300u32 {
+        state = next(state);
+        let (after, list) = draft_plainly(&rt, rt.alloc(), blocks, &plain, state);
+        blocks = after;
+        if let Some(list) = list {
+            plain = list;
+        }
+        holds!(&rt; is_plain(&blocks, &plain));
     }
 }
 

@@ -5,15 +5,15 @@ use Rattle.squall_blocks.proofs.entries.Entries.replace.Goals as goal
 
 pub replace_ready-requires-clause-within : goal.replace_ready-requires-clause-within
 replace_ready-requires-clause-within g c =
-    omega (arith, c.requires.within, length-zip c.self.inside.ends.items c.self.inside.values.items c.self.invariant, ap length c.self.view_is, ap length c.in_ok-reserve.ensures.items)
+    omega (arith, c.requires.within, length-zip c.self.inside.ends.items c.self.inside.values.items c.self.invariant, ap length c.self.view_is, ap length c.in_ok-reserve_some.ensures.items)
 
 pub replace_ready-requires-2-clause-within : goal.replace_ready-requires-2-clause-within
 replace_ready-requires-2-clause-within g c =
-    omega (arith, c.requires.within, c.self.invariant, length-zip c.self.inside.ends.items c.self.inside.values.items c.self.invariant, ap length c.self.view_is, ap length c.in_ok-reserve-2.ensures.items)
+    omega (arith, c.requires.within, c.self.invariant, length-zip c.self.inside.ends.items c.self.inside.values.items c.self.invariant, ap length c.self.view_is, ap length c.in_ok-reserve_some-2.ensures.items)
 
 pub returns-clause-ok : goal.returns-clause-ok
 returns-clause-ok g c =
     zip-splice c.self.inside.ends.items c.lists.result.0.now c.replace_ready.new.items.items c.self.inside.values.items c.lists.result.1.now c.replace_ready-2.new.items.items c.args.self.now c.args.fresh.now c.args.first c.args.end
     c.self.invariant c.self.view_is c.lists.ensures.ends c.lists.ensures.values c.lists.ensures.both
-    (c.replace_ready.ensures.items ∙ ap (λ l. splice l c.args.first c.args.end c.lists.result.0.now) c.in_ok-reserve.ensures.items)
-    (c.replace_ready-2.ensures.items ∙ ap (λ l. splice l c.args.first c.args.end c.lists.result.1.now) c.in_ok-reserve-2.ensures.items)
+    (c.replace_ready.ensures.items ∙ ap (λ l. splice l c.args.first c.args.end c.lists.result.0.now) c.in_ok-reserve_some.ensures.items)
+    (c.replace_ready-2.ensures.items ∙ ap (λ l. splice l c.args.first c.args.end c.lists.result.1.now) c.in_ok-reserve_some-2.ensures.items)
