@@ -9,7 +9,10 @@ ghost use Rattle.std.specs.Prelude.{◌≡◌, ◌≢◌, IfErr, IfOk, map, stri
 ghost use Rattle.std.specs.IoError.{error_kind};
 ghost use Rattle.squall_cli_run.specs.Line.{words_of};
 
-use squall_cli_run::{Files, Reader, Writer, perform};
+mod build;
+
+use build::TITLE;
+use squall_cli_run::{Files, Program, Reader, Writer};
 use std::alloc::{AllocError, Global};
 use std::fs::File;
 use std::io::ErrorKind;
@@ -70,15 +73,11 @@ fn run<R: Threads + Wait + Sync>(rt: &HostRuntime, threads: &R) -> io::Result<u8
     let mut input = Reader::new(rt.stdin());
     let mut out = Writer::new(rt.stdout());
     let mut err = Writer::on_stream(rt.stderr());
-    Ok(perform(
-        threads,
-        rt.alloc(),
-        &words,
-        &mut files,
-        &mut input,
-        &mut out,
-        &mut err,
-    ))
+    let program = Program {
+        alloc: rt.alloc(),
+        title: TITLE,
+    };
+    Ok(program.perform(threads, &words, &mut files, &mut input, &mut out, &mut err))
 }
 
 /// The status byte: that of what was done, or that of the error that kept the words away.

@@ -140,7 +140,3 @@ AsksForHelp words = IsTrue (list_any shows_help (faults_in words))
 -- the words have a fault, and it is no request for help
 abbrev pub IsFaulty : List Text → Type 0
 IsFaulty words = IsTrue (list_any (λ kind. not (shows_help kind)) (faults_in words))
-
--- the program's name and version on a line: `--version` shows it, and help begins with it
-abbrev pub title : List ℕ
-title = codes "squall 0.1.0\n"

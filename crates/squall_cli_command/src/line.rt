@@ -4,12 +4,12 @@ ghost use Rattle.std.specs.Prelude.{◌≡◌, ◌≢◌, ◌↔◌, ◌++◌, [
 ghost use Rattle.std.specs.Io.{StartsWith};
 ghost use Rattle.clap.specs.Words.{kind_of, found_of, rows_of, subcommand_rows_of};
 ghost use Rattle.squall_cli_command.specs.Line.{job_of, job_in, plain_job_in, file_job_in, job_seen, file_in, words_of, plain_words};
-ghost use Rattle.squall_cli_command.specs.Line.{faults_in, shows_help, title, Asks, AsksForHelp, IsFaulty};
+ghost use Rattle.squall_cli_command.specs.Line.{faults_in, shows_help, Asks, AsksForHelp, IsFaulty};
 ghost use Rattle.squall_cli_command.specs.declared.task.LineFault.TheVariants.{Help, Bad, NoMemory};
 
 use crate::form::form_of;
 use crate::inquiry::{asked, inquiry_of};
-use crate::parser::{TITLE, parser};
+use crate::parser::parser;
 use crate::stream::{followed, stream_of};
 use crate::task::{LineFault, Task};
 use clap::error::ErrorKind;
@@ -133,11 +133,11 @@ pub fn command<'a>(alloc: Global, words: &'a [&'a str]) -> Result<Task, LineFaul
 }
 
 /// What is to be shown for words that [`command`] refuses: the help or the version that they ask
-/// for, or what is wrong with them. Empty for words that ask for a task. The error comes if an
-/// allocation failed.
-pub fn message<'a>(alloc: Global, words: &'a [&'a str]) -> Result<String, AllocError>
-    // Help begins with the program's name and version.
-    ensures help { IfOk result (λ text. AsksForHelp (words_of words.entry.now) → StartsWith (string_bytes text) title) }
+/// for, or what is wrong with them. `title` is the line with the program's name and version, with
+/// its line end. Empty for words that ask for a task. The error comes if an allocation failed.
+pub fn message<'a>(alloc: Global, title: &str, words: &'a [&'a str]) -> Result<String, AllocError>
+    // Help and the version begin with the title.
+    ensures help { IfOk result (λ text. AsksForHelp (words_of words.entry.now) → StartsWith (string_bytes text) title.now) }
 
     // What is wrong is told after `error: `.
     ensures refused { IfOk result (λ text. IsFaulty (words_of words.entry.now) → StartsWith (string_bytes text) (codes "error: ")) }
@@ -149,22 +149,22 @@ pub fn message<'a>(alloc: Global, words: &'a [&'a str]) -> Result<String, AllocE
     let parser = parser(alloc)?;
     match parser.try_get_matches_from(words.as_slice()) {
         Ok(_) => Ok(String::new(alloc)),
-        Err(error) => text_of(alloc, &error),
+        Err(error) => text_of(alloc, title, &error),
     }
 }
 
-/// The text of an error that is no failed allocation: the version, or the help after the title, or
-/// what is wrong after `error: `. In both of these the fault's own text follows.
-fn text_of(alloc: Global, error: &Error) -> Result<String, AllocError>
+/// The text of an error that is no failed allocation: the title alone for the version, the title and
+/// the help, or what is wrong after `error: `.
+fn text_of(alloc: Global, title: &str, error: &Error) -> Result<String, AllocError>
     ensures memory { IfOk result (λ text. kind_of error.now ≢ ErrorKind.OutOfMemory) }
-    ensures help { IfOk result (λ text. IsTrue (shows_help (kind_of error.now)) → StartsWith (string_bytes text) title) }
+    ensures help { IfOk result (λ text. IsTrue (shows_help (kind_of error.now)) → StartsWith (string_bytes text) title.now) }
     ensures fault { IfOk result (λ text. IsTrue (not (shows_help (kind_of error.now))) → StartsWith (string_bytes text) (codes "error: ")) }
 {
     let shown = format!(in alloc; "{error}")?;
     match error.kind() {
         ErrorKind::OutOfMemory => Err(AllocError),
-        ErrorKind::DisplayVersion => String::from_str(alloc, TITLE),
-        ErrorKind::DisplayHelp => joined(alloc, TITLE, shown.as_str()),
+        ErrorKind::DisplayVersion => String::from_str(alloc, title),
+        ErrorKind::DisplayHelp => joined(alloc, title, shown.as_str()),
         _ => joined(alloc, "error: ", without_label(shown.as_str())),
     }
 }

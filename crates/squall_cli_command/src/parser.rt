@@ -16,10 +16,8 @@ use crate::exchange::{beyond_command, digest_command, repair_command};
 use clap::{Arg, ArgAction, Command};
 use std::alloc::{AllocError, Global};
 
-const VERSION: &str = "0.1.0";
-
-/// The program's name and version on a line.
-pub(crate) const TITLE: &str = "squall 0.1.0\n";
+/// Makes `clap` take `--version`. `message` shows its caller's title in the place of this text.
+const VERSION: &str = "-";
 
 const ABOUT: &str =
     "Says where each key is while a database moves from one partition plan to another.";

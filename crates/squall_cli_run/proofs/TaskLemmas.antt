@@ -1,4 +1,5 @@
 -- What is done for a task where something stops it, and which task words ask for.
+use Rattle.std.proofs.Math.Seq.{take-length}
 use Rattle.std.proofs.Common.{◌≡◌, ◌≢◌, ◌⊎◌, inl, inr, ℕ, ◌<◌, List, [], ◌++◌, Bool, true, false, not, ◌&&◌, Option, Some, None, Result, Err, refl, sym, subst, ap, ◌∙◌, arith}
 use Rattle.std.proofs.KnownBytes.{Appends-nil, Consumes-nil}
 use Rattle.std.proofs.lemmas.Bool.{false≢true}
@@ -13,7 +14,7 @@ use Rattle.squall_cli_lines.specs.declared.RunFault.{RunFault}
 use Rattle.squall_cli_lines.specs.declared.RunFault.TheVariants.{Read, Write, NoMemory}
 use Rattle.squall_cli_lines.specs.Script.{silence}
 use Rattle.squall_cli_command.specs.declared.form.Form.{Form}
-use Rattle.squall_cli_command.specs.Line.{Job, check, course, run, race, ask, stream, title, Asks, AsksForHelp, IsFaulty, shows_help}
+use Rattle.squall_cli_command.specs.Line.{Job, check, course, run, race, ask, stream, Asks, AsksForHelp, IsFaulty, shows_help}
 use Rattle.squall_cli_ask.specs.Files.{KnownFile, Unknown, Missing, Holds, Opens, BeginsFile, IsWholeFile, is_input}
 use Rattle.squall_cli_ask.specs.Reads.{Bytes, bytes_of, ReadsFrom, ReadsAll}
 use Rattle.squall_cli_ask.specs.Told.{status_of, IsUnread}
@@ -235,8 +236,8 @@ device_of_words A B words job asks (inr (inl b)) = inr (inl b)
 device_of_words A B words job asks (inr (inr n)) = inr (inr (job, asks, n))
 
 -- an allocation failed before help was written
-pub help_unwritten : (o : SinkState) (status : ℕ) → status ≡ 4 → ShowsHelp o o status
-help_unwritten o status e = (Err NoMemory, title, [], e, refl, Appends-nil o.contents, refl)
+pub help_unwritten : (title : List ℕ) (o : SinkState) (status : ℕ) → status ≡ 4 → ShowsHelp title o o status
+help_unwritten title o status e = (Err NoMemory, title, [], e, take-length title, Appends-nil o.contents, refl)
 
 -- ---- bars
 

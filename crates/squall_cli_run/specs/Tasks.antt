@@ -8,7 +8,7 @@ use Rattle.squall_cli_lines.specs.Script.{IsOutcome}
 use Rattle.squall_cli_lines.specs.declared.Ended.{Ended}
 use Rattle.squall_cli_lines.specs.declared.RunFault.{RunFault}
 use Rattle.squall_cli_command.specs.declared.form.Form.{Form}
-use Rattle.squall_cli_command.specs.Line.{Job, check, course, run, race, ask, stream, title, Asks, IsFaulty}
+use Rattle.squall_cli_command.specs.Line.{Job, check, course, run, race, ask, stream, Asks, IsFaulty}
 use Rattle.squall_cli_ask.specs.Files.{is_input}
 use Rattle.squall_cli_ask.specs.Reads.{Bytes, ReadsFrom, ReadsAll}
 use Rattle.squall_cli_ask.specs.Told.{status_of}
@@ -83,9 +83,9 @@ DrawsByWords words terminal before after status err err' =
 
 -- ---- help
 
--- a text that begins with the program's name and version is written, as far as the outcome with that status says
-abbrev pub ShowsHelp : SinkState → SinkState → ℕ → Type 0
-ShowsHelp output output' status =
+-- a text that begins with the title, the line with the program's name and version, is written, as far as the outcome with that status says
+abbrev pub ShowsHelp : List ℕ → SinkState → SinkState → ℕ → Type 0
+ShowsHelp title output output' status =
     (outcome : Result Ended RunFault) × (text : List ℕ) × (written : List ℕ)
     × (status ≡ status_of outcome) × StartsWith text title × TookBytes output output' written
     × IsWritten outcome (record { text = text; refused = false }) written

@@ -21,7 +21,7 @@ mod tasks;
 
 pub use check::check_text;
 pub use course::course_text;
-pub use program::perform;
+pub use program::Program;
 pub use race::race_text;
 pub use squall_cli_ask::Files;
 pub use squall_cli_command::{Form, LineFault, Task, command};

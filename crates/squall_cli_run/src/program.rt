@@ -19,33 +19,34 @@ use std::alloc::Global;
 use std::sync::Wait;
 use std::thread::Threads;
 
-/// Shows the help that the words ask for.
+/// Shows the help or the version that the words ask for.
 fn show_help<'a, O: Sink, E: Sink>(
     alloc: Global,
+    title: &str,
     words: &'a [&'a str],
     out: &mut O,
     err: &mut E,
 ) -> u8
-    ensures help { AsksForHelp (words_of words.entry.now) → ShowsHelp (O.state out.old) (O.state out.new) result }
+    ensures help { AsksForHelp (words_of words.entry.now) → ShowsHelp title.now (O.state out.old) (O.state out.new) result }
     ensures device { result ≡ 3 → OutputFails (O.state out.old) (O.state out.new) }
     ensures taken { result ≢ 2 }
     ensures heeds { result ≢ 3 → NoWriteFails (O.state out.old) (O.state out.new) }
     ensures told { (text : List ℕ) × IsTold (NamesIt (words_of words.entry.now)) result text × Says (E.state err.old) (E.state err.new) text }
 {
-    let Ok(help) = message(alloc, words) else {
+    let Ok(help) = message(alloc, title, words) else {
         return tell_fault(RunFault::NoMemory, err);
     };
     tell_outcome(write_output(out, Ended::Fine, help.as_str()), err)
 }
 
 /// Shows what is wrong with the words.
-fn show_fault<'a, E: Sink>(alloc: Global, words: &'a [&'a str], err: &mut E) -> u8
+fn show_fault<'a, E: Sink>(alloc: Global, title: &str, words: &'a [&'a str], err: &mut E) -> u8
     ensures bad { result ≢ 4 → result ≡ 2 }
     ensures device { result ≢ 3 }
     ensures told { IsFaulty (words_of words.entry.now) → (text : List ℕ) × IsTold (NamesIt (words_of words.entry.now)) result text
         × Says (E.state err.old) (E.state err.new) text }
 {
-    match message(alloc, words) {
+    match message(alloc, title, words) {
         Ok(text) => {
             say(err, text.as_str());
             BAD_WORDS
@@ -54,66 +55,76 @@ fn show_fault<'a, E: Sink>(alloc: Global, words: &'a [&'a str], err: &mut E) -> 
     }
 }
 
-/// Does what the words of a command line ask for, the program's name first. It gives the status with
-/// which the program is to end. A file named `-` is what `input` gives to its end. Files are opened
-/// and read in the order of the words.
-///
-/// - 0: the task was done, or `out` has the help or the version that was asked for.
-/// - 1: the input was refused; `out` says why.
-/// - 2: the words ask for nothing that there is, or for a report that is none; `err` says why.
-/// - 3: a file can't be opened, a read failed or found no end, or a write failed or took nothing;
-///   `err` says which.
-/// - 4: an allocation failed, as `err` says.
-///
-/// With status 0 or 1 `err` gets no text. If it is a terminal and a course is watched, it shows a bar
-/// before any text. A write to `err` that fails is the last of the bars or of the text that it is
-/// part of, and the status stays what it is.
-///
-/// [`run_text`], [`race_text`], [`check_text`] and [`course_text`] say what `out` has after a fault.
-///
-/// A race is run in threads, for which the call waits: what is said here holds if it returns.
-///
-/// [`run_text`]: crate::run_text
-/// [`race_text`]: crate::race_text
-/// [`check_text`]: crate::check_text
-/// [`course_text`]: crate::course_text
-pub fn perform<'a, R: Threads + Wait + Sync, F: Files, S: Source, O: Sink, E: Sink>(
-    rt: &R,
-    alloc: Global,
-    words: &'a [&'a str],
-    files: &mut F,
-    input: &mut S,
-    out: &mut O,
-    err: &mut E,
-) -> u8
-    // The task that the words ask for is done.
-    ensures done { (job : Job) → Asks (words_of words.entry.now) job → IsDone (bytes_at (F.known files.old) (S.state input.old) (O.state out.old))
-        (bytes_at (F.known files.new) (S.state input.new) (O.state out.new)) job result }
+/// The program that runs: its allocator, and the line with its name and its version, with which help
+/// begins. The line has its line end.
+#[derive(Clone, Copy)]
+pub struct Program<'t> {
+    pub alloc: Global,
+    pub title: &'t str,
+}
 
-    // A status that says that standard input was read to its end comes only when a read found that end.
-    ensures ended { (job : Job) → Asks (words_of words.entry.now) job → EndsInput job result → FoundEnd (S.state input.old) (S.state input.new) }
+impl Program<'_> {
+    /// Does what the words of a command line ask for, the program's name first. It gives the status with
+    /// which the program is to end. A file named `-` is what `input` gives to its end. Files are opened
+    /// and read in the order of the words.
+    ///
+    /// - 0: the task was done, or `out` has the help or the version that was asked for.
+    /// - 1: the input was refused; `out` says why.
+    /// - 2: the words ask for nothing that there is, or for a report that is none; `err` says why.
+    /// - 3: a file can't be opened, a read failed or found no end, or a write failed or took nothing;
+    ///   `err` says which.
+    /// - 4: an allocation failed, as `err` says.
+    ///
+    /// With status 0 or 1 `err` gets no text. If it is a terminal and a course is watched, it shows a bar
+    /// before any text. A write to `err` that fails is the last of the bars or of the text that it is
+    /// part of, and the status stays what it is.
+    ///
+    /// [`run_text`], [`race_text`], [`check_text`] and [`course_text`] say what `out` has after a fault.
+    ///
+    /// A race is run in threads, for which the call waits: what is said here holds if it returns.
+    ///
+    /// [`run_text`]: crate::run_text
+    /// [`race_text`]: crate::race_text
+    /// [`check_text`]: crate::check_text
+    /// [`course_text`]: crate::course_text
+    pub fn perform<'a, R: Threads + Wait + Sync, F: Files, S: Source, O: Sink, E: Sink>(
+        &self,
+        rt: &R,
+        words: &'a [&'a str],
+        files: &mut F,
+        input: &mut S,
+        out: &mut O,
+        err: &mut E,
+    ) -> u8
+        // The task that the words ask for is done.
+        ensures done { (job : Job) → Asks (words_of words.entry.now) job → IsDone (bytes_at (F.known files.old) (S.state input.old) (O.state out.old))
+            (bytes_at (F.known files.new) (S.state input.new) (O.state out.new)) job result }
 
-    // Status 3 comes only when a device failed, or the words name a file, which may have failed.
-    ensures device { result ≡ 3 → InputFails (S.state input.old) (S.state input.new)
-        ⊎ (OutputFails (O.state out.old) (O.state out.new) ⊎ ((job : Job) × Asks (words_of words.entry.now) job × NamesFile job)) }
+        // A status that says that standard input was read to its end comes only when a read found that end.
+        ensures ended { (job : Job) → Asks (words_of words.entry.now) job → EndsInput job result → FoundEnd (S.state input.old) (S.state input.new) }
 
-    // A read of standard input that failed gives status 3, and so does a write to `out` that failed or took nothing.
-    ensures heeds { result ≢ 3 → NoReadFails (S.state input.old) (S.state input.new) × NoWriteFails (O.state out.old) (O.state out.new) }
-    // `err` gets the bars of a course that is watched, if it is a terminal, and then the text that goes with the status, if no write fails.
-    ensures told { (drawn : SinkState) × DrawsByWords (words_of words.entry.now) (E.terminal err.old)
-        (bytes_at (F.known files.old) (S.state input.old) (O.state out.old)) (bytes_at (F.known files.new) (S.state input.new) (O.state out.new))
-        result (E.state err.old) drawn
-        × (text : List ℕ) × IsTold (NamesIt (words_of words.entry.now)) result text × Says drawn (E.state err.new) text }
+        // Status 3 comes only when a device failed, or the words name a file, which may have failed.
+        ensures device { result ≡ 3 → InputFails (S.state input.old) (S.state input.new)
+            ⊎ (OutputFails (O.state out.old) (O.state out.new) ⊎ ((job : Job) × Asks (words_of words.entry.now) job × NamesFile job)) }
 
-    // Unless an allocation failed, status 2 comes exactly for bad words,
-    ensures bad { result ≢ 4 → (result ≡ 2) ↔ AreBad (words_of words.entry.now) }
-    // and help that is asked for is written, whole at status 0.
-    ensures help { AsksForHelp (words_of words.entry.now) → ShowsHelp (O.state out.old) (O.state out.new) result }
-{
-    match command(alloc, words) {
-        Ok(task) => do_task(rt, alloc, &task, files, input, out, err),
-        Err(LineFault::Help) => show_help(alloc, words, out, err),
-        Err(LineFault::Bad) => show_fault(alloc, words, err),
-        Err(LineFault::NoMemory) => tell_fault(RunFault::NoMemory, err),
+        // A read of standard input that failed gives status 3, and so does a write to `out` that failed or took nothing.
+        ensures heeds { result ≢ 3 → NoReadFails (S.state input.old) (S.state input.new) × NoWriteFails (O.state out.old) (O.state out.new) }
+        // `err` gets the bars of a course that is watched, if it is a terminal, and then the text that goes with the status, if no write fails.
+        ensures told { (drawn : SinkState) × DrawsByWords (words_of words.entry.now) (E.terminal err.old)
+            (bytes_at (F.known files.old) (S.state input.old) (O.state out.old)) (bytes_at (F.known files.new) (S.state input.new) (O.state out.new))
+            result (E.state err.old) drawn
+            × (text : List ℕ) × IsTold (NamesIt (words_of words.entry.now)) result text × Says drawn (E.state err.new) text }
+
+        // Unless an allocation failed, status 2 comes exactly for bad words,
+        ensures bad { result ≢ 4 → (result ≡ 2) ↔ AreBad (words_of words.entry.now) }
+        // and help that is asked for is written, whole at status 0.
+        ensures help { AsksForHelp (words_of words.entry.now) → ShowsHelp self.now.title.now (O.state out.old) (O.state out.new) result }
+    {
+        match command(self.alloc, words) {
+            Ok(task) => do_task(rt, self.alloc, &task, files, input, out, err),
+            Err(LineFault::Help) => show_help(self.alloc, self.title, words, out, err),
+            Err(LineFault::Bad) => show_fault(self.alloc, self.title, words, err),
+            Err(LineFault::NoMemory) => tell_fault(RunFault::NoMemory, err),
+        }
     }
 }

@@ -198,6 +198,14 @@ impl Feed {
         self.failed
     }
 
+    /// How many bytes wait for the rest of their frame: 0 if the stream can end here, or a fault has
+    /// ended it.
+    pub fn waiting(&self) -> usize
+        ensures { result ≡ length self.now.waiting }
+    {
+        self.waiting.len()
+    }
+
     /// A feed that waits for the same as this one. An error means that an allocation failed.
     pub fn copied(&self, alloc: Global) -> Result<Feed, AllocError>
         ensures { IfOk result (λ f. f ≡ self.now) }

@@ -2,6 +2,9 @@
 use squall_cli_command::message;
 use std::test::Fail;
 
+/// The line with the program's name and version.
+const TITLE: &str = "squall 1.2.3 (0123abcd)\n";
+
 /// Command lines, how many lines are shown for each at most, and pieces of these. Help names each
 /// command with its files. That of `run` names each line of a scenario, and that of `race` each
 /// line of a race.
@@ -26,6 +29,7 @@ static SHOWN: [(&[&str], usize, &[&str]); 14] = [
             "repair",
             "squall help run",
             "squall help race",
+            TITLE,
         ],
     ),
     (
@@ -117,7 +121,7 @@ static SHOWN: [(&[&str], usize, &[&str]); 14] = [
             "  # ",
         ],
     ),
-    (&["squall", "--version"], 1, &["squall 0.1.0\n"]),
+    (&["squall", "--version"], 1, &[TITLE]),
     (
         &["squall", "walk"],
         24,
@@ -139,9 +143,9 @@ fn has_all(text: &str, lines: usize, pieces: &[&str]) -> bool {
 #[test]
 fn messages(rt: HostRuntime) -> Result<(), Fail> {
     for (words, lines, pieces) in &SHOWN {
-        assert!(rt; has_all(message(rt.alloc(), words)?.as_str(), *lines, pieces));
+        assert!(rt; has_all(message(rt.alloc(), TITLE, words)?.as_str(), *lines, pieces));
     }
-    assert!(rt; message(rt.alloc(), &["squall", "run", "x"])?.is_empty());
+    assert!(rt; message(rt.alloc(), TITLE, &["squall", "run", "x"])?.is_empty());
     Ok(())
 }
 
@@ -149,7 +153,7 @@ fn messages(rt: HostRuntime) -> Result<(), Fail> {
 #[test]
 fn tolerant_message(rt: HostRuntime) {
     for (words, lines, pieces) in &SHOWN {
-        if let Ok(text) = message(rt.alloc(), words) {
+        if let Ok(text) = message(rt.alloc(), TITLE, words) {
             assert!(rt; has_all(text.as_str(), *lines, pieces));
         }
     }

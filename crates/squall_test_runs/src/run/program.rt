@@ -3,7 +3,7 @@
 use super::asked::ASKED;
 use super::jobs::{GAP, NEW_CHECKED, OLD, RACE, SHOWN};
 use super::{Drip, Drops};
-use squall_cli_run::{Files, Reader, Source, Writer, perform};
+use squall_cli_run::{Files, Program, Reader, Source, Writer};
 use squall_example::NEW as NEW_PLAN;
 use std::alloc::{AllocError, Global};
 use std::io;
@@ -11,6 +11,9 @@ use std::io::Read;
 use std::sync::Wait;
 use std::test::Fail;
 use std::thread::Threads;
+
+/// The line with the program's name and version.
+const TITLE: &str = "squall 1.2.3 (0123abcd)\n";
 
 /// Four files: `new.json`, a plan; `gap.json`, which is none; `race.txt`, a race; and `broken.json`, of
 /// which a read fails.
@@ -76,15 +79,11 @@ fn status<R: Threads + Wait + Sync, S: Source + Drop>(
     err: &mut Drops,
 ) -> u8 {
     let (mut out, mut err) = (Writer::new(out), Writer::new(err));
-    perform(
-        rt,
+    Program {
         alloc,
-        words,
-        &mut FourFiles,
-        &mut input,
-        &mut out,
-        &mut err,
-    )
+        title: TITLE,
+    }
+    .perform(rt, words, &mut FourFiles, &mut input, &mut out, &mut err)
 }
 
 /// How many bytes the output takes, the status, the output, and the beginning of the text on

@@ -2,7 +2,7 @@
 
 use super::Drip;
 use super::program::{ALL, FourFiles};
-use squall_cli_run::{Reader, Writer, perform};
+use squall_cli_run::{Program, Reader, Writer};
 use std::alloc::Global;
 use std::io;
 use std::io::{IsTerminal, Write};
@@ -47,7 +47,8 @@ fn shows<R: Threads + Wait + Sync>(
     let mut out = Writer::new(io::sink());
     let mut err = Writer::on_stream(Screen { taken: &mut told });
     let files = &mut FourFiles;
-    let status = perform(rt, alloc, words, files, &mut input, &mut out, &mut err);
+    let program = Program { alloc, title: "" };
+    let status = program.perform(rt, words, files, &mut input, &mut out, &mut err);
     drop(err);
     status == wanted.0 && told.as_slice() == wanted.1.as_bytes()
 }

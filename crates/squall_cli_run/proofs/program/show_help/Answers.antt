@@ -6,7 +6,7 @@ use Rattle.squall_cli_run.proofs.TaskLemmas.{help_unwritten}
 use Rattle.squall_cli_run.proofs.program.show_help.Goals as goal
 
 pub returns-in_default-clause-help : goal.returns-in_default-clause-help
-returns-in_default-clause-help g c = λ _. help_unwritten (g.O.Sink.state c.args.out.now) c.tell_fault.result c.tell_fault.ensures.status
+returns-in_default-clause-help g c = λ _. help_unwritten c.args.title.now (g.O.Sink.state c.args.out.now) c.tell_fault.result c.tell_fault.ensures.status
 
 pub returns-in_default-clause-told : goal.returns-in_default-clause-told
 returns-in_default-clause-told g c = (fault_told NoMemory, inl (Err NoMemory, c.tell_fault.ensures.status, refl), c.tell_fault.ensures.told)

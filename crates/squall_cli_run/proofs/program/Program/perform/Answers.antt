@@ -6,7 +6,7 @@ use Rattle.squall_cli_run.specs.Named.{IsNamed, NamesIt}
 use Rattle.squall_cli_run.proofs.TaskLemmas.{nothing_done, device_of_words, help_unwritten, drawn_for_words, undrawn_unasked, no_help, no_fault}
 use Rattle.squall_cli_ask.proofs.Telling.{told_of}
 use Rattle.squall_cli_command.specs.Line.{words_of, job_seen}
-use Rattle.squall_cli_run.proofs.program.perform.Goals as goal
+use Rattle.squall_cli_run.proofs.program.Program.perform.Goals as goal
 
 pub returns-in-Ok-clause-device : goal.returns-in-Ok-clause-device
 returns-in-Ok-clause-device g c = λ e. device_of_words _ _ (words_of c.args.words.now) (job_seen c.in-Ok.task) c.in-Ok.ensures.task (c.do_task.ensures.device e)
@@ -46,7 +46,7 @@ pub returns-in-Err-NoMemory-clause-done : goal.returns-in-Err-NoMemory-clause-do
 returns-in-Err-NoMemory-clause-done g c = λ job asks. nothing_done (g.F.Files.known c.args.files.now) (g.S.Source.state c.args.input.now).remaining (g.O.Sink.state c.args.out.now).contents job c.tell_fault.result c.tell_fault.ensures.status
 
 pub returns-in-Err-NoMemory-clause-help : goal.returns-in-Err-NoMemory-clause-help
-returns-in-Err-NoMemory-clause-help g c = λ _. help_unwritten (g.O.Sink.state c.args.out.now) c.tell_fault.result c.tell_fault.ensures.status
+returns-in-Err-NoMemory-clause-help g c = λ _. help_unwritten c.args.self.now.title.now (g.O.Sink.state c.args.out.now) c.tell_fault.result c.tell_fault.ensures.status
 
 pub returns-in-Err-NoMemory-clause-told : goal.returns-in-Err-NoMemory-clause-told
 returns-in-Err-NoMemory-clause-told g c = (g.E.Sink.state c.args.err.now, ((λ job asks. undrawn_unasked _ _ _ c.tell_fault.result (g.E.Sink.state c.args.err.now) c.tell_fault.ensures.status job), inl refl), fault_told NoMemory, inl (Err NoMemory, c.tell_fault.ensures.status, refl), c.tell_fault.ensures.told)

@@ -1,0 +1,5 @@
+//! Which program this is: its version, and with which digits the checksum of its sources begins.
+//! `tools/sources --stamp` writes this file, which the checksum leaves out.
+
+/// The line that `squall --version` shows.
+pub(crate) const TITLE: &str = "squall 0.2.0 (bc98a78a)\n";
