@@ -51,9 +51,9 @@ static void the_course_of_the_examples(void) {
     CHECK(squall_course_moves(course, 0, moves, 3) == 2);
     CHECK(is_move(moves[0], key(2), key(3), 1, 3, 0));
     CHECK(is_move(moves[1], key(6), key(9), 3, 4, 0));
-    CHECK(squall_course_receivers(course, 0, parts, 4) == 2);
+    CHECK(squall_course_receivers(course, 0, 0, parts, 4) == 2);
     CHECK(parts[0] == 3 && parts[1] == 4);
-    CHECK(squall_course_receivers(course, 1, parts, 4) == 0);
+    CHECK(squall_course_receivers(course, 1, 0, parts, 4) == 0);
     CHECK(squall_course_old(course, 0, legs, 8) == 4);
     CHECK(is_leg(legs[0], 0, key(3), 1) && is_leg(legs[3], key(9), SQUALL_TOP, 4));
     CHECK(squall_course_new(course, 0, legs, 8) == 5);
@@ -76,9 +76,9 @@ static void a_course_of_two_subplans(void) {
     CHECK(is_move(moves[0], 0, squall_rank(1, 5), 1, 3, 1));
     CHECK(is_move(moves[1], squall_rank(1, 5), key(4), 1, 2, 0));
     CHECK(is_move(moves[2], key(4), SQUALL_TOP, 2, 1, 0));
-    CHECK(squall_course_receivers(course, 0, parts, 4) == 2);
+    CHECK(squall_course_receivers(course, 0, 0, parts, 4) == 2);
     CHECK(parts[0] == 1 && parts[1] == 2);
-    CHECK(squall_course_receivers(course, 1, parts, 4) == 1);
+    CHECK(squall_course_receivers(course, 1, 0, parts, 4) == 1);
     CHECK(parts[0] == 3);
     drop_course(course);
 }
@@ -101,8 +101,14 @@ static void answers_from_a_place_on(void) {
     CHECK(is_leg(legs[0], key(9), SQUALL_TOP, 4) && is_leg(legs[1], 7, 7, 7));
     CHECK(squall_course_new(course, 1, legs, 2) == 2);
     CHECK(is_leg(legs[0], key(2), key(3), 3) && is_leg(legs[1], key(3), key(5), 2));
-    CHECK(squall_course_receivers(course, 0, parts, 1) == 1);
+    CHECK(squall_course_receivers(course, 0, 0, parts, 1) == 1);
     CHECK(parts[0] == 3 && parts[1] == 7);
+    CHECK(squall_course_receivers(course, 0, 2, parts, 2) == 0);
+    CHECK(squall_course_receivers(course, 0, SIZE_MAX, parts, 2) == 0);
+    CHECK(squall_course_receivers(course, 1, 0, parts, 2) == 0);
+    CHECK(parts[0] == 3 && parts[1] == 7);
+    CHECK(squall_course_receivers(course, 0, 1, parts, 2) == 1);
+    CHECK(parts[0] == 4 && parts[1] == 7);
     drop_course(course);
 }
 
@@ -125,7 +131,7 @@ static void courses_that_are_none(void) {
     CHECK(squall_course_moves(course, 0, moves, 1) == 0);
     CHECK(squall_course_old(course, 0, legs, 1) == 0);
     CHECK(squall_course_new(course, 0, legs, 1) == 0);
-    CHECK(squall_course_receivers(course, 0, parts, 1) == 0);
+    CHECK(squall_course_receivers(course, 0, 0, parts, 1) == 0);
     drop_course(course);
 }
 

@@ -271,7 +271,7 @@ static bool refuse_in_receivers(const squall_course *course, long number) {
     uint32_t parts[2] = {7, 7};
     asked = 0;
     refused = number;
-    size_t count = squall_course_receivers(course, 0, parts, 2);
+    size_t count = squall_course_receivers(course, 0, 0, parts, 2);
     bool was_refused = asked >= number;
     refused = 0;
     CHECK(fits(count == SQUALL_NO_COUNT ? SQUALL_NO_MEMORY : SQUALL_OK, was_refused));
@@ -291,7 +291,7 @@ static void receivers_of_a_course(void) {
     /* It tries a second time, for less: so one refused allocation is not enough. */
     uint32_t parts[2] = {7, 7};
     refuses_all = true;
-    CHECK(squall_course_receivers(course, 0, parts, 2) == SQUALL_NO_COUNT);
+    CHECK(squall_course_receivers(course, 0, 0, parts, 2) == SQUALL_NO_COUNT);
     refuses_all = false;
     CHECK(parts[0] == 7 && parts[1] == 7);
     squall_course_close(course);

@@ -116,6 +116,7 @@ static void answers_closed(squall_leader *leader) {
     CHECK(squall_leader_finished(leader) == 0);
     CHECK(squall_leader_hear(leader, frame, sizeof frame) == SQUALL_CLOSED);
     CHECK(squall_leader_feed(leader, frame, sizeof frame) == SQUALL_CLOSED);
+    CHECK(squall_leader_waiting(leader) == 0);
     CHECK(squall_leader_gather_board(leader, SQUALL_NO_LIMIT) == SQUALL_CLOSED);
     CHECK(squall_leader_gather_digest(leader, SQUALL_NO_LIMIT) == SQUALL_CLOSED);
     CHECK(squall_leader_gather_repair(leader, SQUALL_NO_LIMIT) == SQUALL_CLOSED);
@@ -275,6 +276,7 @@ static void a_fault_in_a_stream(void) {
     CHECK(squall_leader_open_next(leader, out, 2) == SQUALL_OK);
     size_t len = squall_frame_done(1, 0, 3, stream, sizeof stream);
     CHECK(squall_leader_feed(leader, stream, len + 2) == SQUALL_FRAME_MAGIC);
+    CHECK(squall_leader_waiting(leader) == 0);
     CHECK(squall_leader_open_next(leader, out, 2) == SQUALL_NOT_DONE && out[1] == 4);
     CHECK(squall_leader_feed(leader, stream, len) == SQUALL_FAILED);
     CHECK(squall_leader_feed(leader, stream, 0) == SQUALL_FAILED);
@@ -291,7 +293,9 @@ static void a_frame_beside_a_stream(void) {
     CHECK(squall_leader_feed(leader, EMPTY_DIGEST, 3) == SQUALL_OK);
     CHECK(squall_leader_hear(leader, stream, len / 2) == SQUALL_OK);
     CHECK(squall_leader_gather_repair(leader, SQUALL_NO_LIMIT) == SQUALL_NO_DIGEST);
+    CHECK(squall_leader_waiting(leader) == 3);
     CHECK(squall_leader_feed(leader, EMPTY_DIGEST + 3, sizeof EMPTY_DIGEST - 3) == SQUALL_OK);
+    CHECK(squall_leader_waiting(leader) == 0);
     CHECK(squall_leader_gather_repair(leader, SQUALL_NO_LIMIT) == SQUALL_OK);
     CHECK(squall_leader_feed(leader, stream, len) == SQUALL_OK);
     drop_leader(leader);

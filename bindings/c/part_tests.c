@@ -83,6 +83,7 @@ static void has_no_partition(squall_part *part) {
     uint8_t out[8];
     CHECK(hear_opening(part) == SQUALL_CLOSED);
     CHECK(feed_opening(part) == SQUALL_CLOSED);
+    CHECK(squall_part_waiting(part) == 0);
     CHECK(squall_part_give(part, 1, &chunk) == SQUALL_CLOSED);
     CHECK(squall_part_give_at(part, 0, &chunk) == SQUALL_CLOSED);
     CHECK(is_chunk(chunk, NO_CHUNK));
@@ -285,6 +286,7 @@ static void a_fault_in_a_stream(void) {
     squall_chunk chunk;
     memcpy(stream, opening, sizeof opening);
     CHECK(squall_part_feed(part, stream, sizeof stream) == SQUALL_FRAME_MAGIC);
+    CHECK(squall_part_waiting(part) == 0);
     CHECK(squall_part_give(part, 1, &chunk) == SQUALL_OK);
     CHECK(squall_part_feed(part, EMPTY_DELTA, sizeof EMPTY_DELTA) == SQUALL_FAILED);
     CHECK(squall_part_feed(part, EMPTY_DELTA, 0) == SQUALL_FAILED);
@@ -301,7 +303,9 @@ static void a_frame_beside_a_stream(void) {
     CHECK(squall_part_feed(part, opening, 3) == SQUALL_OK);
     CHECK(squall_part_hear(part, EMPTY_DIGEST, sizeof EMPTY_DIGEST) == SQUALL_OK);
     CHECK(squall_part_hear(part, EMPTY_DIGEST, 3) == SQUALL_FRAME_SHORT);
+    CHECK(squall_part_waiting(part) == 3);
     CHECK(squall_part_feed(part, opening + 3, sizeof opening - 3) == SQUALL_OK);
+    CHECK(squall_part_waiting(part) == 0);
     CHECK(squall_part_give(part, 1, &chunk) == SQUALL_OK);
     CHECK(squall_part_gather_repair(part, SQUALL_NO_LIMIT) == SQUALL_OK);
     drop_part(part);

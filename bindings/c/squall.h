@@ -4,7 +4,8 @@
  * says for each key which partition to ask. A view is what a router said at one moment, for threads
  * that only read. An errand follows the replies of partitions until a key is found. A course says
  * which keys move, from which partition to which. A partition holds keys, gives and loads them while
- * they move, and replies to requests for them.
+ * they move, and replies to requests for them. A leader begins one course after another, and opens
+ * their sub-plans.
  *
  * Link with libsquall.a or libsquall.so (tools/library makes both). docs/EMBEDDING.md is a
  * walk through all of this; docs/FORMATS.md has the text of a plan and the bytes of a frame.
@@ -15,21 +16,23 @@
  * What the library's contracts promise holds for a host that keeps these rules. Nothing can check
  * them: where one is broken, the behaviour is undefined.
  *
- * 1. Rooms. Routers, views, errands, courses and partitions live in memory that the host gives: a
- *    room. A room has at least as many bytes as squall_router_size(), squall_view_size(),
- *    squall_errand_size(), squall_course_size() or squall_part_size() answers, is writable and is
- *    aligned to 16, as memory of malloc is.
- * 2. Open once, close once. Each squall_.._open, _again, _start, _start_at, _newest and _first is
- *    followed by one close of the same kind, also if the status says that nothing was opened.
- *    Between the two the host neither reads nor writes nor copies nor moves the room: its address is
- *    a handle, which it passes to functions of this header that take one of that kind, and to
- *    nothing else. After the close the room is plain memory again, and may be opened again.
+ * 1. Rooms. Routers, views, errands, courses, partitions and leaders live in memory that the host
+ *    gives: a room. A room has at least as many bytes as squall_router_size(), squall_view_size(),
+ *    squall_errand_size(), squall_course_size(), squall_part_size() or squall_leader_size() answers,
+ *    is writable and is aligned to 16, as memory of malloc is.
+ * 2. Open once, close once. These calls open a room: each squall_.._open, squall_view_again,
+ *    squall_errand_start and _start_at, squall_course_newest and _first, squall_leader_resume, and
+ *    squall_leader_course, whose room is that of a course. Each is followed by one close of the
+ *    room's kind, also if the status says that nothing was opened. Between the two the host neither
+ *    reads nor writes nor copies nor moves the room: its address is a handle, which it passes to
+ *    functions of this header that take one of that kind, and to nothing else. After the close the
+ *    room is plain memory again, and may be opened again.
  * 3. One call at a time. Each handle serves one call at a time, also if the call only reads and its
  *    pointer is to const. Views are the exception, for the calls that only read them:
  *    squall_view_status, _route, _routes, _locate, _legs, _number and _changes, and
  *    squall_errand_start_at. Any number of these may run at once with one view, and no other call with it
- *    meanwhile. Calls with different handles may run at the same time, also with views or courses that
- *    were made from one another.
+ *    meanwhile. Calls with different handles may run at the same time, also if one was made from the
+ *    other, or both share a course or a table.
  *    What the contracts promise rests on one call at a time. That the exception changes nothing of it is
  *    trusted and not proved, for this reason: these calls take the view by a shared borrow and change no
  *    count of owners, and nothing else in a view can change behind a shared borrow.
@@ -37,20 +40,21 @@
  *    thread, or a sequentially consistent atomic orders the calls. The same orders the opening of a
  *    view before the calls that share it, and those before its close. No function starts a thread,
  *    takes a lock or waits.
- * 5. Bytes. A pointer and a length name that many bytes, which are readable and do not change while
- *    the call runs. The pointer is not null, even for length 0.
- * 6. Places for answers. A pointer `out` and a `room` name that many places, which are writable and
- *    in no handle's room. The pointer is not null, even for room 0, and is aligned as what it points
- *    to is.
+ * 5. What is read. A pointer and a length name that many bytes, `ranks` and `count` that many ranks,
+ *    and `chunk` one chunk. They are readable and do not change while the call runs. The pointer is
+ *    not null, even for length 0, and is aligned as what it points to is.
+ * 6. Places for answers. A pointer `out` or `parts` and a `room` name that many places, and an `out`
+ *    without a `room` names one. They are writable and in no handle's room. The pointer is not null,
+ *    even for room 0, and is aligned as what it points to is.
  * 7. Memory. malloc, realloc and free of the program are one allocator, which aligns a block to each
  *    power of two up to 16 that divides its size. heap.c, which is part of the library, calls them.
  *    A host with an allocator of its own links its own three functions in the place of that file,
  *    which do what is said there, and return.
  * 8. Signals and forks. No function is called in a signal handler, nor, where the program has
  *    threads, in the child of a fork before it executes another program.
- *
- * 9. Stack. squall_router_open, squall_router_issued and squall_course_open have 192 KiB of stack, as
- *    a text may nest objects. Any other call has 64 KiB.
+ * 9. Stack. The calls that read the text of a plan have 192 KiB of stack, as a text may nest objects:
+ *    squall_router_open, squall_router_issued, squall_course_open, squall_leader_open and
+ *    squall_leader_begin. Any other call has 64 KiB.
  *
  * What is no matter of these rules: any numbers, any bytes of a plan or a frame, any order of
  * reports and any failed allocation. Each has its answer below.
@@ -62,7 +66,8 @@
  *          ranks below SQUALL_TOP are keys; SQUALL_TOP is the end of all keys and no key itself.
  * Span     the keys from lo on, below hi.
  * Course   a numbered change from one plan to another, worked off in sub-plans, numbered from 0.
- * Board    what a router was told. Reports may come in any order and more than once.
+ * Board    what a router, a partition or a leader was told. Reports may come in any order and more
+ *          than once.
  */
 #ifndef SQUALL_H
 #define SQUALL_H
@@ -74,7 +79,8 @@
 extern "C" {
 #endif
 
-/* How a call ended. The faults of plans and frames are explained in docs/FORMATS.md. */
+/* How a call ended. squall_message has a text for each. The faults of plans and frames are explained in
+ * docs/FORMATS.md. */
 enum squall_status {
     SQUALL_OK = 0,
     SQUALL_NO_MEMORY = 1, /* an allocation failed that was needed, or a count of owners is full */
@@ -85,7 +91,7 @@ enum squall_status {
     SQUALL_NO_DIGEST = 6, /* no digest was heard that could be answered */
     SQUALL_FULL = 7,      /* the router would hear of more than its limit */
 
-    /* Why a text is no plan; of squall_router_open the old one. */
+    /* Why a text is no plan; of squall_router_open and squall_course_open the old one. */
     SQUALL_PLAN_JSON = 11,
     SQUALL_PLAN_SHAPE = 12,
     SQUALL_PLAN_BAD_PART = 13,
@@ -321,6 +327,11 @@ uint32_t squall_router_issued(squall_router *router, uint32_t number, const uint
  * Allocates. */
 uint32_t squall_router_feed(squall_router *router, const uint8_t *bytes, size_t len);
 
+/* How many bytes that squall_router_feed took wait for the rest of their frame. It is 0 if none do, if a
+ * fault has ended the stream, or if there is no router. If it is above 0 when the stream ends, the
+ * stream was cut within a frame. Allocates nothing. */
+size_t squall_router_waiting(const squall_router *router);
+
 /* Takes one whole frame, no more and no less, for transports that keep messages apart. A delta is
  * taken as reports; a digest is kept for squall_router_gather_repair. Answers
  *   SQUALL_OK         the message was taken
@@ -523,10 +534,11 @@ size_t squall_course_old_text(const squall_course *course, uint8_t *out, size_t 
 /* The same of the new plan. */
 size_t squall_course_new_text(const squall_course *course, uint8_t *out, size_t room);
 
-/* Writes the partitions to which keys move in the sub-plan, by rising number, to the front of `out`,
- * as many as there is room for, and answers how many: 0 if there are none. SQUALL_NO_COUNT if an
- * allocation fails: then nothing is written. Allocates. */
-size_t squall_course_receivers(const squall_course *course, uint32_t sub, uint32_t *out, size_t room);
+/* Writes the partitions to which keys move in the sub-plan, by rising number, from the one at `from` on,
+ * counted from 0, to the front of `out`, as many as there is room for, and answers how many: 0 if there
+ * are no more. SQUALL_NO_COUNT if an allocation fails: then nothing is written. Allocates. */
+size_t squall_course_receivers(const squall_course *course, uint32_t sub, size_t from, uint32_t *out,
+                               size_t room);
 
 /* Writes the frame of the report that this course was issued to the front of `out`, and answers how
  * many bytes it has: 0 if there is no course; SQUALL_NO_COUNT if an allocation fails. If the room is
@@ -614,6 +626,10 @@ uint32_t squall_part_status(const squall_part *part);
  * also has the calls that answered SQUALL_FRAME_..: they took the messages before the fault. Allocates. */
 uint32_t squall_part_feed(squall_part *part, const uint8_t *bytes, size_t len);
 
+/* How many bytes that squall_part_feed took wait for the rest of their frame, as squall_router_waiting
+ * says it; 0 if there is no partition. Allocates nothing. */
+size_t squall_part_waiting(const squall_part *part);
+
 /* Takes one whole frame, as squall_router_hear does: a delta is absorbed, and a digest kept for
  * squall_part_gather_repair. Answers as squall_router_hear does, and SQUALL_CLOSED if there is no
  * partition. At all but SQUALL_OK nothing changed. It has nothing to do with the stream of
@@ -692,9 +708,7 @@ void squall_part_close(squall_part *part);
 /* LEADERS
  *
  * A leader begins one course after another and opens their sub-plans, one at a time. It hears from
- * partitions what is done, and sends all that it knows. The rules above hold for it as for a router:
- * squall_leader_open and squall_leader_resume open a room, and squall_leader_close closes it.
- * squall_leader_open and squall_leader_begin have 192 KiB of stack. */
+ * partitions what is done, and sends all that it knows. */
 
 /* How many bytes the room of a leader has. */
 size_t squall_leader_size(void);
@@ -726,6 +740,10 @@ uint64_t squall_leader_fault_at(const squall_leader *leader);
  * squall_leader_gather_repair. What is left waits for the next bytes. A log also has the calls that
  * answered SQUALL_FRAME_..: they took the messages before the fault. Allocates. */
 uint32_t squall_leader_feed(squall_leader *leader, const uint8_t *bytes, size_t len);
+
+/* How many bytes that squall_leader_feed took wait for the rest of their frame, as squall_router_waiting
+ * says it; 0 if there is no leader. Allocates nothing. */
+size_t squall_leader_waiting(const squall_leader *leader);
 
 /* Takes one whole frame, as squall_router_hear does, and answers as that does. A delta is taken as
  * reports. A digest is kept for squall_leader_gather_repair. It has nothing to do with the stream of
@@ -787,7 +805,15 @@ void squall_leader_close(squall_leader *leader);
 
 /* THE LIBRARY */
 
-/* The version of the library, as "0.1.0": a text that ends in a 0 byte and is never freed. May be
+/* What a status says, one of squall_status, as "an allocation failed": an English text that ends in a 0
+ * byte and is never freed. It begins with a small letter and ends with no point. All numbers that are no
+ * status have one text. That of a plan's fault says `this entry` or `this key` of the place that
+ * squall_.._fault_at answers; it begins with "the text is no plan: ", or with "the new text is no plan: "
+ * for SQUALL_NEW_PLAN_.. . That of a frame's fault begins with "no frame: ". May be called at any time, in
+ * any thread. Allocates nothing. */
+const char *squall_message(uint32_t status);
+
+/* The version of the library, as "1.2.3": a text that ends in a 0 byte and is never freed. May be
  * called at any time, in any thread. Allocates nothing. */
 const char *squall_version(void);
 

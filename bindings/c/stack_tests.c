@@ -1,5 +1,6 @@
-/* Tests in threads with no more stack than the header says: texts of plans that nest as deep as JSON is
- * read, and all other calls over many keys. The last line is `N passed, M failed`. */
+/* Tests in threads with no more stack than the header says: each call that reads the text of a plan, over
+ * texts that nest as deep as JSON is read, and all other calls over many keys. The last line is
+ * `N passed, M failed`. */
 #include "check.h"
 
 #include <pthread.h>
@@ -100,13 +101,61 @@ static void *take_and_tell(void *unused) {
     /* With a limit at what the router tells, frames are joined to a copy of its board. */
     CHECK(squall_router_limit(opened, 1, SPANS, 0, 0) == SQUALL_OK);
     CHECK(squall_router_feed(opened, frames, len / 2) == SQUALL_OK);
+    CHECK(squall_router_waiting(opened) == len / 2);
     CHECK(squall_router_feed(opened, frames + len / 2, len - len / 2) == SQUALL_OK);
     CHECK(squall_router_hear(opened, frames, len) == SQUALL_OK);
+    CHECK(squall_router_taken(opened) == 2);
     CHECK(squall_router_gather_digest(opened, SQUALL_NO_LIMIT) == SQUALL_OK);
     len = squall_router_frame(opened, frames, SQUALL_FRAME_BYTES);
     CHECK(squall_router_hear(opened, frames, len) == SQUALL_OK);
     CHECK(squall_router_gather_repair(opened, SQUALL_NO_LIMIT) == SQUALL_OK);
     CHECK(squall_router_done(opened, 1, 0, 4) == SQUALL_OK);
+    CHECK(squall_router_opened(opened, 1, 0) == SQUALL_OK);
+    return NULL;
+}
+
+/* What a router tells of its board and its course. */
+static void *tell(void *unused) {
+    (void)unused;
+    squall_leg legs[4];
+    squall_counts counts;
+    CHECK(squall_router_route(opened, squall_rank(2, 0)) == 3);
+    CHECK(squall_router_legs(opened, 0, SQUALL_TOP, legs, 4) == 4);
+    CHECK(squall_router_clashed(opened) == 0);
+    CHECK(squall_router_counts(opened, &counts, 1) == 1 && counts.spans == SPANS);
+    CHECK(squall_router_status_text(opened, frames, SQUALL_FRAME_BYTES) > 0);
+    CHECK(squall_router_picture(opened, frames, 0) > 0);
+    CHECK(*squall_message(squall_router_status(opened)) != '\0');
+    return NULL;
+}
+
+/* The calls of two views. Between them one key more was loaded. */
+static void *compare(void *unused) {
+    (void)unused;
+    squall_view *view = (squall_view *)room_of(squall_view_size());
+    squall_view *other = (squall_view *)room_of(squall_view_size());
+    squall_errand *errand = (squall_errand *)room_of(squall_errand_size());
+    const uint64_t rank = squall_rank(2, 2 * SPANS);
+    uint32_t part;
+    squall_leg legs[4];
+    squall_span spans[4];
+    squall_view_open(opened, view);
+    squall_view_again(view, other);
+    CHECK(squall_view_changes(view, other, 0, SQUALL_TOP, spans, 4) == 0);
+    squall_view_close(other);
+    CHECK(squall_router_loaded(opened, 1, 0, 3, rank, rank + 1) == SQUALL_OK);
+    squall_view_open(opened, other);
+    CHECK(squall_view_changes(view, other, 0, SQUALL_TOP, spans, 4) == 1);
+    CHECK(squall_view_routes(other, &rank, 1, &part, 1) == 1 && part == 3);
+    CHECK(squall_view_legs(other, 0, SQUALL_TOP, legs, 4) == 4);
+    squall_errand_start_at(other, rank, errand);
+    CHECK(squall_errand_heed(errand, SQUALL_HELD, 0, 0) == SQUALL_SERVED);
+    squall_errand_close(errand);
+    squall_view_close(other);
+    squall_view_close(view);
+    free(errand);
+    free(other);
+    free(view);
     return NULL;
 }
 
@@ -118,12 +167,17 @@ static void *look(void *unused) {
     const uint64_t rank = squall_rank(2, 0);
     squall_place place;
     squall_move moves[2];
+    squall_leg legs[8];
+    uint32_t parts[2];
     squall_view_open(opened, view);
     CHECK(squall_view_route(view, rank) == 3);
     CHECK(squall_view_locate(view, &rank, 1, &place, 1) == 1);
     squall_course_newest(opened, course);
     CHECK(squall_course_moves(course, 0, moves, 2) == 2);
+    CHECK(squall_course_old(course, 0, legs, 8) == 4 && squall_course_new(course, 0, legs, 8) == 5);
+    CHECK(squall_course_receivers(course, 0, 0, parts, 2) == 2);
     CHECK(squall_course_frame(course, frames, SQUALL_FRAME_BYTES) > 0);
+    CHECK(squall_course_old_text(course, frames, SQUALL_FRAME_BYTES) > 0);
     CHECK(squall_course_new_text(course, frames, SQUALL_FRAME_BYTES) > 0);
     squall_errand_start(opened, rank, errand);
     CHECK(squall_errand_heed(errand, SQUALL_HELD, 0, 0) == SQUALL_SERVED);
@@ -146,6 +200,7 @@ static void *hold(void *room) {
     CHECK(squall_router_gather_board(opened, SQUALL_NO_LIMIT) == SQUALL_OK);
     size_t len = squall_router_frame(opened, frames, SQUALL_FRAME_BYTES);
     CHECK(squall_part_feed(part, frames, len / 2) == SQUALL_OK);
+    CHECK(squall_part_waiting(part) == len / 2);
     CHECK(squall_part_feed(part, frames + len / 2, len - len / 2) == SQUALL_OK);
     CHECK(squall_part_hear(part, frames, len) == SQUALL_OK);
     CHECK(squall_part_hear(part, opening, squall_frame_opened(1, 0, opening, sizeof opening))
@@ -190,9 +245,11 @@ static void *lead(void *unused) {
     CHECK(squall_router_gather_board(opened, SQUALL_NO_LIMIT) == SQUALL_OK);
     size_t len = squall_router_frame(opened, frames, SQUALL_FRAME_BYTES);
     CHECK(squall_leader_feed(leader, frames, len / 2) == SQUALL_OK);
+    CHECK(squall_leader_waiting(leader) == len / 2);
     CHECK(squall_leader_feed(leader, frames + len / 2, len - len / 2) == SQUALL_OK);
     CHECK(squall_leader_hear(leader, frames, len) == SQUALL_OK);
     CHECK(squall_leader_open_next(leader, out, 2) == SQUALL_OK);
+    CHECK(squall_leader_finished(leader) == 0);
     CHECK(squall_leader_gather_board(leader, SQUALL_NO_LIMIT) == SQUALL_OK);
     CHECK(squall_leader_gather_digest(leader, SQUALL_NO_LIMIT) == SQUALL_OK);
     len = squall_leader_frame(leader, frames, SQUALL_FRAME_BYTES);
@@ -210,7 +267,9 @@ static void calls_over_many_spans(void) {
     frames = (uint8_t *)room_of(SQUALL_FRAME_BYTES);
     opened = router_of(1, OLD, NEW);
     in_thread(OTHER_CALLS, take_and_tell);
+    in_thread(OTHER_CALLS, tell);
     in_thread(OTHER_CALLS, look);
+    in_thread(OTHER_CALLS, compare);
     squall_part *part = (squall_part *)room_of(squall_part_size());
     in_thread_with(OTHER_CALLS, opening_of_a_part, part);
     in_thread_with(OTHER_CALLS, hold, part);

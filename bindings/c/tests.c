@@ -234,8 +234,10 @@ static void frames_cut_anywhere(void) {
     for (size_t cut = 0; cut <= len; cut++) {
         squall_router *router = fresh();
         CHECK(squall_router_feed(router, bytes, cut) == SQUALL_OK);
+        CHECK(squall_router_waiting(router) == (cut < len ? cut : 0));
         CHECK(squall_router_route(router, key(2)) == (cut < len ? 1 : 3));
         CHECK(squall_router_feed(router, bytes + cut, len - cut) == SQUALL_OK);
+        CHECK(squall_router_waiting(router) == 0);
         CHECK(squall_router_route(router, key(2)) == 3);
         drop_router(router);
     }
@@ -299,8 +301,11 @@ static void a_fault_that_waits_for_its_bytes(void) {
     squall_router *router = fresh();
     CHECK(feed_hex(router, "535101") == SQUALL_OK);
     CHECK(feed_hex(router, "") == SQUALL_OK);
+    CHECK(squall_router_waiting(router) == 3);
     CHECK(feed_hex(router, "03") == SQUALL_FRAME_KIND);
+    CHECK(squall_router_waiting(router) == 0);
     CHECK(feed_hex(router, "03") == SQUALL_FAILED);
+    CHECK(squall_router_waiting(router) == 0);
     drop_router(router);
 }
 
@@ -352,6 +357,7 @@ static void a_frame_beside_a_stream(void) {
     squall_router *router = fresh();
     CHECK(feed_hex(router, "535101") == SQUALL_OK);
     CHECK(hear_hex(router, LOAD_FRAME) == SQUALL_OK);
+    CHECK(squall_router_waiting(router) == 3);
     CHECK(squall_router_route(router, key(2)) == 3);
     CHECK(feed_hex(router, "03") == SQUALL_FRAME_KIND);
     CHECK(feed_hex(router, "") == SQUALL_FAILED);
@@ -681,6 +687,7 @@ static void where_no_router_stands(void) {
     CHECK(squall_router_opened(none, 1, 0) == SQUALL_CLOSED);
     CHECK(issue(none, 2, NEW) == SQUALL_CLOSED);
     CHECK(feed_hex(none, EMPTY_DELTA) == SQUALL_CLOSED);
+    CHECK(squall_router_waiting(none) == 0);
     CHECK(squall_router_route(none, key(2)) == SQUALL_NOWHERE);
     CHECK(squall_router_legs(none, 0, SQUALL_TOP, legs, 1) == 0);
     CHECK(squall_router_number(none) == 0);

@@ -6,7 +6,7 @@ import (
 	"sync"
 	"testing"
 
-	"squall"
+	squall "sumelgos.example/squall/bindings/go"
 )
 
 // large is a router whose table has some 2,000 legs.

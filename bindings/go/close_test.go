@@ -4,7 +4,7 @@ import (
 	"bytes"
 	"testing"
 
-	"squall"
+	squall "sumelgos.example/squall/bindings/go"
 )
 
 func TestARouterThatIsClosed(t *testing.T) {

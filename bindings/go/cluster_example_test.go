@@ -5,7 +5,7 @@ import (
 	"fmt"
 	"log"
 
-	"squall"
+	squall "sumelgos.example/squall/bindings/go"
 )
 
 // examplePartition is a partition of course 1, which has heard that sub-plan 0 is opened.
@@ -131,7 +131,7 @@ func ExampleLeader() {
 	// Output:
 	// opened 0
 	// wait for 3
-	// 0 squall: all sub-plans are opened and done
+	// 0 squall: all sub-plans are opened, and the last one is done
 }
 
 // How far a course is, for an operator.

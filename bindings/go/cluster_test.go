@@ -3,7 +3,7 @@ package squall_test
 import (
 	"testing"
 
-	"squall"
+	squall "sumelgos.example/squall/bindings/go"
 )
 
 // Plans of two partitions: the keys of roots 2 to 4 move from 1 to 3, and those of 5 and 6 from 3 to 1.

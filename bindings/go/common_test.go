@@ -7,7 +7,7 @@ import (
 	"reflect"
 	"testing"
 
-	"squall"
+	squall "sumelgos.example/squall/bindings/go"
 )
 
 // The example plans of the repository: [2:0,3:0) moves from partition 1 to 3 and [6:0,9:0) from 3 to 4,

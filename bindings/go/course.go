@@ -196,16 +196,19 @@ func (c *Course) Receivers(sub uint32) ([]Part, error) {
 	return parts, err
 }
 
-// receivers asks for more and more partitions, until there is room for one more than there are.
+// receivers asks for the partitions in pieces, each twice as long as the one before, until one is not full.
 func receivers(at *C.squall_course, sub C.uint32_t) ([]Part, error) {
+	var parts []Part
 	for room := atOnce; ; room *= 2 {
-		parts := make([]Part, room)
-		count := C.squall_course_receivers(at, sub, (*C.uint32_t)(unsafe.Pointer(&parts[0])), C.size_t(room))
-		switch {
-		case count == C.SQUALL_NO_COUNT:
+		next := make([]Part, room)
+		out := (*C.uint32_t)(unsafe.Pointer(&next[0]))
+		count := C.squall_course_receivers(at, sub, C.size_t(len(parts)), out, C.size_t(room))
+		if count == C.SQUALL_NO_COUNT {
 			return nil, ErrNoMemory
-		case count < C.size_t(room):
-			return parts[:count:count], nil
+		}
+		parts = append(parts, next[:count]...)
+		if count < C.size_t(room) {
+			return parts, nil
 		}
 	}
 }

@@ -4,7 +4,7 @@ import (
 	"fmt"
 	"log"
 
-	"squall"
+	squall "sumelgos.example/squall/bindings/go"
 )
 
 // A mover works off a course, sub-plan by sub-plan. Each receiver loads its keys, and reports that it is done.

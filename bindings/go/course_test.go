@@ -7,7 +7,7 @@ import (
 	"sync/atomic"
 	"testing"
 
-	"squall"
+	squall "sumelgos.example/squall/bindings/go"
 )
 
 // courseOf is a course of two texts, and is closed when the test ends.

@@ -3,7 +3,7 @@ package squall_test
 import (
 	"testing"
 
-	"squall"
+	squall "sumelgos.example/squall/bindings/go"
 )
 
 // heeds checks what an errand says after a reply, and whom it then asks by which number.

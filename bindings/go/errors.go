@@ -6,6 +6,7 @@ import "C"
 import (
 	"errors"
 	"fmt"
+	"strings"
 )
 
 // Error is a reason without further detail why a call did not do what it was asked for. Its number is
@@ -75,38 +76,30 @@ const (
 // status.
 var ErrBusy = errors.New("squall: the stream is being read")
 
-var errorTexts = map[Error]string{
-	ErrNoMemory: "no memory",
-	ErrLimit:    "a number or a span is outside its limits",
-	ErrClosed:   "closed",
-	ErrFailed:   "the stream ended with a fault before",
-	ErrTooLong:  "a frame would be too long",
-	ErrNoDigest: "no digest was heard",
-	ErrFull:     "the router would hear of more than its limit",
-
-	ErrNotOpen:     "the sub-plan is not opened",
-	ErrNothingLeft: "no key is held that goes out",
-	ErrZeroMax:     "no key was asked for",
-	ErrNotOutgoing: "the key does not go out",
-	ErrGiven:       "the key was given before",
-	ErrNotHeld:     "the key is not held",
-	ErrStranger:    "the course does not bring these keys here",
-	ErrNotAll:      "keys are missing that come in",
-	ErrNothingDue:  "no key comes in",
-
-	ErrRunning:  "the course is not over",
-	ErrNoNumber: "the greatest number is used",
-	ErrIdle:     "no course is begun",
-	ErrNotDone:  "a partition is not done",
-	ErrNoMore:   "all sub-plans are opened and done",
+// message is what the library says of a status.
+func message(status uint32) string {
+	return C.GoString(C.squall_message(C.uint32_t(status)))
 }
 
-// Error is the reason as a text.
-func (e Error) Error() string {
-	if text, ok := errorTexts[e]; ok {
-		return "squall: " + text
+// meaning is the same of a fault of a plan or a frame, without the words before it.
+func meaning(status uint32) string {
+	text := message(status)
+	if _, means, ok := strings.Cut(text, ": "); ok {
+		return means
 	}
-	return fmt.Sprintf("squall: unknown status %d", uint32(e))
+	return text
+}
+
+// noStatus is a number that is no status, and never one of another version of the library.
+const noStatus = 1<<32 - 1
+
+// Error is the reason as a text of the library. If that does not know it, the number follows.
+func (e Error) Error() string {
+	text := message(uint32(e))
+	if text == message(noStatus) {
+		text = fmt.Sprintf("%s: %d", text, uint32(e))
+	}
+	return "squall: " + text
 }
 
 // FrameFault is the error of bytes that are no frame. docs/FORMATS.md has the bytes of a frame.
@@ -145,9 +138,9 @@ var frameNames = map[FrameFault]string{
 	FrameSpare:   "Spare",
 }
 
-// Error names the fault as docs/FORMATS.md does.
+// Error names the fault as docs/FORMATS.md does, and says what it means.
 func (f FrameFault) Error() string {
-	return "squall: no frame: " + frameNames[f]
+	return "squall: no frame: " + frameNames[f] + ": " + meaning(uint32(f))
 }
 
 // PlanFault says why a text is no plan. A [PlanError] holds one, and says where it lies.
@@ -183,9 +176,9 @@ var planNames = map[PlanFault]string{
 	PlanGap:        "Gap",
 }
 
-// Error names the fault as docs/FORMATS.md does.
+// Error names the fault as docs/FORMATS.md does, and says what it means.
 func (f PlanFault) Error() string {
-	return "squall: no plan: " + planNames[f]
+	return "squall: no plan: " + planNames[f] + ": " + meaning(uint32(f))
 }
 
 // PlanError is the error of a text that is no plan. errors.Is compares it with a [PlanFault].
@@ -200,20 +193,24 @@ type PlanError struct {
 	Key Rank
 }
 
-// Error names the text, the fault and its place.
+// Error names the text, the fault and its place, and says what the fault means.
 func (e *PlanError) Error() string {
-	text := "squall: the old text is no plan: "
+	text := "old"
 	if e.New {
-		text = "squall: the new text is no plan: "
+		text = "new"
 	}
-	text += planNames[e.Fault]
+	return fmt.Sprintf("squall: the %s text is no plan: %s%s: %s", text, planNames[e.Fault], e.place(), meaning(uint32(e.Fault)))
+}
+
+// place is the entry or the key at fault, after a space, and no text if there is none.
+func (e *PlanError) place() string {
 	switch {
 	case e.Entry >= 0:
-		return fmt.Sprintf("%s %d", text, e.Entry)
+		return fmt.Sprintf(" %d", e.Entry)
 	case e.Fault == PlanOverlap || e.Fault == PlanGap:
-		return fmt.Sprintf("%s %v", text, e.Key)
+		return fmt.Sprintf(" %v", e.Key)
 	}
-	return text
+	return ""
 }
 
 // Unwrap is the fault.

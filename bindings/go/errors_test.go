@@ -6,7 +6,7 @@ import (
 	"strings"
 	"testing"
 
-	"squall"
+	squall "sumelgos.example/squall/bindings/go"
 )
 
 // Texts that are no plans, by the cases of docs/FORMATS.md.
@@ -51,8 +51,8 @@ func TestTextsThatAreNoPlans(t *testing.T) {
 			wanted := squall.PlanError{Fault: it.fault, New: err != asOld, Entry: it.entry, Key: it.key}
 			equals(t, *plan, wanted)
 		}
-		equals(t, asOld.Error(), "squall: the old text is no plan: "+it.says)
-		equals(t, asNew.Error(), "squall: the new text is no plan: "+it.says)
+		saysMore(t, asOld, "squall: the old text is no plan: "+it.says+": ")
+		saysMore(t, asNew, "squall: the new text is no plan: "+it.says+": ")
 		equals(t, squall.StatusOf(asOld), uint32(it.fault))
 		equals(t, squall.StatusOf(asNew), uint32(it.fault)+20)
 	}
@@ -95,24 +95,39 @@ func TestErrorsAreToldApart(t *testing.T) {
 // The numbers are those of enum squall_status, and each has a text of its own.
 func TestTextsOfErrors(t *testing.T) {
 	for status, text := range map[uint32]string{
-		1: "no memory", 2: "a number or a span is outside its limits", 3: "closed",
-		4: "the stream ended with a fault before", 5: "a frame would be too long",
-		6: "no digest was heard", 7: "the router would hear of more than its limit",
-		8: "unknown status 8", 4294967295: "unknown status 4294967295",
-		71: "the sub-plan is not opened", 72: "no key is held that goes out", 73: "no key was asked for",
-		74: "the key does not go out", 75: "the key was given before", 76: "the key is not held",
-		77: "the course does not bring these keys here", 78: "keys are missing that come in", 79: "no key comes in",
-		91: "the course is not over", 92: "the greatest number is used", 93: "no course is begun",
-		94: "a partition is not done", 95: "all sub-plans are opened and done",
+		1: "an allocation failed", 2: "a number or a rank is outside its limits, or the span has no keys",
+		3: "nothing is open here", 4: "the stream ended with a fault before, and takes no more bytes",
+		5: "a frame would have more bytes than it may have", 6: "no digest was heard that could be answered",
+		7: "the router would hear of more than its limit",
+		8: "the status is not known: 8", 4294967295: "the status is not known: 4294967295",
+		71: "as far as the partition knows, the sub-plan is not opened",
+		72: "the partition holds no key that goes out in the sub-plan opened last", 73: "no key was asked for",
+		74: "the key does not go out in the sub-plan opened last", 75: "the key was given under this course before",
+		76: "the key goes out, and is neither given nor held",
+		77: "no known course brings these keys to this partition so", 78: "keys that come in are missing",
+		79: "no key comes in, in that sub-plan",
+		91: "the course begun last is not over", 92: "the greatest number is used", 93: "no course is begun",
+		94: "a partition has not reported that it has all keys of the sub-plan opened last",
+		95: "all sub-plans are opened, and the last one is done",
 	} {
 		equals(t, squall.Error(status).Error(), "squall: "+text)
 	}
 	faults := []string{"Magic", "Version", "Kind", "TooLong", "Short", "Count", "Range", "Order", "Spare"}
 	for i, name := range faults {
-		equals(t, squall.FrameFault(51+i).Error(), "squall: no frame: "+name)
+		saysMore(t, squall.FrameFault(51+i), "squall: no frame: "+name+": ")
 	}
 	faults = []string{"Json", "Shape", "BadPart", "BadBound", "EmptyRange", "TooMany", "Overlap", "Gap"}
 	for i, name := range faults {
-		equals(t, squall.PlanFault(11+i).Error(), "squall: no plan: "+name)
+		saysMore(t, squall.PlanFault(11+i), "squall: no plan: "+name+": ")
+	}
+	equals(t, squall.FrameShort.Error(), "squall: no frame: Short: the bytes end within the frame")
+	equals(t, squall.PlanTooMany.Error(), "squall: no plan: TooMany: there are more than 4096 entries")
+}
+
+// saysMore checks that the text of the error begins so, and goes on.
+func saysMore(t *testing.T, err error, begin string) {
+	t.Helper()
+	if text := err.Error(); !strings.HasPrefix(text, begin) || len(text) == len(begin) {
+		t.Errorf("%q does not begin with %q, or ends there", text, begin)
 	}
 }

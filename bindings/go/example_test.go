@@ -9,7 +9,7 @@ import (
 	"log"
 	"sync"
 
-	"squall"
+	squall "sumelgos.example/squall/bindings/go"
 )
 
 var (
@@ -56,7 +56,7 @@ func ExamplePlanError() {
 		fmt.Println("the least key without a partition is", plan.Key)
 	}
 	// Output:
-	// squall: the new text is no plan: Gap 3:5
+	// squall: the new text is no plan: Gap 3:5: this key is in no range
 	// true
 	// the least key without a partition is 3:5
 }

@@ -153,6 +153,15 @@ func (r *Router) ReadFrom(from io.Reader) (int64, error) {
 	return readFrom(r, from)
 }
 
+// Waiting is how many bytes that were taken wait for the rest of their frame: 0 if none do, if a fault has ended
+// the stream, or if the router is closed. If it is above 0 when the stream ends, the stream was cut within a
+// frame.
+func (r *Router) Waiting() int {
+	var waiting int
+	r.use(func(at *C.squall_router) { waiting = int(C.squall_router_waiting(at)) })
+	return waiting
+}
+
 func (r *Router) useStream(calls func(s *stream)) bool {
 	return r.use(func(*C.squall_router) { calls(&r.stream) })
 }

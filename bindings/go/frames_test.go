@@ -6,7 +6,7 @@ import (
 	"io"
 	"testing"
 
-	"squall"
+	squall "sumelgos.example/squall/bindings/go"
 )
 
 func TestFramesCutAnywhere(t *testing.T) {

@@ -5,7 +5,7 @@ import (
 	"reflect"
 	"testing"
 
-	"squall"
+	squall "sumelgos.example/squall/bindings/go"
 )
 
 // FuzzFrames feeds any bytes whole, and cut in two: the same is taken, and the same fault found. What is

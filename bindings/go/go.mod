@@ -1,3 +1,4 @@
-module squall
+// In the repository tools/go-path sets this path, here and in all imports and documents.
+module sumelgos.example/squall/bindings/go
 
 go 1.19

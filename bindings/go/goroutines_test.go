@@ -6,7 +6,7 @@ import (
 	"sync"
 	"testing"
 
-	"squall"
+	squall "sumelgos.example/squall/bindings/go"
 )
 
 const readers = 8

@@ -6,7 +6,7 @@ import (
 	"strings"
 	"testing"
 
-	"squall"
+	squall "sumelgos.example/squall/bindings/go"
 )
 
 func TestKeysOfRows(t *testing.T) {

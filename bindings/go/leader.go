@@ -127,6 +127,15 @@ func (l *Leader) ReadFrom(from io.Reader) (int64, error) {
 	return readFrom(l, from)
 }
 
+// Waiting is how many bytes that were taken wait for the rest of their frame: 0 if none do, if a fault has ended
+// the stream, or if the leader is closed. If it is above 0 when the stream ends, the stream was cut within a
+// frame.
+func (l *Leader) Waiting() int {
+	var waiting int
+	l.use(func(at *C.squall_leader) { waiting = int(C.squall_leader_waiting(at)) })
+	return waiting
+}
+
 func (l *Leader) useStream(calls func(s *stream)) bool {
 	return l.use(func(*C.squall_leader) { calls(&l.stream) })
 }

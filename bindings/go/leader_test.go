@@ -5,7 +5,7 @@ import (
 	"fmt"
 	"testing"
 
-	"squall"
+	squall "sumelgos.example/squall/bindings/go"
 )
 
 // leaderOf is a leader of the old example plan, which is closed when the test ends.

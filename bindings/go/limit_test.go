@@ -5,7 +5,7 @@ import (
 	"testing"
 	"testing/iotest"
 
-	"squall"
+	squall "sumelgos.example/squall/bindings/go"
 )
 
 var noLimit = squall.Counts{

@@ -133,6 +133,15 @@ func (p *Partition) ReadFrom(from io.Reader) (int64, error) {
 	return readFrom(p, from)
 }
 
+// Waiting is how many bytes that were taken wait for the rest of their frame: 0 if none do, if a fault has ended
+// the stream, or if the partition is closed. If it is above 0 when the stream ends, the stream was cut within a
+// frame.
+func (p *Partition) Waiting() int {
+	var waiting int
+	p.use(func(at *C.squall_part) { waiting = int(C.squall_part_waiting(at)) })
+	return waiting
+}
+
 func (p *Partition) useStream(calls func(s *stream)) bool {
 	return p.use(func(*C.squall_part) { calls(&p.stream) })
 }

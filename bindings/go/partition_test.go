@@ -3,7 +3,7 @@ package squall_test
 import (
 	"testing"
 
-	"squall"
+	squall "sumelgos.example/squall/bindings/go"
 )
 
 // partitionOf is a partition of course 1 over the example plans, which is closed when the test ends.

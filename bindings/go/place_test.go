@@ -3,7 +3,7 @@ package squall_test
 import (
 	"testing"
 
-	"squall"
+	squall "sumelgos.example/squall/bindings/go"
 )
 
 // unmoved is the place of a key that the partition has in both plans.

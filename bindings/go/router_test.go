@@ -6,7 +6,7 @@ import (
 	"strings"
 	"testing"
 
-	"squall"
+	squall "sumelgos.example/squall/bindings/go"
 )
 
 func TestTheWorkedScenario(t *testing.T) {

@@ -49,7 +49,7 @@ import "C"
 
 import "unsafe"
 
-// Version is the version of the library that runs, such as "0.1.0".
+// Version is the version of the library that runs, such as "1.2.3".
 func Version() string {
 	return C.GoString(C.squall_version())
 }

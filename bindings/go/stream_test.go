@@ -7,7 +7,7 @@ import (
 	"testing"
 	"testing/iotest"
 
-	"squall"
+	squall "sumelgos.example/squall/bindings/go"
 )
 
 // streamed is a router, a partition or a leader.
@@ -17,6 +17,7 @@ type streamed interface {
 	Hear(frame []byte) error
 	Board() (squall.Frames, error)
 	Repair() (squall.Frames, error)
+	Waiting() int
 	Close() error
 }
 
@@ -142,11 +143,29 @@ func TestEachThatIsClosedWhileItReads(t *testing.T) {
 }
 
 func TestReadersOfNone(t *testing.T) {
-	for _, it := range []io.ReaderFrom{
+	for _, it := range []streamed{
 		(*squall.Router)(nil), (*squall.Partition)(nil), (*squall.Leader)(nil),
 		new(squall.Router), new(squall.Partition), new(squall.Leader),
 	} {
 		n, err := it.ReadFrom(bytes.NewReader(unhex(loadFrame)))
-		equals(t, []any{n, err}, []any{int64(0), squall.ErrClosed})
+		equals(t, []any{n, err, it.Waiting()}, []any{int64(0), squall.ErrClosed, 0})
 	}
+}
+
+// A stream that ends within a frame: the bytes of that are counted until its rest comes.
+func TestBytesThatWait(t *testing.T) {
+	frame := unhex(loadFrame)
+	forEachStreamer(t, func(t *testing.T, open func() streamed, wanted squall.Frames) {
+		it := open()
+		equals(t, it.Waiting(), 0)
+		_, err := it.ReadFrom(bytes.NewReader(frame[:20]))
+		succeeds(t, err)
+		equals(t, it.Waiting(), 20)
+		succeeds(t, it.Feed(frame[20:]))
+		equals(t, it.Waiting(), 0)
+		equals(t, knows(t, it), wanted)
+		succeeds(t, it.Feed(frame[:20]))
+		succeeds(t, it.Close())
+		equals(t, it.Waiting(), 0)
+	})
 }

@@ -4,7 +4,7 @@ import (
 	"strings"
 	"testing"
 
-	"squall"
+	squall "sumelgos.example/squall/bindings/go"
 )
 
 // allAtFive is a plan that gives all keys to partition 5.

@@ -3,7 +3,7 @@ package squall_test
 import (
 	"testing"
 
-	"squall"
+	squall "sumelgos.example/squall/bindings/go"
 )
 
 func TestRoutesOfManyKeys(t *testing.T) {

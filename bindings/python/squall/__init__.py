@@ -14,7 +14,7 @@ holds while they move, and a `Leader` begins courses and opens their sub-plans.
 ...     router.route(Rank(2, 7))
 3
 
-All of this is done by the C library of squall, `libsquall.so.2`, which is proved. This package,
+All of this is done by the C library of squall, `libsquall.so.3`, which is proved. This package,
 which calls it by `ctypes`, is not. The library is loaded when the package is imported: from the
 folder that the environment variable SQUALL_DIR names, or else from where the system's loader looks.
 """

@@ -102,7 +102,8 @@ def numbers(source: ReadableArray, name: str, letters: str, size: int) -> memory
         view = memoryview(cast("ReadableBuffer", source))
     except TypeError as error:
         raise TypeError(f"{wanted}: {error}") from None
-    if str(view.format).lstrip("@") not in letters or view.itemsize != size:
+    # Arrays of ctypes say which order their bytes have: that of the processor.
+    if str(view.format).lstrip("@=<") not in letters or view.itemsize != size:
         raise TypeError(f"{wanted}: its format is {view.format!r} of {view.itemsize} bytes")
     if view.ndim != 1:
         raise TypeError(f"{wanted}: it has {view.ndim} dimensions and not one")

@@ -36,6 +36,7 @@ class Hears(Handle):
     _call_feed_kept: ClassVar[Any]
     _call_hear: ClassVar[Any]
     _call_hear_kept: ClassVar[Any]
+    _call_waiting: ClassVar[Any]
     _call_board: ClassVar[Any]
     _call_digest: ClassVar[Any]
     _call_repair: ClassVar[Any]
@@ -71,6 +72,16 @@ class Hears(Handle):
         `Router.limit` allows: after both the same bytes may be fed again. Raises `ClosedError`.
         """
         self._take(data, self._call_feed, self._call_feed_kept)
+
+    @property
+    def waiting(self) -> int:
+        """How many bytes that `feed` took wait for the rest of their frame.
+
+        It is 0 if none do, or if a `FrameError` has ended the stream. If it is above 0 when the
+        stream ends, the stream was cut within a frame. Raises `ClosedError`.
+        """
+        count: int = self._ask(self._call_waiting)
+        return count
 
     def _take(
         self,

@@ -25,9 +25,9 @@ from ._room import (
     SpanRecord,
     ViewRoom,
 )
-from .errors import LibraryError
+from .errors import MEANS, FrameFault, LibraryError, PlanFault
 
-SONAME = "libsquall.so.2"
+SONAME = "libsquall.so.3"
 VARIABLE = "SQUALL_DIR"
 #: No count, since an allocation failed.
 NO_COUNT = ctypes.c_size_t(-1).value
@@ -57,6 +57,9 @@ _ANSWER = ctypes.POINTER(AnswerRecord)
 
 def _find() -> Tuple[str, str]:
     """What the loader is asked for, and where it looks."""
+    beside = os.path.join(os.path.dirname(os.path.abspath(__file__)), SONAME)
+    if os.path.exists(beside):
+        return beside, "the folder of the package, whose wheel brought it"
     folder = os.environ.get(VARIABLE)
     if folder:
         return os.path.join(os.path.abspath(folder), SONAME), f"the folder {folder} of {VARIABLE}"
@@ -128,6 +131,8 @@ router_hear = _slow("router_hear", _U32, _ROUTER, _ADDRESS, _SIZE)
 router_hear_kept: Callable[[RouterRoom, Bytes, int], int]
 router_hear_kept = _quick("router_hear", _U32, _ROUTER, _ADDRESS, _SIZE)
 
+router_waiting: Callable[[RouterRoom], int] = _quick("router_waiting", _SIZE, _ROUTER)
+
 router_limit: Callable[[RouterRoom, int, int, int, int], int]
 router_limit = _quick("router_limit", _U32, _ROUTER, _U64, _U64, _U64, _U64)
 router_taken: Callable[[RouterRoom], int] = _quick("router_taken", _U64, _ROUTER)
@@ -195,8 +200,8 @@ course_old: Callable[[CourseRoom, int, Out, int], int]
 course_old = _quick("course_old", _SIZE, _COURSE, _SIZE, _LEGS, _SIZE)
 course_new: Callable[[CourseRoom, int, Out, int], int]
 course_new = _quick("course_new", _SIZE, _COURSE, _SIZE, _LEGS, _SIZE)
-course_receivers: Callable[[CourseRoom, int, Out, int], int]
-course_receivers = _slow("course_receivers", _SIZE, _COURSE, _U32, _ADDRESS, _SIZE)
+course_receivers: Callable[[CourseRoom, int, int, Out, int], int]
+course_receivers = _slow("course_receivers", _SIZE, _COURSE, _U32, _SIZE, _ADDRESS, _SIZE)
 course_old_text: Callable[[CourseRoom, Out, int], int]
 course_old_text = _slow("course_old_text", _SIZE, _COURSE, _ADDRESS, _SIZE)
 course_new_text: Callable[[CourseRoom, Out, int], int]
@@ -238,6 +243,7 @@ part_feed: Callable[[PartRoom, Bytes, int], int]
 part_feed = _slow("part_feed", _U32, _PART, _ADDRESS, _SIZE)
 part_feed_kept: Callable[[PartRoom, Bytes, int], int]
 part_feed_kept = _quick("part_feed", _U32, _PART, _ADDRESS, _SIZE)
+part_waiting: Callable[[PartRoom], int] = _quick("part_waiting", _SIZE, _PART)
 part_hear: Callable[[PartRoom, Bytes, int], int]
 part_hear = _slow("part_hear", _U32, _PART, _ADDRESS, _SIZE)
 part_hear_kept: Callable[[PartRoom, Bytes, int], int]
@@ -279,6 +285,7 @@ leader_feed: Callable[[LeaderRoom, Bytes, int], int]
 leader_feed = _slow("leader_feed", _U32, _LEADER, _ADDRESS, _SIZE)
 leader_feed_kept: Callable[[LeaderRoom, Bytes, int], int]
 leader_feed_kept = _quick("leader_feed", _U32, _LEADER, _ADDRESS, _SIZE)
+leader_waiting: Callable[[LeaderRoom], int] = _quick("leader_waiting", _SIZE, _LEADER)
 leader_hear: Callable[[LeaderRoom, Bytes, int], int]
 leader_hear = _slow("leader_hear", _U32, _LEADER, _ADDRESS, _SIZE)
 leader_hear_kept: Callable[[LeaderRoom, Bytes, int], int]
@@ -309,10 +316,21 @@ LeaderRoom.prepare(leader_size(), leader_close)
 # The library.
 
 _version: Callable[[], bytes] = _quick("version", ctypes.c_char_p)
-# Asked for once: a process that was forked may have to make no call.
+_message: Callable[[int], bytes] = _quick("message", ctypes.c_char_p, _U32)
+# Asked for once: a process that was forked may have to make no call. The last number is no status.
 _VERSION = _version().decode("ascii")
+_MESSAGES = [_message(it).decode("ascii") for it in range(256)]
 
 
 def version() -> str:
-    """The version of the shared library that is loaded, as `0.1.0`."""
+    """The version of the shared library that is loaded, as `1.2.3`."""
     return _VERSION
+
+
+def message(status: int) -> str:
+    """What the library says of a status."""
+    return _MESSAGES[min(status, len(_MESSAGES) - 1)]
+
+
+# Without the words before it, which say that a text is no plan or that bytes are no frame.
+MEANS.update({it: message(it).partition(": ")[2] for it in (*PlanFault, *FrameFault)})

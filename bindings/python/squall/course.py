@@ -194,15 +194,17 @@ def _text(room: CourseRoom, call: Callable[..., int]) -> str:
 
 
 def _receivers(room: CourseRoom, sub: int) -> List[int]:
+    found: List[int] = []
     size = _AT_ONCE
     while True:
-        parts = (ctypes.c_uint32 * size)()
-        count = lib.course_receivers(room, sub, parts, size)
+        block = (ctypes.c_uint32 * size)()
+        count = lib.course_receivers(room, sub, len(found), block, size)
         if count == lib.NO_COUNT:
             check(_NO_MEMORY)
+        found += block[:count]
         # As many as there is room for: there may be more.
         if count < size:
-            return parts[:count]
+            return found
         size *= _MORE
 
 

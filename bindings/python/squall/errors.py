@@ -8,7 +8,7 @@ the call has changed nothing.
 from __future__ import annotations
 
 import enum
-from typing import TYPE_CHECKING, Optional
+from typing import TYPE_CHECKING, Dict, Optional
 
 if TYPE_CHECKING:
     from .keys import Rank
@@ -242,17 +242,8 @@ class FrameFault(_Fault):
     SPARE = 59
 
 
-#: What is said of a plan's fault, behind its name and its place.
-_MEANS = {
-    PlanFault.JSON: "the bytes are no JSON, or no UTF-8",
-    PlanFault.SHAPE: "this entry lacks a member, or has one of another form",
-    PlanFault.BAD_PART: "the partition of this entry is above 9999",
-    PlanFault.BAD_BOUND: "this entry has a pair that is no bound",
-    PlanFault.EMPTY_RANGE: "the 'from' of this entry is not below its 'to'",
-    PlanFault.TOO_MANY: "there are more than 4096 entries",
-    PlanFault.OVERLAP: "this key is in two ranges",
-    PlanFault.GAP: "this key is in no range",
-}
+#: What the library says of each fault. `_library`, which takes its exceptions from here, writes it.
+MEANS: Dict[_Fault, str] = {}
 
 
 class PlanError(SquallError, ValueError):
@@ -283,7 +274,7 @@ class PlanError(SquallError, ValueError):
         self.status = int(fault) + (20 if plan == "new" else 0)
 
     def __str__(self) -> str:
-        means = _MEANS[self.fault]
+        means = MEANS[self.fault]
         if self.fault is PlanFault.SHAPE and self.index is None:
             means = "it is no object with a member 'plan' that is an array"
         words = [self.fault.word]
@@ -293,7 +284,10 @@ class PlanError(SquallError, ValueError):
 
 
 class FrameError(SquallError, ValueError):
-    """Bytes are no frame."""
+    """Bytes are no frame.
+
+    Its text has the fault's name of docs/FORMATS.md: `no frame: Short: ..`.
+    """
 
     #: What is wrong with them.
     fault: FrameFault
@@ -304,4 +298,4 @@ class FrameError(SquallError, ValueError):
         self.status = int(fault)
 
     def __str__(self) -> str:
-        return f"no frame: {self.fault.word}"
+        return f"no frame: {self.fault.word}: {MEANS[self.fault]}"

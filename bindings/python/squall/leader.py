@@ -49,6 +49,7 @@ class Leader(Hears):
     _call_feed_kept = lib.leader_feed_kept
     _call_hear = lib.leader_hear
     _call_hear_kept = lib.leader_hear_kept
+    _call_waiting = lib.leader_waiting
     _call_board = lib.leader_gather_board
     _call_digest = lib.leader_gather_digest
     _call_repair = lib.leader_gather_repair

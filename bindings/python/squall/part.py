@@ -88,6 +88,7 @@ class Part(Hears):
     _call_feed_kept = lib.part_feed_kept
     _call_hear = lib.part_hear
     _call_hear_kept = lib.part_hear_kept
+    _call_waiting = lib.part_waiting
     _call_board = lib.part_gather_board
     _call_digest = lib.part_gather_digest
     _call_repair = lib.part_gather_repair

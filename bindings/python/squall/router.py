@@ -64,6 +64,7 @@ class Router(Routes, Hears):
     _call_feed_kept = lib.router_feed_kept
     _call_hear = lib.router_hear
     _call_hear_kept = lib.router_hear_kept
+    _call_waiting = lib.router_waiting
     _call_board = lib.router_gather_board
     _call_digest = lib.router_gather_digest
     _call_repair = lib.router_gather_repair

@@ -5,6 +5,7 @@ import unittest
 
 import squall
 from squall import FrameError, FrameFault, PlanError, PlanFault, Rank, SquallError
+from squall._library import message
 from squall._status import NO_PLACE, check, error_of
 
 SIMPLE = {
@@ -47,6 +48,14 @@ class Statuses(unittest.TestCase):
     def test_texts_tell_errors_apart(self) -> None:
         texts = {str(error_of(status, NO_PLACE)) for status in SIMPLE}
         self.assertEqual(len(texts), len(SIMPLE))
+        self.assertEqual(str(error_of(1, NO_PLACE)), "an allocation failed")
+
+    def test_each_status_says_what_the_library_says(self) -> None:
+        statuses = [*SIMPLE, *PlanFault, *(it + 20 for it in PlanFault), *FrameFault]
+        for status in statuses:
+            with self.subTest(status=status):
+                means = message(int(status)).split(": ")[-1]
+                self.assertTrue(str(error_of(status, 7)).endswith(means))
 
     def test_the_partition_that_is_waited_for(self) -> None:
         error = pickle.loads(pickle.dumps(squall.NotDoneError(4, 7)))
@@ -72,14 +81,15 @@ class Statuses(unittest.TestCase):
                 assert isinstance(error, FrameError)
                 self.assertIsInstance(error, ValueError)
                 self.assertEqual((error.fault, error.status), (fault, fault.value))
-        self.assertEqual(str(error_of(54, NO_PLACE)), "no frame: TooLong")
+        said = "no frame: TooLong: the body is to have more than 1,048,576 bytes"
+        self.assertEqual(str(error_of(54, NO_PLACE)), said)
 
     def test_a_status_that_is_not_known(self) -> None:
         for status in [8, 19, 39, 60, 70, 90, 96, 255]:
             error = error_of(status, NO_PLACE)
             self.assertIs(type(error), SquallError)
             self.assertEqual(error.status, status)
-            self.assertIn(str(status), str(error))
+            self.assertEqual(str(error), f"the status is not known: {status}")
 
     def test_errors_pass_between_processes(self) -> None:
         for status in [1, 2, 4, 7, 11, 12, 18, 38, 51, 59, 71, 79, 91, 95]:

@@ -89,9 +89,19 @@ class Streams(unittest.TestCase):
         router = fresh()
         router.feed(b"SQ\x01")
         router.feed(b"")
+        self.assertEqual(router.waiting, 3)
         with self.assertRaises(FrameError) as raised:
             router.feed(b"\x03")
-        self.assertEqual(str(raised.exception), "no frame: Kind")
+        said = "no frame: Kind: the kind is neither that of a delta nor that of a digest"
+        self.assertEqual((str(raised.exception), router.waiting), (said, 0))
+
+    def test_a_stream_that_ends_within_a_frame(self) -> None:
+        router = fresh()
+        for size in range(1, len(LOAD_FRAME)):
+            router.feed(LOAD_FRAME[:size])
+            self.assertEqual(router.waiting, size)
+            router.feed(LOAD_FRAME[size:])
+            self.assertEqual(router.waiting, 0)
 
 
 class WholeFrames(unittest.TestCase):

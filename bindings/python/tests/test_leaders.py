@@ -228,8 +228,10 @@ class Frames(unittest.TestCase):
         leader.open_next()
         stream = frame.done(1, 0, 3) + frame.done(1, 0, 4)
         leader.feed(stream[:-1])
+        self.assertGreater(leader.waiting, 0)
         self.assertFalse(leader.finished)
         leader.feed(bytearray(stream[-1:]))
+        self.assertEqual(leader.waiting, 0)
         self.assertTrue(leader.finished)
         with self.assertRaises(FrameError):
             leader.feed(b"no")

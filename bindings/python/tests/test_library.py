@@ -102,7 +102,7 @@ class Functions(unittest.TestCase):
     @unittest.skipUnless(HEADER.is_file(), "squall.h is not here")
     def test_each_function_of_the_header_is_called_by_its_types(self) -> None:
         wanted = declared()
-        self.assertEqual(len(wanted), 98)
+        self.assertEqual(len(wanted), 102)
         bound: Dict[str, int] = dict.fromkeys(wanted, 0)
         for function in vars(lib).values():
             name = getattr(function, "__name__", "")
@@ -177,12 +177,12 @@ class Loading(unittest.TestCase):
             ran = imported(SQUALL_DIR=folder)
             self.assertEqual(ran.returncode, 1)
             said = ran.stderr.splitlines()[-1]
-            wanted = f"libsquall.so.2 can't be loaded from the folder {folder} of SQUALL_DIR: "
-            self.assertIn(f"LibraryError: {wanted}{folder}/libsquall.so.2: ", said)
+            wanted = f"libsquall.so.3 can't be loaded from the folder {folder} of SQUALL_DIR: "
+            self.assertIn(f"LibraryError: {wanted}{folder}/libsquall.so.3: ", said)
 
     def test_a_file_that_is_no_library(self) -> None:
         with tempfile.TemporaryDirectory() as folder:
-            Path(folder, "libsquall.so.2").write_text("no library", encoding="utf-8")
+            Path(folder, "libsquall.so.3").write_text("no library", encoding="utf-8")
             ran = imported(SQUALL_DIR=folder)
             self.assertEqual(ran.returncode, 1)
             self.assertIn(f"can't be loaded from the folder {folder}", ran.stderr)
@@ -192,13 +192,13 @@ class Loading(unittest.TestCase):
         if compiler is None:
             self.skipTest("needs cc")
         with tempfile.TemporaryDirectory() as folder:
-            source, library = f"{folder}/old.c", f"{folder}/libsquall.so.2"
+            source, library = f"{folder}/old.c", f"{folder}/libsquall.so.3"
             Path(source).write_text("void squall_router_open(void) {}\n", encoding="utf-8")
             subprocess.run([compiler, "-shared", "-fPIC", "-o", library, source], check=True)
             ran = imported(SQUALL_DIR=folder)
             self.assertEqual(ran.returncode, 1)
             said = ran.stderr.splitlines()[-1]
-            self.assertIn(f"libsquall.so.2 from the folder {folder} of SQUALL_DIR is too old", said)
+            self.assertIn(f"libsquall.so.3 from the folder {folder} of SQUALL_DIR is too old", said)
 
     def test_the_loader_of_the_system(self) -> None:
         folder = os.environ.get("SQUALL_DIR")

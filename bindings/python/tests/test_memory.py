@@ -22,9 +22,10 @@ class Memory(unittest.TestCase):
             self.skipTest("needs cc, and libsquall.a in the folder SQUALL_DIR")
         with tempfile.TemporaryDirectory() as folder:
             words = [compiler, "-O2", "-Wall", "-Wextra", "-Werror", "-shared", "-fPIC"]
-            words += ["-o", f"{folder}/libsquall.so.2", str(HERE / "heap.c")]
-            # The functions of the header are in the members of these two.
-            words += ["-Wl,-u,squall_router_open,-u,squall_version", str(archive)]
+            words += ["-o", f"{folder}/libsquall.so.3", str(HERE / "heap.c")]
+            # The functions of the header are in the members of these three.
+            members = "-u,squall_router_open,-u,squall_message,-u,squall_version"
+            words += [f"-Wl,{members}", str(archive)]
             subprocess.run(words, check=True)
             ran = subprocess.run(
                 [sys.executable, "-B", "-m", "unittest", "tests.small_memory"],

@@ -272,10 +272,12 @@ class Frames(unittest.TestCase):
     def test_a_stream(self) -> None:
         part = part_of(1)
         part.feed(OPENING_FRAME[:5])
+        self.assertEqual(part.waiting, 5)
         part.hear(LOAD_FRAME)
         with self.assertRaises(NotOpenError):
             part.give(1)
         part.feed(bytearray(OPENING_FRAME[5:]))
+        self.assertEqual(part.waiting, 0)
         self.assertEqual(part.give(1).dest, 3)
         with self.assertRaises(FrameError):
             part.feed(b"no")

@@ -226,19 +226,22 @@ impl Course {
     ///
     /// [`Error::NoMemory`].
     pub fn receivers(&self, sub: u32) -> Result<Vec<u32>, Error> {
-        let mut parts = vec![0; AT_ONCE];
+        let (mut parts, mut from) = (vec![0; AT_ONCE], 0);
         loop {
-            let (out, room) = (parts.as_mut_ptr(), parts.len());
+            let left = &mut parts[from..];
+            let (out, room) = (left.as_mut_ptr(), left.len());
             // SAFETY: the course was opened, and the places are writable.
-            let count = unsafe { ffi::squall_course_receivers(self.room.get(), sub, out, room) };
+            let count =
+                unsafe { ffi::squall_course_receivers(self.room.get(), sub, from, out, room) };
             if count == usize::MAX {
                 return Err(Error::NoMemory);
             }
+            from += count;
             if count < room {
-                parts.truncate(count);
+                parts.truncate(from);
                 return Ok(parts);
             }
-            parts.resize(room * 2, 0);
+            parts.resize(from * 2, 0);
         }
     }
 }

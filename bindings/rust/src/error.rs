@@ -1,7 +1,9 @@
 //! Why a call did not do what it was asked for.
 
+use crate::ffi;
 use crate::key::Rank;
 use std::error;
+use std::ffi::CStr;
 use std::fmt;
 use std::io;
 
@@ -63,23 +65,23 @@ pub enum PlanFault {
 #[derive(Clone, Copy, Debug, PartialEq, Eq)]
 pub enum FrameFault {
     /// The first two bytes are not those of a frame.
-    Magic,
+    Magic = 51,
     /// The version is not known.
-    Version,
+    Version = 52,
     /// The kind is neither that of a delta nor that of a digest.
-    Kind,
+    Kind = 53,
     /// The body is to have more than 1,048,576 bytes.
-    TooLong,
+    TooLong = 54,
     /// The bytes end within the frame. A stream waits for more instead.
-    Short,
+    Short = 55,
     /// The body has too few bytes left for its next item.
-    Count,
+    Count = 56,
     /// A field lies outside its limits, or a cell says nothing.
-    Range,
+    Range = 57,
     /// An item does not come after the one before it.
-    Order,
+    Order = 58,
     /// Bytes are left in the body after its last item, or follow a whole frame.
-    Spare,
+    Spare = 59,
 }
 
 /// Why a partition does not give, load or finish.
@@ -87,23 +89,23 @@ pub enum FrameFault {
 #[non_exhaustive]
 pub enum PartFault {
     /// As far as the partition knows, the sub-plan is not opened.
-    NotOpen,
+    NotOpen = 71,
     /// It holds no key that goes out in the sub-plan opened last.
-    NothingLeft,
+    NothingLeft = 72,
     /// No key was asked for.
-    ZeroMax,
+    ZeroMax = 73,
     /// The key does not go out in the sub-plan opened last.
-    NotOutgoing,
+    NotOutgoing = 74,
     /// The key was given under this course before.
-    Given,
+    Given = 75,
     /// The key goes out, and is neither given nor held.
-    NotHeld,
+    NotHeld = 76,
     /// The course does not bring these keys to this partition so.
-    Stranger,
+    Stranger = 77,
     /// Keys that come in are missing.
-    NotAll,
+    NotAll = 78,
     /// No key comes in, in that sub-plan.
-    NothingDue,
+    NothingDue = 79,
 }
 
 /// Why a leader does not go on.
@@ -168,6 +170,24 @@ impl Error {
             _ => Error::Unknown(status),
         })
     }
+
+    /// The status of the error, in `squall.h`.
+    fn status(&self) -> u32 {
+        match self {
+            Error::NoMemory => 1,
+            Error::Limit => 2,
+            Error::Failed => 4,
+            Error::TooLong => 5,
+            Error::NoDigest => 6,
+            Error::Full => 7,
+            Error::OldPlan(fault) => fault.status(),
+            Error::NewPlan(fault) => fault.status() + NEW,
+            Error::Frame(fault) => *fault as u32,
+            Error::Part(fault) => *fault as u32,
+            Error::Leader(fault) => fault.status(),
+            Error::Unknown(status) => *status,
+        }
+    }
 }
 
 impl PlanFault {
@@ -184,27 +204,63 @@ impl PlanFault {
             _ => PlanFault::Gap(Rank(at)),
         }
     }
-}
 
-impl fmt::Display for Error {
-    fn fmt(&self, f: &mut fmt::Formatter<'_>) -> fmt::Result {
+    /// The status of the fault, of an old plan.
+    fn status(&self) -> u32 {
         match self {
-            Error::NoMemory => f.write_str("no memory"),
-            Error::Limit => f.write_str("a number or a span is outside its limits"),
-            Error::Failed => f.write_str("the stream ended with a fault before"),
-            Error::TooLong => f.write_str("a frame would be too long"),
-            Error::NoDigest => f.write_str("no digest was heard"),
-            Error::Full => f.write_str("the router would hear of more than its limit"),
-            Error::OldPlan(fault) => write!(f, "the old text is no plan: {fault}"),
-            Error::NewPlan(fault) => write!(f, "the new text is no plan: {fault}"),
-            Error::Frame(fault) => write!(f, "no frame: {fault}"),
-            Error::Part(fault) => fmt::Display::fmt(fault, f),
-            Error::Leader(fault) => fmt::Display::fmt(fault, f),
-            Error::Unknown(status) => write!(f, "unknown status {status}"),
+            PlanFault::Json => 11,
+            PlanFault::Shape(_) => 12,
+            PlanFault::BadPart(_) => 13,
+            PlanFault::BadBound(_) => 14,
+            PlanFault::EmptyRange(_) => 15,
+            PlanFault::TooMany => 16,
+            PlanFault::Overlap(_) => 17,
+            PlanFault::Gap(_) => 18,
         }
     }
 }
 
+impl LeaderFault {
+    /// The status of the fault.
+    fn status(&self) -> u32 {
+        match self {
+            LeaderFault::Running => 91,
+            LeaderFault::NoNumber => 92,
+            LeaderFault::Idle => 93,
+            LeaderFault::NotDone { .. } => ffi::NOT_DONE,
+            LeaderFault::NoMore => 95,
+        }
+    }
+}
+
+/// What the library says of a status.
+fn message(status: u32) -> &'static str {
+    // SAFETY: the library answers a text that ends in a 0 byte, never changes and is never freed.
+    let text = unsafe { CStr::from_ptr(ffi::squall_message(status)) };
+    text.to_str().unwrap_or_default()
+}
+
+/// The same of a fault of a plan or a frame, without the words before it.
+fn meaning(status: u32) -> &'static str {
+    let text = message(status);
+    text.split_once(": ").map_or(text, |(_, meaning)| meaning)
+}
+
+impl fmt::Display for Error {
+    fn fmt(&self, f: &mut fmt::Formatter<'_>) -> fmt::Result {
+        let means = meaning(self.status());
+        match self {
+            Error::OldPlan(fault) => write!(f, "the old text is no plan: {fault}: {means}"),
+            Error::NewPlan(fault) => write!(f, "the new text is no plan: {fault}: {means}"),
+            Error::Frame(fault) => write!(f, "no frame: {fault}: {means}"),
+            Error::Leader(fault) => fmt::Display::fmt(fault, f),
+            Error::Unknown(status) => write!(f, "{means}: {status}"),
+            _ => f.write_str(means),
+        }
+    }
+}
+
+/// Its name in docs/FORMATS.md, and its place.
 impl fmt::Display for PlanFault {
     fn fmt(&self, f: &mut fmt::Formatter<'_>) -> fmt::Result {
         match self {
@@ -221,6 +277,7 @@ impl fmt::Display for PlanFault {
     }
 }
 
+/// Its name in docs/FORMATS.md.
 impl fmt::Display for FrameFault {
     fn fmt(&self, f: &mut fmt::Formatter<'_>) -> fmt::Result {
         fmt::Debug::fmt(self, f)
@@ -229,30 +286,18 @@ impl fmt::Display for FrameFault {
 
 impl fmt::Display for PartFault {
     fn fmt(&self, f: &mut fmt::Formatter<'_>) -> fmt::Result {
-        f.write_str(match self {
-            PartFault::NotOpen => "the partition knows of no opening of the sub-plan",
-            PartFault::NothingLeft => "the partition holds no key that goes out in this sub-plan",
-            PartFault::ZeroMax => "no key was asked for",
-            PartFault::NotOutgoing => "the key does not go out in this sub-plan",
-            PartFault::Given => "the key was given before",
-            PartFault::NotHeld => "the key goes out, and is neither given nor held",
-            PartFault::Stranger => "the course does not bring these keys to the partition",
-            PartFault::NotAll => "keys that come to the partition are missing",
-            PartFault::NothingDue => "no key comes to the partition in that sub-plan",
-        })
+        f.write_str(message(*self as u32))
     }
 }
 
 impl fmt::Display for LeaderFault {
     fn fmt(&self, f: &mut fmt::Formatter<'_>) -> fmt::Result {
         match self {
-            LeaderFault::Running => f.write_str("the course begun last is not over"),
-            LeaderFault::NoNumber => f.write_str("the greatest number is used"),
-            LeaderFault::Idle => f.write_str("no course is begun"),
-            LeaderFault::NotDone { part, sub } => {
-                write!(f, "partition {part} is not done with sub-plan {sub}")
-            }
-            LeaderFault::NoMore => f.write_str("all sub-plans are opened and done"),
+            LeaderFault::NotDone { part, sub } => write!(
+                f,
+                "partition {part} has not reported that it has all keys of sub-plan {sub}"
+            ),
+            _ => f.write_str(message(self.status())),
         }
     }
 }

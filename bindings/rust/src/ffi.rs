@@ -96,6 +96,7 @@ unsafe extern "C" {
         len: usize,
     ) -> u32;
     pub(crate) fn squall_router_feed(router: *mut RawRouter, bytes: *const u8, len: usize) -> u32;
+    pub(crate) fn squall_router_waiting(router: *const RawRouter) -> usize;
     pub(crate) fn squall_router_hear(router: *mut RawRouter, frame: *const u8, len: usize) -> u32;
     pub(crate) fn squall_router_limit(
         router: *mut RawRouter,
@@ -209,6 +210,7 @@ unsafe extern "C" {
     pub(crate) fn squall_course_receivers(
         course: *const RawCourse,
         sub: u32,
+        from: usize,
         out: *mut u32,
         room: usize,
     ) -> usize;
@@ -262,6 +264,7 @@ unsafe extern "C" {
     pub(crate) fn squall_part_open(id: u32, course: *const RawCourse, room: *mut RawPart);
     pub(crate) fn squall_part_status(part: *const RawPart) -> u32;
     pub(crate) fn squall_part_feed(part: *mut RawPart, bytes: *const u8, len: usize) -> u32;
+    pub(crate) fn squall_part_waiting(part: *const RawPart) -> usize;
     pub(crate) fn squall_part_hear(part: *mut RawPart, frame: *const u8, len: usize) -> u32;
     pub(crate) fn squall_part_give(part: *mut RawPart, max: u64, out: *mut Chunk) -> u32;
     pub(crate) fn squall_part_give_at(part: *mut RawPart, rank: u64, out: *mut Chunk) -> u32;
@@ -305,6 +308,7 @@ unsafe extern "C" {
     pub(crate) fn squall_leader_status(leader: *const RawLeader) -> u32;
     pub(crate) fn squall_leader_fault_at(leader: *const RawLeader) -> u64;
     pub(crate) fn squall_leader_feed(leader: *mut RawLeader, bytes: *const u8, len: usize) -> u32;
+    pub(crate) fn squall_leader_waiting(leader: *const RawLeader) -> usize;
     pub(crate) fn squall_leader_hear(leader: *mut RawLeader, frame: *const u8, len: usize) -> u32;
     pub(crate) fn squall_leader_begin(leader: *mut RawLeader, plan: *const u8, len: usize) -> u32;
     pub(crate) fn squall_leader_course(leader: *const RawLeader, room: *mut RawCourse);
@@ -320,5 +324,6 @@ unsafe extern "C" {
     pub(crate) fn squall_leader_frame(leader: *mut RawLeader, out: *mut u8, room: usize) -> usize;
     pub(crate) fn squall_leader_close(leader: *mut RawLeader);
 
+    pub(crate) safe fn squall_message(status: u32) -> *const c_char;
     pub(crate) safe fn squall_version() -> *const c_char;
 }

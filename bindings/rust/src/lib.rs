@@ -60,6 +60,8 @@ pub mod frame;
 mod frames;
 mod key;
 mod leader;
+#[cfg(squall_missing)]
+mod missing;
 mod part;
 mod room;
 mod router;
@@ -77,7 +79,7 @@ pub use router::Router;
 pub use told::Counts;
 pub use view::View;
 
-/// The version of the library that is linked, as `0.1.0`.
+/// The version of the library that is linked, as `1.2.3`.
 pub fn version() -> &'static str {
     // SAFETY: the library answers a text that ends in a 0 byte, never changes and is never freed.
     let text = unsafe { CStr::from_ptr(ffi::squall_version()) };

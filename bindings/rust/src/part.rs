@@ -113,6 +113,13 @@ impl Part {
         check(unsafe { ffi::squall_part_feed(part, bytes.as_ptr(), bytes.len()) })
     }
 
+    /// How many bytes that [`Part::feed`] took wait for the rest of their frame: 0 if none do, or if a
+    /// fault has ended the stream. If it is above 0 when the stream ends, the stream was cut within a frame.
+    pub fn waiting(&self) -> usize {
+        // SAFETY: the partition was opened.
+        unsafe { ffi::squall_part_waiting(self.room.get()) }
+    }
+
     /// Takes one whole frame, no more and no less. A delta is taken as reports; a digest is kept for
     /// [`Part::repair`]. It has nothing to do with the stream of [`Part::feed`].
     ///

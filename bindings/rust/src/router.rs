@@ -127,6 +127,13 @@ impl Router {
         self.check(unsafe { ffi::squall_router_feed(router, bytes.as_ptr(), bytes.len()) })
     }
 
+    /// How many bytes that [`Router::feed`] took wait for the rest of their frame: 0 if none do, or if a
+    /// fault has ended the stream. If it is above 0 when the stream ends, the stream was cut within a frame.
+    pub fn waiting(&self) -> usize {
+        // SAFETY: the router was opened.
+        unsafe { ffi::squall_router_waiting(self.room.get()) }
+    }
+
     /// Takes one whole frame, no more and no less, for transports that keep messages apart. It has
     /// nothing to do with the stream of [`Router::feed`].
     ///

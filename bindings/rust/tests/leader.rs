@@ -120,8 +120,10 @@ fn frames_of_a_stream() -> Result<(), Error> {
     let stream = [frame::done(1, 0, 3)?, frame::done(1, 0, 4)?].concat();
     let (first, last) = stream.split_at(stream.len() - 1);
     leader.feed(first)?;
+    assert!(leader.waiting() > 0);
     assert_eq!(leader.open_next(), not_done(4, 0));
     leader.feed(last)?;
+    assert_eq!(leader.waiting(), 0);
     assert!(leader.finished());
     assert_eq!(leader.feed(b"ST"), Err(Error::Frame(FrameFault::Magic)));
     assert_eq!(leader.feed(b""), Err(Error::Failed));
@@ -166,9 +168,12 @@ fn each_fault_has_its_words() {
         (LeaderFault::Idle, "no course is begun"),
         (
             LeaderFault::NotDone { part: 3, sub: 1 },
-            "partition 3 is not done with sub-plan 1",
+            "partition 3 has not reported that it has all keys of sub-plan 1",
         ),
-        (LeaderFault::NoMore, "all sub-plans are opened and done"),
+        (
+            LeaderFault::NoMore,
+            "all sub-plans are opened, and the last one is done",
+        ),
     ];
     for (fault, words) in faults {
         let error = io::Error::from(Error::Leader(fault));

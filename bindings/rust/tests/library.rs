@@ -4,7 +4,6 @@ use squall::{
     Course, Error, FrameFault, Leg, Move, Next, Place, PlanFault, Rank, Reply, Router, View, frame,
     key_of,
 };
-use std::io;
 use std::sync::Mutex;
 use std::thread;
 
@@ -106,30 +105,6 @@ fn rows_have_the_keys_of_the_vectors() {
         let words: Vec<&str> = line.split_whitespace().collect();
         assert_eq!(key_of(&bytes(words[0])).to_string(), words[1], "{line}");
     }
-}
-
-#[test]
-fn faults_are_named() {
-    let plan = |text: &str| Router::open(1, text.as_bytes(), NEW).err();
-    assert_eq!(plan(""), Some(Error::OldPlan(PlanFault::Json)));
-    assert_eq!(plan("{}"), Some(Error::OldPlan(PlanFault::Shape(None))));
-    let open_ended = r#"{"plan":[{"part":1,"from":[0,0]}]}"#;
-    assert_eq!(
-        plan(open_ended),
-        Some(Error::OldPlan(PlanFault::Shape(Some(0))))
-    );
-    let gap = br#"{"plan":[{"part":1,"from":[0,0],"to":[3,5]}]}"#;
-    let fault = Router::open(1, OLD, gap).err().unwrap();
-    assert_eq!(fault, Error::NewPlan(PlanFault::Gap(Rank::new(3, 5))));
-    assert_eq!(fault.to_string(), "the new text is no plan: Gap 3:5");
-    assert_eq!(Router::open(0, OLD, NEW).err(), Some(Error::Limit));
-    let mut router = fresh();
-    assert_eq!(router.loaded(1, 0, 3, key(2)..key(2)), Err(Error::Limit));
-    assert_eq!(router.issued(2, gap), Err(fault));
-    assert_eq!(router.feed(b"ST"), Err(Error::Frame(FrameFault::Magic)));
-    assert_eq!(router.feed(b""), Err(Error::Failed));
-    assert_eq!(router.repair().err(), Some(Error::NoDigest));
-    assert_eq!(router.errand(Rank::END).err(), Some(Error::Limit));
 }
 
 #[test]
@@ -392,11 +367,14 @@ fn where_keys_stand() -> Result<(), Error> {
 }
 
 #[test]
-fn errors_of_the_library_are_errors_of_io() {
-    let read = || -> io::Result<Course> { Ok(Course::open(1, OLD, b"")?) };
-    let error = read().err().unwrap();
-    assert_eq!(error.kind(), io::ErrorKind::InvalidData);
-    assert_eq!(error.to_string(), "the new text is no plan: Json");
+fn a_stream_that_ends_within_a_frame() -> Result<(), Error> {
+    let (mut router, opening) = (fresh(), frame::opened(1, 0)?);
+    assert_eq!(router.waiting(), 0);
+    router.feed(&opening[..5])?;
+    assert_eq!(router.waiting(), 5);
+    router.feed(&opening[5..])?;
+    assert_eq!(router.waiting(), 0);
+    Ok(())
 }
 
 #[test]

@@ -159,9 +159,11 @@ fn replies_for_errands() -> Result<(), Error> {
 fn frames_of_a_stream() -> Result<(), Error> {
     let (mut part, opening) = (fresh(1), frame::opened(1, 0)?);
     part.feed(&opening[..5])?;
+    assert_eq!(part.waiting(), 5);
     assert_eq!(part.give(1), no(PartFault::NotOpen));
     part.hear(&frame::done(1, 0, 3)?)?;
     part.feed(&opening[5..])?;
+    assert_eq!(part.waiting(), 0);
     assert_eq!(part.give(1), Ok(chunk(key(2), Rank::new(2, 1))));
     assert_eq!(part.feed(b"ST"), Err(Error::Frame(FrameFault::Magic)));
     assert_eq!(part.feed(b""), Err(Error::Failed));
@@ -266,7 +268,10 @@ fn each_fault_has_its_words() {
         .map(|it| Error::Part(it).to_string())
         .into_iter()
         .collect();
-    assert_eq!(words[3], "the key does not go out in this sub-plan");
+    assert_eq!(
+        words[3],
+        "the key does not go out in the sub-plan opened last"
+    );
     words.sort();
     words.dedup();
     assert_eq!(words.len(), faults.len());

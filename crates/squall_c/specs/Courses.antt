@@ -1,6 +1,7 @@
 -- Courses of the C library: how they are opened, and what they tell (this project).
-use Rattle.std.specs.Prelude.{◌≡◌, ◌≢◌, ℕ, List, [], length, Option, None, Some, Result, Ok, Err}
+use Rattle.std.specs.Prelude.{◌≡◌, ◌≢◌, ℕ, List, [], length, take, drop, Option, None, Some, Result, Ok, Err}
 use Rattle.squall_course.specs.Change.{Change}
+use Rattle.squall_course.specs.Moves.{moves_of, receivers_of}
 use Rattle.squall_course.specs.Subplans.{subplan_count}
 use Rattle.squall_report.specs.declared.report.ReportKind.TheVariants.{Issued}
 use Rattle.squall_report.specs.Issues.{plan_pair}
@@ -9,7 +10,7 @@ use Rattle.squall_c_values.specs.declared.legs.CLeg.{CLeg}
 use Rattle.squall_c_values.specs.declared.moves.CMove.{CMove}
 use Rattle.squall_c_values.specs.Rooms.{over}
 use Rattle.squall_c_values.specs.ReportFrames.{no_count, frame_of, PutsFrame}
-use Rattle.squall_c_values.specs.Values.{moves_that_fit, ranges_that_fit, receivers_that_fit}
+use Rattle.squall_c_values.specs.Values.{moves_that_fit, ranges_that_fit}
 use Rattle.squall_c.specs.declared.status.Cause.{Cause}
 use Rattle.squall_c.specs.declared.router.Station.{Station}
 use Rattle.squall_c.specs.declared.courses.HeldCourse.{HeldCourse}
@@ -73,14 +74,17 @@ abbrev pub new_of_slot : Option HeldCourse → ℕ → List CLeg → List CLeg
 new_of_slot None from room = []
 new_of_slot (Some held) from room = ranges_that_fit held.course.new from room
 
--- the receivers of a sub-plan, as many as the room holds
-abbrev pub receivers_of_slot : Option HeldCourse → ℕ → List ℕ → List ℕ
-receivers_of_slot None sub room = []
-receivers_of_slot (Some held) sub room = receivers_that_fit held.course sub room
+-- the receivers of a sub-plan from a place on, and as many of them as the room holds
+abbrev pub receivers_from : Change → ℕ → ℕ → List ℕ
+receivers_from c sub from = drop from (receivers_of (moves_of c.old c.new) sub)
+
+abbrev pub receivers_of_slot : Option HeldCourse → ℕ → ℕ → List ℕ → List ℕ
+receivers_of_slot None sub from room = []
+receivers_of_slot (Some held) sub from room = take (length room) (receivers_from held.course sub from)
 
 -- they are written, or there was not the memory for it
-pub record GivesReceivers (course : Option HeldCourse) (sub : ℕ) (old new : List ℕ) (count : ℕ) : Type 0 where
-  pub given : count ≢ no_count → (new ≡ over (receivers_of_slot course sub old) old) × (count ≡ length (receivers_of_slot course sub old))
+pub record GivesReceivers (course : Option HeldCourse) (sub from : ℕ) (old new : List ℕ) (count : ℕ) : Type 0 where
+  pub given : count ≢ no_count → (new ≡ over (receivers_of_slot course sub from old) old) × (count ≡ length (receivers_of_slot course sub from old))
   pub memory : count ≡ no_count → new ≡ old
 
 -- the frame of the report that the course was issued is put into the room

@@ -1,5 +1,5 @@
 -- What a router of the C library hears in the bytes of frames (this project).
-use Rattle.std.specs.Prelude.{◌≡◌, ℕ, Bool, true, false, List, Option, None, Some, Result, Ok, Err, ◌⊎◌}
+use Rattle.std.specs.Prelude.{◌≡◌, ℕ, Bool, true, false, List, length, Option, None, Some, Result, Ok, Err, ◌⊎◌}
 use Rattle.squall_wire.specs.declared.fault.WireFault.{WireFault}
 use Rattle.squall_wire.specs.declared.message.Message.{Message}
 use Rattle.squall_wire.specs.Hearing.{FeedValue, HearsOn}
@@ -95,3 +95,8 @@ station_hears old (Some s) piece new status = hears_unless s.feed.failed old s p
 -- a slot after a piece of a stream of frames was fed to it
 abbrev pub Feeds : List ℕ → RouterSlot → RouterSlot → ℕ → Type 0
 Feeds piece old new status = station_hears old old.station piece new status
+
+-- how many bytes wait for the rest of their frame, 0 if there is no router
+abbrev pub waiting_bytes : Option Station → ℕ
+waiting_bytes None = 0
+waiting_bytes (Some s) = length s.feed.waiting

@@ -145,6 +145,11 @@ LeaderHears frame old new status = AnswersIn hear_number (HearsFrame frame) old 
 abbrev pub LeaderFeeds : List ℕ → LeaderSlot → LeaderSlot → ℕ → Type 0
 LeaderFeeds piece old new status = AnswersIn feed_number (Feeds piece) old old.node new status
 
+-- how many bytes of that stream wait for the rest of their frame, 0 if there is no leader
+abbrev pub leader_waiting_bytes : Option NodeValue → ℕ
+leader_waiting_bytes None = 0
+leader_waiting_bytes (Some n) = length n.feed.waiting
+
 -- a slot after it was to begin a course to the plan; or its text is none, and the slot keeps where the fault lies
 abbrev pub begins_plan : LeaderSlot → NodeValue → Result (List PlanRange) PlanFault → LeaderSlot → ℕ → Type 0
 begins_plan old n (Ok plan) new status = Answers begin_number (Begins plan) old n new status

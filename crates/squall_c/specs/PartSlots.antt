@@ -1,5 +1,5 @@
 -- Partitions of the C library behind their handles (this project).
-use Rattle.std.specs.Prelude.{◌≡◌, ◌≢◌, ℕ, nat_lt, Bool, true, false, List, [], Option, None, Some}
+use Rattle.std.specs.Prelude.{◌≡◌, ◌≢◌, ℕ, nat_lt, Bool, true, false, List, [], length, Option, None, Some}
 use Rattle.squall_key.specs.Keys.{part_limit}
 use Rattle.squall_course.specs.Change.{Change}
 use Rattle.squall_c_parts.specs.declared.chunks.CChunk.{CChunk}
@@ -56,6 +56,11 @@ PartHears frame old new status = through (HearsFrame frame) (Unit {0}) old old.n
 -- after a piece of a stream of frames was fed to it
 abbrev pub PartFeeds : List ℕ → PartSlot → PartSlot → ℕ → Type 0
 PartFeeds piece old new status = through (Feeds piece) (Unit {0}) old old.node new status
+
+-- how many bytes of that stream wait for the rest of their frame, 0 if there is no partition
+abbrev pub part_waiting_bytes : Option NodeValue → ℕ
+part_waiting_bytes None = 0
+part_waiting_bytes (Some n) = length n.feed.waiting
 
 -- after a demand for the first keys, and for one key
 abbrev pub PartGives : ℕ → PartSlot → CChunk → PartSlot → CChunk → ℕ → Type 0

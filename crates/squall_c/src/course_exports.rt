@@ -169,20 +169,22 @@ pub unsafe extern "C" fn squall_course_new(
     course_new(&*(course as *const CourseSlot), from, room)
 }
 
-/// Puts the partitions to which keys move in the sub-plan, in rising number, into the room, as many
-/// as it holds, and answers how many: 0 if there are none, or no course. It allocates: if that fails
-/// it answers the greatest number of its type, and the room stays. Else the rest of the room stays.
+/// Puts the partitions to which keys move in the sub-plan, in rising number, from the place `from` on,
+/// into the room, as many as it holds, and answers how many: 0 if there are no more, or no course. It
+/// allocates: if that fails it answers the greatest number of its type, and the room stays. Else the
+/// rest of the room stays.
 #[unsafe(no_mangle)]
 pub unsafe extern "C" fn squall_course_receivers(
     course: *const CCourse,
     sub: u32,
+    from: usize,
     room: &mut [u32],
 ) -> usize
     ghost s: { CourseSlot }
     requires* { sem 𝓛 (course_at course s) }
-    ensures* { sem 𝓛 (course_at course s) ∗ ⌜ GivesReceivers s.course sub room.old room.new result ⌝ }
+    ensures* { sem 𝓛 (course_at course s) ∗ ⌜ GivesReceivers s.course sub from room.old room.new result ⌝ }
 {
-    course_receivers(&*(course as *const CourseSlot), sub, room)
+    course_receivers(&*(course as *const CourseSlot), sub, from, room)
 }
 
 /// Puts the frame of the report that the course was issued into the room, if that holds it, and

@@ -9,11 +9,12 @@ ghost use Rattle.squall_c_values.specs.Rooms.{over};
 ghost use Rattle.squall_c.specs.Status.{GivesSeen, PlacesMemory};
 ghost use Rattle.squall_c.specs.Opening.{first_course};
 ghost use Rattle.squall_c.specs.Courses.{IsCourseOpened, IsCourseOf, IsSlotWith, course_seen, number_of};
-ghost use Rattle.squall_c.specs.Courses.{subplans_of, moves_of_slot, old_of_slot, new_of_slot, GivesReceivers, PutsIssue};
+ghost use Rattle.squall_c.specs.Courses.{subplans_of, moves_of_slot, old_of_slot, new_of_slot, receivers_from, GivesReceivers, PutsIssue};
 
+use crate::numbers::put_numbers;
 use crate::router::{RouterSlot, first_course, may_cross};
 use crate::status::{CLOSED, Cause, NO_MEMORY, NO_PLACE, OK};
-use squall_c_values::{CLeg, CMove, NO_COUNT, put_moves, put_ranges, put_receivers, put_report};
+use squall_c_values::{CLeg, CMove, NO_COUNT, put_moves, put_ranges, put_report};
 use squall_course::Course;
 use squall_join::Shared;
 use squall_report::{Issue, Report};
@@ -194,17 +195,30 @@ pub(crate) fn course_new(slot: &CourseSlot, from: usize, room: &mut [CLeg]) -> u
     }
 }
 
-/// Writes the partitions to which keys move in the sub-plan, in rising number, into the room, as many
-/// as it holds, and answers how many: 0 if there is no course. It answers `NO_COUNT` and writes
-/// nothing if an allocation fails.
-pub(crate) fn course_receivers(slot: &CourseSlot, sub: u32, room: &mut [u32]) -> usize
-    ensures { GivesReceivers slot.now.course sub room.old room.new result }
+/// The partitions to which keys move in the sub-plan, in rising number, from the place `from` on. It
+/// fails if an allocation fails.
+fn receivers(alloc: Global, course: &Course, sub: u32, from: usize) -> Result<Vec<u32>, AllocError>
+    ensures { IfOk result (λ numbers. numbers.items ≡ receivers_from course.now sub from) }
+{
+    let parts = course.receivers(alloc, sub)?;
+    parts
+        .iter()
+        .skip(from)
+        .map(|part| part.get())
+        .collect(alloc)
+}
+
+/// Writes the partitions to which keys move in the sub-plan, in rising number, from the place `from` on,
+/// into the room, as many as it holds, and answers how many: 0 if there is no course. It answers
+/// `NO_COUNT` and writes nothing if an allocation fails.
+pub(crate) fn course_receivers(slot: &CourseSlot, sub: u32, from: usize, room: &mut [u32]) -> usize
+    ensures { GivesReceivers slot.now.course sub from room.old room.new result }
 {
     let Some(held) = &slot.course else {
         return 0;
     };
-    match put_receivers(held.alloc, held.course.as_arc(), sub, room) {
-        Ok(count) => count,
+    match receivers(held.alloc, held.course.as_arc(), sub, from) {
+        Ok(numbers) => put_numbers(&numbers, room),
         Err(_) => NO_COUNT,
     }
 }

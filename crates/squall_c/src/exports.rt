@@ -8,14 +8,14 @@ ghost use Rattle.squall_c.specs.declared.router.RouterSlot.{RouterSlot};
 ghost use Rattle.squall_c.specs.Handles.{router_bytes, router_room, router_at, router_such};
 ghost use Rattle.squall_c.specs.Opening.{IsOpened};
 ghost use Rattle.squall_c.specs.Reporting.{loaded_report, Takes, Issues};
-ghost use Rattle.squall_c.specs.Feeding.{Feeds};
+ghost use Rattle.squall_c.specs.Feeding.{waiting_bytes, Feeds};
 ghost use Rattle.squall_c.specs.WholeFrames.{HearsFrame};
 ghost use Rattle.squall_c_frames.specs.Queues.{room_after, first_length};
 ghost use Rattle.squall_c.specs.Frames.{GathersBoard, GathersDigest, GathersRepair, waiting_frames, slot_after};
 ghost use Rattle.squall_c_values.specs.Rooms.{over};
 ghost use Rattle.squall_c.specs.Showing.{routed, course_number, legs_of_station, that_fit};
 
-use crate::feeding::feed;
+use crate::feeding::{feed, waiting};
 use crate::frames::{gather_board, gather_digest, gather_repair, next_frame};
 use crate::handles::CRouter;
 use crate::hearing::hear_frame;
@@ -139,6 +139,17 @@ pub unsafe extern "C" fn squall_router_feed(router: *mut CRouter, bytes: &[u8]) 
     ensures* { sem 𝓛 (router_such router (λ now. Feeds bytes.now s now result)) }
 {
     feed(&mut *(router as *mut RouterSlot), bytes)
+}
+
+/// How many bytes that were fed wait for the rest of their frame: 0 if there is no router. If a stream
+/// ends while it is above 0, it was cut within a frame. It allocates nothing.
+#[unsafe(no_mangle)]
+pub unsafe extern "C" fn squall_router_waiting(router: *const CRouter) -> usize
+    ghost s: { RouterSlot }
+    requires* { sem 𝓛 (router_at router s) }
+    ensures* { sem 𝓛 (router_at router s) ∗ ⌜ result ≡ waiting_bytes s.station ⌝ }
+{
+    waiting(&*(router as *const RouterSlot))
 }
 
 /// Takes one whole frame, no more and no less: its message is heard, or the answer is its fault

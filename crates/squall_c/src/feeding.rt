@@ -7,7 +7,7 @@ ghost use Rattle.squall_wire.specs.Hearing.{HearsOn};
 ghost use Rattle.squall_wire.specs.Messages.{IsMessage};
 ghost use Rattle.squall_router.specs.declared.fault.AbsorbFault.TheVariants.{Full};
 ghost use Rattle.squall_c.specs.Limits.{IsAdmitted, IsRefused};
-ghost use Rattle.squall_c.specs.Feeding.{heard_station, joined_station, HearsInStation, Feeds};
+ghost use Rattle.squall_c.specs.Feeding.{heard_station, joined_station, waiting_bytes, HearsInStation, Feeds};
 
 use crate::limits::{absorb_all, brings_boards, taken_after};
 use crate::router::{RouterSlot, Station};
@@ -135,5 +135,15 @@ pub(crate) fn feed(slot: &mut RouterSlot, piece: &[u8]) -> u32
         Err(HearFault::Failed) => FAILED,
         Err(HearFault::Full) => FULL,
         Err(HearFault::NoMemory) => NO_MEMORY,
+    }
+}
+
+/// How many bytes that were fed wait for the rest of their frame, 0 if there is no router.
+pub(crate) fn waiting(slot: &RouterSlot) -> usize
+    ensures { result ≡ waiting_bytes slot.now.station }
+{
+    match &slot.station {
+        Some(station) => station.feed.waiting(),
+        None => 0,
     }
 }

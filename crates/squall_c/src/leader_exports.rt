@@ -9,7 +9,7 @@ ghost use Rattle.squall_c.specs.LeaderHandles.{leader_bytes, leader_room, leader
 ghost use Rattle.squall_c_frames.specs.Queues.{room_after, first_length};
 ghost use Rattle.squall_c.specs.LeaderSlots.{IsLeaderOpened, IsLeaderResumedOf, IsCourseBegun, TellsFinished, course_begun};
 ghost use Rattle.squall_c.specs.LeaderSlots.{LeaderHears, LeaderFeeds, LeaderBegins, LeaderOpens, LeaderGathersBoard, LeaderGathersDigest, LeaderGathersRepair};
-ghost use Rattle.squall_c.specs.LeaderSlots.{frames_of_leader, leader_slot_after};
+ghost use Rattle.squall_c.specs.LeaderSlots.{frames_of_leader, leader_slot_after, leader_waiting_bytes};
 
 use crate::courses::CourseSlot;
 use crate::handles::CCourse;
@@ -19,7 +19,7 @@ use crate::leaders::{
 };
 use crate::leading::{
     leader_begin, leader_feed, leader_frame, leader_gather_board, leader_gather_digest,
-    leader_gather_repair, leader_hear, leader_open_next,
+    leader_gather_repair, leader_hear, leader_open_next, leader_waiting,
 };
 use std::alloc::Global;
 
@@ -104,6 +104,17 @@ pub unsafe extern "C" fn squall_leader_feed(leader: *mut CLeader, bytes: &[u8]) 
     ensures* { sem 𝓛 (leader_such leader (λ now. LeaderFeeds bytes.now s now result)) }
 {
     leader_feed(&mut *(leader as *mut LeaderSlot), bytes)
+}
+
+/// How many bytes that were fed wait for the rest of their frame: 0 if there is no leader. It allocates
+/// nothing.
+#[unsafe(no_mangle)]
+pub unsafe extern "C" fn squall_leader_waiting(leader: *const CLeader) -> usize
+    ghost s: { LeaderSlot }
+    requires* { sem 𝓛 (leader_at leader s) }
+    ensures* { sem 𝓛 (leader_at leader s) ∗ ⌜ result ≡ leader_waiting_bytes s.node ⌝ }
+{
+    leader_waiting(&*(leader as *const LeaderSlot))
 }
 
 /// Takes one whole frame, no more and no less: its message is heard, or the answer is its fault

@@ -4,10 +4,11 @@ ghost use Rattle.std.specs.Prelude.{◌≡◌, length, take};
 ghost use Rattle.squall_c_frames.specs.Queues.{room_after, first_length};
 ghost use Rattle.squall_c_values.specs.Rooms.{over};
 ghost use Rattle.squall_c.specs.LeaderSlots.{leader_number, hear_number, feed_number, begin_number, open_number, frame_number, repair_number};
-ghost use Rattle.squall_c.specs.LeaderSlots.{numbers_told, frames_of_leader, leader_slot_after};
+ghost use Rattle.squall_c.specs.LeaderSlots.{numbers_told, frames_of_leader, leader_slot_after, leader_waiting_bytes};
 ghost use Rattle.squall_c.specs.LeaderSlots.{LeaderHears, LeaderFeeds, LeaderBegins, LeaderOpens, LeaderGathersBoard, LeaderGathersDigest, LeaderGathersRepair};
 
 use crate::leaders::LeaderSlot;
+use crate::numbers::put_numbers;
 use crate::router::read_plan;
 use crate::status::{CLOSED, FAILED, IN_NEW_PLAN, NO_DIGEST, NO_MEMORY, OK, TOO_LONG};
 use squall_c_frames::{FrameFault, heard_status, wire_status};
@@ -87,6 +88,16 @@ pub(crate) fn leader_feed(slot: &mut LeaderSlot, piece: &[u8]) -> u32
     }
 }
 
+/// How many bytes that were fed wait for the rest of their frame, 0 if there is no leader.
+pub(crate) fn leader_waiting(slot: &LeaderSlot) -> usize
+    ensures { result ≡ leader_waiting_bytes slot.now.node }
+{
+    match &slot.node {
+        Some(node) => node.waiting(),
+        None => 0,
+    }
+}
+
 /// How it ended that a leader was to begin a course.
 fn begin_number(answer: Result<(), LeaderFault>) -> u32
     ensures { result ≡ begin_number answer }
@@ -114,14 +125,6 @@ pub(crate) fn leader_begin(slot: &mut LeaderSlot, text: &[u8]) -> u32
             cause.status
         }
     }
-}
-
-/// Writes the numbers into the room from its start on, as many as it holds.
-fn put_numbers(numbers: &[u32], room: &mut [u32])
-    ensures { room.new ≡ over (take (length room.old) numbers.now) room.old }
-{
-    let count = numbers.len().min(room.len());
-    room[..count].copy_from_slice(&numbers[..count]);
 }
 
 /// How it ended that a leader was to open a sub-plan. The room gets the sub-plan that was opened, or

@@ -22,6 +22,7 @@ mod leading;
 mod legs;
 mod limit_exports;
 mod limits;
+mod numbers;
 mod part_exports;
 mod parts;
 mod report_exports;

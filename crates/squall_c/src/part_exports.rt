@@ -9,13 +9,14 @@ ghost use Rattle.squall_c.specs.declared.courses.CourseSlot.{CourseSlot};
 ghost use Rattle.squall_c.specs.declared.parts.PartSlot.{PartSlot};
 ghost use Rattle.squall_c.specs.Handles.{course_at, part_bytes, part_room, part_at, part_such};
 ghost use Rattle.squall_c.specs.PartSlots.{IsPartOpened, PartHears, PartFeeds, PartGives, PartGivesAt, PartLoads, PartFinishes, PartServes};
-ghost use Rattle.squall_c.specs.PartSlots.{held_in, given_in, loaded_in, PartGathersBoard, PartGathersDigest, PartGathersRepair, part_frames, part_after};
+ghost use Rattle.squall_c.specs.PartSlots.{held_in, given_in, loaded_in, PartGathersBoard, PartGathersDigest, PartGathersRepair};
+ghost use Rattle.squall_c.specs.PartSlots.{part_frames, part_after, part_waiting_bytes};
 
 use crate::courses::CourseSlot;
 use crate::handles::{CCourse, CPart};
 use crate::parts::{
     PartSlot, close_part, finish, give, give_at, given, held, load, loaded, open_part, part_board,
-    part_digest, part_feed, part_frame, part_hear, part_repair, part_status, serve,
+    part_digest, part_feed, part_frame, part_hear, part_repair, part_status, part_waiting, serve,
 };
 use squall_c_parts::{CAnswer, CChunk};
 use squall_c_values::CSpan;
@@ -69,6 +70,17 @@ pub unsafe extern "C" fn squall_part_feed(part: *mut CPart, bytes: &[u8]) -> u32
     ensures* { sem 𝓛 (part_such part (λ now. PartFeeds bytes.now s now result)) }
 {
     part_feed(&mut *(part as *mut PartSlot), bytes)
+}
+
+/// How many bytes that were fed wait for the rest of their frame: 0 if there is no partition. It
+/// allocates nothing.
+#[unsafe(no_mangle)]
+pub unsafe extern "C" fn squall_part_waiting(part: *const CPart) -> usize
+    ghost s: { PartSlot }
+    requires* { sem 𝓛 (part_at part s) }
+    ensures* { sem 𝓛 (part_at part s) ∗ ⌜ result ≡ part_waiting_bytes s.node ⌝ }
+{
+    part_waiting(&*(part as *const PartSlot))
 }
 
 /// Takes one whole frame: a delta is absorbed, a digest kept for a repair. What was fed of a stream waits

@@ -4,7 +4,8 @@ ghost use Rattle.std.specs.Prelude.{◌≡◌, length};
 ghost use Rattle.squall_c_values.specs.Rooms.{over};
 ghost use Rattle.squall_c_frames.specs.Queues.{first_length, room_after};
 ghost use Rattle.squall_c.specs.PartSlots.{no_part, IsPartOpened, PartHears, PartFeeds, PartGives, PartGivesAt, PartLoads, PartFinishes, PartServes};
-ghost use Rattle.squall_c.specs.PartSlots.{held_in, given_in, loaded_in, PartGathersBoard, PartGathersDigest, PartGathersRepair, part_frames, part_after};
+ghost use Rattle.squall_c.specs.PartSlots.{held_in, given_in, loaded_in, PartGathersBoard, PartGathersDigest, PartGathersRepair};
+ghost use Rattle.squall_c.specs.PartSlots.{part_frames, part_after, part_waiting_bytes};
 
 use crate::courses::CourseSlot;
 use crate::router::may_cross;
@@ -72,6 +73,16 @@ pub(crate) fn part_feed(slot: &mut PartSlot, piece: &[u8]) -> u32
     match &mut slot.node {
         Some(node) => node.feed(piece),
         None => CLOSED,
+    }
+}
+
+/// How many bytes that were fed wait for the rest of their frame, 0 if there is no partition.
+pub(crate) fn part_waiting(slot: &PartSlot) -> usize
+    ensures { result ≡ part_waiting_bytes slot.now.node }
+{
+    match &slot.node {
+        Some(node) => node.waiting(),
+        None => 0,
     }
 }
 

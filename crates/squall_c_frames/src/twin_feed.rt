@@ -1,6 +1,6 @@
 //! Feeds that hear a piece before they take it.
 
-ghost use Rattle.std.specs.Prelude.{◌≡◌, ◌↔◌, true, Err, IfOk, OnOk, OnErr};
+ghost use Rattle.std.specs.Prelude.{◌≡◌, ◌↔◌, true, Err, IfOk, OnOk, OnErr, length};
 ghost use Rattle.squall_wire.specs.declared.feed.FeedFault.TheVariants.{Failed};
 ghost use Rattle.squall_wire.specs.Hearing.{HearsOn, new_feed};
 
@@ -44,6 +44,14 @@ impl TwinFeed {
         ensures { result ≡ feed }
     {
         TwinFeed { feed, twin: None }
+    }
+
+    /// How many bytes wait for the rest of their frame: 0 if the stream can end here, or a fault has
+    /// ended it.
+    pub fn waiting(&self) -> usize
+        ensures { result ≡ length self.now.waiting }
+    {
+        self.feed.waiting()
     }
 
     /// What is heard in the next piece of the stream, and a feed that has taken the piece. This one

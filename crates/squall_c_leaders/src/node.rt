@@ -1,6 +1,6 @@
 //! A leader with its allocator, its feed, the digest that it heard last and the frames that wait.
 
-ghost use Rattle.std.specs.Prelude.{◌≡◌, ◌↔◌, IfOk, IsTrue};
+ghost use Rattle.std.specs.Prelude.{◌≡◌, ◌↔◌, IfOk, IsTrue, length};
 ghost use Rattle.std.specs.Arc.{arc_value};
 ghost use Rattle.std.specs.Option.{option_map};
 ghost use Rattle.squall_report.specs.declared.report.ReportKind.TheVariants.{Opened};
@@ -115,6 +115,14 @@ impl LeaderNode {
         ensures { option_map (λ course. course.now) result ≡ self.now.leader.course }
     {
         self.course.as_ref()
+    }
+
+    /// How many bytes of its stream of frames wait for the rest of their frame: 0 if the stream can end
+    /// here, or a fault has ended it.
+    pub fn waiting(&self) -> usize
+        ensures { result ≡ length self.now.feed.waiting }
+    {
+        self.feed.waiting()
     }
 
     /// Whether a course is begun, all its sub-plans are opened, and the last one is done.

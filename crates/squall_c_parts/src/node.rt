@@ -65,6 +65,14 @@ impl Node {
         })
     }
 
+    /// How many bytes of its stream of frames wait for the rest of their frame: 0 if the stream can end
+    /// here, or a fault has ended it.
+    pub fn waiting(&self) -> usize
+        ensures { result ≡ length self.now.feed.waiting }
+    {
+        self.feed.waiting()
+    }
+
     /// Writes the spans of the keys that the partition holds, by rising key, from the place `from` on,
     /// into the room, as many as it holds, and answers how many.
     pub fn held(&self, from: usize, room: &mut [CSpan]) -> usize

@@ -2,6 +2,6 @@ module routes
 
 go 1.19
 
-require squall v0.0.0
+require sumelgos.example/squall/bindings/go v0.0.0
 
-replace squall => ../../../../bindings/go
+replace sumelgos.example/squall/bindings/go => ../../../../bindings/go

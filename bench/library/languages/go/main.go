@@ -8,7 +8,7 @@ import (
 	"os"
 	"time"
 
-	"squall"
+	squall "sumelgos.example/squall/bindings/go"
 )
 
 const (

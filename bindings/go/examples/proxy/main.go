@@ -17,7 +17,7 @@ import (
 	"os"
 	"strings"
 
-	"squall"
+	squall "sumelgos.example/squall/bindings/go"
 )
 
 func main() {

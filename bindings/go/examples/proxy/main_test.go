@@ -5,7 +5,7 @@ import (
 	"strings"
 	"testing"
 
-	"squall"
+	squall "sumelgos.example/squall/bindings/go"
 )
 
 const (

@@ -5,7 +5,7 @@ import (
 	"log"
 	"os"
 
-	"squall"
+	squall "sumelgos.example/squall/bindings/go"
 )
 
 func main() {

@@ -55,6 +55,23 @@ fn a_stream_may_be_cut_anywhere(rt: HostRuntime) -> Result<(), Fail> {
     Ok(())
 }
 
+/// How many bytes wait once the first ones came, and once the others did.
+fn waiting_around(node: &mut LeaderNode, bytes: &[u8], at: usize) -> Option<(usize, usize)> {
+    node.feed(bytes.get(..at)?).ok()?;
+    let before = node.waiting();
+    node.feed(bytes.get(at..)?).ok()?;
+    Some((before, node.waiting()))
+}
+
+/// Each of the two frames has 33 bytes.
+#[test]
+fn bytes_of_an_unfinished_frame(rt: HostRuntime) -> Result<(), Fail> {
+    let bytes = both_done(rt.alloc()).ok_or("frames")?;
+    let mut node = resumed(rt.alloc()).ok_or("a leader")?;
+    assert!(rt; waiting_around(&mut node, &bytes, 40) == Some((7, 0)));
+    Ok(())
+}
+
 /// A fault ends the stream and not the leader, which still hears whole frames.
 fn look_at_faults(rt: &impl Abort, alloc: Global, node: &mut LeaderNode) {
     assert!(rt; node.feed(b"XXXXXXXX") == Ok(Some(WireFault::Magic)));

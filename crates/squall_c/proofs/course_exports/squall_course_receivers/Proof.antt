@@ -1,5 +1,5 @@
 -- What lies at the handle is lent to `course_receivers` for a lifetime that is made for the call, and lies there again once it is over. The room is handed on to it for good.
-use Rattle.squall_c.proofs.Steps.{ℕ, [], ◌∷◌, ◌++◌, refl, w64, proved, full_share, id⊢, ftrue, flft, flent, named, vptr, ⊑_static, fact, tables, WpFn, ‵, raw, ◌⊛◌, some, later, prop, ◌$◌, ◌∵◌, !, qed, done, move, keep, drop, use1, use2, split, join, fsplit, fjoin, feq_l, pick, await, regoal, suffices, frame, group, enter, of_opd, addr, from, fld, hop, stop, no_more, and_then, returns, whole, sub, agg, alloc_all, pass_all, free_all, look_at, look_in_at, get, get_in, through, sets, lands_as, lft_new, lft_end, lent_back, usize, yes, Is, shows, lends_shr, uint_vals, uint_Tells, uint_Makes, uint_Lawful, Ptr, RawPtr, block_ptr, lies_at, in_a_block, rawptr_vals, rawptr_Tells, Bor, ShrRef, shr_vals, plain, MutSlice, mut_slice_vals, mut_slice_Tells, mut_slice_Lawful, nothing, owned, heard, peeks, calls_at, Lasts, lasts, triple_of, framed, Stays, walk_of, says, stay_dropped, gave_slice, Goes-dropped, Goes-gave_slice, ends_at, u32, w32}
+use Rattle.squall_c.proofs.Steps.{ℕ, [], ◌∷◌, ◌++◌, refl, w32, w64, proved, full_share, id⊢, ftrue, flft, flent, named, vptr, ⊑_static, fact, tables, WpFn, ‵, raw, ◌⊛◌, some, later, prop, ◌$◌, ◌∵◌, !, qed, done, move, keep, drop, use1, use2, split, join, fsplit, fjoin, feq_l, pick, await, regoal, suffices, frame, group, enter, of_opd, addr, from, fld, hop, stop, no_more, and_then, returns, whole, sub, agg, alloc_all, pass_all, free_all, look_at, look_in_at, get, get_in, through, sets, lands_as, lft_new, lft_end, lent_back, u32, usize, yes, Is, shows, lends_shr, uint_vals, uint_Tells, uint_Makes, uint_Lawful, Ptr, RawPtr, block_ptr, lies_at, in_a_block, rawptr_vals, rawptr_Tells, Bor, ShrRef, shr_vals, plain, MutSlice, mut_slice_vals, mut_slice_Tells, mut_slice_Lawful, nothing, owned, heard, peeks, calls_at, Lasts, lasts, triple_of, framed, Stays, walk_of, says, stay_dropped, gave_slice, Goes-dropped, Goes-gave_slice, ends_at}
 use Rattle.squall_c.specs.declared.courses.CourseSlot as declared
 use Rattle.squall_c.specs.contracts.courses.CourseSlot.{the_row as R}
 use Rattle.squall_c.proofs.courses.CourseSlot.TheLaws.{the_row_laws as L}
@@ -11,49 +11,50 @@ use Rattle.squall_c.specs.contracts.courses.course_receivers as g
 use Rattle.squall_c.proofs.courses.course_receivers.Met.{met}
 
 abbrev stayed : Stays f.ended.signature.params f.ended.kept
-stayed = (stay_dropped _ yes, (stay_dropped _ yes, (gave_slice (0 ∷ []) tt (plain (λ _. u32)), tt)))
+stayed = (stay_dropped _ yes, (stay_dropped _ yes, (stay_dropped _ yes, (gave_slice (0 ∷ []) tt (plain (λ _. u32)), tt))))
 
 pub squall_course_receivers_spec : {M : Type 1} → statement M
 squall_course_receivers_spec 𝓤 𝓛 𝓜 𝓡 wired =
     let c = f.clauses 𝓛 𝓜.mem 𝓡.returns in let W = walk_of 𝓛 f.ended stayed c in let 𝓣 = tables 𝓤 𝓛.H 𝓜 𝓡 𝓡.env in
-    proved 𝓛 f.ended stayed c 𝓜 𝓡 (Goes-dropped 𝓛 1 (plain (λ _. RawPtr)) yes (λ κs x w. refl), (Goes-dropped 𝓛 1 (plain (λ _. u32)) yes (λ κs x w. refl), (Goes-gave_slice 𝓛 1 0 tt (plain (λ _. u32)), tt)))
+    proved 𝓛 f.ended stayed c 𝓜 𝓡 (Goes-dropped 𝓛 1 (plain (λ _. RawPtr)) yes (λ κs x w. refl), (Goes-dropped 𝓛 1 (plain (λ _. u32)) yes (λ κs x w. refl), (Goes-dropped 𝓛 1 (plain (λ _. usize)) yes (λ κs x w. refl), (Goes-gave_slice 𝓛 1 0 tt (plain (λ _. u32)), tt))))
     f.Key.name code.function (code.unfolded 𝓤 𝓛.H 𝓜 𝓡 wired)
-    (λ κs. (rawptr_vals, (uint_vals w32, (mut_slice_vals, tt)))) (λ κs. (rawptr_Tells, (uint_Tells w32, (mut_slice_Tells (named 0) κs.0 u32, tt)))) (λ κs qs bounds a n are.
+    (λ κs. (rawptr_vals, (uint_vals w32, (uint_vals w64, (mut_slice_vals, tt))))) (λ κs. (rawptr_Tells, (uint_Tells w32, (uint_Tells w64, (mut_slice_Tells (named 0) κs.0 u32, tt))))) (λ κs qs bounds a n are.
     let κ0 = κs.0 in let q0 = qs.0 in
     let sub_plan = a.1.0 in
-    let room = a.1.1.0 in let room_vals = mut_slice_vals room in
-    let y : Ptr → W.Ghost = λ p. ((κs, qs, bounds, (p, (sub_plan, (room, tt))), (rawptr_vals p, (uint_vals w32 sub_plan, (room_vals, tt)))), n) in
-    qed 𝓛 (((‵ (flft κ0 q0) ⊛ ‵ ftrue) ⊛ ‵ (RawPtr.own_val a.0 (rawptr_vals a.0)) ⊛ ‵ (u32.own_val sub_plan (uint_vals w32 sub_plan)) ⊛ ‵ ((MutSlice (named 0) κ0 u32).own_val room room_vals) ⊛ ‵ ftrue) ∷ ‵ (lies_at R full_share a.0 n) ∷ []) ∵
-    split ! $ split ! $ move ! (1 ∷ []) $ drop ! $ move ! (1 ∷ []) $ split ! $ drop ! $ split ! $ drop ! $ split ! $ move ! (1 ∷ []) $ drop ! $ move ! (2 ∷ []) $
+    let first = a.1.1.0 in
+    let room = a.1.1.1.0 in let room_vals = mut_slice_vals room in
+    let y : Ptr → W.Ghost = λ p. ((κs, qs, bounds, (p, (sub_plan, (first, (room, tt)))), (rawptr_vals p, (uint_vals w32 sub_plan, (uint_vals w64 first, (room_vals, tt))))), n) in
+    qed 𝓛 (((‵ (flft κ0 q0) ⊛ ‵ ftrue) ⊛ ‵ (RawPtr.own_val a.0 (rawptr_vals a.0)) ⊛ ‵ (u32.own_val sub_plan (uint_vals w32 sub_plan)) ⊛ ‵ (usize.own_val first (uint_vals w64 first)) ⊛ ‵ ((MutSlice (named 0) κ0 u32).own_val room room_vals) ⊛ ‵ ftrue) ∷ ‵ (lies_at R full_share a.0 n) ∷ []) ∵
+    split ! $ split ! $ move ! (1 ∷ []) $ drop ! $ move ! (1 ∷ []) $ split ! $ drop ! $ split ! $ drop ! $ split ! $ drop ! $ split ! $ move ! (1 ∷ []) $ drop ! $ move ! (2 ∷ []) $
     in_a_block ! a.0 (λ p. lies_at R full_share p n) (id⊢ 𝓤 _) (λ b o e.
-    regoal ! (λ p. prop (WpFn 𝓤 𝓛.H 𝓣.C 𝓣.Λ code.function (rawptr_vals p ++ (uint_vals w32 sub_plan ++ (room_vals ++ ([])))) (W.post (y p)))) e refl $
+    regoal ! (λ p. prop (WpFn 𝓤 𝓛.H 𝓣.C 𝓣.Λ code.function (rawptr_vals p ++ (uint_vals w32 sub_plan ++ (uint_vals w64 first ++ (room_vals ++ ([]))))) (W.post (y p)))) e refl $
     -- the parameters are stored, and the pointers followed: [memory; room; token 0]
-    enter ! _ _ _ _ _ $ alloc_all ! (λ l. pass_all ! refl ((tt, tt), ((tt, record { fits = are.1.0.1 }), (((mut_slice_Lawful 𝓛 (named 0) κ0 u32).typed room room_vals are.1.1.0).0, tt))) $
+    enter ! _ _ _ _ _ $ alloc_all ! (λ l. pass_all ! refl ((tt, tt), ((tt, record { fits = are.1.0.1 }), ((tt, record { fits = are.1.1.0.1 }), (((mut_slice_Lawful 𝓛 (named 0) κ0 u32).typed room room_vals are.1.1.1.0).0, tt)))) $
     sets ! (of_opd ! (get ! refl)) refl (tt, tt) $ sets ! (addr ! (through ! refl (stop !))) refl (tt, tt) $
-    sets ! (addr ! (from ! (fld ! refl (hop ! (look_in_at ! 3 (sub ! 0 refl (whole !))) (stop !))))) refl (tt, tt) $
-    sets ! (agg ! (and_then ! (get ! refl) (and_then ! (get_in ! (fld ! refl (stop !)) (sub ! 1 refl (whole !))) (no_more !)))) refl (tt, (tt, (record { fits = are.1.1.0.0.1.0 }, tt))) $
+    sets ! (addr ! (from ! (fld ! refl (hop ! (look_in_at ! 4 (sub ! 0 refl (whole !))) (stop !))))) refl (tt, tt) $
+    sets ! (agg ! (and_then ! (get ! refl) (and_then ! (get_in ! (fld ! refl (stop !)) (sub ! 1 refl (whole !))) (no_more !)))) refl (tt, (tt, (record { fits = are.1.1.1.0.0.1.0 }, tt))) $
     lft_new ! tt (λ α. move ! (1 ∷ 0 ∷ []) $
     let s : Bor declared.CourseSlot = record { ref_ptr = (b, o); now = n } in
     use2 𝓛 (later ((‵ ((ShrRef (named 0) (α ∷ []) R).own_val s (vptr b o ∷ [])) ⊛ ‵ (flent (α ∷ []) (lies_at R full_share (block_ptr b o) n))) ⊛ ‵ (flft (α ∷ []) full_share)))
     (lends_shr 𝓛 R (named 0) (α ∷ []) full_share n b o R.lives (L.shares 𝓛 n) ((α ∷ [], full_share) ∷ []) (⊑_static (α ∷ [])) (λ x m. m)) $ await ! tt $ split ! $ split ! $
     -- lent: [the loan; what the lender keeps; α; room; token 0]
     let G = triple_of 𝓛 g.signature (g.spec 𝓛 𝓜.mem 𝓡.returns) in
-    let z : G.Ghost = (((α ∷ [], (κ0, tt)), (full_share, (q0, tt)), tt, (s, (sub_plan, (room, tt))), (shr_vals s, (uint_vals w32 sub_plan, (room_vals, tt)))), tt) in
-    nothing ! $ move ! (4 ∷ 0 ∷ []) $ join ! $ owned ! u32 (Is u32) (uint_Makes 𝓛 w32) sub_plan _ (refl, are.1.0.1) $ join ! $ move ! (1 ∷ 0 ∷ []) $ join ! $ nothing ! $ move ! (4 ∷ 0 ∷ []) $ join ! $ move ! (3 ∷ 0 ∷ []) $ join ! $ join ! $ nothing ! $ move ! (1 ∷ 0 ∷ []) $ join ! $
+    let z : G.Ghost = (((α ∷ [], (κ0, tt)), (full_share, (q0, tt)), tt, (s, (sub_plan, (first, (room, tt)))), (shr_vals s, (uint_vals w32 sub_plan, (uint_vals w64 first, (room_vals, tt))))), tt) in
+    nothing ! $ move ! (4 ∷ 0 ∷ []) $ join ! $ owned ! usize (Is usize) (uint_Makes 𝓛 w64) first _ (refl, are.1.1.0.1) $ join ! $ owned ! u32 (Is u32) (uint_Makes 𝓛 w32) sub_plan _ (refl, are.1.0.1) $ join ! $ move ! (1 ∷ 0 ∷ []) $ join ! $ nothing ! $ move ! (4 ∷ 0 ∷ []) $ join ! $ move ! (3 ∷ 0 ∷ []) $ join ! $ join ! $ nothing ! $ move ! (1 ∷ 0 ∷ []) $ join ! $
     -- the call
     use1 𝓛 (raw (G.pre z)) (id⊢ 𝓤 _) $
     calls_at ! (framed 𝓤 𝓛.H 𝓜 (tables 𝓤 𝓛.H 𝓜 𝓡 𝓡.env)) G (met 𝓤 𝓛 𝓜 𝓡 (code.calls-squall_c::courses::course_receivers 𝓡.env wired)) z
-    (and_then ! (get ! refl) (and_then ! (get ! refl) (and_then ! (get ! refl) (no_more !)))) (λ v.
+    (and_then ! (get ! refl) (and_then ! (get ! refl) (and_then ! (get ! refl) (and_then ! (get ! refl) (no_more !))))) (λ v.
     use1 𝓛 (later (some (λ (u : ℕ). ((‵ (flft (α ∷ []) full_share) ⊛ ‵ (flft κ0 q0) ⊛ ‵ ftrue) ⊛ ‵ (usize.own_val u (v ∷ []))) ⊛
-    some (λ (ws : Lasts g.ended z.0.0 z.0.3). ‵ (lasts g.ended z.0.0 z.0.3 ws) ⊛ raw (fact 𝓤 (GivesReceivers n.course sub_plan room.now ws.1.1.0 u)))))) (id⊢ 𝓤 _) $
+    some (λ (ws : Lasts g.ended z.0.0 z.0.3). ‵ (lasts g.ended z.0.0 z.0.3 ws) ⊛ raw (fact 𝓤 (GivesReceivers n.course sub_plan first room.now ws.1.1.1.0 u)))))) (id⊢ 𝓤 _) $
     await ! tt $ pick ! (λ u. split ! $ split ! $ split ! $ move ! (1 ∷ []) $ split ! $ move ! (1 ∷ []) $ drop ! $ move ! (1 ∷ []) $ lft_end ! tt $ move ! (2 ∷ []) $
     peeks ! usize (Is usize) (shows 𝓛 usize) u (v ∷ []) (λ is. lands_as ! refl refl ((uint_Lawful 𝓛 w64).typed u _ is).0 $
     -- what the call said
     move ! (3 ∷ []) $ pick ! (λ ws. split ! $ move ! (1 ∷ []) $ heard ! _ (λ h0.
-    fsplit ! $ drop ! $ fsplit ! $ drop ! $ fsplit ! $ fsplit ! $ fsplit ! $ move ! (1 ∷ []) $ feq_l ! (λ as_many_room. fjoin ! $ move ! (1 ∷ []) $ drop ! $
+    fsplit ! $ drop ! $ fsplit ! $ drop ! $ fsplit ! $ drop ! $ fsplit ! $ fsplit ! $ fsplit ! $ move ! (1 ∷ []) $ feq_l ! (λ as_many_room. fjoin ! $ move ! (1 ∷ []) $ drop ! $
     move ! (2 ∷ 4 ∷ []) $ lent_back ! tt $
     -- the loan is over: [memory; left of room; result; token 0]
     returns ! (look_at ! 0 refl) $ free_all ! refl $
     -- the end
-    suffices ! _ (ends_at 𝓛 f.ended stayed c (y (block_ptr b o)) v u (tt, (tt, (ws.1.1.0, tt))) (tt, (tt, (as_many_room, tt)))) $
-    nothing ! $ move ! (2 ∷ 0 ∷ []) $ join ! $ nothing ! $ join ! $ nothing ! $ join ! $ nothing ! $ move ! (4 ∷ 0 ∷ []) $ join ! $ keep ! (0 ∷ 1 ∷ 3 ∷ 2 ∷ []) $ group ! 3 $ frame ! $ says ! h0 $ done !))))))))))
+    suffices ! _ (ends_at 𝓛 f.ended stayed c (y (block_ptr b o)) v u (tt, (tt, (tt, (ws.1.1.1.0, tt)))) (tt, (tt, (tt, (as_many_room, tt))))) $
+    nothing ! $ move ! (2 ∷ 0 ∷ []) $ join ! $ nothing ! $ join ! $ nothing ! $ join ! $ nothing ! $ join ! $ nothing ! $ move ! (4 ∷ 0 ∷ []) $ join ! $ keep ! (0 ∷ 1 ∷ 3 ∷ 2 ∷ []) $ group ! 3 $ frame ! $ says ! h0 $ done !))))))))))
