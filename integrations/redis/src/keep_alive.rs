@@ -4,7 +4,6 @@ use crate::args::Args;
 use crate::fault::Done;
 use socket2::{SockRef, TcpKeepalive};
 use std::io;
-use std::os::fd::AsRawFd;
 use std::time::Duration;
 
 /// The option, in seconds: 0 turns it off.
@@ -46,13 +45,13 @@ impl KeepAlive {
     /// # Errors
     ///
     /// The system has refused it.
-    pub fn set(self, stream: &impl AsRawFd) -> io::Result<()> {
+    pub fn set<'a>(self, stream: impl Into<SockRef<'a>>) -> io::Result<()> {
         let Some(time) = self.0 else {
             return Ok(());
         };
         let interval = (time / PROBES).max(Duration::from_secs(1));
         let probes = TcpKeepalive::new().with_time(time).with_interval(interval).with_retries(PROBES);
-        SockRef::from(stream).set_tcp_keepalive(&probes)
+        stream.into().set_tcp_keepalive(&probes)
     }
 }
 

@@ -427,6 +427,19 @@ test_node_ends_in_order() {
   "$program" status "$run/old.json" "$run/old.json" "$run/board" | grep "^course 3 .* 1000/1000"
 }
 
+# The demo ends, and writes nothing, if another server is at one of its ports.
+test_demo_beside_a_stranger() {
+  local stranger run=$work/demo
+  start_redis || return
+  stranger=$port
+  if "$package/demo" $((stranger - 1)) > "$run/said" 2>&1; then
+    echo 'the demo went on'
+    return 1
+  fi
+  grep -q 'Address already in use' "$run/said" && [ "$(redis-cli -p "$stranger" dbsize)" -eq 0 ] \
+    && [ "$(redis-cli -p "$stranger" acl users)" = default ]
+}
+
 # Servers that refuse for a while, and a bus that starts anew, end no move: neither as it begins nor while keys move.
 test_refusals_that_pass() {
   local id moving

@@ -164,8 +164,8 @@ impl Feeder<'_> {
     /// The same; none if a server refuses for a reason that passes. What was put then is put again.
     fn try_copy(&mut self, keys: &[Ranked]) -> Done<Option<usize>> {
         for (_, key) in keys {
-            self.source.conn.put(&[b"DUMP", key.as_slice()]);
-            self.source.conn.put(&[b"PEXPIRETIME", key.as_slice()]);
+            self.source.conn.put(&[b"DUMP".as_slice(), key]);
+            self.source.conn.put(&[b"PEXPIRETIME".as_slice(), key]);
         }
         let said = self.source.conn.hear_all(2 * keys.len())?;
         if !self.source.accepts(&said)? {

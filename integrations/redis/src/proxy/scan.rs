@@ -72,7 +72,7 @@ impl Cursor {
     pub fn read(word: &[u8]) -> Option<Cursor> {
         let bits: u64 = std::str::from_utf8(word).ok()?.parse().ok()?;
         let part = (bits % (1 << PART)).checked_sub(1)?;
-        let flag = |at: u32| bits >> at & 1 == 1;
+        let flag = |at: u32| (bits >> at) & 1 == 1;
         Some(Cursor {
             part: part as u32,
             at: bits >> SHIFT,
@@ -84,9 +84,9 @@ impl Cursor {
 
     /// The number that a client has of it; none if a server's cursor is too large.
     fn number(&self) -> Option<u64> {
-        let flags = u64::from(self.is_quiet) << PART | u64::from(self.is_second) << (PART + 1);
+        let flags = (u64::from(self.is_quiet) << PART) | (u64::from(self.is_second) << (PART + 1));
         let number = u64::from(self.number) << (PART + 2);
-        (self.at < MOST).then_some(self.at << SHIFT | number | flags | u64::from(self.part + 1))
+        (self.at < MOST).then_some((self.at << SHIFT) | number | flags | u64::from(self.part + 1))
     }
 
     /// The next cursor, after the partition's own has become `at`; none at the end of the walk.
