@@ -191,12 +191,17 @@ class EtcdBus(KeepingBus):
             raise BusError(f"{self._server[0]}:{self._server[1]}: {error}") from error
         if response.status != 200:
             fault = TooLarge if _is_too_large(answer) else BusError
-            raise fault(str(answer.get("error", answer)))
+            raise fault(_why(answer))
         return answer
 
 
+def _why(answer: Json) -> str:
+    """What a server says of a fault: up to etcd 3.4 in `error`, and later in `message`."""
+    return str(answer.get("error") or answer.get("message") or answer)
+
+
 def _is_too_large(answer: Json) -> bool:
-    code, text = answer.get("code"), str(answer.get("error"))
+    code, text = answer.get("code"), _why(answer)
     return code in (_RESOURCE, _INVALID) and ("too large" in text or "larger than" in text)
 
 

@@ -25,9 +25,11 @@ def authority(folder: Path, name: str) -> Certificate:
 
 def _make(folder: Path, name: str, good_for: str, signer: Optional[Certificate]) -> Certificate:
     made = Certificate(folder / f"{name}.pem", folder / f"{name}.key")
-    signed: List[str] = (
-        [] if signer is None else ["-CA", str(signer.path), "-CAkey", str(signer.key)]
-    )
+    # Python asks from 3.13 on what the key of an authority is for, and OpenSSL makes one by default.
+    signed: List[str] = ["-addext", "keyUsage=critical,keyCertSign"]
+    if signer is not None:
+        signed = ["-CA", str(signer.path), "-CAkey", str(signer.key)]
+        signed += ["-addext", "basicConstraints=critical,CA:false"]
     kind = ["-newkey", "ec", "-pkeyopt", "ec_paramgen_curve:prime256v1", "-nodes", "-days", "2"]
     about = ["-subj", f"/CN={name}", "-addext", good_for]
     files = ["-keyout", str(made.key), "-out", str(made.path)]

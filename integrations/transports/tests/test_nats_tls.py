@@ -115,7 +115,7 @@ class Secure(unittest.TestCase):
         self.refused("asks for a certificate, and none is given", server.url(), tls)
         stranger = tls._replace(cert=self.stranger.path, key=self.stranger.key)
         # The alert may be overtaken by the end of the connection.
-        self.refused("bad certificate|reset|Broken pipe|ended", server.url(), stranger)
+        self.refused("bad certificate|unknown ca|reset|Broken pipe|ended", server.url(), stranger)
         self.assertNotIn("CONNECT", self.said(server))
         known = tls._replace(cert=self.own.path, key=self.own.key)
         one, two = (self.bus(server.url(), known) for _ in range(2))
