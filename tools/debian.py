@@ -1,6 +1,7 @@
 """Debian's packages of the release, from what `make install` copies.
 
-They are squall, libsquall2, libsquall-dev, and if the release has bindings/python also python3-squall.
+They are squall, libsquall with the number of the soname, libsquall-dev, if the release has bindings/python also
+python3-squall, and if it has redis/ also squall-redis.
 """
 import gzip
 import hashlib
@@ -14,6 +15,8 @@ from datetime import datetime, timezone
 from email.utils import format_datetime
 from pathlib import Path
 
+import redis_package
+
 MAINTAINER = "squall maintainers <maintainers@users.noreply.sumelgos.example>"
 LIBRARIES = "usr/lib/x86_64-linux-gnu"
 ABOUT = """ A partitioned main-memory database keeps each row in the memory of one
@@ -23,6 +26,8 @@ ABOUT = """ A partitioned main-memory database keeps each row in the memory of o
 """
 COMMON = "/usr/share/common-licenses"
 MODULES = "usr/lib/python3/dist-packages"
+# What the documents show and name, beside the bindings.
+PAGES = ["usr/share/squall/examples", "usr/share/squall/integrations", "usr/share/squall/redis"]
 SHELLS = ["usr/share/bash-completion", "usr/share/zsh", "usr/share/fish"]
 # Debian's own programs that make and remove the compiled modules, for each version that is installed.
 SCRIPTS = {"postinst": "py3compile", "prerm": "py3clean"}
@@ -44,14 +49,14 @@ class Package:
         return "\n".join(lines) + f"\n{ABOUT} .\n {self.more}\n"
 
 
-def package_list(version, glibc, soname, shells, has_python):
-    """The packages, the last of which takes what is left. `shells` has the folders of completions."""
+def package_list(version, glibc, soname, others, has_python):
+    """The packages, the last of which takes what is left. `others` has the folders of completions and pages."""
     number = soname.rpartition(".")[2]
     libc = f"libc6 (>= {glibc})"
     same = "Multi-Arch: same"
     yield Package(
         "squall", "database", "says where keys are while partitions move", "This package has the program.",
-        ["usr/bin", "usr/share/man", "usr/share/doc/squall", *shells], f"Depends: {libc}",
+        ["usr/bin", "usr/share/man", "usr/share/doc/squall", *others], f"Depends: {libc}",
     )
     yield Package(
         f"libsquall{number}", "libs", "partition routing while data moves - shared library",
@@ -66,7 +71,7 @@ def package_list(version, glibc, soname, shells, has_python):
     yield Package(
         "libsquall-dev", "libdevel", "partition routing while data moves - development files",
         "This package has the header, the archive and the sources of the bindings.", ["usr"],
-        f"Depends: libsquall{number} (= {version})", same,
+        f"Depends: libsquall{number} (= {version})", "Suggests: squall", same,
     )
 
 
@@ -80,12 +85,14 @@ def copyright_of(notices):
 
 
 def move(whole, stage, paths):
-    """Moves these files and folders to the package."""
+    """Moves these files and folders to the package, and leaves no empty folder where they were alone."""
     for path in paths:
         if (stage / path).is_dir():
             shutil.rmtree(stage / path)
         (stage / path).parent.mkdir(parents=True, exist_ok=True)
         shutil.move(whole / path, stage / path)
+        if not any((whole / path).parent.iterdir()):
+            (whole / path).parent.rmdir()
 
 
 def add(stage, name, data):
@@ -136,7 +143,7 @@ def seal(stage, date):
     files = sorted(it for it in stage.rglob("*") if it.is_file() and not it.is_symlink() and "DEBIAN" not in it.parts)
     for it in [stage, *stage.rglob("*")]:
         if not it.is_symlink():
-            is_run = it.parent.name == "bin" or it.name in SCRIPTS
+            is_run = it.parent.name == "bin" or it.name in redis_package.SCRIPTS
             it.chmod(0o755 if it.is_dir() or is_run else 0o644)
         os.utime(it, (date, date), follow_symlinks=False)
     return files
@@ -170,15 +177,18 @@ def packages(top, to, version, date):
         whole = Path(room, "whole")
         make = ["make", "-s", "-C", folder, "install", f"DESTDIR={whole}", "PREFIX=/usr", f"LIBDIR=/{LIBRARIES}"]
         # Debian's zsh looks there.
-        subprocess.run([*make, "ZSHDIR=/usr/share/zsh/vendor-completions"], check=True)
+        subprocess.run([*make, "ZSHDIR=/usr/share/zsh/vendor-completions"], check=True, stdout=subprocess.DEVNULL)
+        # dpkg has a list of its own.
+        (whole / "usr/share/squall/installed").unlink()
         notices = copyright_of((folder / "NOTICES").read_text(encoding="utf-8"))
         (whole / "usr/share/doc/squall/NOTICES").unlink()
         page = whole / "usr/share/man/man1/squall.1"
         add(whole, "usr/share/man/man1/squall.1.gz", gzip.compress(page.read_bytes(), 9, mtime=0))
         page.unlink()
         has_python = add_python(whole, version)
-        shells = [it for it in SHELLS if (whole / it).is_dir()]
-        for package in package_list(version, said["glibc"], soname, shells, has_python):
+        others = [it for it in [*PAGES, *SHELLS] if (whole / it).is_dir()]
+        redis = redis_package.packages(Package, folder, whole, version)
+        for package in [*redis, *package_list(version, said["glibc"], soname, others, has_python)]:
             stage = Path(room, package.name)
             move(whole, stage, package.paths)
             add_documents(stage, package, notices, version, date)
@@ -186,5 +196,7 @@ def packages(top, to, version, date):
                 add_of_library(stage, package, version, soname, symbols)
             elif package.section == "python":
                 add_of_python(stage, package)
+            elif package.name == redis_package.NAME:
+                redis_package.add_to(folder, stage, notices)
             print(build(package, stage, to, version, date))
     return 0

@@ -14,6 +14,9 @@ import sys
 from dataclasses import dataclass
 from pathlib import Path
 
+sys.dont_write_bytecode = True
+import needs
+
 TOP = Path(__file__).resolve().parent.parent
 MUTANTS = ("mutants", "mutants/more", "must-fail")
 EXCUSE = re.compile(r"#\s*(\w+(?:, *\w+)*): (\S.*)")
@@ -255,23 +258,23 @@ def changed(tool: str, expected: str, came: str) -> str:
     )
 
 
+def answers(known: dict[str, Crate], asked: str, rest: list[str]) -> list[str] | None:
+    """The lines that the words ask for, if they ask for anything."""
+    if not rest and asked == "crates":
+        return list(known)
+    if not rest and asked == "threads":
+        starts = re.compile(r"tests_may=.*Threads")
+        return [it.name for it in known.values() if any(map(starts.match, it.kinds))]
+    if len(rest) == 1 and rest[0] in known and asked in ("named", "below"):
+        return list(known[rest[0]].uses) if asked == "named" else below(known, rest[0])
+    return [changed(*rest)] if len(rest) == 3 and asked == "changed" else None
+
+
 def main() -> int:
-    known = crates()
-    match sys.argv[1:]:
-        case ["crates"]:
-            names = list(known)
-        case ["threads"]:
-            starts = re.compile(r"tests_may=.*Threads")
-            names = [it.name for it in known.values() if any(map(starts.match, it.kinds))]
-        case ["named", name] if name in known:
-            names = known[name].uses
-        case ["below", name] if name in known:
-            names = below(known, name)
-        case ["changed", tool, expected, came]:
-            names = [changed(tool, expected, came)]
-        case _:
-            print("usage: tools/house.py crates | threads | named NAME | below NAME | changed T E C", file=sys.stderr)
-            return 2
+    names = answers(crates(), *sys.argv[1:2] or [""], sys.argv[2:])
+    if names is None:
+        print("usage: tools/house.py crates | threads | named NAME | below NAME | changed T E C", file=sys.stderr)
+        return 2
     print(*names, sep="\n", end="\n" if names else "")
     return 0
 
