@@ -18,24 +18,31 @@ _SAVE = 1.0
 def follow(node: Node, keys: Sequence[Rank], file: Optional[BoardFile]) -> None:
     """Prints lines when they change, and keeps the board in the file, until the program is ended.
 
-    Raises `OSError` if the file can't be written.
+    The file has nothing that was not printed, whenever the program ends. Raises `OSError` if the
+    file can't be written.
     """
     shown: List[str] = []
     saved = time.monotonic()
     try:
         while True:
-            lines = list(describe(node.router, keys))
-            for line in lines:
-                if line not in shown:
-                    print(line, flush=True)
-            shown = lines
-            node.turn(_TURN)
+            shown = _show(node, keys, shown)
             if file is not None and time.monotonic() - saved >= _SAVE:
                 file.save(node)
                 saved = time.monotonic()
+            node.turn(_TURN)
     finally:
+        _show(node, keys, shown)
         if file is not None:
             file.save(node)
+
+
+def _show(node: Node, keys: Sequence[Rank], shown: Sequence[str]) -> List[str]:
+    """Prints the lines that were not shown before: all lines of now."""
+    lines = list(describe(node.router, keys))
+    for line in lines:
+        if line not in shown:
+            print(line, flush=True)
+    return lines
 
 
 def describe(router: Router, keys: Sequence[Rank]) -> Iterator[str]:
