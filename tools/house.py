@@ -20,6 +20,8 @@ import needs
 TOP = Path(__file__).resolve().parent.parent
 MUTANTS = ("mutants", "mutants/more", "must-fail")
 EXCUSE = re.compile(r"#\s*(\w+(?:, *\w+)*): (\S.*)")
+FACT = re.compile(r"#\| (group|does|value|proved): (\S.*)")
+PROVED = re.compile(r"(.*) \(([^()]*)\)")
 BLOCK = re.compile(r"(?:unsafe )?impl\b|(?:pub(?:\(\w+\))? )?trait\b")
 FUNCTION = re.compile(r"( *)((?:pub(?:\(\w+\))? )?(?:final )?(?:const )?(?:unsafe )?(?:extern \S+ )?)fn (\w+)")
 ABOVE = ("#[", "///")
@@ -29,27 +31,58 @@ CLAUSE = re.compile(r"\b(?:ensures\*?|ghost) (\w*) ?(?:= )?\{")
 
 @dataclass(frozen=True)
 class Crate:
-    """A line of crates.txt. A comment line above it, `# NAME, NAME: why`, excuses names that no file has."""
+    """A line of crates.txt, with what the comment lines above it say.
+
+    `# NAME, NAME: why` excuses names that no file has. `#| group: ..` is the crate's group, `#| does: ..` what it is for,
+    `#| value: ..` its value in contracts, and `#| proved: .. (..)` what is proved above all, by which functions.
+    """
 
     name: str
     kinds: tuple[str, ...]
     uses: tuple[str, ...]
     excused: dict[str, str]
+    facts: tuple[tuple[str, str], ...] = ()
+
+    def fact(self, kind: str) -> str:
+        """What the line of that kind says."""
+        return next((text for it, text in self.facts if it == kind), "")
+
+    @property
+    def group(self) -> str:
+        """The group to which it belongs."""
+        return self.fact("group")
+
+    @property
+    def does(self) -> str:
+        """What it is for."""
+        return self.fact("does")
+
+    @property
+    def value(self) -> str:
+        """What contracts see of its values."""
+        return self.fact("value")
+
+    @property
+    def proved(self) -> list[tuple[str, str]]:
+        """What is proved above all, and the functions whose contracts say so."""
+        return [PROVED.fullmatch(text).groups() for it, text in self.facts if it == "proved"]
 
 
 def crates() -> dict[str, Crate]:
     """The crates of crates.txt by their names, in the order of their lines."""
-    found, excused = {}, {}
+    found, excused, facts = {}, {}, []
     for line in (TOP / "crates.txt").read_text(encoding="utf-8").splitlines():
         head, colon, rest = line.partition("#")[0].partition(":")
+        excuse, fact = EXCUSE.fullmatch(line.strip()), FACT.fullmatch(line)
         if colon:
             name, *kinds = head.split()
-            found[name] = Crate(name, tuple(kinds), tuple(rest.split()), excused)
-        excuse = EXCUSE.fullmatch(line.strip())
+            found[name] = Crate(name, tuple(kinds), tuple(rest.split()), excused, tuple(facts))
         if excuse:
             excused = {**excused, **{it.strip(): excuse[2] for it in excuse[1].split(",")}}
+        elif fact:
+            facts.append(fact.groups())
         elif not line.startswith("#"):
-            excused = {}
+            excused, facts = {}, []
     return found
 
 
