@@ -99,7 +99,7 @@ class Node:
             self._take(message)
 
     def _take(self, message: Message) -> None:
-        """Takes a frame. What is none changes nothing."""
+        """Handles a message. Bytes that are no frame are counted and ignored."""
         try:
             self.router.hear(message.frame)
         except FrameError:
