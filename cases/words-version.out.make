@@ -1,2 +1,0 @@
-# The version, and with which digits the checksum of the sources begins.
-../tools/sources --title
