@@ -33,7 +33,7 @@ counts() {
 set_program() {
   if program=$("$top/tools/released" program 2> /dev/null); then
     program=$program/squall
-  elif "$top/tools/is-built"; then
+  elif "$top/tools/releasing/is-built"; then
     program=$top/squall
   else
     echo "there is no program squall"

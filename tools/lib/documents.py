@@ -1,6 +1,6 @@
 """The documents of the release's archive, each link of which leads to a file of the archive.
 
-  python3 tools/documents.py DIR    says which links of the pages below a folder lead to nothing; the last line counts
+  python3 tools/lib/documents.py DIR    says which links of the pages below a folder lead to nothing; the last line counts
 
 Pages of the archive also link to pages of the repository that are not in it. In the archive the text of such a link stays,
 and the link goes. Its README.md is docs/ARCHIVE.md of the repository.
@@ -83,7 +83,7 @@ def judged(folder):
 
 def main():
     if len(sys.argv) != 2 or not Path(sys.argv[1]).is_dir():
-        print("usage: python3 tools/documents.py DIR", file=sys.stderr)
+        print("usage: python3 tools/lib/documents.py DIR", file=sys.stderr)
         return 2
     found = [*judged(Path(sys.argv[1]))]
     wrong = [what for what, is_right in found if not is_right]

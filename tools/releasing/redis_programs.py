@@ -14,7 +14,7 @@ import subprocess
 import sys
 from pathlib import Path
 
-TOP = Path(__file__).resolve().parent.parent
+TOP = Path(__file__).resolve().parents[2]
 PACKAGE = TOP / "integrations/redis"
 CRATE = TOP / "bindings/rust"
 REGISTRY = Path("/usr/share/cargo/registry")

@@ -14,10 +14,10 @@
  *   SHIM_MARK=FILE       the file is made once a call was made to fail
  *   SHIM_LEFT=FILE       with SHIM_THREAD, the file is made if a thread still runs when the program ends
  *
- * tools/refuse-growth uses SHIM_ALLOC, on tests. tools/refuse-threads uses SHIM_THREAD and SHIM_LEFT, on tests of
- * races. tools/failing-system uses the others, and SHIM_ALLOC, on the built program. Each compiles this file with
+ * tools/faults/refuse-growth uses SHIM_ALLOC, on tests. tools/faults/refuse-threads uses SHIM_THREAD and SHIM_LEFT, on tests of
+ * races. tools/faults/failing-system uses the others, and SHIM_ALLOC, on the built program. Each compiles this file with
  *
- *   gcc -O2 -Wall -Wextra -Werror -shared -fPIC -o shim.so tools/shim.c -ldl
+ *   gcc -O2 -Wall -Wextra -Werror -shared -fPIC -o shim.so tools/faults/shim.c -ldl
  */
 #define _GNU_SOURCE
 #include <dlfcn.h>

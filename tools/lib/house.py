@@ -1,10 +1,10 @@
 """Reads what several tools read: crates.txt, mutants, and the functions of a source.
 
-  python3 tools/house.py crates            the crates of crates.txt, a line each
-  python3 tools/house.py threads           those of them whose tests may start threads
-  python3 tools/house.py named NAME        what the crate's line names
-  python3 tools/house.py below NAME        the crates of this repository below it, each after those it stands on
-  python3 tools/house.py changed T E C     what tool T says if it expected E of the toolchain's private parts and C came
+  python3 tools/lib/house.py crates            the crates of crates.txt, a line each
+  python3 tools/lib/house.py threads           those of them whose tests may start threads
+  python3 tools/lib/house.py named NAME        what the crate's line names
+  python3 tools/lib/house.py below NAME        the crates of this repository below it, each after those it stands on
+  python3 tools/lib/house.py changed T E C     what tool T says if it expected E of the toolchain's private parts and C came
 
 tools/sources alone reads crates.txt by itself: it has to run without Python.
 """
@@ -17,7 +17,7 @@ from pathlib import Path
 sys.dont_write_bytecode = True
 import needs
 
-TOP = Path(__file__).resolve().parent.parent
+TOP = Path(__file__).resolve().parents[2]
 MUTANTS = ("mutants", "mutants/more", "must-fail")
 EXCUSE = re.compile(r"#\s*(\w+(?:, *\w+)*): (\S.*)")
 FACT = re.compile(r"#\| (group|does|value|proved): (\S.*)")
@@ -306,7 +306,7 @@ def answers(known: dict[str, Crate], asked: str, rest: list[str]) -> list[str] |
 def main() -> int:
     names = answers(crates(), *sys.argv[1:2] or [""], sys.argv[2:])
     if names is None:
-        print("usage: tools/house.py crates | threads | named NAME | below NAME | changed T E C", file=sys.stderr)
+        print("usage: tools/lib/house.py crates | threads | named NAME | below NAME | changed T E C", file=sys.stderr)
         return 2
     print(*names, sep="\n", end="\n" if names else "")
     return 0
