@@ -4,13 +4,16 @@ use super::commands::Split;
 use super::plan::{Plan, Words};
 use super::socket::{drop_first, Out, Socket};
 use super::task::{Deed, Queue, Task, Watch};
-use crate::resp::{Parser, Value};
+use crate::resp::{error, Parser, Value};
 use squall::{Errand, Reply};
 use std::collections::VecDeque;
 use std::time::{Duration, Instant};
 
 /// No client has more commands that wait for answers.
 pub const MOST_COMMANDS: usize = 4096;
+/// How many bytes an answer is expected to have, of a client that had none yet, and at least.
+const FIRST: usize = 1 << 15;
+const LEAST: usize = 1 << 8;
 /// If more bytes than these are answered, they are dropped before all are answered.
 const ANSWERED: usize = 1 << 16;
 
@@ -25,8 +28,10 @@ pub struct Slot {
     plan: Option<Plan>,
     /// How many parts are not answered.
     left: usize,
-    /// The answer of each part.
+    /// The answer of each part, how many bytes came, and how many are held.
     replies: Vec<Vec<u8>>,
+    bytes: usize,
+    held: usize,
 }
 
 /// A request that a partition has refused, to be done by an errand.
@@ -57,6 +62,8 @@ pub struct Chase {
 pub struct Client {
     /// A number that no other client of the worker has or had.
     pub id: u64,
+    /// The most bytes of an answer.
+    most: usize,
     /// Its connection.
     pub stream: Socket,
     /// What it sent and is not answered, and the place of its first byte among all that it sent.
@@ -65,14 +72,20 @@ pub struct Client {
     /// Where the next command begins in the input, and what was read of it.
     pub next: usize,
     pub parser: Parser,
-    /// Whether more may have come than was read.
+    /// Whether more may have come than was read, and whether the other end sends nothing after that.
     pub is_unread: bool,
+    pub has_closed: bool,
     /// What is to be sent to it.
     pub out: Out,
     window: VecDeque<Slot>,
     first: u64,
     /// The bytes of answers that wait for an earlier one.
     pub held: usize,
+    /// How many bytes an answer is expected to have, by those before.
+    expected: usize,
+    /// How many bytes of memory are counted for it, and whether it waits for memory.
+    pub counted: usize,
+    pub is_back: bool,
     /// How many requests are in flight, and how many of them by a guard.
     pub in_flight: usize,
     pub guarded: usize,
@@ -101,19 +114,24 @@ pub struct Client {
 
 impl Client {
     /// A client that has sent nothing.
-    pub fn new(id: u64, stream: Socket) -> Client {
+    pub fn new(id: u64, stream: Socket, most: usize) -> Client {
         Client {
             id,
+            most,
             stream,
             input: Vec::new(),
             base: 0,
             next: 0,
             parser: Parser::default(),
             is_unread: false,
+            has_closed: false,
             out: Out::default(),
             window: VecDeque::new(),
             first: 0,
             held: 0,
+            expected: FIRST,
+            counted: 0,
+            is_back: false,
             in_flight: 0,
             guarded: 0,
             sent_by: (0, 0),
@@ -138,9 +156,17 @@ impl Client {
         self.input.len() + self.out.len() + self.held + queued
     }
 
-    /// Whether it may have another command in flight.
+    /// How much memory it takes.
+    pub fn footprint(&self) -> usize {
+        let queued = self.queue.as_ref().map_or(0, |queue| queue.bytes.capacity());
+        self.input.capacity() + self.out.bytes.capacity() + self.held + queued
+    }
+
+    /// Whether it may have another command in flight: the answers that it has not taken and those that are expected
+    /// leave room for one. It has room for one of any size.
     pub fn has_room(&self, most: usize) -> bool {
-        self.window.len() < MOST_COMMANDS && self.out.len() + self.held < most
+        let coming = self.in_flight * self.expected;
+        self.window.len() < MOST_COMMANDS && self.out.len() + self.held + coming < most
     }
 
     /// Whether a request that is sent by a view and its course comes after those in flight.
@@ -205,8 +231,9 @@ impl Client {
 
     fn push(&mut self, plan: Option<Plan>, left: usize, replies: Vec<Vec<u8>>) {
         let begin = self.base + self.next as u64;
-        let len = self.parser.len();
-        self.window.push_back(Slot { begin, len, is_resp3: self.is_resp3, plan, left, replies });
+        let (len, is_resp3) = (self.parser.len(), self.is_resp3);
+        let held = replies.iter().map(Vec::len).sum();
+        self.window.push_back(Slot { begin, len, is_resp3, plan, left, replies, bytes: 0, held });
         self.pass();
     }
 
@@ -224,6 +251,7 @@ impl Client {
 
     /// Takes the answer of a part of a command.
     pub fn answer(&mut self, seq: u64, part: u32, reply: &[u8]) {
+        self.expected = (self.expected - self.expected / 64).max(reply.len()).max(LEAST);
         let at = (seq - self.first) as usize;
         let slot = &mut self.window[at];
         slot.left -= 1;
@@ -237,8 +265,9 @@ impl Client {
             }
             slot.replies.push(Vec::new());
         }
-        self.held += reply.len();
-        slot.replies[part as usize] = reply.to_vec();
+        let before = slot.held;
+        slot.take(part as usize, reply, self.most);
+        self.held = self.held + slot.held - before;
         self.flush_answers();
     }
 
@@ -248,7 +277,7 @@ impl Client {
             if slot.left > 0 {
                 break;
             }
-            self.held -= slot.replies.iter().map(Vec::len).sum::<usize>();
+            self.held -= slot.held;
             join(slot, &mut self.out.bytes);
             self.window.pop_front();
             self.first += 1;
@@ -296,6 +325,31 @@ impl Client {
         let words = Words { bytes, places: parser.words() };
         Some(see(slot.plan.as_ref()?, words, slot.len))
     }
+}
+
+impl Slot {
+    /// Takes the answer of a part. If all of them are too large, they are dropped, and only that is said.
+    fn take(&mut self, part: usize, reply: &[u8], most: usize) {
+        let was_too_large = self.bytes > most;
+        self.bytes += reply.len();
+        if self.bytes <= most {
+            self.replies[part] = reply.to_vec();
+            self.held += reply.len();
+        } else if !was_too_large {
+            self.replies.iter_mut().for_each(|reply| *reply = Vec::new());
+            self.replies[part] = too_large(self.bytes, most);
+            self.held = self.replies[part].len();
+        }
+    }
+}
+
+/// What is answered instead of an answer that is too large, of which so many bytes are known.
+pub fn too_large(bytes: usize, most: usize) -> Vec<u8> {
+    error(&format!(
+        "ERR the answer has at least {bytes} bytes, and --client-memory is {} MiB: the command was done, and its answer \
+         is dropped",
+        most >> 20
+    ))
 }
 
 /// Appends the answer of a command whose parts are all answered. An error of a part is the answer.

@@ -29,6 +29,11 @@ pub struct Counts {
     pub lost: AtomicU64,
     /// Commands that waited too long.
     pub gave_up: AtomicU64,
+    /// How often a client had to wait for memory, clients that were closed for want of it, and answers that were too
+    /// large.
+    pub held_back: AtomicU64,
+    pub evicted: AtomicU64,
+    pub too_large: AtomicU64,
     /// Commands that waited, by class, and how long they all did, in microseconds.
     waits: [AtomicU64; CLASSES.len() + 1],
     waited: AtomicU64,

@@ -1,6 +1,7 @@
 //! A worker's connections to the partitions: they log in, and what they answer.
 
-use super::socket::drop_first;
+use super::client::too_large;
+use super::socket::{drop_first, Received};
 use super::upstream::{State, Upstream};
 use super::worker::{upstream_token, Worker};
 use crate::resp::error;
@@ -81,9 +82,12 @@ impl Worker {
         }
         let mut stands = true;
         if is_readable || is_closed || upstream.is_tls() {
-            stands = upstream.receive(&mut self.block, is_closed);
+            let received = upstream.receive(&mut self.block, is_closed);
             upstream.progress = self.now;
-            stands &= self.take_replies(at);
+            stands = self.take_replies(at) && matches!(received, Received::All | Received::Some);
+            if received == Received::Some {
+                self.read_later(at, is_closed);
+            }
         }
         if stands {
             self.mark_upstream(at);
@@ -107,7 +111,7 @@ impl Worker {
                 }
             };
             used += reply.len();
-            if !self.take_reply(at, reply) {
+            if !self.take_sized(at, reply) {
                 is_fine = false;
                 break;
             }
@@ -115,7 +119,18 @@ impl Worker {
         let mut heard = heard;
         drop_first(&mut heard, used);
         self.upstreams[at].heard = heard;
+        self.upstreams[at].drop_large(self.shared.memory);
         is_fine
+    }
+
+    /// Takes one reply, or one that is too large instead: whether one was due.
+    fn take_sized(&mut self, at: usize, reply: &[u8]) -> bool {
+        let size = reply.len() + std::mem::take(&mut self.upstreams[at].dropped);
+        if size == reply.len() && (size <= self.shared.memory || !self.upstreams[at].has_limit()) {
+            return self.take_reply(at, reply);
+        }
+        self.counts().too_large.fetch_add(1, Relaxed);
+        self.take_reply(at, &too_large(size, self.shared.memory))
     }
 
     /// Takes one reply: whether one was due.

@@ -1,6 +1,7 @@
 //! What all workers of a proxy share, and how Prometheus reads what they count.
 
 use super::counts::{add_kinds, add_waits, sum, Counts};
+use super::memory::Bound;
 use crate::bus::Node;
 use crate::conn::Server;
 use crate::fault::Done;
@@ -33,6 +34,8 @@ pub struct Shared {
     pub keep_alive: KeepAlive,
     /// How many bytes a client may hold.
     pub memory: usize,
+    /// How many bytes all clients may hold.
+    pub bound: Bound,
     /// How many clients there are.
     pub clients: AtomicUsize,
     /// Whether the proxy ends.
@@ -74,6 +77,13 @@ impl Shared {
             ("logins", "log-ins at partitions", self.sum(|it| &it.logins)),
             ("connections_lost", "lost connections to partitions", self.sum(|it| &it.lost)),
             ("gave_up", "commands that waited too long", self.sum(|it| &it.gave_up)),
+            (
+                "held_back",
+                "clients from which no more was read for want of memory",
+                self.sum(|it| &it.held_back),
+            ),
+            ("evicted", "clients that were closed for want of memory", self.sum(|it| &it.evicted)),
+            ("too_large", "answers that were larger than a client may hold", self.sum(|it| &it.too_large)),
         ]
     }
 
@@ -108,6 +118,7 @@ impl Shared {
             ("moving_keys", "keys that the course moves", progress.moving),
             ("loaded_keys", "keys among them whose load is known", progress.loaded),
             ("clients", "clients", self.clients.load(Relaxed) as u64),
+            ("memory_bytes", "bytes of commands and answers that are held", self.bound.held() as u64),
             ("uptime_seconds", "seconds since the proxy began", self.began.elapsed().as_secs()),
         ];
         for (name, help, value) in gauges {

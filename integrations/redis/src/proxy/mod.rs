@@ -9,6 +9,7 @@ mod follow;
 mod http;
 mod link;
 mod local;
+mod memory;
 mod metrics;
 mod multi;
 mod own;
@@ -57,6 +58,7 @@ pub const USAGE: Usage = Usage {
         "answer",
         "clients",
         "client-memory",
+        "memory",
         keep_alive::OPTION,
         "metrics",
         "program",
@@ -136,6 +138,7 @@ fn share(args: &Args, threads: usize) -> Done<Shared> {
         answer: Duration::from_millis(args.number("answer", 60_000, 1, 3_600_000)?),
         keep_alive: KeepAlive::of(args)?,
         memory: args.number("client-memory", 64, 1, 4096)? as usize * (1 << 20),
+        bound: memory::Bound::of(args)?,
         clients: AtomicUsize::new(0),
         is_ending: AtomicBool::new(false),
         arrivals: (0..threads).map(|_| Mutex::default()).collect(),

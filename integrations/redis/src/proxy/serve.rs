@@ -5,6 +5,7 @@ use super::commands::Kind;
 use super::follow::Targets;
 use super::local;
 use super::plan::{Plan, Words};
+use super::socket::A_TURN;
 use super::upstream::InFlight;
 use super::worker::Worker;
 use crate::resp::{error, Broken};
@@ -15,7 +16,9 @@ use std::sync::atomic::Ordering::Relaxed;
 pub enum Flow {
     /// It was sent or answered.
     On,
-    /// Its bytes are not all there, or the client has too much in flight.
+    /// Its bytes are not all there.
+    Hungry,
+    /// It waits for answers, or until the client has taken some.
     Idle,
     /// It waits for time or news.
     Blocked,
@@ -27,9 +30,11 @@ impl Worker {
         let Some(mut client) = self.clients[at].take() else {
             return;
         };
-        let mut stands = true;
+        let (mut stands, mut left) = (true, A_TURN);
         loop {
-            let flow = if client.task.is_some() {
+            let flow = if self.holds_back(at, &mut client) {
+                Flow::Idle
+            } else if client.task.is_some() {
                 self.go_on_task(at, &mut client)
             } else if client.diverted.is_empty() {
                 self.next_command(at, &mut client)
@@ -38,16 +43,14 @@ impl Worker {
             };
             match flow {
                 Flow::On => {}
-                Flow::Idle if client.is_unread => {
-                    client.make_room();
-                    if client.input.len() >= self.shared.memory {
+                Flow::Hungry => match self.feed(at, &mut client, &mut left) {
+                    Some(true) => {}
+                    Some(false) => break,
+                    None => {
+                        stands = false;
                         break;
                     }
-                    stands = self.read_client(&mut client, false);
-                    if !stands {
-                        break;
-                    }
-                }
+                },
                 Flow::Idle => break,
                 Flow::Blocked => {
                     if !client.is_blocked {
@@ -62,6 +65,23 @@ impl Worker {
             self.mark_client(at, &mut client);
         }
         self.put_back(at, client, stands);
+    }
+
+    /// Reads more of what a client has sent, as much as it may send in this turn: whether some came. None if it is gone.
+    fn feed(&mut self, at: usize, client: &mut Client, left: &mut usize) -> Option<bool> {
+        client.make_room();
+        let before = client.input.len();
+        if !client.is_unread || before >= self.shared.memory {
+            return Some(false);
+        }
+        if *left == 0 {
+            self.unread_clients.insert(at);
+            return Some(false);
+        }
+        let stands = self.read_client(client, *left);
+        let came = client.input.len() - before;
+        *left = left.saturating_sub(came);
+        stands.then_some(came > 0 || client.is_shut)
     }
 
     /// Follows the errand of the first request that was refused, once nothing else is in flight.
@@ -80,11 +100,11 @@ impl Worker {
 
     /// Sends a client's next command, or answers it.
     fn next_command(&mut self, at: usize, client: &mut Client) -> Flow {
-        if client.is_ending || !client.has_room(self.shared.memory) {
+        if client.is_ending || !self.has_room(client) {
             return Flow::Idle;
         }
         if !read_command(client, self.shared.memory) {
-            return Flow::Idle;
+            return Flow::Hungry;
         }
         let words = Words { bytes: &client.input[client.next..], places: client.parser.words() };
         if words.count() == 0 {

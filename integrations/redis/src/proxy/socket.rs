@@ -126,11 +126,14 @@ pub struct Out {
     sent: usize,
 }
 
-/// If more bytes than these are sent, they are dropped before all are sent.
+/// If more bytes than these are sent, and more than half of all, they are dropped before all are sent.
 const SENT: usize = 1 << 20;
 
-/// No more memory is kept for bytes that are gone.
-const KEPT: usize = 1 << 20;
+/// No more memory is kept for bytes that are gone. There may be many connections that say nothing.
+const KEPT: usize = 1 << 17;
+
+/// No more bytes are read of one connection in a turn of the loop, so it holds up no others.
+pub const A_TURN: usize = 1 << 20;
 
 /// Drops the first bytes. What was kept for many of them is given back once few are left, since a
 /// connection may stay idle after that.
@@ -173,7 +176,7 @@ impl Out {
         }
         if self.sent == self.bytes.len() {
             self.clear();
-        } else if self.sent > SENT {
+        } else if self.sent > SENT.max(self.bytes.len() / 2) {
             self.drop_first(self.sent);
         }
         true

@@ -1,6 +1,6 @@
 //! A connection from a worker to a partition, which the commands of all its clients share.
 
-use super::socket::{receive, Out, Received, Socket};
+use super::socket::{drop_first, receive, Out, Received, Socket, A_TURN};
 use crate::conn::Server;
 use crate::fault::{note, Done};
 use crate::keymap;
@@ -77,8 +77,9 @@ pub struct Upstream {
     pub out: Out,
     /// What was heard and is not answered to clients yet.
     pub heard: Vec<u8>,
-    /// The scan of the first reply in it.
+    /// The scan of the first reply in it, and how many bytes of that were dropped since it is too large.
     pub scan: Scan,
+    pub dropped: usize,
     /// What was sent, in order.
     pub sent: VecDeque<InFlight>,
     /// When the last answer came, or the first question was sent.
@@ -118,6 +119,7 @@ impl Upstream {
             out: Out::default(),
             heard: Vec::new(),
             scan: Scan::default(),
+            dropped: 0,
             sent: VecDeque::new(),
             progress: now,
             is_dirty: false,
@@ -130,7 +132,7 @@ impl Upstream {
         let stream = Socket::connect(&self.server)?;
         self.out.clear();
         self.heard.clear();
-        self.scan = Scan::default();
+        (self.scan, self.dropped) = (Scan::default(), 0);
         Ok(self.stream.insert(stream).source())
     }
 
@@ -244,12 +246,28 @@ impl Upstream {
         self.sent.push_back(sent);
     }
 
-    /// Reads what has come: whether the connection is still open.
-    pub fn receive(&mut self, block: &mut [u8], is_closed: bool) -> bool {
-        let Some(stream) = &mut self.stream else {
-            return false;
-        };
-        receive(stream, block, &mut self.heard, (is_closed, usize::MAX)) == Received::All
+    /// Reads what has come, but no more than a turn's part.
+    pub fn receive(&mut self, block: &mut [u8], is_closed: bool) -> Received {
+        let most = self.heard.len() + A_TURN;
+        match &mut self.stream {
+            Some(stream) => receive(stream, block, &mut self.heard, (is_closed, most)),
+            None => Received::Lost,
+        }
+    }
+
+    /// Whether its answers are ones of clients, which may hold no more than so much.
+    pub fn has_limit(&self) -> bool {
+        !matches!(self.state, State::Entering(..))
+    }
+
+    /// Drops what was heard of a reply that is larger than that. The rest is dropped as it comes.
+    pub fn drop_large(&mut self, most: usize) {
+        if self.has_limit() && self.dropped + self.scan.least() > most {
+            let count = self.scan.least().min(self.heard.len());
+            drop_first(&mut self.heard, count);
+            self.scan.drop_first(count);
+            self.dropped += count;
+        }
     }
 
     /// Whether any event may let it read on.

@@ -5,6 +5,7 @@
 
 use super::client::Client;
 use super::counts::{Counts, Turn};
+use super::memory::Account;
 use super::metrics::Shared;
 use super::scan::Ground;
 use super::socket::{receive, Received, Socket};
@@ -13,7 +14,7 @@ use crate::keep_alive::KeepAlive;
 use mio::net::TcpStream;
 use mio::{Events, Interest, Poll, Token};
 use squall::View;
-use std::collections::HashMap;
+use std::collections::{BTreeMap, BTreeSet, HashMap};
 use std::io;
 use std::sync::atomic::Ordering::SeqCst;
 use std::sync::{Arc, PoisonError};
@@ -26,6 +27,8 @@ const SOON: Duration = Duration::from_millis(5);
 const LATER: Duration = Duration::from_millis(500);
 /// How many bytes are read at once.
 const BLOCK: usize = 1 << 16;
+/// No more requests of a client are sent if its answers take as much as this.
+const ROOM: usize = 1 << 20;
 
 /// A worker of the proxy.
 pub struct Worker {
@@ -53,6 +56,11 @@ pub struct Worker {
     pub(super) blocked: Vec<usize>,
     dirty_clients: Vec<usize>,
     dirty_upstreams: Vec<usize>,
+    /// What is read on in the next turn: connections to partitions, of which some have closed, and clients.
+    unread: BTreeMap<usize, bool>,
+    pub(super) unread_clients: BTreeSet<usize>,
+    /// What its clients hold.
+    pub(super) account: Account,
     pub(super) block: Vec<u8>,
     /// Commands since the last turn of the loop.
     pub(super) turn: Turn,
@@ -91,6 +99,9 @@ impl Worker {
             blocked: Vec::new(),
             dirty_clients: Vec::new(),
             dirty_upstreams: Vec::new(),
+            unread: BTreeMap::new(),
+            unread_clients: BTreeSet::new(),
+            account: Account::default(),
             block: vec![0; BLOCK],
             turn: Turn::default(),
         }
@@ -118,29 +129,52 @@ impl Worker {
             if self.shared.is_ending.load(SeqCst) && !self.is_ending {
                 self.end();
             }
-            for event in &events {
-                let token = event.token();
-                let is_closed = event.is_read_closed() || event.is_error();
-                if token == WAKE {
-                    self.accept();
-                } else if token.0 % 2 == 0 {
-                    self.on_client(token.0 / 2 - 1, event.is_readable(), is_closed);
-                } else {
-                    self.on_upstream(token.0 / 2, event.is_readable(), is_closed);
-                }
-            }
+            self.read_on();
+            self.take(&events);
             self.watch();
             self.go_on();
             self.flush();
+            self.weigh();
             self.shared.counts[self.own].add(&mut self.turn);
         }
     }
 
+    fn take(&mut self, events: &Events) {
+        for event in events {
+            let token = event.token();
+            let is_closed = event.is_read_closed() || event.is_error();
+            if token == WAKE {
+                self.accept();
+            } else if token.0 % 2 == 0 {
+                self.on_client(token.0 / 2 - 1, event.is_readable(), is_closed);
+            } else {
+                self.on_upstream(token.0 / 2, event.is_readable(), is_closed);
+            }
+        }
+    }
+
+    /// More has come over this connection to a partition than is read in a turn.
+    pub(super) fn read_later(&mut self, at: usize, is_closed: bool) {
+        *self.unread.entry(at).or_default() |= is_closed;
+    }
+
+    /// Reads on over all that had more than is read in a turn. No event tells of that.
+    fn read_on(&mut self) {
+        let (unread, clients) = (std::mem::take(&mut self.unread), std::mem::take(&mut self.unread_clients));
+        unread.into_iter().for_each(|(at, is_closed)| self.on_upstream(at, true, is_closed));
+        clients.into_iter().for_each(|at| self.pump(at));
+    }
+
+    /// Whether a client may have another command in flight.
+    pub(super) fn has_room(&self, client: &Client) -> bool {
+        client.has_room(ROOM.min(self.shared.memory))
+    }
+
     /// How long it may wait for events.
     fn pause(&self) -> Duration {
-        if !self.woken.is_empty() {
+        if !self.woken.is_empty() || !self.unread.is_empty() || !self.unread_clients.is_empty() {
             Duration::ZERO
-        } else if self.blocked.is_empty() {
+        } else if self.blocked.is_empty() && !self.account.has_waiting() {
             LATER
         } else {
             SOON
@@ -184,7 +218,7 @@ impl Worker {
                 continue;
             };
             self.last_id += 1;
-            let client = Some(Box::new(Client::new(self.last_id, stream)));
+            let client = Some(Box::new(Client::new(self.last_id, stream, self.shared.memory)));
             if at == self.clients.len() {
                 self.clients.push(client);
             } else {
@@ -200,7 +234,7 @@ impl Worker {
             let Some(mut client) = self.clients[at].take() else {
                 continue;
             };
-            let stands = self.read_client(&mut client, false) && !client.waits();
+            let stands = self.read_client(&mut client, usize::MAX) && !client.waits();
             (client.is_shut, client.is_unread) = (true, false);
             self.put_back(at, client, stands);
             if stands {
@@ -214,10 +248,10 @@ impl Worker {
         let Some(mut client) = self.clients.get_mut(at).and_then(Option::take) else {
             return;
         };
-        let mut stands = true;
-        if is_readable || is_closed || !client.stream.is_plain() {
-            stands = self.read_client(&mut client, is_closed);
-        }
+        client.is_unread |= is_readable || is_closed || !client.stream.is_plain();
+        client.has_closed |= is_closed;
+        // What one has sent that sends no more is all there. Others are read when their next command is done.
+        let stands = !is_closed || self.read_client(&mut client, usize::MAX);
         if stands && client.out.len() > 0 {
             self.mark_client(at, &mut client);
         }
@@ -227,13 +261,13 @@ impl Worker {
         }
     }
 
-    /// Reads what a client has sent: whether it is still there. One that sends no more gets the answers to
-    /// what it has sent, but waits for no key: nobody might take the value.
-    pub(super) fn read_client(&mut self, client: &mut Client, is_closed: bool) -> bool {
+    /// Reads what a client has sent, and no more than so many bytes: whether it is still there. One that sends no more
+    /// gets the answers to what it has sent, but waits for no key: nobody might take the value.
+    pub(super) fn read_client(&mut self, client: &mut Client, bytes: usize) -> bool {
         if self.is_ending {
             return true;
         }
-        let most = (is_closed, self.shared.memory);
+        let most = (client.has_closed, self.shared.memory.min(client.input.len().saturating_add(bytes)));
         let received = receive(&mut client.stream, &mut self.block, &mut client.input, most);
         client.is_unread = received == Received::Some;
         client.is_shut |= received == Received::Shut;
@@ -243,9 +277,11 @@ impl Worker {
     pub(super) fn put_back(&mut self, at: usize, mut client: Box<Client>, stands: bool) {
         let is_over = client.is_ending && client.is_answered() && client.out.len() == 0;
         if stands && !is_over && client.memory() <= self.shared.memory * 2 + BLOCK {
+            self.account.note(&mut client);
             self.clients[at] = Some(client);
             return;
         }
+        self.account.forget(&client);
         self.abandon(&mut client);
         drop(client);
         self.free.push(at);
@@ -291,6 +327,7 @@ impl Worker {
         if !self.blocked.is_empty() {
             self.wake_blocked();
         }
+        self.watch_memory();
         for at in 0..self.upstreams.len() {
             if self.upstreams[at].is_late(self.now, self.shared.answer) {
                 self.lose(at);
@@ -333,9 +370,9 @@ impl Worker {
                 continue;
             };
             client.is_dirty = false;
-            let had_room = client.has_room(self.shared.memory);
+            let had_room = self.has_room(&client);
             let stands = client.out.send(&mut client.stream);
-            let goes_on = !had_room && client.has_room(self.shared.memory);
+            let goes_on = !had_room && self.has_room(&client);
             self.put_back(at, client, stands);
             if goes_on {
                 self.wake(at);

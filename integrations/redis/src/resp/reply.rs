@@ -34,14 +34,27 @@ impl Scan {
                 }
             }
         }
+        if self.at > bytes.len() {
+            return Ok(None);
+        }
         let end = self.at;
         *self = Scan::default();
         Ok(Some(end))
     }
+
+    /// How many bytes the reply has at least, by what was read of it.
+    pub fn least(&self) -> usize {
+        self.at
+    }
+
+    /// The first bytes of the reply are gone, of which so many were read.
+    pub fn drop_first(&mut self, count: usize) {
+        self.at -= count;
+    }
 }
 
 /// Where the head of the value at `at` ends, with its bytes if it has any, and how many values follow
-/// that belong to it. None if it is cut.
+/// that belong to it. None if its head is cut. Its bytes need not be there yet.
 fn next_value(bytes: &[u8], at: usize) -> Result<Option<(usize, u64)>, Broken> {
     let Some((line, next)) = line(bytes, at) else {
         return Ok(None);
@@ -51,13 +64,7 @@ fn next_value(bytes: &[u8], at: usize) -> Result<Option<(usize, u64)>, Broken> {
     };
     Ok(Some(match kind {
         b'+' | b'-' | b':' | b'_' | b'#' | b',' | b'(' => (next, 0),
-        b'$' | b'=' | b'!' => {
-            let end = length(rest)?.map_or(next, |len| next + len as usize + 2);
-            if bytes.len() < end {
-                return Ok(None);
-            }
-            (end, 0)
-        }
+        b'$' | b'=' | b'!' => (length(rest)?.map_or(next, |len| next + len as usize + 2), 0),
         b'*' | b'~' | b'>' => (next, length(rest)?.unwrap_or(0)),
         b'%' => (next, length(rest)?.unwrap_or(0) * 2),
         // Attributes come before a value and are none.
@@ -121,6 +128,19 @@ mod tests {
             at += reply.len();
         }
         assert_eq!(scan.read(&all[at..]), Ok(None));
+    }
+
+    #[test]
+    fn bytes_that_were_read_may_go() {
+        let reply = b"*2\r\n$5\r\nabcde\r\n:1\r\n";
+        let mut scan = Scan::default();
+        assert_eq!(scan.read(&reply[..10]), Ok(None));
+        // It is known how long the text is.
+        assert_eq!(scan.least(), 15);
+        scan.drop_first(10);
+        assert_eq!(scan.read(&reply[10..13]), Ok(None));
+        scan.drop_first(3);
+        assert_eq!(scan.read(&reply[13..]), Ok(Some(6)));
     }
 
     #[test]
