@@ -1,5 +1,6 @@
 //! Which keys of a source move.
 
+use super::names::Names;
 use super::patience::{self, Patience};
 use crate::conn::{Conn, Server};
 use crate::course::Move;
@@ -9,7 +10,6 @@ use crate::keymap;
 use crate::resp::Value;
 use crate::stop;
 use squall::Rank;
-use std::collections::{BTreeMap, BTreeSet};
 use std::ops::Range;
 use std::time::{Duration, Instant};
 
@@ -31,9 +31,7 @@ pub struct Index {
     news: Conn,
     heard: Instant,
     patience: Patience,
-    keys: BTreeMap<Rank, BTreeSet<Vec<u8>>>,
-    count: usize,
-    spans: Vec<Range<Rank>>,
+    names: Names,
 }
 
 impl Index {
@@ -46,25 +44,32 @@ impl Index {
             news,
             heard: Instant::now(),
             patience: Patience::default(),
-            keys: BTreeMap::new(),
-            count: 0,
-            spans: moves.iter().map(|it| it.lo..it.hi).collect(),
+            names: Names::of(moves.iter().map(|it| it.lo..it.hi)),
         };
         // A server ends a connection that leaves too much of its news unread.
         scan(&mut Conn::open(server)?, |keys| {
-            keys.into_iter().for_each(|key| index.add(key));
+            for key in keys {
+                if let Some(rank) = index.rank(&key) {
+                    index.names.add_found(rank, &key);
+                }
+            }
             stop::check()?;
             index.keep_up()
         })?;
+        index.names.sort();
         index.listen()?;
         Ok(index)
     }
 
+    /// The rank of a key, if it moves.
+    fn rank(&self, key: &[u8]) -> Option<Rank> {
+        let rank = keymap::rank(key);
+        (self.names.covers(rank) && !is_own(key)).then_some(rank)
+    }
+
     fn add(&mut self, key: Vec<u8>) {
-        let rank = keymap::rank(&key);
-        let is_moved = self.spans.iter().any(|span| span.contains(&rank));
-        if is_moved && !is_own(&key) && self.keys.entry(rank).or_default().insert(key) {
-            self.count += 1;
+        if let Some(rank) = self.rank(&key) {
+            self.names.add_new(rank, key);
         }
     }
 
@@ -104,36 +109,23 @@ impl Index {
 
     /// How many keys are known.
     pub fn len(&self) -> usize {
-        self.count
+        self.names.len()
     }
 
     /// The end of a chunk of about that many Redis keys, which begins at `lo`. It is `hi` at the
     /// latest. Keys of one rank are in one chunk.
     pub fn cut(&self, lo: Rank, hi: Rank, count: usize) -> Rank {
-        let mut left = count;
-        for (&rank, keys) in self.keys.range(lo..hi) {
-            if left == 0 {
-                return rank;
-            }
-            left = left.saturating_sub(keys.len());
-        }
-        hi
+        self.names.cut(lo..hi, count)
     }
 
-    /// The keys of a span.
+    /// The keys of a span, by rank.
     pub fn keys(&self, span: Range<Rank>) -> Vec<Ranked> {
-        let found = self.keys.range(span);
-        found.flat_map(|(&rank, keys)| keys.iter().map(move |key| (rank, key.clone()))).collect()
+        self.names.within(span)
     }
 
     /// Takes the keys of a span away.
     pub fn take(&mut self, span: Range<Rank>) -> Vec<Vec<u8>> {
-        let mut rest = self.keys.split_off(&span.start);
-        let mut after = rest.split_off(&span.end);
-        self.keys.append(&mut after);
-        let keys: Vec<_> = rest.into_values().flatten().collect();
-        self.count -= keys.len();
-        keys
+        self.names.take(span)
     }
 }
 

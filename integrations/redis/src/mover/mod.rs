@@ -2,6 +2,7 @@
 
 mod feeder;
 mod index;
+mod names;
 mod partition;
 mod patience;
 mod progress;
