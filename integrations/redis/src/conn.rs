@@ -4,7 +4,7 @@ use crate::fault::{Done, Fault, Trying};
 use crate::keep_alive::KeepAlive;
 use crate::resp::{push, Scan, Value};
 use crate::tls::{self, Peer};
-use std::io::{Read, Write};
+use std::io::{self, ErrorKind, Read, Write};
 use std::net::{SocketAddr, TcpStream};
 use std::time::Duration;
 
@@ -25,6 +25,36 @@ impl Server {
     /// A server without a password and TLS.
     pub fn plain(addr: SocketAddr) -> Server {
         Server { addr, password: None, tls: None, keep_alive: KeepAlive::default() }
+    }
+}
+
+/// A connection whose waits no signal ends. With a limit of time they otherwise end too when the program is stopped and
+/// goes on.
+struct Steady(TcpStream);
+
+impl Read for Steady {
+    fn read(&mut self, block: &mut [u8]) -> io::Result<usize> {
+        steady(|| self.0.read(block))
+    }
+}
+
+impl Write for Steady {
+    fn write(&mut self, bytes: &[u8]) -> io::Result<usize> {
+        steady(|| self.0.write(bytes))
+    }
+
+    fn flush(&mut self) -> io::Result<()> {
+        self.0.flush()
+    }
+}
+
+/// Does it again as long as a signal ends it.
+pub fn steady<T>(mut work: impl FnMut() -> io::Result<T>) -> io::Result<T> {
+    loop {
+        match work() {
+            Err(error) if error.kind() == ErrorKind::Interrupted => {}
+            done => return done,
+        }
     }
 }
 
@@ -60,13 +90,14 @@ impl Conn {
         tcp.set_write_timeout(Some(PATIENCE))?;
         let stream: Box<dyn Stream> = match &server.tls {
             Some(peer) => {
-                let mut stream = peer.begin(tcp.try_clone()?)?;
+                let mut stream = peer.begin(Steady(tcp.try_clone()?))?;
                 if let Err(error) = stream.do_handshake() {
-                    return Err(Fault::new(tls::why(&stream, &error))).trying(|| addr.to_string());
+                    let why = format!("{addr}: {}", tls::why(&stream, &error));
+                    return Err(if error.io_error().is_some() { Fault::lost(why) } else { Fault::new(why) });
                 }
                 Box::new(stream)
             }
-            None => Box::new(tcp.try_clone()?),
+            None => Box::new(Steady(tcp.try_clone()?)),
         };
         let (out, heard) = (Vec::new(), Vec::new());
         let mut conn = Conn { addr, tcp, stream, out, heard, at: 0, scan: Scan::default() };
@@ -114,7 +145,7 @@ impl Conn {
         let mut block = [0; 16384];
         let got = self.stream.read(&mut block);
         match got.trying(|| format!("to hear from {}", self.addr))? {
-            0 => Err(Fault::new(format!("{} has closed", self.addr))),
+            0 => Err(Fault::lost(format!("{} has closed the connection", self.addr))),
             got => {
                 self.heard.extend_from_slice(&block[..got]);
                 Ok(())

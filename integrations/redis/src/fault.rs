@@ -1,5 +1,6 @@
 //! Why a program can't go on, in words for its operator, and what else it says.
 
+use std::any::Any;
 use std::fmt;
 use std::io::{self, Write};
 
@@ -7,7 +8,18 @@ use std::io::{self, Write};
 #[derive(Debug)]
 pub struct Fault {
     words: String,
-    is_of_words: bool,
+    kind: Kind,
+}
+
+/// What is wrong.
+#[derive(Clone, Copy, Debug, PartialEq)]
+enum Kind {
+    /// The words of the command line.
+    Words,
+    /// A connection, or another thing of the system. It may be there again later.
+    Lost,
+    /// Anything else.
+    Other,
 }
 
 /// What is done, or why not.
@@ -16,17 +28,27 @@ pub type Done<T> = Result<T, Fault>;
 impl Fault {
     /// A fault of these words.
     pub fn new(words: impl Into<String>) -> Fault {
-        Fault { words: words.into(), is_of_words: false }
+        Fault { words: words.into(), kind: Kind::Other }
+    }
+
+    /// A fault of a connection that is lost.
+    pub fn lost(words: impl Into<String>) -> Fault {
+        Fault { words: words.into(), kind: Kind::Lost }
     }
 
     /// A fault of the command line: what is wrong with its words.
     pub fn of_words(words: impl Into<String>) -> Fault {
-        Fault { words: words.into(), is_of_words: true }
+        Fault { words: words.into(), kind: Kind::Words }
     }
 
     /// Whether it is one of the command line.
     pub fn is_of_words(&self) -> bool {
-        self.is_of_words
+        self.kind == Kind::Words
+    }
+
+    /// Whether it is one of a connection.
+    pub fn is_lost(&self) -> bool {
+        self.kind == Kind::Lost
     }
 }
 
@@ -40,7 +62,12 @@ impl std::error::Error for Fault {}
 
 impl From<io::Error> for Fault {
     fn from(error: io::Error) -> Fault {
-        Fault::new(error.to_string())
+        let words = error.to_string();
+        if is_of_system(&error) {
+            Fault::lost(words)
+        } else {
+            Fault::new(words)
+        }
     }
 }
 
@@ -70,8 +97,39 @@ pub trait Trying<T> {
     fn trying(self, what: impl FnOnce() -> String) -> Done<T>;
 }
 
-impl<T, E: fmt::Display> Trying<T> for Result<T, E> {
+impl<T, E: fmt::Display + 'static> Trying<T> for Result<T, E> {
     fn trying(self, what: impl FnOnce() -> String) -> Done<T> {
-        self.map_err(|error| Fault::new(format!("{}: {error}", what())))
+        self.map_err(|error| {
+            let words = format!("{}: {error}", what());
+            match is_lost(&error) {
+                true => Fault::lost(words),
+                false => Fault::new(words),
+            }
+        })
+    }
+}
+
+/// Whether an error is one of a connection, or of another thing of the system.
+fn is_lost(error: &dyn Any) -> bool {
+    error.downcast_ref().is_some_and(is_of_system) || error.downcast_ref().is_some_and(Fault::is_lost)
+}
+
+/// Whether it is the system's. What TLS refuses does not pass, but its connection may be cut too.
+fn is_of_system(error: &io::Error) -> bool {
+    error.kind() != io::ErrorKind::Other || error.to_string().contains("unexpected eof")
+}
+
+#[cfg(test)]
+mod tests {
+    use super::*;
+
+    #[test]
+    fn what_is_lost_stays_so() {
+        let closed = || io::Error::from(io::ErrorKind::ConnectionReset);
+        let within = |fault: Fault| Err::<(), _>(fault).trying(|| "partition 1".into()).unwrap_err();
+        assert!(Fault::from(closed()).is_lost() && within(closed().into()).is_lost());
+        assert!(within(Err::<(), _>(closed()).trying(|| "to hear".into()).unwrap_err()).is_lost());
+        let refused = within(Fault::of_words("--part x"));
+        assert!(!refused.is_lost() && !refused.is_of_words());
     }
 }

@@ -1,6 +1,7 @@
 //! The port of the status page and of Prometheus.
 
 use super::page::Page;
+use crate::conn::steady;
 use std::io::{self, Read, Write};
 use std::net::{TcpListener, TcpStream};
 use std::sync::atomic::{AtomicUsize, Ordering::SeqCst};
@@ -70,7 +71,7 @@ fn read(stream: &mut TcpStream) -> io::Result<Option<String>> {
         if began.elapsed() > PATIENCE {
             return Ok(None);
         }
-        match stream.read(&mut block)? {
+        match steady(|| stream.read(&mut block))? {
             0 => break,
             got => head.extend_from_slice(&block[..got]),
         }
