@@ -1,7 +1,7 @@
 //! How a program that is asked to end, by SIGTERM or SIGINT, ends in an orderly way.
 
 use crate::fault::{Done, Fault, Trying};
-use signal_hook::consts::{SIGINT, SIGTERM};
+use signal_hook::consts::{SIGHUP, SIGINT, SIGTERM};
 use signal_hook::iterator::Signals;
 use std::sync::{Condvar, Mutex, MutexGuard, PoisonError};
 use std::thread;
@@ -32,6 +32,17 @@ pub fn watch(tell: impl Fn() + Send + 'static) -> Done<()> {
             std::process::exit(128 + number);
         }
     });
+    Ok(())
+}
+
+/// From now on SIGHUP calls the function, and does not end the program.
+///
+/// # Errors
+///
+/// The system does not let it hear signals.
+pub fn on_hang_up(tell: impl Fn() + Send + 'static) -> Done<()> {
+    let mut signals = Signals::new([SIGHUP]).trying(|| "to hear signals".to_string())?;
+    thread::spawn(move || signals.forever().for_each(|_| tell()));
     Ok(())
 }
 

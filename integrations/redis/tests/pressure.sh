@@ -130,3 +130,149 @@ test_large_values() {
   echo "$answer"
   [[ $answer == "-ERR the answer has at least "* ]] && asks "$fd" exists 1:0 600:2 && [ "$answer" = :2 ]
 }
+
+# Bytes that hardly get shorter when they are packed.
+noise() {
+  head -c "$1" /dev/urandom | base64 -w 0 | head -c "$1"
+}
+
+# A hash with one long field, of which a few fields don't show how large it is. Its name comes into `key`.
+put_skewed() {
+  local at=$1 try size
+  for try in $(seq 20); do
+    key=620:$try
+    awk -v key="$key" 'BEGIN { for (n = 0; n < 2500; n++) printf "hset %s %d xxxxxxxxxx\n", key, n }' | redis-cli -p "$at" > "$run/set"
+    noise 1500000 | redis-cli -p "$at" -x hset "$key" long | grep -qx 1 || return
+    size=$(redis-cli -p "$at" memory usage "$key" samples 20)
+    [ "$size" -lt 250000 ] && return
+    redis-cli -p "$at" del "$key"
+  done
+  return 1
+}
+
+# Whether the mover ends with 1, and names these keys, each in one line.
+names() {
+  local key
+  move 2 old new > "$run/named" 2>&1
+  [ $? -eq 1 ] || { echo "it did not end with 1"; cat "$run/named"; return 1; }
+  cat "$run/named"
+  [ "$(grep -c 'the key "' "$run/named")" -eq $# ] || return
+  for key in "$@"; do grep -q "partition 2: the key \"$key\" has 1[0-9]* bytes, and partition 3 takes 1048576" "$run/named" || return; done
+}
+
+# Keys that are too large for their destination are named. They stay, are served and can be deleted, and all else moves.
+test_keys_that_can_not_be_moved() {
+  local to key
+  deploy && redis-cli -p "${servers[2]}" config set proto-max-bulk-len 1mb || return
+  to=${proxies[0]}
+  for key in $(seq 330 670) 3000000000; do echo "set $key:0 x"; done | redis-cli -p "$to" > "$run/set"
+  for key in 600:1 630:1; do
+    noise 1500000 | redis-cli -p "$to" -x set "$key" || return
+  done
+  # What can be packed is no fault.
+  redis-cli -p "$to" setrange 610:1 2999999 x || return
+  names 600:1 630:1 || return
+  # All keys of the other source, of the other move, and those before the first one.
+  [ "$(redis-cli -p "${servers[2]}" dbsize)" -ge $((170 + 100 + 1)) ] || return
+  agrees 3 2 599:0 && agrees 2 2 600:1 && agrees 3 2 499:0 && agrees 3 2 3000000000:0 || return
+  redis-cli -p "$to" strlen 600:1 | grep -qx 1500000 && redis-cli -p "$to" del 600:1 | grep -qx 1 || return
+  # Once the first is deleted, the keys up to the next one move. It is refused as long as one is there.
+  names 630:1 && agrees 3 2 610:1 && redis-cli -p "$to" strlen 610:1 | grep -qx 3000000 || return
+  refused "is not over" 3 new old || return
+  redis-cli -p "$to" del 630:1 | grep -qx 1 && move 2 old new && move 3 new old && agrees 2 3 630:1
+}
+
+# A key that is seen to be too large only once it was given is named with each run, until it is deleted at its source.
+test_keys_that_grow() {
+  local to key
+  deploy && redis-cli -p "${servers[2]}" config set proto-max-bulk-len 1mb || return
+  to=${proxies[0]}
+  for key in $(seq 500 670); do echo "set $key:0 x"; done | redis-cli -p "$to" > "$run/set"
+  put_skewed "${servers[1]}" || return
+  names "$key" && grep -q "nobody serves it: delete it at partition 2 itself" "$run/named" || return
+  agrees 3 2 619:0 && redis-cli -p "$to" get 619:0 | grep -qx x && redis-cli -p "$to" get 660:0 | grep -qx x || return
+  names "$key" && redis-cli -p "${servers[1]}" del "$key" && move 2 old new && agrees 3 2 660:0 || return
+  redis-cli -p "$to" exists "$key" | grep -qx 0
+}
+
+# Cuts connections of the operator at random, those of the mover, as long as it runs. How often comes into $run/cuts.
+cut_connections() {
+  local cuts=0 at
+  while ! has_ended "$1"; do
+    sleep "0.0$((RANDOM % 9))"
+    at=${all[RANDOM % ${#all[@]}]}
+    [ "$(redis-cli -p "$at" client kill user default skipme yes)" -gt 0 ] && cuts=$((cuts + 1))
+  done 2> /dev/null
+  echo "$cuts" > "$run/cuts"
+}
+
+# A mover bears that its connections are cut again and again, those to partitions and to the bus, and nothing is lost.
+test_cut_connections() {
+  local id cutter all
+  deploy || return
+  all=("${servers[@]}" "$bus")
+  start_load 20000 --pause 1000
+  await has_keys "${servers[0]}" 400 && await has_keys "${servers[1]}" 400 || return
+  start_move 2 old new --chunk 10 --pause 30
+  cut_connections "$id" &
+  cutter=$!
+  wait "$id" || { cat "$run/mover"; return 1; }
+  wait "$cutter"
+  counts="($(cat "$run/cuts") cuts)"
+  grep -c "tried again" "$run/mover"
+  end_load && has_moved && agrees 3 2 || return
+  counts="($(cat "$run/cuts") cuts) $counts"
+  [ "$(cat "$run/cuts")" -ge 20 ]
+}
+
+# A partition that stands still, and is then killed and started again with its log, ends no move.
+test_partition_that_stands_still() {
+  local id which=2 patience=2000 redis_words='--appendonly yes --appendfsync always'
+  deploy || return
+  start_load 20000 --pause 6000 --tolerant
+  await has_keys "${servers[0]}" 100 || return
+  start_move 2 old new --chunk 10 --pause 100 --patience 600
+  await has_keys "${servers[which]}" 20 || return
+  kill -STOP "${ids[${servers[which]}]}"
+  sleep 1
+  stop "${servers[which]}"
+  await is_said "tried again for 600 s" "$run/mover" && sleep 2 && ! has_ended "$id" || { cat "$run/mover"; return 1; }
+  run_redis "${servers[which]}" --appendonly yes --appendfsync always || return
+  # One that goes on after it stood still has lost nothing.
+  kill -STOP "$id" && sleep 0.2 && kill -CONT "$id" || return
+  wait "$id" || { cat "$run/mover"; return 1; }
+  cat "$run/mover"
+  end_load && has_moved && agrees 3 2
+}
+
+# Whether so many keys or more have moved.
+has_moved_keys() {
+  [ "$(redis-cli -p "${servers[2]}" dbsize)" -ge "$1" ]
+}
+
+# A mover keeps to its rate, and to another one once it is told so while it runs.
+test_rate() {
+  local id key began took moved
+  deploy || return
+  for key in $(seq 400 449) $(seq 500 549); do for at in $(seq 20); do echo "set $key:$at x"; done; done \
+    | redis-cli -p "${proxies[0]}" > "$run/set"
+  echo 100 > "$run/rate"
+  began=${EPOCHREALTIME/./}
+  start_move 2 old new --chunk 1000 --pause 0 --rate-file "$run/rate"
+  await has_moved_keys 100 && sleep 1 || return
+  moved=$(redis-cli -p "${servers[2]}" dbsize)
+  took=$(((${EPOCHREALTIME/./} - began) / 1000))
+  echo "$moved keys in $took ms"
+  [ "$moved" -le $((took / 10 + 50)) ] || return
+  echo none > "$run/rate"
+  kill -HUP "$id"
+  await is_said "not a number between 0 .*the rate stays" "$run/mover" && ! has_ended "$id" || return
+  echo 0 > "$run/rate"
+  kill -HUP "$id"
+  await is_said "no limit of keys" "$run/mover" || return
+  wait "$id" && agrees 3 2 || return
+  took=$(((${EPOCHREALTIME/./} - began) / 1000))
+  # At the old rate it would take 20 s.
+  echo "all in $took ms"
+  move 3 new old --rate 1000 && refused "--rate x: not between" 4 old new --rate x
+}

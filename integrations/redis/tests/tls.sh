@@ -61,7 +61,7 @@ test_tls_refusals() {
   refused "certificate is refused: hostname mismatch" 2 old new || return
   # Partitions ask for certificates, as Redis does if nothing else is set.
   mover_words=(--tls-partitions --tls-bus --tls-ca "$certs/ca.pem")
-  refused "TLS: [a-z0-9]* alert certificate required\|reset by peer\|has closed\|Broken pipe\|unexpected EOF" 2 old new || return
+  refused "TLS: [a-z0-9]* alert certificate required\|reset by peer\|has closed\|Broken pipe\|unexpected EOF" 2 old new --patience 2 || return
   # A proxy that trusts another authority says so, and asks for no key there.
   local patience=300
   limits=(--tls-partitions --tls-bus --tls-ca "$certs/foreign.pem")

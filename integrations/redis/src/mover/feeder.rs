@@ -1,17 +1,21 @@
 //! The moves of one source in a sub-plan, chunk by chunk.
 
 use super::index::{Index, Ranked};
+use super::pace::Pace;
 use super::partition::Partition;
 use super::progress::Progress;
+use super::sizes::{AllStuck, Sizes, Stuck};
 use crate::bus::Node;
 use crate::conn::Server;
 use crate::course::Move;
 use crate::fault::{Done, Fault};
 use crate::resp::Value;
-use crate::stop;
+use crate::{keymap, stop};
 use squall::Rank;
 use std::collections::BTreeMap;
-use std::time::Duration;
+use std::ops::Range;
+use std::sync::atomic::{AtomicBool, Ordering::Relaxed};
+use std::time::{Duration, Instant};
 
 /// What all sources of a course share.
 pub struct Job<'a> {
@@ -25,8 +29,13 @@ pub struct Job<'a> {
     pub progress: &'a Progress,
     /// How many keys a chunk has.
     pub chunk: usize,
-    /// The pause after each chunk.
+    /// The pause after each chunk, and how many keys a second may move.
     pub pause: Duration,
+    pub pace: &'a Pace,
+    /// The keys that can't be moved.
+    pub stuck: &'a AllStuck,
+    /// Whether a source has lost a connection: all of them then begin again.
+    pub is_over: AtomicBool,
 }
 
 /// How many keys are copied at once at most, and about how many bytes of them. Both servers and the mover
@@ -37,6 +46,8 @@ const BYTES: usize = 8 << 20;
 const NEWS: Duration = Duration::from_secs(1);
 /// What `PEXPIRETIME` says of a key that is not there.
 const GONE: i64 = -2;
+/// How many keys are looked at together, to name those that are too large.
+const LOOKED: usize = 1000;
 /// How many chunks are reported before the whole board is sent.
 const CHUNKS: usize = 1000;
 
@@ -46,6 +57,10 @@ struct Feeder<'a> {
     source: Partition,
     dest: Partition,
     index: Index,
+    sizes: Sizes,
+    /// Below it the keys of the move were given, and whether it can't go on.
+    given: Rank,
+    is_stuck: bool,
     /// How many keys are copied at once.
     block: usize,
     chunks: usize,
@@ -58,11 +73,15 @@ impl Job<'_> {
             return Ok(());
         };
         let server = self.server(first.source)?;
+        let mut dest = Partition::open(first.dest, self.server(first.dest)?, self.number)?;
         let mut feeder = Feeder {
             job: self,
             source: Partition::open(first.source, server, self.number)?,
-            dest: Partition::open(first.dest, self.server(first.dest)?, self.number)?,
+            sizes: Sizes::of(&mut dest)?,
+            dest,
             index: Index::new(server, moves)?,
+            given: first.lo,
+            is_stuck: false,
             block: 1,
             chunks: 0,
         };
@@ -72,7 +91,17 @@ impl Job<'_> {
             let (Some(given), Some(loaded)) = (given.get(&it.lo), loaded.get(&it.lo)) else {
                 return Err(Fault::new(format!("no move begins at {}", it.lo)));
             };
+            (feeder.given, feeder.is_stuck) = (given.edge, false);
             feeder.run(it, given.forgot, loaded.edge)?;
+        }
+        Ok(())
+    }
+
+    /// Nothing, unless the mover was asked to end, or begins again.
+    fn check(&self) -> Done<()> {
+        stop::check()?;
+        if self.is_over.load(Relaxed) {
+            return Err(Fault::lost("another source has lost a connection"));
         }
         Ok(())
     }
@@ -97,44 +126,51 @@ impl Feeder<'_> {
             self.source.forget(it, &keys, loaded)?;
             self.job.progress.forgot(keys.len());
             forgot = loaded;
-            if loaded >= it.hi {
+            if loaded >= it.hi || self.is_stuck {
                 return Ok(());
             }
-            stop::check()?;
+            self.job.check()?;
             loaded = self.chunk(it, loaded)?;
             self.pause()?;
         }
     }
 
-    /// Waits after a chunk. In a long pause it hears the news.
+    /// Waits after a chunk, and until more keys may move. In a long pause it hears the news.
     fn pause(&mut self) -> Done<()> {
-        let mut left = self.job.pause;
-        while left > NEWS && !stop::is_asked() {
-            stop::sleep(NEWS);
-            left -= NEWS;
-            self.index.listen()?;
+        let until = Instant::now() + self.job.pause;
+        while self.job.check().is_ok() {
+            let left = until.saturating_duration_since(Instant::now());
+            let left = self.job.pace.wait().map_or(left, |wait| wait.max(left));
+            if left.is_zero() {
+                break;
+            }
+            stop::sleep(left.min(NEWS));
+            self.index.keep_up()?;
         }
-        stop::sleep(left);
         Ok(())
+    }
+
+    /// How many keys the next chunk has. At a low rate it is a tenth of a second's, so that no keys wait for long.
+    fn chunk_size(&self) -> usize {
+        match self.job.pace.rate() {
+            0 => self.job.chunk,
+            rate => self.job.chunk.min((rate / 10).max(1) as usize),
+        }
     }
 
     /// Moves the next chunk, which begins at `lo`: the bound below which keys are loaded now.
     fn chunk(&mut self, it: &Move, lo: Rank) -> Done<Rank> {
-        let wanted = self.index.cut(lo, it.hi, self.job.chunk);
-        let hi = self.source.give(it, wanted)?;
+        let wanted = self.next_end(it, lo)?;
+        self.given = self.source.give(it, wanted)?;
         // From now on the source serves no key of the chunk, and no new one comes.
         self.index.listen()?;
-        let keys = self.index.keys(lo..hi);
-        let mut rest = &keys[..];
-        while !rest.is_empty() {
-            let (block, later) = rest.split_at(self.block.min(rest.len()));
-            let bytes = self.copy(block)?;
-            self.block = next_block(block.len(), bytes);
-            self.index.keep_up()?;
-            rest = later;
+        let hi = self.copy_all(it, lo..self.given)?;
+        if hi <= lo {
+            return Ok(lo);
         }
         let loaded = self.dest.load(it, hi)?;
         self.report(it, lo..hi)?;
+        self.job.progress.step();
         if loaded > hi {
             // Another mover has given and loaded more since: new keys may have come to that before.
             self.index.listen()?;
@@ -142,7 +178,67 @@ impl Feeder<'_> {
         Ok(loaded)
     }
 
-    fn report(&mut self, it: &Move, keys: std::ops::Range<Rank>) -> Done<()> {
+    /// The end of the next chunk. It is before the first key that is too large to be moved.
+    fn next_end(&mut self, it: &Move, lo: Rank) -> Done<Rank> {
+        let wanted = self.index.cut(lo, it.hi, self.chunk_size());
+        if wanted <= self.given {
+            return Ok(wanted);
+        }
+        let from = lo.max(self.given);
+        let keys = self.index.keys(from..wanted);
+        let large = self.sizes.look(&mut self.source, &keys)?;
+        let Some(&(first, _)) = large.first() else {
+            return Ok(wanted);
+        };
+        self.is_stuck = true;
+        let end = keys[first].0;
+        large.into_iter().for_each(|(at, size)| self.name(it, &keys[at].1, size));
+        self.name_rest(it, wanted)?;
+        Ok(end)
+    }
+
+    /// Names all other keys of a move that are too large.
+    fn name_rest(&mut self, it: &Move, mut from: Rank) -> Done<()> {
+        while from < it.hi {
+            self.job.check()?;
+            let to = self.index.cut(from, it.hi, LOOKED);
+            let keys = self.index.keys(from..to);
+            let large = self.sizes.look(&mut self.source, &keys)?;
+            large.into_iter().for_each(|(at, size)| self.name(it, &keys[at].1, size));
+            self.index.keep_up()?;
+            from = to;
+        }
+        Ok(())
+    }
+
+    /// Names a key that can't be moved.
+    fn name(&self, it: &Move, key: &[u8], size: u64) {
+        let is_given = keymap::rank(key) < self.given;
+        let (source, dest, most) = (it.source, it.dest, self.sizes.most);
+        self.job.stuck.name(&Stuck { source, dest, key: key.to_vec(), size, most, is_given });
+    }
+
+    /// Puts the keys of a span where they come to: up to where all are put. That is its end, unless one can't be moved.
+    fn copy_all(&mut self, it: &Move, span: Range<Rank>) -> Done<Rank> {
+        let keys = self.index.keys(span.start..span.end);
+        self.job.pace.spend(keys.len());
+        let mut rest = &keys[..];
+        while !rest.is_empty() {
+            let (block, later) = rest.split_at(self.block.min(rest.len()));
+            let copied = self.copy(block)?;
+            if let Some((at, size)) = copied.too_large {
+                self.is_stuck = true;
+                self.name(it, &block[at].1, size);
+                return Ok(block[at].0);
+            }
+            self.block = next_block(block.len(), copied.bytes);
+            self.index.keep_up()?;
+            rest = later;
+        }
+        Ok(span.end)
+    }
+
+    fn report(&mut self, it: &Move, keys: Range<Rank>) -> Done<()> {
         let (number, sub, dest) = (self.job.number, it.sub, it.dest);
         self.job.bus.tell(|router| router.loaded(number, sub, dest, keys))?;
         self.chunks += 1;
@@ -152,17 +248,17 @@ impl Feeder<'_> {
         Ok(())
     }
 
-    /// Puts keys where they come to, and says how many bytes their values have. Their clients wait meanwhile.
-    fn copy(&mut self, keys: &[Ranked]) -> Done<usize> {
+    /// Puts keys where they come to. Their clients wait meanwhile.
+    fn copy(&mut self, keys: &[Ranked]) -> Done<Copied> {
         loop {
-            if let Some(bytes) = self.try_copy(keys)? {
-                return Ok(bytes);
+            if let Some(copied) = self.try_copy(keys)? {
+                return Ok(copied);
             }
         }
     }
 
     /// The same; none if a server refuses for a reason that passes. What was put then is put again.
-    fn try_copy(&mut self, keys: &[Ranked]) -> Done<Option<usize>> {
+    fn try_copy(&mut self, keys: &[Ranked]) -> Done<Option<Copied>> {
         for (_, key) in keys {
             self.source.conn.put(&[b"DUMP".as_slice(), key]);
             self.source.conn.put(&[b"PEXPIRETIME".as_slice(), key]);
@@ -171,18 +267,31 @@ impl Feeder<'_> {
         if !self.source.accepts(&said)? {
             return Ok(None);
         }
-        let (mut count, mut bytes) = (0, 0);
-        for ((rank, key), said) in keys.iter().zip(said.chunks(2)) {
+        let (mut count, mut copied) = (0, Copied::default());
+        for (at, ((rank, key), said)) in keys.iter().zip(said.chunks(2)).enumerate() {
             let dumped = dumped(said).ok_or_else(|| Fault::new("a dump of another form"))?;
-            if let Some((dump, ends)) = dumped {
-                self.dest.put(key, *rank, ends, dump);
-                bytes += dump.len();
-                count += 1;
+            let Some((dump, ends)) = dumped else {
+                continue;
+            };
+            if self.sizes.is_too_large(dump) {
+                copied.too_large = Some((at, dump.len() as u64));
+                break;
             }
+            self.dest.put(key, *rank, ends, dump);
+            copied.bytes += dump.len();
+            count += 1;
         }
         let said = self.dest.conn.hear_all(count)?;
-        Ok(self.dest.accepts(&said)?.then_some(bytes))
+        Ok(self.dest.accepts(&said)?.then_some(copied))
     }
+}
+
+/// What was copied: how many bytes, and which of the keys is too large, and how large, if one is. Those before it were
+/// copied.
+#[derive(Default)]
+struct Copied {
+    bytes: usize,
+    too_large: Option<(usize, u64)>,
 }
 
 /// How many keys are copied at once after so many that had that many bytes: at most twice as many.

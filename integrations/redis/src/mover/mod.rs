@@ -3,9 +3,11 @@
 mod feeder;
 mod index;
 mod names;
+mod pace;
 mod partition;
 mod patience;
 mod progress;
+mod sizes;
 
 use crate::args::{Args, Usage};
 use crate::bus::{Node, Options};
@@ -16,9 +18,13 @@ use crate::{faults, keep_alive, keymap, stop, tls, DEFAULT_SECRET};
 pub use index::is_own;
 
 use feeder::Job;
+use pace::Pace;
 use partition::{Beginning, Partition};
+use patience::Endurance;
 use progress::Progress;
+use sizes::AllStuck;
 use std::collections::{BTreeMap, BTreeSet};
+use std::sync::atomic::{AtomicBool, Ordering::Relaxed};
 use std::thread;
 use std::time::Duration;
 
@@ -40,6 +46,9 @@ pub const USAGE: Usage = Usage {
         "chunk",
         "pause",
         "settle",
+        "rate",
+        "rate-file",
+        patience::OPTION,
         keep_alive::OPTION,
         tls::OPTIONS[0],
         tls::OPTIONS[1],
@@ -65,11 +74,11 @@ struct Mover {
 
 /// Runs the program.
 pub fn run(args: &Args) -> Done<()> {
+    patience::set(args)?;
     if args.has("init") {
         let plans = (Plan::of(args, "first")?, Plan::of(args, "first")?);
         let mover = Mover::new(args, 1, plans)?;
-        mover.begin()?;
-        mover.fence()?;
+        endure(None, || mover.begin().and_then(|()| mover.fence()))?;
         return say(format!("course 1 has begun at {} partitions", mover.servers.len()));
     }
     let plans = (Plan::of(args, "old")?, Plan::of(args, "new")?);
@@ -109,7 +118,9 @@ impl Mover {
     /// Moves all, from wherever an earlier run has stopped.
     fn run(&self, args: &Args) -> Done<()> {
         let bus = Node::join(Options::of(args, "mover")?)?;
-        let progress = Progress::new();
+        let pace = Pace::of(args)?;
+        let progress = Progress::new(pace.clone());
+        let stuck = AllStuck::default();
         let job = Job {
             number: self.number,
             servers: &self.servers,
@@ -117,27 +128,39 @@ impl Mover {
             progress: &progress,
             chunk: args.number("chunk", 100, 1, 1_000_000)? as usize,
             pause: Duration::from_millis(args.number("pause", 5, 0, 3_600_000)?),
+            pace: &pace,
+            stuck: &stuck,
+            is_over: AtomicBool::new(false),
         };
         let settle = Duration::from_millis(args.number("settle", 10_000, 0, 3_600_000)?);
         stop::watch(|| ())?;
-        self.begin()?;
-        bus.tell_frames(std::slice::from_ref(&self.issue))?;
-        thread::sleep(NOTICE);
-        self.fence()?;
         let moved = thread::scope(|scope| {
             scope.spawn(|| progress.show());
-            let moved = self.sub_plans(&job);
+            let moved = endure(Some(&job), || self.attempt(&job));
             progress.finish();
             moved
         });
+        if stuck.count() > 0 {
+            bus.tell_all()?;
+            bus.settle(settle);
+        }
         moved?;
-        bus.tell_all()?;
         let (keys, took) = (progress.moved(), progress.took().as_secs_f64());
         let said = say(format!("course {}: moved {keys} keys in {took:.1} s", self.number));
         if !bus.settle(settle) {
             note("squall-redis-mover: some proxies have not heard all; run it again if they don't");
         }
         said
+    }
+
+    /// All of it once, from wherever an earlier one has stopped.
+    fn attempt(&self, job: &Job) -> Done<()> {
+        self.begin()?;
+        job.bus.tell_frames(std::slice::from_ref(&self.issue))?;
+        thread::sleep(NOTICE);
+        self.fence()?;
+        self.sub_plans(job)?;
+        job.bus.tell_all()
     }
 
     /// All partitions, those of the old plan first. The first one decides between two movers that
@@ -185,6 +208,7 @@ impl Mover {
             job.bus.tell(|router| router.opened(self.number, sub))?;
             let moves: Vec<Move> = self.moves.iter().copied().filter(|it| it.sub == sub).collect();
             sources(job, &moves)?;
+            job.stuck.check(self.number)?;
             for dest in moves.iter().map(|it| it.dest).collect::<BTreeSet<_>>() {
                 job.bus.tell(|router| router.done(self.number, sub, dest))?;
             }
@@ -225,14 +249,33 @@ fn sources(job: &Job, moves: &[Move]) -> Done<()> {
             .into_iter()
             .map(|source| {
                 let own: Vec<Move> = moves.iter().copied().filter(|it| it.source == source).collect();
-                scope.spawn(move || job.feed(&own))
+                scope.spawn(move || {
+                    let fed = job.feed(&own);
+                    job.is_over.fetch_or(fed.as_ref().is_err_and(Fault::is_lost), Relaxed);
+                    fed
+                })
             })
             .collect();
-        let mut all = Ok(());
-        for thread in threads {
-            let one = thread.join().unwrap_or_else(|_| Err(Fault::new("a source's thread has ended")));
-            all = all.and(one);
-        }
-        all
+        let ended = || Err(Fault::new("a source's thread has ended"));
+        let all: Vec<_> = threads.into_iter().map(|it| it.join().unwrap_or_else(|_| ended())).collect();
+        let (lost, others): (Vec<_>, Vec<_>) =
+            all.into_iter().partition(|it| it.as_ref().is_err_and(Fault::is_lost));
+        // One that does not pass comes first.
+        others.into_iter().chain(lost).collect()
     })
+}
+
+/// Does it again as long as connections are lost, and that is borne.
+fn endure(job: Option<&Job>, mut work: impl FnMut() -> Done<()>) -> Done<()> {
+    let mut endurance = Endurance::default();
+    loop {
+        match work() {
+            Err(fault) if endurance.bears(&fault, job.map_or(0, |job| job.progress.steps())) => {}
+            done => return done,
+        }
+        if let Some(job) = job {
+            job.progress.restart();
+            job.is_over.store(false, Relaxed);
+        }
+    }
 }

@@ -1,8 +1,12 @@
-//! Refusals that pass: a server runs a long script, loads its data, or has no memory or disk left for a while.
+//! What passes: a server refuses for a while, since it runs a long script, loads its data, or has no memory or disk left; or
+//! a connection is lost.
 
+use crate::args::Args;
 use crate::conn::Conn;
 use crate::fault::{note, Done, Fault};
 use crate::resp::Value;
+use crate::stop;
+use std::sync::atomic::{AtomicU64, Ordering::Relaxed};
 use std::thread;
 use std::time::{Duration, Instant};
 
@@ -11,9 +15,62 @@ const PASSING: [&str; 7] =
     ["BUSY ", "LOADING ", "MASTERDOWN ", "MISCONF ", "NOREPLICAS ", "OOM ", "READONLY "];
 /// What stands before that if it is `EXEC` that is refused.
 const ABORTED: &str = "EXECABORT Transaction discarded because of: ";
-/// How long they are borne, and the pause before it is tried again.
-const MOST: Duration = Duration::from_secs(60);
+/// The option that says how long both are borne without any progress, and what it says by default, in seconds.
+pub const OPTION: &str = "patience";
+static SECONDS: AtomicU64 = AtomicU64::new(60);
+/// The pause before a server that refuses is asked again.
 const AGAIN: Duration = Duration::from_millis(100);
+/// The pause before a connection is tried again, at first and at most.
+const FIRST: Duration = Duration::from_millis(50);
+const LAST: Duration = Duration::from_secs(1);
+
+/// Takes what the words of the command line say.
+///
+/// # Errors
+///
+/// The word is no number of seconds.
+pub fn set(args: &Args) -> Done<()> {
+    SECONDS.store(args.number(OPTION, SECONDS.load(Relaxed), 0, 31_536_000)?, Relaxed);
+    Ok(())
+}
+
+/// How long it is borne.
+fn most() -> Duration {
+    Duration::from_secs(SECONDS.load(Relaxed))
+}
+
+/// How long a mover has begun again and again, since it loses connections.
+#[derive(Default)]
+pub struct Endurance {
+    since: Option<Instant>,
+    pause: Duration,
+    steps: usize,
+    said: String,
+}
+
+impl Endurance {
+    /// Whether a mover that has done so many steps begins again after a fault. It waits before that, and says each fault
+    /// once.
+    pub fn bears(&mut self, fault: &Fault, steps: usize) -> bool {
+        if !fault.is_lost() || stop::is_asked() {
+            return false;
+        }
+        if self.since.is_none() || steps > self.steps {
+            (self.since, self.steps, self.pause) = (Some(Instant::now()), steps, FIRST);
+        }
+        if self.since.is_some_and(|since| since.elapsed() >= most()) {
+            return false;
+        }
+        let words = fault.to_string();
+        if words != self.said {
+            note(format!("{words}; this is tried again for {} s", most().as_secs()));
+            self.said = words;
+        }
+        stop::sleep(self.pause);
+        self.pause = LAST.min(self.pause * 2);
+        true
+    }
+}
 
 /// Whether a refusal is one of these.
 fn passes(error: &str) -> bool {
@@ -42,16 +99,16 @@ pub struct Patience {
 }
 
 impl Patience {
-    /// Whether a refusal passes, and it is to be tried again: after a pause, and for a minute at most.
+    /// Whether a refusal passes, and it is to be tried again after a pause.
     pub fn bears(&mut self, conn: &Conn, error: &str) -> bool {
         if !passes(error) {
             return false;
         }
         let since = *self.since.get_or_insert_with(|| {
-            note(format!("{}: {error}; this is tried again for {} s", conn.addr(), MOST.as_secs()));
+            note(format!("{}: {error}; this is tried again for {} s", conn.addr(), most().as_secs()));
             Instant::now()
         });
-        if since.elapsed() >= MOST {
+        if since.elapsed() >= most() {
             return false;
         }
         // Also if the mover was asked to end: what it has given is still to be loaded.

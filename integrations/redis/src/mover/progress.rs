@@ -1,16 +1,20 @@
 //! How far a mover is, on standard error.
 
+use super::pace::Pace;
 use crate::fault::note;
 use std::io::{self, IsTerminal, Write};
 use std::sync::atomic::{AtomicBool, AtomicUsize, Ordering::Relaxed};
+use std::sync::Arc;
 use std::thread;
 use std::time::{Duration, Instant};
 
 /// How many keys have moved, of how many.
 pub struct Progress {
     began: Instant,
+    pace: Arc<Pace>,
     moved: AtomicUsize,
     expected: AtomicUsize,
+    steps: AtomicUsize,
     is_over: AtomicBool,
 }
 
@@ -19,11 +23,13 @@ const WIDTH: usize = 30;
 
 impl Progress {
     /// Nothing has moved.
-    pub fn new() -> Progress {
+    pub fn new(pace: Arc<Pace>) -> Progress {
         Progress {
             began: Instant::now(),
+            pace,
             moved: AtomicUsize::new(0),
             expected: AtomicUsize::new(0),
+            steps: AtomicUsize::new(0),
             is_over: AtomicBool::new(false),
         }
     }
@@ -31,6 +37,21 @@ impl Progress {
     /// That many keys more are to move.
     pub fn expect(&self, count: usize) {
         self.expected.fetch_add(count, Relaxed);
+    }
+
+    /// The mover begins again, with what has not moved.
+    pub fn restart(&self) {
+        self.expected.store(self.moved(), Relaxed);
+    }
+
+    /// A chunk is loaded.
+    pub fn step(&self) {
+        self.steps.fetch_add(1, Relaxed);
+    }
+
+    /// How many chunks are.
+    pub fn steps(&self) -> usize {
+        self.steps.load(Relaxed)
     }
 
     /// That many more have moved.
@@ -82,7 +103,11 @@ impl Progress {
         let (moved, all) = (self.moved(), self.expected.load(Relaxed));
         let rate = moved as f64 / self.took().as_secs_f64().max(0.001);
         let left = all.saturating_sub(moved) as f64 / rate.max(1.0);
-        format!("{moved} of {all} keys, {rate:.0}/s, {left:.0} s left")
+        let limit = match self.pace.rate() {
+            0 => String::new(),
+            limit => format!(" of at most {limit}/s"),
+        };
+        format!("{moved} of {all} keys, {rate:.0}/s{limit}, {left:.0} s left")
     }
 }
 
@@ -92,7 +117,7 @@ mod tests {
 
     #[test]
     fn the_bar_fills() {
-        let progress = Progress::new();
+        let progress = Progress::new(Arc::default());
         progress.expect(10);
         assert!(progress.bar().starts_with("[------"));
         progress.forgot(5);
