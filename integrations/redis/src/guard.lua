@@ -9,10 +9,20 @@
 --                of the move, or its source if ROLE is none
 -- squall:edge    of a move's LO the rank below which its keys were given (out) or loaded (in)
 -- squall:forgot  of a move's LO the rank below which the source has unlinked what it gave
+-- squall:gone    of a move's LO how many rows the source has unlinked
+--
+-- So that a partition that comes back with less is found out, and no other one forgets what it was told:
+--
+-- squall:generation  a number that each begin, give, load and forget raises
+-- squall:seen        of other partitions the highest generation that was seen of them
+-- squall:since       of other partitions the generation before which nothing counts: they were let in with less then
+-- squall:fence       the course of which it is known that it has begun at all partitions
+-- squall:run         the run of the server in which it let routers in last
+-- squall:losses      how often it was let in with less (times), and about how many rows were lost (rows)
 --
 -- Functions that need no memory also run if the server has none left.
 --
--- Nothing but these functions changes these keys. So what was read of them is kept from call to call.
+-- Nothing but these functions changes these keys. So what was read of the course is kept from call to call.
 -- A server that loads its data again loads this library again too, and reads them anew.
 local kept = nil
 
@@ -38,6 +48,24 @@ end
 
 local function refuse(text)
   return redis.error_reply('SQUALL ' .. text)
+end
+
+-- Raises the generation, at least to one above LEAST: what it is now.
+local function grow(least)
+  local now = tonumber(redis.call('GET', 'squall:generation') or 0)
+  local next = math.max(now, tonumber(least or 0)) + 1
+  redis.call('SET', 'squall:generation', next)
+  return next
+end
+
+-- Notes generations of other partitions: PART GENERATION .. from an argument on.
+local function see(args, first)
+  for at = first, #args - 1, 2 do
+    local before = redis.call('HGET', 'squall:seen', args[at])
+    if tonumber(args[at + 1]) > tonumber(before or 0) then
+      redis.call('HSET', 'squall:seen', args[at], args[at + 1])
+    end
+  end
 end
 
 -- The last move that begins at the rank or before it.
@@ -182,7 +210,7 @@ local function fault(course, args)
     return 'LATE ' .. course.number
   elseif move then
     return 'RUNNING ' .. course.number .. ' ' .. move.lo
-  elseif args[4] == 'fresh' then
+  elseif string.match(args[4], '^fresh') then
     return nil
   elseif known_number == 0 then
     return 'EMPTY'
@@ -207,24 +235,31 @@ redis.register_function({
   end,
 })
 
--- NUMBER OLD NEW fresh|known MOVE..: begins a course. One that has begun stays as it is. A partition
--- that the old plan does not name has no keys, and may be fresh.
+-- Begins it: the same arguments as squall_begin has.
+local function begin(args)
+  kept = nil
+  redis.call('DEL', 'squall:moves', 'squall:edge', 'squall:forgot', 'squall:gone')
+  redis.call('MSET', 'squall:number', args[1], 'squall:old', args[2], 'squall:new', args[3])
+  for at = 5, #args do
+    redis.call('RPUSH', 'squall:moves', args[at])
+  end
+end
+
+-- NUMBER OLD NEW fresh|fresh:SEEN|known MOVE..: begins a course. One that has begun stays as it is. A partition that the
+-- old plan does not name has no keys, and may be fresh. SEEN is what others have seen of one that was there before: its
+-- generation rises above that. The answer ends with the generation.
 redis.register_function('squall_begin', function(_, args)
   local course = known()
   if args[1] == course.number then
-    return is_same(course, args) and redis.status_reply('again') or refuse('CLASH ' .. course.number)
+    local generation = redis.call('GET', 'squall:generation') or '0'
+    return is_same(course, args) and redis.status_reply('again ' .. generation) or refuse('CLASH ' .. course.number)
   end
   local why = fault(course, args)
   if why then
     return refuse(why)
   end
-  kept = nil
-  redis.call('DEL', 'squall:moves', 'squall:edge', 'squall:forgot')
-  redis.call('MSET', 'squall:number', args[1], 'squall:old', args[2], 'squall:new', args[3])
-  for at = 5, #args do
-    redis.call('RPUSH', 'squall:moves', args[at])
-  end
-  return redis.status_reply('begun')
+  begin(args)
+  return redis.status_reply('begun ' .. grow(string.match(args[4], '^fresh:(%d+)$')))
 end)
 
 -- The move that begins at LO, if NUMBER is that of the course and it has that role.
@@ -237,34 +272,54 @@ local function own_move(args, role)
   if not move or move.lo ~= args[2] or move.role ~= role then
     return nil, refuse('STRANGER')
   end
+  -- A mover that was asleep may know of what the other end has lost since.
+  local since = args[5] and redis.call('HGET', 'squall:since', args[4])
+  if since and tonumber(args[5]) < tonumber(since) then
+    return nil, refuse('BEFORE ' .. args[4])
+  end
   return move
 end
 
+-- Whether it rises.
 local function raise(move, name, key, edge)
-  if edge > move[name] then
-    redis.call('HSET', key, move.lo, edge)
-    move[name] = edge
+  if edge <= move[name] then
+    return false
   end
-  return redis.status_reply(move[name])
+  redis.call('HSET', key, move.lo, edge)
+  move[name] = edge
+  return true
 end
 
--- NUMBER LO EDGE: the keys of the move from LO on, below EDGE, are given. Never undone.
+-- A step of NUMBER LO EDGE [PART GENERATION]: where the edge is now, and the generation if one was given, which is
+-- that of the other end when it did the step before.
+local function step(args, move, name, key, has_changed)
+  if raise(move, name, key, args[3]) or has_changed then
+    grow()
+  end
+  if not args[5] then
+    return redis.status_reply(move[name])
+  end
+  see(args, 4)
+  return redis.status_reply(move[name] .. ' ' .. (redis.call('GET', 'squall:generation') or '0'))
+end
+
+-- NUMBER LO EDGE [PART GENERATION]: the keys of the move from LO on, below EDGE, are given. Never undone.
 redis.register_function({
   function_name = 'squall_give',
   flags = { 'allow-oom' },
   callback = function(_, args)
     local move, refused = own_move(args, 'out')
-    return refused or raise(move, 'edge', 'squall:edge', args[3])
+    return refused or step(args, move, 'edge', 'squall:edge')
   end,
 })
 
--- NUMBER LO EDGE: they are loaded. Never undone.
+-- NUMBER LO EDGE [PART GENERATION]: they are loaded. Never undone.
 redis.register_function({
   function_name = 'squall_load',
   flags = { 'allow-oom' },
   callback = function(_, args)
     local move, refused = own_move(args, 'in')
-    return refused or raise(move, 'edge', 'squall:edge', args[3])
+    return refused or step(args, move, 'edge', 'squall:edge')
   end,
 })
 
@@ -284,7 +339,7 @@ redis.register_function('squall_put', function(keys, args)
   return redis.status_reply('put')
 end)
 
--- Keys that were given and loaded; NUMBER LO EDGE: unlinks them. All below EDGE are forgotten then.
+-- Keys that were given and loaded; NUMBER LO EDGE [PART GENERATION]: unlinks them. All below EDGE are forgotten then.
 redis.register_function({
   function_name = 'squall_forget',
   flags = { 'allow-oom' },
@@ -295,9 +350,13 @@ redis.register_function({
     elseif args[3] > move.edge then
       return refuse('STRANGER')
     end
+    local count = 0
     for _, key in ipairs(keys) do
-      redis.call('UNLINK', key)
+      count = count + redis.call('UNLINK', key)
     end
-    return raise(move, 'forgot', 'squall:forgot', args[3])
+    if count > 0 then
+      redis.call('HINCRBY', 'squall:gone', move.lo, count)
+    end
+    return step(args, move, 'forgot', 'squall:forgot', count > 0)
   end,
 })

@@ -22,7 +22,7 @@ pub mod stop;
 pub mod tls;
 
 /// The functions of a partition.
-pub const GUARD: &str = include_str!("guard.lua");
+pub const GUARD: &str = concat!(include_str!("guard.lua"), include_str!("losses.lua"));
 
 /// The password of the users `squall-N`, if none is given.
 pub const DEFAULT_SECRET: &str = "squall";

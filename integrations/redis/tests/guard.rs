@@ -2,6 +2,7 @@
 //! names its address in SQUALL_REDIS.
 
 use squall_redis::conn::{Conn, Server};
+use squall_redis::resp::Value;
 use squall_redis::GUARD;
 
 const OUT: &str = "0000000200000000 0000000300000000 out 3";
@@ -18,7 +19,7 @@ impl Partition {
         let mut partition = Partition(Conn::open(&server).unwrap());
         partition.ask(&["FLUSHALL"]);
         partition.ask(&["FUNCTION", "LOAD", "REPLACE", GUARD]);
-        assert_eq!(partition.begin(&["1", "A", "A", "fresh"]), "begun");
+        assert_eq!(partition.begin(&["1", "A", "A", "fresh"]), "begun 1");
         partition
     }
 
@@ -49,7 +50,7 @@ impl Partition {
 /// A partition in course 2, from which keys of root 2 go to 3, and to which keys of root 5 come from 4.
 fn moving() -> Partition {
     let mut partition = Partition::new();
-    assert_eq!(partition.begin(&["2", "A", "B", "known", OUT, IN, BESIDE]), "begun");
+    assert_eq!(partition.begin(&["2", "A", "B", "known", OUT, IN, BESIDE]), "begun 2");
     partition.ask(&["SET", "x", "here"]);
     partition
 }
@@ -195,7 +196,7 @@ fn only_what_was_given_is_forgotten() {
 fn courses_begin_one_after_another() {
     let mut it = moving();
     let words = ["2", "A", "B", "known", OUT, IN, BESIDE];
-    assert_eq!(it.begin(&words), "again");
+    assert_eq!(it.begin(&words), "again 2");
     assert_eq!(it.begin(&words[..6]), "SQUALL CLASH 2");
     assert_eq!(it.begin(&["2", "A", "C", "known", OUT, IN, BESIDE]), "SQUALL CLASH 2");
     assert_eq!(it.begin(&["1", "A", "A", "fresh"]), "SQUALL LATE 2");
@@ -207,7 +208,7 @@ fn courses_begin_one_after_another() {
     assert_eq!(it.begin(&["3", "A", "C", "known"]), "SQUALL OTHER 2");
     assert_eq!(it.begin(&["4", "B", "C", "known"]), "SQUALL GAP 2");
     // One that the old plan gives no keys may have missed courses.
-    assert_eq!(it.begin(&["7", "B", "C", "fresh"]), "begun");
+    assert_eq!(it.begin(&["7", "B", "C", "fresh"]), "begun 6");
     assert_eq!(it.call("squall_moves", &["7", "C"]), "");
     assert_eq!(it.call("squall_moves", &["7", "A"]), "SQUALL CLASH 7");
 }
@@ -219,5 +220,82 @@ fn an_empty_partition_is_no_known_one() {
     it.ask(&["FLUSHALL"]);
     it.ask(&["FUNCTION", "LOAD", "REPLACE", GUARD]);
     assert_eq!(it.begin(&["2", "A", "B", "known"]), "SQUALL EMPTY");
-    assert_eq!(it.begin(&["2", "A", "B", "fresh"]), "begun");
+    assert_eq!(it.begin(&["2", "A", "B", "fresh"]), "begun 1");
+}
+
+/// The generation, the fence, the run, and what was seen of others.
+fn state(it: &mut Partition) -> Vec<String> {
+    it.0.put(&["FCALL", "squall_state", "0"]);
+    it.0.flush().unwrap();
+    let said = it.0.hear().unwrap().list();
+    said.into_iter()
+        .skip(1)
+        .take(4)
+        .map(|word| match word {
+            Value::List(pairs) => pairs.into_iter().map(Value::text).collect::<Vec<_>>().join(" "),
+            word => word.text(),
+        })
+        .collect()
+}
+
+#[test]
+#[ignore = "needs a server"]
+fn each_step_raises_the_generation() {
+    let mut it = moving();
+    assert_eq!(state(&mut it), ["2", "", "", ""]);
+    let (out, into, five) = ("0000000200000000", "0000000500000000", "0000000500000005");
+    // Without a generation of the other end, as of an earlier mover, none is said.
+    assert_eq!(it.call("squall_give", &["2", out, "0000000200000005"]), "0000000200000005");
+    assert_eq!(it.call("squall_give", &["2", out, "0000000200000005", "-", "0"]), "0000000200000005 3");
+    assert_eq!(it.call("squall_load", &["2", into, five, "4", "70"]), format!("{five} 4"));
+    assert_eq!(it.call("squall_load", &["2", into, five, "4", "60"]), format!("{five} 4"));
+    let forget = ["FCALL", "squall_forget", "1", "x", "2", out, "0000000200000005", "3", "9"];
+    assert_eq!(it.ask(&forget), "0000000200000005 5");
+    assert_eq!(it.call("squall_fence", &["2", "4", "71", "6", "1"]), "OK");
+    assert_eq!(it.call("squall_fence", &["1", "4", "99"]), "SQUALL COURSE 2");
+    it.call("squall_run", &["abc"]);
+    assert_eq!(state(&mut it), ["5", "2", "abc", "4 71 3 9 6 1"]);
+    assert_eq!(it.ask(&["HGET", "squall:gone", out]), "1");
+    // A late mover knows of what the other end has lost since.
+    it.call("squall_since", &["4", "100"]);
+    assert_eq!(it.call("squall_load", &["2", into, "0000000500000009", "4", "99"]), "SQUALL BEFORE 4");
+    assert_eq!(it.call("squall_load", &["2", into, "0000000500000009", "4", "100"]), "0000000500000009 6");
+}
+
+#[test]
+#[ignore = "needs a server"]
+fn what_is_accepted_has_the_edges_of_others() {
+    let mut it = moving();
+    let raised: Vec<String> =
+        [OUT, IN, BESIDE].iter().map(|line| format!("{line} {}", &line[..16])).collect();
+    let mut words = vec!["2", "A", "B", "1:50:7"];
+    words.extend(raised.iter().map(String::as_str));
+    // Another mover has done something since.
+    assert_eq!(it.call("squall_accept", &words), "SQUALL CHANGED");
+    words[3] = "2:50:7";
+    words[1] = "C";
+    assert_eq!(it.call("squall_accept", &words), "SQUALL CLASH 2");
+    words[1] = "A";
+    let out = format!("{OUT} 0000000200000005");
+    words[4] = &out;
+    assert_eq!(it.call("squall_accept", &words), "accepted 50");
+    assert_eq!(it.get(&["0000000200000004"]), "SQUALL MOVED 3 2");
+    // A later course begins with what there is, whether or not the last one was over.
+    let later = ["4", "B", "C", "50:60:1", "0000000500000000 0000000600000000 in 4 0000000500000003"];
+    assert_eq!(it.call("squall_accept", &later), "accepted 60");
+    it.ask(&["SET", "x", "here"]);
+    let wanted = "SQUALL PENDING 4";
+    let get = |rank| ["4", "2", "1", rank, "GET", "x"];
+    assert_eq!(it.call("squall_do", &get("0000000500000002")), "here");
+    assert_eq!(it.call("squall_do", &get("0000000500000003")), wanted);
+    assert_eq!(it.call("squall_accept", &["3", "B", "C", "60:70:0"]), "SQUALL LATE 4");
+    assert_eq!(it.ask(&["HGET", "squall:losses", "rows"]), "8");
+}
+
+#[test]
+#[ignore = "needs a server"]
+fn a_fresh_one_outgrows_what_was_seen_of_it() {
+    let mut it = Partition::new();
+    assert_eq!(it.begin(&["7", "B", "C", "fresh:42"]), "begun 43");
+    assert_eq!(it.begin(&["8", "C", "D", "fresh:5"]), "begun 44");
 }

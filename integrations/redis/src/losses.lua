@@ -1,0 +1,92 @@
+
+-- How a partition that comes back with less is found out, and let in all the same. It goes on behind guard.lua.
+
+-- What a partition says of itself: its number, its generation, the course of its fence, the run in which it let routers
+-- in, what it has seen of others, and each move as LO HI ROLE PEER EDGE FORGOT GONE.
+redis.register_function({
+  function_name = 'squall_state',
+  flags = { 'no-writes', 'allow-oom' },
+  callback = function()
+    local course, lines = known(), {}
+    for at, move in ipairs(course.moves) do
+      local gone = redis.call('HGET', 'squall:gone', move.lo) or '0'
+      lines[at] = table.concat({ move.lo, move.hi, move.role, move.peer, move.edge, move.forgot, gone }, ' ')
+    end
+    local said = { course.number }
+    for at, name in ipairs({ 'generation', 'fence', 'run' }) do
+      said[at + 1] = redis.call('GET', 'squall:' .. name) or ''
+    end
+    said[5], said[6] = redis.call('HGETALL', 'squall:seen'), lines
+    return said
+  end,
+})
+
+-- NUMBER [PART GENERATION]..: the course of that number has begun at all partitions, which had these generations.
+redis.register_function({
+  function_name = 'squall_fence',
+  flags = { 'allow-oom' },
+  callback = function(_, args)
+    if args[1] ~= known().number then
+      return refuse('COURSE ' .. known().number)
+    end
+    redis.call('SET', 'squall:fence', args[1])
+    see(args, 2)
+    return redis.status_reply('OK')
+  end,
+})
+
+-- RUN: the run of the server in which routers are let in. A mark is a write that is not seen.
+redis.register_function({
+  function_name = 'squall_run',
+  flags = { 'allow-oom' },
+  callback = function(_, args)
+    return redis.call('SET', 'squall:run', args[1])
+  end,
+})
+redis.register_function({
+  function_name = 'squall_mark',
+  flags = { 'allow-oom' },
+  callback = function()
+    return redis.call('SET', 'squall:mark', '1')
+  end,
+})
+
+-- PART GENERATION: nothing that was done there before that generation counts from now on.
+redis.register_function({
+  function_name = 'squall_since',
+  flags = { 'allow-oom' },
+  callback = function(_, args)
+    local before = redis.call('HGET', 'squall:since', args[1])
+    if tonumber(args[2]) > tonumber(before or 0) then
+      redis.call('HSET', 'squall:since', args[1], args[2])
+    end
+    return redis.status_reply('OK')
+  end,
+})
+
+-- NUMBER OLD NEW OWN:NEXT:ROWS MOVE..: goes on with what there is. Its generation was OWN when it was looked at, and rises
+-- to NEXT; about ROWS rows are lost. Each move has a further word, the rank to which its edge rises at least.
+redis.register_function('squall_accept', function(_, args)
+  local course = known()
+  local own, next, rows = string.match(args[4], '^(%d+):(%d+):(%d+)$')
+  if (redis.call('GET', 'squall:generation') or '0') ~= own then
+    return refuse('CHANGED')
+  elseif tonumber(args[1]) < tonumber(course.number) then
+    return refuse('LATE ' .. course.number)
+  end
+  local edges = {}
+  for at = 5, #args do
+    args[at], edges[at] = string.match(args[at], '^(.+) (%x+)$')
+  end
+  if args[1] ~= course.number then
+    begin(args)
+  elseif not is_same(course, args) then
+    return refuse('CLASH ' .. course.number)
+  end
+  for at, move in ipairs(known().moves) do
+    raise(move, 'edge', 'squall:edge', edges[4 + at])
+  end
+  redis.call('HINCRBY', 'squall:losses', 'times', 1)
+  redis.call('HINCRBY', 'squall:losses', 'rows', rows)
+  return redis.status_reply('accepted ' .. grow(next - 1))
+end)
