@@ -1,10 +1,13 @@
 //! The moves of one source in a sub-plan, chunk by chunk.
 
+use super::disk::{Disk, Loaded};
 use super::index::{Index, Ranked};
 use super::pace::Pace;
 use super::partition::Partition;
 use super::progress::Progress;
 use super::sizes::{AllStuck, Sizes, Stuck};
+use super::state::State;
+use super::steps::Step;
 use crate::bus::Node;
 use crate::conn::Server;
 use crate::course::Move;
@@ -15,6 +18,7 @@ use squall::Rank;
 use std::collections::BTreeMap;
 use std::ops::Range;
 use std::sync::atomic::{AtomicBool, Ordering::Relaxed};
+use std::sync::{Mutex, PoisonError};
 use std::time::{Duration, Instant};
 
 /// What all sources of a course share.
@@ -36,6 +40,8 @@ pub struct Job<'a> {
     pub stuck: &'a AllStuck,
     /// Whether a source has lost a connection: all of them then begin again.
     pub is_over: AtomicBool,
+    /// The runs of the servers in which the mover has looked at them.
+    pub runs: Mutex<BTreeMap<u32, String>>,
 }
 
 /// How many keys are copied at once at most, and about how many bytes of them. Both servers and the mover
@@ -56,6 +62,7 @@ struct Feeder<'a> {
     job: &'a Job<'a>,
     source: Partition,
     dest: Partition,
+    disk: Disk,
     index: Index,
     sizes: Sizes,
     /// Below it the keys of the move were given, and whether it can't go on.
@@ -72,29 +79,73 @@ impl Job<'_> {
         let Some(first) = moves.first() else {
             return Ok(());
         };
-        let server = self.server(first.source)?;
-        let mut dest = Partition::open(first.dest, self.server(first.dest)?, self.number)?;
-        let mut feeder = Feeder {
+        let mut feeder = self.feeder(moves, first)?;
+        self.progress.expect(feeder.index.len());
+        let (given, loaded) = (feeder.source.state()?, feeder.dest.state()?);
+        for it in moves {
+            let stands = (given.stand(self.number, it.lo), loaded.stand(self.number, it.lo));
+            let (Some(source), Some(dest)) = stands else {
+                return Err(Fault::new(format!("no move begins at {}", it.lo)));
+            };
+            (feeder.given, feeder.is_stuck) = (source.edge, false);
+            let step = Step { edge: dest.edge, generation: loaded.generation };
+            feeder.run(it, source.forgot, step)?;
+        }
+        feeder.forget(true)
+    }
+
+    /// Loads what was given to the moves' one destination and is not loaded, before routers are let in there.
+    pub fn catch_up(&self, moves: &[Move]) -> Done<()> {
+        let Some(first) = moves.first() else {
+            return Ok(());
+        };
+        let given = self.open(first.source)?.state()?;
+        let loaded = self.open(first.dest)?.state()?;
+        let edge = |state: &State, lo| state.stand(self.number, lo).map(|it| it.edge);
+        let missing: Vec<(Move, Rank)> = moves
+            .iter()
+            .filter_map(|it| Some((Move { hi: edge(&given, it.lo)?, ..*it }, edge(&loaded, it.lo)?)))
+            .filter(|(it, loaded)| it.hi > *loaded)
+            .collect();
+        if missing.is_empty() {
+            return Ok(());
+        }
+        let mut feeder = self.feeder(moves, first)?;
+        for (it, loaded) in missing {
+            feeder.given = it.hi;
+            feeder.carry(&it, loaded)?;
+        }
+        // What is too large stays where it is, and nobody is let in at its destination.
+        self.stuck.check(self.number)
+    }
+
+    fn feeder(&self, moves: &[Move], first: &Move) -> Done<Feeder<'_>> {
+        let (source, mut dest) = (self.open(first.source)?, self.open(first.dest)?);
+        Ok(Feeder {
             job: self,
-            source: Partition::open(first.source, server, self.number)?,
+            disk: Disk::of(&mut dest, self.server(first.dest)?)?,
             sizes: Sizes::of(&mut dest)?,
+            index: Index::new(self.server(first.source)?, moves)?,
+            source,
             dest,
-            index: Index::new(server, moves)?,
             given: first.lo,
             is_stuck: false,
             block: 1,
             chunks: 0,
-        };
-        self.progress.expect(feeder.index.len());
-        let (given, loaded) = (feeder.source.edges()?, feeder.dest.edges()?);
-        for it in moves {
-            let (Some(given), Some(loaded)) = (given.get(&it.lo), loaded.get(&it.lo)) else {
-                return Err(Fault::new(format!("no move begins at {}", it.lo)));
-            };
-            (feeder.given, feeder.is_stuck) = (given.edge, false);
-            feeder.run(it, given.forgot, loaded.edge)?;
+        })
+    }
+
+    /// Connects to a partition. If it was restarted since the mover looked at it, it may have less now: then the mover
+    /// begins again, and looks at it.
+    fn open(&self, part: u32) -> Done<Partition> {
+        let mut partition = Partition::open(part, self.server(part)?, self.number)?;
+        let runs = self.runs.lock().unwrap_or_else(PoisonError::into_inner);
+        let is_known = runs.get(&part) == Some(&partition.life.run);
+        drop(runs);
+        if is_known || partition.ask(&["GET", "squall:run"])?.text() == partition.life.run {
+            return Ok(partition);
         }
-        Ok(())
+        Err(Fault::lost(format!("partition {part} was restarted")))
     }
 
     /// Nothing, unless the mover was asked to end, or begins again.
@@ -115,24 +166,35 @@ impl Job<'_> {
 impl Feeder<'_> {
     /// One move, from where an earlier run has stopped. If another mover is further by now, what it has
     /// done changes nothing.
-    fn run(&mut self, it: &Move, mut forgot: Rank, mut loaded: Rank) -> Done<()> {
-        if loaded > it.lo {
-            self.report(it, it.lo..loaded)?;
+    fn run(&mut self, it: &Move, forgot: Rank, mut loaded: Step) -> Done<()> {
+        if loaded.edge > it.lo {
+            self.report(it, it.lo..loaded.edge)?;
         }
         self.index.listen()?;
         loop {
-            // No new one comes to keys that were given, and those before are known.
-            let keys = self.index.take(forgot..loaded);
-            self.source.forget(it, &keys, loaded)?;
-            self.job.progress.forgot(keys.len());
-            forgot = loaded;
-            if loaded >= it.hi || self.is_stuck {
+            if loaded.edge > forgot {
+                self.disk.add(Loaded { it: *it, step: loaded });
+            }
+            self.forget(false)?;
+            if loaded.edge >= it.hi || self.is_stuck {
                 return Ok(());
             }
             self.job.check()?;
             loaded = self.chunk(it, loaded)?;
             self.pause()?;
         }
+    }
+
+    /// Forgets at the source what is on the disk of the destination; in the end it waits for all of it.
+    fn forget(&mut self, is_last: bool) -> Done<()> {
+        let loads = if is_last { self.disk.rest()? } else { self.disk.take()? };
+        for Loaded { it, step } in loads {
+            // No new one comes to keys that were given, and those before are known.
+            let keys = self.index.take(it.lo..step.edge);
+            self.source.forget(&it, &keys, step.edge, step.generation)?;
+            self.job.progress.forgot(keys.len());
+        }
+        Ok(())
     }
 
     /// Waits after a chunk, and until more keys may move. In a long pause it hears the news.
@@ -158,24 +220,33 @@ impl Feeder<'_> {
         }
     }
 
-    /// Moves the next chunk, which begins at `lo`: the bound below which keys are loaded now.
-    fn chunk(&mut self, it: &Move, lo: Rank) -> Done<Rank> {
-        let wanted = self.next_end(it, lo)?;
-        self.given = self.source.give(it, wanted)?;
-        // From now on the source serves no key of the chunk, and no new one comes.
-        self.index.listen()?;
-        let hi = self.copy_all(it, lo..self.given)?;
-        if hi <= lo {
-            return Ok(lo);
-        }
-        let loaded = self.dest.load(it, hi)?;
-        self.report(it, lo..hi)?;
+    /// Moves the next chunk, which begins where keys are loaded before: how far they are loaded now.
+    fn chunk(&mut self, it: &Move, before: Step) -> Done<Step> {
+        let Some((hi, loaded)) = self.carry(it, before.edge)? else {
+            return Ok(before);
+        };
+        self.report(it, before.edge..hi)?;
         self.job.progress.step();
-        if loaded > hi {
+        if loaded.edge > hi {
             // Another mover has given and loaded more since: new keys may have come to that before.
             self.index.listen()?;
         }
         Ok(loaded)
+    }
+
+    /// Gives, copies and loads a chunk: up to where it was put, and how far keys are loaded then. None if its first key
+    /// can't be moved.
+    fn carry(&mut self, it: &Move, lo: Rank) -> Done<Option<(Rank, Step)>> {
+        let wanted = self.next_end(it, lo)?;
+        let given = self.source.give(it, wanted)?;
+        self.given = given.edge;
+        // From now on the source serves no key of the chunk, and no new one comes.
+        self.index.listen()?;
+        let hi = self.copy_all(it, lo..self.given)?;
+        if hi <= lo {
+            return Ok(None);
+        }
+        Ok(Some((hi, self.dest.load(it, hi, given.generation)?)))
     }
 
     /// The end of the next chunk. It is before the first key that is too large to be moved.

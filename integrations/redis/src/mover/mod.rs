@@ -1,13 +1,19 @@
 //! The mover: begins a course at each partition, moves its keys chunk by chunk, and reports them.
 
+mod disk;
+mod entry;
 mod feeder;
 mod index;
+mod losses;
 mod names;
 mod pace;
 mod partition;
 mod patience;
 mod progress;
 mod sizes;
+mod state;
+mod steps;
+mod survey;
 
 use crate::args::{Args, Usage};
 use crate::bus::{Node, Options};
@@ -17,14 +23,16 @@ use crate::fault::{note, say, Done, Fault};
 use crate::{faults, keep_alive, keymap, stop, tls, DEFAULT_SECRET};
 pub use index::is_own;
 
+use entry::Entered;
 use feeder::Job;
 use pace::Pace;
-use partition::{Beginning, Partition};
+use partition::Partition;
 use patience::Endurance;
 use progress::Progress;
 use sizes::AllStuck;
 use std::collections::{BTreeMap, BTreeSet};
 use std::sync::atomic::{AtomicBool, Ordering::Relaxed};
+use std::sync::{Mutex, PoisonError};
 use std::thread;
 use std::time::Duration;
 
@@ -43,6 +51,7 @@ pub const USAGE: Usage = Usage {
         "part",
         "password-file",
         "secret-file",
+        "accept-loss",
         "chunk",
         "pause",
         "settle",
@@ -70,6 +79,8 @@ struct Mover {
     issue: Vec<u8>,
     servers: BTreeMap<u32, Server>,
     secret: String,
+    /// Partitions that go on with what they have if they have come back with less.
+    accepted: BTreeSet<u32>,
 }
 
 /// Runs the program.
@@ -78,7 +89,11 @@ pub fn run(args: &Args) -> Done<()> {
     if args.has("init") {
         let plans = (Plan::of(args, "first")?, Plan::of(args, "first")?);
         let mover = Mover::new(args, 1, plans)?;
-        endure(None, || mover.begin().and_then(|()| mover.fence()))?;
+        endure(None, || {
+            let mut entered = mover.enter()?;
+            mover.admit(&mut entered)?;
+            mover.fence(&mut entered)
+        })?;
         return say(format!("course 1 has begun at {} partitions", mover.servers.len()));
     }
     let plans = (Plan::of(args, "old")?, Plan::of(args, "new")?);
@@ -102,6 +117,7 @@ impl Mover {
                 )));
             }
         }
+        let accepted = accepted(args, &servers)?;
         let (moves, issue) = course::issue(number, &old, &new)?;
         let with = |server| Server { password: password.clone(), ..server };
         Ok(Mover {
@@ -112,6 +128,7 @@ impl Mover {
             issue,
             servers: servers.into_iter().map(|(part, server)| (part, with(server))).collect(),
             secret: args.password("secret-file")?.unwrap_or(DEFAULT_SECRET.into()),
+            accepted,
         })
     }
 
@@ -131,6 +148,7 @@ impl Mover {
             pace: &pace,
             stuck: &stuck,
             is_over: AtomicBool::new(false),
+            runs: Mutex::default(),
         };
         let settle = Duration::from_millis(args.number("settle", 10_000, 0, 3_600_000)?);
         stop::watch(|| ())?;
@@ -155,10 +173,15 @@ impl Mover {
 
     /// All of it once, from wherever an earlier one has stopped.
     fn attempt(&self, job: &Job) -> Done<()> {
-        self.begin()?;
+        let mut entered = self.enter()?;
+        let runs = entered.partitions.iter().map(|it| (it.part, it.life.run.clone())).collect();
+        *job.runs.lock().unwrap_or_else(PoisonError::into_inner) = runs;
+        self.catch_up(job, &entered)?;
+        self.admit(&mut entered)?;
         job.bus.tell_frames(std::slice::from_ref(&self.issue))?;
         thread::sleep(NOTICE);
-        self.fence()?;
+        self.fence(&mut entered)?;
+        drop(entered);
         self.sub_plans(job)?;
         job.bus.tell_all()
     }
@@ -172,33 +195,30 @@ impl Mover {
         all.map(|(&part, server)| Partition::open(part, server, self.number)).collect()
     }
 
-    /// Begins the course at each partition, which then lets in routers of it. Those of the course
-    /// before are let in too. If a partition refuses, nothing has begun, but for two movers at once.
-    fn begin(&self) -> Done<()> {
-        let mut partitions = self.partitions()?;
-        let beginning = |part| Beginning {
-            old: &self.old.ranges,
-            new: &self.new.ranges,
-            is_fresh: self.number == 1 || !self.old.parts.contains(&part),
-            moves: &self.moves,
-        };
-        for partition in &mut partitions {
-            partition.prepare()?;
-            partition.may_begin(&beginning(partition.part))?;
+    /// Loads what was given to partitions that were restarted. Routers may have heard of loads that were lost, and send plain
+    /// commands there.
+    fn catch_up(&self, job: &Job, entered: &Entered) -> Done<()> {
+        let mut pairs: BTreeMap<(u32, u32), Vec<Move>> = BTreeMap::new();
+        for it in self.moves.iter().filter(|it| entered.survey.is_restarted(it.dest)) {
+            pairs.entry((it.source, it.dest)).or_default().push(*it);
         }
-        for partition in &mut partitions {
-            partition.begin(&beginning(partition.part))?;
-            partition.admit(&self.secret)?;
-        }
-        Ok(())
+        pairs.values().try_for_each(|moves| job.catch_up(moves))
+    }
+
+    /// Lets in routers of the course. Those of the course before are let in too.
+    fn admit(&self, entered: &mut Entered) -> Done<()> {
+        entered.partitions.iter_mut().try_for_each(|it| it.admit(&self.secret))
     }
 
     /// Shuts out routers that have not heard of the course. Keys are given only after that.
-    fn fence(&self) -> Done<()> {
+    fn fence(&self, entered: &mut Entered) -> Done<()> {
         if faults::is_on("no-fence") {
             return Ok(());
         }
-        self.partitions()?.iter_mut().try_for_each(Partition::fence)
+        let all = entered.partitions.iter_mut();
+        let generations: Vec<(u32, u64)> =
+            all.map(|it| Ok((it.part, it.state()?.generation))).collect::<Done<_>>()?;
+        entered.partitions.iter_mut().try_for_each(|it| it.fence(&generations))
     }
 
     /// The sub-plans, one after another.
@@ -278,4 +298,13 @@ fn endure(job: Option<&Job>, mut work: impl FnMut() -> Done<()>) -> Done<()> {
             job.is_over.store(false, Relaxed);
         }
     }
+}
+
+/// The partitions of `--accept-loss`.
+fn accepted(args: &Args, servers: &BTreeMap<u32, Server>) -> Done<BTreeSet<u32>> {
+    let part = |word: &str| {
+        let part = word.parse().ok().filter(|part| servers.contains_key(part));
+        part.ok_or_else(|| Fault::of_words(format!("--accept-loss {word}: no --part has that number")))
+    };
+    args.all("accept-loss").map(part).collect()
 }

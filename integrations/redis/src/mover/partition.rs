@@ -1,6 +1,7 @@
 //! What a mover asks of one partition.
 
 use super::patience::Patience;
+use super::state::Life;
 use crate::conn::{Conn, Server};
 use crate::course::Move;
 use crate::fault::{Done, Fault, Trying};
@@ -8,7 +9,6 @@ use crate::keymap::hex;
 use crate::resp::Value;
 use crate::{faults, user, GUARD};
 use squall::Rank;
-use std::collections::HashMap;
 
 /// What a router's user may do. It reads the partition's own keys, and writes all others: a pattern for
 /// each letter at which a name can differ from `squall:`. A script can't change database.
@@ -43,17 +43,16 @@ const RIGHTS: &[&str] = &[
     "+script|load",
 ];
 
-/// How many keys are unlinked at once.
-const UNLINKED: usize = 256;
-
 /// A partition, as its operator.
 pub struct Partition {
     /// Its number.
     pub part: u32,
     /// Connected to it.
     pub conn: Conn,
+    /// The run of its server. The connection ends with it.
+    pub life: Life,
     /// The course's number.
-    number: String,
+    pub(super) number: String,
     /// How long it has refused.
     patience: Patience,
 }
@@ -65,24 +64,22 @@ pub struct Beginning<'a> {
     pub new: &'a str,
     /// Whether the old plan gives the partition no keys.
     pub is_fresh: bool,
+    /// What others have seen of a fresh one that was there before: its generation rises above that.
+    pub seen: u64,
     /// All its moves, by rising key.
     pub moves: &'a [Move],
-}
-
-/// How far a partition has come with a move.
-#[derive(Clone, Copy, Debug)]
-pub struct Edges {
-    /// Below it keys were given, at a source, or loaded, at a destination.
-    pub edge: Rank,
-    /// Below it the source has forgotten them.
-    pub forgot: Rank,
 }
 
 impl Partition {
     /// Connects, for the course of that number.
     pub fn open(part: u32, server: &Server, number: u32) -> Done<Partition> {
         let conn = Conn::open(server).trying(|| format!("partition {part}"))?;
-        Ok(Partition { part, conn, number: number.to_string(), patience: Patience::default() })
+        let (number, patience) = (number.to_string(), Patience::default());
+        let mut partition = Partition { part, conn, life: Life::default(), number, patience };
+        let info = partition.ask(&["INFO", "server", "persistence"])?.text();
+        let other = || Fault::new(format!("partition {part}: INFO of another form"));
+        partition.life = Life::read(&info).ok_or_else(other)?;
+        Ok(partition)
     }
 
     /// Loads the functions that make it a partition.
@@ -101,15 +98,19 @@ impl Partition {
     }
 
     fn call_begin(&mut self, function: &str, course: &Beginning) -> Done<()> {
-        let fresh = if course.is_fresh { "fresh" } else { "known" };
-        let head = ["FCALL", function, "0", &self.number, course.old, course.new, fresh];
+        let fresh = match (course.is_fresh, course.seen) {
+            (false, _) => "known".to_string(),
+            (true, 0) => "fresh".to_string(),
+            (true, seen) => format!("fresh:{seen}"),
+        };
+        let head = ["FCALL", function, "0", &self.number, course.old, course.new, &fresh];
         let mut words: Vec<String> = head.into_iter().map(String::from).collect();
         words.extend(course.moves.iter().map(|it| self.line(it)));
         self.ask(&words).map(drop)
     }
 
     /// A move, as this partition sees it.
-    fn line(&self, it: &Move) -> String {
+    pub(super) fn line(&self, it: &Move) -> String {
         let (role, peer) = match self.part {
             part if part == it.source => ("out", it.dest),
             part if part == it.dest => ("in", it.source),
@@ -118,25 +119,34 @@ impl Partition {
         format!("{} {} {role} {peer}", hex(it.lo), hex(it.hi))
     }
 
-    /// Lets in routers of this course.
+    /// Lets in routers of this course, and notes in which run of the server that is.
     pub fn admit(&mut self, secret: &str) -> Done<()> {
-        let name = user(&self.number);
+        let (name, run) = (user(&self.number), self.life.run.clone());
         let secret = format!(">{secret}");
         let words = [&["ACL", "SETUSER", &name, "reset", "on", &secret][..], RIGHTS].concat();
-        self.in_course(&[words])
+        self.in_course(&[vec!["FCALL", "squall_run", "0", &run], words])
     }
 
-    /// Shuts out routers of all other courses.
-    pub fn fence(&mut self) -> Done<()> {
+    /// The users of routers.
+    pub fn users(&mut self) -> Done<Vec<String>> {
+        let users = self.ask(&["ACL", "USERS"])?.list().into_iter().map(Value::text);
+        Ok(users.filter(|name| name.starts_with(&user(""))).collect())
+    }
+
+    /// Shuts out routers of all other courses. The course has begun at all partitions, which had these generations.
+    pub fn fence(&mut self, generations: &[(u32, u64)]) -> Done<()> {
         let own = user(&self.number);
-        let users = self.ask(&["ACL", "USERS"])?.list();
-        let others: Vec<String> = users
-            .into_iter()
-            .map(Value::text)
-            .filter(|name| name.starts_with(&user("")) && *name != own)
-            .collect();
-        let resets: Vec<_> = others.iter().map(|name| vec!["ACL", "SETUSER", name, "reset"]).collect();
-        self.in_course(&resets)?;
+        let users = self.users()?;
+        let others = users.iter().filter(|name| **name != own);
+        let mut commands: Vec<_> =
+            others.map(|name| ["ACL", "SETUSER", name, "reset"].map(String::from).to_vec()).collect();
+        let mut note = ["FCALL", "squall_fence", "0", &self.number].map(String::from).to_vec();
+        let seen = generations.iter().filter(|(part, _)| *part != self.part);
+        note.extend(seen.flat_map(|(part, generation)| [part.to_string(), generation.to_string()]));
+        commands.push(note);
+        let words: Vec<Vec<&str>> =
+            commands.iter().map(|words| words.iter().map(String::as_str).collect()).collect();
+        self.in_course(&words)?;
         self.end_waits(&own)
     }
 
@@ -192,49 +202,6 @@ impl Partition {
             },
             _ => Err(late()).trying(|| format!("partition {}", self.part)),
         }
-    }
-
-    /// How far it has come with each move, by the move's first key.
-    pub fn edges(&mut self) -> Done<HashMap<Rank, Edges>> {
-        let number = self.number.clone();
-        let lines = self.ask(&["FCALL", "squall_moves", "0", &number])?.list();
-        let edges: Option<_> = lines.into_iter().map(|line| read_edges(&line.text())).collect();
-        edges.ok_or_else(|| Fault::new(format!("partition {}: a move of another form", self.part)))
-    }
-
-    /// Gives the keys of the move below the edge: up to where keys are given now.
-    pub fn give(&mut self, it: &Move, edge: Rank) -> Done<Rank> {
-        self.raise("squall_give", it, edge)
-    }
-
-    /// Loads the keys of the move below the edge: up to where keys are loaded now.
-    pub fn load(&mut self, it: &Move, edge: Rank) -> Done<Rank> {
-        self.raise("squall_load", it, edge)
-    }
-
-    fn raise(&mut self, function: &str, it: &Move, edge: Rank) -> Done<Rank> {
-        let (number, lo, edge) = (self.number.clone(), hex(it.lo), hex(edge));
-        let now = self.ask(&["FCALL", function, "0", &number, &lo, &edge])?;
-        rank(&now.text()).ok_or_else(|| Fault::new("an edge of another form"))
-    }
-
-    /// Unlinks keys that were given and loaded, and then has forgotten all below the edge.
-    pub fn forget(&mut self, it: &Move, keys: &[Vec<u8>], edge: Rank) -> Done<()> {
-        let lo = hex(it.lo);
-        let (first, last) = keys.split_at(keys.len() - keys.len() % UNLINKED);
-        for block in first.chunks(UNLINKED) {
-            self.call_forget(&lo, block, &lo)?;
-        }
-        self.call_forget(&lo, last, &hex(edge))
-    }
-
-    fn call_forget(&mut self, lo: &str, keys: &[Vec<u8>], edge: &str) -> Done<()> {
-        let count = keys.len().to_string();
-        let number = self.number.clone();
-        let mut words: Vec<&[u8]> = vec![b"FCALL", b"squall_forget", count.as_bytes()];
-        words.extend(keys.iter().map(Vec::as_slice));
-        words.extend([number.as_bytes(), lo.as_bytes(), edge.as_bytes()]);
-        self.ask(&words).map(drop)
     }
 
     /// The words of a put.
@@ -293,8 +260,12 @@ impl Partition {
                 "partition {part}: course {known} is not over; run its mover to the end"
             ),
             "EMPTY" => format!(
-                "partition {part} has begun no course, and the old plan gives it keys: did it lose its data? (--init begins course 1)"
+                "partition {part} has begun no course, and the old plan gives it keys: did it lose its data? (--init begins course 1, --accept-loss {part} goes on without it)"
             ),
+            "BEFORE" => format!(
+                "partition {part}: partition {known} was let in with less meanwhile; start this mover again"
+            ),
+            "CHANGED" => format!("partition {part}: another mover has changed it; start this mover again"),
             _ => format!("partition {part}: {said}"),
         })
     }
@@ -308,17 +279,8 @@ fn refusal(answers: &[Value]) -> Option<&str> {
     })
 }
 
-/// The first key and the edges of a line of `squall_moves`.
-fn read_edges(line: &str) -> Option<(Rank, Edges)> {
-    let words: Vec<&str> = line.split(' ').collect();
-    let &[lo, _, _, _, edge, forgot] = &words[..] else {
-        return None;
-    };
-    Some((rank(lo)?, Edges { edge: rank(edge)?, forgot: rank(forgot)? }))
-}
-
 /// The rank of sixteen digits.
-fn rank(hex: &str) -> Option<Rank> {
+pub fn rank(hex: &str) -> Option<Rank> {
     u64::from_str_radix(hex, 16).ok().map(Rank)
 }
 
@@ -340,7 +302,7 @@ mod tests {
     fn refusals_that_pass_end_no_step() {
         let (mut mover, mut other) = (partition(1), partition(1));
         mover.prepare().unwrap();
-        let course = Beginning { old: "[]", new: "[]", is_fresh: true, moves: &[] };
+        let course = Beginning { old: "[]", new: "[]", is_fresh: true, seen: 0, moves: &[] };
         mover.begin(&course).unwrap();
         other.ask(&["CONFIG", "SET", "maxmemory", "1"]).unwrap();
         let has_room = AtomicBool::new(false);
@@ -356,7 +318,7 @@ mod tests {
         });
         mover.admit("secret").unwrap();
         assert!(mover.ask(&["ACL", "USERS"]).unwrap().list().contains(&Value::Bulk(user("1").into_bytes())));
-        mover.fence().unwrap();
+        mover.fence(&[]).unwrap();
         // A transaction of which a command is refused for another reason, and one of another course.
         let unknown = mover.in_course(&[vec!["ACL", "UNKNOWN"]]).unwrap_err().to_string();
         assert!(unknown.contains("partition 1: ERR"), "{unknown}");

@@ -1,0 +1,128 @@
+//! How a course begins at all partitions. Before routers are let in anywhere, it is seen that none has come back with less.
+
+use super::losses::Loss;
+use super::partition::{Beginning, Partition};
+use super::survey::Survey;
+use super::Mover;
+use crate::fault::{note, Done, Fault};
+use crate::resp::Value;
+use std::collections::BTreeMap;
+
+/// The partitions of a course that has begun at all of them, over the connections by which it was seen that none has less.
+pub struct Entered {
+    /// All of them, those of the old plan first.
+    pub partitions: Vec<Partition>,
+    /// What they have said.
+    pub survey: Survey,
+}
+
+impl Mover {
+    /// Begins the course at each partition. Nobody is let in yet. If a partition refuses, nothing has begun, but for two
+    /// movers at once.
+    pub(super) fn enter(&self) -> Done<Entered> {
+        let mut partitions = self.partitions()?;
+        for partition in &mut partitions {
+            partition.prepare()?;
+            partition.refuse_eviction()?;
+        }
+        let survey = Survey::of(partitions.iter_mut())?;
+        for partition in &partitions {
+            let known = survey.facts[&partition.part].number;
+            if known > self.number {
+                return Err(partition.explain(&format!("SQUALL LATE {known}")));
+            }
+        }
+        let losses = self.losses(&mut partitions, &survey)?;
+        self.refuse(&mut partitions, &survey, &losses)?;
+        let beginning = |part| self.beginning(part, &survey);
+        let known = partitions.iter_mut().filter(|it| !losses.contains_key(&it.part));
+        known.into_iter().try_for_each(|it| it.may_begin(&beginning(it.part)))?;
+        for at in 0..partitions.len() {
+            let part = partitions[at].part;
+            match losses.get(&part) {
+                Some(loss) => self.accept(&mut partitions, at, &survey, loss)?,
+                None => partitions[at].begin(&beginning(part))?,
+            }
+        }
+        Ok(Entered { partitions, survey })
+    }
+
+    pub(super) fn beginning<'a>(&'a self, part: u32, survey: &Survey) -> Beginning<'a> {
+        Beginning {
+            old: &self.old.ranges,
+            new: &self.new.ranges,
+            is_fresh: self.number == 1 || !self.old.parts.contains(&part),
+            seen: survey.seen(part).0,
+            moves: &self.moves,
+        }
+    }
+
+    /// What each partition has lost that should have keys.
+    fn losses(&self, partitions: &mut [Partition], survey: &Survey) -> Done<BTreeMap<u32, Loss>> {
+        let mut losses = BTreeMap::new();
+        for partition in partitions.iter_mut().filter(|it| self.should_have_keys(it.part, survey)) {
+            let signs = survey.signs(partition.part, self.number);
+            if !signs.is_empty() {
+                losses.insert(partition.part, Loss::new(partition, signs)?);
+            }
+        }
+        Ok(losses)
+    }
+
+    /// Whether it should, as far as the plans say. One that the old plan does not name has none before the course has begun
+    /// everywhere: it may be new, or may have been away.
+    fn should_have_keys(&self, part: u32, survey: &Survey) -> bool {
+        let has_begun = survey.facts[&part].number == self.number || survey.fence() == self.number;
+        self.old.parts.contains(&part) || has_begun && self.new.parts.contains(&part)
+    }
+
+    /// Nothing, unless a partition has lost something and that was not accepted. Then the others are let in.
+    fn refuse(
+        &self,
+        partitions: &mut [Partition],
+        survey: &Survey,
+        losses: &BTreeMap<u32, Loss>,
+    ) -> Done<()> {
+        for part in self.accepted.iter().filter(|part| !losses.contains_key(part)) {
+            note(format!(
+                "squall-redis-mover: partition {part} has lost nothing: --accept-loss {part} changes nothing"
+            ));
+        }
+        let refused: Vec<&Loss> = losses.values().filter(|it| !self.accepted.contains(&it.part)).collect();
+        let Some(last) = refused.last() else {
+            return Ok(());
+        };
+        for loss in &refused {
+            note(format!("squall-redis-mover: {loss}"));
+        }
+        for partition in partitions {
+            let part = partition.part;
+            let is_in = survey.facts[&part].number == self.number && !losses.contains_key(&part);
+            if is_in && !(survey.is_restarted(part) && survey.awaits(part)) {
+                partition.admit(&self.secret)?;
+            }
+        }
+        let parts: Vec<String> = refused.iter().map(|it| it.part.to_string()).collect();
+        Err(Fault::new(format!(
+            "nobody is let in at partition {}: give it its data back, or go on without what is lost: --accept-loss {}",
+            parts.join(", "),
+            last.part
+        )))
+    }
+}
+
+impl Partition {
+    /// Nothing, unless the server would remove the partition's own keys when its memory is full.
+    fn refuse_eviction(&mut self) -> Done<()> {
+        let said = self.ask(&["CONFIG", "GET", "maxmemory-policy"])?.list().pop();
+        let policy = said.map_or(String::new(), Value::text);
+        if !policy.starts_with("allkeys-") {
+            return Ok(());
+        }
+        Err(Fault::new(format!(
+            "partition {}: maxmemory-policy is {policy}: a full server would remove the keys squall:*, without which it \
+             does not know which keys it has; set it to noeviction, or to volatile-*, which removes only keys that end",
+            self.part
+        )))
+    }
+}

@@ -1,0 +1,201 @@
+//! What a partition has lost that came back with less, and how it is let in all the same.
+
+use super::index::{is_own, scan};
+use super::partition::{Beginning, Partition};
+use super::state::State;
+use super::survey::{Sign, Survey};
+use super::Mover;
+use crate::course::{Move, Plan};
+use crate::fault::{note, Done, Fault};
+use crate::keymap::{self, hex};
+use crate::resp::Value;
+use squall::{Course, Leg, Rank};
+use std::collections::BTreeMap;
+use std::fmt;
+
+/// How many rows are removed at once.
+const REMOVED: usize = 256;
+
+/// A partition that has come back with less.
+pub struct Loss {
+    /// Which one.
+    pub part: u32,
+    /// What shows it.
+    signs: Vec<Sign>,
+    /// About how many rows that had moved to it are gone.
+    rows: u64,
+}
+
+impl Loss {
+    /// That of a partition with these signs, whose rows are counted.
+    pub fn new(partition: &mut Partition, signs: Vec<Sign>) -> Done<Loss> {
+        let spans = signs.iter().filter_map(|it| match it {
+            Sign::Loads { keys, lo, gone, .. } => Some(((*lo, keys.1), *gone)),
+            _ => None,
+        });
+        let mut left: Vec<((Rank, Rank), u64)> = spans.collect();
+        if !left.is_empty() {
+            scan(&mut partition.conn, |keys| {
+                keys.iter().filter(|key| !is_own(key)).for_each(|key| take_one(&mut left, keymap::rank(key)));
+                Ok(())
+            })?;
+        }
+        Ok(Loss { part: partition.part, signs, rows: left.iter().map(|(_, gone)| gone).sum() })
+    }
+}
+
+/// Counts a row that is there.
+fn take_one(left: &mut [((Rank, Rank), u64)], rank: Rank) {
+    if let Some((_, gone)) = left.iter_mut().find(|((lo, hi), _)| (*lo..*hi).contains(&rank)) {
+        *gone = gone.saturating_sub(1);
+    }
+}
+
+impl fmt::Display for Loss {
+    fn fmt(&self, f: &mut fmt::Formatter<'_>) -> fmt::Result {
+        let signs: Vec<String> = self.signs.iter().map(Sign::to_string).collect();
+        write!(f, "partition {} has come back with less: {}", self.part, signs.join("; "))?;
+        match self.rows {
+            0 => write!(f, "; how many rows are lost is not known"),
+            rows => write!(f, "; about {rows} rows that had moved to it are gone"),
+        }
+    }
+}
+
+impl Mover {
+    /// Goes on with what a partition has. No mover that was asleep does a step any more by what the partition knew before.
+    /// Rows that it has and should not have are removed. Its edges rise to what the other ends know.
+    pub(super) fn accept(
+        &self,
+        partitions: &mut [Partition],
+        at: usize,
+        survey: &Survey,
+        loss: &Loss,
+    ) -> Done<()> {
+        let next = survey.next_generation(loss.part);
+        let mut others = BTreeMap::new();
+        for other in partitions.iter_mut().filter(|it| it.part != loss.part) {
+            other.ask(&["FCALL", "squall_since", "0", &loss.part.to_string(), &next.to_string()])?;
+            others.insert(other.part, other.state()?);
+        }
+        let edges: Vec<Rank> = self.moves.iter().map(|it| self.edge(it, loss.part, &others)).collect();
+        let own = survey.facts[&loss.part].clone();
+        let holds = Holds { part: loss.part, legs: legs(&self.old)?, moves: &self.moves, edges: &edges };
+        let removed = partitions[at].remove(&own, &holds)?;
+        let course = self.beginning(loss.part, survey);
+        partitions[at].accept(&course, &edges, [own.generation, next, loss.rows])?;
+        note(format!("squall-redis-mover: accepted: {loss}"));
+        if removed > 0 {
+            note(format!(
+                "squall-redis-mover: partition {}: {removed} rows that it has no more were removed",
+                loss.part
+            ));
+        }
+        Ok(())
+    }
+
+    /// The rank to which the edge of a move rises at a partition that goes on with less.
+    fn edge(&self, it: &Move, part: u32, others: &BTreeMap<u32, State>) -> Rank {
+        let of = |other| others.get(other).and_then(|state: &State| state.stand(self.number, it.lo));
+        let edge = match part {
+            _ if part == it.dest => of(&it.source).map(|source| source.forgot),
+            _ if part == it.source => of(&it.dest).map(|dest| dest.edge),
+            _ => None,
+        };
+        edge.unwrap_or(it.lo)
+    }
+}
+
+/// The ranges of a plan.
+fn legs(plan: &Plan) -> Done<Vec<Leg>> {
+    Ok(Course::open(1, &plan.text, &plan.text)?.old_plan())
+}
+
+/// Which rows a partition should have.
+struct Holds<'a> {
+    part: u32,
+    legs: Vec<Leg>,
+    moves: &'a [Move],
+    edges: &'a [Rank],
+}
+
+impl Holds<'_> {
+    /// Whether it should have one of that rank. What it has given it forgets later.
+    fn has(&self, rank: Rank) -> bool {
+        let is_of = |leg: &Leg| leg.part == self.part && leg.lo <= rank && rank < leg.hi;
+        let is_loaded = |(it, edge): (&Move, &Rank)| it.dest == self.part && it.lo <= rank && rank < *edge;
+        self.legs.iter().any(is_of) || self.moves.iter().zip(self.edges).any(is_loaded)
+    }
+}
+
+impl Partition {
+    /// Removes the rows that it should not have: how many. Nobody is let in.
+    fn remove(&mut self, own: &State, holds: &Holds) -> Done<usize> {
+        let mut foreign = Vec::new();
+        scan(&mut self.conn, |keys| {
+            let wrong = |key: &Vec<u8>| !is_own(key) && !holds.has(keymap::rank(key));
+            foreign.extend(keys.into_iter().filter(wrong));
+            Ok(())
+        })?;
+        foreign.chunks(REMOVED).try_for_each(|keys| self.unlink(own, keys))?;
+        Ok(foreign.len())
+    }
+
+    /// Removes rows, unless another mover has let routers in here meanwhile.
+    fn unlink(&mut self, own: &State, keys: &[Vec<u8>]) -> Done<()> {
+        self.ask(&["WATCH", "squall:generation"])?;
+        let now = self.ask(&["GET", "squall:generation"])?.text();
+        if now.parse().unwrap_or(0) != own.generation {
+            return Err(self.explain("SQUALL CHANGED"));
+        }
+        let words: Vec<&[u8]> =
+            [b"UNLINK".as_slice()].into_iter().chain(keys.iter().map(Vec::as_slice)).collect();
+        self.ask(&["MULTI"])?;
+        self.ask(&words)?;
+        match self.ask(&["EXEC"])? {
+            Value::List(_) => Ok(()),
+            _ => Err(self.explain("SQUALL CHANGED")),
+        }
+    }
+
+    /// Goes on with what it has: its own generation, the next one, and about how many rows are lost.
+    fn accept(&mut self, course: &Beginning, edges: &[Rank], numbers: [u64; 3]) -> Done<()> {
+        let numbers = numbers.map(|it| it.to_string()).join(":");
+        let head = ["FCALL", "squall_accept", "0", &self.number, course.old, course.new, &numbers];
+        let mut words: Vec<String> = head.into_iter().map(String::from).collect();
+        let moves = course.moves.iter().zip(edges);
+        words.extend(moves.map(|(it, edge)| format!("{} {}", self.line(it), hex(*edge))));
+        match self.ask(&words)?.text().strip_prefix("accepted ") {
+            Some(_) => Ok(()),
+            None => Err(Fault::new(format!("partition {}: it did not go on", self.part))),
+        }
+    }
+}
+
+#[cfg(test)]
+mod tests {
+    use super::*;
+
+    #[test]
+    fn rows_of_others_are_told_from_own() {
+        let legs =
+            vec![Leg { lo: Rank(0), hi: Rank(100), part: 1 }, Leg { lo: Rank(100), hi: Rank(300), part: 2 }];
+        let moves = [
+            Move { lo: Rank(50), hi: Rank(100), source: 1, dest: 2, sub: 0 },
+            Move { lo: Rank(200), hi: Rank(300), source: 2, dest: 1, sub: 1 },
+        ];
+        let edges = [Rank(60), Rank(250)];
+        let holds = |part| Holds { part, legs: legs.clone(), moves: &moves, edges: &edges };
+        let one: Vec<bool> = [10, 55, 99, 150, 249, 250].map(|rank| holds(1).has(Rank(rank))).to_vec();
+        assert_eq!(one, [true, true, true, false, true, false]);
+        let two: Vec<bool> = [10, 55, 60, 150, 250].map(|rank| holds(2).has(Rank(rank))).to_vec();
+        assert_eq!(two, [false, true, false, true, true]);
+    }
+
+    #[test]
+    fn rows_that_are_there_are_not_lost() {
+        let mut left = vec![((Rank(0), Rank(10)), 3), ((Rank(10), Rank(20)), 1)];
+        [5, 7, 15, 16, 30].into_iter().for_each(|rank| take_one(&mut left, Rank(rank)));
+        assert_eq!(left.iter().map(|(_, gone)| *gone).collect::<Vec<_>>(), [1, 0]);
+    }
+}

@@ -1,0 +1,149 @@
+//! What a partition says of itself: how far it is, what it has seen of others, and since when its server runs.
+
+use super::partition::{rank, Partition};
+use crate::fault::{Done, Fault};
+use crate::resp::Value;
+use squall::Rank;
+use std::collections::BTreeMap;
+
+/// What a partition knows. One without a course, or of an earlier version of these programs, has zeros.
+#[derive(Clone, Debug, Default)]
+pub struct State {
+    /// The number of its course.
+    pub number: u32,
+    /// Raised by each of its steps.
+    pub generation: u64,
+    /// The course of which it knows that it has begun at all partitions.
+    pub fence: u32,
+    /// The run of the server in which it let routers in last.
+    pub run: Option<String>,
+    /// The highest generation that was seen of other partitions.
+    pub seen: BTreeMap<u32, u64>,
+    /// The moves of its course, by rising key.
+    pub moves: Vec<Stand>,
+}
+
+/// How far a partition is with a move.
+#[derive(Clone, Debug)]
+pub struct Stand {
+    /// The first key.
+    pub lo: Rank,
+    /// How it takes part.
+    pub role: Role,
+    /// The partition at the other end, or the source.
+    pub peer: u32,
+    /// Below it keys were given, at a source, or loaded, at a destination.
+    pub edge: Rank,
+    /// Below it the source has forgotten them.
+    pub forgot: Rank,
+    /// How many rows the source has removed.
+    pub gone: u64,
+}
+
+/// How a partition takes part in a move.
+#[derive(Clone, Copy, Debug, PartialEq)]
+pub enum Role {
+    /// The keys go from it.
+    Out,
+    /// They come to it.
+    In,
+    /// They go past it.
+    Beside,
+}
+
+/// The run of a server, which ends when it is started anew.
+#[derive(Clone, Debug, Default)]
+pub struct Life {
+    /// Its name.
+    pub run: String,
+    /// Whether the server writes a log. Otherwise it comes back with its last snapshot.
+    pub has_log: bool,
+}
+
+impl State {
+    /// Its stand with the move that begins there, if it is in that course.
+    pub fn stand(&self, number: u32, lo: Rank) -> Option<&Stand> {
+        self.moves.iter().find(|it| self.number == number && it.lo == lo)
+    }
+
+    fn read(said: Value) -> Option<State> {
+        let words = said.list();
+        let [number, generation, fence, run, seen, moves] = <[Value; 6]>::try_from(words).ok()?;
+        let seen: Vec<u64> =
+            seen.list().into_iter().map(|it| it.text().parse().ok()).collect::<Option<_>>()?;
+        let run = Some(run.text()).filter(|run| !run.is_empty());
+        Some(State {
+            number: number.text().parse().ok()?,
+            generation: generation.text().parse().unwrap_or(0),
+            fence: fence.text().parse().unwrap_or(0),
+            run,
+            seen: seen.chunks_exact(2).map(|pair| (pair[0] as u32, pair[1])).collect(),
+            moves: moves.list().into_iter().map(|line| Stand::read(&line.text())).collect::<Option<_>>()?,
+        })
+    }
+}
+
+impl Stand {
+    fn read(line: &str) -> Option<Stand> {
+        let words: Vec<&str> = line.split(' ').collect();
+        let &[lo, _, role, peer, edge, forgot, gone] = &words[..] else {
+            return None;
+        };
+        Some(Stand {
+            lo: rank(lo)?,
+            role: match role {
+                "out" => Role::Out,
+                "in" => Role::In,
+                _ => Role::Beside,
+            },
+            peer: peer.parse().ok()?,
+            edge: rank(edge)?,
+            forgot: rank(forgot)?,
+            gone: gone.parse().ok()?,
+        })
+    }
+}
+
+impl Life {
+    /// What a server says of itself.
+    pub fn read(info: &str) -> Option<Life> {
+        let field = |name: &str| info.lines().find_map(|line| line.strip_prefix(name)).map(str::trim);
+        Some(Life { run: field("run_id:")?.to_string(), has_log: field("aof_enabled:")? != "0" })
+    }
+}
+
+impl Partition {
+    /// What it says of itself.
+    pub fn state(&mut self) -> Done<State> {
+        let said = self.ask(&["FCALL", "squall_state", "0"])?;
+        State::read(said)
+            .ok_or_else(|| Fault::new(format!("partition {}: a state of another form", self.part)))
+    }
+}
+
+#[cfg(test)]
+mod tests {
+    use super::*;
+
+    #[test]
+    fn a_state_is_read() {
+        let bulk = |text: &str| Value::Bulk(text.into());
+        let line = "0000000200000000 0000000300000000 out 3 0000000200000005 0000000200000000 7";
+        let lists = [Value::List(vec![bulk("3"), bulk("9")]), Value::List(vec![bulk(line)])];
+        let said = [bulk("2"), bulk("5"), bulk(""), bulk("abc")].into_iter().chain(lists);
+        let state = State::read(Value::List(said.collect())).unwrap();
+        assert_eq!((state.number, state.generation, state.fence), (2, 5, 0));
+        assert_eq!((state.run.as_deref(), state.seen.get(&3)), (Some("abc"), Some(&9)));
+        let stand = state.stand(2, Rank::new(2, 0)).unwrap();
+        assert_eq!((stand.role, stand.peer, stand.edge, stand.gone), (Role::Out, 3, Rank::new(2, 5), 7));
+        assert!(state.stand(1, Rank::new(2, 0)).is_none());
+        assert!(State::read(Value::Nil).is_none());
+    }
+
+    #[test]
+    fn a_life_is_read() {
+        let life = Life::read("# Server\r\nrun_id:ab12\r\n# Persistence\r\naof_enabled:1\r\n").unwrap();
+        assert_eq!((life.run.as_str(), life.has_log), ("ab12", true));
+        assert!(Life::read("run_id:ab12").is_none());
+    }
+}

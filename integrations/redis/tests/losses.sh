@@ -1,0 +1,166 @@
+# shellcheck shell=bash disable=SC2154,SC2034
+# Partitions that come back with less, for tools/integrations: it is found out before anyone is let in, and --accept-loss
+# goes on with what there is.
+
+# Writes so many keys from 330:0 on by the first proxy. All of them move in course 2, 170 from partition 1 and the others from
+# 2. Their values end with the second word.
+fill() {
+  local key
+  for ((key = 330; key < 330 + $1; key++)); do echo "set $key:0 v$key$2"; done | redis-cli -p "${proxies[0]}" > "$run/filled"
+  [ "$(grep -c '^OK' "$run/filled")" -eq "$1" ]
+}
+
+# How many of them have not that value, by what the second proxy answers.
+count_wrong() {
+  local key
+  for ((key = 330; key < 330 + $1; key++)); do echo "get $key:0"; done | redis-cli -p "${proxies[1]}" > "$run/got"
+  for ((key = 330; key < 330 + $1; key++)); do echo "v$key$2"; done | diff - "$run/got" | grep -c '^<'
+}
+
+# How many rows a server has.
+count_rows() {
+  redis-cli -p "$1" --scan | grep -vc '^squall:'
+}
+
+has_rows() {
+  [ "$(count_rows "$1")" -ge "$2" ]
+}
+
+# Whether a partition has forgotten some of what it gave.
+has_forgotten() {
+  [ "$(redis-cli -p "${servers[$1 - 1]}" hlen squall:forgot)" -gt 0 ]
+}
+
+# Nobody but its operator is let in at a server.
+is_shut() {
+  [ "$(redis-cli -p "$1" acl users)" = default ] || { echo "$1 lets routers in"; return 1; }
+}
+
+# Begins a move of chunks of two keys, and ends the server of partition 3 by force once the command succeeds.
+lose() {
+  local id
+  start_move 2 old new --chunk 2 --pause "${pace-20}"
+  await "$@" || return
+  stop "${servers[2]}"
+  if wait "$id"; then echo "the mover had ended too soon"; return 1; fi
+}
+
+# The run that goes on without what is lost comes to its end, and so does the next course.
+goes_on() {
+  move 2 old new --accept-loss "$1" > "$run/accepted" 2>&1 || { cat "$run/accepted"; return 1; }
+  cat "$run/accepted"
+  grep -q "accepted: partition $1 " "$run/accepted" && agrees 3 2 \
+    && [ "$(redis-cli -p "${servers[$1 - 1]}" hget squall:losses times)" = 1 ] || return
+  move 2 old new --accept-loss "$1" 2>&1 | grep -q "partition $1 has lost nothing" || return
+}
+
+# A new destination without a log dies amid a course, and comes back empty.
+test_destination_comes_back_empty() {
+  local patience=300 lost
+  deploy && fill 340 '' && lose has_rows "${servers[2]}" 60 && run_redis "${servers[2]}" || return
+  refused "partition 3 has come back with less: it is in no course.*about [0-9]* rows" 2 old new || return
+  is_shut "${servers[2]}" || return
+  goes_on 3 || return
+  lost=$(redis-cli -p "${servers[2]}" hget squall:losses rows)
+  echo "$lost rows are lost"
+  [ "$lost" -gt 0 ] && [ "$(count_wrong 340 '')" -eq "$lost" ] || return
+  fill 340 b && move 3 new old && agrees 1 3 && [ "$(count_wrong 340 b)" -eq 0 ]
+}
+
+# The same as the other words say. It notes into `mark` how long the log of partition 3 is once it has a few rows.
+notes_log_and() {
+  local log=("$run/${servers[2]}/appendonlydir"/*.incr.aof)
+  [ -n "$mark" ] || ! has_rows "${servers[2]}" 12 || mark=$(stat -c %s "${log[0]}")
+  [ -n "$mark" ] && "$@"
+}
+
+# Cuts the log of partition 3, which has ended, to what it was then.
+cut_log() {
+  local log=("$run/${servers[2]}/appendonlydir"/*.incr.aof)
+  echo "of $(stat -c %s "${log[0]}") bytes of the log $mark are left"
+  truncate -s "$mark" "${log[0]}"
+}
+
+# A destination whose log is flushed each second loses its end.
+test_destination_loses_its_log() {
+  local patience=300 lost mark='' pace=60 redis_words="--appendonly yes --appendfsync everysec"
+  deploy && fill 340 '' && lose notes_log_and has_forgotten 1 && cut_log || return
+  # shellcheck disable=SC2086
+  run_redis "${servers[2]}" $redis_words || return
+  refused "partition 3 has come back with less.*it had loaded" 2 old new && is_shut "${servers[2]}" && goes_on 3 || return
+  lost=$(redis-cli -p "${servers[2]}" hget squall:losses rows)
+  echo "$lost rows are lost"
+  [ "$(count_wrong 340 '')" -le "$lost" ] || return
+  fill 340 b && move 3 new old && agrees 1 3 && [ "$(count_wrong 340 b)" -eq 0 ]
+}
+
+# What is not forgotten yet is copied again before anyone is let in, so nobody sees that a key is not there.
+test_loads_are_forgotten_late() {
+  local patience=300 id wrong key mark='' redis_words="--appendonly yes --appendfsync everysec"
+  deploy && fill 340 '' && lose notes_log_and has_rows "${servers[2]}" 60 || return
+  if has_forgotten 1 || has_forgotten 2; then echo "it was forgotten too soon"; return 1; fi
+  cut_log
+  # shellcheck disable=SC2086
+  run_redis "${servers[2]}" $redis_words || return
+  start_move 2 old new --chunk 5 --pause 5
+  # Loads of these were lost, of which the proxies have heard.
+  while ! has_ended "$id"; do
+    for key in 345 515; do
+      redis-cli -p "${proxies[0]}" get "$key:0" | grep -qE "^v$key$|TRYAGAIN" || { echo "no key $key:0"; return 1; }
+    done
+  done
+  wait "$id" || { cat "$run/mover"; return 1; }
+  agrees 3 2 && wrong=$(count_wrong 340 '')
+  [ "$wrong" -eq 0 ] && [ "$(count_rows "${servers[2]}")" -eq 340 ]
+}
+
+# A partition that has snapshots alone comes back with the last one, after the course.
+test_restart_without_a_log() {
+  local patience=300
+  deploy && fill 340 '' && redis-cli -p "${servers[2]}" save && move 2 old new && redis-cli -p "${servers[2]}" save \
+    && fill 340 b || return
+  stop "${servers[2]}"
+  run_redis "${servers[2]}" || return
+  refused "partition 3 has come back with less: its server was restarted and writes no log" 2 old new || return
+  is_shut "${servers[2]}" && goes_on 3 && [ "$(count_wrong 340 '')" -eq 0 ] || return
+  fill 340 c && move 3 new old && agrees 1 3 && [ "$(count_wrong 340 c)" -eq 0 ]
+}
+
+# A source comes back as it was before the course: what it had given it does not serve.
+test_source_comes_back_older() {
+  local patience=300 id
+  deploy && fill 340 '' && redis-cli -p "${servers[0]}" save || return
+  start_move 2 old new --chunk 2 --pause 20
+  await has_rows "${servers[2]}" 80 && fill 20 b || return
+  stop "${servers[0]}"
+  if wait "$id"; then echo "the mover had ended too soon"; return 1; fi
+  run_redis "${servers[0]}" || return
+  refused "partition 1 has come back with less: it is in course 1.*it had given" 2 old new || return
+  is_shut "${servers[0]}" && goes_on 1 && [ "$(count_wrong 20 b)" -eq 0 ] && [ "$(count_rows "${servers[0]}")" -eq 0 ] || return
+  fill 340 c && move 3 new old && agrees 1 3 && [ "$(count_wrong 340 c)" -eq 0 ]
+}
+
+# Several movers that go on without what is lost do no more harm than one.
+test_movers_that_accept_at_once() {
+  local patience=300 id lost all=() done=0
+  deploy && fill 340 '' && lose has_rows "${servers[2]}" 60 && run_redis "${servers[2]}" || return
+  for _ in 1 2 3; do
+    start_move 2 old new --accept-loss 3
+    all+=("$id")
+  done
+  for id in "${all[@]}"; do if wait "$id"; then done=$((done + 1)); fi; done
+  cat "$run/mover"
+  echo "$done of 3 movers have come to the end"
+  [ "$done" -gt 0 ] && move 2 old new && agrees 3 2 || return
+  lost=$(redis-cli -p "${servers[2]}" hget squall:losses rows)
+  [ "$(redis-cli -p "${servers[2]}" hget squall:losses times)" = 1 ] && [ "$(count_wrong 340 '')" -eq "$lost" ] || return
+  fill 340 b && move 3 new old && agrees 1 3 && [ "$(count_wrong 340 b)" -eq 0 ]
+}
+
+# A server that would remove the partition's own keys is refused.
+test_eviction_of_own_keys() {
+  deploy && redis-cli -p "${servers[1]}" config set maxmemory-policy allkeys-lru || return
+  refused "partition 2: maxmemory-policy is allkeys-lru" 2 old new || return
+  if "$bin/squall-redis-mover" --init --first "$run/old.json" "${parts[@]}"; then return 1; fi
+  redis-cli -p "${servers[1]}" config set maxmemory-policy volatile-lru && move 2 old new && agrees 3 2
+}
