@@ -245,14 +245,15 @@ local function begin(args)
   end
 end
 
--- NUMBER OLD NEW fresh|fresh:SEEN|known MOVE..: begins a course. One that has begun stays as it is. A partition that the
--- old plan does not name has no keys, and may be fresh. SEEN is what others have seen of one that was there before: its
--- generation rises above that. The answer ends with the generation.
+-- NUMBER OLD NEW fresh|fresh:SEEN|known MOVE..: begins a course. One that has begun stays as it is. A partition
+-- that the old plan does not name has no keys, and may be fresh. SEEN is what others have seen of one that was there
+-- before: its generation rises above that. The answer ends with the generation.
 redis.register_function('squall_begin', function(_, args)
   local course = known()
   if args[1] == course.number then
     local generation = redis.call('GET', 'squall:generation') or '0'
-    return is_same(course, args) and redis.status_reply('again ' .. generation) or refuse('CLASH ' .. course.number)
+    local again = redis.status_reply('again ' .. generation)
+    return is_same(course, args) and again or refuse('CLASH ' .. course.number)
   end
   local why = fault(course, args)
   if why then

@@ -1,8 +1,8 @@
 
 -- How a partition that comes back with less is found out, and let in all the same. It goes on behind guard.lua.
 
--- What a partition says of itself: its number, its generation, the course of its fence, the run in which it let routers
--- in, what it has seen of others, and each move as LO HI ROLE PEER EDGE FORGOT GONE.
+-- What a partition says of itself: its number, its generation, the course of its fence, the run in which it let
+-- routers in, what it has seen of others, and each move as LO HI ROLE PEER EDGE FORGOT GONE.
 redis.register_function({
   function_name = 'squall_state',
   flags = { 'no-writes', 'allow-oom' },
@@ -64,8 +64,9 @@ redis.register_function({
   end,
 })
 
--- NUMBER OLD NEW OWN:NEXT:ROWS MOVE..: goes on with what there is. Its generation was OWN when it was looked at, and rises
--- to NEXT; about ROWS rows are lost. Each move has a further word, the rank to which its edge rises at least.
+-- NUMBER OLD NEW OWN:NEXT:ROWS MOVE..: goes on with what there is. Its generation was OWN when it was looked at,
+-- and rises to NEXT; about ROWS rows are lost. Each move has a further word, the rank to which its edge rises at
+-- least.
 redis.register_function('squall_accept', function(_, args)
   local course = known()
   local own, next, rows = string.match(args[4], '^(%d+):(%d+):(%d+)$')

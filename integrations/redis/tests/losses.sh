@@ -1,12 +1,13 @@
 # shellcheck shell=bash disable=SC2154,SC2034
-# Partitions that come back with less, for tools/integrations: it is found out before anyone is let in, and --accept-loss
-# goes on with what there is.
+# Partitions that come back with less, for tools/integrations: it is found out before anyone is let in, and
+# --accept-loss goes on with what there is.
 
-# Writes so many keys from 330:0 on by the first proxy. All of them move in course 2, 170 from partition 1 and the others from
-# 2. Their values end with the second word.
+# Writes so many keys from 330:0 on by the first proxy. All of them move in course 2, 170 from partition 1 and the
+# others from 2. Their values end with the second word.
 fill() {
   local key
-  for ((key = 330; key < 330 + $1; key++)); do echo "set $key:0 v$key$2"; done | redis-cli -p "${proxies[0]}" > "$run/filled"
+  for ((key = 330; key < 330 + $1; key++)); do echo "set $key:0 v$key$2"; done \
+    | redis-cli -p "${proxies[0]}" > "$run/filled"
   [ "$(grep -c '^OK' "$run/filled")" -eq "$1" ]
 }
 
@@ -26,9 +27,9 @@ has_rows() {
   [ "$(count_rows "$1")" -ge "$2" ]
 }
 
-# Whether a partition has forgotten some of what it gave.
+# Whether a partition has forgotten so many rows of what it gave.
 has_forgotten() {
-  [ "$(redis-cli -p "${servers[$1 - 1]}" hlen squall:forgot)" -gt 0 ]
+  [ "$(redis-cli -p "${servers[$1 - 1]}" hvals squall:gone | awk '{ all += $1 } END { print +all }')" -ge "$2" ]
 }
 
 # Nobody but its operator is let in at a server.
@@ -84,10 +85,11 @@ cut_log() {
 # A destination whose log is flushed each second loses its end.
 test_destination_loses_its_log() {
   local patience=300 lost mark='' pace=60 redis_words="--appendonly yes --appendfsync everysec"
-  deploy && fill 340 '' && lose notes_log_and has_forgotten 1 && cut_log || return
+  deploy && fill 340 '' && lose notes_log_and has_forgotten 1 20 && cut_log || return
   # shellcheck disable=SC2086
   run_redis "${servers[2]}" $redis_words || return
-  refused "partition 3 has come back with less.*it had loaded" 2 old new && is_shut "${servers[2]}" && goes_on 3 || return
+  refused "partition 3 has come back with less.*it had loaded" 2 old new && is_shut "${servers[2]}" || return
+  goes_on 3 || return
   lost=$(redis-cli -p "${servers[2]}" hget squall:losses rows)
   echo "$lost rows are lost"
   [ "$(count_wrong 340 '')" -le "$lost" ] || return
@@ -98,7 +100,7 @@ test_destination_loses_its_log() {
 test_loads_are_forgotten_late() {
   local patience=300 id wrong key mark='' redis_words="--appendonly yes --appendfsync everysec"
   deploy && fill 340 '' && lose notes_log_and has_rows "${servers[2]}" 60 || return
-  if has_forgotten 1 || has_forgotten 2; then echo "it was forgotten too soon"; return 1; fi
+  if has_forgotten 1 1 || has_forgotten 2 1; then echo "it was forgotten too soon"; return 1; fi
   cut_log
   # shellcheck disable=SC2086
   run_redis "${servers[2]}" $redis_words || return
@@ -110,8 +112,13 @@ test_loads_are_forgotten_late() {
     done
   done
   wait "$id" || { cat "$run/mover"; return 1; }
-  agrees 3 2 && wrong=$(count_wrong 340 '')
+  agrees 3 2 && is_asked_for_its_disk "${servers[2]}" && wrong=$(count_wrong 340 '')
   [ "$wrong" -eq 0 ] && [ "$(count_rows "${servers[2]}")" -eq 340 ]
+}
+
+# A server that can say what is on its disk was asked. Others have been given time.
+is_asked_for_its_disk() {
+  ! redis-cli -p "$1" command info waitaof | grep -q . || redis-cli -p "$1" info commandstats | grep -q cmdstat_waitaof
 }
 
 # A partition that has snapshots alone comes back with the last one, after the course.
@@ -136,7 +143,8 @@ test_source_comes_back_older() {
   if wait "$id"; then echo "the mover had ended too soon"; return 1; fi
   run_redis "${servers[0]}" || return
   refused "partition 1 has come back with less: it is in course 1.*it had given" 2 old new || return
-  is_shut "${servers[0]}" && goes_on 1 && [ "$(count_wrong 20 b)" -eq 0 ] && [ "$(count_rows "${servers[0]}")" -eq 0 ] || return
+  is_shut "${servers[0]}" && goes_on 1 || return
+  [ "$(count_wrong 20 b)" -eq 0 ] && [ "$(count_rows "${servers[0]}")" -eq 0 ] || return
   fill 340 c && move 3 new old && agrees 1 3 && [ "$(count_wrong 340 c)" -eq 0 ]
 }
 
@@ -153,7 +161,8 @@ test_movers_that_accept_at_once() {
   echo "$done of 3 movers have come to the end"
   [ "$done" -gt 0 ] && move 2 old new && agrees 3 2 || return
   lost=$(redis-cli -p "${servers[2]}" hget squall:losses rows)
-  [ "$(redis-cli -p "${servers[2]}" hget squall:losses times)" = 1 ] && [ "$(count_wrong 340 '')" -eq "$lost" ] || return
+  [ "$(redis-cli -p "${servers[2]}" hget squall:losses times)" = 1 ] || return
+  [ "$(count_wrong 340 '')" -eq "$lost" ] || return
   fill 340 b && move 3 new old && agrees 1 3 && [ "$(count_wrong 340 b)" -eq 0 ]
 }
 
@@ -162,5 +171,60 @@ test_eviction_of_own_keys() {
   deploy && redis-cli -p "${servers[1]}" config set maxmemory-policy allkeys-lru || return
   refused "partition 2: maxmemory-policy is allkeys-lru" 2 old new || return
   if "$bin/squall-redis-mover" --init --first "$run/old.json" "${parts[@]}"; then return 1; fi
-  redis-cli -p "${servers[1]}" config set maxmemory-policy volatile-lru && move 2 old new && agrees 3 2
+  redis-cli -p "${servers[1]}" config set maxmemory-policy volatile-lru && fill 340 '' || return
+  # It had done so: its rows are there, and nothing says which they are. Its routers are shut out.
+  redis-cli -p "${servers[1]}" --scan --pattern 'squall:*' | xargs redis-cli -p "${servers[1]}" del || return
+  refused "partition 2 has come back with less: it is in no course, and course 1 had begun" 2 old new || return
+  redis-cli -p "${servers[1]}" acl getuser squall-1 | grep -qx on && return 1
+  goes_on 2 && [ "$(count_wrong 340 '')" -eq 0 ]
+}
+
+# Whether the supervisor has said so of a partition.
+is_said_of() {
+  is_said "partition $1 is $2" "$run/supervisor"
+}
+
+# Ends the server of a partition in order, does something to its files, and starts it again.
+restart() {
+  local at=${servers[$1 - 1]}
+  shift
+  redis-cli -p "$at" shutdown
+  wait "${ids[$at]}"
+  "$@"
+  # shellcheck disable=SC2086
+  run_redis "$at" $redis_words
+}
+
+# A supervisor lets routers in again at a partition that was restarted, and not at one that has lost its data or to
+# which keys are on their way.
+test_supervise() {
+  local patience=300 id moving began took redis_words="--appendonly yes"
+  deploy && fill 340 '' || return
+  launch "$run" supervisor "$bin/squall-redis-node" --supervise "${parts[@]}"
+  await hears_signals "$id" && restart 2 true || return
+  began=$EPOCHREALTIME
+  await is_said_of 2 "let in again" || return
+  took=$(((${EPOCHREALTIME/./} - ${began/./}) / 1000))
+  echo "it was let in after $took ms"
+  [ "$took" -lt 5000 ] && await is_answered 600 || return
+  # Keys that were given and are not loaded: the mover of the course has to load them.
+  start_move 2 old new --chunk 2 --pause 600000
+  moving=$id
+  await has_loaded_of 1 2 || return
+  kill -KILL "$moving"
+  wait "$moving" 2> /dev/null
+  redis-cli -p "${servers[0]}" fcall squall_give 0 2 0000014a00000000 0000016000000000 || return
+  restart 3 true && await is_said_of 3 "not let in: keys are on their way" && is_shut "${servers[2]}" || return
+  move 2 old new && agrees 3 2 && [ "$(count_wrong 340 '')" -eq 0 ] || return
+  restart 3 rm -rf "$run/${servers[2]}/appendonlydir" "$run/${servers[2]}/dump.rdb" || return
+  await is_said_of 3 "not let in: it is in no course, and course 2 had begun" || return
+  # It goes on to look.
+  sleep 2.5
+  is_shut "${servers[2]}" || return
+  cat "$run/supervisor"
+  [ "$(grep -c 'course 2 had begun' "$run/supervisor")" -eq 1 ]
+}
+
+is_answered() {
+  [ "$(redis-cli -p "${proxies[0]}" get "$1:0")" = "v$1" ]
 }

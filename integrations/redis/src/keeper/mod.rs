@@ -1,10 +1,11 @@
 //! A node that keeps its board in a file.
 
 mod file;
+mod supervise;
 
 use crate::args::{Args, Usage};
 use crate::bus::{Node, Options};
-use crate::fault::{note, Done};
+use crate::fault::{note, Done, Fault};
 use crate::{keep_alive, stop, tls};
 use file::BoardFile;
 use std::sync::mpsc;
@@ -21,12 +22,15 @@ pub const USAGE: Usage = Usage {
         "streams",
         "board",
         "every",
+        "part",
+        "password-file",
+        "secret-file",
         keep_alive::OPTION,
         tls::OPTIONS[0],
         tls::OPTIONS[1],
         tls::OPTIONS[2],
     ],
-    flags: &[tls::FLAGS[1]],
+    flags: &["supervise", tls::FLAGS[0], tls::FLAGS[1]],
 };
 
 /// The pause after the file could not be written.
@@ -34,6 +38,24 @@ const AGAIN: Duration = Duration::from_secs(1);
 
 /// Runs the program until it is asked to end, unless what it needs is missing.
 pub fn run(args: &Args) -> Done<()> {
+    if !args.has("supervise") {
+        return match ["part", "password-file", "secret-file"].into_iter().find(|name| args.has(name)) {
+            Some(name) => Err(Fault::of_words(format!("--{name} needs --supervise"))),
+            None => keep(args),
+        };
+    }
+    if args.has("board") {
+        supervise::start(args)?;
+        return keep(args);
+    }
+    stop::watch(|| ())?;
+    supervise::start(args)?;
+    stop::wait();
+    Ok(())
+}
+
+/// Keeps the board until the program is asked to end.
+fn keep(args: &Args) -> Done<()> {
     let file = BoardFile::new(args.need("board")?);
     let every = Duration::from_millis(args.number("every", 100, 1, 3_600_000)?);
     let options = Options::of(args, "node")?;

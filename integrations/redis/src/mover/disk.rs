@@ -1,5 +1,5 @@
-//! When the loads of a destination are on its disk. Only then may the source forget them: otherwise a destination whose
-//! machine crashes comes back without rows that nobody else has.
+//! When the loads of a destination are on its disk. Only then may the source forget them: otherwise a destination
+//! whose machine crashes comes back without rows that nobody else has.
 
 use super::partition::Partition;
 use super::steps::Step;
@@ -112,7 +112,8 @@ impl Disk {
         Ok(mem::take(&mut self.waiting))
     }
 
-    /// Asks the server to say when all writes before are on its disk. The log has one order, so a mark in it is enough.
+    /// Asks the server to say when all writes before are on its disk. The log has one order, so a mark in it is
+    /// enough.
     fn ask(&mut self) -> Done<()> {
         self.asked = Some((self.waiting.len(), Instant::now()));
         if let Rule::Ask(conn) = &mut self.rule {

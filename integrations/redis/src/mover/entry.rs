@@ -1,4 +1,5 @@
-//! How a course begins at all partitions. Before routers are let in anywhere, it is seen that none has come back with less.
+//! How a course begins at all partitions. Before routers are let in anywhere, it is seen that none has come back
+//! with less.
 
 use super::losses::Loss;
 use super::partition::{Beginning, Partition};
@@ -8,7 +9,8 @@ use crate::fault::{note, Done, Fault};
 use crate::resp::Value;
 use std::collections::BTreeMap;
 
-/// The partitions of a course that has begun at all of them, over the connections by which it was seen that none has less.
+/// The partitions of a course that has begun at all of them, over the connections by which it was seen that none
+/// has less.
 pub struct Entered {
     /// All of them, those of the old plan first.
     pub partitions: Vec<Partition>,
@@ -17,34 +19,46 @@ pub struct Entered {
 }
 
 impl Mover {
-    /// Begins the course at each partition. Nobody is let in yet. If a partition refuses, nothing has begun, but for two
-    /// movers at once.
+    /// Begins the course at each partition. Nobody is let in yet. If a partition refuses, nothing has begun, but
+    /// for two movers at once.
     pub(super) fn enter(&self) -> Done<Entered> {
         let mut partitions = self.partitions()?;
-        for partition in &mut partitions {
-            partition.prepare()?;
-            partition.refuse_eviction()?;
-        }
+        partitions.iter_mut().try_for_each(|it| it.prepare().and_then(|()| it.refuse_eviction()))?;
         let survey = Survey::of(partitions.iter_mut())?;
-        for partition in &partitions {
-            let known = survey.facts[&partition.part].number;
-            if known > self.number {
-                return Err(partition.explain(&format!("SQUALL LATE {known}")));
-            }
+        let number = |part| survey.facts[&part].number;
+        if let Some(later) = partitions.iter().find(|it| number(it.part) > self.number) {
+            return Err(later.explain(&format!("SQUALL LATE {}", number(later.part))));
         }
         let losses = self.losses(&mut partitions, &survey)?;
         self.refuse(&mut partitions, &survey, &losses)?;
-        let beginning = |part| self.beginning(part, &survey);
-        let known = partitions.iter_mut().filter(|it| !losses.contains_key(&it.part));
-        known.into_iter().try_for_each(|it| it.may_begin(&beginning(it.part)))?;
+        self.begin(&mut partitions, &survey, &losses)?;
+        Ok(Entered { partitions, survey })
+    }
+
+    /// Begins the course. Partitions whose losses are accepted go on with what they have.
+    fn begin(&self, partitions: &mut [Partition], survey: &Survey, losses: &BTreeMap<u32, Loss>) -> Done<()> {
+        let beginning = |part| self.beginning(part, survey);
+        let is_known = |part| !losses.contains_key(&part) || survey.facts[&part].number == self.number;
+        let mut known = partitions.iter_mut().filter(|it| is_known(it.part));
+        known.try_for_each(|it| it.may_begin(&beginning(it.part)))?;
         for at in 0..partitions.len() {
             let part = partitions[at].part;
-            match losses.get(&part) {
-                Some(loss) => self.accept(&mut partitions, at, &survey, loss)?,
-                None => partitions[at].begin(&beginning(part))?,
-            }
+            let Some(loss) = losses.get(&part) else {
+                partitions[at].begin(&beginning(part))?;
+                continue;
+            };
+            let may_remove = self.is_vouched(part, survey, losses);
+            self.accept(partitions, at, (survey, loss), may_remove)?;
         }
-        Ok(Entered { partitions, survey })
+        Ok(())
+    }
+
+    /// Whether a partition has said that the plans are the right ones: one that has lost nothing, or this one.
+    fn is_vouched(&self, part: u32, survey: &Survey, losses: &BTreeMap<u32, Loss>) -> bool {
+        let is_in = |part: &u32| survey.facts[part].number == self.number;
+        let knows = |it: &&u32| survey.facts[it].number > 0 && self.old.parts.contains(it);
+        let mut others = survey.facts.keys().filter(knows);
+        is_in(&part) || others.any(|it| !losses.contains_key(it))
     }
 
     pub(super) fn beginning<'a>(&'a self, part: u32, survey: &Survey) -> Beginning<'a> {
@@ -69,8 +83,8 @@ impl Mover {
         Ok(losses)
     }
 
-    /// Whether it should, as far as the plans say. One that the old plan does not name has none before the course has begun
-    /// everywhere: it may be new, or may have been away.
+    /// Whether it should, as far as the plans say. One that the old plan does not name has none before the course
+    /// has begun everywhere: it may be new, or may have been away.
     fn should_have_keys(&self, part: u32, survey: &Survey) -> bool {
         let has_begun = survey.facts[&part].number == self.number || survey.fence() == self.number;
         self.old.parts.contains(&part) || has_begun && self.new.parts.contains(&part)
@@ -92,11 +106,12 @@ impl Mover {
         let Some(last) = refused.last() else {
             return Ok(());
         };
-        for loss in &refused {
-            note(format!("squall-redis-mover: {loss}"));
-        }
+        refused.iter().for_each(|loss| note(format!("squall-redis-mover: {loss}")));
         for partition in partitions {
             let part = partition.part;
+            if refused.iter().any(|it| it.part == part) {
+                partition.shut(&survey.facts[&part])?;
+            }
             let is_in = survey.facts[&part].number == self.number && !losses.contains_key(&part);
             if is_in && !(survey.is_restarted(part) && survey.awaits(part)) {
                 partition.admit(&self.secret)?;
@@ -120,8 +135,8 @@ impl Partition {
             return Ok(());
         }
         Err(Fault::new(format!(
-            "partition {}: maxmemory-policy is {policy}: a full server would remove the keys squall:*, without which it \
-             does not know which keys it has; set it to noeviction, or to volatile-*, which removes only keys that end",
+            "partition {}: maxmemory-policy is {policy}: a full server would remove the keys squall:*, without which \
+             it does not know which keys it has; set it to noeviction, or to volatile-*, which removes only keys that end",
             self.part
         )))
     }

@@ -63,14 +63,15 @@ impl fmt::Display for Loss {
 }
 
 impl Mover {
-    /// Goes on with what a partition has. No mover that was asleep does a step any more by what the partition knew before.
-    /// Rows that it has and should not have are removed. Its edges rise to what the other ends know.
+    /// Goes on with what a partition has. No mover that was asleep does a step any more by what the partition knew
+    /// before. Rows that it has and should not have are removed, if the plans are known to be right. Its edges rise
+    /// to what the other ends know.
     pub(super) fn accept(
         &self,
         partitions: &mut [Partition],
         at: usize,
-        survey: &Survey,
-        loss: &Loss,
+        (survey, loss): (&Survey, &Loss),
+        may_remove: bool,
     ) -> Done<()> {
         let next = survey.next_generation(loss.part);
         let mut others = BTreeMap::new();
@@ -81,7 +82,8 @@ impl Mover {
         let edges: Vec<Rank> = self.moves.iter().map(|it| self.edge(it, loss.part, &others)).collect();
         let own = survey.facts[&loss.part].clone();
         let holds = Holds { part: loss.part, legs: legs(&self.old)?, moves: &self.moves, edges: &edges };
-        let removed = partitions[at].remove(&own, &holds)?;
+        partitions[at].shut(&own)?;
+        let removed = if may_remove { partitions[at].remove(&own, &holds)? } else { 0 };
         let course = self.beginning(loss.part, survey);
         partitions[at].accept(&course, &edges, [own.generation, next, loss.rows])?;
         note(format!("squall-redis-mover: accepted: {loss}"));
@@ -137,21 +139,31 @@ impl Partition {
             foreign.extend(keys.into_iter().filter(wrong));
             Ok(())
         })?;
-        foreign.chunks(REMOVED).try_for_each(|keys| self.unlink(own, keys))?;
+        for keys in foreign.chunks(REMOVED) {
+            let unlink = [b"UNLINK".as_slice()].into_iter().chain(keys.iter().map(Vec::as_slice)).collect();
+            self.unless_changed(own, &[unlink])?;
+        }
         Ok(foreign.len())
     }
 
-    /// Removes rows, unless another mover has let routers in here meanwhile.
-    fn unlink(&mut self, own: &State, keys: &[Vec<u8>]) -> Done<()> {
+    /// Shuts out all routers. Those that a server has kept over a restart, or that are there since it lost keys without one,
+    /// would be answered by what it has.
+    pub fn shut(&mut self, own: &State) -> Done<()> {
+        let users = self.users()?;
+        let resets: Vec<Vec<&[u8]>> =
+            users.iter().map(|name| vec![b"ACL".as_slice(), b"SETUSER", name.as_bytes(), b"reset"]).collect();
+        self.unless_changed(own, &resets)
+    }
+
+    /// Does commands, unless another mover has let routers in here meanwhile.
+    fn unless_changed(&mut self, own: &State, commands: &[Vec<&[u8]>]) -> Done<()> {
         self.ask(&["WATCH", "squall:generation"])?;
         let now = self.ask(&["GET", "squall:generation"])?.text();
         if now.parse().unwrap_or(0) != own.generation {
             return Err(self.explain("SQUALL CHANGED"));
         }
-        let words: Vec<&[u8]> =
-            [b"UNLINK".as_slice()].into_iter().chain(keys.iter().map(Vec::as_slice)).collect();
         self.ask(&["MULTI"])?;
-        self.ask(&words)?;
+        commands.iter().try_for_each(|words| self.ask(words).map(drop))?;
         match self.ask(&["EXEC"])? {
             Value::List(_) => Ok(()),
             _ => Err(self.explain("SQUALL CHANGED")),

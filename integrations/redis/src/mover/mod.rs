@@ -7,13 +7,13 @@ mod index;
 mod losses;
 mod names;
 mod pace;
-mod partition;
+pub(crate) mod partition;
 mod patience;
 mod progress;
 mod sizes;
-mod state;
+pub(crate) mod state;
 mod steps;
-mod survey;
+pub(crate) mod survey;
 
 use crate::args::{Args, Usage};
 use crate::bus::{Node, Options};
@@ -195,8 +195,8 @@ impl Mover {
         all.map(|(&part, server)| Partition::open(part, server, self.number)).collect()
     }
 
-    /// Loads what was given to partitions that were restarted. Routers may have heard of loads that were lost, and send plain
-    /// commands there.
+    /// Loads what was given to partitions that were restarted. Routers may have heard of loads that were lost, and
+    /// send plain commands there.
     fn catch_up(&self, job: &Job, entered: &Entered) -> Done<()> {
         let mut pairs: BTreeMap<(u32, u32), Vec<Move>> = BTreeMap::new();
         for it in self.moves.iter().filter(|it| entered.survey.is_restarted(it.dest)) {

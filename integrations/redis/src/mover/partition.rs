@@ -82,6 +82,11 @@ impl Partition {
         Ok(partition)
     }
 
+    /// The same partition, for the course of that number.
+    pub fn of_course(self, number: u32) -> Partition {
+        Partition { number: number.to_string(), ..self }
+    }
+
     /// Loads the functions that make it a partition.
     pub fn prepare(&mut self) -> Done<()> {
         self.ask(&["FUNCTION", "LOAD", "REPLACE", GUARD]).map(drop)
@@ -260,7 +265,8 @@ impl Partition {
                 "partition {part}: course {known} is not over; run its mover to the end"
             ),
             "EMPTY" => format!(
-                "partition {part} has begun no course, and the old plan gives it keys: did it lose its data? (--init begins course 1, --accept-loss {part} goes on without it)"
+                "partition {part} has begun no course, and the old plan gives it keys: did it lose its data? \
+                 (--init begins course 1, --accept-loss {part} goes on without it)"
             ),
             "BEFORE" => format!(
                 "partition {part}: partition {known} was let in with less meanwhile; start this mover again"

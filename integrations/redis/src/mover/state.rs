@@ -115,6 +115,11 @@ impl Life {
 impl Partition {
     /// What it says of itself.
     pub fn state(&mut self) -> Done<State> {
+        // A server that has lost all it had has no functions either. A mover loads them, and a supervisor does not.
+        let is_empty = self.ask(&["EXISTS", "squall:number"])?.text() == "0";
+        if is_empty && self.ask(&["FUNCTION", "LIST", "LIBRARYNAME", "squall"])?.list().is_empty() {
+            return Ok(State::default());
+        }
         let said = self.ask(&["FCALL", "squall_state", "0"])?;
         State::read(said)
             .ok_or_else(|| Fault::new(format!("partition {}: a state of another form", self.part)))

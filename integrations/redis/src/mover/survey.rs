@@ -11,8 +11,8 @@ use std::fmt;
 /// others may have seen or heard of it before.
 const EPOCH: u64 = 1 << 32;
 
-/// What all partitions say of themselves, asked twice. Another mover may be at work meanwhile, and what a partition knows
-/// only rises. So what was claimed of one at first holds of what it says later, unless it has lost something.
+/// What all partitions say of themselves, asked twice. Another mover may be at work meanwhile, and what a partition
+/// knows only rises. So what was claimed of one at first holds of what it says later, unless it has lost something.
 pub struct Survey {
     /// What each said at first.
     pub claims: BTreeMap<u32, State>,
@@ -108,8 +108,8 @@ impl Survey {
         })
     }
 
-    /// All signs that a partition which should have keys has lost something. In course `number` one without a course is
-    /// empty.
+    /// All signs that a partition which should have keys has lost something. In course `number` one without a
+    /// course is empty.
     pub fn signs(&self, part: u32, number: u32) -> Vec<Sign> {
         let own = &self.facts[&part];
         let mut signs = Vec::new();
@@ -168,7 +168,8 @@ impl fmt::Display for Sign {
                 write!(f, "it had given [{lo},{hi}) to partition {dest}, and has not now")
             }
             Sign::NoLog => {
-                write!(f, "its server was restarted and writes no log: what it was told since its last snapshot may be gone")
+                f.write_str("its server was restarted and writes no log: ")?;
+                f.write_str("what it was told since its last snapshot may be gone")
             }
         }
     }

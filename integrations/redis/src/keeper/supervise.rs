@@ -1,0 +1,131 @@
+//! Lets routers in again at partitions whose servers were restarted and have lost nothing.
+
+use crate::args::Args;
+use crate::conn::Server;
+use crate::fault::{note, Done, Fault};
+use crate::mover::partition::Partition;
+use crate::mover::survey::Survey;
+use crate::{stop, user, DEFAULT_SECRET};
+use std::collections::BTreeMap;
+use std::sync::Arc;
+use std::thread;
+use std::time::Duration;
+
+/// How often each partition is looked at.
+const ROUND: Duration = Duration::from_secs(1);
+
+/// The partitions of a deployment, and what their routers' users need.
+struct Supervisor {
+    servers: BTreeMap<u32, Server>,
+    secret: String,
+}
+
+/// Begins to look at each partition, in a thread for each: one that does not answer holds up no other.
+pub fn start(args: &Args) -> Done<()> {
+    let password = args.password("password-file")?;
+    let with = |server| Server { password: password.clone(), ..server };
+    let supervisor = Arc::new(Supervisor {
+        servers: args.parts()?.into_iter().map(|(part, server)| (part, with(server))).collect(),
+        secret: args.password("secret-file")?.unwrap_or(DEFAULT_SECRET.into()),
+    });
+    for &part in supervisor.servers.keys() {
+        let supervisor = Arc::clone(&supervisor);
+        thread::spawn(move || supervisor.watch(part));
+    }
+    Ok(())
+}
+
+impl Supervisor {
+    /// Looks at a partition until the program is asked to end. Why it is not let in is said once.
+    fn watch(&self, part: u32) {
+        let mut said = String::new();
+        while !stop::is_asked() {
+            let now = match self.look(part) {
+                Ok(false) => String::new(),
+                Ok(true) => {
+                    note(format!("squall-redis-node: partition {part} is let in again"));
+                    String::new()
+                }
+                Err(fault) => fault.to_string(),
+            };
+            if !now.is_empty() && now != said {
+                note(format!("squall-redis-node: partition {part} is not let in: {now}"));
+            }
+            said = now;
+            stop::sleep(ROUND);
+        }
+    }
+
+    /// Whether routers were let in at a partition just now. A server that was restarted has no users of routers.
+    fn look(&self, part: u32) -> Done<bool> {
+        let mut partition = Partition::open(part, &self.servers[&part], 0)?;
+        let number = partition.ask(&["GET", "squall:number"])?.text();
+        if !number.is_empty() && partition.users()?.contains(&user(&number)) {
+            return Ok(false);
+        }
+        let opened = self.servers.iter().map(|(&part, server)| Partition::open(part, server, 0));
+        let mut all = opened.collect::<Done<Vec<_>>>()?;
+        let survey = Survey::of(all.iter_mut())?;
+        if let Some(why) = why_not(&survey, part) {
+            return Err(Fault::new(why));
+        }
+        match all.into_iter().find(|it| it.part == part) {
+            // What it says was heard over the same connection, which ends with the run of its server.
+            Some(partition) => partition.of_course(survey.facts[&part].number).admit(&self.secret)?,
+            None => return Ok(false),
+        }
+        Ok(true)
+    }
+}
+
+/// Why routers must not be let in at a partition, or can't be.
+fn why_not(survey: &Survey, part: u32) -> Option<String> {
+    let own = &survey.facts[&part];
+    let number = own.number;
+    if number == 0 && survey.seen(part).0 == 0 {
+        return Some("it is in no course: a mover lets it in".to_string());
+    }
+    let signs: Vec<String> = survey.signs(part, number).iter().map(ToString::to_string).collect();
+    if !signs.is_empty() {
+        return Some(format!("{}; the mover says what is lost, and how to go on", signs.join("; ")));
+    }
+    if own.run.is_none() {
+        return Some(format!("it was let in by an earlier version: run the mover of course {number} once"));
+    }
+    survey.awaits(part).then(|| format!("keys are on their way to it: run the mover of course {number}"))
+}
+
+#[cfg(test)]
+mod tests {
+    use super::*;
+    use crate::mover::state::{Life, Role, Stand, State};
+    use squall::Rank;
+
+    fn state(number: u32, role: Role, edge: u64) -> State {
+        let peer = if role == Role::Out { 3 } else { 1 };
+        let stand = Stand { lo: Rank(100), role, peer, edge: Rank(edge), forgot: Rank(100), gone: 0 };
+        let run = Some("first".to_string());
+        State { number, generation: 1, fence: number, run, seen: BTreeMap::new(), moves: vec![stand] }
+    }
+
+    fn why(change: impl FnOnce(&mut State, &mut Life)) -> Option<String> {
+        let mut own = state(2, Role::In, 140);
+        let mut life = Life { run: "second".to_string(), has_log: true };
+        change(&mut own, &mut life);
+        let states = BTreeMap::from([(1, state(2, Role::Out, 140)), (3, own)]);
+        let lives = BTreeMap::from([(1, Life::default()), (3, life)]);
+        why_not(&Survey { claims: states.clone(), facts: states, lives }, 3)
+    }
+
+    #[test]
+    fn what_has_lost_nothing_is_let_in() {
+        assert_eq!(why(|_, _| ()), None);
+        let says = |said: Option<String>, words: &str| said.is_some_and(|said| said.contains(words));
+        // A mover has fenced a later course elsewhere.
+        assert!(says(why(|own, _| own.number = 1), "course 2 had begun everywhere"));
+        assert!(says(why(|own, _| *own = State::default()), "in no course"));
+        assert!(says(why(|own, _| own.moves[0].edge = Rank(120)), "on their way to it"));
+        assert!(says(why(|own, _| own.run = None), "an earlier version"));
+        assert!(says(why(|_, life| life.has_log = false), "writes no log"));
+    }
+}
