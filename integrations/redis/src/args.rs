@@ -3,6 +3,7 @@
 use crate::conn::Server;
 use crate::fault::{note, say, Done, Fault, Trying};
 use crate::keep_alive::KeepAlive;
+use crate::secret;
 use crate::tls::Peer;
 use std::collections::BTreeMap;
 use std::ffi::OsString;
@@ -97,6 +98,24 @@ impl Args {
             return Err(Fault::new(format!("--{name} {path}: the first line is no password, or has blanks")));
         }
         Ok(Some(line))
+    }
+
+    /// The secret that all programs of a deployment share: the first line of the file that `--secret-file` names.
+    ///
+    /// # Errors
+    ///
+    /// None is given, or it could be guessed.
+    pub fn secret(&self) -> Done<String> {
+        const MADE: &str = "all programs of a deployment share one, made by `openssl rand -hex 32 > FILE`";
+        let secret = self.password("secret-file")?;
+        let secret =
+            secret.ok_or_else(|| Fault::of_words(format!("--secret-file FILE is missing; {MADE}")))?;
+        if secret.len() < secret::LEAST {
+            let least = secret::LEAST;
+            let words = format!("--secret-file: the secret has less than {least} characters; {MADE}");
+            return Err(Fault::of_words(words));
+        }
+        Ok(secret)
     }
 
     /// The partitions of `--part P=HOST:PORT`, without a password.

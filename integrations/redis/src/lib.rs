@@ -18,14 +18,12 @@ pub mod keymap;
 pub mod mover;
 pub mod proxy;
 pub mod resp;
+pub mod secret;
 pub mod stop;
 pub mod tls;
 
 /// The functions of a partition.
 pub const GUARD: &str = concat!(include_str!("guard.lua"), include_str!("losses.lua"));
-
-/// The password of the users `squall-N`, if none is given.
-pub const DEFAULT_SECRET: &str = "squall";
 
 /// The user as which a router of the course `number` logs in at a partition.
 pub fn user(number: impl std::fmt::Display) -> String {

@@ -278,7 +278,7 @@ test_keep_alive() {
   are_probed "${ids[$proxy]}" 5 40 || return
   grep -q "127.0.0.1:$proxy " "$run/timers" || { echo "no connection of a client"; return 1; }
   exec 3>&-
-  launch "$run" node "$bin/squall-redis-node" --first old.json --bus "127.0.0.1:$bus" --board board --keep-alive 20
+  launch "$run" node "$bin/squall-redis-node" --first old.json --bus "127.0.0.1:$bus" --secret-file "$secret" --board board --keep-alive 20
   are_probed "$id" 2 20 || return
   for key in 400:0 401:0 600:0 601:0; do redis-cli -p "$proxy" set "$key" x || return; done
   # After its first chunks it waits. Of both sources it has two connections, and of the destination two.
@@ -306,7 +306,7 @@ test_wrong_words() {
   done
   for at in "${servers[@]}"; do redis-cli -p "$at" get squall:number | grep -qx 1 || return; done
   agrees 1 1 && ! "$bin/squall-redis-proxy" --listen 127.0.0.1:0 --first "$run/old.json" --bus "$bus_at" "${parts[@]}" \
-    --keep-alive 1h 2> "$run/said" || return
+    --secret-file "$secret" --keep-alive 1h 2> "$run/said" || return
   grep -- "--keep-alive 1h: not between 0 and 32767" "$run/said" || return
   # One server for two partitions.
   refused "partition 1 has the same address" 2 old new --part "4=127.0.0.1:${servers[0]}" && refused "is given twice" 2 old new \

@@ -5,6 +5,9 @@
 # More words for the proxies, and for movers. How servers listen, and how redis-cli connects.
 limits=()
 mover_words=()
+# The secret that all programs of a test share.
+secret=$work/secret
+od -An -tx1 -N32 /dev/urandom | tr -d ' \n' > "$secret"
 listen=(--port)
 secure=()
 # The process ids of what listens on a port.
@@ -120,7 +123,7 @@ run_proxy() {
   local at=$1 log=$run/proxy.$RANDOM$RANDOM id
   shift
   launch "$run" "$log" "$@" "$bin/squall-redis-proxy" --listen "127.0.0.1:$at" --first old.json --bus "$bus_at" \
-    --threads 2 --wait "${patience:-10000}" "${parts[@]}" "${limits[@]}"
+    --secret-file "$secret" --threads 2 --wait "${patience:-10000}" "${parts[@]}" "${limits[@]}"
   await serves_or_ended "$log" "$id" && ! has_ended "$id" || return
   port=$(sed -n 's/.*serves at 127.0.0.1://p' "$log")
   ids[$port]=$id
@@ -154,7 +157,7 @@ E2
     servers+=("$port")
     parts+=(--part "$part=127.0.0.1:$port")
   done
-  "$bin/squall-redis-mover" --init --first "$run/old.json" "${parts[@]}" "${mover_words[@]}" || return
+  "$bin/squall-redis-mover" --init --first "$run/old.json" --secret-file "$secret" "${parts[@]}" "${mover_words[@]}" || return
   proxies=()
   for _ in 1 2; do
     run_proxy 0 env "$@" || return
@@ -173,7 +176,7 @@ set_mover() {
   local number=$1 old=$2 new=$3
   shift 3
   mover=("$bin/squall-redis-mover" --number "$number" --old "$run/$old.json" --new "$run/$new.json" --first "$run/old.json"
-    --bus "$bus_at" "${parts[@]}" --chunk 20 --pause 2 --settle "${settle-0}" "${mover_words[@]}"
+    --bus "$bus_at" --secret-file "$secret" "${parts[@]}" --chunk 20 --pause 2 --settle "${settle-0}" "${mover_words[@]}"
     "$@")
 }
 

@@ -49,7 +49,19 @@ fn nobody_needs_to_read() {
 #[test]
 fn a_bad_plan_is_named() {
     let plan = concat!(env!("CARGO_MANIFEST_DIR"), "/Cargo.toml");
-    let rest = ["--init", "--part", "1=127.0.0.1:1", "--board", "x", "--bus", "127.0.0.1:1"];
+    let secret = concat!(env!("CARGO_MANIFEST_DIR"), "/rustfmt.toml").to_string();
+    let secret = secret.as_str();
+    let rest = [
+        "--init",
+        "--part",
+        "1=127.0.0.1:1",
+        "--secret-file",
+        secret,
+        "--board",
+        "x",
+        "--bus",
+        "127.0.0.1:1",
+    ];
     for (program, words) in [(PROGRAMS[1], &rest[..3]), (PROGRAMS[2], &rest[3..])] {
         let (status, said) = run(Command::new(program).args(["--first", plan]).args(words));
         assert_eq!(status, Some(1), "{said}");

@@ -1,14 +1,19 @@
 //! What carries frames: the streams of a Redis server, or NATS.
 
-use super::entry::{Entry, Places, Streams};
+use super::entry::{Heard, Places, Streams};
 use super::nats::{Nats, NatsEars};
 use super::nats_address::Address;
+use super::seal::Seal;
 use crate::args::{resolve, Args};
 use crate::conn::{Conn, Server};
 use crate::fault::Done;
 use crate::keep_alive::KeepAlive;
 use crate::tls::Peer;
 use std::sync::{Mutex, PoisonError};
+use std::time::Duration;
+
+/// How long a server may take for an answer. A reader is answered each second.
+const PATIENCE: Duration = Duration::from_secs(4);
 
 /// A bus, and what is sent over it.
 pub enum Carrier {
@@ -40,19 +45,21 @@ impl Carrier {
         let addr = args.need("bus")?;
         let name = args.get("streams").unwrap_or("squall");
         let password = args.password("bus-password-file")?;
+        let secret = args.secret()?;
         if let Some(address) = Address::read(addr, name, password.as_deref())? {
-            return Nats::new(address, args, hears_all).map(Carrier::Nats);
+            return Nats::new(address, args, &secret, hears_all).map(Carrier::Nats);
         }
         let (tls, keep_alive) = (Peer::of(args, "tls-bus", addr)?, KeepAlive::of(args)?);
         let server = Server { addr: resolve(addr)?, password, tls, keep_alive };
-        Ok(Carrier::Redis(Redis { server, streams: Streams::new(name), sender: Mutex::new(None) }))
+        let streams = Streams::new(name, Seal::new(&secret, name));
+        Ok(Carrier::Redis(Redis { server, streams, sender: Mutex::new(None) }))
     }
 
     /// Connects, to hear others. Over Redis it begins with all frames that the stream still has.
     pub fn listen(&self) -> Done<Ears<'_>> {
         match self {
             Carrier::Redis(redis) => {
-                let mut conn = Conn::open(&redis.server)?;
+                let mut conn = redis.connect()?;
                 let places = redis.streams.begin(&mut conn)?;
                 Ok(Ears::Redis(&redis.streams, Box::new(conn), places))
             }
@@ -72,7 +79,7 @@ impl Carrier {
     pub fn write(&self, from: &str, frames: &[Vec<u8>], re: Option<&str>) -> Done<()> {
         match self {
             Carrier::Redis(redis) => redis.send(|streams, conn| streams.write(conn, from, frames, re)),
-            Carrier::Nats(nats) => nats.write(frames, re),
+            Carrier::Nats(nats) => nats.write(from, frames, re),
         }
     }
 
@@ -80,12 +87,18 @@ impl Carrier {
     pub fn show(&self, from: &str, frames: &[Vec<u8>]) -> Done<()> {
         match self {
             Carrier::Redis(redis) => redis.send(|streams, conn| streams.show(conn, from, frames)),
-            Carrier::Nats(nats) => nats.show(frames),
+            Carrier::Nats(nats) => nats.show(from, frames),
         }
     }
 }
 
 impl Redis {
+    fn connect(&self) -> Done<Conn> {
+        let mut conn = Conn::open(&self.server)?;
+        conn.set_patience(PATIENCE)?;
+        Ok(conn)
+    }
+
     /// Writes over the connection that was used last, or over a new one if the server has ended that meanwhile. Frames
     /// that it had taken are then written twice, which changes nothing.
     fn send(&self, write: impl Fn(&Streams, &mut Conn) -> Done<()>) -> Done<()> {
@@ -96,7 +109,7 @@ impl Redis {
                 return Ok(());
             }
         }
-        let mut conn = Conn::open(&self.server)?;
+        let mut conn = self.connect()?;
         write(&self.streams, &mut conn)?;
         *sender = Some(conn);
         Ok(())
@@ -105,7 +118,7 @@ impl Redis {
 
 impl Ears<'_> {
     /// The next frames and digests, after a wait of at most a second.
-    pub fn read(&mut self) -> Done<(Vec<Entry>, Vec<Entry>)> {
+    pub fn read(&mut self) -> Done<Heard> {
         match self {
             Ears::Redis(streams, conn, places) => streams.read(conn, places),
             Ears::Nats(ears) => ears.read(),

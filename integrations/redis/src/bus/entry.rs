@@ -1,10 +1,11 @@
 //! Entries of the streams.
 
+use super::seal::{About, Seal};
 use crate::conn::Conn;
 use crate::fault::{Done, Fault};
 use crate::resp::Value;
 
-/// An entry of a stream: `from NAME frame BYTES`, and of a repair also `re ID`.
+/// An entry of a stream: `from NAME mac CODE frame BYTES`, and of a repair also `re ID`.
 pub struct Entry {
     /// Its place in the stream.
     pub id: String,
@@ -14,6 +15,17 @@ pub struct Entry {
     pub frame: Vec<u8>,
     /// The digest that it answers.
     pub re: Option<String>,
+}
+
+/// What was heard at once.
+#[derive(Default)]
+pub struct Heard {
+    /// Frames of reports and repairs.
+    pub frames: Vec<Entry>,
+    /// Digests.
+    pub digests: Vec<Entry>,
+    /// How many entries were passed over, since they do not have this deployment's seal.
+    pub foreign: u64,
 }
 
 /// A reader's place in both streams.
@@ -28,12 +40,13 @@ pub struct Places {
 pub struct Streams {
     frames: String,
     digests: String,
+    seal: Seal,
 }
 
 impl Streams {
-    /// The streams whose names begin with the given one.
-    pub fn new(name: &str) -> Streams {
-        Streams { frames: format!("{name}:frames"), digests: format!("{name}:digests") }
+    /// The streams whose names begin with the given one, and what seals their entries.
+    pub fn new(name: &str, seal: Seal) -> Streams {
+        Streams { frames: format!("{name}:frames"), digests: format!("{name}:digests"), seal }
     }
 
     /// The beginning of all frames, and the end of all digests.
@@ -45,29 +58,36 @@ impl Streams {
     }
 
     /// The next frames and digests, after a wait of at most a second.
-    pub fn read(&self, conn: &mut Conn, places: &mut Places) -> Done<(Vec<Entry>, Vec<Entry>)> {
+    pub fn read(&self, conn: &mut Conn, places: &mut Places) -> Done<Heard> {
         let head = ["XREAD", "COUNT", "256", "BLOCK", "1000", "STREAMS"];
         let names = [self.frames.as_str(), &self.digests];
         let after = [places.frames.as_str(), &places.digests];
         let answer = conn.ask(&[&head[..], &names, &after].concat())?;
-        let (mut frames, mut digests) = (Vec::new(), Vec::new());
+        let mut heard = Heard::default();
         for stream in answer.list() {
             let [name, entries] = two(stream)?;
             let name = name.text();
+            let (place, kept) = if name == self.frames {
+                (&mut places.frames, &mut heard.frames)
+            } else {
+                (&mut places.digests, &mut heard.digests)
+            };
             for entry in entries.list() {
                 let [id, fields] = two(entry)?;
-                let id = id.text();
-                let entry = read_entry(&id, fields.list());
-                if name == self.frames {
-                    places.frames = id;
-                    frames.extend(entry);
-                } else {
-                    places.digests = id;
-                    digests.extend(entry);
+                *place = id.text();
+                match read_entry(place, fields.list()).filter(|entry| self.is_own(&name, entry)) {
+                    Some((entry, _)) => kept.push(entry),
+                    None => heard.foreign += 1,
                 }
             }
         }
-        Ok((frames, digests))
+        Ok(heard)
+    }
+
+    /// Whether an entry of a stream has the deployment's seal.
+    fn is_own(&self, place: &str, (entry, code): &(Entry, Vec<u8>)) -> bool {
+        let about = About { place, from: &entry.from, re: entry.re.as_deref() };
+        self.seal.is_right(code, about, &entry.frame)
     }
 
     /// Writes frames, each as an entry.
@@ -89,12 +109,13 @@ impl Streams {
         re: Option<&str>,
     ) -> Done<()> {
         for frame in frames {
+            let code = self.seal.code(About { place: stream, from, re }, frame);
             let head = ["XADD", stream, "MAXLEN", "~", most, "*", "from", from];
             let mut words: Vec<&[u8]> = head.iter().map(|word| word.as_bytes()).collect();
             if let Some(id) = re {
                 words.extend([&b"re"[..], id.as_bytes()]);
             }
-            words.extend([&b"frame"[..], frame]);
+            words.extend([&b"mac"[..], &code, b"frame", frame]);
             conn.put(&words);
         }
         for answer in conn.hear_all(frames.len())? {
@@ -106,19 +127,20 @@ impl Streams {
     }
 }
 
-/// The entry of these fields, if it is one. Fields that are not known are passed over.
-fn read_entry(id: &str, fields: Vec<Value>) -> Option<Entry> {
-    let (mut from, mut frame, mut re) = (None, None, None);
+/// The entry of these fields and its code, if it is one. Fields that are not known are passed over.
+fn read_entry(id: &str, fields: Vec<Value>) -> Option<(Entry, Vec<u8>)> {
+    let (mut from, mut frame, mut re, mut code) = (None, None, None, None);
     let mut fields = fields.into_iter();
     while let (Some(name), Some(value)) = (fields.next(), fields.next()) {
         match name.text().as_str() {
             "from" => from = Some(value.text()),
             "frame" => frame = Some(value.bytes()),
             "re" => re = Some(value.text()),
+            "mac" => code = Some(value.bytes()),
             _ => {}
         }
     }
-    Some(Entry { id: id.to_string(), from: from?, frame: frame?, re })
+    Some((Entry { id: id.to_string(), from: from?, frame: frame?, re }, code?))
 }
 
 fn two(value: Value) -> Done<[Value; 2]> {

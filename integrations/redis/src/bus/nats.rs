@@ -1,12 +1,14 @@
 //! Frames over core NATS, by its text protocol. A server passes messages on, and keeps none.
 //!
 //! Reports go to the subject `NAME.frames`. A digest goes to `NAME.digests` and names a subject of its
-//! node alone, to which the repair goes. `integrations/transports` has the same in Python.
+//! node alone, to which the repair goes. Each message is an envelope, whose code says that this deployment has sent it.
+//! `integrations/transports` has the same in Python.
 
-use super::entry::Entry;
+use super::entry::{Entry, Heard};
 use super::nats_address::{json, Address};
 use super::nats_text::{is_set, message, number_of, Op, Parser};
 use super::nats_wire::{Wire, PATIENCE};
+use super::seal::{About, Seal, HEAD};
 use crate::args::Args;
 use crate::dice::Dice;
 use crate::fault::{note, Done, Fault, Trying};
@@ -37,6 +39,7 @@ pub struct Nats {
     group: String,
     /// The subject to which repairs for this node go.
     inbox: String,
+    seal: Seal,
     link: Mutex<Link>,
     up: Condvar,
 }
@@ -72,7 +75,7 @@ impl Nats {
     /// # Errors
     ///
     /// A file of certificates or keys can't be read, or `--keep-alive` is wrong.
-    pub fn new(address: Address, args: &Args, hears_all: bool) -> Done<Nats> {
+    pub fn new(address: Address, args: &Args, secret: &str, hears_all: bool) -> Done<Nats> {
         let mut dice = Dice::fresh();
         let Address { servers, name, login, is_secure } = address;
         let server = |addr: String| Peer::new(args, &addr).map(|peer| Server { addr, peer });
@@ -84,6 +87,7 @@ impl Nats {
             login,
             frames: format!("{name}.frames"),
             digests: format!("{name}.digests"),
+            seal: Seal::new(secret, &name),
             group: if hears_all { String::new() } else { name },
             inbox: format!("_INBOX.{:016x}{:016x}", dice.draw(), dice.draw()),
             link: Mutex::default(),
@@ -98,7 +102,7 @@ impl Nats {
     /// The most bytes that a frame may have: what the server takes, or until there is one what each takes.
     pub fn most(&self) -> usize {
         let link = self.lock();
-        link.wire.as_ref().map_or(LEAST, |_| link.most)
+        link.wire.as_ref().map_or(LEAST, |_| link.most).saturating_sub(HEAD)
     }
 
     /// Connects to the next server that lets it in, and hears all that others send from now on.
@@ -129,28 +133,50 @@ impl Nats {
     }
 
     /// Sends frames to all nodes, or to the subject that a digest has named.
-    pub fn write(&self, frames: &[Vec<u8>], reply: Option<&str>) -> Done<()> {
-        self.publish(reply.unwrap_or(&self.frames), None, frames)
+    pub fn write(&self, from: &str, frames: &[Vec<u8>], reply: Option<&str>) -> Done<()> {
+        self.publish(About { place: reply.unwrap_or(&self.frames), from, re: None }, frames)
     }
 
     /// Shows a digest.
-    pub fn show(&self, frames: &[Vec<u8>]) -> Done<()> {
-        self.publish(&self.digests, Some(&self.inbox), frames)
+    pub fn show(&self, from: &str, frames: &[Vec<u8>]) -> Done<()> {
+        self.publish(About { place: &self.digests, from, re: Some(&self.inbox) }, frames)
     }
 
     /// Publishes each frame as a message. A server that is not connected to is waited for. A frame that is
     /// longer than the server takes would end the connection: it is left out, and said.
-    fn publish(&self, subject: &str, reply: Option<&str>, frames: &[Vec<u8>]) -> Done<()> {
+    fn publish(&self, about: About, frames: &[Vec<u8>]) -> Done<()> {
         let (wire, most) = self.link()?;
         let mut bytes = Vec::new();
         for frame in frames {
-            if frame.len() > most {
-                note(format!("bus: a frame of {} bytes is not sent: the server takes {most}", frame.len()));
+            let envelope = self.seal.envelope(about, frame);
+            if envelope.len() > most {
+                let len = envelope.len();
+                note(format!("bus: a message of {len} bytes is not sent: the server takes {most}"));
             } else {
-                message(&mut bytes, subject, reply, frame);
+                message(&mut bytes, about.place, about.re, &envelope);
             }
         }
         wire.send(&bytes).trying(|| "to send to the bus".to_string())
+    }
+
+    /// Takes a message by its subscription, with the subject to which answers go.
+    fn take(&self, heard: &mut Heard, (sid, reply, payload): (&str, Option<String>, Vec<u8>)) {
+        let (place, re) = match sid {
+            "1" => (&self.frames, None),
+            "2" => (&self.digests, reply),
+            _ => (&self.inbox, None),
+        };
+        let Some((from, frame)) = self.seal.open(place, re.as_deref(), &payload) else {
+            heard.foreign += 1;
+            return;
+        };
+        let (from, frame, is_digest) = (from.to_string(), frame.to_vec(), re.is_some());
+        let entry = Entry { id: re.unwrap_or_default(), from, frame, re: None };
+        if is_digest {
+            heard.digests.push(entry);
+        } else if sid != "2" {
+            heard.frames.push(entry);
+        }
     }
 
     /// The connection, which is waited for, and the most bytes of a message.
@@ -233,14 +259,12 @@ impl NatsEars<'_> {
     }
 
     /// The next frames and digests, after a wait of at most a second. A digest's reply is its id.
-    pub fn read(&mut self) -> Done<(Vec<Entry>, Vec<Entry>)> {
+    pub fn read(&mut self) -> Done<Heard> {
         self.receive().trying(|| self.server.addr.clone())?;
-        let (mut frames, mut digests) = (Vec::new(), Vec::new());
+        let mut heard = Heard::default();
         while let Some(op) = self.parser.next().trying(|| self.server.addr.clone())? {
             match op {
-                Op::Message { sid: "2", reply: Some(id), payload } => digests.push(entry(id, payload)),
-                Op::Message { sid: "2", .. } => {}
-                Op::Message { payload, .. } => frames.push(entry(String::new(), payload)),
+                Op::Message { sid, reply, payload } => self.nats.take(&mut heard, (sid, reply, payload)),
                 Op::Line { name: "PING", .. } => self.wire.send(b"PONG\r\n")?,
                 Op::Line { name: "-ERR", rest } => {
                     return Err(Fault::new(format!("{}: {rest}", self.server.addr)));
@@ -248,7 +272,7 @@ impl NatsEars<'_> {
                 Op::Line { .. } => {}
             }
         }
-        Ok((frames, digests))
+        Ok(heard)
     }
 }
 
@@ -256,11 +280,6 @@ impl Drop for NatsEars<'_> {
     fn drop(&mut self) {
         self.nats.lock().wire = None;
     }
-}
-
-/// A message. Its sender is another node, since the server does not send back what this one sends.
-fn entry(id: String, frame: Vec<u8>) -> Entry {
-    Entry { id, from: String::new(), frame, re: None }
 }
 
 #[cfg(test)]
@@ -273,7 +292,7 @@ mod tests {
         let usage = Usage { name: "test", help: "", options: &[], flags: &["tls-bus"] };
         let args = Args::parse(&[], &usage).unwrap();
         let address = Address::read("nats://127.0.0.1:1,127.0.0.1:2", "squall", None).unwrap().unwrap();
-        let nats = Nats::new(address, &args, false).unwrap();
+        let nats = Nats::new(address, &args, "secret", false).unwrap();
         let fault = || nats.listen().err().unwrap().to_string();
         let said = fault();
         assert!(said.starts_with("127.0.0.1:1: ") && said.contains(", 127.0.0.1:2: "), "{said}");

@@ -1,7 +1,7 @@
 //! A node of the bus: a router that hears all others.
 
 use super::carrier::Carrier;
-use super::entry::Entry;
+use super::entry::{Entry, Heard};
 use super::outbox;
 use crate::args::Args;
 use crate::course::{Plan, Progress};
@@ -52,6 +52,8 @@ pub struct Counts {
     pub taken: AtomicU64,
     /// Entries that hold no frame.
     pub refused: AtomicU64,
+    /// Entries without the deployment's seal.
+    pub foreign: AtomicU64,
     /// Frames of repairs that were sent.
     pub repairs: AtomicU64,
     /// Answers that were dropped, since another node answered.
@@ -282,12 +284,23 @@ impl Node {
         let mut dice = Dice::fresh();
         let misses = faults::misses();
         loop {
-            let (mut frames, mut digests) = ears.read()?;
+            let Heard { mut frames, mut digests, foreign } = ears.read()?;
+            self.pass_over(foreign);
             let mut is_heard = |entry: &Entry| entry.from != self.name && dice.below(100) >= misses;
             frames.retain(&mut is_heard);
             digests.retain(&mut is_heard);
             self.take(&frames)?;
             self.consider(&frames, digests, &mut dice);
+        }
+    }
+
+    /// Counts entries that were passed over, and says once that there are some.
+    fn pass_over(&self, foreign: u64) {
+        if foreign > 0 && self.counts.foreign.fetch_add(foreign, Relaxed) == 0 {
+            note(
+                "bus: an entry is passed over that no program with this --secret-file has written; \
+                 SQUALL INFO and /metrics count all of them (entries_foreign)",
+            );
         }
     }
 

@@ -20,11 +20,11 @@ pub const USAGE: Usage = Usage {
         "bus",
         "bus-password-file",
         "streams",
+        "secret-file",
         "board",
         "every",
         "part",
         "password-file",
-        "secret-file",
         keep_alive::OPTION,
         tls::OPTIONS[0],
         tls::OPTIONS[1],
@@ -39,7 +39,7 @@ const AGAIN: Duration = Duration::from_secs(1);
 /// Runs the program until it is asked to end, unless what it needs is missing.
 pub fn run(args: &Args) -> Done<()> {
     if !args.has("supervise") {
-        return match ["part", "password-file", "secret-file"].into_iter().find(|name| args.has(name)) {
+        return match ["part", "password-file"].into_iter().find(|name| args.has(name)) {
             Some(name) => Err(Fault::of_words(format!("--{name} needs --supervise"))),
             None => keep(args),
         };

@@ -5,7 +5,7 @@ use crate::conn::Server;
 use crate::fault::{note, Done, Fault};
 use crate::mover::partition::Partition;
 use crate::mover::survey::Survey;
-use crate::{stop, user, DEFAULT_SECRET};
+use crate::{stop, user};
 use std::collections::BTreeMap;
 use std::sync::Arc;
 use std::thread;
@@ -26,7 +26,7 @@ pub fn start(args: &Args) -> Done<()> {
     let with = |server| Server { password: password.clone(), ..server };
     let supervisor = Arc::new(Supervisor {
         servers: args.parts()?.into_iter().map(|(part, server)| (part, with(server))).collect(),
-        secret: args.password("secret-file")?.unwrap_or(DEFAULT_SECRET.into()),
+        secret: args.secret()?,
     });
     for &part in supervisor.servers.keys() {
         let supervisor = Arc::clone(&supervisor);

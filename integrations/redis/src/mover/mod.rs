@@ -20,7 +20,7 @@ use crate::bus::{Node, Options};
 use crate::conn::{Conn, Server};
 use crate::course::{self, Move, Plan};
 use crate::fault::{note, say, Done, Fault};
-use crate::{faults, keep_alive, keymap, stop, tls, DEFAULT_SECRET};
+use crate::{faults, keep_alive, keymap, stop, tls};
 pub use index::is_own;
 
 use entry::Entered;
@@ -127,7 +127,7 @@ impl Mover {
             moves,
             issue,
             servers: servers.into_iter().map(|(part, server)| (part, with(server))).collect(),
-            secret: args.password("secret-file")?.unwrap_or(DEFAULT_SECRET.into()),
+            secret: args.secret()?,
             accepted,
         })
     }

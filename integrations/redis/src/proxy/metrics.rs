@@ -60,6 +60,11 @@ impl Shared {
         all.extend([
             ("frames_taken", "frames of the bus that were taken", bus.taken.load(Relaxed)),
             ("frames_refused", "entries of the bus that are no frame", bus.refused.load(Relaxed)),
+            (
+                "entries_foreign",
+                "entries of the bus without this deployment's seal",
+                bus.foreign.load(Relaxed),
+            ),
             ("repairs_sent", "frames of repairs that were sent", bus.repairs.load(Relaxed)),
             ("repairs_dropped", "repairs that another node sent first", bus.dropped.load(Relaxed)),
             ("bus_faults", "faults of the connection to the bus", bus.faults.load(Relaxed)),

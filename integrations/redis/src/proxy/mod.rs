@@ -28,8 +28,8 @@ use crate::bus::{Node, Options};
 use crate::course::Plan;
 use crate::fault::{note, Done, Fault, Trying};
 use crate::keep_alive::{self, KeepAlive};
+use crate::stop;
 use crate::tls::{self, Acceptor};
-use crate::{stop, DEFAULT_SECRET};
 use metrics::Shared;
 use mio::{Poll, Waker};
 use socket2::SockRef;
@@ -133,7 +133,7 @@ fn share(args: &Args, threads: usize) -> Done<Shared> {
         parts: args.parts()?,
         tls: Acceptor::of(args)?,
         first: Plan::of(args, "first")?.ranges,
-        secret: args.password("secret-file")?.unwrap_or(DEFAULT_SECRET.into()),
+        secret: args.secret()?,
         wait: Duration::from_millis(args.number("wait", 5000, 1, 3_600_000)?),
         answer: Duration::from_millis(args.number("answer", 60_000, 1, 3_600_000)?),
         keep_alive: KeepAlive::of(args)?,

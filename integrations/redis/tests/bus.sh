@@ -1,0 +1,142 @@
+# shellcheck shell=bash disable=SC2154,SC2034
+# Tests of a bus that others write too, and of proxies that are cut off it, for tools/integrations, over what servers.sh
+# starts.
+
+# Writes what no program of the deployment would to a bus, whose address comes first.
+forge() {
+  PYTHONPATH=$top/bindings/python PYTHONDONTWRITEBYTECODE=1 python3 "$package/tests/forge.py" "$@"
+}
+
+# Starts a NATS server alone, whose address is in `nats`.
+start_one_nats() {
+  run=$(mktemp -d "$work/nats.XXXX")
+  free_port
+  launch "$run" nats.log nats-server -a 127.0.0.1 -p "$port"
+  nats=nats://127.0.0.1:$port
+  await is_used "$port"
+}
+
+# Whether all proxies have passed over so many entries.
+all_passed_over() {
+  local at
+  for at in "${proxies[@]}"; do has_counted "$at" entries_foreign "$1" || return; done
+}
+
+# In course 2, which moves nothing more for now, others say that all keys of partition 1 have come to partition 3, and
+# that course 9 has begun. All goes on as before.
+is_unmoved() {
+  local from=$1 at id
+  start_move 2 old new --pause 600000
+  agrees 1 2 499:0 && await has_loaded_of 1 2 || return
+  agrees 1 2 450:7 || return
+  for _ in 1 2 3; do
+    forge "$from" load 2 0 3 330:0 500:0 && forge "$from" issue 9 "$run/old.json" "$run/new.json" || return
+  done
+  await all_passed_over 6 && agrees 1 2 450:7 || return
+  for at in "${proxies[@]}"; do
+    [ "$(redis-cli -p "$at" set 450:7 "$at")" = OK ] || return
+    [ "$(redis-cli -p "$at" get 450:7)" = "$at" ] || return
+  done
+  [ "$(redis-cli -p "${servers[0]}" get 450:7)" = "${proxies[1]}" ] || { echo "it was set elsewhere"; return 1; }
+  kill -TERM "$id"
+  wait "$id"
+  move 2 old new && agrees 3 2 450:7 && [ "$(redis-cli -p "${proxies[0]}" get 450:7)" = "${proxies[1]}" ] || return
+  grep -q "^bus: an entry is passed over" "$run"/proxy.*
+}
+
+fill() {
+  seq -f "set %g:0 x" 0 999 | redis-cli -p "${proxies[0]}" > /dev/null
+}
+
+test_forged_frames() {
+  deploy && fill && is_unmoved "redis://127.0.0.1:$bus"
+}
+
+test_forged_frames_over_nats() {
+  local nats
+  command -v nats-server > /dev/null || { echo "no nats-server here"; return 1; }
+  start_one_nats && deploy && fill && is_unmoved "$nats"
+}
+
+# A thousand frames on the bus have a bit or two turned, while keys move.
+test_turned_frames() {
+  local id load
+  deploy || return
+  start_load 30000 --pause 300
+  await has_keys "${servers[0]}" 400 && await has_keys "${servers[1]}" 400 || return
+  start_move 2 old new --pause 60
+  agrees 2 2 900:0 && forge "redis://127.0.0.1:$bus" turned 1000 || return
+  wait "$id" || { cat "$run/mover"; return 1; }
+  forge "redis://127.0.0.1:$bus" turned 1000 || return
+  # A few may be as they were, since they were turned twice.
+  await all_passed_over 1900 && move 3 new old && move 4 old new && end_load && has_moved && agrees 3 4
+}
+
+test_turned_frames_over_nats() {
+  local id load nats
+  command -v nats-server > /dev/null || { echo "no nats-server here"; return 1; }
+  start_one_nats && deploy || return
+  start_load 30000 --pause 300
+  await has_keys "${servers[0]}" 400 && await has_keys "${servers[1]}" 400 || return
+  start_move 2 old new --pause 60
+  agrees 2 2 900:0 && forge "$nats" turned 1000 || return
+  wait "$id" || { cat "$run/mover"; return 1; }
+  # Of digests each is heard by one of the proxies alone.
+  await all_passed_over 300 && move 3 new old && move 4 old new && end_load && has_moved && agrees 3 4
+}
+
+# Two deployments with the same names and other secrets share a bus, and each goes its own course.
+share_a_bus() {
+  local first second
+  deploy && fill || return
+  first=$(declare -p run servers proxies parts secret | sed 's/^declare --*a* /local &/;s/local declare/declare/')
+  nats=${nats:-127.0.0.1:$bus}
+  secret=$work/other
+  od -An -tx1 -N32 /dev/urandom | tr -d ' \n' > "$secret"
+  deploy && fill || return
+  cp "$run/old.json" "$run/third.json"
+  move 2 old new && move 3 new old && agrees 1 3 400:0 || return
+  second=("${proxies[@]}")
+  eval "$first"
+  agrees 1 1 400:0 && move 2 old new && agrees 3 2 400:0 || return
+  await all_passed_over 1 || return
+  proxies=("${second[@]}")
+  agrees 1 3 400:0 && await all_passed_over 1
+}
+
+test_two_deployments_on_one_bus() {
+  local nats='' secret=$secret
+  share_a_bus
+}
+
+test_two_deployments_on_one_bus_of_nats() {
+  local nats secret=$secret
+  command -v nats-server > /dev/null || { echo "no nats-server here"; return 1; }
+  start_one_nats && share_a_bus
+}
+
+# A program says how a secret is made if it has none, or one that could be guessed.
+test_secrets_are_needed() {
+  local program words
+  run=$(mktemp -d "$work/run.XXXX")
+  echo '{"plan":[{"part":1,"from":[0,0],"to":"end"}]}' > "$run/plan"
+  echo squall > "$run/short"
+  for program in proxy mover node; do
+    words=("$bin/squall-redis-$program" --first "$run/plan" --bus 127.0.0.1:1 --part 1=127.0.0.1:2)
+    case $program in
+      proxy) words+=(--listen 127.0.0.1:0) ;;
+      mover) words+=(--init) ;;
+      node) words=("${words[@]:0:5}" --board "$run/board") ;;
+    esac
+    lacks_secret "--secret-file FILE is missing" "${words[@]}" || return
+    lacks_secret "has less than 16 characters" "${words[@]}" --secret-file "$run/short" || return
+  done
+}
+
+lacks_secret() {
+  local why=$1 status=0 said
+  shift
+  said=$(timeout 60 "$@" 2>&1) || status=$?
+  echo "$said"
+  [ "$status" -eq 2 ] && [[ $said = *"$why"*"openssl rand -hex 32 > FILE"* ]]
+}
