@@ -58,6 +58,36 @@ test_forged_frames_over_nats() {
   start_one_nats && deploy && fill && is_unmoved "$nats"
 }
 
+# A load is sealed as it should be, and is false all the same. Routes go by it, and no answer does: commands on its keys
+# are refused, in transactions and waits too, and a walk names each key.
+test_false_load() {
+  local id at count patience=300
+  deploy && fill || return
+  start_move 2 old new --pause 600000
+  agrees 1 2 499:0 && await has_loaded_of 1 2 || return
+  forge "redis://127.0.0.1:$bus" load 2 0 3 330:0 500:0 --secret-file "$secret" || return
+  agrees 3 2 450:7 && [ "$(redis-cli -p "${servers[0]}" rpush 450:8 x)" = 1 ] || return
+  for at in "${proxies[@]}"; do
+    is_refused "$at" set 450:0 y && is_refused "$at" get 450:0 && is_refused "$at" blpop 450:8 20 || return
+    is_refused "$at" eval "return redis.call('get', KEYS[1])" 1 450:0 || return
+    printf 'multi\nset 450:0 y\nexec\n' | redis-cli -p "$at" | grep TRYAGAIN || return
+    count=$(redis-cli -p "$at" --scan | sort -u | grep -c :)
+    [ "$count" -eq 1001 ] || { echo "$count keys are named"; return 1; }
+  done
+  kill -TERM "$id"
+  wait "$id"
+  move 2 old new && agrees 3 2 450:0 || return
+  for at in "${proxies[@]}"; do
+    [ "$(redis-cli -p "$at" get 450:0)" = x ] && [ "$(redis-cli -p "$at" llen 450:8)" = 1 ] || return
+  done
+}
+
+is_refused() {
+  local said
+  said=$(redis-cli -p "$@")
+  [[ $said = TRYAGAIN* ]] || { echo "$*: $said"; return 1; }
+}
+
 # A thousand frames on the bus have a bit or two turned, while keys move.
 test_turned_frames() {
   local id load

@@ -49,8 +49,8 @@ fn nobody_needs_to_read() {
 #[test]
 fn a_bad_plan_is_named() {
     let plan = concat!(env!("CARGO_MANIFEST_DIR"), "/Cargo.toml");
-    let secret = concat!(env!("CARGO_MANIFEST_DIR"), "/rustfmt.toml").to_string();
-    let secret = secret.as_str();
+    let secret = concat!(env!("CARGO_TARGET_TMPDIR"), "/secret");
+    std::fs::write(secret, "a secret of a test".replace(' ', "-")).unwrap();
     let rest = [
         "--init",
         "--part",

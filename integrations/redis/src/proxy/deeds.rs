@@ -3,6 +3,8 @@
 use super::client::Client;
 use super::follow::{read, Said};
 use super::own::Outcome;
+use super::roles::Standing;
+use super::scan::Known;
 use super::task::{Deed, Step, Task, Watch};
 use super::worker::Worker;
 use crate::faults;
@@ -18,11 +20,18 @@ const SHORTEST: f64 = 0.001;
 impl Worker {
     /// Asks a partition for the first time, or again.
     pub(super) fn begin(&mut self, client: &Client, task: &mut Task, at: usize) {
-        let view = &self.view;
-        let are_settled = self.upstreams[at].are_settled(&task.ranks, |rank| view.route(rank));
-        let is_plain = are_settled || faults::is_on("never-guard");
+        let (view, it) = (&self.view, &self.upstreams[at]);
+        let standing = it.standing(&task.ranks, |rank| view.route(rank));
+        if standing == Standing::Comes {
+            self.confirm(it.part, it.is_resp3);
+        }
+        let is_plain = standing == Standing::Stays || faults::is_on("never-guard");
         match task.deed {
-            Deed::Scan(_) | Deed::Load(_) => self.ask_plain(client, task, at, None),
+            Deed::Scan(_) => {
+                self.confirm_loads(client.is_resp3);
+                self.ask_plain(client, task, at, None);
+            }
+            Deed::Load(_) => self.ask_plain(client, task, at, None),
             Deed::Wait(until) if is_plain => self.ask_plain(client, task, at, Some(until)),
             Deed::Exec(_) | Deed::One if is_plain => self.ask_to_do(client, task, at),
             _ => self.ask_where(client, task, at),
@@ -235,10 +244,10 @@ impl Worker {
             }
             Deed::Scan(cursor) if reply.first() != Some(&b'-') => {
                 let ground = self.ground()?;
-                let (it, view) = (&self.upstreams[at], &self.view);
+                let (it, view, tables) = (&self.upstreams[at], &self.view, &self.shared.tables);
                 let is_known = view.number() == number;
                 let route = |rank| if is_known { view.route(rank) } else { Some(part) };
-                let answer = cursor.answer(reply, it, route, &ground);
+                let answer = cursor.answer(reply, it, &ground, Known { route: &route, tables });
                 let large = || error("ERR the partition's cursor is too large");
                 Some(Outcome::Answer(answer.unwrap_or_else(large)))
             }

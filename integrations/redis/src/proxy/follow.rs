@@ -3,7 +3,8 @@
 use super::client::{Chase, Client, Diverted};
 use super::deeds::is_fence;
 use super::plan::Plan;
-use super::upstream::{InFlight, Role};
+use super::roles::Standing;
+use super::upstream::{Due, InFlight};
 use super::worker::Worker;
 use crate::faults;
 use crate::resp::error;
@@ -84,9 +85,13 @@ impl Worker {
         };
         let mut is_guarded = false;
         for &rank in ranks {
-            is_guarded |= self.upstreams[at].role(rank) == Some(Role::Out);
+            let standing = self.upstreams[at].table.standing(rank);
+            is_guarded |= standing != Standing::Stays;
             if self.view.route(rank) != Some(asked) {
                 return self.apart(client, ranks);
+            }
+            if standing == Standing::Comes {
+                self.confirm(asked, client.is_resp3);
             }
         }
         if faults::is_on("never-guard") {
@@ -225,7 +230,7 @@ impl Worker {
             client.answer(seq, part, &answer);
             return false;
         }
-        self.send_chased((at, upstream), client, (seq, part), asked)
+        self.send_chased((at, upstream), client, (seq, part))
     }
 
     /// What is answered to a request if one of its keys can't come to the partition that is asked: only
@@ -276,17 +281,12 @@ impl Worker {
         (at, upstream): (usize, usize),
         client: &mut Client,
         (seq, part): (u64, u32),
-        asked: u32,
     ) -> bool {
-        let (view, to) = (&self.view, &mut self.upstreams[upstream]);
+        let to = &mut self.upstreams[upstream];
         let (id, is_resp3) = (client.id, client.is_resp3_of(seq));
         let is_guarded = client.with(seq, |plan, words, len| {
             let part = part as usize;
-            let is_known = |&rank| match to.role(rank) {
-                None => true,
-                Some(role) => role == Role::In && view.route(rank) == Some(asked),
-            };
-            let is_plain = plan.ranks(part).iter().all(is_known);
+            let is_plain = plan.ranks(part).iter().all(|&rank| to.table.standing(rank) == Standing::Stays);
             if is_plain {
                 plan.put(&mut to.out.bytes, part, words, len);
             } else if plan.may_be_guarded(is_resp3) {
@@ -299,7 +299,8 @@ impl Worker {
         let Some(is_guarded) = is_guarded.flatten() else {
             return false;
         };
-        to.expect(InFlight { client: at, id, seq, part, is_guarded, is_chased: true }, self.now);
+        let sent = InFlight { client: at, id, seq, part, is_guarded, is_chased: true };
+        to.expect(Due::Request(sent), self.now);
         client.in_flight += 1;
         self.mark_upstream(upstream);
         true

@@ -2,7 +2,7 @@
 
 use super::client::too_large;
 use super::socket::{drop_first, Received};
-use super::upstream::{State, Upstream};
+use super::upstream::{Due, State, Upstream};
 use super::worker::{upstream_token, Worker};
 use crate::resp::error;
 use mio::Interest;
@@ -141,7 +141,7 @@ impl Worker {
             return true;
         }
         if matches!(upstream.state, State::Entering(..)) {
-            if upstream.entered(reply, self.now) {
+            if upstream.entered(reply, self.now, &self.shared.tables) {
                 if upstream.state != State::Ready {
                     self.shared.node.ask();
                 }
@@ -152,14 +152,24 @@ impl Worker {
         if upstream.own.is_some() {
             return self.take_own(at, reply);
         }
-        let Some(sent) = upstream.sent.pop_front() else {
-            return false;
-        };
-        self.answered(at, sent, reply);
+        match upstream.sent.pop_front() {
+            None => return false,
+            Some(Due::Request(sent)) => self.answered(at, sent, reply),
+            Some(Due::Moves) => upstream.answered_moves(reply, self.now, &self.shared.tables),
+        }
         if self.upstreams[at].sent.is_empty() {
             self.enter(at);
         }
         true
+    }
+
+    /// Asks a partition how far it is: the bus has said of keys that they are loaded there, and it has not.
+    pub(super) fn confirm(&mut self, part: u32, is_resp3: bool) {
+        if let Some(at) = self.ready(part, is_resp3) {
+            if self.upstreams[at].ask_moves(self.now) {
+                self.mark_upstream(at);
+            }
+        }
     }
 
     /// Gives a connection up. Whether the requests on it were done is not known.

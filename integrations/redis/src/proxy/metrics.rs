@@ -2,6 +2,7 @@
 
 use super::counts::{add_kinds, add_waits, sum, Counts};
 use super::memory::Bound;
+use super::roles::Tables;
 use crate::bus::Node;
 use crate::conn::Server;
 use crate::fault::Done;
@@ -36,6 +37,8 @@ pub struct Shared {
     pub memory: usize,
     /// How many bytes all clients may hold.
     pub bound: Bound,
+    /// How partitions take part in the course.
+    pub tables: Tables,
     /// How many clients there are.
     pub clients: AtomicUsize,
     /// Whether the proxy ends.

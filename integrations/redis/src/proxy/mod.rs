@@ -15,6 +15,7 @@ mod multi;
 mod own;
 mod page;
 mod plan;
+mod roles;
 mod scan;
 mod serve;
 mod socket;
@@ -139,6 +140,7 @@ fn share(args: &Args, threads: usize) -> Done<Shared> {
         keep_alive: KeepAlive::of(args)?,
         memory: args.number("client-memory", 64, 1, 4096)? as usize * (1 << 20),
         bound: memory::Bound::of(args)?,
+        tables: roles::Tables::default(),
         clients: AtomicUsize::new(0),
         is_ending: AtomicBool::new(false),
         arrivals: (0..threads).map(|_| Mutex::default()).collect(),

@@ -262,11 +262,30 @@ impl Worker {
             return Some(ground.clone());
         }
         let (course, progress) = self.shared.node.course().ok()?;
-        if course.number() != self.view.number() {
+        let number = course.number();
+        if number != self.view.number() {
             return None;
         }
-        let ground = Arc::new(Ground::of(&course, progress.loaded == progress.moving));
-        self.ground = Some((self.views, ground.clone()));
+        let is_heard = progress.loaded == progress.moving;
+        let ground = Ground::of(&course, |dest| is_heard && self.shared.tables.has_loaded(dest, number));
+        let ground = Arc::new(ground);
+        // Else it becomes quiet once the partitions have said so too, which no view tells.
+        if ground.is_quiet == is_heard {
+            self.ground = Some((self.views, ground.clone()));
+        }
         Some(ground)
+    }
+
+    /// Asks all destinations how far they are that have not said that they have loaded all.
+    pub(super) fn confirm_loads(&mut self, is_resp3: bool) {
+        let number = self.view.number();
+        let Some(ground) = self.ground().filter(|ground| !ground.is_quiet) else {
+            return;
+        };
+        for &dest in &ground.dests {
+            if !self.shared.tables.has_loaded(dest, number) {
+                self.confirm(dest, is_resp3);
+            }
+        }
     }
 }

@@ -6,7 +6,8 @@
 //! found there. If another course has begun meanwhile, the pass begins anew. Each partition answers only
 //! in its own course, and gives no key of the next one before all partitions are in that.
 
-use super::upstream::{Role, Upstream};
+use super::roles::{Role, Standing, Tables};
+use super::upstream::Upstream;
 use crate::faults;
 use crate::keymap;
 use crate::mover::is_own;
@@ -38,20 +39,31 @@ pub struct Cursor {
 /// A course, as a walk sees it.
 pub struct Ground {
     number: u32,
-    is_quiet: bool,
+    /// Whether all of its keys have moved.
+    pub is_quiet: bool,
     parts: BTreeSet<u32>,
-    dests: BTreeSet<u32>,
+    /// The partitions to which keys move.
+    pub dests: BTreeSet<u32>,
+}
+
+/// What a worker knows beside what it is told.
+pub struct Known<'a> {
+    /// The partition to which its view routes a key.
+    pub route: &'a dyn Fn(Rank) -> Option<u32>,
+    /// What the partitions have said.
+    pub tables: &'a Tables,
 }
 
 impl Ground {
-    /// That of a course, of which it is known whether all of its keys have moved.
-    pub fn of(course: &Course, is_quiet: bool) -> Ground {
+    /// That of a course, of which it is known whether all has come to a partition.
+    pub fn of(course: &Course, has_loaded: impl Fn(u32) -> bool) -> Ground {
         let legs = course.old_plan().into_iter().chain(course.new_plan());
+        let dests: BTreeSet<u32> = course.moves().iter().map(|it| it.dest).collect();
         Ground {
             number: course.number() % (1 << NUMBER),
-            is_quiet,
+            is_quiet: dests.iter().all(|&dest| has_loaded(dest)),
             parts: legs.map(|leg| leg.part).collect(),
-            dests: course.moves().iter().map(|it| it.dest).collect(),
+            dests,
         }
     }
 
@@ -108,22 +120,26 @@ impl Cursor {
 
     /// The client's answer of the partition's; none if that is no page of names.
     ///
-    /// Rows are left out of which the view knows that they are elsewhere: they were copied away, and
+    /// Rows are left out of which the view and their destination say that they are elsewhere: they were copied away, and
     /// not removed yet. Those that come here stay, since the view may lag.
-    pub fn answer(
-        self,
-        page: &[u8],
-        from: &Upstream,
-        route: impl Fn(Rank) -> Option<u32>,
-        ground: &Ground,
-    ) -> Option<Vec<u8>> {
+    pub fn answer(self, page: &[u8], from: &Upstream, ground: &Ground, known: Known) -> Option<Vec<u8>> {
         let (page, _) = Value::read(page).ok()??;
         let mut page = page.list();
         let keys: Vec<Vec<u8>> = page.pop()?.list().into_iter().map(Value::bytes).collect();
         let at: u64 = page.pop()?.text().parse().ok()?;
+        let has_come = |part: u32, rank: Rank| {
+            let table = known.tables.of(part, from.number);
+            table.is_some_and(|table| table.standing(rank) == Standing::Stays)
+        };
         let is_here = |key: &&Vec<u8>| {
             let rank = keymap::rank(key);
-            !is_own(key) && (route(rank) == Some(self.part) || from.role(rank) == Some(Role::In))
+            let elsewhere = (known.route)(rank).filter(|&part| part != self.part);
+            let is_gone = match from.role(rank) {
+                Some(Role::In) => false,
+                Some(Role::Out) => elsewhere.is_some_and(|part| has_come(part, rank)),
+                Some(Role::Beside) | None => (known.route)(rank) != Some(self.part),
+            };
+            !is_own(key) && !is_gone
         };
         let kept: Vec<&Vec<u8>> = keys.iter().filter(is_here).collect();
         let next = match self.next(at, ground) {

@@ -6,7 +6,7 @@ use super::follow::Targets;
 use super::local;
 use super::plan::{Plan, Words};
 use super::socket::A_TURN;
-use super::upstream::InFlight;
+use super::upstream::{Due, InFlight};
 use super::worker::Worker;
 use crate::resp::{error, Broken};
 use std::sync::atomic::Ordering::Relaxed;
@@ -199,7 +199,7 @@ impl Worker {
         let seq = client.next_seq();
         let part = part as u32;
         let sent = InFlight { client: at, id: client.id, seq, part, is_guarded, is_chased: false };
-        to.expect(sent, self.now);
+        to.expect(Due::Request(sent), self.now);
         client.in_flight += 1;
         client.guarded += usize::from(is_guarded);
         self.mark_upstream(upstream);

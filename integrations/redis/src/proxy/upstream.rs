@@ -1,14 +1,15 @@
 //! A connection from a worker to a partition, which the commands of all its clients share.
 
+use super::roles::{Role, Standing, Table, Tables};
 use super::socket::{drop_first, receive, Out, Received, Socket, A_TURN};
 use crate::conn::Server;
 use crate::fault::{note, Done};
-use crate::keymap;
-use crate::resp::{push, Scan, Value};
+use crate::resp::{push, Scan};
 use crate::user;
 use mio::net::TcpStream;
 use squall::Rank;
 use std::collections::VecDeque;
+use std::sync::Arc;
 use std::time::{Duration, Instant};
 
 /// Between two attempts to connect or to log in.
@@ -44,15 +45,13 @@ pub enum State {
     Ready,
 }
 
-/// How a partition takes part in a move.
-#[derive(Clone, Copy, PartialEq, Debug)]
-pub enum Role {
-    /// Keys go from here.
-    Out,
-    /// Keys come here.
-    In,
-    /// They go past.
-    Beside,
+/// An answer that is due.
+#[derive(Clone, Copy)]
+pub enum Due {
+    /// That to a request of a client.
+    Request(InFlight),
+    /// How far the partition is with its moves.
+    Moves,
 }
 
 /// A connection to a partition.
@@ -71,8 +70,8 @@ pub struct Upstream {
     /// The course whose refusal was shown last, and the fault of TLS that was.
     shown: u32,
     shown_fault: String,
-    /// The moves of that course: from, below, and the role.
-    moves: Vec<(Rank, Rank, Role)>,
+    /// How the partition takes part in that course.
+    pub table: Arc<Table>,
     /// What is to be sent.
     pub out: Out,
     /// What was heard and is not answered to clients yet.
@@ -81,7 +80,7 @@ pub struct Upstream {
     pub scan: Scan,
     pub dropped: usize,
     /// What was sent, in order.
-    pub sent: VecDeque<InFlight>,
+    pub sent: VecDeque<Due>,
     /// When the last answer came, or the first question was sent.
     pub progress: Instant,
     /// Whether it is in the list of those that have something to send.
@@ -115,7 +114,7 @@ impl Upstream {
             number: 0,
             shown: 0,
             shown_fault: String::new(),
-            moves: Vec::new(),
+            table: Arc::new(Table::new(0, now)),
             out: Out::default(),
             heard: Vec::new(),
             scan: Scan::default(),
@@ -148,7 +147,14 @@ impl Upstream {
         if let Some(own) = &mut self.own {
             *own = Own { client: own.client, ..Own::default() };
         }
-        std::mem::take(&mut self.sent)
+        let mut lost = VecDeque::new();
+        for due in std::mem::take(&mut self.sent) {
+            match due {
+                Due::Request(sent) => lost.push_back(sent),
+                Due::Moves => self.table.end_question(now),
+            }
+        }
+        lost
     }
 
     /// Logs in for a course, once nothing is in flight.
@@ -169,7 +175,7 @@ impl Upstream {
     }
 
     /// Takes an answer of the log-in: whether it is over.
-    pub fn entered(&mut self, reply: &[u8], now: Instant) -> bool {
+    pub fn entered(&mut self, reply: &[u8], now: Instant, tables: &Tables) -> bool {
         let State::Entering(left, was_refused) = self.state else {
             return false;
         };
@@ -183,14 +189,32 @@ impl Upstream {
             self.state = State::Entering(left - 1, is_refused);
             return false;
         }
-        self.state = match read_moves(reply).filter(|_| !is_refused) {
-            Some(moves) => {
-                self.moves = moves;
+        self.state = match Table::read(self.number, reply, now).filter(|_| !is_refused) {
+            Some(said) => {
+                self.table = tables.take(self.part, said);
                 State::Ready
             }
             None => State::Refused(now + AGAIN),
         };
         true
+    }
+
+    /// Asks how far the partition is with its moves, if it may be asked now: whether it was.
+    pub fn ask_moves(&mut self, now: Instant) -> bool {
+        let is_asked = self.state == State::Ready && self.table.may_ask(now);
+        if is_asked {
+            push(&mut self.out.bytes, &["FCALL_RO", "squall_moves", "0", &self.number.to_string()]);
+            self.expect(Due::Moves, now);
+        }
+        is_asked
+    }
+
+    /// Takes the answer to that. If it is an error, all stays as it was said before.
+    pub fn answered_moves(&mut self, reply: &[u8], now: Instant, tables: &Tables) {
+        self.table.end_question(now);
+        if let Some(said) = Table::read(self.number, reply, now) {
+            self.table = tables.take(self.part, said);
+        }
     }
 
     /// Whether it waits for answers that have to come before it may log in anew.
@@ -205,12 +229,17 @@ impl Upstream {
         is_due || is_asked && now - self.progress > most
     }
 
-    /// Whether keys stay there until the next course: none of them moves, or its load is known.
-    pub fn are_settled(&self, ranks: &[Rank], route: impl Fn(Rank) -> Option<u32>) -> bool {
-        ranks.iter().all(|&rank| match self.role(rank) {
-            Some(Role::In) | None => route(rank) == Some(self.part),
-            Some(_) => false,
-        })
+    /// Where keys are that are asked for here together. Those that are routed elsewhere go.
+    pub fn standing(&self, ranks: &[Rank], route: impl Fn(Rank) -> Option<u32>) -> Standing {
+        let mut all = Standing::Stays;
+        for &rank in ranks {
+            match self.table.standing(rank) {
+                Standing::Stays if route(rank) == Some(self.part) => {}
+                Standing::Comes if route(rank) == Some(self.part) => all = Standing::Comes,
+                _ => return Standing::Goes,
+            }
+        }
+        all
     }
 
     /// Whether these keys can't be there together in this course: one is elsewhere, and no move brings
@@ -230,16 +259,11 @@ impl Upstream {
 
     /// How this partition takes part in the move of a key, if it moves.
     pub fn role(&self, rank: Rank) -> Option<Role> {
-        if self.moves.is_empty() {
-            return None;
-        }
-        let after = self.moves.partition_point(|&(lo, _, _)| lo <= rank);
-        let &(_, hi, role) = self.moves[..after].last()?;
-        (rank < hi).then_some(role)
+        self.table.role(rank)
     }
 
-    /// Notes a request that was put.
-    pub fn expect(&mut self, sent: InFlight, now: Instant) {
+    /// Notes a question that was put.
+    pub fn expect(&mut self, sent: Due, now: Instant) {
         if self.sent.is_empty() {
             self.progress = now;
         }
@@ -281,28 +305,6 @@ impl Upstream {
     }
 }
 
-/// The moves of the texts that `squall_moves` answers.
-fn read_moves(reply: &[u8]) -> Option<Vec<(Rank, Rank, Role)>> {
-    let (value, _) = Value::read(reply).ok()??;
-    let Value::List(lines) = value else {
-        return None;
-    };
-    lines.into_iter().map(|line| read_move(&line.text())).collect()
-}
-
-fn read_move(line: &str) -> Option<(Rank, Rank, Role)> {
-    let words: Vec<&str> = line.split(' ').collect();
-    let rank = |word| u64::from_str_radix(word, 16).ok().map(Rank);
-    let role = match *words.get(2)? {
-        "out" => Role::Out,
-        "in" => Role::In,
-        _ => Role::Beside,
-    };
-    let (lo, hi) = (rank(words[0])?, rank(words[1])?);
-    debug_assert_eq!(keymap::hex(lo), words[0]);
-    Some((lo, hi, role))
-}
-
 #[cfg(test)]
 mod tests {
     use super::*;
@@ -312,14 +314,17 @@ mod tests {
         let now = Instant::now();
         let mut upstream = Upstream::new(1, Server::plain("127.0.0.1:1".parse().unwrap()), false, now);
         upstream.state = State::Entering(2, false);
-        assert!(!upstream.entered(b"+OK\r\n", now));
+        let tables = Tables::default();
+        assert!(!upstream.entered(b"+OK\r\n", now, &tables));
         let line = "0000000200000000 0000000300000000 out 3 0000000200000000 0000000200000000";
         let reply = format!("*1\r\n${}\r\n{line}\r\n", line.len());
-        assert!(upstream.entered(reply.as_bytes(), now));
+        assert!(upstream.entered(reply.as_bytes(), now, &tables));
         assert!(upstream.state == State::Ready);
         assert_eq!(upstream.role(Rank::new(2, 0)), Some(Role::Out));
-        assert_eq!(upstream.role(Rank::new(1, 9)), None);
-        assert_eq!(upstream.role(Rank::new(3, 0)), None);
+        let ranks = [Rank::new(1, 9), Rank::new(2, 0)];
+        assert_eq!(upstream.standing(&ranks[..1], |_| Some(1)), Standing::Stays);
+        assert_eq!(upstream.standing(&ranks, |_| Some(1)), Standing::Goes);
+        assert_eq!(upstream.standing(&ranks[..1], |_| Some(2)), Standing::Goes);
     }
 
     #[test]
@@ -327,8 +332,9 @@ mod tests {
         let now = Instant::now();
         let mut upstream = Upstream::new(1, Server::plain("127.0.0.1:1".parse().unwrap()), false, now);
         upstream.state = State::Entering(2, false);
-        upstream.entered(b"-WRONGPASS invalid\r\n", now);
-        assert!(upstream.entered(b"*0\r\n", now));
+        let tables = Tables::default();
+        upstream.entered(b"-WRONGPASS invalid\r\n", now, &tables);
+        assert!(upstream.entered(b"*0\r\n", now, &tables));
         assert!(matches!(upstream.state, State::Refused(_)));
     }
 }
