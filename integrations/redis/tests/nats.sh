@@ -41,7 +41,7 @@ test_over_nats() {
   command -v nats-server > /dev/null || { echo "no nats-server here"; return 1; }
   start_nats && deploy || return
   launch "$run" follow env PYTHONPATH="$top/bindings/python" python3 "$top/integrations/transports/squall-bus" follow "$nats" \
-    --first old.json --key 400:0
+    --secret-file "$secret" --first old.json --key 400:0
   follower=$id
   start_load 30000 --pause 300
   await has_keys "${servers[0]}" 400 && await has_keys "${servers[1]}" 400 || return

@@ -103,7 +103,7 @@ test_tls_over_nats() {
   nats=tls://$at
   deploy || return
   launch "$run" follow env PYTHONPATH="$top/bindings/python" python3 "$top/integrations/transports/squall-bus" follow "$nats" \
-    --first old.json --key 400:0 "${words[@]}"
+    --secret-file "$secret" --first old.json --key 400:0 "${words[@]}"
   follower=$id
   launch "$run" node "$bin/squall-redis-node" --first old.json --bus "nats://$at" --tls-bus --secret-file "$secret" --board board "${words[@]}"
   start_load 20000 --pause 300

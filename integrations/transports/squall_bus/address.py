@@ -2,6 +2,7 @@
 
 from __future__ import annotations
 
+from typing import Optional
 from urllib.parse import urlsplit
 
 from .bus import Bus
@@ -11,17 +12,22 @@ from .nats import NatsBus
 from .tls import Tls
 
 
-def open_bus(url: str, hears_all: bool = False, tls: Tls = Tls()) -> Bus:
+def open_bus(
+    url: str, hears_all: bool = False, tls: Tls = Tls(), secret: Optional[bytes] = None
+) -> Bus:
     """The bus of an address, which is not connected yet.
 
     With `hears_all` it hears each digest of others, as one that waits for them has to. `tls` is
-    for NATS and JetStream. Raises `ValueError` if the address is none or a file can't be used, and
+    for NATS and JetStream. With a `secret` what goes over core NATS is sealed, and what is not is
+    passed over. Raises `ValueError` if the address is none or a file can't be used, and
     `ImportError` if psycopg2 is needed and not installed.
     """
     parts = urlsplit(url)
+    if secret is not None and parts.scheme not in ("nats", "tls"):
+        raise ValueError("a secret is for nats:// and tls://")
     if parts.scheme in ("nats", "tls"):
         is_wanted = tls.is_wanted or parts.scheme == "tls"
-        return NatsBus(parts, hears_all, tls._replace(is_wanted=is_wanted))
+        return NatsBus(parts, hears_all, tls._replace(is_wanted=is_wanted), secret)
     if parts.scheme == "jetstream":
         return JetStreamBus(parts, tls)
     if tls != Tls():

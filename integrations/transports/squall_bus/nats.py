@@ -2,13 +2,15 @@
 
 from __future__ import annotations
 
+import sys
 from secrets import token_hex
-from typing import List
+from typing import List, Optional
 from urllib.parse import SplitResult
 
 from .bus import Bus, Message
 from .nats_link import NatsLink
 from .pieces import cut, refuse
+from .seal import HEAD, About, Seal
 from .tls import Tls
 
 
@@ -21,18 +23,30 @@ class NatsBus(Bus):
 
     loses = True
 
-    def __init__(self, url: SplitResult, hears_all: bool = False, tls: Tls = Tls()) -> None:
+    def __init__(
+        self,
+        url: SplitResult,
+        hears_all: bool = False,
+        tls: Tls = Tls(),
+        secret: Optional[bytes] = None,
+    ) -> None:
         """A bus by an address `nats://[USER[:PASSWORD]@]HOST[:PORT][,..][/NAME]`, or `tls://..`.
 
         It connects to the first server, and after a fault to the next one.
 
         Of all nodes that do not hear all, the server gives each digest to one. A node that hears
         all gets each digest too.
+
+        With a secret each message is sealed, and one of anybody else is passed over.
         """
         self._link = NatsLink(url, tls)
         self._name = url.path.strip("/") or "squall"
         self._hears_all = hears_all
         self._inbox = f"_INBOX.{token_hex(16)}"
+        self._sender = f"bus-{token_hex(8)}"
+        self._seal = None if secret is None else Seal(secret, self._name)
+        #: How many messages were passed over.
+        self.foreign = 0
 
     def connect(self) -> None:
         if not self._link.is_open:
@@ -47,7 +61,7 @@ class NatsBus(Bus):
         self._publish(f"{self._name}.frames", frame)
 
     def ask(self, digest: bytes) -> None:
-        self._publish(f"{self._name}.digests {self._inbox}", digest)
+        self._publish(f"{self._name}.digests", digest, self._inbox)
 
     def answer(self, reply: str, frame: bytes) -> None:
         self._publish(reply, frame)
@@ -56,12 +70,31 @@ class NatsBus(Bus):
         heard = []
         for op in self._link.hear(seconds):
             words = op.rest.split()
-            heard.append(Message(op.payload, words[2] if len(words) == 4 else None))
+            reply = words[2] if len(words) == 4 else None
+            frame = self._opened(words[0], reply, op.payload)
+            if frame is not None:
+                heard.append(Message(frame, reply))
         return heard
 
-    def _publish(self, subject: str, frame: bytes) -> None:
+    def _opened(self, place: str, reply: Optional[str], data: bytes) -> Optional[bytes]:
+        """The frame of a message, or None if it is passed over."""
+        if self._seal is None:
+            return data
+        opened = self._seal.open(place, reply, data)
+        if opened is not None:
+            return opened[1]
+        if self.foreign == 0:
+            why = "a message is passed over that no program with this --secret-file has sent"
+            print(f"bus: {why}", file=sys.stderr, flush=True)
+        self.foreign += 1
+        return None
+
+    def _publish(self, place: str, frame: bytes, reply: Optional[str] = None) -> None:
         """Publishes a frame, in pieces if the server takes none of its length."""
-        pieces = cut(frame, self._link.most)
+        most = self._link.most - (HEAD if self._seal else 0)
+        subject = place if reply is None else f"{place} {reply}"
+        pieces = cut(frame, most)
         for it in pieces.fit:
-            self._link.publish(subject, it)
-        refuse(pieces, self._link.most)
+            about = About(place, self._sender, reply)
+            self._link.publish(subject, self._seal.envelope(about, it) if self._seal else it)
+        refuse(pieces, most)

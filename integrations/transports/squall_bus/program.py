@@ -17,6 +17,7 @@ from .etcd import EtcdBus
 from .follow import follow
 from .node import Node
 from .publish import publish, reported, work_off
+from .seal import read_secret
 from .tls import Tls
 
 #: Makes a bus of another one, as for tests that lose messages.
@@ -28,7 +29,8 @@ def main(words: Optional[List[str]] = None, wrap: Wrap = lambda bus: bus) -> int
     signal.signal(signal.SIGTERM, _end)
     options = _parser().parse_args(words)
     try:
-        bus = wrap(open_bus(options.bus, options.act is _publish, _tls(options)))
+        secret = options.secret_file and read_secret(options.secret_file)
+        bus = wrap(open_bus(options.bus, options.act is _publish, _tls(options), secret))
         try:
             return int(options.act(bus, options))
         finally:
@@ -86,6 +88,8 @@ def _bus_words() -> argparse.ArgumentParser:
     words = argparse.ArgumentParser(add_help=False)
     schemes = "nats://.., tls://.., jetstream://.., postgres://.. or etcd://.."
     words.add_argument("bus", metavar="BUS", help=schemes)
+    about = "NATS: the secret of the deployment, which seals all messages"
+    words.add_argument("--secret-file", type=Path, metavar="FILE", help=about)
     tls = words.add_argument_group("TLS, for NATS and JetStream")
     tls.add_argument("--tls-bus", action="store_true", help="never in the clear, as with tls://")
     for name, about in (

@@ -10,6 +10,8 @@ from typing import List, Tuple
 from squall import END, Course, Plan, Rank, Router, frame
 from squall_bus import BusError, Message, Node, TooLarge, open_bus
 from squall_bus.bus import Bus
+from squall_bus.nats import NatsBus
+from squall_bus.pieces import joined
 
 from .programs import OLD, CourseTest, heard, plan, until
 from .servers import Nats, NatsWith, Server, find
@@ -93,6 +95,27 @@ class Messages(NatsTest):
         two.answer(shown[0].reply, frame.opened(2, 0))
         self.assertEqual([it.frame for it in hear(one)], [frame.opened(2, 0)])
         self.assertEqual(three.hear(0.05), [])
+
+    def test_what_is_not_sealed_is_passed_over(self) -> None:
+        url = self.serve(NatsWith("max_payload: 1024")).url()
+        buses = [open_bus(url, secret=it) for it in (b"a" * 16, b"a" * 16, b"b" * 16, None)]
+        for bus in buses:
+            self.addCleanup(bus.close)
+            bus.connect()
+        one, same, other, plain = buses
+        for stranger in (other, plain):
+            stranger.send(frame.opened(3, 0))
+        self.assertEqual(hear(plain)[0].frame[-len(frame.opened(3, 0)) :], frame.opened(3, 0))
+        with Router(1, FIRST, FIRST) as router:
+            for at in range(50):
+                router.loaded(2, 0, 3, Rank(at, 0), Rank(at, 1))
+            (board,) = router.board()
+            one.send(board)
+            came = [it.frame for it in hear(same)]
+            self.assertEqual(joined(came), [board])
+        assert isinstance(same, NatsBus) and isinstance(other, NatsBus)
+        self.assertEqual(same.foreign, 2)
+        self.assertEqual(hear(other), [])
 
     def test_names_keep_deployments_apart(self) -> None:
         url = self.serve(Nats()).url()

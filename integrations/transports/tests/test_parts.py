@@ -4,6 +4,8 @@ from __future__ import annotations
 
 import random
 import unittest
+from pathlib import Path
+from tempfile import TemporaryDirectory
 from typing import List
 
 from squall import END, Course, Plan, Rank, Router, frame
@@ -11,6 +13,7 @@ from squall_bus import BusError
 from squall_bus.nats_text import Op, Parser
 from squall_bus.pieces import ANY, cut, joined, reports
 from squall_bus.publish import reported, work_off
+from squall_bus.seal import About, Seal, read_secret
 
 from .programs import course
 
@@ -46,6 +49,44 @@ class NatsText(unittest.TestCase):
         ):
             with self.assertRaises(BusError):
                 Parser().feed(bad)
+
+
+class Seals(unittest.TestCase):
+    """Codes of messages."""
+
+    about = About("shop.digests", "proxy-1", "_INBOX.7")
+
+    def test_the_vector_is_kept(self) -> None:
+        # That of PROTOCOL.md, which the programs for Redis test too.
+        code = Seal(b"a" * 32, "shop").code(self.about, b"frame")
+        wanted = "6de84d55199df84bbe7638d43cc4acfaf6aaa53d33f638eda07578b5db3cf0e8"
+        self.assertEqual(code.hex(), wanted)
+
+    def test_what_is_turned_is_refused(self) -> None:
+        seal = Seal(b"a" * 32, "shop")
+        place, _, reply = self.about
+        data = seal.envelope(self.about, b"frame")
+        self.assertEqual(seal.open(place, reply, data), ("proxy-1", b"frame"))
+        for at in range(8 * len(data)):
+            turned = bytearray(data)
+            turned[at // 8] ^= 1 << at % 8
+            self.assertIsNone(seal.open(place, reply, bytes(turned)))
+        for end in range(len(data)):
+            self.assertIsNone(seal.open(place, reply, data[:end]))
+        self.assertIsNone(seal.open("shop.frames", reply, data))
+        self.assertIsNone(seal.open(place, None, data))
+        for other in (Seal(b"b" * 32, "shop"), Seal(b"a" * 32, "shops")):
+            self.assertIsNone(other.open(place, reply, data))
+
+    def test_a_secret_is_the_first_line(self) -> None:
+        with TemporaryDirectory() as folder:
+            file = Path(folder) / "secret"
+            file.write_bytes(b"a" * 16 + b"\nrest\n")
+            self.assertEqual(read_secret(file), b"a" * 16)
+            for bad in (b"", b"a" * 15, b"a" * 15 + b" b"):
+                file.write_bytes(bad)
+                with self.assertRaisesRegex(ValueError, "openssl rand -hex 32"):
+                    read_secret(file)
 
 
 class Pieces(unittest.TestCase):
