@@ -7,6 +7,8 @@
 -- squall:moves   a list, one text for each move by rising key: LO HI ROLE PEER. LO and HI are ranks of
 --                16 hexadecimal digits. ROLE is out, in or none. PEER is the partition at the other end
 --                of the move, or its source if ROLE is none
+-- squall:issue   the frame by which routers learn of a course, in hexadecimal digits. It is written once all
+--                partitions have begun that course, and may be older than the number
 -- squall:edge    of a move's LO the rank below which its keys were given (out) or loaded (in)
 -- squall:forgot  of a move's LO the rank below which the source has unlinked what it gave
 -- squall:gone    of a move's LO how many rows the source has unlinked
@@ -163,6 +165,14 @@ redis.register_function({
   end,
 })
 
+-- Adds each move as LO HI ROLE PEER EDGE FORGOT to the lines.
+local function with_moves(lines, course)
+  for _, move in ipairs(course.moves) do
+    lines[#lines + 1] = table.concat({ move.lo, move.hi, move.role, move.peer, move.edge, move.forgot }, ' ')
+  end
+  return lines
+end
+
 -- NUMBER [PLAN]: each move of that course as LO HI ROLE PEER EDGE FORGOT, if the course ends at that plan.
 redis.register_function({
   function_name = 'squall_moves',
@@ -174,11 +184,17 @@ redis.register_function({
     elseif args[2] and args[2] ~= redis.call('GET', 'squall:new') then
       return refuse('CLASH ' .. course.number)
     end
-    local lines = {}
-    for at, move in ipairs(course.moves) do
-      lines[at] = table.concat({ move.lo, move.hi, move.role, move.peer, move.edge, move.forgot }, ' ')
-    end
-    return lines
+    return with_moves({}, course)
+  end,
+})
+
+-- For routers that hear nothing from the bus: the number, the issue, and each move as squall_moves says it.
+redis.register_function({
+  function_name = 'squall_course',
+  flags = { 'no-writes', 'allow-oom' },
+  callback = function()
+    local course = known()
+    return with_moves({ course.number, redis.call('GET', 'squall:issue') or '' }, course)
   end,
 })
 

@@ -170,3 +170,119 @@ lacks_secret() {
   echo "$said"
   [ "$status" -eq 2 ] && [[ $said = *"$why"*"openssl rand -hex 32 > FILE"* ]]
 }
+
+# Starts what passes on to the bus, into `wire`, its process id, and a proxy that knows the bus by it alone: `cut`, with
+# its page at the port `http`.
+start_apart() {
+  local id limits bus_at=$bus_at
+  launch "$run" wire python3 "$package/tests/forward.py" "${bus_at#nats://}"
+  wire=$id
+  await test -s "$run/wire" || return
+  bus_at=${bus_at%127.0.0.1:*}127.0.0.1:$(cat "$run/wire")
+  free_port
+  http=$port
+  limits=(--metrics "127.0.0.1:$http")
+  run_proxy 0 env && cut=$port
+}
+
+# Whether a page of a proxy has such a line; the other words are those of grep.
+shows() {
+  exec 3<> "/dev/tcp/127.0.0.1/$http" || return
+  printf 'GET /%s HTTP/1.1\r\n\r\n' "$1" >&3
+  tr -d '\r' <&3 > "$run/shown"
+  exec 3>&-
+  shift
+  grep -q "$@" "$run/shown"
+}
+
+# Asks a proxy for a key, over and over, as long as a process runs. The longest time without an answer, in milliseconds,
+# comes into `longest`.
+ask_while() {
+  local id=$1 at=$2 key=$3 began now
+  longest=0
+  while ! has_ended "$id"; do
+    began=${EPOCHREALTIME/./}
+    [ "$(redis-cli -p "$at" set "$key" "$began")" = OK ] && [ "$(redis-cli -p "$at" get "$key")" = "$began" ] \
+      || { echo "no right answer after $(((${EPOCHREALTIME/./} - began) / 1000)) ms"; return 1; }
+    now=$(((${EPOCHREALTIME/./} - began) / 1000))
+    [ "$now" -le "$longest" ] || longest=$now
+  done
+}
+
+# A proxy that is cut off the bus goes on through whole courses: the partitions tell it of them. Its page says so, until it
+# hears the bus again. The way to the bus is one that says nothing, or that does not lead anywhere.
+goes_on() {
+  local signal=$1 id longest
+  start_apart && await shows ready "^HTTP/1.1 200" && await shows metrics '^squall_partition_up{partition="3"} 1$' || return
+  kill "-$signal" "$wire"
+  await shows ready "^the bus has said nothing for" && shows ready "^HTTP/1.1 503" || { cat "$run/shown"; return 1; }
+  start_move 2 old new --pause 40
+  ask_while "$id" "$cut" 400:0 && wait "$id" || { cat "$run/mover"; return 1; }
+  echo "no answer for at most $longest ms"
+  [ "$longest" -lt 5000 ] || return
+  redis-cli -p "$cut" squall route 400:0 | grep "partition 3 course 2" || return
+  # It hears of two courses at once.
+  move 3 new old && move 4 old new || return
+  await serves_at "$cut" 400:0 && await serves_at "$cut" 900:0 && await shows metrics '^squall_course 4$' || return
+  grep "the bus did not tell of course 4; partition" "$run"/proxy.*
+}
+
+serves_at() {
+  [ "$(redis-cli -p "$1" set "$2" x)" = OK ]
+}
+
+test_cut_off_by_silence() {
+  local wire cut http
+  deploy && fill && goes_on STOP || return
+  # Once the way is open again, the proxy is ready.
+  kill -CONT "$wire" && await shows ready "^ready$" && shows ready "^HTTP/1.1 200"
+}
+
+test_cut_off_by_refusal() {
+  local wire cut http
+  deploy && fill && goes_on KILL
+}
+
+test_cut_off_nats() {
+  local wire cut http nats
+  command -v nats-server > /dev/null || { echo "no nats-server here"; return 1; }
+  start_one_nats && deploy && fill && goes_on STOP || return
+  kill -CONT "$wire" && await shows ready "^ready$"
+}
+
+# A partition that is down, or lets a proxy in no more, is named; log-ins that it refuses become seldom.
+test_ready() {
+  local http limits before
+  deploy || return
+  free_port
+  http=$port
+  limits=(--metrics "127.0.0.1:$http")
+  run_proxy 0 env && await shows ready "^ready$" || return
+  stop "${servers[1]}"
+  await shows ready "^partition 2 does not answer: " && shows ready "^HTTP/1.1 503" || return
+  ! grep -q "^partition [13]" "$run/shown" || return
+  await shows metrics '^squall_partition_up{partition="2"} 0$' && shows metrics '^squall_partition_up{partition="1"} 1$' || return
+  run_redis "${servers[1]}" && await shows ready "^partition 2 refuses course 1: WRONGPASS" || return
+  redis-cli -p "$port" set 900:0 x > "$run/asked" &
+  sleep 2
+  before=$(logins)
+  sleep 3
+  before=$(($(logins) - before))
+  [ "$before" -le 12 ] || { echo "$before log-ins in 3 s"; return 1; }
+  "$bin/squall-redis-mover" --init --first "$run/old.json" --secret-file "$secret" "${parts[@]}" || return
+  await shows ready "^ready$" && await is_said OK "$run/asked" && shows "" "partition 2</th><td>up"
+}
+
+logins() {
+  redis-cli -p "$port" squall info | sed 's/.* logins \([0-9]*\) .*/\1/'
+}
+
+# The mover names a proxy that has not followed.
+test_who_has_not_followed() {
+  local wire cut http name settle=3000
+  deploy SQUALL_MISS=100 || return
+  name=$(redis-cli -p "${proxies[0]}" squall info | sed 's/.* node //')
+  move 2 old new 2> "$run/said" || return
+  cat "$run/said"
+  grep "have not heard all: .*$name" "$run/said"
+}

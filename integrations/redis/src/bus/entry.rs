@@ -4,6 +4,7 @@ use super::seal::{About, Seal};
 use crate::conn::Conn;
 use crate::fault::{Done, Fault};
 use crate::resp::Value;
+use std::time::Instant;
 
 /// An entry of a stream: `from NAME mac CODE frame BYTES`, and of a repair also `re ID`.
 pub struct Entry {
@@ -26,6 +27,8 @@ pub struct Heard {
     pub digests: Vec<Entry>,
     /// How many entries were passed over, since they do not have this deployment's seal.
     pub foreign: u64,
+    /// When the server has said anything last.
+    pub at: Option<Instant>,
 }
 
 /// A reader's place in both streams.
@@ -63,7 +66,7 @@ impl Streams {
         let names = [self.frames.as_str(), &self.digests];
         let after = [places.frames.as_str(), &places.digests];
         let answer = conn.ask(&[&head[..], &names, &after].concat())?;
-        let mut heard = Heard::default();
+        let mut heard = Heard { at: Some(Instant::now()), ..Heard::default() };
         for stream in answer.list() {
             let [name, entries] = two(stream)?;
             let name = name.text();

@@ -5,6 +5,7 @@
 //! at all. So each node shows a digest of what it knows once a second, and a node that knows more answers with a repair.
 //! The answer waits a short time by chance. If another node answers first, it is dropped.
 
+mod agenda;
 mod carrier;
 mod entry;
 mod nats;
@@ -13,6 +14,7 @@ mod nats_text;
 mod nats_wire;
 mod node;
 mod outbox;
+mod peers;
 mod seal;
 
 pub use node::{Counts, Node, Options};

@@ -261,7 +261,7 @@ impl NatsEars<'_> {
     /// The next frames and digests, after a wait of at most a second. A digest's reply is its id.
     pub fn read(&mut self) -> Done<Heard> {
         self.receive().trying(|| self.server.addr.clone())?;
-        let mut heard = Heard::default();
+        let mut heard = Heard { at: Some(self.heard), ..Heard::default() };
         while let Some(op) = self.parser.next().trying(|| self.server.addr.clone())? {
             match op {
                 Op::Message { sid, reply, payload } => self.nats.take(&mut heard, (sid, reply, payload)),

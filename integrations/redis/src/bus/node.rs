@@ -1,8 +1,10 @@
 //! A node of the bus: a router that hears all others.
 
+use super::agenda::{Agenda, Answer, AT_ONCE, PAUSE};
 use super::carrier::Carrier;
 use super::entry::{Entry, Heard};
 use super::outbox;
+use super::peers::Peers;
 use crate::args::Args;
 use crate::course::{Plan, Progress};
 use crate::dice::Dice;
@@ -10,20 +12,15 @@ use crate::fault::{note, Done};
 use crate::{faults, stop};
 use squall::{Course, Error, Router, View};
 use std::sync::atomic::{AtomicBool, AtomicU64, Ordering::Relaxed, Ordering::SeqCst};
-use std::sync::{Arc, Condvar, Mutex, MutexGuard, PoisonError};
+use std::sync::{Arc, Mutex, MutexGuard, PoisonError};
 use std::thread;
 use std::time::{Duration, Instant};
 
 /// Between two digests of a node.
 const ROUND: Duration = Duration::from_secs(1);
-/// Between two digests that are asked for at once.
-const AT_ONCE: Duration = Duration::from_millis(10);
 /// How long a mover bears a bus that takes no report, and the pause before the next try.
 const BORNE: Duration = Duration::from_secs(60);
 const AGAIN: Duration = Duration::from_millis(200);
-/// The longest pause before an answer, in microseconds.
-const PAUSE: u64 = 50_000;
-
 /// What a node needs to join.
 pub struct Options {
     /// What carries frames.
@@ -62,20 +59,6 @@ pub struct Counts {
     pub faults: AtomicU64,
 }
 
-/// A digest that is to be answered.
-struct Answer {
-    due: Instant,
-    id: String,
-    digest: Vec<u8>,
-}
-
-/// What is to be sent next.
-#[derive(Default)]
-struct Agenda {
-    is_wanted: bool,
-    answers: Vec<Answer>,
-}
-
 /// A node of the bus, which hears and answers in threads of its own.
 pub struct Node {
     carrier: Carrier,
@@ -84,18 +67,21 @@ pub struct Node {
     /// The newest view. `views` is how many there were.
     view: Mutex<View>,
     views: AtomicU64,
-    agenda: Mutex<Agenda>,
-    speak: Condvar,
+    agenda: Agenda,
     wakers: Mutex<Vec<Box<dyn Fn() + Send>>>,
     /// Whether the bus has taken anything that a mover had to tell. Until then a fault is no passing one.
     has_told: AtomicBool,
-    /// When a digest was heard last that differs from this node's.
-    differed: Mutex<Instant>,
+    /// What other nodes have shown.
+    peers: Mutex<Peers>,
+    /// When the node joined, or the bus has said anything last.
+    heard: Mutex<Instant>,
+    has_heard: AtomicBool,
     /// What it has counted.
     pub counts: Counts,
 }
 
-fn lock<T>(mutex: &Mutex<T>) -> MutexGuard<'_, T> {
+/// Locks what no thread leaves half done.
+pub(super) fn lock<T>(mutex: &Mutex<T>) -> MutexGuard<'_, T> {
     mutex.lock().unwrap_or_else(PoisonError::into_inner)
 }
 
@@ -116,11 +102,12 @@ impl Node {
             router: Mutex::new(router),
             view: Mutex::new(view),
             views: AtomicU64::new(1),
-            agenda: Mutex::new(Agenda { is_wanted: true, answers: Vec::new() }),
-            speak: Condvar::new(),
+            agenda: Agenda::new(),
             wakers: Mutex::default(),
             has_told: AtomicBool::new(false),
-            differed: Mutex::new(Instant::now()),
+            peers: Mutex::new(Peers::new(Instant::now())),
+            heard: Mutex::new(Instant::now()),
+            has_heard: AtomicBool::new(false),
             counts: Counts::default(),
         });
         node.run(Node::hear);
@@ -149,6 +136,26 @@ impl Node {
     /// Calls the function after each change of the view, in a thread of the node.
     pub fn on_news(&self, waker: impl Fn() + Send + 'static) {
         lock(&self.wakers).push(Box::new(waker));
+    }
+
+    /// Its name on the bus.
+    pub fn name(&self) -> &str {
+        &self.name
+    }
+
+    /// The number of the newest course.
+    pub fn number(&self) -> u32 {
+        lock(&self.view).number()
+    }
+
+    /// Whether the bus has ever said anything.
+    pub fn has_heard(&self) -> bool {
+        self.has_heard.load(Relaxed)
+    }
+
+    /// For how long the bus has said nothing.
+    pub fn silence(&self) -> Duration {
+        lock(&self.heard).elapsed()
     }
 
     /// How many views there were. It rises after a view was changed.
@@ -194,8 +201,7 @@ impl Node {
 
     /// Shows at once what this node knows, for others to tell it the rest.
     pub fn ask(&self) {
-        lock(&self.agenda).is_wanted = true;
-        self.speak.notify_one();
+        self.agenda.want();
     }
 
     /// Takes a report, and sends it to all nodes. A bus that took one before is asked again for a minute.
@@ -205,13 +211,7 @@ impl Node {
 
     /// Takes frames, and sends them to all nodes. A bus that took some before is asked again for a minute.
     pub fn tell_frames(&self, frames: &[Vec<u8>]) -> Done<()> {
-        {
-            let mut router = lock(&self.router);
-            for frame in frames {
-                router.hear(frame)?;
-            }
-            self.publish(&router)?;
-        }
+        self.learn(frames)?;
         let began = Instant::now();
         let mut is_said = false;
         loop {
@@ -229,6 +229,18 @@ impl Node {
                 }
             }
         }
+    }
+
+    /// Takes frames that did not come over the bus: whether there was any news.
+    pub fn learn(&self, frames: &[Vec<u8>]) -> Done<bool> {
+        let mut router = lock(&self.router);
+        let before: Vec<Vec<u8>> = router.digest()?.collect();
+        frames.iter().try_for_each(|frame| router.hear(frame))?;
+        let is_news = !router.digest()?.eq(before);
+        if is_news {
+            self.publish(&router)?;
+        }
+        Ok(is_news)
     }
 
     /// Whether a fault of the bus may pass, and is worth a wait.
@@ -255,19 +267,22 @@ impl Node {
         self.carrier.write(&self.name, &frames, None)
     }
 
-    /// Answers others until each node that shows a digest has shown that it knows the same: whether
-    /// that came about in the given time.
-    pub fn settle(&self, most: Duration) -> bool {
+    /// Answers others until each node that shows a digest has shown that it knows the same.
+    ///
+    /// # Errors
+    ///
+    /// That did not come about in the given time: the names of those whose last digest was another one.
+    pub fn settle(&self, most: Duration) -> Result<(), Vec<String>> {
         let began = Instant::now();
         let quiet = ROUND + Duration::from_micros(2 * PAUSE);
-        *lock(&self.differed) = began;
+        lock(&self.peers).begin(began);
         while began.elapsed() < most && !stop::is_asked() {
-            if lock(&self.differed).elapsed() >= quiet {
-                return true;
+            if lock(&self.peers).quiet() >= quiet {
+                return Ok(());
             }
             thread::sleep(Duration::from_millis(10));
         }
-        false
+        Err(lock(&self.peers).behind(began))
     }
 
     fn publish(&self, router: &Router) -> Done<()> {
@@ -284,7 +299,11 @@ impl Node {
         let mut dice = Dice::fresh();
         let misses = faults::misses();
         loop {
-            let Heard { mut frames, mut digests, foreign } = ears.read()?;
+            let Heard { mut frames, mut digests, foreign, at } = ears.read()?;
+            if let Some(at) = at {
+                *lock(&self.heard) = at;
+                self.has_heard.store(true, Relaxed);
+            }
             self.pass_over(foreign);
             let mut is_heard = |entry: &Entry| entry.from != self.name && dice.below(100) >= misses;
             frames.retain(&mut is_heard);
@@ -328,20 +347,9 @@ impl Node {
         }
         let now = Instant::now();
         let own = lock(&self.router).digest().map(|frames| frames.collect::<Vec<_>>()).unwrap_or_default();
-        if digests.iter().any(|entry| !own.contains(&entry.frame)) {
-            *lock(&self.differed) = now;
-        }
-        let mut agenda = lock(&self.agenda);
-        agenda.answers.extend(digests.into_iter().map(|entry| Answer {
-            due: now + Duration::from_micros(dice.below(PAUSE)),
-            id: entry.id,
-            digest: entry.frame,
-        }));
-        let before = agenda.answers.len();
-        agenda.answers.retain(|answer| !given.contains(&&answer.id));
-        let dropped = before - agenda.answers.len();
+        lock(&self.peers).take(&digests, &own, now);
+        let dropped = self.agenda.take(digests, &given, dice);
         self.counts.dropped.fetch_add(dropped as u64, Relaxed);
-        self.speak.notify_one();
     }
 
     /// Shows a digest each second and when it is wanted, and answers those of others, for ever.
@@ -349,7 +357,7 @@ impl Node {
         let mut shown = Instant::now();
         let mut pause = AT_ONCE;
         loop {
-            let due = self.wait(shown, pause);
+            let due = self.agenda.wait(shown, pause);
             if shown.elapsed() >= AT_ONCE && (due.is_none() || shown.elapsed() >= ROUND) {
                 let digest = self.within(|router, limit| Ok(router.digest_within(limit)?.collect()))?;
                 self.carrier.show(&self.name, &digest)?;
@@ -359,28 +367,6 @@ impl Node {
             for answer in due.into_iter().flatten() {
                 self.repair(&answer)?;
             }
-        }
-    }
-
-    /// Waits until answers are due, or for nothing if a digest is.
-    fn wait(&self, shown: Instant, pause: Duration) -> Option<Vec<Answer>> {
-        let mut agenda = lock(&self.agenda);
-        loop {
-            let now = Instant::now();
-            let (due, later) =
-                std::mem::take(&mut agenda.answers).into_iter().partition(|answer| answer.due <= now);
-            agenda.answers = later;
-            if !Vec::is_empty(&due) {
-                return Some(due);
-            }
-            let next = shown + if agenda.is_wanted { AT_ONCE } else { pause };
-            if next <= now {
-                agenda.is_wanted = false;
-                return None;
-            }
-            let until = agenda.answers.iter().map(|answer| answer.due).fold(next, Instant::min);
-            let waited = self.speak.wait_timeout(agenda, until - now);
-            agenda = waited.unwrap_or_else(PoisonError::into_inner).0;
         }
     }
 

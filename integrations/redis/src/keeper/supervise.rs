@@ -71,7 +71,11 @@ impl Supervisor {
         }
         match all.into_iter().find(|it| it.part == part) {
             // What it says was heard over the same connection, which ends with the run of its server.
-            Some(partition) => partition.of_course(survey.facts[&part].number).admit(&self.secret)?,
+            Some(partition) => {
+                let mut partition = partition.of_course(survey.facts[&part].number);
+                partition.admit(&self.secret)?;
+                partition.let_read(&self.secret)?;
+            }
             None => return Ok(false),
         }
         Ok(true)

@@ -160,13 +160,14 @@ impl Mover {
         });
         if stuck.count() > 0 {
             bus.tell_all()?;
-            bus.settle(settle);
+            // Whether all have followed is said by the run that ends the course.
+            let _ = bus.settle(settle);
         }
         moved?;
         let (keys, took) = (progress.moved(), progress.took().as_secs_f64());
         let said = say(format!("course {}: moved {keys} keys in {took:.1} s", self.number));
-        if !bus.settle(settle) {
-            note("squall-redis-mover: some proxies have not heard all; run it again if they don't");
+        if let Err(names) = bus.settle(settle) {
+            note(format!("squall-redis-mover: {}; run it again if they don't", unfollowed(&names)));
         }
         said
     }
@@ -205,9 +206,13 @@ impl Mover {
         pairs.values().try_for_each(|moves| job.catch_up(moves))
     }
 
-    /// Lets in routers of the course. Those of the course before are let in too.
+    /// Lets in routers of the course. Those of the course before are let in too. Then partitions say the course to
+    /// those that hear nothing from the bus.
     fn admit(&self, entered: &mut Entered) -> Done<()> {
-        entered.partitions.iter_mut().try_for_each(|it| it.admit(&self.secret))
+        entered.partitions.iter_mut().try_for_each(|it| it.admit(&self.secret))?;
+        // All routers know course 1, and one with another plan for it shall not hear of this one.
+        let issue: &[u8] = if self.number == 1 { &[] } else { &self.issue };
+        entered.partitions.iter_mut().try_for_each(|it| it.tell(&self.secret, issue))
     }
 
     /// Shuts out routers that have not heard of the course. Keys are given only after that.
@@ -259,6 +264,14 @@ impl Mover {
         let total: usize = counts.values().sum();
         say(format!("course {}: {} moves, {total} keys", self.number, self.moves.len()))
     }
+}
+
+/// Which nodes of the bus have not heard all. `SQUALL INFO` of a proxy says its name.
+fn unfollowed(names: &[String]) -> String {
+    if names.is_empty() {
+        return "it is not known whether all proxies have heard all".into();
+    }
+    format!("these have not heard all: {}", names.join(", "))
 }
 
 /// The moves of one sub-plan, those of each source in a thread of its own.

@@ -7,6 +7,7 @@ use crate::course::Move;
 use crate::fault::{Done, Fault, Trying};
 use crate::keymap::hex;
 use crate::resp::Value;
+use crate::secret::{self, READER};
 use crate::{faults, user, GUARD};
 use squall::Rank;
 
@@ -42,6 +43,9 @@ const RIGHTS: &[&str] = &[
     "+evalsha_ro",
     "+script|load",
 ];
+
+/// What the user may do who reads what a partition keeps of its course.
+const READS: [&str; 5] = ["%R~squall:*", "+fcall_ro", "+get", "+hget", "+lrange"];
 
 /// A partition, as its operator.
 pub struct Partition {
@@ -130,6 +134,20 @@ impl Partition {
         let secret = format!(">{secret}");
         let words = [&["ACL", "SETUSER", &name, "reset", "on", &secret][..], RIGHTS].concat();
         self.in_course(&[vec!["FCALL", "squall_run", "0", &run], words])
+    }
+
+    /// Says the course to routers that hear nothing from the bus. All partitions have to have begun it: a router that
+    /// knows it is let in nowhere else.
+    pub fn tell(&mut self, secret: &str, issue: &[u8]) -> Done<()> {
+        let issue = secret::digits(issue);
+        self.in_course(&[vec!["SET", "squall:issue", &issue]])?;
+        self.let_read(secret)
+    }
+
+    /// Lets routers read what it keeps of its course, also those that are not let in.
+    pub fn let_read(&mut self, secret: &str) -> Done<()> {
+        let password = format!(">{}", secret::of_reader(secret));
+        self.in_course(&[[&["ACL", "SETUSER", READER, "reset", "on", &password][..], &READS].concat()])
     }
 
     /// The users of routers.

@@ -85,14 +85,22 @@ fn read(stream: &mut TcpStream) -> io::Result<Option<String>> {
 
 fn of(path: &str, page: &Page) -> Answer {
     const TEXT: &str = "text/plain; charset=utf-8";
+    const DOWN: &str = "503 Service Unavailable";
     let (kind, body) = match path {
+        "/ready" => match page.hindrances() {
+            Ok(why) if !why.is_empty() => {
+                let body = format!("{}\n", why.join("\n")).into_bytes();
+                return Answer { status: DOWN, kind: TEXT, body };
+            }
+            ready => (TEXT, ready.map(|_| b"ready\n".to_vec())),
+        },
         "/" => ("text/html; charset=utf-8", page.html().map(String::into_bytes)),
         "/metrics" => ("text/plain; version=0.0.4", page.metrics().map(String::into_bytes)),
         "/picture.svg" => ("image/svg+xml", page.picture().map(String::into_bytes)),
         "/status" => (TEXT, page.status().map(String::into_bytes)),
         "/board" => ("application/octet-stream", page.board()),
         _ => {
-            let body = b"/  /metrics  /picture.svg  /status  /board\n".to_vec();
+            let body = b"/  /metrics  /picture.svg  /status  /board  /ready\n".to_vec();
             return Answer { status: "404 Not Found", kind: TEXT, body };
         }
     };
@@ -100,7 +108,7 @@ fn of(path: &str, page: &Page) -> Answer {
         Ok(body) => Answer { status: "200 OK", kind, body },
         Err(fault) => {
             let body = format!("{fault}\n").into_bytes();
-            Answer { status: "503 Service Unavailable", kind: TEXT, body }
+            Answer { status: DOWN, kind: TEXT, body }
         }
     }
 }

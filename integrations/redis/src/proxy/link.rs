@@ -32,8 +32,7 @@ impl Worker {
         }
         match self.upstreams[at].state {
             State::Down(again) if self.now >= again => self.connect(at),
-            State::Refused(again) if self.now >= again => self.enter(at),
-            State::Ready => self.enter(at),
+            State::Refused(_) | State::Ready => self.enter(at),
             _ => {}
         }
         None
@@ -58,15 +57,10 @@ impl Worker {
     /// Logs in by the view's course, if the connection is open, is not logged in by it, and nothing is
     /// in flight on it.
     pub(super) fn enter(&mut self, at: usize) {
-        let number = self.view.number();
+        let (number, views) = (self.view.number(), self.views);
         let upstream = &mut self.upstreams[at];
-        let may_enter = match upstream.state {
-            State::Ready => upstream.number != number,
-            State::Refused(again) => self.now >= again || upstream.number != number,
-            _ => false,
-        };
-        if may_enter && !upstream.is_held() {
-            upstream.enter(number, &self.shared.secret, &self.shared.first);
+        if upstream.may_enter(number, views, self.now) && !upstream.is_held() {
+            upstream.enter((number, views), &self.shared.secret, &self.shared.first);
             upstream.progress = self.now;
             self.counts().logins.fetch_add(1, Relaxed);
             self.mark_upstream(at);
@@ -144,6 +138,7 @@ impl Worker {
             if upstream.entered(reply, self.now, &self.shared.tables) {
                 if upstream.state != State::Ready {
                     self.shared.node.ask();
+                    self.shared.watch.hurry();
                 }
                 self.wake_blocked();
             }

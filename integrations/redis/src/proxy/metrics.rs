@@ -3,17 +3,21 @@
 use super::counts::{add_kinds, add_waits, sum, Counts};
 use super::memory::Bound;
 use super::roles::Tables;
+use super::watch::Watch;
 use crate::bus::Node;
 use crate::conn::Server;
 use crate::fault::Done;
 use crate::keep_alive::KeepAlive;
 use crate::tls::Acceptor;
 use mio::net::TcpStream;
-use std::collections::BTreeMap;
+use std::collections::{BTreeMap, BTreeSet};
 use std::fmt::Write as _;
 use std::sync::atomic::{AtomicBool, AtomicU64, AtomicUsize, Ordering::Relaxed};
 use std::sync::{Arc, Mutex};
 use std::time::{Duration, Instant};
+
+/// A proxy is not ready if the bus has said nothing for longer.
+const SILENCE: Duration = Duration::from_secs(5);
 
 /// What all workers of a proxy share.
 pub struct Shared {
@@ -25,6 +29,8 @@ pub struct Shared {
     pub tls: Option<Acceptor>,
     /// The password of the users squall-N.
     pub secret: String,
+    /// The password of the user who reads what partitions keep of their course.
+    pub reader: String,
     /// The ranges of the plan of course 1.
     pub first: String,
     /// How long a command may wait.
@@ -39,6 +45,8 @@ pub struct Shared {
     pub bound: Bound,
     /// How partitions take part in the course.
     pub tables: Tables,
+    /// What was seen of the partitions.
+    pub watch: Watch,
     /// How many clients there are.
     pub clients: AtomicUsize,
     /// Whether the proxy ends.
@@ -103,7 +111,46 @@ impl Shared {
         for (name, _, value) in self.counters() {
             let _ = write!(text, " {name} {value}");
         }
-        text
+        text + " node " + self.node.name()
+    }
+
+    /// Why this proxy can't serve all keys now, or can't be sure that it will soon: a line for each reason.
+    ///
+    /// # Errors
+    ///
+    /// There is no memory.
+    pub fn hindrances(&self) -> Done<Vec<String>> {
+        let mut all = Vec::new();
+        if self.is_ending.load(Relaxed) {
+            all.push("this proxy ends".to_string());
+        }
+        let silence = self.node.silence();
+        if !self.node.has_heard() {
+            all.push("the bus was not heard yet".to_string());
+        } else if silence > SILENCE {
+            all.push(format!("the bus has said nothing for {} s", silence.as_secs()));
+        }
+        let (course, _) = self.node.course()?;
+        let legs = course.old_plan().into_iter().chain(course.new_plan());
+        let states = self.watch.states();
+        for part in legs.map(|leg| leg.part).collect::<BTreeSet<_>>() {
+            match states.get(&part) {
+                None => {
+                    all.push(format!("partition {part} has no address: --part {part}=HOST:PORT is missing"))
+                }
+                Some(why) => all.extend(why.iter().map(|why| format!("partition {part} {why}"))),
+            }
+        }
+        Ok(all)
+    }
+
+    /// Appends which partitions let this proxy in.
+    fn add_partitions(&self, page: &mut String) {
+        let name = "squall_partition_up";
+        let _ = write!(page, "# HELP {name} whether the partition lets this proxy in\n# TYPE {name} gauge\n");
+        for (part, why) in self.watch.states() {
+            let _ = writeln!(page, "{name}{{partition=\"{part}\"}} {}", u8::from(why.is_none()));
+        }
     }
 
     /// All that Prometheus reads.
@@ -127,6 +174,7 @@ impl Shared {
             ("loaded_keys", "keys among them whose load is known", progress.loaded),
             ("clients", "clients", self.clients.load(Relaxed) as u64),
             ("memory_bytes", "bytes of commands and answers that are held", self.bound.held() as u64),
+            ("bus_last_heard_seconds", "seconds since the bus said anything", self.node.silence().as_secs()),
             ("uptime_seconds", "seconds since the proxy began", self.began.elapsed().as_secs()),
         ];
         for (name, help, value) in gauges {
@@ -135,6 +183,7 @@ impl Shared {
                 "# HELP squall_{name} {help}\n# TYPE squall_{name} gauge\nsquall_{name} {value}\n"
             );
         }
+        self.add_partitions(&mut page);
         add_kinds(&mut page, &self.counts);
         add_waits(&mut page, &self.counts);
         Ok(page)

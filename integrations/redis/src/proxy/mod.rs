@@ -22,6 +22,7 @@ mod socket;
 mod table;
 mod task;
 mod upstream;
+mod watch;
 mod worker;
 
 use crate::args::{Args, Usage};
@@ -29,8 +30,8 @@ use crate::bus::{Node, Options};
 use crate::course::Plan;
 use crate::fault::{note, Done, Fault, Trying};
 use crate::keep_alive::{self, KeepAlive};
-use crate::stop;
 use crate::tls::{self, Acceptor};
+use crate::{secret, stop};
 use metrics::Shared;
 use mio::{Poll, Waker};
 use socket2::SockRef;
@@ -94,7 +95,8 @@ pub fn run(args: &Args) -> Done<()> {
     let most = args.number("clients", 10_000, 1, 1_000_000)? as usize;
     let listener = Arc::new(listener);
     let wakers = Arc::new(start(&shared)?);
-    let files = most + shared.parts.len() * threads * 2 + FILES;
+    watch::start(&shared);
+    let files = most + shared.parts.len() * (threads * 2 + 1) + FILES;
     files::warn(files);
     note(format!("squall-redis-proxy: serves at {}", listener.local_addr()?));
     stop::watch(|| ())?;
@@ -129,18 +131,21 @@ fn end(listener: &TcpListener, shared: &Shared, wakers: &[Arc<Waker>]) {
 
 fn share(args: &Args, threads: usize) -> Done<Shared> {
     let node = Node::join(Options::of(args, "proxy")?)?;
+    let (parts, secret) = (args.parts()?, args.secret()?);
     Ok(Shared {
         node,
-        parts: args.parts()?,
         tls: Acceptor::of(args)?,
         first: Plan::of(args, "first")?.ranges,
-        secret: args.secret()?,
+        reader: secret::of_reader(&secret),
+        secret,
         wait: Duration::from_millis(args.number("wait", 5000, 1, 3_600_000)?),
         answer: Duration::from_millis(args.number("answer", 60_000, 1, 3_600_000)?),
         keep_alive: KeepAlive::of(args)?,
         memory: args.number("client-memory", 64, 1, 4096)? as usize * (1 << 20),
         bound: memory::Bound::of(args)?,
         tables: roles::Tables::default(),
+        watch: watch::Watch::new(parts.keys().copied()),
+        parts,
         clients: AtomicUsize::new(0),
         is_ending: AtomicBool::new(false),
         arrivals: (0..threads).map(|_| Mutex::default()).collect(),

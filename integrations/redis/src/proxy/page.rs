@@ -44,6 +44,11 @@ impl Page {
         self.shared.metrics()
     }
 
+    /// Why the proxy is not ready: a line for each reason.
+    pub fn hindrances(&self) -> Done<Vec<String>> {
+        self.shared.hindrances()
+    }
+
     /// The frames of the board, one after another.
     pub fn board(&self) -> Done<Vec<u8>> {
         Ok(self.shared.node.board()?.concat())
@@ -69,8 +74,22 @@ impl Page {
         while let (Some(name), Some(value)) = (words.next(), words.next()) {
             rows.push_str(&format!("<tr><th>{}</th><td>{value}</td></tr>\n", name.replace('_', " ")));
         }
-        let page = HTML.replace("@rows@", &rows).replace("@status@", &or_why(status));
+        let ready = self.hindrances().map(|why| if why.is_empty() { "ready".into() } else { why.join("\n") });
+        let rows = rows + &self.partitions();
+        let page = HTML.replace("@ready@", &escaped(&or_why(ready)));
+        let page = page.replace("@rows@", &rows).replace("@status@", &or_why(status));
         Ok(page.replace("@picture@", &or_why(self.picture())))
+    }
+
+    /// A row for each partition, and one for the bus.
+    fn partitions(&self) -> String {
+        let silence = self.shared.node.silence().as_secs();
+        let mut rows = format!("<tr><th>bus last heard</th><td>{silence} s ago</td></tr>\n");
+        for (part, why) in self.shared.watch.states() {
+            let state = if why.is_none() { "up" } else { "down" };
+            rows.push_str(&format!("<tr><th>partition {part}</th><td>{state}</td></tr>\n"));
+        }
+        rows
     }
 
     /// What the program says of the board. It is asked again if the board has changed.

@@ -12,8 +12,9 @@ use std::collections::VecDeque;
 use std::sync::Arc;
 use std::time::{Duration, Instant};
 
-/// Between two attempts to connect or to log in.
+/// Between two attempts to connect or to log in, and the most between two log-ins that are refused one after the other.
 const AGAIN: Duration = Duration::from_millis(20);
+const LONGEST: Duration = Duration::from_secs(1);
 /// Commands wait if more bytes than these are to be sent.
 const MOST_OUT: usize = 4 << 20;
 
@@ -65,6 +66,10 @@ pub struct Upstream {
     pub stream: Option<Socket>,
     /// What it is at.
     pub state: State,
+    /// The pause after the next refusal, the view by which it was refused last, and from when on another view lets it try again.
+    pause: Duration,
+    refused_by: u64,
+    least: Instant,
     /// The course by which it is let in.
     pub number: u32,
     /// The course whose refusal was shown last, and the fault of TLS that was.
@@ -111,6 +116,9 @@ impl Upstream {
             server,
             stream: None,
             state: State::Down(now),
+            pause: AGAIN,
+            refused_by: 0,
+            least: now,
             number: 0,
             shown: 0,
             shown_fault: String::new(),
@@ -158,7 +166,7 @@ impl Upstream {
     }
 
     /// Logs in for a course, once nothing is in flight.
-    pub fn enter(&mut self, number: u32, secret: &str, first: &str) {
+    pub fn enter(&mut self, (number, views): (u32, u64), secret: &str, first: &str) {
         let name = user(number);
         if self.is_resp3 {
             push(&mut self.out.bytes, &["HELLO", "3", "AUTH", &name, secret]);
@@ -171,7 +179,7 @@ impl Upstream {
         let words = ["FCALL", "squall_moves", "0", &text].into_iter().chain(plan);
         push(&mut self.out.bytes, &words.collect::<Vec<_>>());
         self.state = State::Entering(2, false);
-        self.number = number;
+        (self.number, self.refused_by) = (number, views);
     }
 
     /// Takes an answer of the log-in: whether it is over.
@@ -192,11 +200,29 @@ impl Upstream {
         self.state = match Table::read(self.number, reply, now).filter(|_| !is_refused) {
             Some(said) => {
                 self.table = tables.take(self.part, said);
+                self.pause = AGAIN;
                 State::Ready
             }
-            None => State::Refused(now + AGAIN),
+            None => {
+                let again = now + self.pause;
+                (self.least, self.pause) = (now + AGAIN, LONGEST.min(self.pause * 2));
+                State::Refused(again)
+            }
         };
         true
+    }
+
+    /// Whether it may log in by that course now: it is logged in by another one, or has been refused for long enough.
+    /// News of the router may be why it is let in, so they make it try at once.
+    pub fn may_enter(&self, number: u32, views: u64, now: Instant) -> bool {
+        match self.state {
+            State::Ready => self.number != number,
+            State::Refused(again) => {
+                let has_news = views != self.refused_by && now >= self.least;
+                now >= again || has_news || self.number != number
+            }
+            _ => false,
+        }
     }
 
     /// Asks how far the partition is with its moves, if it may be asked now: whether it was.
@@ -336,5 +362,26 @@ mod tests {
         upstream.entered(b"-WRONGPASS invalid\r\n", now, &tables);
         assert!(upstream.entered(b"*0\r\n", now, &tables));
         assert!(matches!(upstream.state, State::Refused(_)));
+        assert!(!upstream.may_enter(0, 0, now) && upstream.may_enter(0, 0, now + AGAIN));
+        assert!(upstream.may_enter(1, 0, now));
+    }
+
+    #[test]
+    fn refused_log_ins_pause() {
+        let now = Instant::now();
+        let mut upstream = Upstream::new(1, Server::plain("127.0.0.1:1".parse().unwrap()), false, now);
+        let tables = Tables::default();
+        for pause in [20, 40, 80, 160, 320, 640, 1000, 1000] {
+            upstream.enter((7, 3), "", "");
+            upstream.entered(b"-WRONGPASS invalid\r\n", now, &tables);
+            upstream.entered(b"-NOPERM x\r\n", now, &tables);
+            let after = |millis| now + Duration::from_millis(millis);
+            assert!(!upstream.may_enter(7, 3, after(pause - 1)) && upstream.may_enter(7, 3, after(pause)));
+            assert!(!upstream.may_enter(7, 4, after(19)) && upstream.may_enter(7, 4, after(20)));
+        }
+        upstream.enter((8, 4), "", "");
+        upstream.entered(b"+OK\r\n", now, &tables);
+        upstream.entered(b"*0\r\n", now, &tables);
+        assert!(upstream.pause == AGAIN && upstream.is_ready(8));
     }
 }

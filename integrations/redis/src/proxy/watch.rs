@@ -1,0 +1,223 @@
+//! Looks at each partition each second: whether it lets this proxy in. To a proxy that is cut off the bus a partition also
+//! says which course it is in, and what it has loaded.
+
+use super::metrics::Shared;
+use crate::bus::report;
+use crate::conn::{Conn, Server};
+use crate::fault::{note, Done, Fault};
+use crate::resp::Value;
+use crate::secret::READER;
+use crate::user;
+use squall::{Rank, Router};
+use std::collections::{BTreeMap, HashMap};
+use std::sync::{Arc, Condvar, Mutex, MutexGuard, PoisonError};
+use std::thread;
+use std::time::{Duration, Instant};
+
+/// Between two looks at a partition.
+const ROUND: Duration = Duration::from_secs(1);
+/// How long the bus may take to tell of a course in which a partition is already, and between two questions about that.
+const GRACE: Duration = Duration::from_millis(200);
+const AGAIN: Duration = Duration::from_millis(10);
+/// A bus that says nothing for so long counts as cut off.
+const CUT: Duration = Duration::from_secs(2);
+/// How long a partition may take for an answer.
+const PATIENCE: Duration = Duration::from_secs(2);
+/// No more threads look.
+const MOST: usize = 32;
+
+/// What was seen of the partitions: why each of them can't be used, or nothing if it can.
+pub struct Watch {
+    states: Mutex<BTreeMap<u32, Option<String>>>,
+    hurries: Mutex<u64>,
+    news: Condvar,
+}
+
+fn lock<T>(mutex: &Mutex<T>) -> MutexGuard<'_, T> {
+    mutex.lock().unwrap_or_else(PoisonError::into_inner)
+}
+
+impl Watch {
+    /// That of partitions that were not looked at.
+    pub fn new(parts: impl Iterator<Item = u32>) -> Watch {
+        let unknown = |part| (part, Some("was not looked at yet".to_string()));
+        Watch {
+            states: Mutex::new(parts.map(unknown).collect()),
+            hurries: Mutex::default(),
+            news: Condvar::new(),
+        }
+    }
+
+    /// Looks at once, since a partition has refused this proxy.
+    pub fn hurry(&self) {
+        *lock(&self.hurries) += 1;
+        self.news.notify_all();
+    }
+
+    /// Waits for the next look.
+    fn wait(&self, seen: &mut u64) {
+        let waited = self.news.wait_timeout_while(lock(&self.hurries), ROUND, |hurries| *hurries == *seen);
+        *seen = *waited.unwrap_or_else(PoisonError::into_inner).0;
+    }
+
+    /// Why each partition can't be used, or nothing if it can.
+    pub fn states(&self) -> BTreeMap<u32, Option<String>> {
+        lock(&self.states).clone()
+    }
+}
+
+/// What looks at one partition.
+struct Eye {
+    part: u32,
+    server: Server,
+    conn: Option<Conn>,
+}
+
+/// What a partition made of a log-in.
+enum Seen {
+    In,
+    Refused(String),
+}
+
+/// Looks at all partitions for ever, in threads of their own.
+pub fn start(shared: &Arc<Shared>) {
+    let mut eyes: Vec<Eye> =
+        shared.parts.iter().map(|(&part, server)| Eye { part, server: server.clone(), conn: None }).collect();
+    let size = eyes.len().div_ceil(MOST);
+    while !eyes.is_empty() {
+        let mut some = eyes.split_off(eyes.len().saturating_sub(size));
+        let shared = shared.clone();
+        thread::spawn(move || {
+            let mut seen = 0;
+            loop {
+                some.iter_mut().for_each(|eye| eye.look(&shared));
+                shared.watch.wait(&mut seen);
+            }
+        });
+    }
+}
+
+impl Eye {
+    fn look(&mut self, shared: &Shared) {
+        let number = shared.node.number();
+        let seen = self.enter(shared, number);
+        let asks = match &seen {
+            Ok(Seen::In) => shared.node.silence() >= CUT,
+            Ok(Seen::Refused(_)) => is_unheard(shared, number),
+            Err(_) => false,
+        };
+        let learned = if asks { self.learn(shared) } else { Ok(false) };
+        let why = match seen {
+            Ok(Seen::In) => None,
+            Ok(Seen::Refused(why)) => Some(format!("refuses course {number}: {why}")),
+            Err(fault) => {
+                self.conn = None;
+                Some(format!("does not answer: {fault}"))
+            }
+        };
+        lock(&shared.watch.states).insert(self.part, why);
+        match learned {
+            Ok(true) => shared.watch.hurry(),
+            Ok(false) => {}
+            // It has no such user yet, or is gone by now.
+            Err(_) => self.conn = None,
+        }
+    }
+
+    fn conn(&mut self) -> Done<&mut Conn> {
+        if self.conn.is_none() {
+            let mut conn = Conn::open(&self.server)?;
+            conn.set_patience(PATIENCE)?;
+            self.conn = Some(conn);
+        }
+        self.conn.as_mut().ok_or_else(|| Fault::new("no connection"))
+    }
+
+    /// Logs in by that course.
+    fn enter(&mut self, shared: &Shared, number: u32) -> Done<Seen> {
+        let (name, text) = (user(number), number.to_string());
+        let conn = self.conn()?;
+        conn.put(&["AUTH", &name, &shared.secret]);
+        if number == 1 {
+            conn.put(&["FCALL_RO", "squall_moves", "0", &text, &shared.first]);
+        } else {
+            conn.put(&["GET", "squall:number"]);
+        }
+        let said = conn.hear_all(2)?;
+        let refusal = said.iter().find_map(|it| match it {
+            Value::Error(why) => Some(why.clone()),
+            Value::Bulk(other) if *other != text.as_bytes() => {
+                Some(format!("it is in course {}", String::from_utf8_lossy(other)))
+            }
+            _ => None,
+        });
+        Ok(refusal.map_or(Seen::In, Seen::Refused))
+    }
+
+    /// Takes from the partition what the bus does not tell: whether there was any.
+    fn learn(&mut self, shared: &Shared) -> Done<bool> {
+        let part = self.part;
+        let conn = self.conn()?;
+        conn.ask(&["AUTH", READER, &shared.reader])?;
+        let mut said = conn.ask(&["FCALL_RO", "squall_course", "0"])?.list().into_iter().map(Value::text);
+        let (Some(number), Some(issue)) = (said.next(), said.next().and_then(|digits| bytes(&digits))) else {
+            return Err(Fault::new("a course of another form"));
+        };
+        let before = shared.node.number();
+        let mut is_news = !issue.is_empty() && shared.node.learn(&[issue])?;
+        let (course, _) = shared.node.course()?;
+        if course.number().to_string() == number {
+            let edges: HashMap<Rank, Rank> = said.filter_map(|line| edge(&line)).collect();
+            let moves = course.moves();
+            let own = moves.iter().filter(|it| it.dest == part);
+            let loads = report(|router: &mut Router| {
+                own.filter_map(|it| Some((it, *edges.get(&it.lo).filter(|edge| **edge > it.lo)?)))
+                    .try_for_each(|(it, edge)| router.loaded(course.number(), it.sub, part, it.lo..edge))
+            });
+            is_news |= shared.node.learn(&loads?)?;
+        }
+        if shared.node.number() != before {
+            let number = shared.node.number();
+            note(format!(
+                "squall-redis-proxy: the bus did not tell of course {number}; partition {part} has"
+            ));
+        }
+        Ok(is_news)
+    }
+}
+
+/// Whether the bus tells of no other course within a short time.
+fn is_unheard(shared: &Shared, number: u32) -> bool {
+    let began = Instant::now();
+    while began.elapsed() < GRACE && shared.node.number() == number {
+        thread::sleep(AGAIN);
+    }
+    shared.node.number() == number
+}
+
+/// The bytes of hexadecimal digits.
+fn bytes(digits: &str) -> Option<Vec<u8>> {
+    let pairs = digits.as_bytes().chunks(2);
+    pairs.map(|pair| u8::from_str_radix(std::str::from_utf8(pair).ok()?, 16).ok()).collect()
+}
+
+/// The first key of a move of which keys come, and the rank below which they were loaded.
+fn edge(line: &str) -> Option<(Rank, Rank)> {
+    let words: Vec<&str> = line.split(' ').collect();
+    let rank = |at: usize| u64::from_str_radix(words.get(at)?, 16).ok().map(Rank);
+    (*words.get(2)? == "in").then_some((rank(0)?, rank(4)?))
+}
+
+#[cfg(test)]
+mod tests {
+    use super::*;
+
+    #[test]
+    fn what_a_partition_says_is_read() {
+        assert_eq!(bytes("00ff1a"), Some(vec![0, 255, 26]));
+        assert_eq!((bytes(""), bytes("0x"), bytes("f")), (Some(Vec::new()), None, Some(vec![15])));
+        let line = "0000000200000000 0000000300000000 in 1 0000000200000007 0000000200000000";
+        assert_eq!(edge(line), Some((Rank::new(2, 0), Rank::new(2, 7))));
+        assert_eq!((edge(&line.replace("in", "out")), edge("x")), (None, None));
+    }
+}
