@@ -279,6 +279,15 @@ redis.register_function('squall_begin', function(_, args)
   return redis.status_reply('begun ' .. grow(string.match(args[4], '^fresh:(%d+)$')))
 end)
 
+-- Why a step does not count that follows one at another partition, which had that generation then: a mover that was
+-- asleep may know of what was lost there since.
+local function before(part, generation)
+  local since = generation and redis.call('HGET', 'squall:since', part)
+  if since and tonumber(generation) < tonumber(since) then
+    return refuse('BEFORE ' .. part)
+  end
+end
+
 -- The move that begins at LO, if NUMBER is that of the course and it has that role.
 local function own_move(args, role)
   local course = known()
@@ -289,12 +298,8 @@ local function own_move(args, role)
   if not move or move.lo ~= args[2] or move.role ~= role then
     return nil, refuse('STRANGER')
   end
-  -- A mover that was asleep may know of what the other end has lost since.
-  local since = args[5] and redis.call('HGET', 'squall:since', args[4])
-  if since and tonumber(args[5]) < tonumber(since) then
-    return nil, refuse('BEFORE ' .. args[4])
-  end
-  return move
+  local late = before(args[4], args[5])
+  return not late and move, late
 end
 
 -- Whether it rises.
@@ -340,7 +345,8 @@ redis.register_function({
   end,
 })
 
--- A key; NUMBER RANK, when it ends, and its DUMP: puts it where it comes to, unless it was loaded.
+-- A key; NUMBER RANK, when it ends, its DUMP, and [PART GENERATION] of its give: puts it where it comes to, unless it
+-- was loaded.
 redis.register_function('squall_put', function(keys, args)
   local course = known()
   if args[1] ~= course.number then
@@ -351,6 +357,10 @@ redis.register_function('squall_put', function(keys, args)
     return refuse('STRANGER')
   elseif args[2] < move.edge then
     return redis.status_reply('loaded')
+  end
+  local late = before(args[5], args[6])
+  if late then
+    return late
   end
   redis.call('RESTORE', keys[1], args[3], args[4], 'REPLACE', 'ABSTTL')
   return redis.status_reply('put')

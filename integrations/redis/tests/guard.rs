@@ -259,6 +259,18 @@ fn each_step_raises_the_generation() {
     // A late mover knows of what the other end has lost since.
     it.call("squall_since", &["4", "100"]);
     assert_eq!(it.call("squall_load", &["2", into, "0000000500000009", "4", "99"]), "SQUALL BEFORE 4");
+    it.ask(&["SET", "y", "row"]);
+    it.0.put(&["DUMP", "y"]);
+    it.0.flush().unwrap();
+    let dump = it.0.hear().unwrap().bytes();
+    let mut put = |generation: &str| {
+        let head: [&[u8]; 6] = [b"FCALL", b"squall_put", b"1", b"y", b"2", b"0000000500000007"];
+        let rest: [&[u8]; 4] = [b"0", &dump, b"4", generation.as_bytes()];
+        it.0.put(&[&head[..], &rest[..]].concat());
+        it.0.flush().unwrap();
+        it.0.hear().unwrap().text()
+    };
+    assert_eq!((put("99").as_str(), put("100").as_str()), ("SQUALL BEFORE 4", "put"));
     assert_eq!(it.call("squall_load", &["2", into, "0000000500000009", "4", "100"]), "0000000500000009 6");
 }
 

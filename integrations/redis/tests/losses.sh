@@ -133,6 +133,40 @@ test_restart_without_a_log() {
   fill 340 c && move 3 new old && agrees 1 3 && [ "$(count_wrong 340 c)" -eq 0 ]
 }
 
+# The same amid a course. What it has loaded is its own, whether or not the source has forgotten it.
+test_restart_without_a_log_in_a_course() {
+  local patience=300 id redis_words="--appendonly yes --appendfsync everysec"
+  deploy && fill 340 '' || return
+  start_move 2 old new --chunk 2 --pause 20
+  await has_rows "${servers[2]}" 60 || return
+  kill -KILL "$id"
+  wait "$id" 2> /dev/null
+  redis-cli -p "${servers[2]}" save && redis-cli -p "${servers[2]}" shutdown nosave
+  wait "${ids[${servers[2]}]}"
+  run_redis "${servers[2]}" || return
+  refused "partition 3 has come back with less: its server was restarted and writes no log" 2 old new || return
+  is_shut "${servers[2]}" && goes_on 3 && [ "$(count_wrong 340 '')" -eq 0 ] && [ "$(count_rows "${servers[2]}")" -eq 340 ]
+}
+
+# Both ends of moves come back as they were before. Routers have heard of loads that none of them knows of any more.
+test_both_ends_come_back_older() {
+  local patience=300 id key
+  deploy && fill 340 '' && redis-cli -p "${servers[0]}" save && redis-cli -p "${servers[2]}" save || return
+  lose has_rows "${servers[2]}" 60 || return
+  stop "${servers[0]}"
+  run_redis "${servers[0]}" && run_redis "${servers[2]}" || return
+  refused "nobody is let in at partition 1, 3" 2 old new && is_shut "${servers[0]}" && is_shut "${servers[2]}" || return
+  refused "nobody is let in at partition 1:" 2 old new --accept-loss 3 || return
+  start_move 2 old new --chunk 2 --pause 50 --accept-loss 1 --accept-loss 3
+  while ! has_ended "$id"; do
+    for key in 345 350; do
+      redis-cli -p "${proxies[0]}" get "$key:0" | grep -qE "^v$key$|TRYAGAIN" || { echo "no key $key:0"; return 1; }
+    done
+  done
+  wait "$id" && agrees 3 2 && [ "$(count_wrong 170 '')" -eq 0 ] || return
+  fill 340 c && move 3 new old && agrees 1 3 && [ "$(count_wrong 340 c)" -eq 0 ]
+}
+
 # A source comes back as it was before the course: what it had given it does not serve.
 test_source_comes_back_older() {
   local patience=300 id

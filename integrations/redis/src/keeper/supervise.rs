@@ -107,7 +107,8 @@ mod tests {
 
     fn state(number: u32, role: Role, edge: u64) -> State {
         let peer = if role == Role::Out { 3 } else { 1 };
-        let stand = Stand { lo: Rank(100), role, peer, edge: Rank(edge), forgot: Rank(100), gone: 0 };
+        let (lo, hi) = (Rank(100), Rank(200));
+        let stand = Stand { lo, hi, role, peer, edge: Rank(edge), forgot: Rank(100), gone: 0 };
         let run = Some("first".to_string());
         State { number, generation: 1, fence: number, run, seen: BTreeMap::new(), moves: vec![stand] }
     }

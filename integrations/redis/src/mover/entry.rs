@@ -43,18 +43,17 @@ impl Mover {
         known.try_for_each(|it| it.may_begin(&beginning(it.part)))?;
         for at in 0..partitions.len() {
             let part = partitions[at].part;
-            let Some(loss) = losses.get(&part) else {
+            if losses.contains_key(&part) {
+                self.accept(partitions, at, survey, losses)?;
+            } else {
                 partitions[at].begin(&beginning(part))?;
-                continue;
-            };
-            let may_remove = self.is_vouched(part, survey, losses);
-            self.accept(partitions, at, (survey, loss), may_remove)?;
+            }
         }
         Ok(())
     }
 
     /// Whether a partition has said that the plans are the right ones: one that has lost nothing, or this one.
-    fn is_vouched(&self, part: u32, survey: &Survey, losses: &BTreeMap<u32, Loss>) -> bool {
+    pub(super) fn is_vouched(&self, part: u32, survey: &Survey, losses: &BTreeMap<u32, Loss>) -> bool {
         let is_in = |part: &u32| survey.facts[part].number == self.number;
         let knows = |it: &&u32| survey.facts[it].number > 0 && self.old.parts.contains(it);
         let mut others = survey.facts.keys().filter(knows);

@@ -242,7 +242,7 @@ impl Feeder<'_> {
         self.given = given.edge;
         // From now on the source serves no key of the chunk, and no new one comes.
         self.index.listen()?;
-        let hi = self.copy_all(it, lo..self.given)?;
+        let hi = self.copy_all(it, lo..self.given, given.generation)?;
         if hi <= lo {
             return Ok(None);
         }
@@ -289,14 +289,15 @@ impl Feeder<'_> {
         self.job.stuck.name(&Stuck { source, dest, key: key.to_vec(), size, most, is_given });
     }
 
-    /// Puts the keys of a span where they come to: up to where all are put. That is its end, unless one can't be moved.
-    fn copy_all(&mut self, it: &Move, span: Range<Rank>) -> Done<Rank> {
+    /// Puts the keys of a span where they come to, which the source gave in that generation: up to where all are put. That
+    /// is its end, unless one can't be moved.
+    fn copy_all(&mut self, it: &Move, span: Range<Rank>, given: u64) -> Done<Rank> {
         let keys = self.index.keys(span.start..span.end);
         self.job.pace.spend(keys.len());
         let mut rest = &keys[..];
         while !rest.is_empty() {
             let (block, later) = rest.split_at(self.block.min(rest.len()));
-            let copied = self.copy(block)?;
+            let copied = self.copy(block, given)?;
             if let Some((at, size)) = copied.too_large {
                 self.is_stuck = true;
                 self.name(it, &block[at].1, size);
@@ -320,16 +321,16 @@ impl Feeder<'_> {
     }
 
     /// Puts keys where they come to. Their clients wait meanwhile.
-    fn copy(&mut self, keys: &[Ranked]) -> Done<Copied> {
+    fn copy(&mut self, keys: &[Ranked], given: u64) -> Done<Copied> {
         loop {
-            if let Some(copied) = self.try_copy(keys)? {
+            if let Some(copied) = self.try_copy(keys, given)? {
                 return Ok(copied);
             }
         }
     }
 
     /// The same; none if a server refuses for a reason that passes. What was put then is put again.
-    fn try_copy(&mut self, keys: &[Ranked]) -> Done<Option<Copied>> {
+    fn try_copy(&mut self, keys: &[Ranked], given: u64) -> Done<Option<Copied>> {
         for (_, key) in keys {
             self.source.conn.put(&[b"DUMP".as_slice(), key]);
             self.source.conn.put(&[b"PEXPIRETIME".as_slice(), key]);
@@ -348,7 +349,7 @@ impl Feeder<'_> {
                 copied.too_large = Some((at, dump.len() as u64));
                 break;
             }
-            self.dest.put(key, *rank, ends, dump);
+            self.dest.put(key, *rank, (dump, ends), (self.source.part, given));
             copied.bytes += dump.len();
             count += 1;
         }

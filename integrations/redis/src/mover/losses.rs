@@ -2,7 +2,7 @@
 
 use super::index::{is_own, scan};
 use super::partition::{Beginning, Partition};
-use super::state::State;
+use super::state::{Role, Stand, State};
 use super::survey::{Sign, Survey};
 use super::Mover;
 use crate::course::{Move, Plan};
@@ -64,48 +64,82 @@ impl fmt::Display for Loss {
 
 impl Mover {
     /// Goes on with what a partition has. No mover that was asleep does a step any more by what the partition knew
-    /// before. Rows that it has and should not have are removed, if the plans are known to be right. Its edges rise
-    /// to what the other ends know.
+    /// before. Its edges rise to what the other ends know.
     pub(super) fn accept(
         &self,
         partitions: &mut [Partition],
         at: usize,
-        (survey, loss): (&Survey, &Loss),
-        may_remove: bool,
+        survey: &Survey,
+        losses: &BTreeMap<u32, Loss>,
     ) -> Done<()> {
-        let next = survey.next_generation(loss.part);
-        let mut others = BTreeMap::new();
-        for other in partitions.iter_mut().filter(|it| it.part != loss.part) {
-            other.ask(&["FCALL", "squall_since", "0", &loss.part.to_string(), &next.to_string()])?;
-            others.insert(other.part, other.state()?);
+        let part = partitions[at].part;
+        let (loss, own, next) = (&losses[&part], &survey.facts[&part], survey.next_generation(part));
+        let mut states = BTreeMap::from([(part, own.clone())]);
+        for other in partitions.iter_mut().filter(|it| it.part != part) {
+            other.ask(&["FCALL", "squall_since", "0", &part.to_string(), &next.to_string()])?;
+            states.insert(other.part, other.state()?);
         }
-        let edges: Vec<Rank> = self.moves.iter().map(|it| self.edge(it, loss.part, &others)).collect();
-        let own = survey.facts[&loss.part].clone();
-        let holds = Holds { part: loss.part, legs: legs(&self.old)?, moves: &self.moves, edges: &edges };
-        partitions[at].shut(&own)?;
-        let removed = if may_remove { partitions[at].remove(&own, &holds)? } else { 0 };
-        let course = self.beginning(loss.part, survey);
+        let are_lost = |it: &Move| losses.contains_key(&it.source) && losses.contains_key(&it.dest);
+        let edges: Vec<Rank> = self
+            .moves
+            .iter()
+            .map(|it| match part == it.source && are_lost(it) && survey.fence() == self.number {
+                // Nobody knows which of them routers send to the destination. So all come there before it lets them in.
+                true => it.hi,
+                false => edge(it, part, self.number, &states),
+            })
+            .collect();
+        let may_remove = self.is_vouched(part, survey, losses);
+        let holds = Holds { part, legs: legs(&self.old)?, moves: &self.moves, edges: &edges };
+        self.remove(partitions, &states, &holds, may_remove)?;
+        let course = self.beginning(part, survey);
         partitions[at].accept(&course, &edges, [own.generation, next, loss.rows])?;
         note(format!("squall-redis-mover: accepted: {loss}"));
-        if removed > 0 {
-            note(format!(
-                "squall-redis-mover: partition {}: {removed} rows that it has no more were removed",
-                loss.part
-            ));
-        }
         Ok(())
     }
 
-    /// The rank to which the edge of a move rises at a partition that goes on with less.
-    fn edge(&self, it: &Move, part: u32, others: &BTreeMap<u32, State>) -> Rank {
-        let of = |other| others.get(other).and_then(|state: &State| state.stand(self.number, it.lo));
-        let edge = match part {
-            _ if part == it.dest => of(&it.source).map(|source| source.forgot),
-            _ if part == it.source => of(&it.dest).map(|dest| dest.edge),
-            _ => None,
-        };
-        edge.unwrap_or(it.lo)
+    /// Removes what a partition should not have, if the plans are known to be right, and what others hold back that it
+    /// had given them: it gives these keys again, and some may be gone then.
+    fn remove(
+        &self,
+        partitions: &mut [Partition],
+        states: &BTreeMap<u32, State>,
+        holds: &Holds,
+        may_remove: bool,
+    ) -> Done<()> {
+        let part = holds.part;
+        for it in partitions {
+            let state = &states[&it.part];
+            let comes = |stand: &&Stand| stand.role == Role::In && stand.peer == part;
+            let pending: Vec<&Stand> = state.moves.iter().filter(comes).collect();
+            let removed = if it.part == part {
+                it.shut(state)?;
+                it.remove(state, |rank| may_remove && !holds.has(rank))?
+            } else if !pending.is_empty() {
+                it.remove(state, |rank| pending.iter().any(|to| to.edge <= rank && rank < to.hi))?
+            } else {
+                0
+            };
+            if removed > 0 {
+                let part = it.part;
+                note(format!(
+                    "squall-redis-mover: partition {part}: {removed} rows that it does not hold were removed"
+                ));
+            }
+        }
+        Ok(())
     }
+}
+
+/// The rank to which the edge of a move rises at a partition that goes on with less.
+fn edge(it: &Move, part: u32, number: u32, states: &BTreeMap<u32, State>) -> Rank {
+    let of = |part| states.get(part).and_then(|state: &State| state.stand(number, it.lo));
+    let other = match part {
+        _ if part == it.dest => of(&it.source).map(|source| source.forgot),
+        _ if part == it.source => of(&it.dest).map(|dest| dest.edge),
+        _ => None,
+    };
+    other.max(of(&part).map(|own| own.edge)).unwrap_or(it.lo)
 }
 
 /// The ranges of a plan.
@@ -131,11 +165,11 @@ impl Holds<'_> {
 }
 
 impl Partition {
-    /// Removes the rows that it should not have: how many. Nobody is let in.
-    fn remove(&mut self, own: &State, holds: &Holds) -> Done<usize> {
+    /// Removes the rows of some ranks: how many. Nobody is served by them.
+    fn remove(&mut self, own: &State, is_wrong: impl Fn(Rank) -> bool) -> Done<usize> {
         let mut foreign = Vec::new();
         scan(&mut self.conn, |keys| {
-            let wrong = |key: &Vec<u8>| !is_own(key) && !holds.has(keymap::rank(key));
+            let wrong = |key: &Vec<u8>| !is_own(key) && is_wrong(keymap::rank(key));
             foreign.extend(keys.into_iter().filter(wrong));
             Ok(())
         })?;
@@ -202,6 +236,29 @@ mod tests {
         assert_eq!(one, [true, true, true, false, true, false]);
         let two: Vec<bool> = [10, 55, 60, 150, 250].map(|rank| holds(2).has(Rank(rank))).to_vec();
         assert_eq!(two, [false, true, false, true, true]);
+    }
+
+    #[test]
+    fn edges_rise_to_what_the_other_end_knows() {
+        let it = Move { lo: Rank(100), hi: Rank(200), source: 1, dest: 3, sub: 0 };
+        let state = |role, peer, edge, forgot| {
+            let (lo, hi, edge, forgot) = (it.lo, it.hi, Rank(edge), Rank(forgot));
+            State {
+                number: 2,
+                moves: vec![Stand { lo, hi, role, peer, edge, forgot, gone: 0 }],
+                ..State::default()
+            }
+        };
+        let edges = |source, dest| {
+            let states = BTreeMap::from([(1, source), (3, dest)]);
+            [1, 3, 5].map(|part| edge(&it, part, 2, &states).0)
+        };
+        // It has loaded more than the source has forgotten: these rows are its own.
+        assert_eq!(edges(state(Role::Out, 3, 160, 130), state(Role::In, 1, 150, 100)), [160, 150, 100]);
+        assert_eq!(edges(state(Role::Out, 3, 120, 110), state(Role::In, 1, 150, 100)), [150, 150, 100]);
+        assert_eq!(edges(state(Role::Out, 3, 160, 140), state(Role::In, 1, 120, 100)), [160, 140, 100]);
+        assert_eq!(edges(State::default(), state(Role::In, 1, 150, 100)), [150, 150, 100]);
+        assert_eq!(edges(state(Role::Out, 3, 160, 140), State::default()), [160, 140, 100]);
     }
 
     #[test]

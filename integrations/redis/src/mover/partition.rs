@@ -227,13 +227,15 @@ impl Partition {
         }
     }
 
-    /// The words of a put.
-    pub fn put(&mut self, key: &[u8], rank: Rank, ends: i64, dump: &[u8]) {
-        let (rank, ends) = (hex(rank), ends.max(0).to_string());
-        let number = self.number.clone();
-        let head: [&[u8]; 4] = [b"FCALL", b"squall_put", b"1", key];
-        let rest: [&[u8]; 4] = [number.as_bytes(), rank.as_bytes(), ends.as_bytes(), dump];
-        self.conn.put(&[head, rest].concat());
+    /// The words of a put, of a row that the source has given at that generation.
+    pub fn put(&mut self, key: &[u8], rank: Rank, (dump, ends): (&[u8], i64), (source, given): (u32, u64)) {
+        let args = [self.number.clone(), hex(rank), ends.max(0).to_string()];
+        let give = [u64::from(source), given].map(|it| it.to_string());
+        let mut words: Vec<&[u8]> = vec![b"FCALL", b"squall_put", b"1", key];
+        words.extend(args.iter().map(String::as_bytes));
+        words.push(dump);
+        words.extend(give.iter().map(String::as_bytes));
+        self.conn.put(&words);
     }
 
     /// Whether answers are no refusals. If one passes, all of it is to be tried again.

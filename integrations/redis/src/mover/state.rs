@@ -28,6 +28,8 @@ pub struct State {
 pub struct Stand {
     /// The first key.
     pub lo: Rank,
+    /// Where the keys end.
+    pub hi: Rank,
     /// How it takes part.
     pub role: Role,
     /// The partition at the other end, or the source.
@@ -86,11 +88,12 @@ impl State {
 impl Stand {
     fn read(line: &str) -> Option<Stand> {
         let words: Vec<&str> = line.split(' ').collect();
-        let &[lo, _, role, peer, edge, forgot, gone] = &words[..] else {
+        let &[lo, hi, role, peer, edge, forgot, gone] = &words[..] else {
             return None;
         };
         Some(Stand {
             lo: rank(lo)?,
+            hi: rank(hi)?,
             role: match role {
                 "out" => Role::Out,
                 "in" => Role::In,

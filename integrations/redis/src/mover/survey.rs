@@ -182,7 +182,7 @@ mod tests {
     const LO: Rank = Rank(100);
 
     fn stand(role: Role, peer: u32, edge: u64, forgot: u64) -> Stand {
-        Stand { lo: LO, role, peer, edge: Rank(edge), forgot: Rank(forgot), gone: 7 }
+        Stand { lo: LO, hi: Rank(200), role, peer, edge: Rank(edge), forgot: Rank(forgot), gone: 7 }
     }
 
     fn state(generation: u64, stand: Stand) -> State {
