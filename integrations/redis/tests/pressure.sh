@@ -97,7 +97,7 @@ test_memory() {
 
 # Whether a command of 40 MB is taken.
 has_memory() {
-  head -c 40000000 /dev/zero | tr '\0' v | redis-cli -p "$1" -x set 600:0 | grep -qx OK
+  head -c 40000000 /dev/zero | tr '\0' v | timeout 20 redis-cli -p "$1" -x set 600:0 | grep -qx OK
 }
 
 # The answer to a GET over a connection, without the bytes of a value.

@@ -149,22 +149,24 @@ impl Worker {
         }
     }
 
-    /// Counts what the connections to partitions hold. Clients that waited for memory go on if there is some, and if there
-    /// was none for long the one that holds most is closed.
+    /// Counts what the connections to partitions hold. Clients that waited for memory go on if there is some, or if others
+    /// are gone and their share is larger. If there was none for long, the one that holds most is closed.
     pub(super) fn watch_memory(&mut self) {
         let all = self.upstreams.iter();
         self.account.upstreams = all.map(|it| it.heard.capacity() + it.out.bytes.capacity()).sum();
-        match self.account.since {
-            None => {
-                for at in std::mem::take(&mut self.account.back) {
-                    if let Some(client) = self.clients.get_mut(at).and_then(Option::as_mut) {
-                        client.is_back = false;
-                    }
-                    self.wake(at);
-                }
+        for at in std::mem::take(&mut self.account.back) {
+            let Some(client) = self.clients.get_mut(at).and_then(Option::as_mut) else {
+                continue;
+            };
+            client.is_back = self.account.is_above(client);
+            if client.is_back {
+                self.account.back.push(at);
+            } else {
+                self.wake(at);
             }
-            Some(since) if self.now - since > BORNE => self.evict(),
-            Some(_) => {}
+        }
+        if self.account.since.is_some_and(|since| self.now - since > BORNE) {
+            self.evict();
         }
     }
 
