@@ -200,6 +200,20 @@ test_movers_that_accept_at_once() {
   fill 340 b && move 3 new old && agrees 1 3 && [ "$(count_wrong 340 b)" -eq 0 ]
 }
 
+# Partitions that an earlier version has brought amid a course know none of this, and go on.
+test_partitions_of_an_earlier_version() {
+  local id at
+  deploy && fill 340 '' || return
+  start_move 2 old new --chunk 2 --pause 20
+  await has_rows "${servers[2]}" 60 || return
+  kill -KILL "$id"
+  wait "$id" 2> /dev/null
+  for at in "${servers[@]}"; do
+    redis-cli -p "$at" del squall:generation squall:seen squall:fence squall:run squall:gone | grep -qx '[45]' || return
+  done
+  move 2 old new && agrees 3 2 && [ "$(count_wrong 340 '')" -eq 0 ] && move 3 new old && agrees 1 3
+}
+
 # A server that would remove the partition's own keys is refused.
 test_eviction_of_own_keys() {
   deploy && redis-cli -p "${servers[1]}" config set maxmemory-policy allkeys-lru || return
@@ -255,8 +269,16 @@ test_supervise() {
   # It goes on to look.
   sleep 2.5
   is_shut "${servers[2]}" || return
+  [ "$(grep -c 'course 2 had begun' "$run/supervisor")" -eq 1 ] || return
+  # One that has lost its keys and still has its users: these are shut out.
+  redis-cli -p "${servers[1]}" flushall && await is_said_of 2 "not let in: it is at step 0" && await is_off 2 || return
   cat "$run/supervisor"
-  [ "$(grep -c 'course 2 had begun' "$run/supervisor")" -eq 1 ]
+  redis-cli -p "${proxies[0]}" get 680:0 | grep .
+}
+
+# Whether the users of routers are shut out at a partition.
+is_off() {
+  redis-cli -p "${servers[$1 - 1]}" acl list | grep '^user squall-' > "$run/users" && ! grep -q ' on ' "$run/users"
 }
 
 is_answered() {

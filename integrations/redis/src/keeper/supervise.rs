@@ -56,27 +56,41 @@ impl Supervisor {
         }
     }
 
-    /// Whether routers were let in at a partition just now. A server that was restarted has no users of routers.
+    /// Whether routers were let in at a partition just now. A server that was restarted has no users of routers, unless
+    /// it has saved them.
     fn look(&self, part: u32) -> Done<bool> {
         let mut partition = Partition::open(part, &self.servers[&part], 0)?;
         let number = partition.ask(&["GET", "squall:number"])?.text();
-        if !number.is_empty() && partition.users()?.contains(&user(&number)) {
+        let run = partition.ask(&["GET", "squall:run"])?.text();
+        let users = partition.users()?;
+        let is_its_run = run.is_empty() || run == partition.life.run;
+        if !number.is_empty() && is_its_run && users.contains(&user(&number)) {
             return Ok(false);
         }
         let opened = self.servers.iter().map(|(&part, server)| Partition::open(part, server, 0));
         let mut all = opened.collect::<Done<Vec<_>>>()?;
         let survey = Survey::of(all.iter_mut())?;
-        if let Some(why) = why_not(&survey, part) {
+        let Some(partition) = all.into_iter().find(|it| it.part == part) else {
+            return Ok(false);
+        };
+        self.let_in(partition, &survey, !users.is_empty())
+    }
+
+    /// Lets routers in if nothing was lost, and otherwise shuts them out. What the partition has said was heard over this
+    /// connection, which ends with the run of its server.
+    fn let_in(&self, mut partition: Partition, survey: &Survey, has_users: bool) -> Done<bool> {
+        let own = &survey.facts[&partition.part];
+        if let Some(why) = why_not(survey, partition.part) {
+            if has_users {
+                partition.shut(own)?;
+            }
             return Err(Fault::new(why));
         }
-        match all.into_iter().find(|it| it.part == part) {
-            // What it says was heard over the same connection, which ends with the run of its server.
-            Some(partition) => {
-                let mut partition = partition.of_course(survey.facts[&part].number);
-                partition.admit(&self.secret)?;
-                partition.let_read(&self.secret)?;
-            }
-            None => return Ok(false),
+        let mut partition = partition.of_course(own.number);
+        partition.admit(&self.secret)?;
+        partition.let_read(&self.secret)?;
+        if survey.fence() == own.number {
+            partition.fence(&[])?;
         }
         Ok(true)
     }

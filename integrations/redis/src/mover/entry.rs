@@ -102,9 +102,9 @@ impl Mover {
             ));
         }
         let refused: Vec<&Loss> = losses.values().filter(|it| !self.accepted.contains(&it.part)).collect();
-        let Some(last) = refused.last() else {
+        if refused.is_empty() {
             return Ok(());
-        };
+        }
         refused.iter().for_each(|loss| note(format!("squall-redis-mover: {loss}")));
         for partition in partitions {
             let part = partition.part;
@@ -120,7 +120,7 @@ impl Mover {
         Err(Fault::new(format!(
             "nobody is let in at partition {}: give it its data back, or go on without what is lost: --accept-loss {}",
             parts.join(", "),
-            last.part
+            parts.join(" --accept-loss ")
         )))
     }
 }
