@@ -2,7 +2,7 @@
 
 use super::commands::Split;
 use super::plan::{Plan, Words};
-use super::socket::{drop_first, Out, Socket};
+use super::socket::{drop_first, Out, Socket, KEPT_OF_CLIENT};
 use super::task::{Deed, Queue, Task, Watch};
 use crate::resp::{error, Parser, Value};
 use squall::{Errand, Reply};
@@ -125,7 +125,7 @@ impl Client {
             parser: Parser::default(),
             is_unread: false,
             has_closed: false,
-            out: Out::default(),
+            out: Out::keeping(KEPT_OF_CLIENT),
             window: VecDeque::new(),
             first: 0,
             held: 0,
@@ -304,7 +304,7 @@ impl Client {
     /// Drops the bytes of commands that are answered.
     pub fn make_room(&mut self) {
         let answered = self.answered();
-        drop_first(&mut self.input, answered);
+        drop_first(&mut self.input, answered, KEPT_OF_CLIENT);
         self.base += answered as u64;
         self.next -= answered;
     }

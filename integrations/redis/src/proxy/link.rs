@@ -1,7 +1,7 @@
 //! A worker's connections to the partitions: they log in, and what they answer.
 
 use super::client::too_large;
-use super::socket::{drop_first, Received};
+use super::socket::{drop_first, Received, KEPT};
 use super::upstream::{Due, State, Upstream};
 use super::worker::{upstream_token, Worker};
 use crate::resp::error;
@@ -111,7 +111,7 @@ impl Worker {
             }
         }
         let mut heard = heard;
-        drop_first(&mut heard, used);
+        drop_first(&mut heard, used, KEPT);
         self.upstreams[at].heard = heard;
         self.upstreams[at].drop_large(self.shared.memory);
         is_fine

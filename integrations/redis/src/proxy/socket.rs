@@ -119,32 +119,46 @@ impl Drop for Socket {
 }
 
 /// Bytes that are to be sent.
-#[derive(Default)]
 pub struct Out {
     /// The bytes. What was sent of them is at their beginning.
     pub bytes: Vec<u8>,
     sent: usize,
+    /// How much memory is kept for bytes that are gone.
+    kept: usize,
+}
+
+impl Default for Out {
+    fn default() -> Out {
+        Out::keeping(KEPT)
+    }
 }
 
 /// If more bytes than these are sent, and more than half of all, they are dropped before all are sent.
 const SENT: usize = 1 << 20;
 
-/// No more memory is kept for bytes that are gone. There may be many connections that say nothing.
-const KEPT: usize = 1 << 17;
+/// No more memory is kept for bytes that are gone, of a connection to a partition. Clients are many more, and most of them
+/// may say nothing.
+pub const KEPT: usize = 1 << 20;
+pub const KEPT_OF_CLIENT: usize = 1 << 16;
 
 /// No more bytes are read of one connection in a turn of the loop, so it holds up no others.
 pub const A_TURN: usize = 1 << 20;
 
 /// Drops the first bytes. What was kept for many of them is given back once few are left, since a
 /// connection may stay idle after that.
-pub fn drop_first(bytes: &mut Vec<u8>, count: usize) {
+pub fn drop_first(bytes: &mut Vec<u8>, count: usize, kept: usize) {
     bytes.drain(..count);
-    if bytes.len() < KEPT / 2 {
-        bytes.shrink_to(KEPT);
+    if bytes.len() < kept / 2 {
+        bytes.shrink_to(kept);
     }
 }
 
 impl Out {
+    /// None, with so much memory kept for those that are gone.
+    pub fn keeping(kept: usize) -> Out {
+        Out { bytes: Vec::new(), sent: 0, kept }
+    }
+
     /// How many bytes are still to be sent.
     pub fn len(&self) -> usize {
         self.bytes.len() - self.sent
@@ -156,7 +170,7 @@ impl Out {
     }
 
     fn drop_first(&mut self, count: usize) {
-        drop_first(&mut self.bytes, count);
+        drop_first(&mut self.bytes, count, self.kept);
         self.sent = 0;
     }
 
@@ -232,12 +246,12 @@ mod tests {
     fn memory_is_given_back() {
         let mut bytes = vec![1; 8 * KEPT];
         bytes.extend([2; 3]);
-        drop_first(&mut bytes, 4 * KEPT);
+        drop_first(&mut bytes, 4 * KEPT, KEPT);
         assert_eq!(bytes.len(), 4 * KEPT + 3);
-        drop_first(&mut bytes, 4 * KEPT);
+        drop_first(&mut bytes, 4 * KEPT, KEPT);
         assert_eq!(bytes, [2; 3]);
         assert!(bytes.capacity() <= KEPT);
-        drop_first(&mut bytes, 3);
+        drop_first(&mut bytes, 3, KEPT);
         assert!(bytes.is_empty());
     }
 }

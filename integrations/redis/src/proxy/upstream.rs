@@ -1,7 +1,7 @@
 //! A connection from a worker to a partition, which the commands of all its clients share.
 
 use super::roles::{Role, Standing, Table, Tables};
-use super::socket::{drop_first, receive, Out, Received, Socket, A_TURN};
+use super::socket::{drop_first, receive, Out, Received, Socket, A_TURN, KEPT};
 use crate::conn::Server;
 use crate::fault::{note, Done};
 use crate::resp::{push, Scan};
@@ -314,7 +314,7 @@ impl Upstream {
     pub fn drop_large(&mut self, most: usize) {
         if self.has_limit() && self.dropped + self.scan.least() > most {
             let count = self.scan.least().min(self.heard.len());
-            drop_first(&mut self.heard, count);
+            drop_first(&mut self.heard, count, KEPT);
             self.scan.drop_first(count);
             self.dropped += count;
         }
