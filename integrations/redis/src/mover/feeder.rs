@@ -1,6 +1,7 @@
 //! The moves of one source in a sub-plan, chunk by chunk.
 
 use super::disk::{Disk, Loaded};
+use super::dumps::{dumped, next_block, Copied};
 use super::index::{Index, Ranked};
 use super::pace::Pace;
 use super::partition::Partition;
@@ -12,7 +13,6 @@ use crate::bus::Node;
 use crate::conn::Server;
 use crate::course::Move;
 use crate::fault::{Done, Fault};
-use crate::resp::Value;
 use crate::{keymap, stop};
 use squall::Rank;
 use std::collections::BTreeMap;
@@ -44,14 +44,8 @@ pub struct Job<'a> {
     pub runs: Mutex<BTreeMap<u32, String>>,
 }
 
-/// How many keys are copied at once at most, and about how many bytes of them. Both servers and the mover
-/// hold them meanwhile.
-const BLOCK: usize = 64;
-const BYTES: usize = 8 << 20;
 /// How long the news of new keys may wait to be heard.
 const NEWS: Duration = Duration::from_secs(1);
-/// What `PEXPIRETIME` says of a key that is not there.
-const GONE: i64 = -2;
 /// How many keys are looked at together, to name those that are too large.
 const LOOKED: usize = 1000;
 /// How many chunks are reported before the whole board is sent.
@@ -355,51 +349,5 @@ impl Feeder<'_> {
         }
         let said = self.dest.conn.hear_all(count)?;
         Ok(self.dest.accepts(&said)?.then_some(copied))
-    }
-}
-
-/// What was copied: how many bytes, and which of the keys is too large, and how large, if one is. Those before it were
-/// copied.
-#[derive(Default)]
-struct Copied {
-    bytes: usize,
-    too_large: Option<(usize, u64)>,
-}
-
-/// How many keys are copied at once after so many that had that many bytes: at most twice as many.
-fn next_block(count: usize, bytes: usize) -> usize {
-    (BYTES * count / bytes.max(1)).clamp(1, BLOCK.min(2 * count))
-}
-
-/// What a source has said of a key: its dump, and when it ends. None in it if the key has ended, was deleted, or
-/// another mover has loaded it and forgotten it here. A large value may end while it is dumped. None if it is no dump.
-fn dumped(said: &[Value]) -> Option<Option<(&[u8], i64)>> {
-    match said {
-        [Value::Nil, _] | [Value::Bulk(_), Value::Int(GONE)] => Some(None),
-        [Value::Bulk(dump), Value::Int(ends)] => Some(Some((dump, *ends))),
-        _ => None,
-    }
-}
-
-#[cfg(test)]
-mod tests {
-    use super::*;
-
-    #[test]
-    fn large_values_are_copied_one_by_one() {
-        assert_eq!([next_block(1, 100), next_block(16, 1600), next_block(64, 6400)], [2, 32, 64]);
-        assert_eq!([next_block(64, 64 << 20), next_block(8, 80 << 20), next_block(1, 100 << 20)], [8, 1, 1]);
-        assert_eq!(next_block(3, 0), 6);
-    }
-
-    #[test]
-    fn keys_that_have_ended_are_not_put() {
-        let dump = || Value::Bulk(b"x".to_vec());
-        assert_eq!(dumped(&[dump(), Value::Int(-1)]), Some(Some((&b"x"[..], -1))));
-        assert_eq!(dumped(&[dump(), Value::Int(7)]), Some(Some((&b"x"[..], 7))));
-        // Without an end it would be put for ever.
-        assert_eq!(dumped(&[dump(), Value::Int(-2)]), Some(None));
-        assert_eq!(dumped(&[Value::Nil, Value::Int(-2)]), Some(None));
-        assert_eq!(dumped(&[Value::Int(1), Value::Int(1)]), None);
     }
 }

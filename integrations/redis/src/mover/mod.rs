@@ -1,6 +1,7 @@
 //! The mover: begins a course at each partition, moves its keys chunk by chunk, and reports them.
 
 mod disk;
+mod dumps;
 mod entry;
 mod feeder;
 mod index;
