@@ -40,7 +40,7 @@ is_shut() {
 # Begins a move of chunks of two keys, and ends the server of partition 3 by force once the command succeeds.
 lose() {
   local id
-  start_move 2 old new --chunk 2 --pause "${pace-20}"
+  start_move 2 old new --chunk 2 --pause "${pace-20}" --patience 1
   await "$@" || return
   stop "${servers[2]}"
   if wait "$id"; then echo "the mover had ended too soon"; return 1; fi
@@ -137,7 +137,7 @@ test_restart_without_a_log() {
 test_restart_without_a_log_in_a_course() {
   local patience=300 id redis_words="--appendonly yes --appendfsync everysec"
   deploy && fill 340 '' || return
-  start_move 2 old new --chunk 2 --pause 20
+  start_move 2 old new --chunk 2 --pause 20 --patience 1
   await has_rows "${servers[2]}" 60 || return
   kill -KILL "$id"
   wait "$id" 2> /dev/null
@@ -171,7 +171,7 @@ test_both_ends_come_back_older() {
 test_source_comes_back_older() {
   local patience=300 id
   deploy && fill 340 '' && redis-cli -p "${servers[0]}" save || return
-  start_move 2 old new --chunk 2 --pause 20
+  start_move 2 old new --chunk 2 --pause 20 --patience 1
   await has_rows "${servers[2]}" 80 && fill 20 b || return
   stop "${servers[0]}"
   if wait "$id"; then echo "the mover had ended too soon"; return 1; fi
@@ -204,7 +204,7 @@ test_movers_that_accept_at_once() {
 test_partitions_of_an_earlier_version() {
   local id at
   deploy && fill 340 '' || return
-  start_move 2 old new --chunk 2 --pause 20
+  start_move 2 old new --chunk 2 --pause 20 --patience 1
   await has_rows "${servers[2]}" 60 || return
   kill -KILL "$id"
   wait "$id" 2> /dev/null
@@ -218,7 +218,7 @@ test_partitions_of_an_earlier_version() {
 test_eviction_of_own_keys() {
   deploy && redis-cli -p "${servers[1]}" config set maxmemory-policy allkeys-lru || return
   refused "partition 2: maxmemory-policy is allkeys-lru" 2 old new || return
-  if "$bin/squall-redis-mover" --init --first "$run/old.json" "${parts[@]}"; then return 1; fi
+  if "$bin/squall-redis-mover" --init --first "$run/old.json" --secret-file "$secret" "${parts[@]}"; then return 1; fi
   redis-cli -p "${servers[1]}" config set maxmemory-policy volatile-lru && fill 340 '' || return
   # It had done so: its rows are there, and nothing says which they are. Its routers are shut out.
   redis-cli -p "${servers[1]}" --scan --pattern 'squall:*' | xargs redis-cli -p "${servers[1]}" del || return
@@ -248,7 +248,7 @@ restart() {
 test_supervise() {
   local patience=300 id moving began took redis_words="--appendonly yes"
   deploy && fill 340 '' || return
-  launch "$run" supervisor "$bin/squall-redis-node" --supervise "${parts[@]}"
+  launch "$run" supervisor "$bin/squall-redis-node" --supervise --secret-file "$secret" "${parts[@]}"
   await hears_signals "$id" && restart 2 true || return
   began=$EPOCHREALTIME
   await is_said_of 2 "let in again" || return
