@@ -276,6 +276,26 @@ test_supervise() {
   redis-cli -p "${proxies[0]}" get 680:0 | grep .
 }
 
+# Under a load that knows each right answer: partitions are restarted in order and by force, at rest and amid a move.
+test_supervise_under_load() {
+  local patience=2000 id moving redis_words="--appendonly yes --appendfsync always"
+  deploy || return
+  launch "$run" supervisor "$bin/squall-redis-node" --supervise "${parts[@]}"
+  start_load 15000 --pause 3000 --tolerant
+  await hears_signals "$id" && await has_keys "${servers[0]}" 400 || return
+  restart 2 true && await is_said_of 2 "let in again" || return
+  start_move 2 old new --chunk 5 --pause 30
+  moving=$id
+  await has_loaded_of 1 2 || return
+  stop "${servers[2]}"
+  # shellcheck disable=SC2086
+  run_redis "${servers[2]}" $redis_words || return
+  if wait "$moving"; then echo "the mover had ended too soon"; fi
+  move 2 old new && restart 1 true && await is_said_of 1 "let in again" || return
+  cat "$run/supervisor"
+  end_load && has_moved && agrees 3 2
+}
+
 # Whether the users of routers are shut out at a partition.
 is_off() {
   redis-cli -p "${servers[$1 - 1]}" acl list | grep '^user squall-' > "$run/users" && ! grep -q ' on ' "$run/users"

@@ -199,7 +199,7 @@ impl Partition {
         Ok(())
     }
 
-    /// The same; false if the partition refuses for a reason that passes. Then nothing was done.
+    /// The same; false if the partition refuses for a reason that passes. What was done then may be done again.
     fn try_in_course(&mut self, commands: &[Vec<&str>], patience: &mut Patience) -> Done<bool> {
         let late = || Fault::new("another course has begun");
         self.ask(&["WATCH", "squall:number"])?;
@@ -221,6 +221,7 @@ impl Partition {
         match answers.pop() {
             Some(Value::List(done)) => match done.into_iter().find(|it| matches!(it, Value::Error(_))) {
                 None => Ok(true),
+                Some(Value::Error(error)) if patience.bears(&self.conn, &error) => Ok(false),
                 Some(error) => Err(self.explain(&error.text())),
             },
             _ => Err(late()).trying(|| format!("partition {}", self.part)),

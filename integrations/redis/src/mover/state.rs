@@ -65,7 +65,8 @@ pub struct Life {
 impl State {
     /// Its stand with the move that begins there, if it is in that course.
     pub fn stand(&self, number: u32, lo: Rank) -> Option<&Stand> {
-        self.moves.iter().find(|it| self.number == number && it.lo == lo)
+        let at = self.moves.binary_search_by_key(&lo, |it| it.lo).ok()?;
+        self.moves.get(at).filter(|_| self.number == number)
     }
 
     fn read(said: Value) -> Option<State> {

@@ -307,7 +307,7 @@ impl Upstream {
 
     /// Whether its answers are ones of clients, which may hold no more than so much.
     pub fn has_limit(&self) -> bool {
-        !matches!(self.state, State::Entering(..))
+        !matches!(self.state, State::Entering(..)) && !matches!(self.sent.front(), Some(Due::Moves))
     }
 
     /// Drops what was heard of a reply that is larger than that. The rest is dropped as it comes.
