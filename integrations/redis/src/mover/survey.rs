@@ -157,7 +157,9 @@ impl fmt::Display for Sign {
             Sign::Course { own, fence } => {
                 write!(f, "it is in course {own}, and course {fence} had begun everywhere")
             }
-            Sign::Empty => write!(f, "it has begun no course, and the old plan gives it keys"),
+            Sign::Empty => {
+                write!(f, "it has begun no course, and the old plan gives it keys (--init begins course 1)")
+            }
             Sign::Generation { own, seen, by } => {
                 write!(f, "it is at step {own}, and partition {by} has seen its step {seen}")
             }
