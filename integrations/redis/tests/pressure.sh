@@ -190,10 +190,10 @@ test_keys_that_can_not_be_moved() {
 
 # A key that is seen to be too large only once it was given is named with each run, until it is deleted at its source.
 test_keys_that_grow() {
-  local to key
+  local to key at
   deploy && redis-cli -p "${servers[2]}" config set proto-max-bulk-len 1mb || return
   to=${proxies[0]}
-  for key in $(seq 500 670); do echo "set $key:0 x"; done | redis-cli -p "$to" > "$run/set"
+  for at in $(seq 500 670); do echo "set $at:0 x"; done | redis-cli -p "$to" > "$run/set"
   put_skewed "${servers[1]}" || return
   names "$key" && grep -q "nobody serves it: delete it at partition 2 itself" "$run/named" || return
   agrees 3 2 619:0 && redis-cli -p "$to" get 619:0 | grep -qx x && redis-cli -p "$to" get 660:0 | grep -qx x || return

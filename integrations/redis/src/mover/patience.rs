@@ -143,7 +143,17 @@ impl Patience {
 
 #[cfg(test)]
 mod tests {
-    use super::passes;
+    use super::*;
+
+    #[test]
+    fn lost_connections_are_borne_while_there_is_progress() {
+        let (lost, mut endurance) = (Fault::lost("cut"), Endurance::default());
+        assert!(!endurance.bears(&Fault::new("refused"), 0));
+        assert!(endurance.bears(&lost, 0) && endurance.bears(&lost, 0));
+        endurance.since = Instant::now().checked_sub(most());
+        assert!(!endurance.bears(&lost, 0));
+        assert!(endurance.bears(&lost, 1));
+    }
 
     #[test]
     fn refusals_that_pass_are_told_from_others() {
