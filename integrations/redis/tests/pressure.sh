@@ -201,34 +201,40 @@ test_keys_that_grow() {
   redis-cli -p "$to" exists "$key" | grep -qx 0
 }
 
-# Cuts connections of the operator at random, those of the mover, as long as it runs. How often comes into $run/cuts.
+# Cuts connections of the operator at random, those of the mover, while $run/cutting is there. How often comes into
+# $run/cuts.
 cut_connections() {
   local cuts=0 at
-  while ! has_ended "$1"; do
-    sleep "0.0$((RANDOM % 9))"
+  while [ -e "$run/cutting" ]; do
+    sleep "0.1$((RANDOM % 9))"
     at=${all[RANDOM % ${#all[@]}]}
     [ "$(redis-cli -p "$at" client kill user default skipme yes)" -gt 0 ] && cuts=$((cuts + 1))
+    echo "$cuts" > "$run/cuts"
   done 2> /dev/null
-  echo "$cuts" > "$run/cuts"
 }
 
 # A mover bears that its connections are cut again and again, those to partitions and to the bus, and nothing is lost.
+# There may be few cuts in a move, and so there are several.
 test_cut_connections() {
-  local id cutter all
+  local id cutter all number=1 plans=(old new)
   deploy || return
   all=("${servers[@]}" "$bus")
   start_load 20000 --pause 1000
   await has_keys "${servers[0]}" 400 && await has_keys "${servers[1]}" 400 || return
-  start_move 2 old new --chunk 10 --pause 30
-  cut_connections "$id" &
+  touch "$run/cutting"
+  echo 0 > "$run/cuts"
+  cut_connections &
   cutter=$!
-  wait "$id" || { cat "$run/mover"; return 1; }
+  while [ "$number" -lt 2 ] || [ "$(cat "$run/cuts")" -lt 20 ]; do
+    number=$((number + 1))
+    start_move "$number" "${plans[number % 2]}" "${plans[1 - number % 2]}" --chunk 20 --pause 20
+    wait "$id" || { cat "$run/mover"; return 1; }
+  done
+  rm "$run/cutting"
   wait "$cutter"
-  counts="($(cat "$run/cuts") cuts)"
   grep -c "tried again" "$run/mover"
-  end_load && has_moved && agrees 3 2 || return
-  counts="($(cat "$run/cuts") cuts) $counts"
-  [ "$(cat "$run/cuts")" -ge 20 ]
+  end_load && agrees $((number % 2 ? 1 : 3)) "$number" || return
+  counts="($(cat "$run/cuts") cuts in $((number - 1)) moves) $counts"
 }
 
 # A partition that stands still, and is then killed and started again with its log, ends no move.
