@@ -14,10 +14,11 @@ const BLOCK: usize = 64;
 /// What only who has a key can make of a text, and a key made in this way.
 pub type Code = [u8; CODE];
 
-/// The code of pieces under a key, by HMAC-SHA-256. Each piece has its length before it, as 8 bytes from the highest one on.
+/// The code of pieces under a key, by HMAC-SHA-256. Each piece has its length before it, as 8 bytes from the highest
+/// one on.
 ///
-/// It is made of SHA-256 itself, which needs nothing that OpenSSL takes down when a program ends: other threads may still
-/// be at it then.
+/// It is made of SHA-256 itself, which needs nothing that OpenSSL takes down when a program ends: other threads may
+/// still be at it then.
 pub fn code(key: &[u8], pieces: &[&[u8]]) -> Code {
     let inner = pieces.iter().fold(begun(key, 0x36), |mut inner, piece| {
         inner.update(&(piece.len() as u64).to_be_bytes());

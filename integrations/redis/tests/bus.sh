@@ -152,7 +152,7 @@ test_secrets_are_needed() {
   echo '{"plan":[{"part":1,"from":[0,0],"to":"end"}]}' > "$run/plan"
   echo squall > "$run/short"
   for program in proxy mover node; do
-    words=("$bin/squall-redis-$program" --first "$run/plan" --bus 127.0.0.1:1 --part 1=127.0.0.1:2)
+    words=("$bin/squall-redis-$program" --first "$run/plan" --bus 127.0.0.1:1 --part "1=127.0.0.1:2")
     case $program in
       proxy) words+=(--listen 127.0.0.1:0) ;;
       mover) words+=(--init) ;;
@@ -195,36 +195,45 @@ shows() {
   grep -q "$@" "$run/shown"
 }
 
-# Asks a proxy for a key, over and over, as long as a process runs. The longest time without an answer, in milliseconds,
-# comes into `longest`.
+# Asks a proxy for a key, over and over, as long as a process runs. The longest time without an answer, in
+# milliseconds, comes into `longest`.
 ask_while() {
   local id=$1 at=$2 key=$3 began now
   longest=0
   while ! has_ended "$id"; do
     began=${EPOCHREALTIME/./}
-    [ "$(redis-cli -p "$at" set "$key" "$began")" = OK ] && [ "$(redis-cli -p "$at" get "$key")" = "$began" ] \
-      || { echo "no right answer after $(((${EPOCHREALTIME/./} - began) / 1000)) ms"; return 1; }
+    if [ "$(redis-cli -p "$at" set "$key" "$began")" != OK ] || [ "$(redis-cli -p "$at" get "$key")" != "$began" ]; then
+      echo "no right answer after $(((${EPOCHREALTIME/./} - began) / 1000)) ms"
+      return 1
+    fi
     now=$(((${EPOCHREALTIME/./} - began) / 1000))
     [ "$now" -le "$longest" ] || longest=$now
   done
 }
 
-# A proxy that is cut off the bus goes on through whole courses: the partitions tell it of them. Its page says so, until it
-# hears the bus again. The way to the bus is one that says nothing, or that does not lead anywhere.
+# A proxy that is cut off the bus goes on through whole courses: the partitions tell it of them. Its page says so, until
+# it hears the bus again. The way to the bus is one that says nothing, or that does not lead anywhere.
 goes_on() {
   local signal=$1 id longest
-  start_apart && await shows ready "^HTTP/1.1 200" && await shows metrics '^squall_partition_up{partition="3"} 1$' || return
+  start_apart && await shows ready "^HTTP/1.1 200" || return
+  await shows metrics '^squall_partition_up{partition="3"} 1$' || return
   kill "-$signal" "$wire"
-  await shows ready "^the bus has said nothing for" && shows ready "^HTTP/1.1 503" || { cat "$run/shown"; return 1; }
+  await shows ready "^the bus has said nothing for" && shows ready "^HTTP/1.1 503" || return
   start_move 2 old new --pause 40
-  ask_while "$id" "$cut" 400:0 && wait "$id" || { cat "$run/mover"; return 1; }
+  ask_while "$id" "$cut" 400:0 && wait "$id" || return
   echo "no answer for at most $longest ms"
   [ "$longest" -lt 5000 ] || return
-  redis-cli -p "$cut" squall route 400:0 | grep "partition 3 course 2" || return
-  # It hears of two courses at once.
+  await routes_to "$cut" 400:0 "partition 3 course 2" || return
+  # It sleeps while two courses pass, and learns of the later one at once.
+  kill -STOP "${ids[$cut]}"
   move 3 new old && move 4 old new || return
+  kill -CONT "${ids[$cut]}"
   await serves_at "$cut" 400:0 && await serves_at "$cut" 900:0 && await shows metrics '^squall_course 4$' || return
-  grep "the bus did not tell of course 4; partition" "$run"/proxy.*
+  grep "the bus did not tell of course 4; partition" "$run"/proxy.* && ! grep "did not tell of course 3" "$run"/proxy.*
+}
+
+routes_to() {
+  redis-cli -p "$1" squall route "$2" | grep -qx "key $2 $3"
 }
 
 serves_at() {
@@ -261,7 +270,8 @@ test_ready() {
   stop "${servers[1]}"
   await shows ready "^partition 2 does not answer: " && shows ready "^HTTP/1.1 503" || return
   ! grep -q "^partition [13]" "$run/shown" || return
-  await shows metrics '^squall_partition_up{partition="2"} 0$' && shows metrics '^squall_partition_up{partition="1"} 1$' || return
+  await shows metrics '^squall_partition_up{partition="2"} 0$' || return
+  shows metrics '^squall_partition_up{partition="1"} 1$' || return
   run_redis "${servers[1]}" && await shows ready "^partition 2 refuses course 1: WRONGPASS" || return
   redis-cli -p "$port" set 900:0 x > "$run/asked" &
   sleep 2

@@ -278,7 +278,7 @@ test_keep_alive() {
   are_probed "${ids[$proxy]}" 5 40 || return
   grep -q "127.0.0.1:$proxy " "$run/timers" || { echo "no connection of a client"; return 1; }
   exec 3>&-
-  launch "$run" node "$bin/squall-redis-node" --first old.json --bus "127.0.0.1:$bus" --secret-file "$secret" --board board --keep-alive 20
+  start_node --bus "127.0.0.1:$bus" --board board --keep-alive 20
   are_probed "$id" 2 20 || return
   for key in 400:0 401:0 600:0 601:0; do redis-cli -p "$proxy" set "$key" x || return; done
   # After its first chunks it waits. Of both sources it has two connections, and of the destination two.

@@ -55,6 +55,9 @@ class RedisBus:
         words = ["XADD", "squall:" + place, "*", "from", sender, "frame", it]
         self.ask(*words, *(["re", re] if re else []), *([] if mac is None else ["mac", mac]))
 
+    def end(self):
+        """All was answered."""
+
     def entries(self):
         for place in ("frames", "digests"):
             for _, fields in self.ask("XRANGE", "squall:" + place, "-", "+"):
@@ -72,7 +75,13 @@ class NatsBus:
 
     def write(self, place, sender, re, mac, it):
         body = (mac or secrets.token_bytes(32)) + bytes([len(sender)]) + sender.encode() + it
-        self.socket.sendall(f"PUB squall.{place} {re} {len(body)}\r\n".encode() + body + b"\r\nPING\r\n")
+        self.socket.sendall(f"PUB squall.{place} {re} {len(body)}\r\n".encode() + body + b"\r\n")
+
+    def end(self):
+        """Waits until the server has taken all."""
+        self.socket.sendall(b"PING\r\n")
+        while self.file.readline().strip() != b"PONG":
+            pass
 
     def entries(self):
         until = time.monotonic() + 3
@@ -124,9 +133,7 @@ def main() -> None:
             codes = [seal(secret, "squall", place, "forger", "", it)]
         for mac in codes:
             bus.write("frames", "forger", "", mac, it)
-    if scheme == "nats":
-        while bus.file.readline().strip() != b"PONG":
-            pass
+    bus.end()
 
 
 if __name__ == "__main__":

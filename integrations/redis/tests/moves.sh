@@ -170,7 +170,7 @@ test_two_movers() {
 # Starts a node whose board is in $run/board, into `node`.
 run_node() {
   local id
-  launch "$run" node "$bin/squall-redis-node" --first old.json --bus "127.0.0.1:$bus" --secret-file "$secret" --board board --every 3
+  start_node --bus "127.0.0.1:$bus" --board board --every 3
   node=$id
 }
 
@@ -406,7 +406,7 @@ test_mover_ends_in_order() {
 test_node_ends_in_order() {
   local program id node at
   set_program && deploy || return
-  launch "$run" node "$bin/squall-redis-node" --first old.json --bus "127.0.0.1:$bus" --secret-file "$secret" --board board --every 3
+  start_node --bus "127.0.0.1:$bus" --board board --every 3
   node=$id
   await [ -e "$run/board" ] && await ln -s /dev/full "$run/board.new" && cp "$run/board" "$run/before" || return
   redis-cli -p "${proxies[0]}" set 400:0 x && move 2 old new && await is_said 'No space left' "$run/node" && sleep 2.5 || return
@@ -418,7 +418,7 @@ test_node_ends_in_order() {
   kill -TERM "$node"
   wait "$node" || { echo "status $?"; return 1; }
   # One that writes seldom writes in the end.
-  launch "$run" node "$bin/squall-redis-node" --first old.json --bus "127.0.0.1:$bus" --secret-file "$secret" --board board --every 3600000
+  start_node --bus "127.0.0.1:$bus" --board board --every 3600000
   node=$id
   await hears_signals "$node" && move 3 new old && await has_heard_all 3 || return
   ! has_board_of 3 || return

@@ -133,6 +133,11 @@ serves_or_ended() {
   is_said "serves at 127.0.0.1:[0-9]*$" "$1" || has_ended "$2"
 }
 
+# Starts a node, into `id`. The words are added to its own.
+start_node() {
+  launch "$run" node "$bin/squall-redis-node" --first old.json --secret-file "$secret" "$@"
+}
+
 # A bus, unless `nats` is the address of one, three partitions in course 1, and two proxies. The other words are put before the programs of the proxies.
 deploy() {
   run=$(mktemp -d "$work/run.XXXX")

@@ -29,7 +29,7 @@ use_tls() {
 test_tls() {
   local certs listen=() secure=() mover_words=() limits=() id
   use_tls && deploy || return
-  launch "$run" node "$bin/squall-redis-node" --first old.json --bus "127.0.0.1:$bus" --secret-file "$secret" --board board --tls-bus \
+  start_node --bus "127.0.0.1:$bus" --board board --tls-bus \
     --tls-ca "$certs/ca.pem" --tls-own-cert "$certs/own.pem" --tls-own-key "$certs/own.key"
   start_load 30000 --pause 300 --tls --tls-ca "$certs/ca.pem"
   sleep 0.2
@@ -105,7 +105,7 @@ test_tls_over_nats() {
   launch "$run" follow env PYTHONPATH="$top/bindings/python" python3 "$top/integrations/transports/squall-bus" follow "$nats" \
     --secret-file "$secret" --first old.json --key 400:0 "${words[@]}"
   follower=$id
-  launch "$run" node "$bin/squall-redis-node" --first old.json --bus "nats://$at" --tls-bus --secret-file "$secret" --board board "${words[@]}"
+  start_node --bus "nats://$at" --tls-bus --board board "${words[@]}"
   start_load 20000 --pause 300
   sleep 0.2
   move 2 old new && move 3 new old --bus "nats://$at" && move 4 old new || return

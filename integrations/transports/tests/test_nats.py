@@ -115,7 +115,7 @@ class Messages(NatsTest):
             self.assertEqual(joined(came), [board])
         assert isinstance(same, NatsBus) and isinstance(other, NatsBus)
         self.assertEqual(same.foreign, 2)
-        self.assertEqual(hear(other), [])
+        self.assertEqual(other.hear(0.1), [])
 
     def test_names_keep_deployments_apart(self) -> None:
         url = self.serve(Nats()).url()

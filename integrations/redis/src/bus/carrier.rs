@@ -12,7 +12,7 @@ use crate::tls::Peer;
 use std::sync::{Mutex, PoisonError};
 use std::time::Duration;
 
-/// How long a server may take for an answer. A reader is answered each second.
+/// How long a server may say nothing to a reader, which is answered each second.
 const PATIENCE: Duration = Duration::from_secs(4);
 
 /// A bus, and what is sent over it.
@@ -59,7 +59,8 @@ impl Carrier {
     pub fn listen(&self) -> Done<Ears<'_>> {
         match self {
             Carrier::Redis(redis) => {
-                let mut conn = redis.connect()?;
+                let mut conn = Conn::open(&redis.server)?;
+                conn.set_patience(PATIENCE)?;
                 let places = redis.streams.begin(&mut conn)?;
                 Ok(Ears::Redis(&redis.streams, Box::new(conn), places))
             }
@@ -93,12 +94,6 @@ impl Carrier {
 }
 
 impl Redis {
-    fn connect(&self) -> Done<Conn> {
-        let mut conn = Conn::open(&self.server)?;
-        conn.set_patience(PATIENCE)?;
-        Ok(conn)
-    }
-
     /// Writes over the connection that was used last, or over a new one if the server has ended that meanwhile. Frames
     /// that it had taken are then written twice, which changes nothing.
     fn send(&self, write: impl Fn(&Streams, &mut Conn) -> Done<()>) -> Done<()> {
@@ -109,7 +104,7 @@ impl Redis {
                 return Ok(());
             }
         }
-        let mut conn = self.connect()?;
+        let mut conn = Conn::open(&self.server)?;
         write(&self.streams, &mut conn)?;
         *sender = Some(conn);
         Ok(())

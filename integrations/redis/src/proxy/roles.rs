@@ -1,7 +1,8 @@
 //! How partitions take part in the moves of a course, as they say themselves.
 //!
 //! The bus says what was loaded, and routes go by that. But a plain command is sent for a key that moves only if its
-//! destination has said that the key is loaded there. Until then it is guarded, so no word of anyone else makes an answer wrong.
+//! destination has said that the key is loaded there. Until then it is guarded, so no word of anyone else makes an
+//! answer wrong.
 
 use crate::keymap;
 use crate::resp::Value;

@@ -120,8 +120,8 @@ impl Cursor {
 
     /// The client's answer of the partition's; none if that is no page of names.
     ///
-    /// Rows are left out of which the view and their destination say that they are elsewhere: they were copied away, and
-    /// not removed yet. Those that come here stay, since the view may lag.
+    /// Rows are left out of which the view and their destination say that they are elsewhere: they were copied away,
+    /// and not removed yet. Those that come here stay, since the view may lag.
     pub fn answer(self, page: &[u8], from: &Upstream, ground: &Ground, known: Known) -> Option<Vec<u8>> {
         let (page, _) = Value::read(page).ok()??;
         let mut page = page.list();

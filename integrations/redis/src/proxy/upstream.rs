@@ -66,7 +66,8 @@ pub struct Upstream {
     pub stream: Option<Socket>,
     /// What it is at.
     pub state: State,
-    /// The pause after the next refusal, the view by which it was refused last, and from when on another view lets it try again.
+    /// The pause after the next refusal, the view by which it was refused last, and from when on another view lets it
+    /// try again.
     pause: Duration,
     refused_by: u64,
     least: Instant,

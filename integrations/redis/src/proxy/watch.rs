@@ -1,5 +1,5 @@
-//! Looks at each partition each second: whether it lets this proxy in. To a proxy that is cut off the bus a partition also
-//! says which course it is in, and what it has loaded.
+//! Looks at each partition each second: whether it lets this proxy in. To a proxy that is cut off the bus a partition
+//! also says which course it is in, and what it has loaded.
 
 use super::metrics::Shared;
 use crate::bus::report;
@@ -16,6 +16,8 @@ use std::time::{Duration, Instant};
 
 /// Between two looks at a partition.
 const ROUND: Duration = Duration::from_secs(1);
+/// The least pause between two looks, however many connections are refused.
+const REST: Duration = Duration::from_millis(50);
 /// How long the bus may take to tell of a course in which a partition is already, and between two questions about that.
 const GRACE: Duration = Duration::from_millis(200);
 const AGAIN: Duration = Duration::from_millis(10);
@@ -92,6 +94,7 @@ pub fn start(shared: &Arc<Shared>) {
             loop {
                 some.iter_mut().for_each(|eye| eye.look(&shared));
                 shared.watch.wait(&mut seen);
+                thread::sleep(REST);
             }
         });
     }
@@ -99,11 +102,17 @@ pub fn start(shared: &Arc<Shared>) {
 
 impl Eye {
     fn look(&mut self, shared: &Shared) {
-        let number = shared.node.number();
-        let seen = self.enter(shared, number);
+        let mut number = shared.node.number();
+        let mut seen = self.enter(shared, number);
         let asks = match &seen {
             Ok(Seen::In) => shared.node.silence() >= CUT,
-            Ok(Seen::Refused(_)) => is_unheard(shared, number),
+            Ok(Seen::Refused(_)) if is_unheard(shared, number) => true,
+            Ok(Seen::Refused(_)) => {
+                // The bus has told of another course by now.
+                number = shared.node.number();
+                seen = self.enter(shared, number);
+                false
+            }
             Err(_) => false,
         };
         let learned = if asks { self.learn(shared) } else { Ok(false) };
