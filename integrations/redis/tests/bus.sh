@@ -44,25 +44,25 @@ is_unmoved() {
   grep -q "^bus: an entry is passed over" "$run"/proxy.*
 }
 
-fill() {
+fill_roots() {
   seq -f "set %g:0 x" 0 999 | redis-cli -p "${proxies[0]}" > /dev/null
 }
 
 test_forged_frames() {
-  deploy && fill && is_unmoved "redis://127.0.0.1:$bus"
+  deploy && fill_roots && is_unmoved "redis://127.0.0.1:$bus"
 }
 
 test_forged_frames_over_nats() {
   local nats
   command -v nats-server > /dev/null || { echo "no nats-server here"; return 1; }
-  start_one_nats && deploy && fill && is_unmoved "$nats"
+  start_one_nats && deploy && fill_roots && is_unmoved "$nats"
 }
 
 # A load is sealed as it should be, and is false all the same. Routes go by it, and no answer does: commands on its keys
 # are refused, in transactions and waits too, and a walk names each key.
 test_false_load() {
   local id at count patience=300
-  deploy && fill || return
+  deploy && fill_roots || return
   start_move 2 old new --pause 600000
   agrees 1 2 499:0 && await has_loaded_of 1 2 || return
   forge "redis://127.0.0.1:$bus" load 2 0 3 330:0 500:0 --secret-file "$secret" || return
@@ -118,12 +118,12 @@ test_turned_frames_over_nats() {
 # Two deployments with the same names and other secrets share a bus, and each goes its own course.
 share_a_bus() {
   local first second
-  deploy && fill || return
+  deploy && fill_roots || return
   first=$(declare -p run servers proxies parts secret | sed 's/^declare --*a* /local &/;s/local declare/declare/')
   nats=${nats:-127.0.0.1:$bus}
   secret=$work/other
   od -An -tx1 -N32 /dev/urandom | tr -d ' \n' > "$secret"
-  deploy && fill || return
+  deploy && fill_roots || return
   cp "$run/old.json" "$run/third.json"
   move 2 old new && move 3 new old && agrees 1 3 400:0 || return
   second=("${proxies[@]}")
@@ -213,7 +213,7 @@ ask_while() {
 
 # A proxy that is cut off the bus goes on through whole courses: the partitions tell it of them. Its page says so, until
 # it hears the bus again. The way to the bus is one that says nothing, or that does not lead anywhere.
-goes_on() {
+goes_on_apart() {
   local signal=$1 id longest
   start_apart && await shows ready "^HTTP/1.1 200" || return
   await shows metrics '^squall_partition_up{partition="3"} 1$' || return
@@ -242,20 +242,20 @@ serves_at() {
 
 test_cut_off_by_silence() {
   local wire cut http
-  deploy && fill && goes_on STOP || return
+  deploy && fill_roots && goes_on_apart STOP || return
   # Once the way is open again, the proxy is ready.
   kill -CONT "$wire" && await shows ready "^ready$" && shows ready "^HTTP/1.1 200"
 }
 
 test_cut_off_by_refusal() {
   local wire cut http
-  deploy && fill && goes_on KILL
+  deploy && fill_roots && goes_on_apart KILL
 }
 
 test_cut_off_nats() {
   local wire cut http nats
   command -v nats-server > /dev/null || { echo "no nats-server here"; return 1; }
-  start_one_nats && deploy && fill && goes_on STOP || return
+  start_one_nats && deploy && fill_roots && goes_on_apart STOP || return
   kill -CONT "$wire" && await shows ready "^ready$"
 }
 
