@@ -261,7 +261,7 @@ test_cut_off_nats() {
 
 # A partition that is down, or lets a proxy in no more, is named; log-ins that it refuses become seldom.
 test_ready() {
-  local http limits before
+  local http limits before redis_words="--appendonly yes"
   deploy || return
   free_port
   http=$port
@@ -272,7 +272,8 @@ test_ready() {
   ! grep -q "^partition [13]" "$run/shown" || return
   await shows metrics '^squall_partition_up{partition="2"} 0$' || return
   shows metrics '^squall_partition_up{partition="1"} 1$' || return
-  run_redis "${servers[1]}" && await shows ready "^partition 2 refuses course 1: WRONGPASS" || return
+  # shellcheck disable=SC2086
+  run_redis "${servers[1]}" $redis_words && await shows ready "^partition 2 refuses course 1: WRONGPASS" || return
   redis-cli -p "$port" set 900:0 x > "$run/asked" &
   sleep 2
   before=$(logins)
