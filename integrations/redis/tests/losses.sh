@@ -280,7 +280,7 @@ test_supervise() {
 test_supervise_under_load() {
   local patience=2000 id moving redis_words="--appendonly yes --appendfsync always"
   deploy || return
-  launch "$run" supervisor "$bin/squall-redis-node" --supervise "${parts[@]}"
+  launch "$run" supervisor "$bin/squall-redis-node" --supervise --secret-file "$secret" "${parts[@]}"
   start_load 15000 --pause 3000 --tolerant
   await hears_signals "$id" && await has_keys "${servers[0]}" 400 || return
   restart 2 true && await is_said_of 2 "let in again" || return
