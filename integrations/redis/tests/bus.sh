@@ -121,7 +121,7 @@ share_a_bus() {
   deploy && fill_roots || return
   first=$(declare -p run servers proxies parts secret | sed 's/^declare --*a* /local &/;s/local declare/declare/')
   nats=${nats:-127.0.0.1:$bus}
-  secret=$work/other
+  secret=$work/secret.other
   od -An -tx1 -N32 /dev/urandom | tr -d ' \n' > "$secret"
   deploy && fill_roots || return
   cp "$run/old.json" "$run/third.json"
