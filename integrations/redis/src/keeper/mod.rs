@@ -8,7 +8,7 @@ use crate::bus::{Node, Options};
 use crate::fault::{note, Done, Fault};
 use crate::{keep_alive, stop, tls};
 use file::BoardFile;
-use std::sync::mpsc;
+use std::sync::mpsc::{self, Receiver};
 use std::time::Duration;
 
 /// What the program is.
@@ -71,6 +71,11 @@ fn keep(args: &Args) -> Done<()> {
     node.on_news(wake.clone());
     stop::watch(wake)?;
     note(format!("squall-redis-node: keeps {}, course {}", file.path().display(), node.view().0.number()));
+    write_news(&file, &node, &heard, every)
+}
+
+/// Writes the board each time that it has changed, but no more often than that.
+fn write_news(file: &BoardFile, node: &Node, heard: &Receiver<()>, every: Duration) -> Done<()> {
     let (mut written, mut said) = (Vec::new(), String::new());
     loop {
         let is_last = stop::is_asked();
