@@ -37,12 +37,14 @@ is_shut() {
   [ "$(redis-cli -p "$1" acl users)" = default ] || { echo "$1 lets routers in"; return 1; }
 }
 
-# Begins a move of chunks of two keys, and ends the server of partition 3 by force once the command succeeds.
+# Begins a move of chunks of two keys, and ends the server of partition 3 by force once the command succeeds. When that
+# was comes into `lost_at`, in microseconds.
 lose() {
   local id
   start_move 2 old new --chunk 2 --pause "${pace-20}" --patience 1
   await "$@" || return
   stop "${servers[2]}"
+  lost_at=${EPOCHREALTIME/./}
   if wait "$id"; then echo "the mover had ended too soon"; return 1; fi
 }
 
@@ -98,9 +100,17 @@ test_destination_loses_its_log() {
 
 # What is not forgotten yet is copied again before anyone is let in, so nobody sees that a key is not there.
 test_loads_are_forgotten_late() {
-  local patience=300 id wrong key mark='' redis_words="--appendonly yes --appendfsync everysec"
-  deploy && fill 340 '' && lose notes_log_and has_rows "${servers[2]}" 60 || return
-  if has_forgotten 1 1 || has_forgotten 2 1; then echo "it was forgotten too soon"; return 1; fi
+  local patience=300 id wrong key mark='' began lost_at redis_words="--appendonly yes --appendfsync everysec"
+  deploy && fill 340 '' || return
+  began=${EPOCHREALTIME/./}
+  pace=5 lose notes_log_and has_rows "${servers[2]}" 60 || return
+  if has_forgotten 1 1 || has_forgotten 2 1; then
+    # The first loads may be old enough by now if the machine is too busy. Nothing is shown then.
+    counts='(the machine is too busy for this)'
+    [ $((lost_at - began)) -ge 2000000 ] && return
+    echo "it was forgotten too soon"
+    return 1
+  fi
   cut_log
   # shellcheck disable=SC2086
   run_redis "${servers[2]}" $redis_words || return

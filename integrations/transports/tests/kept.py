@@ -52,16 +52,24 @@ class Kept(CourseTest):
         """The server goes without a word, and comes back. Then all frames are replaced."""
         merged: List[str] = []
 
+        def is_merged() -> bool:
+            """Whether the servers have answered by now. They may still be choosing a leader."""
+            words = [sys.executable, *BUS, "merge", self.server.url(), *self.words]
+            done = subprocess.run(words, check=False, capture_output=True, text=True)
+            merged.append(done.stdout)
+            return done.returncode == 0
+
         def mishap() -> None:
             self.server.end()
             self.server.start()
-            words = [sys.executable, *BUS, "merge", self.server.url(), *self.words]
-            merged.append(subprocess.run(words, check=True, capture_output=True, text=True).stdout)
+            until("the merge is done", is_merged)
 
         nodes = self.work(mishap)
-        self.assertRegex(merged[0], "^([2-9]|[0-9]{2}) frames are now 1; 0 were none\n$")
+        # One whose answer was lost may have been done: the next one then finds its frame alone.
+        counts = "[2-9]|[0-9]{2}" if len(merged) == 1 else "[1-9]|[0-9]{2}"
+        self.assertRegex(merged[-1], f"^({counts}) frames are now 1; 0 were none\n$")
         self.assertTrue(any("bus: " in it.said() for it in nodes[1:]), "nobody missed the server")
-        print(f"measured: {merged[0].split(';')[0]}")
+        print(f"measured: {merged[-1].split(';')[0]}")
 
     def writers_and_merges_lose_nothing(self) -> None:
         """Four writers, two that merge, and a reader, all at once."""
