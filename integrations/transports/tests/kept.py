@@ -23,6 +23,8 @@ class Kept(CourseTest):
     url = ""
     #: More words of a merge.
     words: List[str] = []
+    #: Whether servers may still be choosing a leader when a merge is asked for.
+    may_choose = False
 
     def bus(self) -> Any:
         """One that is connected."""
@@ -53,10 +55,11 @@ class Kept(CourseTest):
         merged: List[str] = []
 
         def is_merged() -> bool:
-            """Whether the servers have answered by now. They may still be choosing a leader."""
+            """Whether the servers have answered by now. All but those that choose a leader have to."""
             words = [sys.executable, *BUS, "merge", self.server.url(), *self.words]
             done = subprocess.run(words, check=False, capture_output=True, text=True)
             merged.append(done.stdout)
+            self.assertTrue(done.returncode == 0 or self.may_choose, done.stderr)
             return done.returncode == 0
 
         def mishap() -> None:

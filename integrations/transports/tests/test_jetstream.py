@@ -69,6 +69,7 @@ class OnThree(kept.Kept):
 
     server: Cluster
     pause = 0.15
+    may_choose = True
 
     def begin(self, cluster: Cluster) -> None:
         """Makes a stream."""
