@@ -1,4 +1,3 @@
-pub mod Entries
 pub mod Sweeps
 pub mod Owners
 pub mod Places
@@ -8,3 +7,8 @@ pub mod Sorted
 pub mod Answered
 pub mod Texts
 pub mod Equal
+pub mod Numbers
+pub mod Tapes
+pub mod Listed
+pub mod Plain
+pub mod ReadBack

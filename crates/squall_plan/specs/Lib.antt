@@ -7,4 +7,6 @@ pub mod Equal
 pub mod EqualLaws
 pub mod Arranged
 pub mod Form
+pub mod PlanText
 pub mod Faults
+pub mod Shown

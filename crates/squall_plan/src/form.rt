@@ -1,16 +1,19 @@
 //! Reads the ranges that a text lists.
 
-ghost use Rattle.std.specs.Prelude.{◌≡◌, ◌&&◌, map, option_map, IfOk};
+ghost use Rattle.std.specs.Prelude.{◌≡◌, ◌&&◌, codes, option_and_then, IfOk};
 ghost use Rattle.std.specs.List.{filter_map};
-ghost use Rattle.serde_json.specs.View.{view};
+ghost use Rattle.serde_json.specs.Data.{Data, Items as DataItems};
+ghost use Rattle.serde_json.specs.Find.{get, as_array};
 ghost use Rattle.squall_plan.specs.declared.fault.PlanFault.TheVariants.{Json, Shape};
 ghost use Rattle.squall_plan.specs.Arranged.{GivesSeen};
-ghost use Rattle.squall_plan.specs.Form.{pair_of, to_of, entry_of, entries_of, listed_in, part_of, bound_in, bounds_of, range_of, ranges_in, lacking};
-ghost use Rattle.squall_plan.specs.Form.{or_fault, data_of, ranges_of_data, ranges_of_text};
+ghost use Rattle.squall_plan.specs.Form.{whole_of, list_of, pair_in, pair_of, is_end, to_of, entry_of, entries_of, part_of, bound_in, bounds_of};
+ghost use Rattle.squall_plan.specs.Form.{range_of, ranges_in, lacking, ranges_of_data, ranges_of_text};
+ghost use Rattle.squall_plan.specs.Shown.{Shows, ShowsItems, FindsItems};
 
 use crate::fault::PlanFault;
 use crate::range::PlanRange;
-use serde_json::Value;
+use crate::tape::{next_item, read_items, read_member, read_string, read_tape, read_whole};
+use json::{Element, Items, Scratch};
 use squall_key::{Bound, PartId};
 use squall_span::Span;
 use std::alloc::{AllocError, Global};
@@ -25,31 +28,75 @@ pub(crate) struct Entry {
 
 // ---- one entry
 
-fn read_pair(value: &Value) -> Option<(u64, u64)>
-    ensures { result ≡ pair_of (view value.now) }
+/// Two whole numbers, if the items are two of them.
+fn read_two(items: &mut Items<'_, '_>) -> Option<(u64, u64)>
+    ensures { (ds : DataItems) → ShowsItems items.old ds → result ≡ pair_in ds }
 {
-    match value.as_array()?.as_slice() {
-        [first, second] => Some((first.as_u64()?, second.as_u64()?)),
-        _ => None,
+    let first = next_item(items)?;
+    let second = next_item(items)?;
+    if next_item(items).is_some() {
+        return None;
+    }
+    Some((read_whole(&first)?, read_whole(&second)?))
+}
+
+fn read_pair(value: &Element<'_, '_>) -> Option<(u64, u64)>
+    ensures { (d : Data) → Shows value.now d → result ≡ pair_of d }
+{
+    let mut items = read_items(value)?;
+    read_two(&mut items)
+}
+
+/// Whether it is the text `end`.
+fn is_end(value: &Element<'_, '_>) -> bool
+    ensures { (d : Data) → Shows value.now d → result ≡ is_end d }
+{
+    match read_string(value) {
+        Some(text) => text == "end",
+        None => false,
     }
 }
 
 /// A pair, or `end` for the top.
-fn read_to(value: &Value) -> Option<(u64, u64)>
-    ensures { result ≡ to_of (view value.now) }
+fn read_to(value: &Element<'_, '_>) -> Option<(u64, u64)>
+    ensures { (d : Data) → Shows value.now d → result ≡ to_of d }
 {
-    if value.as_str().is_some_and(|text| text == "end") {
+    if is_end(value) {
         return Some((4294967295, 0));
     }
     read_pair(value)
 }
 
-fn read_entry(value: &Value) -> Option<Entry>
-    ensures { result ≡ entry_of (view value.now) }
+/// The whole number of the member `part`.
+fn read_part(value: &Element<'_, '_>) -> Option<u64>
+    ensures { (d : Data) → Shows value.now d
+        → result ≡ option_and_then whole_of (get (codes "part") d) }
 {
-    let part = value.get("part")?.as_u64()?;
-    let from = read_pair(value.get("from")?)?;
-    let to = read_to(value.get("to")?)?;
+    read_whole(&read_member(value, "part")?)
+}
+
+/// The pair of the member `from`.
+fn read_from(value: &Element<'_, '_>) -> Option<(u64, u64)>
+    ensures { (d : Data) → Shows value.now d
+        → result ≡ option_and_then pair_of (get (codes "from") d) }
+{
+    read_pair(&read_member(value, "from")?)
+}
+
+/// The pair of the member `to`, or the top.
+fn read_end(value: &Element<'_, '_>) -> Option<(u64, u64)>
+    ensures { (d : Data) → Shows value.now d
+        → result ≡ option_and_then to_of (get (codes "to") d) }
+{
+    read_to(&read_member(value, "to")?)
+}
+
+fn read_entry(value: &Element<'_, '_>) -> Option<Entry>
+    ensures { (d : Data) → Shows value.now d → result ≡ entry_of d }
+{
+    let part = read_part(value)?;
+    let from = read_from(value)?;
+    let to = read_end(value)?;
     Some(Entry { part, from, to })
 }
 
@@ -84,12 +131,6 @@ fn range_in(entry: &Entry) -> Option<PlanRange>
 
 // ---- all entries
 
-fn first_misformed(values: &[Value]) -> Option<usize>
-    ensures { result ≡ lacking (λ v. entry_of (view v)) values.now }
-{
-    values.iter().position(|value| read_entry(value).is_none())
-}
-
 fn first_bad_part(entries: &[Entry]) -> Option<usize>
     ensures { result ≡ lacking part_of entries.now }
 {
@@ -108,13 +149,6 @@ fn first_empty(entries: &[Entry]) -> Option<usize>
     entries.iter().position(|entry| range_in(entry).is_none())
 }
 
-/// The values that are entries.
-fn formed(alloc: Global, values: &[Value]) -> Result<Vec<Entry>, AllocError>
-    ensures { IfOk result (λ es. es.items ≡ filter_map (λ v. entry_of (view v)) values.now) }
-{
-    values.iter().filter_map(read_entry).collect(alloc)
-}
-
 /// The entries that are ranges.
 fn ranged(alloc: Global, entries: &[Entry]) -> Result<Vec<PlanRange>, AllocError>
     ensures { IfOk result (λ rs. rs.items ≡ filter_map range_of entries.now) }
@@ -122,13 +156,19 @@ fn ranged(alloc: Global, entries: &[Entry]) -> Result<Vec<PlanRange>, AllocError
     entries.iter().filter_map(range_in).collect(alloc)
 }
 
-fn read_entries(alloc: Global, values: &[Value]) -> Result<Vec<Entry>, PlanFault>
-    ensures { GivesSeen (λ v. v.items) result (entries_of (map view values.now)) }
+/// The entries, or the fault of the first value that is none.
+fn read_entries(alloc: Global, items: &mut Items<'_, '_>) -> Result<Vec<Entry>, PlanFault>
+    ensures { (ds : DataItems) → ShowsItems items.old ds
+        → GivesSeen (λ v. v.items) result (entries_of (list_of ds)) }
 {
-    if let Some(index) = first_misformed(values) {
-        return Err(PlanFault::Shape(Some(index)));
+    let mut found = Vec::new(alloc);
+    while let Some(item) = next_item(items) {
+        match read_entry(&item) {
+            Some(entry) => found.push(entry)?,
+            None => return Err(PlanFault::Shape(Some(found.len()))),
+        }
     }
-    Ok(formed(alloc, values)?)
+    Ok(found)
 }
 
 fn read_ranges(alloc: Global, entries: &[Entry]) -> Result<Vec<PlanRange>, PlanFault>
@@ -148,45 +188,42 @@ fn read_ranges(alloc: Global, entries: &[Entry]) -> Result<Vec<PlanRange>, PlanF
 
 // ---- the whole
 
-fn read_listed(value: &Value) -> Option<&Vec<Value>>
-    ensures { option_map (λ v. map view v.now.items) result ≡ listed_in (view value.now) }
+/// The items of the member `plan`, if that is an array.
+fn read_listed<'t, 'a>(root: &Element<'t, 'a>) -> Option<Items<'t, 'a>>
+    ensures { (d : Data) → Shows root.now d
+        → FindsItems result (option_and_then as_array (get (codes "plan") d)) }
 {
-    value.get("plan")?.as_array()
+    read_items(&read_member(root, "plan")?)
 }
 
 /// The ranges that a value lists, or the fault of its form that comes first in [`PlanFault`].
-#[tactic(auto, unfolding(crate::specs::Form::ranges_of_data))]
-fn read_data(alloc: Global, value: &Value) -> Result<Vec<PlanRange>, PlanFault>
-    ensures { GivesSeen (λ v. v.items) result (ranges_of_data (view value.now)) }
+fn read_data(alloc: Global, root: &Element<'_, '_>) -> Result<Vec<PlanRange>, PlanFault>
+    ensures { (d : Data) → Shows root.now d
+        → GivesSeen (λ v. v.items) result (ranges_of_data d) }
 {
-    let values = match read_listed(value) {
-        Some(values) => values,
+    let mut items = match read_listed(root) {
+        Some(items) => items,
         None => return Err(PlanFault::Shape(None)),
     };
-    let entries = read_entries(alloc, values)?;
+    let entries = read_entries(alloc, &mut items)?;
     read_ranges(alloc, &entries)
 }
 
-/// The JSON value of the bytes.
-fn read_value(alloc: Global, text: &[u8]) -> Result<Value, PlanFault>
-    ensures { GivesSeen view result (or_fault Json (data_of text.now)) }
+/// The ranges that a text lists, in its order, or what is wrong with its form.
+fn read_str(alloc: Global, text: &str) -> Result<Vec<PlanRange>, PlanFault>
+    ensures { GivesSeen (λ v. v.items) result (ranges_of_text text.now) }
 {
-    match Value::from_slice(alloc, text) {
-        Ok(value) => Ok(value),
-        Err(error) => {
-            if error.is_memory() {
-                Err(PlanFault::NoMemory)
-            } else {
-                Err(PlanFault::Json)
-            }
-        }
-    }
+    let mut scratch = Scratch::new(alloc);
+    let tape = read_tape(alloc, text, &mut scratch)?;
+    read_data(alloc, &tape.root())
 }
 
-/// The ranges that a text lists, in its order, or what is wrong with its form.
+/// The ranges that bytes list, in their order, or what is wrong with their form.
 pub(crate) fn read_text(alloc: Global, text: &[u8]) -> Result<Vec<PlanRange>, PlanFault>
     ensures { GivesSeen (λ v. v.items) result (ranges_of_text text.now) }
 {
-    let value = read_value(alloc, text)?;
-    read_data(alloc, &value)
+    match std::str::from_utf8(text) {
+        Ok(text) => read_str(alloc, text),
+        Err(_) => Err(PlanFault::Json),
+    }
 }

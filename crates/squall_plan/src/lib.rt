@@ -2,12 +2,12 @@
 //!
 //! A plan is read from a text, or made of ranges in any order. It has one list of ranges: by rising
 //! key from 0:0 to the end without a gap, neighbours of different partitions. Contracts see a plan
-//! as that list.
+//! as that list. The text of a plan reads as the same plan.
 //!
 //! The answer for a text or for ranges is defined twice. One definition is a function. The other is
 //! its meaning: how many ranges have each key, and which partition owns it.
 //!
-//! # Example
+//! # Examples
 //!
 //! A plan is read from text, and names the partition of a key (`Key` is of `squall_key`).
 //!
@@ -27,7 +27,17 @@
 //! }
 //! ```
 //!
-//! Its tests are in `crates/squall_test_plans/src/plan.rt`.
+//! The text of a plan is read again, and gives the same plan.
+//!
+//! ```rust
+//! fn reads_as_itself(rt: &impl Abort, alloc: Global, plan: &Plan) -> Result<(), Fail> {
+//!     let text = plan_text(alloc, plan)?;
+//!     assert!(rt; Plan::read(alloc, text.as_bytes())? == *plan);
+//!     Ok(())
+//! }
+//! ```
+//!
+//! Its tests are in `crates/squall_test_plans/src/plan.rt` and `text.rt`.
 #![tactic(auto)]
 
 mod fault;
@@ -37,7 +47,10 @@ mod plan;
 mod range;
 mod search;
 mod sweep;
+mod tape;
+mod text;
 
 pub use fault::PlanFault;
 pub use plan::{Plan, RANGE_LIMIT};
 pub use range::PlanRange;
+pub use text::plan_text;

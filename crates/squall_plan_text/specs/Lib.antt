@@ -1,5 +1,0 @@
--- what the clauses here cite of the crates below
-pub use Rattle.squall_key.specs.Keys
-pub use Rattle.squall_plan.specs.Ranges
-pub use Rattle.squall_plan.specs.Form
-pub mod PlanText
