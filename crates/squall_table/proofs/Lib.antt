@@ -18,3 +18,4 @@ mod Walked
 mod Renewed
 mod Renewals
 mod Loaded
+mod Readied

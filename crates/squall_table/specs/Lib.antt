@@ -19,4 +19,5 @@ pub mod Reach
 pub mod Touching
 pub mod News
 pub mod Patching
+pub mod Readiness
 pub mod TableLaws

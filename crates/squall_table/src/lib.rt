@@ -21,10 +21,12 @@
 //! ) -> Result<(), Fail> {
 //!     let key = Key::read("2:0").ok_or("a key")?;
 //!     let mut board = Board::new(alloc);
-//!     let mut table = RouteTable::build(alloc, course, &board)?;
+//!     let table = RouteTable::build(alloc, course, &board)?;
 //!     assert!(rt; table.owner(key).get() == 1);
-//!     table.take(course, &mut board, load)?;
-//!     assert!(rt; table.owner(key).get() == 3);
+//!     let ready = table.prepare(course, News::Report(load)).ok();
+//!     let ready = ready.ok_or("a patch")?;
+//!     board.take(load)?;
+//!     assert!(rt; ready.make().owner(key).get() == 3);
 //!     Ok(())
 //! }
 //! ```
@@ -41,6 +43,7 @@ mod meter;
 mod near;
 mod news;
 mod patch;
+mod ready;
 mod routes;
 mod runs;
 mod search;
@@ -50,6 +53,8 @@ mod touch;
 mod view;
 
 pub use meter::Meter;
+pub use news::News;
+pub use ready::Ready;
 pub use table::{Leg, RouteTable};
 pub use touch::touched;
 pub use view::Legs;

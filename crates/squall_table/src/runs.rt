@@ -1,23 +1,19 @@
 //! Tables that are renewed run by run.
 
-ghost use Rattle.std.specs.Prelude.{◌≡◌, ◌<◌, ◌≤◌, length, IfOk, OnOk, OnErr};
+ghost use Rattle.std.specs.Prelude.{◌≡◌, ◌<◌, ◌≤◌, length, IfOk, OnOk};
 ghost use Rattle.squall_span.specs.Spans.{IsSet};
 ghost use Rattle.squall_plan.specs.Ranges.{IsCanonical};
-ghost use Rattle.squall_board.specs.Takes.{TakesBoard};
 ghost use Rattle.squall_blocks.specs.Entries.{RiseFrom, last_from, replaced};
 ghost use Rattle.squall_table.specs.declared.routes.Heard.TheVariants.{All};
 ghost use Rattle.squall_table.specs.LegEntries.{legs_from};
 ghost use Rattle.squall_table.specs.Legs.{said};
-ghost use Rattle.squall_table.specs.News.{news_board};
 ghost use Rattle.squall_table.specs.Patching.{IsRenewed};
 
 use crate::fresh::{Renewal, renew};
 use crate::load::renew_load;
-use crate::news::{News, take_news};
 use crate::routes::Heard;
 use crate::single::{Brought, move_of};
 use squall_blocks::{BlocksRef, Draft};
-use squall_board::Board;
 use squall_course::Course;
 use squall_key::PartId;
 use squall_span::Span;
@@ -69,7 +65,7 @@ fn renew_run(
 
 /// Renews the legs for the keys of the spans, run by run. Each of these keys has come. An error
 /// means that an allocation failed: some runs are then renewed.
-fn renew_runs(
+pub(crate) fn renew_runs(
     alloc: Global,
     draft: &mut Draft<PartId>,
     course: &Course,
@@ -89,24 +85,4 @@ fn renew_runs(
         at = end;
     }
     Ok(())
-}
-
-/// Renews the legs for the keys of the spans, as if each of them had come. Then the board takes the
-/// news, by which they have come. An error leaves the board unchanged.
-pub(crate) fn renew_and_take(
-    draft: &mut Draft<PartId>,
-    course: &Course,
-    board: &mut Board,
-    news: News,
-    spans: &[Span],
-) -> Result<(), AllocError>
-    requires table { IsCanonical (legs_from 0 draft.old.1) }
-    requires set { IsSet spans.now }
-    ensures before { draft.new.0 ≡ draft.old.0 }
-    ensures legs { OnOk result (IsRenewed course.now (said All) spans.now (legs_from 0 draft.old.1) (legs_from 0 draft.new.1)) }
-    ensures takes { OnOk result (TakesBoard board.old (news_board news.entry) board.new) }
-    ensures err { OnErr result (board.new ≡ board.old) }
-{
-    renew_runs(draft.allocator(), draft, course, spans)?;
-    take_news(board, news)
 }
