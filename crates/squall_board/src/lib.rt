@@ -3,7 +3,7 @@
 //! # Example
 //!
 //! A board takes a load, which moves a key of the course from partition 1 to 3. The course and the
-//! load are those of the crate `squall_example`.
+//! load are those of the crate `squall_test_example`.
 //!
 //! ```rust
 //! fn load_moves_a_key(rt: &impl Abort, course: &Course, board: &mut Board) -> Result<(), Fail> {
@@ -36,4 +36,5 @@ mod update;
 
 pub use board::{Board, CellParts, Delta};
 pub use cell::Cell;
+pub use newest::issued_course;
 pub use opening::Opening;

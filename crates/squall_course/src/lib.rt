@@ -3,7 +3,7 @@
 //! # Example
 //!
 //! The keys from 2:0 to 3:0 go from partition 1 to 3 (`OLD`, `NEW` and `plan` are of
-//! `squall_example`).
+//! `squall_test_example`).
 //!
 //! ```rust
 //! fn owners_of_a_key(rt: HostRuntime) -> Result<(), Fail> {

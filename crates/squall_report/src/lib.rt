@@ -3,7 +3,7 @@
 //!
 //! # Example
 //!
-//! Partition 3 reports a load in sub-plan 0 of reconfiguration 1 (`span` is of `squall_example`).
+//! Partition 3 reports a load in sub-plan 0 of reconfiguration 1 (`span` is of `squall_test_example`).
 //!
 //! ```rust
 //! fn reports_of_a_load(rt: HostRuntime) -> Result<(), Fail> {

@@ -1,4 +1,5 @@
 pub mod Issued
+pub mod Already
 pub mod Newer
 pub mod Absorbed
 pub mod Taken

@@ -9,5 +9,5 @@ pub use Rattle.squall_board.specs.Newest
 pub use Rattle.squall_board.specs.Route
 pub use Rattle.squall_board.specs.CourseRoute
 pub use Rattle.squall_table.specs.Tables
-pub use Rattle.squall_tally.specs.Tallies
+pub use Rattle.squall_status.specs.Tallies
 pub mod Routers

@@ -5,8 +5,8 @@ use Rattle.squall_course.specs.Change.{Change}
 use Rattle.squall_board.specs.Boards.{BoardValue}
 use Rattle.squall_board.specs.CourseRoute.{course_of_board, route_by_newest}
 use Rattle.squall_table.specs.Tables.{IsTable}
-use Rattle.squall_tally.specs.declared.tally.Tally.{Tally}
-use Rattle.squall_tally.specs.Tallies.{tally_of, IsWithin}
+use Rattle.squall_status.specs.declared.tally.Tally.{Tally}
+use Rattle.squall_status.specs.Tallies.{tally_of, IsWithin}
 
 -- the course that a router was made with, and what it has heard
 pub record RouterValue : Type 0 where

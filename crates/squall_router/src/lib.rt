@@ -27,8 +27,12 @@
 #![tactic(auto)]
 
 mod fault;
+mod hear;
+mod held;
 mod issues;
+mod known;
 pub mod laws;
+mod newest;
 mod router;
 mod small;
 

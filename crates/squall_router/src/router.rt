@@ -1,33 +1,38 @@
 //! Routers.
 
-ghost use Rattle.std.specs.Prelude.{◌≡◌, ◌++◌, ◌∷◌, [], List, Err, IfOk, IfSome, OnOk, OnErr, option_map, unwrap_or};
+ghost use Rattle.std.specs.Prelude.{◌≡◌, ◌++◌, ◌∷◌, [], List, Err, IfOk, IfSome, IsOk, OnOk, OnErr, unwrap_or};
 ghost use Rattle.std.specs.Arc.{arc_value};
 ghost use Rattle.squall_course.specs.Change.{ArePlans};
 ghost use Rattle.squall_report.specs.declared.report.ReportKind.{ReportKind};
 ghost use Rattle.squall_report.specs.Issues.{PlanPair};
-ghost use Rattle.squall_report.specs.Told.{TellsBoth, told_by_report};
+ghost use Rattle.squall_report.specs.Told.{TellsAll, TellsBoth, told_by_report};
 ghost use Rattle.squall_board.specs.Takes.{TakesBoard, TakesReport};
 ghost use Rattle.squall_board.specs.Boards.{IsBoard, HasTaken, empty_board, board_join, report_board, told};
-ghost use Rattle.squall_board.specs.CourseRoute.{course_by, course_of_board};
+ghost use Rattle.squall_board.specs.CourseRoute.{course_of_board};
+ghost use Rattle.squall_table.specs.News.{news_board};
 ghost use Rattle.squall_table.specs.Tables.{AreLegs, legs_between};
-ghost use Rattle.squall_tally.specs.Tallies.{tally_of, IsWithin};
+ghost use Rattle.squall_status.specs.Tallies.{tally_of, IsWithin};
 ghost use Rattle.squall_router.specs.declared.fault.AbsorbFault.TheVariants.{Full};
 ghost use Rattle.squall_router.specs.Routers.{router_with, course_of_router, route_of_router, IsTableOf};
 
 use crate::fault::AbsorbFault;
+use crate::hear::take_news;
+use crate::held::Held;
 use crate::issues::{both_issues, is_issue, issue_alone, issues_nothing};
-use crate::small::is_small;
+use crate::known::{tells_report, tells_small};
+use crate::newest::{course_of, number_of};
+use crate::small::few_spans;
 use squall_board::{Board, Delta};
 use squall_course::Course;
 use squall_errand::Routes;
 use squall_join::Shared;
 use squall_key::{Key, PartId};
-use squall_report::{Issue, Report};
+use squall_report::Report;
 use squall_span::Span;
+use squall_status::Tally;
+use squall_status::laws::a_join_is_within_the_sum;
 use squall_table::laws::legs_are_key_by_key;
-use squall_table::{Leg, RouteTable};
-use squall_tally::Tally;
-use squall_tally::laws::a_join_is_within_the_sum;
+use squall_table::{Leg, News, RouteTable};
 use std::alloc::{AllocError, Global};
 use std::marker::Model;
 use std::sync::Arc;
@@ -42,7 +47,7 @@ pub struct Router {
     first: Shared<Course>,
     course: Shared<Course>,
     board: Board,
-    table: RouteTable,
+    table: Held,
     /// At most how much the board tells. `None` if that is not known.
     bound: Option<Tally>,
 }
@@ -57,35 +62,18 @@ impl Model for Router {
     ghost invariant = { λ r. InStep (router_with r.first r.board) r.course r.table r.bound };
 }
 
-/// The newest issue after a first course, with its number. `None` if there is none.
-type Newest<'a> = Option<(u32, &'a Arc<Issue>)>;
-
-/// The number of the newest course, or of the first if none is newer.
-fn number_of(first: &Course, newest: &Newest<'_>) -> u32
-    ensures { result ≡ (course_by first.now (option_map (λ e. (e.0, arc_value e.1.now)) newest.now)).number }
+/// The count, if it is at most `most`. The fault is `Full` and no other one, and only of a count above
+/// that.
+fn within(count: Tally, most: &Tally) -> Result<Tally, AbsorbFault>
+    ensures count { IfOk result (λ t. t ≡ count) }
+    ensures within { OnOk result (IsWithin count most.now) }
+    ensures full { OnErr result (result ≡ Err Full) }
+    ensures above { OnErr result (IsWithin count most.now → ⊥) }
 {
-    match newest {
-        Some((number, _)) => *number,
-        None => first.number(),
-    }
-}
-
-/// The newest course, or the first again if none is newer. An error means that an allocation
-/// failed, or that the count of the first's owners is full.
-fn course_of(
-    alloc: Global,
-    first: &Shared<Course>,
-    newest: &Newest<'_>,
-) -> Result<Shared<Course>, AllocError>
-    ensures { IfOk result (λ c. c ≡ course_by first.now (option_map (λ e. (e.0, arc_value e.1.now)) newest.now)) }
-{
-    let Some((number, issue)) = newest else {
-        return first.again();
-    };
-    // Nothing is issued under the number 0, so no fault of a course is left but a failed allocation.
-    match Course::new(alloc, *number, issue.old(), issue.new_plan()) {
-        Ok(course) => Ok(Shared::new(Arc::new(alloc, course)?)),
-        Err(_) => Err(AllocError),
+    if count.is_within(most) {
+        Ok(count)
+    } else {
+        Err(AbsorbFault::Full)
     }
 }
 
@@ -105,7 +93,7 @@ impl Router {
             first,
             course,
             board,
-            table,
+            table: Held::of(table),
             bound: None,
         })
     }
@@ -134,7 +122,10 @@ impl Router {
     {
         self.board.known();
         delta.known();
-        if is_small(delta) {
+        if few_spans(delta).is_some() {
+            if tells_small(&self.board, delta) {
+                return Ok(());
+            }
             return self.take_up(delta);
         }
         let news = delta.beyond(self.alloc, &self.board)?;
@@ -171,7 +162,7 @@ impl Router {
     {
         match self.sum_with(delta)? {
             Some(sum) if sum.is_within(most) => Ok(sum),
-            _ => self.count_with(delta, most),
+            _ => within(self.count_with(delta)?, most),
         }
     }
 
@@ -187,21 +178,14 @@ impl Router {
         Ok(own.plus(Tally::of(delta)?))
     }
 
-    /// How much the board tells once it takes the delta, if that is at most `most`: counted over their
-    /// join.
-    fn count_with(&self, delta: &Delta, most: &Tally) -> Result<Tally, AbsorbFault>
-        ensures bound { IfOk result (λ t. IsWithin (tally_of (board_join self.now.board delta.now)) t) }
-        ensures within { IfOk result (λ t. IsWithin t most.now) }
-        ensures full { result ≡ Err Full → IsWithin (tally_of (board_join self.now.board delta.now)) most.now → ⊥ }
+    /// How much the board tells once it takes the delta, counted over their join. It knows no limit: an
+    /// error means that an allocation failed, or that a count of owners is full.
+    fn count_with(&self, delta: &Delta) -> Result<Tally, AllocError>
+        ensures { IfOk result (λ t. t ≡ tally_of (board_join self.now.board delta.now)) }
     {
         let mut board = self.board.copied(self.alloc)?;
         board.merge(delta)?;
-        let tally = Tally::of(&board)?;
-        if tally.is_within(most) {
-            Ok(tally)
-        } else {
-            Err(AbsorbFault::Full)
-        }
+        Tally::of(&board)
     }
 
     /// Takes the report, and answers from then on by it too, as after [`Router::absorb`] of its
@@ -210,30 +194,24 @@ impl Router {
     /// of owners is full: the router is then unchanged.
     ///
     /// The report goes into board and table in place. A board of it is made only if it is an issue.
+    /// A report that the board tells already is looked up, and then nothing else is done.
     pub fn take(&mut self, report: &Report) -> Result<(), AllocError>
         ensures first { self.new.first ≡ self.old.first }
         ensures takes { OnOk result (TakesReport self.old.board report.now self.new.board) }
+        ensures known { TellsAll (told self.old.board) (told_by_report report.now) → IsOk result }
         ensures err { OnErr result (self.new ≡ self.old) }
     {
         self.known();
         // The proof learns that the report lies within the limits, so that its board is one.
         let _kind = report.kind();
+        if tells_report(&self.board, report) {
+            return Ok(());
+        }
         if is_issue(report) {
             let issue = issue_alone(self.alloc, report)?;
             return self.take_up(&issue);
         }
-        self.take_in_place(report)
-    }
-
-    /// Takes a report after which the course stays.
-    fn take_in_place(&mut self, report: &Report) -> Result<(), AllocError>
-        requires { course_of_router self.old ≡ course_of_board self.old.first (board_join self.old.board (report_board report.now)) }
-        ensures ok { OnOk result (self.new ≡ router_with self.old.first (board_join self.old.board (report_board report.now))) }
-        ensures err { OnErr result (self.new ≡ self.old) }
-    {
-        self.bound = None;
-        self.table
-            .take(self.course.as_arc(), &mut self.board, report)
+        self.stay(News::Report(report))
     }
 
     /// Takes all of the news, whether its board told it before or not.
@@ -243,19 +221,37 @@ impl Router {
     {
         match self.other_course(news)? {
             Some(course) => self.turn_to(course, news),
-            None => self.stay(news),
+            None => self.stay(News::Delta(news)),
         }
     }
 
-    /// Takes news after which the course stays.
-    fn stay(&mut self, news: &Delta) -> Result<(), AllocError>
-        requires { course_of_router self.old ≡ course_of_board self.old.first (board_join self.old.board news.now) }
-        ensures ok { OnOk result (self.new ≡ router_with self.old.first (board_join self.old.board news.now)) }
+    /// Takes news after which the course stays. The patch of the table is prepared, which may fail.
+    /// Then the board takes the news. Last, the patch is made or left out, which cannot fail.
+    fn stay(&mut self, news: News<'_>) -> Result<(), AllocError>
+        requires { course_of_router self.old ≡ course_of_board self.old.first (board_join self.old.board (news_board news)) }
+        ensures ok { OnOk result (self.new ≡ router_with self.old.first (board_join self.old.board (news_board news.entry))) }
         ensures err { OnErr result (self.new ≡ self.old) }
     {
-        self.bound = None;
-        self.table
-            .absorb(self.course.as_arc(), &mut self.board, news)
+        self.board.known();
+        let table = self.table.take();
+        let ready = match table.prepare(self.course.as_arc(), news) {
+            Ok(ready) => ready,
+            Err(table) => {
+                self.table.put(table);
+                return Err(AllocError);
+            }
+        };
+        match take_news(&mut self.board, news) {
+            Ok(()) => {
+                self.bound = None;
+                self.table.put(ready.make());
+                Ok(())
+            }
+            Err(error) => {
+                self.table.put(ready.leave());
+                Err(error)
+            }
+        }
     }
 
     /// The course that the router has to use once it takes the news. `None` if that is the course
@@ -305,11 +301,15 @@ impl Router {
         ensures ok { OnOk result (self.new ≡ router_with self.old.first (board_join self.old.board news.now)) }
         ensures err { OnErr result (self.new ≡ self.old) }
     {
-        let mut table = RouteTable::build(self.alloc, course.as_arc(), &self.board)?;
+        self.board.known();
+        let table = RouteTable::build(self.alloc, course.as_arc(), &self.board)?;
+        let Ok(ready) = table.prepare(course.as_arc(), News::Delta(news)) else {
+            return Err(AllocError);
+        };
+        self.board.merge(news)?;
         self.bound = None;
-        table.absorb(course.as_arc(), &mut self.board, news)?;
         self.course = course;
-        self.table = table;
+        self.table.put(ready.make());
         Ok(())
     }
 
@@ -333,7 +333,7 @@ impl Router {
     pub fn route(&self, key: Key) -> PartId
         ensures { result ≡ route_of_router self.now key }
     {
-        self.table.owner(key)
+        self.table.get().owner(key)
     }
 
     /// The legs of the span: its keys by rising key, with the partition to ask for them. An error
@@ -345,7 +345,7 @@ impl Router {
         // The proof learns that the span ends at the top at most, so that the table has its keys.
         let _ = (span.lo(), span.hi());
         legs_are_key_by_key();
-        self.table.legs(alloc, span)
+        self.table.get().legs(alloc, span)
     }
 
     /// What it has heard.
@@ -375,7 +375,7 @@ impl Router {
     pub fn table(&self) -> &RouteTable
         ensures { IsTableOf self.now result.now }
     {
-        &self.table
+        self.table.get()
     }
 }
 

@@ -92,8 +92,10 @@ fn lasting(fault: WireFault) -> Result<Option<WireFault>, AllocError>
     }
 }
 
-/// What is heard in the bytes, and what is left of them. Each byte of a frame is read once.
-fn hear(alloc: Global, bytes: &[u8]) -> Result<(Heard, &[u8]), AllocError>
+/// The messages whose frames the bytes begin with, and the fault of what follows them if more bytes
+/// can't mend it. Then the bytes after the frames. Each byte of a frame is read once. An error means
+/// that an allocation failed.
+pub fn hear(alloc: Global, bytes: &[u8]) -> Result<(Heard, &[u8]), AllocError>
     ensures { IfOk result (λ x. IsHeard bytes.now x.0.messages.items x.0.fault x.1.now) }
 {
     let mut messages = Vec::new(alloc);

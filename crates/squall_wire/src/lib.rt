@@ -40,6 +40,6 @@ pub use decoding::decode;
 pub use digest::{Digest, DigestFault, DigestRow, IssueRow};
 pub use encoding::{EncodeFault, cell_bytes, encode, encode_board};
 pub use fault::WireFault;
-pub use feed::{Feed, FeedFault, Heard};
+pub use feed::{Feed, FeedFault, Heard, hear};
 pub use items::issue_bytes;
 pub use message::Message;
