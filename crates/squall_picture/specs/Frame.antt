@@ -34,7 +34,7 @@ share_text loaded keys =
 
 -- the number of the course
 abbrev pub number_text : ℕ → List ℕ
-number_text number = codes "reconfiguration " ++ (decimal number ++ codes ": ")
+number_text number = codes "course " ++ (decimal number ++ codes ": ")
 
 -- the course in a line
 abbrev pub summary_text : StatusValue → List ℕ
@@ -42,7 +42,7 @@ summary_text s = number_text s.number ++ (counts_text s ++ share_text s.loaded s
 
 -- the name of the picture
 abbrev pub title_text : ℕ → List ℕ
-title_text number = codes "<title id='squall-title'>reconfiguration " ++ (decimal number ++ codes "</title>\n<desc id='squall-desc'>")
+title_text number = codes "<title id='squall-title'>course " ++ (decimal number ++ codes "</title>\n<desc id='squall-desc'>")
 
 -- the name of the picture, and what it shows
 abbrev pub names_text : StatusValue → List ℕ

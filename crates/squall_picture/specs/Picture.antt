@@ -1,4 +1,4 @@
--- The picture of a reconfiguration, in SVG (this project's picture).
+-- The picture of a course, in SVG (this project's picture).
 use Rattle.std.specs.Prelude.{◌≡◌, ℕ, List, ◌++◌, Bool, codes}
 use Rattle.squall_plan.specs.declared.range.PlanRange.{PlanRange}
 use Rattle.squall_course.specs.Change.{Change}

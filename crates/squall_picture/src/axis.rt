@@ -20,13 +20,14 @@ pub(crate) struct Axis {
 
 impl Model for Axis {
     ghost use Rattle.std.specs.Prelude.{◌≡◌, ℕ, List};
+    ghost use Rattle.std.specs.List.Sorted.{IsNonDecreasing};
     ghost use Rattle.squall_picture.specs.Scale.{unit_of};
 
     ghost Value = { List ℕ };
 
     ghost view = { λ a. a.ticks.items };
 
-    ghost invariant = { λ a. a.unit ≡ unit_of a.ticks.items };
+    ghost invariant = { λ a. (a.unit ≡ unit_of a.ticks.items) × IsNonDecreasing a.ticks.items };
 }
 
 impl Axis {

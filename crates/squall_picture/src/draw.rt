@@ -1,4 +1,4 @@
-//! The picture of a reconfiguration.
+//! The picture of a course.
 
 ghost use Rattle.std.specs.Prelude.{◌≡◌, ◌++◌, IfOk, OnOk, codes, string_bytes};
 ghost use Rattle.squall_board.specs.Boards.{says};

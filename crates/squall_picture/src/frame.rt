@@ -72,7 +72,7 @@ fn add_number(status: &CourseStatus, out: &mut String) -> Result<(), AllocError>
     ensures { OnOk result (string_bytes out.new ≡ string_bytes out.old ++ number_text status.now.number) }
 {
     let number = status.number();
-    write!(out, "reconfiguration {number}: ")
+    write!(out, "course {number}: ")
 }
 
 /// Adds the course in a line.
@@ -91,7 +91,7 @@ fn add_title(status: &CourseStatus, out: &mut String) -> Result<(), AllocError>
     let number = status.number();
     write!(
         out,
-        "<title id='squall-title'>reconfiguration {number}</title>\n<desc id='squall-desc'>"
+        "<title id='squall-title'>course {number}</title>\n<desc id='squall-desc'>"
     )
 }
 

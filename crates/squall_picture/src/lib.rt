@@ -1,4 +1,4 @@
-//! A reconfiguration as a picture in SVG: both plans, the moves between them, and how far each has come.
+//! A course as a picture in SVG: both plans, the moves between them, and how far each has come.
 //!
 //! # Example
 //!

@@ -7,10 +7,14 @@ pub use Rattle.squall_course.specs.Subplans
 pub use Rattle.squall_course.specs.Moves
 pub use Rattle.squall_report.specs.Cells
 pub use Rattle.squall_report.specs.Facts
+pub use Rattle.squall_report.specs.Issues
 pub use Rattle.squall_board.specs.Boards
+pub use Rattle.squall_board.specs.Listed
 pub use Rattle.squall_board.specs.Route
 pub use Rattle.squall_board.specs.MovesRoute
 pub mod Coming
 pub mod Steps
 pub mod Summary
+pub mod Tallies
+pub mod TallyLaws
 pub mod Texts

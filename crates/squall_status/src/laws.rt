@@ -1,4 +1,4 @@
-//! Laws of what has come, each the contract of a function that does nothing.
+//! Laws of what has come and of tallies, each the contract of a function that does nothing.
 
 ghost use Rattle.std.specs.Prelude.{◌≡◌, ◌↔◌, ℕ, ◌<◌, ◌≤◌, true, Bool, List, All};
 ghost use Rattle.std.specs.List.{sum_by};
@@ -6,12 +6,14 @@ ghost use Rattle.squall_key.specs.Keys.{top};
 ghost use Rattle.squall_span.specs.Spans.{Interval, span_has};
 ghost use Rattle.squall_course.specs.Change.{Change, ArePlans};
 ghost use Rattle.squall_report.specs.Facts.{Fact};
+ghost use Rattle.squall_board.specs.Boards.{BoardValue, board_join};
 ghost use Rattle.squall_board.specs.Route.{route};
 ghost use Rattle.squall_status.specs.declared.progress.Progress.{Progress};
 ghost use Rattle.squall_status.specs.declared.progress.Progress.TheVariants.{Complete};
 ghost use Rattle.squall_status.specs.declared.progress.MoveStatus.{MoveStatus};
 ghost use Rattle.squall_status.specs.Coming.{IsProgress, come_count, loaded_in};
 ghost use Rattle.squall_status.specs.Summary.{StatusValue, move_keys, move_loaded, AreMoveStatuses, IsStatusOf};
+ghost use Rattle.squall_status.specs.Tallies.{tally_of, tally_sum, IsWithin};
 
 /// The keys of a span have one progress, which says how many of them have come.
 pub fn one_progress()
@@ -36,4 +38,9 @@ pub fn loads_are_the_sum()
 pub fn complete_where_routed()
     ensures { (c : Change) (says : Fact → Bool) (ss : List MoveStatus) → ArePlans c.old c.new → AreMoveStatuses c says ss
         → All (λ s. (s.progress ≡ Complete) ↔ ((k : ℕ) → span_has s.moving.span k ≡ true → route c says k ≡ s.moving.dest)) ss }
+{}
+
+/// A join of two boards tells at most as much as both: no number of it is above the sum of theirs.
+pub fn a_join_is_within_the_sum()
+    ensures { (a b : BoardValue) → IsWithin (tally_of (board_join a b)) (tally_sum (tally_of a) (tally_of b)) }
 {}

@@ -1,4 +1,5 @@
-//! How far a reconfiguration has come: what is loaded and what is missing, by a course and a board.
+//! How far a reconfiguration has come: what is loaded and what is missing, by a course and a board. Also a
+//! board in numbers, and whether issues of a newer course clash.
 //!
 //! # Example
 //!
@@ -22,17 +23,35 @@
 //! }
 //! ```
 //!
-//! Its tests are in `crates/squall_test_status/src/status.rt`.
+//! A board takes a load, and is counted. The load is that of the crate `squall_test_example`.
+//!
+//! ```rust
+//! fn counts_a_board(rt: &impl Abort, board: &mut Board) -> Result<(), Fail> {
+//!     let report = load("2:0", "2:5").ok_or("load")?;
+//!     board.take(&report)?;
+//!     let tally = Tally::of(board)?;
+//!     assert!(rt; tally.cells == 1 && tally.spans == 1);
+//!     assert!(rt; tally.opened == 0 && tally.issues == 0);
+//!     assert!(rt; !clashes_above(board, 1)?);
+//!     Ok(())
+//! }
+//! ```
+//!
+//! Its tests are in `crates/squall_test_status/src/status.rt` and `crates/squall_test_status/src/tally.rt`.
 #![tactic(auto)]
 
+mod clash;
 pub mod laws;
 mod moving;
 mod progress;
 mod status;
 mod subplan;
+mod tally;
 mod text;
 
+pub use clash::clashes_above;
 pub use progress::{MoveStatus, Progress};
 pub use status::CourseStatus;
 pub use subplan::SubplanStatus;
+pub use tally::Tally;
 pub use text::{Shown, add_status};

@@ -9,7 +9,7 @@ overflow_mul-result c =
     let same = ap columns c.self.view_is in
     let few : c.args.count ≤ columns v.items = omega (arith, c.requires, same) in
     let short : length v.items < 2 ^ 63 = omega (arith, v.ok.0, v.ok.1, v.small) in
-    let most = wide_few v.items c.self.inside.unit c.args.count c.self.invariant few short in
+    let most = wide_few v.items c.self.inside.unit c.args.count c.self.invariant.0 few short in
     omega (arith, most)
 
 pub returns-clause-most : goal.returns-clause-most
@@ -18,5 +18,5 @@ returns-clause-most c =
     let same = ap columns c.self.view_is in
     let few : c.args.count ≤ columns v.items = omega (arith, c.requires, same) in
     let short : length v.items < 2 ^ 63 = omega (arith, v.ok.0, v.ok.1, v.small) in
-    let most = wide_few v.items c.self.inside.unit c.args.count c.self.invariant few short in
+    let most = wide_few v.items c.self.inside.unit c.args.count c.self.invariant.0 few short in
     omega (arith, most)

@@ -4,7 +4,7 @@ ghost use Rattle.std.specs.Prelude.{◌≡◌, ◌↔◌, map, IfOk, IsTrue};
 ghost use Rattle.std.specs.Arc.{arc_value};
 ghost use Rattle.squall_join.specs.Flats.{flat_map};
 ghost use Rattle.squall_board.specs.Boards.{issued};
-ghost use Rattle.squall_tally.specs.Tallies.{clash_above, has_clash_above, HasClashAbove};
+ghost use Rattle.squall_status.specs.Tallies.{clash_above, has_clash_above, HasClashAbove};
 
 use squall_board::Board;
 use squall_join::Flat;

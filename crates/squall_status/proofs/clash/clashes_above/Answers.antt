@@ -2,9 +2,9 @@ use Rattle.std.specs.Prelude.{◌≡◌, map}
 use Rattle.std.proofs.Common.{ap, sym, ◌∙◌}
 use Rattle.std.specs.Arc.{arc_value}
 use Rattle.squall_join.specs.Flats.{flat_map}
-use Rattle.squall_tally.specs.Tallies.{has_clash_above}
-use Rattle.squall_tally.proofs.Clashing.{board_found, board_finds}
-use Rattle.squall_tally.proofs.clash.clashes_above.Goals as goal
+use Rattle.squall_status.specs.Tallies.{has_clash_above}
+use Rattle.squall_status.proofs.Clashing.{board_found, board_finds}
+use Rattle.squall_status.proofs.clash.clashes_above.Goals as goal
 
 pub returns : goal.returns
 returns c =

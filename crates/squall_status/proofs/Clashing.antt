@@ -10,7 +10,7 @@ use Rattle.squall_report.specs.Issues.{PlanPair}
 use Rattle.squall_report.specs.Told.{both_issued}
 use Rattle.squall_board.specs.Boards.{BoardValue, issued, one_issue}
 use Rattle.squall_board.specs.Listed.{AreIssues, IssuesRise, entries_issue}
-use Rattle.squall_tally.specs.Tallies.{is_clash, clash_above, has_clash_above, HasClashAbove}
+use Rattle.squall_status.specs.Tallies.{is_clash, clash_above, has_clash_above, HasClashAbove}
 
 is_below : (a b : ℕ) → nat_lt a b ≡ true → a < b
 is_below a b h = grind (arith, nat_tests)

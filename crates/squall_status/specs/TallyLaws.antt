@@ -14,7 +14,7 @@ use Rattle.squall_report.specs.Cells.{place_at}
 use Rattle.squall_report.specs.Told.{both_issued}
 use Rattle.squall_board.specs.Boards.{CellValue, Parts, Subs, Cells, Openings, BoardValue, openings_in, issues_in, cells_in, cell_join, board_join}
 use Rattle.squall_board.specs.Listed.{CellEntry, cell_entry, cells_of_parts, cells_of_subs, cells_of_numbers, cells_of, openings_of_counts, openings_of, issues_of}
-use Rattle.squall_tally.specs.Tallies.{at_most_64_bits, spans_of, sub_plans_of, tally_of, tally_sum, IsWithin}
+use Rattle.squall_status.specs.Tallies.{at_most_64_bits, spans_of, sub_plans_of, tally_of, tally_sum, IsWithin}
 
 -- ---- weights of maps
 

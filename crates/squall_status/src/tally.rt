@@ -3,7 +3,7 @@
 ghost use Rattle.std.specs.Prelude.{◌≡◌, ◌↔◌, ◌++◌, IfOk, IfSome, IfNone, IsTrue, length, map, [], ◌∷◌};
 ghost use Rattle.std.specs.List.{sum_by};
 ghost use Rattle.squall_board.specs.Listed.{cell_entry};
-ghost use Rattle.squall_tally.specs.Tallies.{at_most_64_bits, spans_of, sub_plans_of, tally_of, tally_sum, FitsTally, IsWithin};
+ghost use Rattle.squall_status.specs.Tallies.{at_most_64_bits, spans_of, sub_plans_of, tally_of, tally_sum, FitsTally, IsWithin};
 
 use squall_board::{Board, CellParts, Opening};
 use squall_report::CellId;

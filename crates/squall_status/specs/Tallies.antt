@@ -7,7 +7,7 @@ use Rattle.squall_report.specs.Issues.{PlanPair}
 use Rattle.squall_board.specs.declared.opening.Opening.{Opening}
 use Rattle.squall_board.specs.Boards.{BoardValue}
 use Rattle.squall_board.specs.Listed.{CellEntry, cells_of, openings_of, issues_of}
-use Rattle.squall_tally.specs.declared.tally.Tally.{Tally}
+use Rattle.squall_status.specs.declared.tally.Tally.{Tally}
 
 -- ---- clashes
 
