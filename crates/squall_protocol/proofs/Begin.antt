@@ -7,6 +7,7 @@ use Rattle.squall_plan.specs.declared.range.PlanRange.{PlanRange}
 use Rattle.squall_plan.specs.Ranges.{owner_of}
 use Rattle.squall_report.specs.Issues.{plan_pair}
 use Rattle.squall_report.specs.Queries.{issued_queries}
+use Rattle.squall_protocol.specs.Known.{last_number}
 use Rattle.squall_protocol.specs.declared.event.Node.TheVariants.{Leader}
 use Rattle.squall_protocol.specs.Worlds.{WorldValue}
 use Rattle.squall_protocol.specs.Steps.{IsPlan, after_begin, new_parts}
@@ -38,10 +39,11 @@ later_begun w plan =
     more : w.last + 1 ≡ w.last → ⊥
     more e = omega arith
 
-keeps_begun : (w : WorldValue) (plan : List PlanRange) → IsPlan plan → Kept w → AllDone w → count_of w w.last ≤ w.opened → Kept (begun_on w plan)
-keeps_begun w plan is kept done all_open =
+keeps_begun : (w : WorldValue) (plan : List PlanRange) → w.last < last_number → IsPlan plan → Kept w → AllDone w → count_of w w.last ≤ w.opened → Kept (begun_on w plan)
+keeps_begun w plan number is kept done all_open =
     record {
       first = omega (arith, kept.first);
+      numbers = omega (arith, number);
       plans = λ n h. plan_or n (λ q. IsPlan q) (λ e. is) (λ ne. kept.plans n (omega arith));
       there = λ n k h key. plan_or n (λ q. list_any (λ r. r == owner_of q k) (w.parts ++ new_parts w plan) ≡ true)
           (λ e. part_comes w plan (owner_of plan k) is (named_owner plan k is key))
@@ -123,9 +125,9 @@ keeps_begun w plan is kept done all_open =
     rests_from : (p k : ℕ) → k < top → p ≡ new_owner w w.last k → w.held p k ≡ true
     rests_from p k key e = kept.held_from p k key (inl (e, λ m. subst (λ q. w.loaded w.last q k ≡ true) (sym e) (in_last k m)))
 
-pub keeps_begin : (w : WorldValue) (plan : List PlanRange) → IsPlan plan → Kept w → AllDone w → count_of w w.last ≤ w.opened → Kept (after_begin w plan)
-keeps_begin w plan is kept done all_open =
-    keeps_told (begun_on w plan) Leader (issued_queries (w.last + 1) (plan_pair (w.plan w.last) plan)) (keeps_begun w plan is kept done all_open)
+pub keeps_begin : (w : WorldValue) (plan : List PlanRange) → w.last < last_number → IsPlan plan → Kept w → AllDone w → count_of w w.last ≤ w.opened → Kept (after_begin w plan)
+keeps_begin w plan number is kept done all_open =
+    keeps_told (begun_on w plan) Leader (issued_queries (w.last + 1) (plan_pair (w.plan w.last) plan)) (keeps_begun w plan number is kept done all_open)
     (issued_true (begun_on w plan) (w.last + 1) (plan_pair (w.plan w.last) plan) (omega arith, le_refl (w.last + 1)) (ap₂ plan_pair
     (sym (ap (begun_on w plan).plan one_less ∙ (later_begun w plan).plan w.last (le_refl w.last)))
     (sym (cond-true (w.last + 1 == w.last + 1) plan (w.plan (w.last + 1)) (eq-eqb (w.last + 1) (w.last + 1) refl)))))

@@ -13,6 +13,7 @@ use Rattle.squall_course.specs.Moves.{is_incoming}
 use Rattle.squall_report.specs.Cells.{place_at}
 use Rattle.squall_report.specs.Queries.{Queries, done_queries}
 use Rattle.squall_protocol.specs.Chunks.{ChunkValue}
+use Rattle.squall_protocol.specs.Known.{last_number}
 use Rattle.squall_protocol.specs.Firsts.{AreFirst}
 use Rattle.squall_protocol.specs.declared.event.Node.{Node}
 use Rattle.squall_protocol.specs.declared.event.Node.TheVariants.{Part}
@@ -30,45 +31,45 @@ use Rattle.squall_protocol.proofs.Tell.{keeps_told, keeps_sent}
 use Rattle.squall_protocol.proofs.Open.{all_done, keeps_open}
 use Rattle.squall_protocol.proofs.Begin.{begun_on, later_begun, keeps_begin}
 
--- what the node was told is on its way
-abbrev pub after_send : WorldValue → Node → WorldValue
-after_send w node = record w { messages = w.messages ++ w.facts node ∷ [] }
+-- the message is on its way
+abbrev pub after_send : WorldValue → Queries → WorldValue
+after_send w message = record w { messages = w.messages ++ message ∷ [] }
 
 -- what may become of a world at a step
 pub data WorldChange (w : WorldValue) : WorldValue → Type 0 where
   stays : WorldChange w w
   opens : NoneWanting w → w.opened ≢ count_of w w.last → WorldChange w (after_open w)
-  begins : (plan : List PlanRange) → IsPlan plan → NoneWanting w → w.opened ≡ count_of w w.last → WorldChange w (after_begin w plan)
+  begins : (plan : List PlanRange) → w.last < last_number → IsPlan plan → NoneWanting w → w.opened ≡ count_of w w.last → WorldChange w (after_begin w plan)
   gives : (x : ChunkValue) (first : ℕ) → IsNewest (w.facts (Part x.source)) x.number → (w.facts (Part x.source)).opened x.number ≡ x.sub + 1 → span_has x.span first ≡ true
       → ((k : ℕ) → span_has x.span k ≡ true → IsLeaving w x k) → WorldChange w (after_give w x)
   loads : (i : ℕ) (x : ChunkValue) → slice_get w.chunks i ≡ Some x → Hears (w.facts (Part x.dest)) x.number → WorldChange w (after_load w x)
   tells : (node : Node) (more : Queries) → TrueFacts w more → WorldChange w (after_told w node more)
-  sends : (node : Node) → WorldChange w (after_send w node)
+  sends : (message : Queries) → TrueFacts w message → WorldChange w (after_send w message)
 
 -- ---- what follows a change
 
 pub later_change : (w v : WorldValue) → WorldChange w v → Later w v
 later_change w _ stays = later_by w w refl refl (le_refl w.opened) refl refl
 later_change w _ (opens none more) = later_by w (after_open w) refl refl (omega arith) refl refl
-later_change w _ (begins plan is none over) =
+later_change w _ (begins plan number is none over) =
     later_trans w (begun_on w plan) (after_begin w plan) (later_begun w plan) (later_by (begun_on w plan) (after_begin w plan) refl refl (le_refl 0) refl refl)
 later_change w _ (gives x first newest opened some out) = later_give w x
 later_change w _ (loads i x there hears) = later_load w x
 later_change w _ (tells node more true_more) = later_by w (after_told w node more) refl refl (le_refl w.opened) refl refl
-later_change w _ (sends node) = later_by w (after_send w node) refl refl (le_refl w.opened) refl refl
+later_change w _ (sends message is_true) = later_by w (after_send w message) refl refl (le_refl w.opened) refl refl
 
 pub keeps_change : (w v : WorldValue) → Kept w → WorldChange w v → Kept v
 keeps_change w _ kept stays = kept
 keeps_change w _ kept (opens none more) = keeps_open w kept (all_done w none) more
-keeps_change w _ kept (begins plan is none over) = keeps_begin w plan is kept (all_done w none) (omega (arith, over))
+keeps_change w _ kept (begins plan number is none over) = keeps_begin w plan number is kept (all_done w none) (omega (arith, over))
 keeps_change w _ kept (gives x first newest opened some out) = keeps_give w x first kept newest opened some out
 keeps_change w _ kept (loads i x there hears) = keeps_load w i x kept there hears
 keeps_change w _ kept (tells node more true_more) = keeps_told w node more kept true_more
-keeps_change w _ kept (sends node) = keeps_sent w node kept
+keeps_change w _ kept (sends message is_true) = keeps_sent w message is_true kept
 
 -- ---- a gift
 
-in_span : (s : Interval) (k : ℕ) → span_has s k ≡ true → (s.lo ≤ k) × (k < s.hi)
+pub in_span : (s : Interval) (k : ℕ) → span_has s k ≡ true → (s.lo ≤ k) × (k < s.hi)
 in_span s k has = let b = and_parts (nat_le s.lo k) (nat_lt k s.hi) has in (leb-true s.lo k b.0, ltb-true k s.hi b.1)
 
 -- what a course says of a key of a chunk that it carries

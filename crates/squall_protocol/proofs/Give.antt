@@ -49,6 +49,7 @@ give_last : (w : WorldValue) (s p q : ℕ) (span : Interval) (first : ℕ) → K
 give_last w s p q span first kept hears opened some out =
     record {
       first = kept.first;
+      numbers = kept.numbers;
       plans = kept.plans;
       there = kept.there;
       held_true = λ m k h.

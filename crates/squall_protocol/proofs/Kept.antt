@@ -10,6 +10,7 @@ use Rattle.squall_report.specs.Issues.{PlanPair}
 use Rattle.squall_report.specs.Cells.{CellPlace}
 use Rattle.squall_report.specs.Queries.{Queries}
 use Rattle.squall_protocol.specs.Chunks.{ChunkValue}
+use Rattle.squall_protocol.specs.Known.{last_number}
 use Rattle.squall_protocol.specs.declared.event.Node.{Node}
 use Rattle.squall_protocol.specs.declared.event.Node.TheVariants.{Part}
 use Rattle.squall_protocol.specs.Worlds.{WorldValue, WasBegun, pair_at, is_part}
@@ -74,6 +75,7 @@ pub record HasChunk (w : WorldValue) (n p k : ℕ) : Type 0 where
 -- the invariant
 pub record Kept (w : WorldValue) : Type 0 where
   pub first : 1 ≤ w.last
+  pub numbers : w.last ≤ last_number
   -- plans are plans, and their partitions are there
   pub plans : (n : ℕ) → n ≤ w.last → IsPlan (w.plan n)
   pub there : (n k : ℕ) → n ≤ w.last → k < top → is_part w (owner_of (w.plan n) k) ≡ true

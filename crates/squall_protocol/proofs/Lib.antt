@@ -24,6 +24,7 @@ pub mod Carriers
 pub mod Had
 pub mod Routed
 pub mod Served
+pub mod Ends
 pub mod Current
 pub mod Firsts
 pub mod Once
@@ -35,3 +36,13 @@ pub mod OneFinish
 pub mod OneReply
 pub mod OneMessage
 pub mod OneStep
+pub mod Search
+pub mod SomeCourse
+pub mod SomeLead
+pub mod SomeGift
+pub mod SomeLoad
+pub mod SomeFinish
+pub mod SomeReply
+pub mod SomePart
+pub mod SomeMessage
+pub mod SomeStep

@@ -43,6 +43,7 @@ pub keeps_load : (w : WorldValue) (i : ℕ) (chunk : ChunkValue) → Kept w → 
 keeps_load w i chunk kept there hears =
     record {
       first = kept.first;
+      numbers = kept.numbers;
       plans = kept.plans;
       there = kept.there;
       held_true = λ m k h. ⊎_elim

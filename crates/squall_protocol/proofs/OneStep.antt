@@ -1,7 +1,7 @@
 -- To each event there is one answer at most, and one world after it; and so to each list of events.
 use Rattle.std.proofs.Common.{◌≡◌, List, [], ◌∷◌, refl, sym, subst}
 use Rattle.squall_protocol.specs.declared.event.Event.{Event}
-use Rattle.squall_protocol.specs.declared.event.Event.TheVariants.{OpenNext, Begin, Give, GiveAt, Load, Finish, Send, Deliver, Route, Serve}
+use Rattle.squall_protocol.specs.declared.event.Event.TheVariants.{OpenNext, Begin, Give, GiveAt, Load, Finish, Send, SendPart, Deliver, Route, Serve}
 use Rattle.squall_protocol.specs.declared.answer.Answer.{Answer}
 use Rattle.squall_protocol.specs.Worlds.{WorldValue, SameWorld}
 use Rattle.squall_protocol.specs.Steps.{Step, Run}
@@ -12,7 +12,7 @@ use Rattle.squall_protocol.proofs.OneGift.{one_give}
 use Rattle.squall_protocol.proofs.OneGiftAt.{one_give_at}
 use Rattle.squall_protocol.proofs.OneLoad.{one_load}
 use Rattle.squall_protocol.proofs.OneFinish.{one_finish}
-use Rattle.squall_protocol.proofs.OneMessage.{one_send, one_deliver, one_routing, one_serving}
+use Rattle.squall_protocol.proofs.OneMessage.{one_send, one_send_part, one_deliver, one_routing, one_serving}
 
 -- an event has one answer at most
 pub one_step : (w v u : WorldValue) (e : Event) (a b : Answer) → Step w e a v → Step w e b u → Once a b v u
@@ -23,6 +23,7 @@ one_step w v u (GiveAt p k) a b h g = one_give_at w v u p k a b h g
 one_step w v u (Load i) a b h g = one_load w v u i a b h g
 one_step w v u (Finish p s) a b h g = one_finish w v u p s a b h g
 one_step w v u (Send node) a b h g = one_send w v u node a b h g
+one_step w v u (SendPart node said) a b h g = one_send_part w v u node said a b h g
 one_step w v u (Deliver i node) a b h g = one_deliver w v u i node a b h g
 one_step w v u (Route x k) a b h g = one_routing w v u x k a b h g
 one_step w v u (Serve p k after) a b h g = one_serving w v u p k after a b h g

@@ -37,6 +37,7 @@ keeps_opened : (w : WorldValue) → Kept w → AllDone w → w.opened ≢ count_
 keeps_opened w kept done more =
     record {
       first = kept.first;
+      numbers = kept.numbers;
       plans = kept.plans;
       there = kept.there;
       held_true = kept.held_true;

@@ -1,18 +1,21 @@
 -- What holds over each step holds in each run.
-use Rattle.std.proofs.Common.{ℕ, List, [], ◌∷◌, refl, sym, subst, le_refl}
+use Rattle.std.proofs.Common.{◌≡◌, ◌⊎◌, ℕ, List, [], ◌∷◌, refl, sym, subst, le_refl, lt_of_lt_of_le, inl, ⊎_elim}
+use Rattle.squall_join.specs.declared.flat.Flat.TheVariants.{Unknown, One}
+use Rattle.squall_board.specs.Boards.{BoardValue}
+use Rattle.squall_board.specs.BoardQueries.{queries_of}
 use Rattle.squall_plan.specs.declared.range.PlanRange.{PlanRange}
 use Rattle.squall_report.specs.Cells.{place_at}
-use Rattle.squall_report.specs.Queries.{done_queries}
+use Rattle.squall_report.specs.Queries.{Queries, done_queries}
 use Rattle.squall_protocol.specs.declared.event.Node.{Node}
 use Rattle.squall_protocol.specs.declared.event.Node.TheVariants.{Part}
 use Rattle.squall_protocol.specs.declared.event.Event.{Event}
-use Rattle.squall_protocol.specs.declared.event.Event.TheVariants.{OpenNext, Begin, Give, GiveAt, Load, Finish, Send, Deliver, Route, Serve}
+use Rattle.squall_protocol.specs.declared.event.Event.TheVariants.{OpenNext, Begin, Give, GiveAt, Load, Finish, Send, SendPart, Deliver, Route, Serve}
 use Rattle.squall_protocol.specs.declared.answer.Answer.{Answer}
 use Rattle.squall_protocol.specs.declared.answer.Answer.TheVariants.{Opened, Begun, Gave, Loaded, Again, Finished, Sent, Delivered, Routed, Served, Refused}
-use Rattle.squall_protocol.specs.declared.answer.Refusal.TheVariants.{NoSuch, NotDone, NoMore, Running, NoNumber, NotOpen, NothingLeft, ZeroMax, NotOutgoing, Given, NotHeld, Stranger, NotAll, NothingDue}
-use Rattle.squall_protocol.specs.Worlds.{WorldValue, SameWorld}
-use Rattle.squall_protocol.specs.Steps.{after_open, after_begin, after_give, after_load, after_told, OpenStep, BeginStep, GiveStep, GiveAtStep, LoadStep, FinishStep, SendStep, DeliverStep, RouteStep, ServeStep, Step, Run}
-use Rattle.squall_protocol.proofs.Kept.{Kept}
+use Rattle.squall_protocol.specs.declared.answer.Refusal.TheVariants.{NoSuch, NotDone, NoMore, Running, NoNumber, NotOpen, NothingLeft, ZeroMax, NotOutgoing, Given, NotHeld, Stranger, NotAll, NothingDue, NotKnown}
+use Rattle.squall_protocol.specs.Worlds.{WorldValue, SameWorld, WasBegun, pair_at}
+use Rattle.squall_protocol.specs.Steps.{after_open, after_begin, after_give, after_load, after_told, OpenStep, BeginStep, GiveStep, GiveAtStep, LoadStep, FinishStep, SendStep, SendPartStep, IsPartOf, DeliverStep, RouteStep, ServeStep, Step, Run}
+use Rattle.squall_protocol.proofs.Kept.{TrueFacts, Kept}
 use Rattle.squall_protocol.proofs.Same.{same_world}
 use Rattle.squall_protocol.proofs.Later.{Later, later_trans, later_by}
 use Rattle.squall_protocol.proofs.Changes.{WorldChange, stays, opens, begins, sends, tells, after_send, first_change, one_change, load_change, finish_change, later_change, keeps_change}
@@ -35,7 +38,7 @@ open_became w v (Refused NoMore) kept h = still w v h.1
 open_became w v _ kept h = absurd h
 
 begin_became : (w v : WorldValue) (plan : List PlanRange) (r : Answer) → Kept w → BeginStep w plan r v → Became w v
-begin_became w v plan (Begun n parts) kept h = record { next = after_begin w plan; change = begins plan h.2 h.0.1 h.0.0; same = h.5 }
+begin_became w v plan (Begun n parts) kept h = record { next = after_begin w plan; change = begins plan h.1 h.2 h.0.1 h.0.0; same = h.5 }
 begin_became w v plan (Refused Running) kept h = still w v h.1
 begin_became w v plan (Refused NoNumber) kept h = still w v h.2
 begin_became w v plan _ kept h = absurd h
@@ -74,9 +77,27 @@ finish_became w v p s (Refused NothingDue) kept h = still w v h.2
 finish_became w v p s _ kept h = absurd h
 
 send_became : (w v : WorldValue) (node : Node) (r : Answer) → Kept w → SendStep w node r v → Became w v
-send_became w v node (Sent index) kept h = record { next = after_send w node; change = sends node; same = h.2 }
+send_became w v node (Sent index) kept h = record { next = after_send w (w.facts node); change = sends (w.facts node) (kept.facts node); same = h.2 }
 send_became w v node (Refused NoSuch) kept h = still w v h.1
 send_became w v node _ kept h = absurd h
+
+-- a part of what is true is true
+part_true : (w : WorldValue) (q f : Queries) → IsPartOf q f → TrueFacts w f → TrueFacts w q
+part_true w q f part t =
+    record {
+      loaded = λ c k h. t.loaded c k (part.loaded c k h);
+      done_begun = λ c h. t.done_begun c (part.done c h);
+      done = λ c h. t.done c (part.done c h);
+      opened_begun = λ n s h. t.opened_begun n s (lt_of_lt_of_le h (part.opened n));
+      opened = λ n s h. t.opened n s (lt_of_lt_of_le h (part.opened n));
+      issued = λ n. ⊎_elim (λ (none : q.issued n ≡ Unknown). inl none) (λ (same : q.issued n ≡ f.issued n). subst (λ i. (i ≡ Unknown) ⊎ (WasBegun w n × (i ≡ One (pair_at w n)))) (sym same) (t.issued n)) (part.issued n);
+    }
+
+send_part_became : (w v : WorldValue) (node : Node) (said : BoardValue) (r : Answer) → Kept w → SendPartStep w node said r v → Became w v
+send_part_became w v node said (Sent index) kept h = record { next = after_send w (queries_of said); change = sends (queries_of said) (part_true w (queries_of said) (w.facts node) h.1 (kept.facts node)); same = h.3 }
+send_part_became w v node said (Refused NoSuch) kept h = still w v h.1
+send_part_became w v node said (Refused NotKnown) kept h = still w v h.2
+send_part_became w v node said _ kept h = absurd h
 
 deliver_became : (w v : WorldValue) (i : ℕ) (node : Node) (r : Answer) → Kept w → DeliverStep w i node r v → Became w v
 deliver_became w v i node Delivered kept h = record { next = after_told w node h.1.0; change = tells node h.1.0 (kept.messages i h.1.0 h.1.1); same = h.1.2 }
@@ -101,6 +122,7 @@ became w v (GiveAt p k) r kept h = give_at_became w v p k r kept h
 became w v (Load i) r kept h = load_became w v i r kept h
 became w v (Finish p s) r kept h = finish_became w v p s r kept h
 became w v (Send node) r kept h = send_became w v node r kept h
+became w v (SendPart node said) r kept h = send_part_became w v node said r kept h
 became w v (Deliver i node) r kept h = deliver_became w v i node r kept h
 became w v (Route x k) r kept h = route_became w v x k r kept h
 became w v (Serve p k after) r kept h = serve_became w v p k after r kept h

@@ -22,6 +22,7 @@ pub kept_start : (old new : List PlanRange) (routers : ℕ) → IsPlan old → I
 kept_start old new routers old_plan new_plan =
     record {
       first = le_refl 1;
+      numbers = omega arith;
       plans = λ n h. cond_both (n == 0) old new (λ q. IsPlan q) (λ e. old_plan) (λ e. new_plan);
       there = λ n k h key. cond_both (n == 0) old new (λ q. list_any (λ r. r == owner_of q k) (first_parts old new) ≡ true)
           (λ e. part_first old new (owner_of old k) old_plan new_plan (or_left (names old (owner_of old k)) (names new (owner_of old k)) (named_owner old k old_plan key)))

@@ -16,6 +16,7 @@ pub keeps_told : (w : WorldValue) (node : Node) (more : Queries) → Kept w → 
 keeps_told w node more kept true_more =
     record {
       first = kept.first;
+      numbers = kept.numbers;
       plans = kept.plans;
       there = kept.there;
       held_true = kept.held_true;
@@ -39,10 +40,11 @@ keeps_told w node more kept true_more =
     hears_on : (m : Node) (n : ℕ) → Hears (w.facts m) n → Hears (told_to w node more m) n
     hears_on m n h = hears_told w w node more kept.facts true_more m n h
 
-pub keeps_sent : (w : WorldValue) (node : Node) → Kept w → Kept (record w { messages = w.messages ++ w.facts node ∷ [] })
-keeps_sent w node kept =
+pub keeps_sent : (w : WorldValue) (said : Queries) → TrueFacts w said → Kept w → Kept (record w { messages = w.messages ++ said ∷ [] })
+keeps_sent w said is_true kept =
     record {
       first = kept.first;
+      numbers = kept.numbers;
       plans = kept.plans;
       there = kept.there;
       held_true = kept.held_true;
@@ -55,13 +57,13 @@ keeps_sent w node kept =
       facts = λ m. still (w.facts m) (kept.facts m);
       messages = λ i message h. ⊎_elim
           (λ (x : slice_get w.messages i ≡ Some message). still message (kept.messages i message x))
-          (λ (x : (i ≡ length w.messages) × (w.facts node ≡ message)). still message (subst (λ f. TrueFacts w f) x.1 (kept.facts node)))
-          (at_either w.messages (w.facts node) i message h);
+          (λ (x : (i ≡ length w.messages) × (said ≡ message)). still message (subst (λ f. TrueFacts w f) x.1 is_true))
+          (at_either w.messages said i message h);
       some = kept.some;
       sent = λ j a h k x. let y : IsSent w a k = kept.sent j a h k x in record { source = y.source; dest = y.dest; sub = y.sub; given = y.given };
       once = kept.once;
       somewhere = λ n m k h. let g : HasChunk w n m k = kept.somewhere n m k h in record { index = g.index; chunk = g.chunk; there = g.there; number = g.number; source = g.source; keys = g.keys };
     }
   where
-    still : (f : Queries) → TrueFacts w f → TrueFacts (record w { messages = w.messages ++ w.facts node ∷ [] }) f
-    still f t = true_later w (record w { messages = w.messages ++ w.facts node ∷ [] }) f (record { plan = λ m h. refl; last = le_refl w.last; opened = λ e. le_refl w.opened; given = λ m r k h. h; loaded = λ m r k h. h }) t kept.most
+    still : (f : Queries) → TrueFacts w f → TrueFacts (record w { messages = w.messages ++ said ∷ [] }) f
+    still f t = true_later w (record w { messages = w.messages ++ said ∷ [] }) f (record { plan = λ m h. refl; last = le_refl w.last; opened = λ e. le_refl w.opened; given = λ m r k h. h; loaded = λ m r k h. h }) t kept.most

@@ -21,9 +21,9 @@ use Rattle.squall_protocol.specs.declared.event.Event.{Event}
 use Rattle.squall_protocol.specs.declared.event.Event.TheVariants.{Serve}
 use Rattle.squall_protocol.specs.declared.answer.Answer.{Answer}
 use Rattle.squall_protocol.specs.declared.answer.Answer.TheVariants.{Served}
-use Rattle.squall_protocol.specs.Worlds.{WorldValue, course_at, first_course, WasBegun, pair_at, is_part, start}
+use Rattle.squall_protocol.specs.Worlds.{WorldValue, course_at, first_course, last_course, WasBegun, pair_at, is_part, start}
 use Rattle.squall_protocol.specs.Knowledge.{part_in, Serves}
-use Rattle.squall_protocol.specs.Steps.{IsPlan, Step, Run}
+use Rattle.squall_protocol.specs.Steps.{IsPlan, IsOver, Step, Run}
 
 -- the world comes about by a run from two plans
 pub record IsReached (w : WorldValue) : Type 0 where
@@ -128,6 +128,18 @@ abbrev pub MovesAreServed : WorldValue → Type 0
 MovesAreServed w =
     (p k after d n : ℕ) → Serves (part_in w p) k after (Moved d n)
     → (events : List Event) (answers : List Answer) (v u : WorldValue) (answer : Answer) → Run w events answers v → Step v (Serve d k n) answer u → Answers (IsWelcomeAfter n) answer
+
+-- ---- ends
+
+-- a partition that waits for a key gets it: the source that it names holds the key, or a chunk on its way from there has it
+abbrev pub AwaitedComes : WorldValue → Type 0
+AwaitedComes w =
+    (p k after source : ℕ) → Serves (part_in w p) k after (Pending source)
+    → (w.held source k ≡ true) ⊎ ((i : ℕ) × (x : ChunkValue) × (slice_get w.chunks i ≡ Some x) × IsInFlight w x k × (x.source ≡ source) × (x.dest ≡ p))
+
+-- once the course begun last is over, each key is held where its new plan has it
+abbrev pub OverIsThere : WorldValue → Type 0
+OverIsThere w = IsOver w → (k : ℕ) → k < top → w.held (owner_of (last_course w).new k) k ≡ true
 
 -- ---- served, while there is one course
 

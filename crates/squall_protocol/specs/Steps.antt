@@ -11,8 +11,11 @@ use Rattle.squall_course.specs.Subplans.{subplan_count}
 use Rattle.squall_course.specs.Moves.{is_incoming}
 use Rattle.squall_report.specs.declared.report.ReportKind.TheVariants.{Done as DoneReport}
 use Rattle.squall_report.specs.Issues.{plan_pair}
-use Rattle.squall_report.specs.Cells.{place_at}
+use Rattle.squall_report.specs.Cells.{CellPlace, place_at}
 use Rattle.squall_report.specs.Queries.{Queries, joined_queries, loaded_queries, done_queries, opened_queries, issued_queries}
+use Rattle.squall_join.specs.declared.flat.Flat.TheVariants.{Unknown}
+use Rattle.squall_board.specs.Boards.{BoardValue}
+use Rattle.squall_board.specs.BoardQueries.{queries_of}
 use Rattle.squall_board.specs.CourseRoute.{IsCourseBy, IsRoutedBy}
 use Rattle.squall_protocol.specs.Chunks.{ChunkValue, load_report}
 use Rattle.squall_protocol.specs.Carried.{Carried}
@@ -21,10 +24,10 @@ use Rattle.squall_protocol.specs.Known.{last_number}
 use Rattle.squall_protocol.specs.declared.event.Node.{Node}
 use Rattle.squall_protocol.specs.declared.event.Node.TheVariants.{Leader, Part, Router}
 use Rattle.squall_protocol.specs.declared.event.Event.{Event}
-use Rattle.squall_protocol.specs.declared.event.Event.TheVariants.{OpenNext, Begin, Give, GiveAt, Load, Finish, Send, Deliver, Route, Serve}
+use Rattle.squall_protocol.specs.declared.event.Event.TheVariants.{OpenNext, Begin, Give, GiveAt, Load, Finish, Send, SendPart, Deliver, Route, Serve}
 use Rattle.squall_protocol.specs.declared.answer.Answer.{Answer}
 use Rattle.squall_protocol.specs.declared.answer.Answer.TheVariants.{Opened, Begun, Gave, Loaded, Again, Finished, Sent, Delivered, Routed, Served, Refused}
-use Rattle.squall_protocol.specs.declared.answer.Refusal.TheVariants.{NoSuch, NotDone, NoMore, Running, NoNumber, NotOpen, NothingLeft, ZeroMax, NotOutgoing, Given, NotHeld, Stranger, NotAll, NothingDue}
+use Rattle.squall_protocol.specs.declared.answer.Refusal.TheVariants.{NoSuch, NotDone, NoMore, Running, NoNumber, NotOpen, NothingLeft, ZeroMax, NotOutgoing, Given, NotHeld, Stranger, NotAll, NothingDue, NotKnown}
 use Rattle.squall_protocol.specs.Worlds.{WorldValue, first_course, last_course, same_node, is_part, is_node, SameWorld}
 use Rattle.squall_protocol.specs.Knowledge.{part_in, PartQueries, Knows, IsCurrent, NoneOpen, goes_out, is_left, comes_in, is_missing, Serves}
 
@@ -205,6 +208,22 @@ SendStep w node (Sent index) v = (is_node w node ≡ true) × (index ≡ length 
 SendStep w node (Refused NoSuch) v = (is_node w node ≡ false) × SameWorld v w
 SendStep w node _ v = ⊥
 
+-- One tells nothing but what the other tells: a single report of it, say, or a delta. Under a number it issues what the other does, or
+-- nothing.
+pub record IsPartOf (q f : Queries) : Type 0 where
+  pub loaded : (c : CellPlace) (k : ℕ) → q.loaded c k ≡ true → f.loaded c k ≡ true
+  pub done : (c : CellPlace) → q.done c ≡ true → f.done c ≡ true
+  pub opened : (n : ℕ) → q.opened n ≤ f.opened n
+  pub issued : (n : ℕ) → (q.issued n ≡ Unknown) ⊎ (q.issued n ≡ f.issued n)
+
+-- what the board tells becomes the next message, if it is a part of what the node was told and told itself
+abbrev pub SendPartStep : WorldValue → Node → BoardValue → Answer → WorldValue → Type 0
+SendPartStep w node said (Sent index) v =
+    (is_node w node ≡ true) × IsPartOf (queries_of said) (w.facts node) × (index ≡ length w.messages) × SameWorld v (record w { messages = w.messages ++ queries_of said ∷ [] })
+SendPartStep w node said (Refused NoSuch) v = (is_node w node ≡ false) × SameWorld v w
+SendPartStep w node said (Refused NotKnown) v = (is_node w node ≡ true) × (IsPartOf (queries_of said) (w.facts node) → ⊥) × SameWorld v w
+SendPartStep w node said _ v = ⊥
+
 -- a message comes to a node: any number of times, to any node, or never
 abbrev pub DeliverStep : WorldValue → ℕ → Node → Answer → WorldValue → Type 0
 DeliverStep w i node Delivered v = (is_node w node ≡ true) × ((message : Queries) × (slice_get w.messages i ≡ Some message) × SameWorld v (after_told w node message))
@@ -235,6 +254,7 @@ Step w (GiveAt p k) r v = GiveAtStep w p k r v
 Step w (Load i) r v = LoadStep w i r v
 Step w (Finish p s) r v = FinishStep w p s r v
 Step w (Send node) r v = SendStep w node r v
+Step w (SendPart node said) r v = SendPartStep w node said r v
 Step w (Deliver i node) r v = DeliverStep w i node r v
 Step w (Route x k) r v = RouteStep w x k r v
 Step w (Serve p k after) r v = ServeStep w p k after r v

@@ -58,6 +58,9 @@ pub enum Refusal {
     /// No key comes in, in that sub-plan.
     #[error("NothingDue")]
     NothingDue,
+    /// The node does not know all that the message would tell.
+    #[error("NotKnown")]
+    NotKnown,
 }
 
 /// The answer to an event.

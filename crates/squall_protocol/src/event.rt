@@ -1,5 +1,6 @@
 //! Events.
 
+use squall_board::Board;
 use squall_key::{Key, PartId};
 use squall_plan::Plan;
 
@@ -31,6 +32,8 @@ pub enum Event {
     Finish(PartId, u32),
     /// A node sends what it has heard and what it has reported itself.
     Send(Node),
+    /// A node sends a part of that, as a board: one report, a delta, a piece or a repair.
+    SendPart(Node, Board),
     /// The message of that index, from 0, comes to a node.
     Deliver(usize, Node),
     /// A router is asked where to send a key.

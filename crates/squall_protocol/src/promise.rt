@@ -2,7 +2,7 @@
 
 ghost use Rattle.squall_protocol.specs.Worlds.{WorldValue};
 ghost use Rattle.squall_protocol.specs.Promises.{IsReached, OneCarrier, TrueReports, RoutedIsLoaded, OneDestination, ChunksHaveNodes};
-ghost use Rattle.squall_protocol.specs.Promises.{RoutesAreServed, MovesAreServed, FirstRoutesAreHome, FirstMovesAreDue};
+ghost use Rattle.squall_protocol.specs.Promises.{RoutesAreServed, MovesAreServed, AwaitedComes, OverIsThere, FirstRoutesAreHome, FirstMovesAreDue};
 
 /// What holds at every moment of every run, whatever is lost, repeated or reordered.
 ///
@@ -14,8 +14,12 @@ ghost use Rattle.squall_protocol.specs.Promises.{RoutesAreServed, MovesAreServed
 ///
 /// A partition to which a router sends a key holds it, waits for it, or has given it and names the
 /// partition to which it went. The partition that is named does the same, or has not heard of that
-/// course yet. While there is one course, the first partition holds the key or has given it, and
-/// the one that it names holds it or waits for it.
+/// course yet. A partition that waits for a key gets it: the source that it names holds the key, or a
+/// chunk on its way has it. Once the course begun last is over, each key is where its new plan has
+/// it.
+///
+/// While there is one course, the first partition holds the key or has given it, and the one that it
+/// names holds it or waits for it.
 pub fn promises()
     ensures one_carrier { (w : WorldValue) → IsReached w → OneCarrier w }
     ensures true_reports { (w : WorldValue) → IsReached w → TrueReports w }
@@ -24,6 +28,8 @@ pub fn promises()
     ensures chunks_have_nodes { (w : WorldValue) → IsReached w → ChunksHaveNodes w }
     ensures routes_are_served { (w : WorldValue) → IsReached w → RoutesAreServed w }
     ensures moves_are_served { (w : WorldValue) → IsReached w → MovesAreServed w }
+    ensures awaited_comes { (w : WorldValue) → IsReached w → AwaitedComes w }
+    ensures over_is_there { (w : WorldValue) → IsReached w → OverIsThere w }
     ensures first_routes_are_home { (w : WorldValue) → IsReached w → FirstRoutesAreHome w }
     ensures first_moves_are_due { (w : WorldValue) → IsReached w → FirstMovesAreDue w }
 {}
