@@ -262,3 +262,8 @@ module _ (p : PartValue) (d q : BoardValue) (is : IsPart p) (tells : TellsBoth (
         heard = all_puts (λ l. IsHeard p.first q l.course.number) ls p.logs heard_fresh (heard_more p.logs is.heard);
         known = λ n c k. ap (option_map (λ l. l.course)) (find_puts n ls p.logs others rise) ∙ known_then n c k;
       }
+
+-- what holds of the images holds of the entries
+pub all_of_images : {X Y : Type 0} (f : X → Y) (P : Y → Type 0) (xs : List X) → AllByRecursion P (Rattle.std.specs.Prelude.map f xs) → AllByRecursion (λ x. P (f x)) xs
+all_of_images f P [] h = tt
+all_of_images f P (x ∷ xs) h = (h.0, all_of_images f P xs h.1)

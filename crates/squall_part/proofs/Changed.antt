@@ -20,7 +20,7 @@ use Rattle.squall_part.proofs.Logs.{apart, edit_at, edit_rising, edit_heard, edi
 use Rattle.squall_part.proofs.Known.{known_number, log_at}
 use Rattle.squall_part.proofs.Given.{given_here}
 
-one_set : (s : Interval) → s.lo < s.hi → s.hi ≤ top → IsSet (s ∷ [])
+pub one_set : (s : Interval) → s.lo < s.hi → s.hi ≤ top → IsSet (s ∷ [])
 one_set s lt le = ((lt, tt, tt), (le, tt))
 
 pub given_set : (logs : List Log) (n : ℕ) → AllByRecursion IsLog logs → IsSet (given_in (log_of logs n))

@@ -13,3 +13,4 @@ pub mod Absorbed
 pub mod Steps
 pub mod Replies
 pub mod Gone
+pub mod New

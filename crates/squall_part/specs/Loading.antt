@@ -1,6 +1,6 @@
 -- What a partition loads and finishes (a partition reports what it loaded, and when it has all: Squall, SIGMOD 2015).
-use Rattle.std.specs.Prelude.{◌≡◌, ℕ, ◌<◌, ◌≤◌, ◌&&◌, not, Bool, true, false, [], ◌∷◌, Result, Ok, Err, Some}
-use Rattle.squall_span.specs.Spans.{span_has, has, insert_span, union, minus}
+use Rattle.std.specs.Prelude.{◌≡◌, ℕ, ◌<◌, ◌≤◌, ◌&&◌, not, Bool, true, false, List, [], ◌∷◌, Result, Ok, Err, Some}
+use Rattle.squall_span.specs.Spans.{Interval, IsSet, span_has, has, insert_span, union, minus}
 use Rattle.squall_course.specs.Change.{Change}
 use Rattle.squall_course.specs.Moves.{is_incoming}
 use Rattle.squall_report.specs.declared.report.ReportKind.{ReportKind}
@@ -30,6 +30,10 @@ AllLoaded p c = (k : ℕ) → span_has c.span k ≡ true → has (loaded_by p c.
 abbrev pub SomeMissing : PartValue → ChunkValue → Type 0
 SomeMissing p c = (k : ℕ) × (span_has c.span k ≡ true) × (has (loaded_by p c.number) k ≡ false)
 
+-- the key of the chunk is neither loaded under its number nor held
+abbrev pub is_new : PartValue → ChunkValue → ℕ → Bool
+is_new p c k = (span_has c.span k && not (has (loaded_by p c.number) k)) && not (has p.held k)
+
 -- the keys that were not loaded are held now, all are loaded, and the board has the report
 abbrev pub after_load : PartValue → ChunkValue → PartValue
 after_load p c =
@@ -46,6 +50,11 @@ IsLoaded p c (Ok Again) q = MayLoad p c × AllLoaded p c × (q ≡ p)
 IsLoaded p c (Err NotOpenYet) q = ((course : Change) × (known_to p c.number ≡ Some course)) × (opened_at p c.number ≤ c.sub) × (q ≡ p)
 IsLoaded p c (Err Stranger) q = (MayLoad p c → ⊥) × ((course : Change) → known_to p c.number ≡ Some course → c.sub < opened_at p c.number) × (q ≡ p)
 IsLoaded p c (Err NoRoom) q = MayLoad p c × SomeMissing p c × (q ≡ p)
+
+-- the new keys of a chunk that may be loaded, or why it is not
+abbrev pub IsFresh : PartValue → ChunkValue → Result (List Interval) LoadFault → Type 0
+IsFresh p c (Ok keys) = MayLoad p c × IsSet keys × ((k : ℕ) → has keys k ≡ is_new p c k)
+IsFresh p c (Err fault) = IsLoaded p c (Err fault) p
 
 -- ---- the end of a sub-plan
 

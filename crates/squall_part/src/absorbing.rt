@@ -1,6 +1,6 @@
 //! The logs of courses that become known.
 
-ghost use Rattle.std.specs.Prelude.{◌≡◌, ◌++◌, ℕ, List, map, IfOk, OnOk};
+ghost use Rattle.std.specs.Prelude.{◌≡◌, ◌≤◌, ◌++◌, ℕ, List, map, IfOk, OnOk};
 ghost use Rattle.std.specs.Arc.{arc_value};
 ghost use Rattle.std.specs.List.{AllByRecursion};
 ghost use Rattle.squall_join.specs.Flats.{flat_map};
@@ -11,26 +11,21 @@ ghost use Rattle.squall_part.specs.Fresh.{is_new, fresh_log, fresh_logs};
 
 use crate::log::Log;
 use crate::part::Part;
-use squall_board::Delta;
+use squall_board::{Delta, issued_course};
 use squall_course::Course;
 use squall_join::{Flat, Shared};
 use squall_report::Issue;
 use std::alloc::{AllocError, Global};
 use std::sync::Arc;
 
-/// The course of the number and the issue.
+/// The course of the number and the issue, to be shared.
 fn made(alloc: Global, number: u32, issue: &Issue) -> Result<Shared<Course>, AllocError>
+    requires { 1 ≤ number }
     ensures course { IfOk result (λ c. c ≡ record { number = number; old = issue.now.old; new = issue.now.new }) }
     ensures plans { IfOk result (λ c. ArePlans c.old c.new) }
 {
-    match Course::new(alloc, number, issue.old(), issue.new_plan()) {
-        Ok(course) => {
-            // The proof learns that a course has plans.
-            let _old = course.old_plan();
-            Ok(Shared::new(Arc::new(alloc, course)?))
-        }
-        Err(_) => Err(AllocError),
-    }
+    let course = issued_course(alloc, number, issue)?;
+    Ok(Shared::new(Arc::new(alloc, course)?))
 }
 
 impl Part {
@@ -52,6 +47,7 @@ impl Part {
         number: u32,
         issue: &Flat<Arc<Issue>>,
     ) -> Result<(), AllocError>
+        requires { 1 ≤ number }
         ensures logs { OnOk result (logs.new.items ≡ logs.old.items ++ fresh_log self.now.first self.now.board (number, flat_map arc_value issue.now)) }
         ensures kept { OnOk result (AllByRecursion IsLog logs.old.items → AllByRecursion IsLog logs.new.items) }
     {
@@ -67,6 +63,23 @@ impl Part {
         Ok(())
     }
 
+    /// Adds the logs of the courses that become known by the issues.
+    fn push_all_fresh(
+        &self,
+        logs: &mut Vec<Log>,
+        issues: &[(u32, Flat<Arc<Issue>>)],
+    ) -> Result<(), AllocError>
+        requires { AllByRecursion (λ e. 1 ≤ e.0) issues.now }
+        ensures logs { OnOk result (logs.new.items ≡ logs.old.items
+            ++ fresh_logs self.now.first self.now.board (map (λ e. (e.0, flat_map arc_value e.1)) issues.now)) }
+        ensures kept { OnOk result (AllByRecursion IsLog logs.old.items → AllByRecursion IsLog logs.new.items) }
+    {
+        for entry in issues {
+            self.push_fresh(logs, entry.0, &entry.1)?;
+        }
+        Ok(())
+    }
+
     /// The logs of the courses that become known by the delta's issues. If it issues nothing there
     /// are none, and nothing is allocated.
     pub(crate) fn fresh_logs(&self, delta: &Delta) -> Result<Vec<Log>, AllocError>
@@ -75,9 +88,7 @@ impl Part {
     {
         let mut logs = Vec::new(self.allocator());
         let issues = delta.issues()?;
-        for entry in &issues {
-            self.push_fresh(&mut logs, entry.0, &entry.1)?;
-        }
+        self.push_all_fresh(&mut logs, &issues)?;
         Ok(logs)
     }
 }

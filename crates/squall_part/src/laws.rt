@@ -1,11 +1,13 @@
 //! Laws of partitions, each the contract of a function that does little or nothing.
 
-ghost use Rattle.std.specs.Prelude.{◌≡◌, ◌<◌, ◌≤◌, ℕ, true, false};
+ghost use Rattle.std.specs.Prelude.{◌≡◌, ◌<◌, ◌≤◌, ◌||◌, ℕ, List, true, false, Ok};
 ghost use Rattle.squall_key.specs.Keys.{top};
 ghost use Rattle.squall_span.specs.Spans.{Interval, span_has, has, IsSet};
 ghost use Rattle.squall_errand.specs.declared.errand.Reply.{Reply};
 ghost use Rattle.squall_part.specs.Parts.{course_of_part, given_by, loaded_by};
+ghost use Rattle.squall_protocol.specs.Chunks.{ChunkValue};
 ghost use Rattle.squall_part.specs.Giving.{after_giving};
+ghost use Rattle.squall_part.specs.Loading.{IsFresh, after_load, is_new};
 ghost use Rattle.squall_part.specs.Serving.{IsLastGiven, IsLastComing, IsReply};
 
 use crate::part::Part;
@@ -40,6 +42,16 @@ pub fn partitions_keep_sets(part: &Part)
     ensures held { IsSet part.now.held }
     ensures given { (n : ℕ) → IsSet (given_by part.now n) }
     ensures loaded { (n : ℕ) → IsSet (loaded_by part.now n) }
+{
+    part.known();
+}
+
+/// A load adds the new keys of the chunk to the keys that the partition holds, and no others. These
+/// keys are one list of spans.
+pub fn new_keys_are_held(part: &Part)
+    ensures held { (c : ChunkValue) (k : ℕ) → c.span.lo < c.span.hi → c.span.hi ≤ top
+        → has (after_load part.now c).held k ≡ (has part.now.held k || is_new part.now c k) }
+    ensures one { (c : ChunkValue) (a b : List Interval) → IsFresh part.now c (Ok a) → IsFresh part.now c (Ok b) → a ≡ b }
 {
     part.known();
 }

@@ -1,19 +1,21 @@
 //! What a partition loads.
 
-ghost use Rattle.std.specs.Prelude.{◌≡◌, ◌↔◌, IsTrue, IfOk, IfErr, OnOk, OnErr, Err, MatchBool, option_copied};
+ghost use Rattle.std.specs.Prelude.{◌≡◌, ◌↔◌, ℕ, IsTrue, IfOk, IfErr, OnOk, OnErr, Err, MatchBool, option_copied};
 ghost use Rattle.std.specs.List.{find};
 ghost use Rattle.std.specs.List.Sorted.{IsNonDecreasingBy};
 ghost use Rattle.squall_part.specs.Steps.{IsLoadPlace};
 ghost use Rattle.squall_protocol.specs.Carried.{ends_beyond, carries, Carried};
 ghost use Rattle.squall_part.specs.declared.loading.LoadFault.TheVariants.{NoMemory};
-ghost use Rattle.squall_part.specs.Loading.{IsLoaded, MayLoad, AllLoaded, SomeMissing, after_load};
+ghost use Rattle.squall_span.specs.Spans.{has, IsSet};
+ghost use Rattle.squall_part.specs.Loading.{IsLoaded, MayLoad, AllLoaded, SomeMissing, IsFresh, is_new, after_load};
 ghost use Rattle.squall_protocol.specs.Chunks.{load_report};
 
-use crate::part::Part;
+use crate::part::{Part, know_set};
 use squall_course::{Course, Move, Status};
 use squall_key::{Bound, ended};
 use squall_protocol::Chunk;
 use squall_report::Report;
+use squall_span::SpanSet;
 use std::alloc::AllocError;
 use thiserror::Error;
 
@@ -127,6 +129,23 @@ impl Part {
         }
     }
 
+    /// The keys of the chunk that are neither loaded, by the log of its course at `at`, nor held. An
+    /// error means that an allocation failed.
+    fn missing(&self, at: usize, chunk: &Chunk) -> Result<SpanSet, AllocError>
+        requires { IsLoadPlace self.now chunk.now at }
+        ensures set { IfOk result (λ keys. IsSet keys) }
+        ensures new { IfOk result (λ keys. (k : ℕ) → has keys k ≡ is_new self.now chunk.now k) }
+    {
+        self.known();
+        let alloc = self.allocator();
+        let log = &self.logs[at];
+        let keys = SpanSet::of(alloc, &chunk.span())?;
+        let unloaded = keys.minus(alloc, &log.loaded)?;
+        let missing = unloaded.minus(alloc, &self.held)?;
+        know_set(&missing);
+        Ok(missing)
+    }
+
     /// Loads the keys of the chunk, and takes the report. `at` is the place of the log of its
     /// course. An error means that an allocation failed. The partition is then unchanged.
     fn take_in(&mut self, at: usize, chunk: &Chunk, report: &Report) -> Result<(), AllocError>
@@ -138,6 +157,23 @@ impl Part {
         let alloc = self.allocator();
         let log = &mut self.logs[at];
         log.load(alloc, &mut self.board, &mut self.held, chunk.span(), report)
+    }
+
+    /// The keys of the chunk that are new here: neither loaded under its number nor held.
+    ///
+    /// A host puts the chunk's rows of these keys in place before it loads the chunk, and no others:
+    /// the partition may have changed the row of any other key since. A chunk that came before has
+    /// no new key.
+    ///
+    /// `NotOpen`, `Stranger`: `load` refuses the chunk so. `NoMemory`: an allocation failed.
+    pub fn fresh(&self, chunk: &Chunk) -> Result<SpanSet, LoadFault>
+        ensures answer { IsFresh self.now chunk.now result }
+    {
+        let at = self.place_for(chunk)?;
+        if self.has_loaded(at, chunk) {
+            return Ok(SpanSet::empty(self.allocator()));
+        }
+        Ok(self.missing(at, chunk)?)
     }
 
     /// Takes a chunk. It loads, and then holds, those keys of the chunk that it has not loaded

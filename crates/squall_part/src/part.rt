@@ -45,7 +45,7 @@ impl Model for Part {
 }
 
 /// Changes nothing: after it a proof knows what holds of every set of keys.
-fn know_set(set: &SpanSet)
+pub(crate) fn know_set(set: &SpanSet)
     ensures { IsSet set.now }
 {
     set.known();
