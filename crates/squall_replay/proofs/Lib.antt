@@ -2,3 +2,4 @@ mod Edits
 mod Same
 mod Alike
 mod Grown
+mod Ran

@@ -21,7 +21,7 @@ use Rattle.squall_replay.specs.declared.call.Call.{Call}
 use Rattle.squall_replay.specs.declared.call.Call.TheVariants.{Absorb, Give, GiveAt, Load, Finish}
 use Rattle.squall_replay.specs.declared.call.Answer.{Answer}
 use Rattle.squall_replay.specs.declared.call.Answer.TheVariants.{Absorbed, Gave, Loaded, Again, Finished}
-use Rattle.squall_replay.specs.Calls.{Absorbs, Happens, Replays, IsSamePart}
+use Rattle.squall_replay.specs.Calls.{Absorbs, Happens, Replays, Leads, IsSamePart}
 use Rattle.squall_replay.proofs.Edits.{given_with, loaded_with, given_beside, loaded_beside}
 
 -- one answer, and partitions that no call tells apart
@@ -190,3 +190,11 @@ one_log p q r s (c ∷ cs) (x ∷ xs) (y ∷ ys) is js same h g =
     let once = one_call p q h.0 g.0 c x y is js same h.2 g.2 in
     let rest = one_log h.0 g.0 r s cs xs ys h.1 g.1 once.part h.3 g.3 in
     ((λ i. once.answer i ∷ rest.0 i), rest.1)
+
+-- no call tells a partition from itself
+pub itself : (p : PartValue) → IsSamePart p p
+itself p = record { id = refl; first = refl; board = refl; held = refl; given = λ n. refl; loaded = λ n. refl; }
+
+-- what a log leads to from one partition is one
+pub one_lead : (p r s : PartValue) (calls : List Call) → IsPart p → Leads p calls r → Leads p calls s → IsSamePart r s
+one_lead p r s calls is a b = (one_log p p r s calls a.0 b.0 is is (itself p) a.1 b.1).1

@@ -1,5 +1,6 @@
 -- Calls of a partition, and logs of them (this project; that a node is rebuilt by its log of calls: state machine replication, Schneider 1990).
-use Rattle.std.specs.Prelude.{◌≡◌, ℕ, ◌<◌, List, [], ◌∷◌, length, take, Ok}
+use Rattle.std.specs.Prelude.{◌≡◌, ℕ, List, [], ◌∷◌, Some, take, Result, Ok, Err}
+use Rattle.std.specs.List.{slice_get}
 use Rattle.squall_board.specs.Boards.{BoardValue}
 use Rattle.squall_board.specs.Takes.{TakesBoard}
 use Rattle.squall_part.specs.declared.loading.Load.TheVariants.{Loaded as LoadedNow, Again as LoadedBefore}
@@ -10,6 +11,8 @@ use Rattle.squall_replay.specs.declared.call.Call.{Call}
 use Rattle.squall_replay.specs.declared.call.Call.TheVariants.{Absorb, Give, GiveAt, Load, Finish}
 use Rattle.squall_replay.specs.declared.call.Answer.{Answer}
 use Rattle.squall_replay.specs.declared.call.Answer.TheVariants.{Absorbed, Gave, Loaded, Again, Finished}
+use Rattle.squall_replay.specs.declared.fault.CallFault.{CallFault}
+use Rattle.squall_replay.specs.declared.fault.CallFault.TheVariants.{Give as NotGiven, Load as NotLoaded, Finish as NotFinished, NoMemory}
 
 -- ---- one call
 
@@ -34,6 +37,19 @@ Happens p (Load chunk) _ q = ⊥
 Happens p (Finish sub) (Finished report) q = IsFinished p sub (Ok report) q
 Happens p (Finish sub) _ q = ⊥
 
+-- the partition refuses the call for the reason of that very call, and stays as it is; a delta is refused only if there is no memory
+abbrev pub Refuses : PartValue → Call → CallFault → PartValue → Type 0
+Refuses p (Absorb delta) NoMemory q = q ≡ p
+Refuses p (Absorb delta) _ q = ⊥
+Refuses p (Give most) (NotGiven fault) q = IsGiven p most (Err fault) q
+Refuses p (Give most) _ q = ⊥
+Refuses p (GiveAt key) (NotGiven fault) q = IsGivenAt p key (Err fault) q
+Refuses p (GiveAt key) _ q = ⊥
+Refuses p (Load chunk) (NotLoaded fault) q = IsLoaded p chunk (Err fault) q
+Refuses p (Load chunk) _ q = ⊥
+Refuses p (Finish sub) (NotFinished fault) q = IsFinished p sub (Err fault) q
+Refuses p (Finish sub) _ q = ⊥
+
 -- ---- a log of calls
 
 -- the calls, one after the other, have these answers, and lead from the first partition to the second
@@ -47,9 +63,31 @@ Replays p (c ∷ cs) (a ∷ rest) q = (r : PartValue) × IsPart r × Happens p c
 abbrev pub Leads : PartValue → List Call → PartValue → Type 0
 Leads p calls q = (answers : List Answer) × Replays p calls answers q
 
--- the first calls lead there, and not all of them
-abbrev pub StopsIn : PartValue → List Call → PartValue → Type 0
-StopsIn p calls q = (n : ℕ) × (n < length calls) × Leads p (take n calls) q
+-- the calls before one of them lead there, and the partition refuses that one
+abbrev pub StopsAt : PartValue → List Call → CallFault → PartValue → Type 0
+StopsAt p calls fault q = (n : ℕ) × (call : Call) × (slice_get calls n ≡ Some call) × Leads p (take n calls) q × Refuses q call fault q
+
+-- ---- what a partition did, and its log
+
+-- a call, and how it ended
+abbrev pub Try : Type 0
+Try = Call × Result Answer CallFault
+
+-- the call was answered or refused so, and led from one partition to another
+abbrev pub IsTried : PartValue → Try → PartValue → Type 0
+IsTried p (call, Ok answer) q = Happens p call answer q
+IsTried p (call, Err fault) q = Refuses p call fault q
+
+-- the calls, each answered or refused, led from one partition to another
+abbrev pub Ran : PartValue → List Try → PartValue → Type 0
+Ran p [] q = q ≡ p
+Ran p (one ∷ tries) q = (r : PartValue) × IsPart r × IsTried p one r × Ran r tries q
+
+-- the calls that were answered
+abbrev pub log_of : List Try → List Call
+log_of [] = []
+log_of ((call, Ok answer) ∷ tries) = call ∷ log_of tries
+log_of ((call, Err fault) ∷ tries) = log_of tries
 
 -- ---- partitions that are one
 

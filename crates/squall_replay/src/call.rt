@@ -1,7 +1,7 @@
 //! Calls of a partition, as a log keeps them.
 
-ghost use Rattle.std.specs.Prelude.{◌≡◌, IfOk, OnErr};
-ghost use Rattle.squall_replay.specs.Calls.{Happens};
+ghost use Rattle.std.specs.Prelude.{◌≡◌, IfOk, IfErr, OnErr};
+ghost use Rattle.squall_replay.specs.Calls.{Happens, Refuses};
 
 use crate::fault::CallFault;
 use squall_board::Delta;
@@ -40,10 +40,11 @@ pub enum Answer {
 }
 
 impl Call {
-    /// Makes the call. If the partition refuses it, or if an allocation fails, the partition stays
-    /// unchanged.
+    /// Makes the call. The error is the one of the partition's own call: the partition refuses it, or
+    /// an allocation failed. The partition stays unchanged then.
     pub fn make(&self, part: &mut Part) -> Result<Answer, CallFault>
         ensures answer { IfOk result (λ answer. Happens part.old self.now answer part.new) }
+        ensures fault { IfErr result (λ fault. Refuses part.old self.now fault part.new) }
         ensures err { OnErr result (part.new ≡ part.old) }
     {
         match self {

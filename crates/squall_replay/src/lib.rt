@@ -1,6 +1,6 @@
 //! Partitions that are rebuilt from a log of their calls: a log leads to one partition.
 //!
-//! The example `bindings/c/examples/node.c` rebuilds a partition from a log.
+//! The example `bindings/c/examples/node/` rebuilds a partition from a log.
 #![tactic(auto)]
 
 mod call;
