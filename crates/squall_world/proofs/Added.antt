@@ -4,10 +4,11 @@ use Rattle.std.specs.List.{slice_get, flat_map, list_any, AllByRecursion}
 use Rattle.std.proofs.lemmas.List.{length-append}
 use Rattle.std.proofs.lemmas.Option.{same_Some}
 use Rattle.squall_course.specs.Change.{Change}
+use Rattle.squall_board.specs.Boards.{board_join}
 use Rattle.squall_board.specs.BoardQueries.{queries_of}
 use Rattle.squall_protocol.specs.declared.event.Node.{Node}
 use Rattle.squall_protocol.specs.declared.event.Node.TheVariants.{Leader, Part, Router}
-use Rattle.squall_world.specs.Nets.{PeerValue, NetValue, AreWithin, told_from, IsNet, place_of, peer_of, at_place, is_part_peer}
+use Rattle.squall_world.specs.Nets.{PeerValue, NetValue, MessageValue, IsMessage, told_with, IsNet, place_of, peer_of, at_place, is_part_peer}
 use Rattle.squall_world.specs.Views.{id_of, ids_in, told_by_message}
 use Rattle.squall_world.specs.Events.{part_peers}
 use Rattle.squall_world.proofs.Lists.{below, get_left, within}
@@ -44,10 +45,11 @@ added_node f n m first ids is none (Part p) = ap (λ ps. f (at_place ps (positio
     by None e = ap f (comes n.peers first ids p e) ∙ either (list_any (λ q. q == p) ids) (none p e) ∙ ap (λ o. f (at_place n.peers o)) (sym e)
 
 -- messages tell what they told
-pub added_messages : (n m : NetValue) (first : Change) (ids : List ℕ) → IsAdded n m first ids → (ms : List (List ℕ)) → AllByRecursion (AreWithin n.peers) ms → map (told_by_message m) ms ≡ map (told_by_message n) ms
+pub added_messages : (n m : NetValue) (first : Change) (ids : List ℕ) → IsAdded n m first ids → (ms : List MessageValue) → AllByRecursion (IsMessage n.peers) ms → map (told_by_message m) ms ≡ map (told_by_message n) ms
 added_messages n m first ids is [] all = refl
 added_messages n m first ids is (x ∷ ms) all =
-    let one : told_by_message m x ≡ told_by_message n x = ap (λ ps. queries_of (told_from ps x)) is.peers ∙ ap queries_of (told_new n.peers (part_peers first ids) x all.0) in
+    let one : told_by_message m x ≡ told_by_message n x = ap (λ ps. queries_of (told_with ps x.known x.extra)) is.peers
+    ∙ ap (λ v. queries_of (board_join v x.extra)) (told_new n.peers (part_peers first ids) x.known all.0.within) in
     λ i. one i ∷ added_messages n m first ids is ms all.1 i
 
 -- ---- how many there are

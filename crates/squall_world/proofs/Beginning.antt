@@ -1,16 +1,15 @@
 -- The leader begins a course, and partitions come.
-use Rattle.std.proofs.Common.{◌≡◌, ℕ, ◌+◌, ◌<◌, ◌≤◌, ◌==◌, ◌&&◌, Bool, true, false, cond, List, [], ◌∷◌, ◌++◌, length, Option, None, Some, Ok, position, refl, sym, ap, subst, ◌∙◌, arith, inl, inr}
+use Rattle.std.proofs.Common.{◌≡◌, ℕ, ◌+◌, ◌<◌, ◌≤◌, ◌==◌, ◌&&◌, Bool, true, false, cond, List, [], ◌∷◌, ◌++◌, length, Option, None, Some, Ok, Err, position, refl, sym, ap, subst, ◌∙◌, arith, inl, inr}
 use Rattle.std.specs.Prelude.{is_some, not}
 use Rattle.std.specs.List.{slice_get, flat_map, list_any, filter, range_with_len, AllByRecursion}
-use Rattle.std.proofs.lemmas.Bool.{cases_lt, cases_eq, and_parts, not-true}
+use Rattle.std.proofs.lemmas.Bool.{cases_lt, and_parts, not-true}
 use Rattle.std.proofs.lemmas.List.{length-append}
-use Rattle.std.proofs.lemmas.Option.{same_Some, none-some}
+use Rattle.std.proofs.lemmas.Option.{same_Some}
 use Rattle.squall_join.specs.declared.flat.Flat.TheVariants.{One}
 use Rattle.squall_key.specs.Keys.{part_limit}
 use Rattle.squall_plan.specs.declared.range.PlanRange.{PlanRange}
-use Rattle.squall_plan.specs.Ranges.{names, IsCanonical, AreRanges}
+use Rattle.squall_plan.specs.Ranges.{names}
 use Rattle.squall_course.specs.Change.{Change, ArePlans}
-use Rattle.squall_course.specs.Subplans.{subplan_count}
 use Rattle.squall_course.proofs.Rising.{filter_up, in_filter_yes}
 use Rattle.squall_report.specs.Issues.{plan_pair}
 use Rattle.squall_report.specs.Queries.{SameQueries, joined_queries, issued_queries}
@@ -18,10 +17,11 @@ use Rattle.squall_board.specs.Boards.{IsBoard, board_join, report_board}
 use Rattle.squall_board.specs.BoardQueries.{queries_of}
 use Rattle.squall_board.specs.BoardLaws.{issue_board_is}
 use Rattle.squall_part.specs.Parts.{PartValue, new_part}
-use Rattle.squall_leader.specs.Leaders.{LeaderValue, IsLeader, IsRunning, IsBegun, IsOver, waited_after, issue_report}
-use Rattle.squall_protocol.specs.Known.{last_number}
+use Rattle.squall_leader.specs.declared.fault.LeaderFault.TheVariants.{Running as LeaderRunning, NoNumber as LeaderNoNumber}
+use Rattle.squall_leader.specs.Leaders.{LeaderValue, IsLeader, IsRunning, IsBegun, IsOver, issue_report}
 use Rattle.squall_protocol.specs.declared.event.Node.{Node}
 use Rattle.squall_protocol.specs.declared.event.Node.TheVariants.{Leader, Part}
+use Rattle.squall_protocol.specs.declared.event.Event.TheVariants.{Begin}
 use Rattle.squall_protocol.specs.declared.answer.Answer.{Answer}
 use Rattle.squall_protocol.specs.declared.answer.Answer.TheVariants.{Begun, Refused}
 use Rattle.squall_protocol.specs.declared.answer.Refusal.TheVariants.{Running, NoNumber}
@@ -32,15 +32,16 @@ use Rattle.squall_world.specs.Views.{view, id_of, ids_in, opened_in, part_of, he
 use Rattle.squall_world.specs.Events.{HasLeader, IsBeginIn, IsBegunNet, named_first, part_peers}
 use Rattle.squall_world.proofs.Lists.{length_put, put_here, put_there, place_put, place_left, flat_append, get_left}
 use Rattle.squall_world.proofs.Nodes.{IsChanged, part_seen_there}
-use Rattle.squall_world.proofs.Boards.{queries_report}
+use Rattle.squall_nodes.proofs.Agree.{queries_report}
+use Rattle.squall_nodes.proofs.Begins.{none_given, none_loaded, begins_by_step}
+use Rattle.squall_nodes.proofs.Owned.{none_owned}
 use Rattle.squall_world.proofs.History.{IsHistory, history_of, history_more, history_new}
-use Rattle.squall_world.proofs.Seen.{ids_kept, facts_told, parts_kept, messages_kept, still}
+use Rattle.squall_world.proofs.Seen.{ids_kept, facts_told, parts_kept, messages_kept, step_to, refused_to}
 use Rattle.squall_world.proofs.Courses.{last_seen, before_end, chain_more, first_stays, newest_begun, plan_begun}
 use Rattle.squall_world.proofs.Courses.{last_number as number_of_last}
-use Rattle.squall_world.proofs.Led.{IsSeen, leads_last, leader_seen, over_seen, seen_over, leader_reports, leader_more, leader_is}
-use Rattle.squall_world.proofs.Owned.{none_owned}
+use Rattle.squall_world.proofs.Led.{leads_last, leader_stands, leader_reports, leader_more, leader_is}
 use Rattle.squall_world.proofs.Coming.{comer_stands, comers_new, ids_come}
-use Rattle.squall_world.proofs.Started.{low_ids, none_given, none_loaded}
+use Rattle.squall_world.proofs.Started.{low_ids}
 use Rattle.squall_world.proofs.Added.{IsAdded, added_node, added_messages, nodes_counted}
 
 -- ---- what beginning says
@@ -253,44 +254,24 @@ begin_keeps n plan (Refused Running) m net (peer, a, has, running, after) = subs
 begin_keeps n plan (Refused NoNumber) m net (peer, a, has, finished, last, after) = subst IsNet (sym after) net
 begin_keeps n plan _ m net h = absurd h
 
--- a leader whose course is not running has one that is over
-idle_over : (a : LeaderValue) (c : Change) → a.course ≡ Some c → (IsRunning a → ⊥) → IsOver a c
-idle_over a c course idle = (opened, waited (waited_after c a.board a.opened) refl)
-  where
-    opened : a.opened ≡ subplan_count c.old c.new
-    opened = elim (cases_eq a.opened (subplan_count c.old c.new)) [
-      | inl e ↦ e
-      | inr ne ↦ absurd (idle (c, course, λ (over : IsOver a c). ne over.0))
-    ]
-
-    waited : (x : Option ℕ) → waited_after c a.board a.opened ≡ x → waited_after c a.board a.opened ≡ None
-    waited None e = e
-    waited (Some q) e = absurd (idle (c, course, λ (over : IsOver a c). none-some q (sym over.1 ∙ e)))
-
-last_used : (n : NetValue) (peer : PeerValue) (a : LeaderValue) → IsNet n → HasLeader n peer a → a.last ≡ length n.courses
-last_used n peer a net has = sym ((leader_is n peer a net has).course (newest_of n) (leads_last n peer a net has)).1 ∙ number_of_last n net
-
 pub begin_steps : (n : NetValue) (plan : List PlanRange) (answer : Answer) (m : NetValue) → IsNet n → IsBeginIn n plan (Ok answer) m → BeginStep (view n) plan answer (view m)
 begin_steps n plan (Begun number parts) m net (peer, a, b, c, has, begun, is, number_is, counted, after) =
     let o : IsBeginning n a b c plan = beginning n peer a b c plan net has begun is in
-    let seen : IsSeen n a (newest_of n) = leader_seen n peer a (newest_of n) net has (leads_last n peer a net has) in
+    let law = begins_by_step (view n) plan a b (Ok c) (leader_stands n peer a net has) (leader_is n peer a net has) is begun in
     let e : m ≡ begun_net n peer b c plan m.places = net_is n peer b c plan m after in
     let same : SameWorld (view m) (after_begin (view n) plan) = subst (λ v. SameWorld (view v) (after_begin (view n) plan)) (sym e) (begun_world n peer a b c plan m.places net has o is after.valid) in
     let all = nodes_counted m (begin_keeps n plan (Begun number parts) m net (peer, a, b, c, has, begun, is, number_is, counted, after)) in
     let routers : m.routers ≡ n.routers = after.routers in
-    let parts_same : length (ids_in m) ≡ length (after_begin (view n) plan).parts = ap length same.parts in (
-      over_seen n a (newest_of n) seen (idle_over a (newest_of n) (leads_last n peer a net has) begun.0),
-      subst (λ v. v < last_number) (last_used n peer a net has) begun.1,
-      record { canonical = subst IsCanonical o.new o.plans.new_canonical; ranges = subst AreRanges o.new o.plans.new_ranges },
-      number_is ∙ o.number,
-      omega (arith, counted, all, routers, parts_same),
-      same,
-    )
+    let parts_same : length (ids_in m) ≡ length (after_begin (view n) plan).parts = ap length same.parts in
+    let parts_is : parts ≡ length (after_begin (view n) plan).parts = omega (arith, counted, all, routers, parts_same) in
+    subst (λ q. BeginStep (view n) plan (Begun q parts) (view m)) (sym number_is) (subst (λ q. BeginStep (view n) plan (Begun c.number q) (view m)) (sym parts_is)
+    (step_to (view n) law.0 (view m) (after_begin (view n) plan) (Begin plan) (Begun c.number (length (after_begin (view n) plan).parts)) law.1 law.1.5 same))
 begin_steps n plan (Refused Running) m net (peer, a, has, running, after) =
-    let seen : IsSeen n a (newest_of n) = leader_seen n peer a (newest_of n) net has (leads_last n peer a net has) in
-    ((λ over. running (newest_of n, leads_last n peer a net has, seen_over n a (newest_of n) seen over)), still n m after)
+    let last = leads_last n peer a net has in
+    let is = leader_is n peer a net has in
+    refused_to n m (Begin plan) (Some Running) Running _ after (begins_by_step (view n) plan a a (Err LeaderRunning) (leader_stands n peer a net has) is is ((newest_of n, last, λ (over : IsOver a (newest_of n)). running (newest_of n, last, over)), refl)) refl
 begin_steps n plan (Refused NoNumber) m net (peer, a, has, finished, last, after) =
-    let seen : IsSeen n a (newest_of n) = leader_seen n peer a (newest_of n) net has (leads_last n peer a net has) in
-    let same : finished.0 ≡ newest_of n = same_Some finished.0 (newest_of n) (sym finished.1 ∙ leads_last n peer a net has) in
-    (over_seen n a (newest_of n) seen (subst (IsOver a) same finished.2), sym (last_used n peer a net has) ∙ last, still n m after)
+    let is = leader_is n peer a net has in
+    let idle : IsRunning a → ⊥ = λ (r : IsRunning a). r.2 (subst (IsOver a) (same_Some finished.0 r.0 (sym finished.1 ∙ r.1)) finished.2) in
+    refused_to n m (Begin plan) (Some NoNumber) NoNumber _ after (begins_by_step (view n) plan a a (Err LeaderNoNumber) (leader_stands n peer a net has) is is (idle, last, refl)) refl
 begin_steps n plan _ m net h = absurd h

@@ -1,14 +1,10 @@
--- What reports tell together, and the queries of joined boards.
-use Rattle.std.proofs.Common.{◌≡◌, ℕ, zero, suc, ◌+◌, ◌-◌, ◌≤◌, List, [], ◌∷◌, ◌++◌, length, take, drop, refl, sym, ap, subst, ◌∙◌, arith}
+-- What reports tell together.
+use Rattle.std.proofs.Common.{◌≡◌, ℕ, zero, suc, ◌+◌, ◌-◌, ◌≤◌, List, [], ◌∷◌, ◌++◌, length, take, drop, refl, sym, ap, ◌∙◌, arith}
 use Rattle.std.specs.List.{AllByRecursion}
 use Rattle.squall_report.specs.declared.report.ReportKind.{ReportKind}
 use Rattle.squall_report.specs.Issues.{PlanPair}
-use Rattle.squall_report.specs.Queries.{Queries, SameQueries, joined_queries, queries_by_report}
-use Rattle.squall_report.specs.QueriesLaws.{same_queries}
 use Rattle.squall_board.specs.Boards.{BoardValue, IsBoard, empty_board, board_join, report_board}
-use Rattle.squall_board.specs.BoardQueries.{queries_of}
-use Rattle.squall_board.specs.BoardLaws.{board_laws, join_is, empty_is, tells_both, report_tells, joined_tells}
-use Rattle.squall_board.specs.BoardQueriesLaws.{merged_queries, report_join}
+use Rattle.squall_board.specs.BoardLaws.{board_laws, join_is, empty_is}
 use Rattle.squall_world.specs.Nets.{reports_to, reports_board}
 
 abbrev pub AreBoards : List (ReportKind PlanPair) → Type 0
@@ -124,17 +120,3 @@ none_join x a = join_comm empty_board x empty_is a ∙ join_none x a
 pub length_both : (ps qs : List (ReportKind PlanPair)) → length (ps ++ qs) ≡ length ps + length qs
 length_both [] qs = omega arith
 length_both (p ∷ ps) qs = let h = length_both ps qs in omega (arith, h)
-
--- ---- queries
-
-pub queries_join : (x y : BoardValue) → IsBoard x → IsBoard y → queries_of (board_join x y) ≡ joined_queries (queries_of x) (queries_of y)
-queries_join x y a b = same_queries (queries_of (board_join x y)) (joined_queries (queries_of x) (queries_of y)) ((merged_queries (board_join x y) x y).0 (tells_both x y a.nested b.nested))
-
-pub queries_report : (x : BoardValue) (r : ReportKind PlanPair) → IsBoard x → IsBoard (report_board r) → queries_of (board_join x (report_board r)) ≡ joined_queries (queries_of x) (queries_by_report r)
-queries_report x r a b = same_queries (queries_of (board_join x (report_board r))) (joined_queries (queries_of x) (queries_by_report r)) ((report_join (board_join x (report_board r)) x r).0 (joined_tells x (report_board r) _ a b (report_tells r)))
-
-pub same_self : (t : Queries) → SameQueries t t
-same_self t = record { loaded = λ c k. refl; done = λ c. refl; opened = λ n. refl; issued = λ n. refl }
-
-pub same_by : (t u : Queries) → t ≡ u → SameQueries t u
-same_by t u e = subst (SameQueries t) e (same_self t)

@@ -118,4 +118,4 @@ comer_stands n ps first ids i peers begun up limit apart low high =
 
 pub comers_new : (first : Change) (ids : List ℕ) → AllByRecursion (λ p. IsRole p.role) (part_peers first ids) → AllByRecursion IsNew (part_peers first ids)
 comers_new first [] valid = tt
-comers_new first (p ∷ ids) valid = (record { role = valid.0; board = refl; reports = refl; known = refl }, comers_new first ids valid.1)
+comers_new first (p ∷ ids) valid = (record { role = valid.0; board = refl; reports = refl; known = refl; extra = refl }, comers_new first ids valid.1)

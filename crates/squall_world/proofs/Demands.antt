@@ -23,7 +23,8 @@ use Rattle.squall_protocol.specs.declared.answer.Refusal.{Refusal}
 use Rattle.squall_world.specs.declared.peer.Role.TheVariants.{Part as PartRole}
 use Rattle.squall_world.specs.Nets.{PeerValue, NetValue, place_of, turned, reported}
 use Rattle.squall_world.specs.Acts.{Gives, Loads, Finishes}
-use Rattle.squall_world.specs.Events.{HasPart, with_gift, answer_of, give_refusal, load_refusal, finish_refusal, IsGiveIn, IsGiveAtIn, IsLoadIn, IsFinishIn}
+use Rattle.squall_nodes.specs.PartCalls.{give_refusal, load_refusal, finish_refusal}
+use Rattle.squall_world.specs.Events.{HasPart, with_gift, answer_of, IsGiveIn, IsGiveAtIn, IsLoadIn, IsFinishIn}
 use Rattle.squall_world.proofs.Standing.{put_is, has_part}
 
 -- a fault that is told as a refusal is no lack of memory, so it is what the node itself answered

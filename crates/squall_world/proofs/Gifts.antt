@@ -1,39 +1,30 @@
 -- A partition gives keys on: the step of the world.
-use Rattle.std.proofs.Common.{◌≡◌, ℕ, ◌+◌, ◌<◌, ◌==◌, Bool, true, false, not, [], ◌∷◌, ◌++◌, Some, Ok, Err, refl, sym, ap, subst, ◌∙◌, arith, inl, inr}
+use Rattle.std.proofs.Common.{◌≡◌, ℕ, ◌+◌, ◌<◌, ◌==◌, Bool, true, false, not, [], ◌∷◌, ◌++◌, length, Ok, Err, refl, sym, ap, subst, ◌∙◌, arith, inl, inr}
 use Rattle.std.specs.Prelude.{◌||◌, ◌&&◌}
 use Rattle.std.proofs.lemmas.List.{append-nil}
-use Rattle.std.proofs.lemmas.Bool.{and_parts}
-use Rattle.std.proofs.lemmas.Option.{same_Some, none-some}
 use Rattle.squall_span.specs.Spans.{Interval, has, span_has, interval}
-use Rattle.squall_course.specs.Change.{Change}
-use Rattle.squall_course.proofs.Moved.{within as within_span}
-use Rattle.squall_board.specs.Boards.{IsBoard}
 use Rattle.squall_board.specs.BoardQueries.{queries_of}
-use Rattle.squall_board.specs.CourseRouteLaws.{board_course}
-use Rattle.squall_part.specs.declared.giving.GiveFault.{GiveFault}
-use Rattle.squall_part.specs.declared.giving.GiveFault.TheVariants.{NotOpen as GiveNotOpen, NothingLeft as GiveNothingLeft, ZeroMax as GiveZeroMax, NotOutgoing as GiveNotOutgoing, Given as GiveGiven, NotHeld as GiveNotHeld, NoMemory as GiveNoMemory}
 use Rattle.squall_protocol.specs.Chunks.{ChunkValue}
-use Rattle.squall_part.specs.Parts.{PartValue, IsPart, course_of_part}
-use Rattle.squall_part.specs.Giving.{IsChunkOf, IsGiven, IsGivenAt, after_giving, goes_out}
-use Rattle.squall_protocol.specs.Firsts.{AreFirst}
+use Rattle.squall_part.specs.Parts.{PartValue, IsPart}
+use Rattle.squall_part.specs.Giving.{IsChunkOf, after_giving}
 use Rattle.squall_protocol.specs.declared.event.Node.TheVariants.{Part}
+use Rattle.squall_protocol.specs.declared.event.Event.TheVariants.{Give, GiveAt}
 use Rattle.squall_protocol.specs.declared.answer.Answer.{Answer}
 use Rattle.squall_protocol.specs.declared.answer.Answer.TheVariants.{Gave, Refused}
-use Rattle.squall_protocol.specs.declared.answer.Refusal.{Refusal}
-use Rattle.squall_protocol.specs.declared.answer.Refusal.TheVariants.{NotOpen, NothingLeft, ZeroMax, NotOutgoing, Given, NotHeld}
-use Rattle.squall_protocol.specs.Worlds.{SameWorld, is_part}
-use Rattle.squall_protocol.specs.Knowledge.{PartQueries, part_in as part_queries, IsCurrent, NoneOpen, goes_out as queries_out, is_left as queries_left}
-use Rattle.squall_protocol.specs.Steps.{IsGift, after_give, GiveStep, GiveAtStep}
+use Rattle.squall_protocol.specs.Worlds.{SameWorld}
+use Rattle.squall_protocol.specs.Steps.{after_give, GiveStep, GiveAtStep}
+use Rattle.squall_nodes.specs.PartCalls.{give_refusal}
+use Rattle.squall_nodes.proofs.Partitions.{held_after_giving, given_after_giving, loaded_after_giving}
+use Rattle.squall_nodes.proofs.Gifts.{gives_by_step, gives_at_by_step}
 use Rattle.squall_world.specs.declared.peer.Role.TheVariants.{Part as PartRole}
 use Rattle.squall_world.specs.Nets.{PeerValue, NetValue, IsNet, IsPeer, IsRole, turned, with_peer, peer_of, role_board, part_in, leader_in}
 use Rattle.squall_world.specs.Views.{view, part_of, held_by, given_under, loaded_under, opened_by}
-use Rattle.squall_world.specs.Events.{HasPart, IsGiveIn, IsGiveAtIn, with_gift, give_refusal}
+use Rattle.squall_world.specs.Events.{HasPart, IsGiveIn, IsGiveAtIn, with_gift}
 use Rattle.squall_world.proofs.Lists.{eq_refl, all_at}
-use Rattle.squall_world.proofs.Nodes.{IsChanged, each_part, node_there, no_node}
+use Rattle.squall_world.proofs.Nodes.{IsChanged, each_part, no_node}
 use Rattle.squall_world.proofs.History.{IsMore, history_of, history_more, more_turned}
 use Rattle.squall_world.proofs.Kept.{SameKind, changed, changed_net, rest_net}
-use Rattle.squall_world.proofs.Seen.{queries_of_part, part_seen, part_found, ids_kept, opened_kept, facts_kept, parts_kept, messages_kept, still}
-use Rattle.squall_world.proofs.Partitions.{held_after_giving, given_after_giving, loaded_after_giving, gift_carried}
+use Rattle.squall_world.proofs.Seen.{part_stands, part_found, ids_kept, opened_kept, facts_kept, parts_kept, messages_kept, still, step_to, refused_to}
 
 and_true : (b : Bool) → b ≡ (b && true)
 and_true true = refl
@@ -99,57 +90,6 @@ module _ (n : NetValue) (p at : ℕ) (peer : PeerValue) (a : PartValue) (x : Chu
     chunks = refl;
   }
 
-  pub gift_is : ((k : ℕ) → span_has x.span k ≡ true → goes_out a s k ≡ true) → IsGift (queries_of_part a) (course_of_part a) s x
-  gift_is out = record { number = chunk.number; sub_plan = chunk.sub_plan; source = chunk.source; carried = gift_carried a s x is_a chunk out }
-
--- ---- refusals
-
-pub there_seen : (n : NetValue) (p at : ℕ) (peer : PeerValue) (a : PartValue) → HasPart n p at peer a → is_part (view n) p ≡ true
-there_seen n p at peer a h = node_there n (Part p) at h.place
-
-give_refused : (n m : NetValue) (p most at : ℕ) (peer : PeerValue) (a : PartValue) (f : GiveFault) (e : Refusal) → IsNet n → HasPart n p at peer a → IsGiven a most (Err f) a → give_refusal f ≡ Some e → m ≡ n → GiveStep (view n) p most (Refused e) (view m)
-give_refused n m p most at peer a f e net h is refusal same = by f is refusal
-  where
-    t : part_queries (view n) p ≡ queries_of_part a
-    t = part_seen n p at peer a net h
-
-    board : IsBoard a.board
-    board = (part_valid n p at peer a net h).1.board
-
-    by : (f : GiveFault) → IsGiven a most (Err f) a → give_refusal f ≡ Some e → GiveStep (view n) p most (Refused e) (view m)
-    by GiveNotOpen is r = subst (λ v. GiveStep (view n) p most (Refused v) (view m)) (same_Some NotOpen e r)
-        (there_seen n p at peer a h, subst NoneOpen (sym t) (course_of_part a, board_course a.first a.board board, is.0), still n m same)
-    by GiveNothingLeft (sub, current, none, u) r = subst (λ v. GiveStep (view n) p most (Refused v) (view m)) (same_Some NothingLeft e r)
-        (there_seen n p at peer a h, subst (λ v. (c : Change) × (s : ℕ) × IsCurrent v c s × ((k : ℕ) → queries_left v c s k ≡ false)) (sym t) (course_of_part a, sub, (board_course a.first a.board board, current), none), still n m same)
-    by GiveZeroMax (sub, current, some, none, u) r = subst (λ v. GiveStep (view n) p most (Refused v) (view m)) (same_Some ZeroMax e r)
-        (there_seen n p at peer a h, subst (λ v. (c : Change) × (s : ℕ) × IsCurrent v c s × ((k : ℕ) × (queries_left v c s k ≡ true))) (sym t) (course_of_part a, sub, (board_course a.first a.board board, current), some), none, still n m same)
-    by GiveNotOutgoing is r = absurd is
-    by GiveGiven is r = absurd is
-    by GiveNotHeld is r = absurd is
-    by GiveNoMemory is r = absurd (none-some e r)
-
-give_at_refused : (n m : NetValue) (p k at : ℕ) (peer : PeerValue) (a : PartValue) (f : GiveFault) (e : Refusal) → IsNet n → HasPart n p at peer a → IsGivenAt a k (Err f) a → give_refusal f ≡ Some e → m ≡ n → GiveAtStep (view n) p k (Refused e) (view m)
-give_at_refused n m p k at peer a f e net h is refusal same = by f is refusal
-  where
-    t : part_queries (view n) p ≡ queries_of_part a
-    t = part_seen n p at peer a net h
-
-    board : IsBoard a.board
-    board = (part_valid n p at peer a net h).1.board
-
-    by : (f : GiveFault) → IsGivenAt a k (Err f) a → give_refusal f ≡ Some e → GiveAtStep (view n) p k (Refused e) (view m)
-    by GiveNotOpen is r = subst (λ v. GiveAtStep (view n) p k (Refused v) (view m)) (same_Some NotOpen e r)
-        (there_seen n p at peer a h, subst NoneOpen (sym t) (course_of_part a, board_course a.first a.board board, is.0), still n m same)
-    by GiveNothingLeft is r = absurd is
-    by GiveZeroMax is r = absurd is
-    by GiveNotOutgoing (sub, current, none, u) r = subst (λ v. GiveAtStep (view n) p k (Refused v) (view m)) (same_Some NotOutgoing e r)
-        (there_seen n p at peer a h, subst (λ v. (c : Change) × (s : ℕ) × IsCurrent v c s × (queries_out v c s k ≡ false)) (sym t) (course_of_part a, sub, (board_course a.first a.board board, current), none), still n m same)
-    by GiveGiven (sub, current, out, gone, u) r = subst (λ v. GiveAtStep (view n) p k (Refused v) (view m)) (same_Some Given e r)
-        (there_seen n p at peer a h, subst (λ (v : PartQueries). (c : Change) × (s : ℕ) × IsCurrent v c s × (queries_out v c s k ≡ true) × (v.given c.number k ≡ true)) (sym t) (course_of_part a, sub, (board_course a.first a.board board, current), out, gone), still n m same)
-    by GiveNotHeld (sub, current, out, kept, none, u) r = subst (λ v. GiveAtStep (view n) p k (Refused v) (view m)) (same_Some NotHeld e r)
-        (there_seen n p at peer a h, subst (λ (v : PartQueries). (c : Change) × (s : ℕ) × IsCurrent v c s × (queries_out v c s k ≡ true) × (v.given c.number k ≡ false) × (v.held k ≡ false)) (sym t) (course_of_part a, sub, (board_course a.first a.board board, current), out, kept, none), still n m same)
-    by GiveNoMemory is r = absurd (none-some e r)
-
 -- ---- the steps
 
 pub give_keeps : (n m : NetValue) (p most : ℕ) (answer : Answer) → IsNet n → IsGiveIn n p most (Ok answer) m → IsNet m
@@ -160,30 +100,18 @@ give_keeps n m p most (Refused e) net (inr (at, peer, a, f, h, is, r, same)) = s
 give_keeps n m p most answer net is = absurd is
 
 pub give_steps : (n m : NetValue) (p most : ℕ) (answer : Answer) → IsNet n → IsGiveIn n p most (Ok answer) m → GiveStep (view n) p most answer (view m)
-give_steps n m p most (Gave i x) net (at, peer, a, b, h, (sub, current, first, chunk, e), part, index, is) =
-    let t = part_seen n p at peer a net h in
-    let new = subst IsPart e part in
-    let board = (part_valid n p at peer a net h).1.board in (
-      there_seen n p at peer a h,
-      index,
-      subst (λ v. (c : Change) × (s : ℕ) × IsCurrent v c s × AreFirst (queries_left v c s) most x.span × IsGift v c s x) (sym t) (
-        course_of_part a,
-        sub,
-        (board_course a.first a.board board, current),
-        first,
-        gift_is n p at peer a x sub net h new chunk first.some (λ k has. (and_parts (goes_out a sub k) _ (first.keys k (within_span x.span k has).0 (within_span x.span k has).1)).0),
-      ),
-      subst (λ v. SameWorld (view v) (after_give (view n) x)) (sym (is ∙ ap (λ v. with_gift n at peer v x) e)) (gift_seen n p at peer a x sub net h new chunk first.some),
-    )
+give_steps n m p most (Gave i x) net (at, peer, a, b, h, given, part, index, is) =
+    let law = gives_by_step (view n) p most a b (Ok x) (part_stands n p at peer a net h) (part_valid n p at peer a net h).1 given in
+    let e = given.4 in
+    let seen : SameWorld (view m) (after_give (view n) x) = subst (λ v. SameWorld (view v) (after_give (view n) x)) (sym (is ∙ ap (λ v. with_gift n at peer v x) e)) (gift_seen n p at peer a x given.0 net h (subst IsPart e part) given.3 given.2.some) in
+    subst (λ j. GiveStep (view n) p most (Gave j x) (view m)) (sym index) (step_to (view n) law.0 (view m) (after_give (view n) x) (Give p most) (Gave (length n.chunks) x) law.1 law.1.3 seen)
 give_steps n m p most (Refused e) net (inl (none, r, same)) = subst (λ v. GiveStep (view n) p most (Refused v) (view m)) (sym r) (no_node n (Part p) none, still n m same)
-give_steps n m p most (Refused e) net (inr (at, peer, a, f, h, is, r, same)) = give_refused n m p most at peer a f e net h is r same
+give_steps n m p most (Refused e) net (inr (at, peer, a, f, h, is, r, same)) =
+    refused_to n m (Give p most) (give_refusal f) e _ same (gives_by_step (view n) p most a a (Err f) (part_stands n p at peer a net h) (part_valid n p at peer a net h).1 is) r
 give_steps n m p most answer net is = absurd is
 
 one_span : (s : Interval) (k : ℕ) → s ≡ interval k (k + 1) → s.lo < s.hi
 one_span s k e = subst (λ v. v.lo < v.hi) (sym e) (omega arith)
-
-only_key : (s : Interval) (k j : ℕ) → s ≡ interval k (k + 1) → span_has s j ≡ true → j ≡ k
-only_key s k j e has = let w = within_span (interval k (k + 1)) j (ap (λ v. span_has v j) (sym e) ∙ has) in omega (arith, w)
 
 pub give_at_keeps : (n m : NetValue) (p k : ℕ) (answer : Answer) → IsNet n → IsGiveAtIn n p k (Ok answer) m → IsNet m
 give_at_keeps n m p k (Gave i x) net (at, peer, a, b, h, (sub, current, out, kept, held, span, chunk, e), part, index, is) =
@@ -193,17 +121,12 @@ give_at_keeps n m p k (Refused e) net (inr (at, peer, a, f, h, is, r, same)) = s
 give_at_keeps n m p k answer net is = absurd is
 
 pub give_at_steps : (n m : NetValue) (p k : ℕ) (answer : Answer) → IsNet n → IsGiveAtIn n p k (Ok answer) m → GiveAtStep (view n) p k answer (view m)
-give_at_steps n m p k (Gave i x) net (at, peer, a, b, h, (sub, current, out, kept, held, span, chunk, e), part, index, is) =
-    let t = part_seen n p at peer a net h in
-    let new = subst IsPart e part in
-    let lt = one_span x.span k span in
-    let board = (part_valid n p at peer a net h).1.board in (
-      there_seen n p at peer a h,
-      index,
-      subst (λ (v : PartQueries). (c : Change) × (s : ℕ) × IsCurrent v c s × (queries_out v c s k ≡ true) × (v.given c.number k ≡ false) × (v.held k ≡ true) × (x.span ≡ interval k (k + 1)) × IsGift v c s x) (sym t)
-          (course_of_part a, sub, (board_course a.first a.board board, current), out, kept, held, span, gift_is n p at peer a x sub net h new chunk lt (λ j has. ap (goes_out a sub) (only_key x.span k j span has) ∙ out)),
-      subst (λ v. SameWorld (view v) (after_give (view n) x)) (sym (is ∙ ap (λ v. with_gift n at peer v x) e)) (gift_seen n p at peer a x sub net h new chunk lt),
-    )
+give_at_steps n m p k (Gave i x) net (at, peer, a, b, h, given, part, index, is) =
+    let law = gives_at_by_step (view n) p k a b (Ok x) (part_stands n p at peer a net h) (part_valid n p at peer a net h).1 given in
+    let e = given.7 in
+    let seen : SameWorld (view m) (after_give (view n) x) = subst (λ v. SameWorld (view v) (after_give (view n) x)) (sym (is ∙ ap (λ v. with_gift n at peer v x) e)) (gift_seen n p at peer a x given.0 net h (subst IsPart e part) given.6 (one_span x.span k given.5)) in
+    subst (λ j. GiveAtStep (view n) p k (Gave j x) (view m)) (sym index) (step_to (view n) law.0 (view m) (after_give (view n) x) (GiveAt p k) (Gave (length n.chunks) x) law.1 law.1.3 seen)
 give_at_steps n m p k (Refused e) net (inl (none, r, same)) = subst (λ v. GiveAtStep (view n) p k (Refused v) (view m)) (sym r) (no_node n (Part p) none, still n m same)
-give_at_steps n m p k (Refused e) net (inr (at, peer, a, f, h, is, r, same)) = give_at_refused n m p k at peer a f e net h is r same
+give_at_steps n m p k (Refused e) net (inr (at, peer, a, f, h, is, r, same)) =
+    refused_to n m (GiveAt p k) (give_refusal f) e _ same (gives_at_by_step (view n) p k a a (Err f) (part_stands n p at peer a net h) (part_valid n p at peer a net h).1 is) r
 give_at_steps n m p k answer net is = absurd is

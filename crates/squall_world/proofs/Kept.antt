@@ -12,7 +12,7 @@ use Rattle.squall_protocol.specs.declared.event.Node.{Node}
 use Rattle.squall_protocol.specs.declared.event.Node.TheVariants.{Part}
 use Rattle.squall_world.specs.declared.peer.Role.{Role}
 use Rattle.squall_world.specs.declared.peer.Role.TheVariants.{Leader as LeaderRole, Part as PartRole, Router as RouterRole}
-use Rattle.squall_world.specs.Nets.{PeerValue, NetValue, with_peer, IsNet, IsLed, IsRouterAt, IsPartAt, place_of, put_at, is_part_role}
+use Rattle.squall_world.specs.Nets.{PeerValue, NetValue, MessageValue, with_peer, IsNet, IsLed, IsRouterAt, IsPartAt, place_of, put_at, is_part_role}
 use Rattle.squall_world.specs.Views.{id_of}
 use Rattle.squall_world.proofs.Lists.{eq_same, eq_apart, length_put, put_here, put_there}
 use Rattle.squall_world.proofs.Nodes.{IsChanged, place_kept}
@@ -75,10 +75,10 @@ still_router r s l e k = by s (subst (λ v. SameKind v s) e k)
     by (RouterRole b) k = (b, refl, k)
 
 -- the same nodes, with other messages and chunks
-abbrev pub with_rest : NetValue → List (List ℕ) → List ChunkValue → NetValue
+abbrev pub with_rest : NetValue → List MessageValue → List ChunkValue → NetValue
 with_rest n ms cs = record n { messages = ms; chunks = cs }
 
-pub rest_net : (n : NetValue) (ms : List (List ℕ)) (cs : List ChunkValue) → IsNet n → IsHistory n.peers ms → IsNet (with_rest n ms cs)
+pub rest_net : (n : NetValue) (ms : List MessageValue) (cs : List ChunkValue) → IsNet n → IsHistory n.peers ms → IsNet (with_rest n ms cs)
 rest_net n ms cs net h = record {
   some = net.some;
   chain = net.chain;

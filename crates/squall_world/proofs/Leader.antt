@@ -11,7 +11,8 @@ use Rattle.squall_protocol.specs.declared.answer.Refusal.{Refusal}
 use Rattle.squall_world.specs.declared.peer.Role.TheVariants.{Leader as LeaderRole}
 use Rattle.squall_world.specs.Nets.{PeerValue, NetValue, reported, IsNet, newest_of}
 use Rattle.squall_world.specs.Acts.{Opens}
-use Rattle.squall_world.specs.Events.{HasLeader, answer_of, open_refusal, IsOpenIn}
+use Rattle.squall_nodes.specs.LeaderCalls.{open_refusal}
+use Rattle.squall_world.specs.Events.{HasLeader, answer_of, IsOpenIn}
 use Rattle.squall_world.proofs.Standing.{put_is, leader_there, leader_course}
 use Rattle.squall_world.proofs.Demands.{put_in, unchanged, refused_by}
 

@@ -1,47 +1,37 @@
 -- A partition loads a chunk, and reports that it has all: the steps of the world.
-use Rattle.std.proofs.Common.{◌≡◌, ℕ, ◌<◌, ◌≤◌, ◌==◌, Bool, true, false, not, [], ◌∷◌, Some, Ok, Err, refl, sym, ap, subst, ◌∙◌, inl, inr}
+use Rattle.std.proofs.Common.{◌≡◌, ℕ, ◌<◌, ◌==◌, Bool, true, false, not, [], ◌∷◌, Some, Ok, Err, refl, sym, ap, subst, ◌∙◌, inl, inr}
 use Rattle.std.specs.Prelude.{◌||◌, ◌&&◌}
-use Rattle.std.specs.List.{slice_get}
-use Rattle.std.proofs.lemmas.Option.{same_Some, none-some}
+use Rattle.std.proofs.lemmas.Option.{same_Some}
 use Rattle.squall_span.specs.Spans.{has, span_has}
-use Rattle.squall_course.specs.Change.{Change}
-use Rattle.squall_report.specs.Queries.{Queries, joined_queries, queries_by_report, done_queries}
+use Rattle.squall_report.specs.Queries.{joined_queries, queries_by_report}
 use Rattle.squall_report.specs.declared.report.ReportKind.{ReportKind}
 use Rattle.squall_report.specs.Issues.{PlanPair}
-use Rattle.squall_report.specs.Cells.{place_at}
-use Rattle.squall_report.specs.declared.report.ReportKind.TheVariants.{Done as DoneReport}
-use Rattle.squall_board.specs.CourseRoute.{IsCourseBy}
 use Rattle.squall_board.specs.Boards.{IsBoard, board_join, report_board}
 use Rattle.squall_board.specs.BoardQueries.{queries_of}
-use Rattle.squall_board.specs.CourseRouteLaws.{board_course}
-use Rattle.squall_part.specs.declared.loading.LoadFault.{LoadFault}
-use Rattle.squall_part.specs.declared.loading.LoadFault.TheVariants.{NotOpen as LoadNotOpen, Stranger as LoadStranger, NoMemory as LoadNoMemory}
-use Rattle.squall_part.specs.declared.finishing.FinishFault.{FinishFault}
-use Rattle.squall_part.specs.declared.finishing.FinishFault.TheVariants.{NotOpen as FinishNotOpen, NotAll as FinishNotAll, NothingDue as FinishNothingDue, NoMemory as FinishNoMemory}
+use Rattle.squall_part.specs.declared.loading.Load.TheVariants.{Again as LoadAgain, Loaded as LoadLoaded}
 use Rattle.squall_protocol.specs.Chunks.{ChunkValue, load_report}
-use Rattle.squall_part.specs.Parts.{PartValue, IsPart, known_to, opened_at, course_of_part}
-use Rattle.squall_part.specs.Loading.{IsLoaded, IsFinished, MayLoad as MayLoadPart, after_load as part_after_load, done_report, after_finish}
-use Rattle.squall_protocol.specs.Firsts.{IsRun}
+use Rattle.squall_part.specs.Parts.{PartValue, IsPart, opened_at, course_of_part}
+use Rattle.squall_part.specs.Loading.{MayLoad as MayLoadPart, after_load as part_after_load, done_report, after_finish}
 use Rattle.squall_protocol.specs.declared.event.Node.TheVariants.{Part}
+use Rattle.squall_protocol.specs.declared.event.Event.TheVariants.{Load as LoadEvent, Finish}
 use Rattle.squall_protocol.specs.declared.answer.Answer.{Answer}
 use Rattle.squall_protocol.specs.declared.answer.Answer.TheVariants.{Loaded, Again, Finished, Refused}
-use Rattle.squall_protocol.specs.declared.answer.Refusal.{Refusal}
-use Rattle.squall_protocol.specs.declared.answer.Refusal.TheVariants.{NotOpen, Stranger, NotAll, NothingDue}
 use Rattle.squall_protocol.specs.Worlds.{SameWorld}
-use Rattle.squall_protocol.specs.Knowledge.{PartQueries, part_in as part_queries, Knows, comes_in as queries_in, is_missing as queries_missing}
-use Rattle.squall_protocol.specs.Steps.{IsArriving, MayLoad, after_load, after_told, LoadStep, FinishStep}
+use Rattle.squall_protocol.specs.Steps.{after_load, after_told, LoadStep, FinishStep}
+use Rattle.squall_nodes.specs.PartCalls.{load_refusal, finish_refusal}
+use Rattle.squall_nodes.proofs.Agree.{queries_report}
+use Rattle.squall_nodes.proofs.Partitions.{held_after_load, loaded_after_load, given_after_load, span_some, load_board, done_board}
+use Rattle.squall_nodes.proofs.Loads.{loads_by_step, finishes_by_step}
 use Rattle.squall_world.specs.declared.peer.Role.TheVariants.{Part as PartRole}
 use Rattle.squall_world.specs.Nets.{PeerValue, NetValue, IsNet, reported, with_peer, peer_of, role_board, part_in, leader_in}
 use Rattle.squall_world.specs.Views.{view, part_of, held_by, given_under, loaded_under, opened_by}
-use Rattle.squall_world.specs.Events.{HasPart, IsLoadIn, IsFinishIn, with_report, load_refusal, finish_refusal}
+use Rattle.squall_world.specs.Events.{HasPart, IsLoadIn, IsFinishIn, with_report}
 use Rattle.squall_world.proofs.Lists.{eq_refl}
 use Rattle.squall_world.proofs.Nodes.{IsChanged, each_part, no_node, first_number}
-use Rattle.squall_world.proofs.Boards.{queries_report}
 use Rattle.squall_world.proofs.History.{IsMore, history_of, more_reported}
 use Rattle.squall_world.proofs.Kept.{SameKind, changed, changed_net}
-use Rattle.squall_world.proofs.Seen.{queries_of_part, part_seen, part_found, part_is_there, ids_kept, opened_kept, facts_told, facts_found, parts_kept, messages_kept, still}
-use Rattle.squall_world.proofs.Partitions.{held_after_load, loaded_after_load, given_after_load, span_some, load_board, done_board}
-use Rattle.squall_world.proofs.Gifts.{part_valid, there_seen}
+use Rattle.squall_world.proofs.Seen.{part_stands, part_found, part_is_there, ids_kept, opened_kept, facts_told, parts_kept, messages_kept, still, step_to, refused_to}
+use Rattle.squall_world.proofs.Gifts.{part_valid}
 
 or_none : (b c : Bool) → b ≡ (b || (c && false))
 or_none true c = refl
@@ -130,32 +120,6 @@ module _ (n : NetValue) (i at : ℕ) (x : ChunkValue) (peer : PeerValue) (a : Pa
     chunks = refl;
   }
 
-module _ (n : NetValue) (i at : ℕ) (x : ChunkValue) (peer : PeerValue) (a : PartValue) (net : IsNet n) (h : HasPart n x.dest at peer a) where
-  pub arriving : slice_get n.chunks i ≡ Some x → IsArriving (view n) i x
-  arriving e = record { chunk = e; dest = there_seen n x.dest at peer a h }
-
-  knows : (c : Change) → known_to a x.number ≡ Some c → Knows (part_queries (view n) x.dest) x.number c
-  knows c e = subst (λ v. Knows v x.number c) (sym (part_seen n x.dest at peer a net h)) e
-
-  known : (c : Change) → Knows (part_queries (view n) x.dest) x.number c → known_to a x.number ≡ Some c
-  known c e = subst (λ v. Knows v x.number c) (part_seen n x.dest at peer a net h) e
-
-  count : (view n).facts (Part x.dest) ≡ queries_of a.board
-  count = facts_found n x.dest at peer a h
-
-  pub may_seen : MayLoadPart a x → MayLoad (view n) x
-  may_seen (c, k, o, here, f) = record { course = c; known = knows c k; opened = subst (λ (t : Queries). x.sub < t.opened x.number) (sym count) o; fits = f }
-
-  may_part : MayLoad (view n) x → MayLoadPart a x
-  may_part m = (m.course, known m.course m.known, subst (λ (t : Queries). x.sub < t.opened x.number) count m.opened, sym h.id, m.fits)
-
-  pub load_refused : (m : NetValue) (f : LoadFault) (e : Refusal) → slice_get n.chunks i ≡ Some x → IsLoaded a x (Err f) a → load_refusal f ≡ Some e → m ≡ n → LoadStep (view n) i (Refused e) (view m)
-  load_refused m LoadNotOpen e chunk (k, o, u) r same = subst (λ v. LoadStep (view n) i (Refused v) (view m)) (same_Some NotOpen e r)
-      ((x, arriving chunk, (k.0, knows k.0 k.1), subst (λ (t : Queries). t.opened x.number ≤ x.sub) (sym count) o), still n m same)
-  load_refused m LoadStranger e chunk (none, o, u) r same = subst (λ v. LoadStep (view n) i (Refused v) (view m)) (same_Some Stranger e r)
-      ((x, arriving chunk, (λ may. none (may_part may)), (λ c k. subst (λ (t : Queries). x.sub < t.opened x.number) (sym count) (o c (known c k)))), still n m same)
-  load_refused m LoadNoMemory e chunk is r same = absurd (none-some e r)
-
 pub load_keeps : (n m : NetValue) (i : ℕ) (answer : Answer) → IsNet n → IsLoadIn n i (Ok answer) m → IsNet m
 load_keeps n m i (Loaded report) net (x, at, peer, a, b, chunk, h, (may, missing, r, e), part, is) =
     subst IsNet (sym (is ∙ (λ j. with_report n at peer (PartRole (e j)) (r j)))) (load_net n i at x peer a net h (subst IsPart e part) may (span_some x.span missing.0 missing.1))
@@ -166,19 +130,21 @@ load_keeps n m i (Refused e) net (inr (inr (x, at, peer, a, f, chunk, h, is, r, 
 load_keeps n m i answer net is = absurd is
 
 pub load_steps : (n m : NetValue) (i : ℕ) (answer : Answer) → IsNet n → IsLoadIn n i (Ok answer) m → LoadStep (view n) i answer (view m)
-load_steps n m i (Loaded report) net (x, at, peer, a, b, chunk, h, (may, missing, r, e), part, is) = (
-  x,
-  arriving n i at x peer a net h chunk,
-  may_seen n i at x peer a net h may,
-  (missing.0, missing.1, ap (λ o. loaded_under o x.number missing.0) (part_found n x.dest at peer a h) ∙ missing.2),
-  r,
-  subst (λ v. SameWorld (view v) (after_load (view n) x)) (sym (is ∙ (λ j. with_report n at peer (PartRole (e j)) (r j)))) (load_seen n i at x peer a net h (subst IsPart e part) may (span_some x.span missing.0 missing.1)),
-)
-load_steps n m i Again net (x, at, peer, a, chunk, h, (may, all, u), same) =
-    ((x, arriving n i at x peer a net h chunk, may_seen n i at x peer a net h may, (λ k has. ap (λ o. loaded_under o x.number k) (part_found n x.dest at peer a h) ∙ all k has)), still n m same)
+load_steps n m i (Loaded report) net (x, at, peer, a, b, chunk, h, loaded, part, is) =
+    let law = loads_by_step (view n) i x a b (Ok (LoadLoaded report)) (part_stands n x.dest at peer a net h) (part_valid n x.dest at peer a net h).1 chunk loaded in
+    let y = law.1.0 in
+    let one : y ≡ x = same_Some y x (sym law.1.1.chunk ∙ chunk) in
+    let to : SameWorld law.0 (after_load (view n) x) = subst (λ z. SameWorld law.0 (after_load (view n) z)) one law.1.5 in
+    let e = loaded.3 in
+    step_to (view n) law.0 (view m) (after_load (view n) x) (LoadEvent i) (Loaded report) law.1 to
+    (subst (λ v. SameWorld (view v) (after_load (view n) x)) (sym (is ∙ (λ j. with_report n at peer (PartRole (e j)) (loaded.2 j)))) (load_seen n i at x peer a net h (subst IsPart e part) loaded.0 (span_some x.span loaded.1.0 loaded.1.1)))
+load_steps n m i Again net (x, at, peer, a, chunk, h, loaded, same) =
+    let law = loads_by_step (view n) i x a a (Ok LoadAgain) (part_stands n x.dest at peer a net h) (part_valid n x.dest at peer a net h).1 chunk loaded in
+    step_to (view n) law.0 (view m) (view n) (LoadEvent i) Again law.1 law.1.1 (still n m same)
 load_steps n m i (Refused e) net (inl (none, r, same)) = subst (λ v. LoadStep (view n) i (Refused v) (view m)) (sym r) (inl none, still n m same)
 load_steps n m i (Refused e) net (inr (inl (x, chunk, (none, r, same)))) = subst (λ v. LoadStep (view n) i (Refused v) (view m)) (sym r) (inr (x, chunk, no_node n (Part x.dest) none), still n m same)
-load_steps n m i (Refused e) net (inr (inr (x, at, peer, a, f, chunk, h, is, r, same))) = load_refused n i at x peer a net h m f e chunk is r same
+load_steps n m i (Refused e) net (inr (inr (x, at, peer, a, f, chunk, h, is, r, same))) =
+    refused_to n m (LoadEvent i) (load_refusal f) e _ same (loads_by_step (view n) i x a a (Err f) (part_stands n x.dest at peer a net h) (part_valid n x.dest at peer a net h).1 chunk is) r
 load_steps n m i answer net is = absurd is
 
 -- ---- a completion
@@ -186,21 +152,6 @@ load_steps n m i answer net is = absurd is
 module _ (n : NetValue) (p s at : ℕ) (peer : PeerValue) (a : PartValue) (net : IsNet n) (h : HasPart n p at peer a) where
   is_f : IsPart a
   is_f = (part_valid n p at peer a net h).1
-
-  t : part_queries (view n) p ≡ queries_of_part a
-  t = part_seen n p at peer a net h
-
-  course : IsCourseBy a.first (queries_of a.board) (course_of_part a)
-  course = board_course a.first a.board is_f.board
-
-  pub finish_refused : (m : NetValue) (f : FinishFault) (e : Refusal) → IsFinished a s (Err f) a → finish_refusal f ≡ Some e → m ≡ n → FinishStep (view n) p s (Refused e) (view m)
-  finish_refused m FinishNotOpen e (few, u) r same = subst (λ v. FinishStep (view n) p s (Refused v) (view m)) (same_Some NotOpen e r)
-      (there_seen n p at peer a h, subst (λ (v : PartQueries). (c : Change) × IsCourseBy v.first v.told c × (v.told.opened c.number ≤ s)) (sym t) (course_of_part a, course, few), still n m same)
-  finish_refused m (FinishNotAll span) e (many, run, u) r same = subst (λ v. FinishStep (view n) p s (Refused v) (view m)) (same_Some (NotAll span) e r)
-      (there_seen n p at peer a h, subst (λ (v : PartQueries). (c : Change) × (IsCourseBy v.first v.told c × (s < v.told.opened c.number)) × IsRun (queries_missing v c s) span) (sym t) (course_of_part a, (course, many), run), still n m same)
-  finish_refused m FinishNothingDue e (many, none, u) r same = subst (λ v. FinishStep (view n) p s (Refused v) (view m)) (same_Some NothingDue e r)
-      (there_seen n p at peer a h, subst (λ (v : PartQueries). (c : Change) × (IsCourseBy v.first v.told c × (s < v.told.opened c.number)) × ((k : ℕ) → queries_in v c s k ≡ false)) (sym t) (course_of_part a, (course, many), none), still n m same)
-  finish_refused m FinishNoMemory e is r same = absurd (none-some e r)
 
   abbrev finisher : PeerValue
   finisher = reported at peer (PartRole (after_finish a s)) (done_report a s)
@@ -241,19 +192,15 @@ finish_keeps n m p s (Refused e) net (inr (at, peer, a, f, h, is, r, same)) = su
 finish_keeps n m p s answer net is = absurd is
 
 pub finish_steps : (n m : NetValue) (p s : ℕ) (answer : Answer) → IsNet n → IsFinishIn n p s (Ok answer) m → FinishStep (view n) p s answer (view m)
-finish_steps n m p s (Finished report) net (at, peer, a, b, h, (many, none, some, r, e), part, is) =
-    let c = course_of_part a in (
-      there_seen n p at peer a h,
-      (
-        c,
-        (subst (λ (v : PartQueries). IsCourseBy v.first v.told c × (s < v.told.opened c.number)) (sym (part_seen n p at peer a net h)) (board_course a.first a.board (part_valid n p at peer a net h).1.board, many)),
-        (subst (λ (v : PartQueries). (k : ℕ) → queries_missing v c s k ≡ false) (sym (part_seen n p at peer a net h)) none),
-        (subst (λ (v : PartQueries). (k : ℕ) × (queries_in v c s k ≡ true)) (sym (part_seen n p at peer a net h)) some),
-        r ∙ ap (DoneReport c.number s) h.id,
-        (subst (λ v. SameWorld (view v) (after_told (view n) (Part p) (done_queries (place_at c.number s p)))) (sym (is ∙ (λ j. with_report n at peer (PartRole (e j)) (r j))))
-            (subst (λ q. SameWorld (view (with_report n at peer (PartRole (after_finish a s)) (done_report a s))) (after_told (view n) (Part p) (done_queries (place_at c.number s q)))) h.id (finish_seen n p s at peer a net h (subst IsPart e part) many))),
-      ),
-    )
+finish_steps n m p s (Finished report) net (at, peer, a, b, h, finished, part, is) =
+    let law = finishes_by_step (view n) p s a b (Ok report) (part_stands n p at peer a net h) (part_valid n p at peer a net h).1 finished in
+    let e = finished.4 in
+    let seen : SameWorld (view m) (after_told (view n) (Part p) (queries_by_report report)) =
+    subst (λ r. SameWorld (view m) (after_told (view n) (Part p) (queries_by_report r))) (sym finished.3)
+    (subst (λ v. SameWorld (view v) (after_told (view n) (Part p) (queries_by_report (done_report a s)))) (sym (is ∙ (λ j. with_report n at peer (PartRole (e j)) (finished.3 j)))) (finish_seen n p s at peer a net h (subst IsPart e part) finished.0)) in
+    let told : SameWorld law.0 (after_told (view n) (Part p) (queries_by_report report)) = subst (λ r. SameWorld law.0 (after_told (view n) (Part p) (queries_by_report r))) (sym law.1.1.4) law.1.1.5 in
+    step_to (view n) law.0 (view m) (after_told (view n) (Part p) (queries_by_report report)) (Finish p s) (Finished report) law.1 told seen
 finish_steps n m p s (Refused e) net (inl (none, r, same)) = subst (λ v. FinishStep (view n) p s (Refused v) (view m)) (sym r) (no_node n (Part p) none, still n m same)
-finish_steps n m p s (Refused e) net (inr (at, peer, a, f, h, is, r, same)) = finish_refused n p s at peer a net h m f e is r same
+finish_steps n m p s (Refused e) net (inr (at, peer, a, f, h, is, r, same)) =
+    refused_to n m (Finish p s) (finish_refusal f) e _ same (finishes_by_step (view n) p s a a (Err f) (part_stands n p at peer a net h) (part_valid n p at peer a net h).1 is) r
 finish_steps n m p s answer net is = absurd is

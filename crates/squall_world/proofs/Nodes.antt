@@ -18,8 +18,9 @@ use Rattle.squall_world.specs.declared.peer.Role.{Role}
 use Rattle.squall_world.specs.declared.peer.Role.TheVariants.{Leader as LeaderRole, Part as PartRole, Router as RouterRole}
 use Rattle.squall_world.specs.Nets.{PeerValue, NetValue, with_peer, IsNet, IsLed, IsRouterAt, IsPartAt, place_of, peer_of, IsChain, no_course, at_place, put_at, is_part_role, is_part_peer, first_of}
 use Rattle.squall_world.specs.Views.{view, id_of, part_of}
+use Rattle.squall_nodes.proofs.Agree.{same_refl}
 use Rattle.squall_world.proofs.Courses.{get_any}
-use Rattle.squall_world.proofs.Lists.{eq_refl, eq_same, put_here, put_there, place_put, place_found, place_is, within}
+use Rattle.squall_world.proofs.Lists.{eq_same, put_here, put_there, place_put, place_found, place_is, within}
 
 true_false : true ≡ false → ⊥
 true_false e = cc
@@ -113,11 +114,6 @@ same_place n (Part p) (Router s) i net d e = absurd (let h = (part_there n p i n
 same_place n (Router r) Leader i net d e = absurd (let z : 0 ≡ i = same_Some 0 i e in let h = (router_place n r i d).1 in omega (arith, h, z))
 same_place n (Router r) (Part q) i net d e = absurd (let h = (part_there n q i net e).after in let x = router_place n r i d in let lt = x.0 in let at = x.1 in omega (arith, h, lt, at))
 same_place n (Router r) (Router s) i net d e = let x = (router_place n r i d).1 in let y = (router_place n s i e).1 in ap Router (omega (arith, x, y))
-
-pub same_refl : (a : Node) → same_node a a ≡ true
-same_refl Leader = refl
-same_refl (Part p) = eq_refl p
-same_refl (Router r) = eq_refl r
 
 pub same_is : (a b : Node) → same_node a b ≡ true → a ≡ b
 same_is Leader Leader e = refl

@@ -1,47 +1,35 @@
 -- The leader opens the next sub-plan.
 use Rattle.std.proofs.Common.{◌≡◌, ℕ, ◌+◌, ◌<◌, ◌≤◌, [], ◌∷◌, None, Some, Ok, Err, refl, sym, ap, subst, ◌∙◌, arith}
-use Rattle.std.proofs.lemmas.Option.{same_Some, none-some}
+use Rattle.std.proofs.lemmas.Option.{same_Some}
 use Rattle.squall_course.specs.Change.{Change}
 use Rattle.squall_course.specs.Subplans.{subplan_count}
 use Rattle.squall_course.proofs.Tabled.{most_few}
-use Rattle.squall_report.specs.declared.report.ReportKind.{ReportKind}
-use Rattle.squall_report.specs.declared.report.ReportKind.TheVariants.{Loaded as LoadedReport, Done as DoneReport, Opened as OpenedReport, Issued as IssuedReport}
-use Rattle.squall_report.specs.Issues.{PlanPair}
 use Rattle.squall_report.specs.Queries.{joined_queries, opened_queries}
 use Rattle.squall_board.specs.Boards.{IsBoard, board_join, report_board}
 use Rattle.squall_board.specs.BoardQueries.{queries_of}
 use Rattle.squall_board.specs.BoardLaws.{opening_board_is}
-use Rattle.squall_leader.specs.declared.fault.LeaderFault.{LeaderFault}
-use Rattle.squall_leader.specs.declared.fault.LeaderFault.TheVariants.{Running as LeaderRunning, NoNumber as LeaderNoNumber, Idle as LeaderIdle, NotDone as LeaderNotDone, NoMore as LeaderNoMore, NoMemory as LeaderNoMemory}
-use Rattle.squall_leader.specs.Leaders.{LeaderValue, IsLeader, IsOpened, open_report, waited_after}
+use Rattle.squall_leader.specs.Leaders.{LeaderValue, IsLeader, IsOpened, open_report}
 use Rattle.squall_protocol.specs.declared.event.Node.TheVariants.{Leader}
+use Rattle.squall_protocol.specs.declared.event.Event.TheVariants.{OpenNext}
 use Rattle.squall_protocol.specs.declared.answer.Answer.{Answer}
 use Rattle.squall_protocol.specs.declared.answer.Answer.TheVariants.{Opened, Refused}
-use Rattle.squall_protocol.specs.declared.answer.Refusal.{Refusal}
-use Rattle.squall_protocol.specs.declared.answer.Refusal.TheVariants.{NotDone, NoMore}
 use Rattle.squall_protocol.specs.Worlds.{SameWorld}
 use Rattle.squall_protocol.specs.Steps.{OpenStep, after_open}
+use Rattle.squall_nodes.specs.LeaderCalls.{open_refusal, opened_sub}
+use Rattle.squall_nodes.proofs.Agree.{queries_report}
+use Rattle.squall_nodes.proofs.Leads.{one_course, opens_by_step}
 use Rattle.squall_world.specs.declared.peer.Role.TheVariants.{Leader as LeaderRole}
 use Rattle.squall_world.specs.Nets.{PeerValue, NetValue, IsNet, role_board, part_in}
 use Rattle.squall_world.specs.Views.{view, opened_in, held_by, given_under, loaded_under}
-use Rattle.squall_world.specs.Events.{HasLeader, IsOpenIn, open_refusal, with_report}
+use Rattle.squall_world.specs.Events.{HasLeader, IsOpenIn, with_report}
 use Rattle.squall_world.proofs.Lists.{put_here}
 use Rattle.squall_world.proofs.Nodes.{IsChanged}
-use Rattle.squall_world.proofs.Boards.{queries_report}
 use Rattle.squall_world.proofs.Kept.{SameKind, changed, changed_net}
-use Rattle.squall_world.proofs.Seen.{ids_kept, facts_told, parts_kept, messages_kept, still}
-use Rattle.squall_world.proofs.Led.{IsSeen, leader_seen, number_seen, count_seen, awaited_seen, wanting_awaited, none_seen, leader_reports, leader_more, leader_is}
-use Rattle.squall_world.proofs.Waiting.{least_awaited}
-
-abbrev sub_in : ReportKind PlanPair → ℕ
-sub_in (LoadedReport number sub part span) = sub
-sub_in (DoneReport number sub part) = sub
-sub_in (OpenedReport number sub) = sub
-sub_in (IssuedReport number issue) = 0
+use Rattle.squall_world.proofs.Seen.{ids_kept, facts_told, parts_kept, messages_kept, step_to, refused_to}
+use Rattle.squall_world.proofs.Led.{leader_stands, leader_reports, leader_more, leader_is}
 
 -- what opening says, with the course and the sub-plan
 record IsOpening (a b : LeaderValue) (c : Change) (s : ℕ) : Type 0 where
-  none : waited_after c a.board a.opened ≡ None
   below : a.opened < subplan_count c.old c.new
   sub : s ≡ a.opened
   course : b.course ≡ a.course
@@ -51,9 +39,8 @@ record IsOpening (a b : LeaderValue) (c : Change) (s : ℕ) : Type 0 where
 opening : (a b : LeaderValue) (c : Change) (s : ℕ) → a.course ≡ Some c → IsOpened a (Ok (open_report c s)) b → IsOpening a b c s
 opening a b c s course (d, is, none, below, report, after) =
     let one : d ≡ c = same_Some d c (sym is ∙ course) in
-    let at : s ≡ a.opened = ap sub_in report in
+    let at : s ≡ a.opened = ap opened_sub report in
     record {
-      none = ap (λ e. waited_after e a.board a.opened) (sym one) ∙ none;
       below = subst (λ (e : Change). a.opened < subplan_count e.old e.new) one below;
       sub = at;
       course = ap (λ (l : LeaderValue). l.course) after;
@@ -85,7 +72,8 @@ module _ (n : NetValue) (peer : PeerValue) (a b : LeaderValue) (c : Change) (s :
 
   opened_world : SameWorld (view (with_report n 0 peer (LeaderRole b) (open_report c s))) (after_open (view n))
   opened_world =
-      let seen : IsSeen n a c = leader_seen n peer a c net has course in
+      let seen = leader_stands n peer a net has in
+      let number : c.number ≡ (view n).last = ap (λ (d : Change). d.number) (one_course (view n) a seen (leader_is n peer a net has) c course) in
       let new = leader_reports peer b (open_report c s) in
       record {
         plan = λ i. refl;
@@ -98,7 +86,7 @@ module _ (n : NetValue) (peer : PeerValue) (a b : LeaderValue) (c : Change) (s :
         loaded = λ m p k. parts_kept n Leader 0 peer new net is_changed (λ x. loaded_under x m k) (ap (λ x. loaded_under x m k) (sym no_part)) p;
         facts = facts_told n Leader 0 peer new net is_changed (opened_queries (view n).last (view n).opened)
             (ap queries_of o.board ∙ queries_report a.board (open_report c s) (leader_is n peer a net has).board is_board
-            ∙ (λ i. joined_queries (queries_of (role_board (sym has.role i))) (opened_queries (number_seen n a c seen i) ((o.sub ∙ sym seen.opened) i))));
+            ∙ (λ i. joined_queries (queries_of (role_board (sym has.role i))) (opened_queries (number i) ((o.sub ∙ sym seen.opened) i))));
         messages = messages_kept n Leader 0 peer new net is_changed (open_report c s ∷ []) refl n.messages net.messages;
         chunks = refl;
       }
@@ -108,30 +96,11 @@ open_keeps n (Opened s) m net (peer, a, b, c, has, course, opened, is, after) = 
 open_keeps n (Refused e) m net (peer, a, f, has, opened, refusal, after) = subst IsNet (sym after) net
 open_keeps n _ m net h = absurd h
 
-refused : (n : NetValue) (peer : PeerValue) (a : LeaderValue) (f : LeaderFault) (e : Refusal) (m : NetValue) → IsNet n → HasLeader n peer a → IsOpened a (Err f) a → open_refusal f ≡ Some e → m ≡ n → OpenStep (view n) (Refused e) (view m)
-refused n peer a LeaderRunning e m net has h refusal after = absurd h
-refused n peer a LeaderNoNumber e m net has h refusal after = absurd h
-refused n peer a LeaderIdle e m net has h refusal after = absurd (none-some e refusal)
-refused n peer a (LeaderNotDone sub part) e m net has (c, course, opened, waited, same) refusal after =
-    let seen : IsSeen n a c = leader_seen n peer a c net has course in
-    let least = least_awaited c a.board a.opened sub part seen.plans opened waited in
-    subst (λ r. OpenStep (view n) (Refused r) (view m)) (same_Some (NotDone sub part) e refusal)
-    (awaited_seen n a c sub part seen least.0, (λ p lt is. least.1 p lt (wanting_awaited n a c sub p seen is)), still n m after)
-refused n peer a LeaderNoMore e m net has (c, course, none, all, same) refusal after =
-    let seen : IsSeen n a c = leader_seen n peer a c net has course in
-    subst (λ r. OpenStep (view n) (Refused r) (view m)) (same_Some NoMore e refusal)
-    ((seen.opened ∙ all ∙ sym (count_seen n a c seen), none_seen n a c seen none), still n m after)
-refused n peer a LeaderNoMemory e m net has h refusal after = absurd (none-some e refusal)
-
 pub open_steps : (n : NetValue) (answer : Answer) (m : NetValue) → IsNet n → IsOpenIn n (Ok answer) m → OpenStep (view n) answer (view m)
 open_steps n (Opened s) m net (peer, a, b, c, has, course, opened, is, after) =
-    let o : IsOpening a b c s = opening a b c s course opened in
-    let seen : IsSeen n a c = leader_seen n peer a c net has course in
-    let below : a.opened < subplan_count c.old c.new = o.below in (
-      o.sub ∙ sym seen.opened,
-      none_seen n a c seen o.none,
-      (λ e. let full : a.opened ≡ subplan_count c.old c.new = sym seen.opened ∙ e ∙ count_seen n a c seen in omega (arith, below, full)),
-      subst (λ v. SameWorld (view v) (after_open (view n))) (sym after) (opened_world n peer a b c s net has course o is),
-    )
-open_steps n (Refused e) m net (peer, a, f, has, opened, refusal, after) = refused n peer a f e m net has opened refusal after
+    let law = opens_by_step (view n) a b (Ok (open_report c s)) (leader_stands n peer a net has) (leader_is n peer a net has) opened in
+    step_to (view n) law.0 (view m) (after_open (view n)) OpenNext (Opened s) law.1 law.1.3
+    (subst (λ v. SameWorld (view v) (after_open (view n))) (sym after) (opened_world n peer a b c s net has course (opening a b c s course opened) is))
+open_steps n (Refused e) m net (peer, a, f, has, opened, refusal, after) =
+    refused_to n m OpenNext (open_refusal f) e _ after (opens_by_step (view n) a a (Err f) (leader_stands n peer a net has) (leader_is n peer a net has) opened) refusal
 open_steps n _ m net h = absurd h

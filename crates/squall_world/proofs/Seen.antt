@@ -3,30 +3,32 @@ use Rattle.std.proofs.Common.{◌≡◌, ℕ, ◌<◌, ◌==◌, Bool, true, fal
 use Rattle.std.specs.List.{slice_get, AllByRecursion}
 use Rattle.std.proofs.lemmas.Option.{same_Some}
 use Rattle.squall_key.specs.Keys.{part_limit}
-use Rattle.squall_span.specs.Spans.{has}
 use Rattle.squall_report.specs.Queries.{Queries, SameQueries, joined_queries}
+use Rattle.squall_board.specs.Boards.{board_join}
 use Rattle.squall_board.specs.BoardQueries.{queries_of}
-use Rattle.squall_part.specs.Parts.{PartValue, given_by, loaded_by}
+use Rattle.squall_part.specs.Parts.{PartValue}
 use Rattle.squall_protocol.specs.declared.event.Node.{Node}
 use Rattle.squall_protocol.specs.declared.event.Node.TheVariants.{Leader, Part, Router}
-use Rattle.squall_protocol.specs.Worlds.{SameWorld, same_node, first_course}
-use Rattle.squall_protocol.specs.Knowledge.{PartQueries, part_in as part_queries}
-use Rattle.squall_protocol.specs.Steps.{told_to}
-use Rattle.squall_protocol.proofs.Same.{same_as_itself}
-use Rattle.squall_world.specs.Nets.{PeerValue, NetValue, IsNet, place_of, peer_of, at_place, put_at, role_board, first_of, leader_in, part_in, AreWithin, with_peer}
+use Rattle.squall_protocol.specs.declared.event.Event.{Event}
+use Rattle.squall_protocol.specs.declared.answer.Answer.{Answer}
+use Rattle.squall_protocol.specs.declared.answer.Answer.TheVariants.{Refused}
+use Rattle.squall_protocol.specs.declared.answer.Refusal.{Refusal}
+use Rattle.squall_protocol.specs.Worlds.{WorldValue, SameWorld, same_node}
+use Rattle.squall_protocol.specs.Steps.{Step, told_to}
+use Rattle.squall_protocol.proofs.Same.{same_as_itself, same_world}
+use Rattle.squall_nodes.specs.Standing.{StandsForPart, Becomes, refused}
+use Rattle.squall_nodes.proofs.Agree.{same_by, same_refl}
+use Rattle.squall_nodes.proofs.Refused.{refused_step}
+use Rattle.squall_world.specs.Nets.{PeerValue, NetValue, IsNet, place_of, peer_of, at_place, put_at, role_board, first_of, leader_in, part_in, MessageValue, IsMessage, with_peer}
 use Rattle.squall_world.specs.Views.{view, id_of, ids_in, part_of, held_by, given_under, loaded_under, facts_of, opened_by, opened_in, told_by_message}
 use Rattle.squall_world.specs.Events.{HasPart}
 use Rattle.squall_world.proofs.Lists.{eq_same, eq_apart, flat_put, put_here, put_there}
-use Rattle.squall_world.proofs.Nodes.{IsChanged, part_there, part_same, first_seen, each_node, at_part, same_refl}
+use Rattle.squall_world.proofs.Nodes.{IsChanged, node_there, part_there, part_same, first_seen, each_node, at_part}
 use Rattle.squall_world.proofs.Told.{told_more}
-use Rattle.squall_world.proofs.Boards.{same_by}
 use Rattle.squall_report.specs.declared.report.ReportKind.{ReportKind}
 use Rattle.squall_report.specs.Issues.{PlanPair}
 
 -- ---- a partition, as it is seen
-
-abbrev pub queries_of_part : PartValue → PartQueries
-queries_of_part a = record { id = a.id; first = a.first; told = queries_of a.board; held = λ k. has a.held k; given = λ n k. has (given_by a n) k; loaded = λ n k. has (loaded_by a n) k }
 
 pub peer_there : (n : NetValue) (x : Node) (at : ℕ) (peer : PeerValue) → place_of n x ≡ Some at → slice_get n.peers at ≡ Some peer → peer_of n x ≡ Some peer
 peer_there n x at peer place there = ap (at_place n.peers) place ∙ there
@@ -44,12 +46,21 @@ part_is_there n p at peer a net h =
     let e : t.part ≡ a = part_same t.part a (sym t.role ∙ ap (λ v. v.role) (same_Some t.peer peer (sym t.there ∙ h.there)) ∙ h.role) in
     (ap (λ v. v.first) (sym e) ∙ t.first, subst (λ v. v.id < part_limit) e t.limit, t.after)
 
-pub part_seen : (n : NetValue) (p at : ℕ) (peer : PeerValue) (a : PartValue) → IsNet n → HasPart n p at peer a → part_queries (view n) p ≡ queries_of_part a
-part_seen n p at peer a net h =
+-- it stands for the partition of the world
+pub part_stands : (n : NetValue) (p at : ℕ) (peer : PeerValue) (a : PartValue) → IsNet n → HasPart n p at peer a → StandsForPart (view n) p a
+part_stands n p at peer a net h =
     let o = part_found n p at peer a h in
-    let first : first_course (view n) ≡ a.first = first_seen n net ∙ sym (part_is_there n p at peer a net h).0 in
-    let told = facts_found n p at peer a h in
-    λ i. record { id = sym h.id i; first = first i; told = told i; held = λ k. held_by (o i) k; given = λ m k. given_under (o i) m k; loaded = λ m k. loaded_under (o i) m k }
+    let there = part_is_there n p at peer a net h in
+    record {
+      there = node_there n (Part p) at h.place;
+      limit = subst (λ v. v < part_limit) h.id there.1;
+      id = h.id;
+      first = first_seen n net ∙ sym there.0;
+      told = same_by _ _ (facts_found n p at peer a h);
+      held = λ k. ap (λ v. held_by v k) o;
+      given = λ m k. ap (λ v. given_under v m k) o;
+      loaded = λ m k. ap (λ v. loaded_under v m k) o;
+    }
 
 -- ---- a changed node
 
@@ -98,11 +109,19 @@ module _ (n : NetValue) (x : Node) (at : ℕ) (a c : PeerValue) (net : IsNet n) 
       others (Router r) f = tt
 
   -- messages tell what they told where the node made more reports
-  pub messages_kept : (more : List (ReportKind PlanPair)) → c.reports ≡ a.reports ++ more → (ms : List (List ℕ)) → AllByRecursion (AreWithin n.peers) ms → map (told_by_message (with_peer n at c)) ms ≡ map (told_by_message n) ms
+  pub messages_kept : (more : List (ReportKind PlanPair)) → c.reports ≡ a.reports ++ more → (ms : List MessageValue) → AllByRecursion (IsMessage n.peers) ms → map (told_by_message (with_peer n at c)) ms ≡ map (told_by_message n) ms
   messages_kept more e [] all = refl
-  messages_kept more e (m ∷ ms) all = λ i. queries_of (told_more at n.peers m a c more ch.there e all.0 i) ∷ messages_kept more e ms all.1 i
+  messages_kept more e (m ∷ ms) all = λ i. queries_of (board_join (told_more at n.peers m.known a c more ch.there e all.0.within i) m.extra) ∷ messages_kept more e ms all.1 i
 
 -- ---- nothing changed
 
 pub still : (n m : NetValue) → m ≡ n → SameWorld (view m) (view n)
 still n m e = subst (λ v. SameWorld (view v) (view n)) (sym e) (same_as_itself (view n))
+
+-- a step to a world is one to each that is the same
+pub step_to : (w v u t : WorldValue) (event : Event) (answer : Answer) → Step w event answer v → SameWorld v t → SameWorld u t → Step w event answer u
+step_to w v u t event answer step a b = subst (Step w event answer) (same_world v t a ∙ sym (same_world u t b)) step
+
+-- a call that is refused, by its law: the refusal is a step, and nothing changed
+pub refused_to : (n m : NetValue) (event : Event) (o : Option Refusal) (e : Refusal) (After : WorldValue → Type 0) → m ≡ n → Becomes (view n) event (refused o) After → o ≡ Some e → Step (view n) event (Refused e) (view m)
+refused_to n m event o e After same law is = subst (λ v. Step (view n) event (Refused e) (view v)) (sym same) (refused_step (view n) event o e After law is)

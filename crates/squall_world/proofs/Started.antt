@@ -9,7 +9,6 @@ use Rattle.std.proofs.lemmas.List.Folds.{list_any-append}
 use Rattle.std.proofs.lemmas.List.FromFn.{length-range_with_len}
 use Rattle.std.proofs.lemmas.Option.{none-some}
 use Rattle.squall_key.specs.Keys.{top, part_limit}
-use Rattle.squall_span.specs.Spans.{has}
 use Rattle.squall_plan.specs.declared.range.PlanRange.{PlanRange}
 use Rattle.squall_plan.specs.Ranges.{names, owner_of}
 use Rattle.squall_plan.proofs.Named.{named_low, owner_named}
@@ -21,7 +20,6 @@ use Rattle.squall_report.specs.Queries.{Queries, SameQueries, no_queries, joined
 use Rattle.squall_board.specs.Boards.{IsBoard, empty_board, report_board}
 use Rattle.squall_board.specs.BoardQueries.{queries_of}
 use Rattle.squall_board.specs.BoardLaws.{empty_is, issue_board_is}
-use Rattle.squall_part.specs.Parts.{new_part, log_with, given_in, loaded_in, given_by, loaded_by}
 use Rattle.squall_router.specs.Routers.{router_with}
 use Rattle.squall_leader.specs.Leaders.{IsLeader, new_leader, issue_report}
 use Rattle.squall_protocol.specs.declared.event.Node.{Node}
@@ -34,9 +32,10 @@ use Rattle.squall_world.specs.Views.{view, id_of, ids_in, part_of, facts_of, hel
 use Rattle.squall_world.specs.Runs.{IsWorld}
 use Rattle.squall_world.specs.Events.{IsFirstNet, first_course_of, first_leader, leader_peer, router_peers, part_peers}
 use Rattle.squall_world.proofs.Lists.{eq_same, flat_append, get_left, place_is}
-use Rattle.squall_world.proofs.Boards.{queries_report, same_by}
+use Rattle.squall_nodes.proofs.Agree.{queries_report, same_by}
 use Rattle.squall_world.proofs.History.{IsHistory, IsNew, history_new, history_more, more_reported}
-use Rattle.squall_world.proofs.Owned.{owned}
+use Rattle.squall_nodes.proofs.Begins.{none_given, none_loaded}
+use Rattle.squall_nodes.proofs.Owned.{owned}
 use Rattle.squall_world.proofs.Coming.{comer, any_comer, ids_come, comes, comer_stands, comers_new}
 
 below : (a b : ℕ) → nat_lt a b ≡ true → a < b
@@ -54,7 +53,7 @@ router_at c (x ∷ xs) (suc j) lt = router_at c xs j (omega (arith, lt))
 
 routers_new : (c : Change) (xs : List ℕ) (qs : List PeerValue) → AllByRecursion (λ p. IsRole p.role) (map (λ r. new_peer (RouterRole (router_with c empty_board))) xs ++ qs) → AllByRecursion IsNew qs → AllByRecursion IsNew (map (λ r. new_peer (RouterRole (router_with c empty_board))) xs ++ qs)
 routers_new c [] qs valid new = new
-routers_new c (x ∷ xs) qs valid new = (record { role = valid.0; board = refl; reports = refl; known = refl }, routers_new c xs qs valid.1 new)
+routers_new c (x ∷ xs) qs valid new = (record { role = valid.0; board = refl; reports = refl; known = refl; extra = refl }, routers_new c xs qs valid.1 new)
 
 all_rest : (P : PeerValue → Type 0) (xs ys : List PeerValue) → AllByRecursion P (xs ++ ys) → AllByRecursion P ys
 all_rest P [] ys all = all
@@ -106,20 +105,6 @@ no_history = record {
   knowing = λ i p e. absurd (none-some p e);
   messages = tt;
 }
-
-pub none_given : (first : Change) (p m k : ℕ) → has (given_by (new_part p first) m) k ≡ false
-none_given first p m k = by (first.number == m)
-  where
-    by : (b : Bool) → has (given_in (cond b (Some (log_with first [] [])) None)) k ≡ false
-    by true = refl
-    by false = refl
-
-pub none_loaded : (first : Change) (p m k : ℕ) → has (loaded_by (new_part p first) m) k ≡ false
-none_loaded first p m k = by (first.number == m)
-  where
-    by : (b : Bool) → has (loaded_in (cond b (Some (log_with first [] [])) None)) k ≡ false
-    by true = refl
-    by false = refl
 
 pub none_told : queries_of empty_board ≡ no_queries
 none_told = refl
@@ -176,7 +161,7 @@ module _ (old new : List PlanRange) (count : ℕ) (places : List (Option ℕ)) (
   history =
       let rest = router_peers (first_course_of old new) count ++ part_peers (first_course_of old new) (first_parts old new) in
       let idle = new_peer (LeaderRole (new_leader old 0)) in
-      let base : IsHistory (idle ∷ rest) [] = history_new [] (idle ∷ rest) [] no_history (record { role = idle_is; board = refl; reports = refl; known = refl }, rest_new) in
+      let base : IsHistory (idle ∷ rest) [] = history_new [] (idle ∷ rest) [] no_history (record { role = idle_is; board = refl; reports = refl; known = refl; extra = refl }, rest_new) in
       history_more (idle ∷ rest) [] 0 idle (leader_peer old new) base
       (more_reported (idle ∷ rest) [] 0 idle (LeaderRole (first_leader old new)) (issue_report (first_course_of old new)) base refl valid.0 issue_is refl)
 

@@ -9,22 +9,19 @@ use Rattle.squall_plan.specs.Ranges.{names}
 use Rattle.squall_course.specs.Change.{Change}
 use Rattle.squall_report.specs.declared.report.ReportKind.{ReportKind}
 use Rattle.squall_report.specs.Issues.{PlanPair}
-use Rattle.squall_board.specs.Boards.{BoardValue, board_join, empty_board}
+use Rattle.squall_report.specs.Told.{TellsAll}
+use Rattle.squall_board.specs.Boards.{BoardValue, IsBoard, board_join, empty_board, told}
 use Rattle.squall_router.specs.Routers.{RouterValue, router_with, route_of_router}
 use Rattle.squall_part.specs.declared.giving.GiveFault.{GiveFault}
-use Rattle.squall_part.specs.declared.giving.GiveFault.TheVariants.{NotOpen as GiveNotOpen, NothingLeft as GiveNothingLeft, ZeroMax as GiveZeroMax, NotOutgoing as GiveNotOutgoing, Given as GiveGiven, NotHeld as GiveNotHeld, NoMemory as GiveNoMemory}
 use Rattle.squall_part.specs.declared.loading.LoadFault.{LoadFault}
-use Rattle.squall_part.specs.declared.loading.LoadFault.TheVariants.{NotOpen as LoadNotOpen, Stranger as LoadStranger, NoMemory as LoadNoMemory}
 use Rattle.squall_part.specs.declared.loading.Load.TheVariants.{Again as LoadAgain, Loaded as LoadLoaded}
 use Rattle.squall_part.specs.declared.finishing.FinishFault.{FinishFault}
-use Rattle.squall_part.specs.declared.finishing.FinishFault.TheVariants.{NotOpen as FinishNotOpen, NotAll as FinishNotAll, NothingDue as FinishNothingDue, NoMemory as FinishNoMemory}
 use Rattle.squall_protocol.specs.Chunks.{ChunkValue}
 use Rattle.squall_part.specs.Parts.{PartValue, IsPart, new_part, given_by, loaded_by}
 use Rattle.squall_part.specs.Giving.{IsGiven, IsGivenAt}
 use Rattle.squall_part.specs.Loading.{IsLoaded, IsFinished}
 use Rattle.squall_part.specs.Serving.{IsReply}
 use Rattle.squall_leader.specs.declared.fault.LeaderFault.{LeaderFault}
-use Rattle.squall_leader.specs.declared.fault.LeaderFault.TheVariants.{Running as LeaderRunning, NoNumber as LeaderNoNumber, Idle as LeaderIdle, NotDone as LeaderNotDone, NoMore as LeaderNoMore, NoMemory as LeaderNoMemory}
 use Rattle.squall_leader.specs.Leaders.{LeaderValue, IsLeader, IsOpened, IsBegun, IsFinished as IsLeaderFinished, open_report, issue_report, new_leader, after_begin}
 use Rattle.squall_protocol.specs.Known.{last_number}
 use Rattle.squall_protocol.specs.Worlds.{first_parts}
@@ -33,41 +30,14 @@ use Rattle.squall_protocol.specs.declared.event.Node.TheVariants.{Part, Router}
 use Rattle.squall_protocol.specs.declared.answer.Answer.{Answer}
 use Rattle.squall_protocol.specs.declared.answer.Answer.TheVariants.{Opened, Begun, Gave, Loaded, Again, Finished, Sent, Delivered, Routed, Served, Refused}
 use Rattle.squall_protocol.specs.declared.answer.Refusal.{Refusal}
-use Rattle.squall_protocol.specs.declared.answer.Refusal.TheVariants.{NoSuch, NotDone, NoMore, Running, NoNumber, NotOpen, NothingLeft, ZeroMax, NotOutgoing, Given, NotHeld, Stranger, NotAll, NothingDue}
+use Rattle.squall_protocol.specs.declared.answer.Refusal.TheVariants.{NoSuch, Running, NoNumber, NotKnown}
+use Rattle.squall_nodes.specs.PartCalls.{give_refusal, load_refusal, finish_refusal}
+use Rattle.squall_nodes.specs.LeaderCalls.{open_refusal}
 use Rattle.squall_world.specs.declared.peer.Role.{Role}
 use Rattle.squall_world.specs.declared.peer.Role.TheVariants.{Leader as LeaderRole, Part as PartRole, Router as RouterRole}
-use Rattle.squall_world.specs.Nets.{PeerValue, NetValue, peer_with, new_peer, is_behind, news_to, raised, turned, reported, first_of, place_of, with_peer, ArePlaced, IsRole}
+use Rattle.squall_world.specs.Nets.{PeerValue, NetValue, MessageValue, peer_with, new_peer, message_with, role_board, is_behind, news_to, raised, turned, reported, first_of, place_of, with_peer, ArePlaced, IsRole}
 
--- ---- faults as refusals: none if an allocation failed
-
-abbrev pub give_refusal : GiveFault → Option Refusal
-give_refusal GiveNotOpen = Some NotOpen
-give_refusal GiveNothingLeft = Some NothingLeft
-give_refusal GiveZeroMax = Some ZeroMax
-give_refusal GiveNotOutgoing = Some NotOutgoing
-give_refusal GiveGiven = Some Given
-give_refusal GiveNotHeld = Some NotHeld
-give_refusal GiveNoMemory = None
-
-abbrev pub load_refusal : LoadFault → Option Refusal
-load_refusal LoadNotOpen = Some NotOpen
-load_refusal LoadStranger = Some Stranger
-load_refusal LoadNoMemory = None
-
-abbrev pub finish_refusal : FinishFault → Option Refusal
-finish_refusal FinishNotOpen = Some NotOpen
-finish_refusal (FinishNotAll span) = Some (NotAll span)
-finish_refusal FinishNothingDue = Some NothingDue
-finish_refusal FinishNoMemory = None
-
--- of a leader that has begun a course
-abbrev pub open_refusal : LeaderFault → Option Refusal
-open_refusal LeaderRunning = None
-open_refusal LeaderNoNumber = None
-open_refusal LeaderIdle = None
-open_refusal (LeaderNotDone sub part) = Some (NotDone sub part)
-open_refusal LeaderNoMore = Some NoMore
-open_refusal LeaderNoMemory = None
+-- ---- faults as refusals
 
 -- an answer to an event, as the refusal of a fault
 abbrev pub answer_of : Option Refusal → Result Answer AllocError → Type 0
@@ -188,10 +158,24 @@ IsBeginIn n plan (Err e) m = m ≡ n
 abbrev pub IsSendIn : NetValue → Node → Result Answer AllocError → NetValue → Type 0
 IsSendIn n node (Ok (Sent i)) m =
     (from : ℕ) × (peer : PeerValue) × (place_of n node ≡ Some from) × (slice_get n.peers from ≡ Some peer) × (i ≡ length n.messages)
-    × (m ≡ record n { messages = n.messages ++ peer.known ∷ [] })
+    × (m ≡ record n { messages = n.messages ++ message_with peer.known peer.extra ∷ [] })
 IsSendIn n node (Ok (Refused e)) m = IsNoSuch n node e m
 IsSendIn n node (Ok _) m = ⊥
 IsSendIn n node (Err e) m = m ≡ n
+
+-- the node knows all that the board tells
+abbrev pub KnowsAll : PeerValue → BoardValue → Type 0
+KnowsAll peer said = TellsAll (told (role_board peer.role)) (told said)
+
+abbrev pub IsSendPartIn : NetValue → Node → BoardValue → Result Answer AllocError → NetValue → Type 0
+IsSendPartIn n node said (Ok (Sent i)) m =
+    (from : ℕ) × (peer : PeerValue) × (place_of n node ≡ Some from) × (slice_get n.peers from ≡ Some peer) × KnowsAll peer said × IsBoard said × (i ≡ length n.messages)
+    × (m ≡ record n { messages = n.messages ++ message_with [] said ∷ [] })
+IsSendPartIn n node said (Ok (Refused e)) m =
+    IsNoSuch n node e m
+    ⊎ ((from : ℕ) × (peer : PeerValue) × (place_of n node ≡ Some from) × (slice_get n.peers from ≡ Some peer) × (KnowsAll peer said → ⊥) × (e ≡ NotKnown) × (m ≡ n))
+IsSendPartIn n node said (Ok _) m = ⊥
+IsSendPartIn n node said (Err e) m = m ≡ n
 
 -- the node takes in a board, and is else unchanged
 abbrev pub IsTold : Role → BoardValue → Role → Type 0
@@ -201,17 +185,26 @@ IsTold (PartRole a) d (PartRole b) =
 IsTold (RouterRole a) d (RouterRole b) = (b ≡ router_with a.first (board_join a.board d)) × IsRole (RouterRole b)
 IsTold _ d _ = ⊥
 
--- the node has taken the news in, and knows as many reports as these counts say
-pub record IsHearing (a : PeerValue) (news : BoardValue) (counts : List ℕ) (b : PeerValue) : Type 0 where
+-- the node has taken the news in, and knows as many reports as the message has, and what it tells beside them
+pub record IsHearing (a : PeerValue) (news : BoardValue) (x : MessageValue) (b : PeerValue) : Type 0 where
   pub told : IsTold a.role news b.role
   pub reports : b.reports ≡ a.reports
-  pub known : b.known ≡ raised a.known counts
+  pub known : b.known ≡ raised a.known x.known
+  pub extra : b.extra ≡ board_join a.extra x.extra
+
+-- what a node is told by a message: the reports that it does not know, and all else
+abbrev pub news_of : NetValue → PeerValue → MessageValue → BoardValue
+news_of n a x = board_join (news_to empty_board n.peers a.known x.known) x.extra
+
+-- the node knows all that the message tells
+abbrev pub IsOld : PeerValue → MessageValue → Type 0
+IsOld a x = (is_behind a.known x.known ≡ false) × KnowsAll a x.extra
 
 abbrev pub IsDeliverIn : NetValue → ℕ → Node → Result Answer AllocError → NetValue → Type 0
 IsDeliverIn n i node (Ok Delivered) m =
-    (at : ℕ) × (x : List ℕ) × (a : PeerValue) × (place_of n node ≡ Some at) × (slice_get n.messages i ≡ Some x) × (slice_get n.peers at ≡ Some a)
-    × (((is_behind a.known x ≡ false) × (m ≡ n))
-    ⊎ ((c : PeerValue) × IsHearing a (news_to empty_board n.peers a.known x) x c × (m ≡ with_peer n at c)))
+    (at : ℕ) × (x : MessageValue) × (a : PeerValue) × (place_of n node ≡ Some at) × (slice_get n.messages i ≡ Some x) × (slice_get n.peers at ≡ Some a)
+    × ((IsOld a x × (m ≡ n))
+    ⊎ ((c : PeerValue) × IsHearing a (news_of n a x) x c × (m ≡ with_peer n at c)))
 IsDeliverIn n i node (Ok (Refused e)) m = IsNoSuch n node e m ⊎ ((slice_get n.messages i ≡ None) × (e ≡ NoSuch) × (m ≡ n))
 IsDeliverIn n i node (Ok _) m = ⊥
 IsDeliverIn n i node (Err e) m = m ≡ n
@@ -238,7 +231,7 @@ abbrev pub first_leader : List PlanRange → List PlanRange → LeaderValue
 first_leader old new = after_begin (new_leader old 0) (first_course_of old new)
 
 abbrev pub leader_peer : List PlanRange → List PlanRange → PeerValue
-leader_peer old new = peer_with (LeaderRole (first_leader old new)) (issue_report (first_course_of old new) ∷ []) (1 ∷ [])
+leader_peer old new = peer_with (LeaderRole (first_leader old new)) (issue_report (first_course_of old new) ∷ []) (1 ∷ []) empty_board
 
 abbrev pub router_peers : Change → ℕ → List PeerValue
 router_peers first count = map (λ r. new_peer (RouterRole (router_with first empty_board))) (range_with_len 0 count)

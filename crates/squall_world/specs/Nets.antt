@@ -1,5 +1,5 @@
--- What a world keeps: its nodes in one list, each with the reports that it made and how many it knows of each node's. Messages are such
--- counts.
+-- What a world keeps: its nodes in one list, each with the reports that it made, how many it knows of each node's, and what came to it in
+-- messages of a part of what their senders knew. Messages are such counts and boards.
 use Rattle.std.specs.Prelude.{◌≡◌, ℕ, ◌+◌, ◌-◌, ◌<◌, ◌≤◌, ◌==◌, ◌||◌, nat_lt, Bool, true, false, zero, suc, List, [], ◌∷◌, ◌++◌, length, Option, Some, None, is_some, if◌then◌else◌, slice_index_or, take, drop}
 use Rattle.std.specs.List.{position, slice_get, AllByRecursion}
 use Rattle.squall_key.specs.Keys.{part_limit}
@@ -38,18 +38,28 @@ reports_board rs = reports_to empty_board rs
 
 -- ---- nodes
 
--- a node: what it is, the reports that it made, and how many of each node's reports it knows, its own among them, by place
+-- a node: what it is, the reports that it made, and how many of each node's reports it knows, its own among them, by place. `extra` is
+-- what it heard in messages of a part of what their senders knew, joined
 pub record PeerValue : Type 0 where
   pub role : Role
   pub reports : List (ReportKind PlanPair)
   pub known : List ℕ
+  pub extra : BoardValue
 
-abbrev pub peer_with : Role → List (ReportKind PlanPair) → List ℕ → PeerValue
-peer_with role reports known = record { role = role; reports = reports; known = known }
+abbrev pub peer_with : Role → List (ReportKind PlanPair) → List ℕ → BoardValue → PeerValue
+peer_with role reports known extra = record { role = role; reports = reports; known = known; extra = extra }
 
 -- a node that knows nothing
 abbrev pub new_peer : Role → PeerValue
-new_peer role = peer_with role [] []
+new_peer role = peer_with role [] [] empty_board
+
+-- a message: how many of each node's reports it has, and what it tells beside them
+pub record MessageValue : Type 0 where
+  pub known : List ℕ
+  pub extra : BoardValue
+
+abbrev pub message_with : List ℕ → BoardValue → MessageValue
+message_with known extra = record { known = known; extra = extra }
 
 -- what it has heard, and reported itself
 abbrev pub role_board : Role → BoardValue
@@ -91,10 +101,11 @@ IsRole (LeaderRole l) = IsLeader l
 IsRole (PartRole p) = IsPart p
 IsRole (RouterRole r) = IsBoard r.board × ArePlans r.first.old r.first.new
 
--- it holds of the node, and the board of each report that the node made is a board
+-- it holds of the node, and the board of each report that the node made is a board, as what it heard beside reports is
 pub record IsPeer (p : PeerValue) : Type 0 where
   pub role : IsRole p.role
   pub reports : AllByRecursion (λ r. IsBoard (report_board r)) p.reports
+  pub extra : IsBoard p.extra
 
 -- ---- counts
 
@@ -123,6 +134,10 @@ told_from [] ks = empty_board
 told_from (p ∷ ps) [] = empty_board
 told_from (p ∷ ps) (k ∷ ks) = board_join (reports_board (take k p.reports)) (told_from ps ks)
 
+-- the join of the first reports of each node, as many as their counts say, and of a board
+abbrev pub told_with : List PeerValue → List ℕ → BoardValue → BoardValue
+told_with ps ks extra = board_join (told_from ps ks) extra
+
 -- the join of a board and of the reports from the first counts up to the second ones
 abbrev pub news_to : BoardValue → List PeerValue → List ℕ → List ℕ → BoardValue
 news_to b [] ks ms = b
@@ -136,11 +151,17 @@ AreWithin ps [] = Unit {0}
 AreWithin [] (k ∷ ks) = ⊥
 AreWithin (p ∷ ps) (k ∷ ks) = (k ≤ length p.reports) × AreWithin ps ks
 
--- the node at the place knows its own reports and of others' no more than there are, and its board is the join of just those
+-- the node at the place knows its own reports and of others' no more than there are, and its board is the join of just those and of
+-- what it heard beside them
 pub record IsKnowing (ps : List PeerValue) (at : ℕ) (p : PeerValue) : Type 0 where
   pub within : AreWithin ps p.known
-  pub board : role_board p.role ≡ told_from ps p.known
+  pub board : role_board p.role ≡ told_with ps p.known p.extra
   pub own : known_at p at ≡ length p.reports
+
+-- a message has no more reports of a node than there are, and what it tells beside them is a board
+pub record IsMessage (ps : List PeerValue) (x : MessageValue) : Type 0 where
+  pub within : AreWithin ps x.known
+  pub extra : IsBoard x.extra
 
 -- ---- all of them
 
@@ -152,8 +173,8 @@ pub record NetValue : Type 0 where
   pub routers : ℕ
   -- for each partition that there can be, its place among the nodes
   pub places : List (Option ℕ)
-  -- how many of each node's reports each message has
-  pub messages : List (List ℕ)
+  -- what each message has
+  pub messages : List MessageValue
   pub chunks : List ChunkValue
 
 -- a course for the case that there is none
@@ -189,11 +210,11 @@ put_at (suc i) x (y ∷ ys) = y ∷ put_at i x ys
 
 -- the node is another thing now
 abbrev pub turned : PeerValue → Role → PeerValue
-turned p role = peer_with role p.reports p.known
+turned p role = peer_with role p.reports p.known p.extra
 
 -- the node at the place is another thing now, and made a report
 abbrev pub reported : ℕ → PeerValue → Role → ReportKind PlanPair → PeerValue
-reported at p role report = peer_with role (p.reports ++ report ∷ []) (noted at (length (p.reports ++ report ∷ [])) p.known)
+reported at p role report = peer_with role (p.reports ++ report ∷ []) (noted at (length (p.reports ++ report ∷ [])) p.known) p.extra
 
 -- another node at a place
 abbrev pub with_peer : NetValue → ℕ → PeerValue → NetValue
@@ -249,4 +270,4 @@ pub record IsNet (n : NetValue) : Type 0 where
   pub placed : ArePlaced n
   pub peers : AllByRecursion IsPeer n.peers
   pub knowing : (i : ℕ) (p : PeerValue) → slice_get n.peers i ≡ Some p → IsKnowing n.peers i p
-  pub messages : AllByRecursion (AreWithin n.peers) n.messages
+  pub messages : AllByRecursion (IsMessage n.peers) n.messages

@@ -11,7 +11,7 @@ use Rattle.squall_protocol.specs.declared.event.Node.TheVariants.{Part}
 use Rattle.squall_protocol.specs.Worlds.{WorldValue}
 use Rattle.squall_world.specs.declared.peer.Role.{Role}
 use Rattle.squall_world.specs.declared.peer.Role.TheVariants.{Leader as LeaderRole, Part as PartRole, Router as RouterRole}
-use Rattle.squall_world.specs.Nets.{PeerValue, NetValue, told_from, role_board, leader_in, part_in, first_of, peer_of}
+use Rattle.squall_world.specs.Nets.{PeerValue, NetValue, MessageValue, told_with, role_board, leader_in, part_in, first_of, peer_of}
 
 -- the plan of a number: the old plan of the first course, and after it the new plan of each course. Beyond the last, that of the first
 abbrev pub plan_at : NetValue → ℕ → List PlanRange
@@ -58,9 +58,9 @@ abbrev pub facts_of : Option PeerValue → Queries
 facts_of None = no_queries
 facts_of (Some p) = queries_of (role_board p.role)
 
--- what the reports of a message say
-abbrev pub told_by_message : NetValue → List ℕ → Queries
-told_by_message n counts = queries_of (told_from n.peers counts)
+-- what a message says
+abbrev pub told_by_message : NetValue → MessageValue → Queries
+told_by_message n x = queries_of (told_with n.peers x.known x.extra)
 
 abbrev pub view : NetValue → WorldValue
 view n =

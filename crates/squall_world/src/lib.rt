@@ -29,6 +29,7 @@
 mod acting;
 mod counts;
 mod leading;
+mod message;
 mod moving;
 mod naming;
 mod net;

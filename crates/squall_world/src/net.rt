@@ -4,6 +4,7 @@ ghost use Rattle.std.specs.Prelude.{◌≡◌, length};
 ghost use Rattle.squall_world.specs.Nets.{IsNet, place_of, newest_of};
 ghost use Rattle.squall_world.specs.Views.{ids_in};
 
+use crate::message::Message;
 use crate::peer::Peer;
 use squall_course::Course;
 use squall_join::Shared;
@@ -11,20 +12,6 @@ use squall_part::Chunk;
 use squall_protocol::Node;
 use std::alloc::Global;
 use std::marker::Model;
-
-/// A message: how many reports of each node its sender knew.
-#[derive(Drop)]
-pub(crate) struct Message {
-    pub(crate) known: Vec<usize>,
-}
-
-impl Model for Message {
-    ghost use Rattle.std.specs.Prelude.{ℕ, List};
-
-    ghost Value = { List ℕ };
-
-    ghost view = { λ m. m.known.items };
-}
 
 /// The nodes of a world, and what is on its way between them.
 #[derive(Drop)]

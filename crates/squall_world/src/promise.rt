@@ -1,7 +1,7 @@
 //! What holds in every world.
 
 ghost use Rattle.squall_protocol.specs.Promises.{IsReached, OneCarrier, TrueReports, RoutedIsLoaded, OneDestination, ChunksHaveNodes};
-ghost use Rattle.squall_protocol.specs.Promises.{RoutesAreServed, MovesAreServed, FirstRoutesAreHome, FirstMovesAreDue};
+ghost use Rattle.squall_protocol.specs.Promises.{RoutesAreServed, MovesAreServed, AwaitedComes, OverIsThere, FirstRoutesAreHome, FirstMovesAreDue};
 ghost use Rattle.squall_world.specs.Views.{view};
 
 use crate::world::World;
@@ -20,6 +20,8 @@ impl World {
         ensures chunks_have_nodes { ChunksHaveNodes (view self.now) }
         ensures routes_are_served { RoutesAreServed (view self.now) }
         ensures moves_are_served { MovesAreServed (view self.now) }
+        ensures awaited_comes { AwaitedComes (view self.now) }
+        ensures over_is_there { OverIsThere (view self.now) }
         ensures first_routes_are_home { FirstRoutesAreHome (view self.now) }
         ensures first_moves_are_due { FirstMovesAreDue (view self.now) }
     {

@@ -3,7 +3,9 @@
 ghost use Rattle.std.specs.Prelude.{◌≡◌, ◌≢◌, Ok};
 ghost use Rattle.squall_protocol.specs.declared.answer.Answer.TheVariants.{Refused};
 ghost use Rattle.squall_leader.specs.declared.fault.LeaderFault.TheVariants.{Running, NoNumber, Idle};
-ghost use Rattle.squall_world.specs.Events.{answer_of, give_refusal, load_refusal, finish_refusal, open_refusal};
+ghost use Rattle.squall_nodes.specs.PartCalls.{give_refusal, load_refusal, finish_refusal};
+ghost use Rattle.squall_nodes.specs.LeaderCalls.{open_refusal};
+ghost use Rattle.squall_world.specs.Events.{answer_of};
 
 use squall_leader::LeaderFault;
 use squall_part::{FinishFault, GiveFault, LoadFault};

@@ -1,13 +1,14 @@
 //! Messages, and what nodes are asked.
 
 ghost use Rattle.squall_world.specs.Nets.{IsNet};
-ghost use Rattle.squall_world.specs.Events.{IsSendIn, IsDeliverIn, IsRouteIn, IsServeIn};
+ghost use Rattle.squall_world.specs.Events.{IsSendIn, IsSendPartIn, IsDeliverIn, IsRouteIn, IsServeIn};
 
-use crate::counts::is_behind;
-use crate::net::{Message, Net};
+use crate::message::Message;
+use crate::net::Net;
 use crate::peer::Role;
 use crate::refusal::refused;
 use crate::reports::news;
+use squall_board::Board;
 use squall_key::{Key, PartId};
 use squall_protocol::{Answer, Node, Refusal};
 use std::alloc::AllocError;
@@ -24,12 +25,35 @@ impl Net {
         let peer = &self.peers[from];
         let mut known = Vec::new(self.alloc);
         known.extend_from_slice(&peer.known)?;
+        let extra = peer.extra.copied(self.alloc)?;
         let index = self.messages.len();
-        self.messages.push(Message { known })?;
+        self.messages.push(Message { known, extra })?;
         Ok(Answer::Sent { index })
     }
 
-    /// The node takes those reports of the message that it does not know.
+    /// The board becomes the next message, if the node knows all that it tells.
+    pub(crate) fn send_part(&mut self, node: Node, said: &Board) -> Result<Answer, AllocError>
+        requires { IsNet self.old }
+        ensures { IsSendPartIn self.old node said.now result self.new }
+    {
+        let Some(from) = self.place(node) else {
+            return refused(Refusal::NoSuch);
+        };
+        let peer = &self.peers[from];
+        if !peer.knows(said) {
+            return refused(Refusal::NotKnown);
+        }
+        said.known();
+        let extra = said.copied(self.alloc)?;
+        let index = self.messages.len();
+        self.messages.push(Message {
+            known: Vec::new(self.alloc),
+            extra,
+        })?;
+        Ok(Answer::Sent { index })
+    }
+
+    /// The node takes what the message tells and it does not know.
     pub(crate) fn deliver(&mut self, index: usize, node: Node) -> Result<Answer, AllocError>
         requires { IsNet self.old }
         ensures { IsDeliverIn self.old index node result self.new }
@@ -41,11 +65,12 @@ impl Net {
             return refused(Refusal::NoSuch);
         };
         let peer = &self.peers[at];
-        if !is_behind(&peer.known, &message.known) {
+        if !peer.is_new(message) {
             return Ok(Answer::Delivered);
         }
-        let news = news(self.alloc, &self.peers, &peer.known, &message.known)?;
-        self.peers[at].hear(&news, &message.known)?;
+        let mut news = news(self.alloc, &self.peers, &peer.known, &message.known)?;
+        news.merge(&message.extra)?;
+        self.peers[at].hear(self.alloc, &news, message)?;
         Ok(Answer::Delivered)
     }
 

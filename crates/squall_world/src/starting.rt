@@ -14,6 +14,7 @@ use crate::leading::issue;
 use crate::naming::{PARTS, mark, new_parts, note_places, repeated};
 use crate::net::Net;
 use crate::peer::{Peer, Role};
+use squall_board::Board;
 use squall_course::Course;
 use squall_join::Shared;
 use squall_leader::Leader;
@@ -38,6 +39,7 @@ fn leader(alloc: Global, first: &Arc<Course>) -> Result<Peer, AllocError>
         role: Role::Leader(leader),
         reports,
         known,
+        extra: Board::new(alloc),
     })
 }
 

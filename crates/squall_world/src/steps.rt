@@ -4,14 +4,15 @@ ghost use Rattle.std.specs.Prelude.{◌≡◌, ◌<◌, ◌≤◌, ◌↔◌, �
 ghost use Rattle.std.specs.Arc.{arc_value};
 ghost use Rattle.squall_world.specs.declared.steps.WorldFault.TheVariants.{NoMemory, TooManyRouters};
 ghost use Rattle.squall_protocol.specs.Worlds.{most_routers, start, SameWorld};
-ghost use Rattle.squall_protocol.specs.Steps.{OpenStep, BeginStep, GiveStep, GiveAtStep, LoadStep, FinishStep, SendStep, DeliverStep, RouteStep};
-ghost use Rattle.squall_protocol.specs.Steps.{ServeStep, Step};
+ghost use Rattle.squall_protocol.specs.Steps.{OpenStep, BeginStep, GiveStep, GiveAtStep, LoadStep, FinishStep, SendStep, SendPartStep};
+ghost use Rattle.squall_protocol.specs.Steps.{DeliverStep, RouteStep, ServeStep, Step};
 ghost use Rattle.squall_protocol.specs.Promises.{IsReached};
 ghost use Rattle.squall_world.specs.Runs.{IsRun};
 ghost use Rattle.squall_world.specs.Views.{view};
 
 use crate::net::Net;
 use crate::world::World;
+use squall_board::Board;
 use squall_course::Course;
 use squall_key::{Key, PartId};
 use squall_plan::Plan;
@@ -163,6 +164,16 @@ impl World {
         self.net.send(node)
     }
 
+    /// What the board tells becomes the next message: `Sent`. It may be any part of what the node has
+    /// heard and reported itself: one report, a delta, a piece or a repair. Refused as `NoSuch`, and
+    /// as `NotKnown` if the node does not know all of it.
+    pub fn send_part(&mut self, node: Node, said: &Board) -> Result<Answer, AllocError>
+        ensures ok { IfOk result (λ answer. SendPartStep (view self.old) node said.now answer (view self.new)) }
+        ensures err { OnErr result (self.new ≡ self.old) }
+    {
+        self.net.send_part(node, said)
+    }
+
     /// The message of that index comes to the node: `Delivered`. Refused as `NoSuch`.
     pub fn deliver(&mut self, message: usize, node: Node) -> Result<Answer, AllocError>
         ensures ok { IfOk result (λ answer. DeliverStep (view self.old) message node answer (view self.new)) }
@@ -199,6 +210,7 @@ impl World {
             Event::Load(chunk) => self.load(*chunk),
             Event::Finish(part, sub) => self.finish(*part, *sub),
             Event::Send(node) => self.send(*node),
+            Event::SendPart(node, said) => self.send_part(*node, said),
             Event::Deliver(message, node) => self.deliver(*message, *node),
             Event::Route(router, key) => Ok(self.route(*router, *key)),
             Event::Serve(part, key, after) => Ok(self.serve(*part, *key, *after)),

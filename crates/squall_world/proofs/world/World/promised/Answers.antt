@@ -16,6 +16,8 @@ returns c =
       chunks_have_nodes = promised.chunks_have_nodes (view c.args.self.now) reached;
       routes_are_served = promised.routes_are_served (view c.args.self.now) reached;
       moves_are_served = promised.moves_are_served (view c.args.self.now) reached;
+      awaited_comes = promised.awaited_comes (view c.args.self.now) reached;
+      over_is_there = promised.over_is_there (view c.args.self.now) reached;
       first_routes_are_home = promised.first_routes_are_home (view c.args.self.now) reached;
       first_moves_are_due = promised.first_moves_are_due (view c.args.self.now) reached;
     }

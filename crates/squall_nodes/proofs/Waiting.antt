@@ -1,4 +1,4 @@
--- Whom the leader waits for, as it is seen.
+-- Whom the leader waits for.
 use Rattle.std.proofs.Common.{◌≡◌, ℕ, zero, suc, ◌+◌, ◌<◌, ◌≤◌, ◌==◌, ◌&&◌, Bool, true, false, List, [], ◌∷◌, Option, None, Some, refl, sym, ap, subst, ◌∙◌, arith, inl, inr}
 use Rattle.std.specs.Prelude.{not}
 use Rattle.std.specs.List.{find, Contains}
@@ -16,7 +16,7 @@ use Rattle.squall_course.proofs.Received.{receiver_keys}
 use Rattle.squall_report.specs.Cells.{place_at}
 use Rattle.squall_report.specs.Facts.{DonePart}
 use Rattle.squall_board.specs.Boards.{BoardValue, says}
-use Rattle.squall_world.proofs.Partitions.{moving_low}
+use Rattle.squall_nodes.proofs.Partitions.{moving_low}
 use Rattle.squall_leader.specs.Leaders.{waited_for, waited_after}
 use Rattle.std.specs.List.{list_any}
 

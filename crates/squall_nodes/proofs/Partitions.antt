@@ -32,7 +32,7 @@ use Rattle.squall_part.proofs.Logs.{edit, edit_course}
 use Rattle.squall_part.proofs.Known.{course_known}
 use Rattle.squall_part.proofs.Served.{known_log}
 use Rattle.squall_part.proofs.Changed.{given_set, loaded_set}
-use Rattle.squall_world.proofs.Lists.{eq_same}
+use Rattle.squall_nodes.proofs.Numbers.{eq_same}
 
 -- ---- logs
 
