@@ -1,6 +1,6 @@
 //! The publisher, which brings the desk up to date.
 
-ghost use Rattle.std.specs.Prelude.{◌≡◌, ◌+◌, ◌≤◌, ◌<◌, ◌^◌, ◌++◌, ◌∷◌, [], length, IfOk, OnOk, OnErr, MatchResult, MatchBool, None};
+ghost use Rattle.std.specs.Prelude.{◌≡◌, ◌↔◌, ◌+◌, ◌≤◌, ◌<◌, ◌^◌, ◌++◌, ◌∷◌, [], length, IfOk, OnOk, OnErr, IsTrue, MatchResult, MatchBool, None};
 ghost use Rattle.squall_cluster_inbox.specs.Letters.{IsLetter, AreLetters, board_after};
 ghost use Rattle.squall_cluster_desk.specs.Start.{IsStartOf};
 ghost use Rattle.squall_cluster_desk.specs.Hand.{listed, letters, Follows, Pending, ShowsAll};
@@ -46,6 +46,13 @@ impl<K: Constants, R: Wait + Drop> Model for Publisher<K, R> {
         × ShowsAll K.allowed K.first K.opening (shown p.writer) };
 }
 
+/// Whether a letter may be added to the list: it has fewer than the most.
+fn has_room(list: &Prefix) -> bool
+    ensures { IsTrue result ↔ (length list.now.log < 2 ^ 62) }
+{
+    list.len() < MOST
+}
+
 /// The list with the letter at its end. The publisher alone lengthens the list, so the first
 /// attempt adds the letter.
 fn lengthened<R: Wait>(rt: &R, track: &Track, before: &Prefix, letter: &Letter) -> Prefix
@@ -54,7 +61,7 @@ fn lengthened<R: Wait>(rt: &R, track: &Track, before: &Prefix, letter: &Letter) 
 {
     for _ in rt.forever() {
         let mut front = before.again();
-        if front.len() < MOST && front.add(track, letter) {
+        if has_room(&front) && front.add(track, letter) {
             return front;
         }
     }

@@ -1,6 +1,6 @@
 //! What the desk of a cluster shows, as a router of a world.
 
-ghost use Rattle.squall_tie.specs.Desks.{PublishesByDelivery, LooksByRoute};
+ghost use Rattle.squall_cluster_tie.specs.Desks.{PublishesByDelivery, LooksByRoute};
 
 use squall_board::Board;
 

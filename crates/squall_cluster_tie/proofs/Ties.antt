@@ -19,7 +19,7 @@ use Rattle.squall_protocol.specs.declared.answer.Answer.TheVariants.{Delivered, 
 use Rattle.squall_protocol.specs.Worlds.{WorldValue, first_course, SameWorld}
 use Rattle.squall_protocol.specs.Steps.{told_to, after_told, DeliverStep, RouteStep}
 use Rattle.squall_protocol.proofs.Same.{same_world}
-use Rattle.squall_tie.specs.Desks.{StandsFor, IsMessageOf, PublishesByDelivery, LooksByRoute}
+use Rattle.squall_cluster_tie.specs.Desks.{StandsFor, IsMessageOf, PublishesByDelivery, LooksByRoute}
 
 same_of : (a b : Queries) → a ≡ b → SameQueries a b
 same_of a b e = record {
