@@ -1,7 +1,7 @@
 -- Files that are read one after the other.
 use Rattle.std.proofs.Common.{◌≡◌, ◌⊎◌, inl, inr, ℕ, ◌+◌, ◌<◌, List, [], ◌∷◌, ◌++◌, length, take, drop, Bool, true, false, ◌&&◌, ◌||◌, Option, refl, sym, subst, ap, ◌∙◌}
 use Rattle.std.proofs.KnownBytes.{Consumes-nil, Consumes-trans}
-use Rattle.std.proofs.lemmas.Bool.{false≢true}
+use Rattle.std.proofs.lemmas.Bool.{false≢true, or_parts}
 use Rattle.std.proofs.lemmas.List.{append-nil, map-append, length-map, get_or-map, take_more, take-append-drop}
 use Rattle.std.proofs.lemmas.List.Elements.{All-append, All-cons, All-nil}
 use Rattle.std.proofs.lemmas.List.Folds.{list_any-append, list_all-map, list_all_at}
@@ -46,6 +46,18 @@ contains_next f xs n x name file below is text same = subst (Contains (map f xs)
 pub not_all : {X : Type 0} (f : X → List ℕ) (p : List ℕ → Bool) (xs : List X) (n : ℕ) (x : X) (name : List ℕ) → n < length xs → x ≡ slice_index_or xs n x → name ≡ f x
     → p name ≡ false → list_all p (map f xs) ≡ false
 not_all f p xs n x name below is text e = list_all-map p f xs ∙ list_all_at (λ y. p (f y)) xs n x below (ap (λ y. p (f y)) (sym is) ∙ ap p (sym text) ∙ e)
+
+-- if no name passes, then neither the next one does nor one before it
+pub none_named : {X : Type 0} (f : X → List ℕ) (p : List ℕ → Bool) (xs : List X) (n : ℕ) (x : X) (name : List ℕ) → n < length xs → x ≡ slice_index_or xs n x → name ≡ f x
+    → list_any p (map f xs) ≡ false → (list_any p (map f (take n xs)) ≡ false) × (p name ≡ false)
+none_named f p xs n x name below is text none =
+    let old = take (n + 1) xs in
+    let rest = drop (n + 1) xs in
+    let split = sym (ap (λ ys. list_any p (map f ys)) (take-append-drop (n + 1) xs)) ∙ ap (list_any p) (map-append f old rest) ∙ list_any-append p (map f old) (map f rest) in
+    let front = (or_parts (list_any p (map f old)) (list_any p (map f rest)) (sym split ∙ none)).0 in
+    let last = ap (list_any p) (next_names f xs n x below is) ∙ list_any-append p (map f (take n xs)) (f x ∷ []) in
+    let both = or_parts (list_any p (map f (take n xs))) (p (f x) || false) (sym last ∙ front) in
+    (both.0, ap p text ∙ (or_parts (p (f x)) false both.1).0)
 
 -- what holds of standard input after one more file, by whether it was named before
 pub taken_next : (taken : Bool) (names more : List (List ℕ)) (name : List ℕ) → taken ≡ list_any is_input names → more ≡ names ++ name ∷ []

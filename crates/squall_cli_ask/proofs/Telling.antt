@@ -57,11 +57,11 @@ told_of named named' status text more (inr (inl file)) = inr (inl (file.0, more 
 told_of named named' status text more (inr (inr words)) = inr (inr words)
 
 -- what stopped a read
-pub read_told : {A : Type 0} (r : Result A RunFault) (result : Result A ℕ) (named : List ℕ → Type 0) (old new : SinkState)
-    → IfErr result (λ status. (fault : RunFault) × (r ≡ Err fault) × (status ≡ status_of (Err fault)) × Says old new (fault_told fault))
+pub read_told : {A : Type 0} (result : Result A ℕ) (named : List ℕ → Type 0) (old new : SinkState)
+    → IfErr result (λ status. (fault : RunFault) × (status ≡ status_of (Err fault)) × Says old new (fault_told fault))
     → IfErr result (λ status. (text : List ℕ) × IsTold named status text × Says old new text)
-read_told r (Ok bytes) named old new h = tt
-read_told r (Err status) named old new h = (fault_told h.0, inl (Err h.0, h.2, refl), h.3)
+read_told (Ok bytes) named old new h = tt
+read_told (Err status) named old new h = (fault_told h.0, inl (Err h.0, h.1, refl), h.2)
 
 -- nothing was told before
 pub told_after : {D : Type 0} (state : D → SinkState) (a b c : D) (P : List ℕ → Type 0) → b ≡ a

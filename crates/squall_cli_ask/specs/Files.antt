@@ -1,5 +1,5 @@
 -- What is known of files and their bytes (this project's command line).
-use Rattle.std.specs.Prelude.{◌≡◌, ℕ, List, [], Bool, Option, None, Some, codes}
+use Rattle.std.specs.Prelude.{◌≡◌, ℕ, List, [], ◌++◌, Bool, Option, None, Some, codes}
 use Rattle.std.specs.Str.{bytes_eq}
 use Rattle.squall_cli_lines.specs.Script.{IsPrefix}
 
@@ -30,3 +30,9 @@ IsWholeFile (Holds bytes) read = read ≡ bytes
 -- the name is that of standard input
 abbrev pub is_input : List ℕ → Bool
 is_input name = bytes_eq name (codes "-")
+
+-- where the names of the files that were opened are known, these were added
+abbrev pub AddsNames : Option (List (List ℕ)) → Option (List (List ℕ)) → List (List ℕ) → Type 0
+AddsNames None after names = Unit {0}
+AddsNames (Some old) None names = ⊥
+AddsNames (Some old) (Some new) names = new ≡ old ++ names

@@ -9,8 +9,8 @@ use Rattle.squall_cli_command.specs.declared.stream.Stream.{Stream}
 use Rattle.squall_cli_command.specs.declared.stream.Stream.TheVariants.{Keys, Frames}
 use Rattle.squall_cli_command.specs.declared.stream.Follow.{Follow}
 use Rattle.squall_cli_boards.specs.Files.{FileValue}
-use Rattle.squall_cli_stream.specs.Written.{AnswersKeys}
-use Rattle.squall_cli_stream.specs.Watching.{WatchesFiles, ShowsBarsOfFiles}
+use Rattle.squall_cli_ask.specs.Written.{AnswersKeys, IsPromptFor}
+use Rattle.squall_cli_ask.specs.Watching.{WatchesFiles, WatchesPromptly, ShowsBarsOfFiles}
 use Rattle.squall_cli_ask.specs.Files.{is_input}
 use Rattle.squall_cli_ask.specs.Reads.{Bytes}
 use Rattle.squall_cli_ask.specs.Told.{status_of}
@@ -41,6 +41,22 @@ abbrev pub IsFollowed : Stream → Bytes → Bytes → List (List ℕ) → ℕ �
 IsFollowed stream before after names status = MatchBool (list_any is_input names)
     (((status ≡ 2) ⊎ (status ≡ 4)) × Appends before.output after.output [] × Consumes before.input after.input [])
     (AnswersStream stream before after names status ⊎ AnswersNothing before after status)
+
+-- ---- promptness
+
+-- after these files, the lines or frames that came before the last read of standard input were answered before it
+abbrev pub IsPromptTo : Stream → List FileValue → List ℕ → List ℕ → Type 0
+IsPromptTo Keys files read written = IsPromptFor files read written
+IsPromptTo (Frames form) files read written = WatchesPromptly form files read written
+
+-- Standard input is answered as it comes. The files of these names were read, and the lines or frames that came before the last read of
+-- standard input were answered before it. Or nothing is read of standard input.
+abbrev pub FollowsPromptly : Stream → Bytes → Bytes → List (List ℕ) → Type 0
+FollowsPromptly stream before after names =
+    ((files : List FileValue) × (read : List ℕ) × (written : List ℕ)
+    × Consumes before.input after.input read × Appends before.output after.output written
+    × AreRead before.files before.input before.input names files × IsPromptTo stream files read written)
+    ⊎ Consumes before.input after.input []
 
 -- ---- bars
 

@@ -1,14 +1,31 @@
 -- what the clauses here cite of the crates below
+pub use Rattle.squall_board.specs.Boards
+pub use Rattle.squall_board.specs.Route
+pub use Rattle.squall_board.specs.CourseRoute
+pub use Rattle.squall_cli_device.specs.Counts
 pub use Rattle.squall_cli_device.specs.States
+pub use Rattle.squall_cli_lines.specs.Lines
+pub use Rattle.squall_cli_lines.specs.Script
 pub use Rattle.squall_cli_lines.specs.Heeding
+pub use Rattle.squall_cli_lines.specs.Words
+pub use Rattle.squall_cli_words.specs.Reasons
+pub use Rattle.squall_cli_words.specs.RouteText
+pub use Rattle.squall_cli_boards.specs.Files as BoardFiles
 pub use Rattle.squall_cli_boards.specs.Answers
+pub use Rattle.squall_cli_boards.specs.Courses
 pub use Rattle.squall_cli_boards.specs.Questions
 pub use Rattle.squall_cli_boards.specs.ReportWords
-pub use Rattle.squall_cli_stream.specs.Written
-pub use Rattle.squall_cli_stream.specs.Watching
+pub use Rattle.squall_cli_watch.specs.Watched
+pub use Rattle.squall_cli_watch.specs.Drawn
 pub mod Files
 pub mod Reads
 pub mod Told
 pub mod Gathered
 pub mod Asked
+pub mod Known
+pub mod Found
+pub mod Keys
+pub mod Answered
+pub mod Written
+pub mod Watching
 pub mod Followed

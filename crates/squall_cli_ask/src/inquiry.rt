@@ -93,15 +93,14 @@ pub fn answer_inquiry<F: Files, S: Source, O: Sink, E: Sink>(
     ensures told { (text : List ℕ) × IsTold (Contains (files_asked ask.now)) result text
         × Says (E.state err.old) (E.state err.new) text }
 {
-    match question_of(alloc, ask) {
-        Ok(Some(question)) => {
+    match question_of(ask) {
+        Some(question) => {
             let asked = Worded {
                 question: &question,
                 words: &ask.words,
             };
             answer_named(alloc, &asked, files_of(ask), files, input, out, err)
         }
-        Ok(None) => tell_no_report(err),
-        Err(_) => tell_fault(RunFault::NoMemory, err),
+        None => tell_no_report(err),
     }
 }

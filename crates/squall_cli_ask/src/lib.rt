@@ -1,5 +1,6 @@
-//! Answers what is asked of board files, and of standard input as it comes: reads the files that the
-//! words name, and writes the answer.
+//! Answers what is asked, at once or as it comes: reads the files that the words name, and answers what
+//! is asked of them, or standard input by them. That is keys or the frames of boards, which are answered
+//! by the newest course of two plans.
 //!
 //! What the program tells on standard error, and its statuses, are here too.
 //!
@@ -9,14 +10,21 @@
 mod answer;
 mod files;
 mod inquiry;
+mod keys;
+mod known;
+pub mod laws;
+mod lines;
 mod messages;
 mod question;
 mod reading;
 mod stream;
+mod watching;
 
 pub use answer::answer_files;
 pub use files::Files;
 pub use inquiry::answer_inquiry;
+pub use lines::answer_keys;
 pub use messages::{BAD_WORDS, say, tell_fault, tell_outcome, tell_unopened};
 pub use reading::read_named;
 pub use stream::answer_stream;
+pub use watching::watch_files;

@@ -1,6 +1,6 @@
 //! What is written to standard error, and the status that goes with it.
 
-ghost use Rattle.std.specs.Prelude.{◌≡◌, Ok, Err, IfErr, IfOk, IsOk};
+ghost use Rattle.std.specs.Prelude.{◌≡◌, Err};
 ghost use Rattle.squall_cli_lines.specs.Heeding.{Says};
 ghost use Rattle.squall_cli_ask.specs.Told.{status_of};
 ghost use Rattle.squall_cli_ask.specs.Told.{fault_told, outcome_told, unopened_told};
@@ -68,19 +68,6 @@ pub fn tell_unopened<E: Sink>(name: &str, err: &mut E) -> u8
     // If standard error fails too, the status alone tells.
     let _ = send_unopened(name, err);
     DEVICE
-}
-
-/// The bytes that were read. If there are none, it says what stopped the read, and gives the status.
-pub fn tell_read<E: Sink>(read: Result<Vec<u8>, RunFault>, err: &mut E) -> Result<Vec<u8>, u8>
-    ensures bytes { IfOk result (λ bytes. read ≡ Ok bytes) }
-    ensures fault { IfErr result (λ status. (fault : RunFault) × (read ≡ Err fault) × (status ≡ status_of (Err fault))
-        × Says (E.state err.old) (E.state err.new) (fault_told fault)) }
-    ensures quiet { IsOk result → err.new ≡ err.old }
-{
-    match read {
-        Ok(bytes) => Ok(bytes),
-        Err(fault) => Err(tell_fault(fault, err)),
-    }
 }
 
 /// The status of a task that was begun. Says what stopped it, if something did.

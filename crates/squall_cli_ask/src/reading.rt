@@ -2,20 +2,43 @@
 
 ghost use Rattle.std.specs.Prelude.{◌≡◌, ◌≢◌, ◌⊎◌, ◌++◌, ◌∷◌, ◌||◌, ℕ, List, [], true, false, map, string_bytes, Contains, Err, IfErr, IfOk, IsOk, OnOk};
 ghost use Rattle.std.specs.List.{list_all, list_any};
-ghost use Rattle.squall_cli_device.specs.States.{FoundEnd, NoReadFails};
+ghost use Rattle.squall_cli_device.specs.States.{FoundEnd, GaveAll, GaveBytes, NoReadFails};
 ghost use Rattle.squall_cli_lines.specs.Heeding.{InputFails, Says};
 ghost use Rattle.squall_cli_boards.specs.Files.{file_with};
-ghost use Rattle.squall_cli_ask.specs.Files.{is_input};
+ghost use Rattle.squall_cli_ask.specs.Files.{is_input, AddsNames};
 ghost use Rattle.squall_cli_ask.specs.Reads.{inputs_at, ReadsFrom, ReadsAll};
-ghost use Rattle.squall_cli_ask.specs.Told.{IsTold, IsUnread};
+ghost use Rattle.squall_cli_ask.specs.Told.{status_of, fault_told, IsTold, IsUnread};
 ghost use Rattle.squall_cli_ask.specs.Gathered.{AreRead, IsNextRead, TakesSome};
 
 use crate::files::Files;
-use crate::messages::{tell_fault, tell_read, tell_unopened};
+use crate::messages::{tell_fault, tell_unopened};
 use squall_cli_boards::NamedFile;
 use squall_cli_device::{Sink, Source};
 use squall_cli_lines::{RunFault, read_all};
 use std::alloc::{AllocError, Global};
+
+/// The bytes of a source, up to its end. If they can't be had, it says why, and gives the status.
+fn read_source<S: Source, E: Sink>(
+    alloc: Global,
+    source: &mut S,
+    err: &mut E,
+) -> Result<Vec<u8>, u8>
+    ensures bytes { (read : List ℕ) × GaveBytes (S.state source.old) (S.state source.new) read × IfOk result (λ bytes. bytes.items ≡ read) }
+    ensures all { OnOk result (GaveAll (S.state source.old) (S.state source.new)) }
+
+    // Status 3 comes if a read failed or there were too many. It is the only one after a failed read.
+    ensures device { IfErr result (λ status. status ≡ 3 → InputFails (S.state source.old) (S.state source.new)) }
+    ensures heeds { result ≢ Err 3 → NoReadFails (S.state source.old) (S.state source.new) }
+    ensures fault { IfErr result IsUnread }
+    ensures told { IfErr result (λ status. (fault : RunFault) × (status ≡ status_of (Err fault))
+        × Says (E.state err.old) (E.state err.new) (fault_told fault)) }
+    ensures quiet { IsOk result → err.new ≡ err.old }
+{
+    match read_all(alloc, source) {
+        Ok(bytes) => Ok(bytes),
+        Err(fault) => Err(tell_fault(fault, err)),
+    }
+}
 
 /// The bytes of a file. If they can't be had, it says why, and gives the status.
 pub fn read_named<F: Files, S: Source, E: Sink>(
@@ -29,6 +52,8 @@ pub fn read_named<F: Files, S: Source, E: Sink>(
         × ReadsFrom (inputs_at (F.known files.old) (S.state input.old)) (inputs_at (F.known files.new) (S.state input.new)) name.now read
         × IfOk result (λ bytes. (bytes.items ≡ read)
         × ReadsAll (inputs_at (F.known files.old) (S.state input.old)) (inputs_at (F.known files.new) (S.state input.new)) name.now read) }
+    ensures once { is_input name.now ≡ false → AddsNames (F.opened files.old) (F.opened files.new) (name.now ∷ []) }
+    ensures unopened { is_input name.now ≡ true → F.opened files.new ≡ F.opened files.old }
     ensures ended { is_input name.now ≡ true → IsOk result → FoundEnd (S.state input.old) (S.state input.new) }
     ensures kept { is_input name.now ≡ false → input.new ≡ input.old }
     ensures files { F.known files.new ≡ F.known files.old }
@@ -40,10 +65,10 @@ pub fn read_named<F: Files, S: Source, E: Sink>(
     ensures quiet { IsOk result → err.new ≡ err.old }
 {
     if name == "-" {
-        return tell_read(read_all(alloc, input), err);
+        return read_source(alloc, input, err);
     }
     match files.open(name) {
-        Some(mut file) => tell_read(read_all(alloc, &mut file), err),
+        Some(mut file) => read_source(alloc, &mut file, err),
         None => Err(tell_unopened(name, err)),
     }
 }
@@ -111,7 +136,7 @@ pub(crate) fn read_files<F: Files, S: Source, E: Sink>(
         (map string_bytes names.now) read.items) }
     ensures some { TakesSome (S.state input.old).remaining (S.state input.new).remaining }
     ensures ended { list_any is_input (map string_bytes names.now) ≡ true → IsOk result → FoundEnd (S.state input.old) (S.state input.new) }
-    ensures kept { list_any is_input (map string_bytes names.now) ≡ false → IsOk result → input.new ≡ input.old }
+    ensures kept { list_any is_input (map string_bytes names.now) ≡ false → input.new ≡ input.old }
     ensures files { F.known files.new ≡ F.known files.old }
     ensures fault { IfErr result IsUnread }
     ensures device { IfErr result (λ status. status ≡ 3 → InputFails (S.state input.old) (S.state input.new)

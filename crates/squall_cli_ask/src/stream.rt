@@ -8,16 +8,17 @@ ghost use Rattle.squall_cli_ask.specs.Files.{is_input};
 ghost use Rattle.squall_cli_ask.specs.Reads.{bytes_at};
 ghost use Rattle.squall_cli_ask.specs.Told.{IsTold, input_taken_told};
 ghost use Rattle.squall_cli_ask.specs.Asked.{AnswersNothing};
-ghost use Rattle.squall_cli_ask.specs.Followed.{files_followed, IsStreamed, AnswersStream, IsFollowed, IsDrawnFor, DrawsStream};
+ghost use Rattle.squall_cli_ask.specs.Followed.{files_followed, IsStreamed, AnswersStream, IsFollowed, IsPromptTo, FollowsPromptly, IsDrawnFor, DrawsStream};
 
 use crate::files::Files;
+use crate::lines::answer_keys;
 use crate::messages::{BAD_WORDS, say, tell_outcome};
 use crate::reading::read_files;
+use crate::watching::watch_files;
 use squall_cli_boards::NamedFile;
 use squall_cli_command::{Follow, Stream};
 use squall_cli_device::{Sink, Source};
 use squall_cli_lines::{Ended, RunFault};
-use squall_cli_stream::{answer_keys, watch_files};
 use std::alloc::Global;
 
 /// Whether one of the names is that of standard input.
@@ -54,6 +55,7 @@ fn answer_input<S: Source, O: Sink, E: Sink>(
     err: &mut E,
 ) -> Result<Ended, RunFault>
     ensures text { ReadAndWrote (S.state input.old) (S.state input.new) (O.state out.old) (O.state out.new) (IsStreamed stream result files.now) }
+    ensures prompt { ReadAndWrote (S.state input.old) (S.state input.new) (O.state out.old) (O.state out.new) (IsPromptTo stream files.now) }
     ensures fine { result ≡ Ok Ended.Fine → GaveAll (S.state input.old) (S.state input.new) }
     ensures heeds_reads { HeedsReads result (S.state input.old) (S.state input.new) }
     ensures heeds_writes { HeedsWrites result (O.state out.old) (O.state out.new) }
@@ -80,6 +82,8 @@ fn answer_after<F: Files, S: Source, O: Sink, E: Sink>(
         (bytes_at (F.known files.new) (S.state input.new) (O.state out.new)) (files_followed follow.now) result
         ⊎ AnswersNothing (bytes_at (F.known files.old) (S.state input.old) (O.state out.old))
         (bytes_at (F.known files.new) (S.state input.new) (O.state out.new)) result }
+    ensures prompt { FollowsPromptly follow.now.stream (bytes_at (F.known files.old) (S.state input.old) (O.state out.old))
+        (bytes_at (F.known files.new) (S.state input.new) (O.state out.new)) (files_followed follow.now) }
     ensures ended { result ≡ 0 → FoundEnd (S.state input.old) (S.state input.new) }
     ensures device { result ≡ 3 → InputFails (S.state input.old) (S.state input.new)
         ⊎ (OutputFails (O.state out.old) (O.state out.new) ⊎ (list_all is_input (files_followed follow.now) ≡ false)) }
@@ -99,8 +103,8 @@ fn answer_after<F: Files, S: Source, O: Sink, E: Sink>(
 }
 
 /// Does what is asked of standard input as it comes. It reads the files that are named, in their
-/// order, and then answers what `input` gives, up to its end. It gives the status with which the
-/// program is to end.
+/// order, and then answers what `input` gives, up to its end. What one read brings is answered before
+/// the next read. It gives the status with which the program is to end.
 ///
 /// - 0: all that `input` gives is answered.
 /// - 1: the last answer refuses what was given: a file, and then nothing is read of `input`, or
@@ -121,6 +125,8 @@ pub fn answer_stream<F: Files, S: Source, O: Sink, E: Sink>(
 ) -> u8
     ensures done { IsFollowed follow.now.stream (bytes_at (F.known files.old) (S.state input.old) (O.state out.old))
         (bytes_at (F.known files.new) (S.state input.new) (O.state out.new)) (files_followed follow.now) result }
+    ensures prompt { FollowsPromptly follow.now.stream (bytes_at (F.known files.old) (S.state input.old) (O.state out.old))
+        (bytes_at (F.known files.new) (S.state input.new) (O.state out.new)) (files_followed follow.now) }
     ensures ended { result ≡ 0 → FoundEnd (S.state input.old) (S.state input.new) }
     ensures device { result ≡ 3 → InputFails (S.state input.old) (S.state input.new) ⊎ (OutputFails (O.state out.old) (O.state out.new)
         ⊎ (list_all is_input (files_followed follow.now) ≡ false)) }

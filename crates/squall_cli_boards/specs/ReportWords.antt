@@ -1,25 +1,15 @@
 -- What the words of a report ask for (this project's command line).
 use Rattle.std.specs.Prelude.{ℕ, List, [], ◌∷◌, drop, ◌==◌, Option, None, Some, codes, if◌then◌else◌}
-use Rattle.std.specs.List.{flat_map}
 use Rattle.std.specs.Option.{option_map, option_and_then}
 use Rattle.std.specs.Str.{bytes_eq}
 use Rattle.squall_key.specs.Numbers.{number_of}
-use Rattle.squall_cli_lines.specs.Words.{words_of}
 use Rattle.squall_cli_words.specs.ReportLines.{report_line, report_of}
 use Rattle.squall_cli_boards.specs.declared.question.Question.{Question}
 use Rattle.squall_cli_boards.specs.declared.question.Question.TheVariants as ask
 
--- a blank and a word
-abbrev pub next_word : List ℕ → List ℕ
-next_word word = 32 ∷ word
-
--- the words on a line, a blank before each
-abbrev pub line_of : List (List ℕ) → List ℕ
-line_of words = flat_map next_word words
-
 -- the report that the name and the words after it write: of a load, a completion or an opening, as in a scenario
 abbrev pub report_in : List ℕ → List (List ℕ) → Option Question
-report_in name rest = option_map (λ report. ask.Report report) (option_and_then report_of (report_line name (words_of (line_of rest))))
+report_in name rest = option_map (λ report. ask.Report report) (option_and_then report_of (report_line name rest))
 
 abbrev pub issue_numbered : ℕ → Option Question
 issue_numbered number = if number == 0 then None else Some (ask.Issue number)

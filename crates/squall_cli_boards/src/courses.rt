@@ -2,9 +2,8 @@
 
 ghost use Rattle.std.specs.Prelude.{◌≡◌, IfOk, drop, map, string_bytes};
 ghost use Rattle.squall_board.specs.CourseRoute.{course_of_board};
-ghost use Rattle.squall_cli_boards.specs.Answers.{AnswersIn, AnswersFirstPlans};
+ghost use Rattle.squall_cli_boards.specs.Answers.{AnswersFirstPlans};
 ghost use Rattle.squall_cli_boards.specs.Courses.{status_in, form_asked, ShowsStatus, ShowsPicture, ShowsCourse, AnswersNewest};
-ghost use Rattle.squall_cli_boards.specs.Files.{files_joined};
 
 use crate::answer::Answer;
 use crate::file::NamedFile;
@@ -45,8 +44,8 @@ impl CourseQuestion {
     }
 }
 
-/// How far a course has come, in the form.
-fn status_text(
+/// How far a course has come, in the form. An error means that an allocation failed.
+pub fn status_text(
     alloc: Global,
     form: Form,
     shown: Shown,
@@ -115,32 +114,9 @@ fn shown_newest(
 ) -> Result<Answer, AllocError>
     ensures { IfOk result (λ a. ShowsCourse question (map string_bytes words.now) (course_of_board first.now board.now) board.now a) }
 {
-    match board.newest(first) {
-        Some((number, issue)) => {
-            let Ok(course) = Course::new(alloc, number, issue.old(), issue.new_plan()) else {
-                // The number is above that of the first course, so that only memory is missing.
-                return Err(AllocError);
-            };
-            shown_course(alloc, question, words, &course, board)
-        }
+    match board.newest_course(alloc, first)? {
+        Some(course) => shown_course(alloc, question, words, &course, board),
         None => shown_course(alloc, question, words, first, board),
-    }
-}
-
-/// The answer about the newest course of a first one and of the files.
-fn newest_of_files(
-    alloc: Global,
-    question: CourseQuestion,
-    words: &[String],
-    first: &Course,
-    files: &[NamedFile],
-) -> Result<Answer, AllocError>
-    ensures { IfOk result (λ a. AnswersIn (form_asked question)
-        (λ b. ShowsCourse question (map string_bytes words.now) (course_of_board first.now b) b) (files_joined files.now) a) }
-{
-    match join_all(alloc, files)? {
-        Ok(board) => shown_newest(alloc, question, words, first, &board),
-        Err(refusal) => refusal.answer(alloc, question.form()),
     }
 }
 
@@ -156,7 +132,10 @@ fn newest_of_plans(
     ensures { IfOk result (λ a. AnswersNewest question (map string_bytes words.now) files.now old.now new.now a) }
 {
     let first = Course::first(alloc, old, new)?;
-    newest_of_files(alloc, question, words, &first, files)
+    match join_all(alloc, files)? {
+        Ok(board) => shown_newest(alloc, question, words, &first, &board),
+        Err(refusal) => refusal.answer(alloc, question.form()),
+    }
 }
 
 /// The files after the first two.

@@ -2,9 +2,9 @@
 
 ghost use Rattle.std.specs.Prelude.{◌≡◌, ◌≢◌, map, IfOk};
 ghost use Rattle.squall_wire.specs.Messages.{body_of};
-ghost use Rattle.squall_cli_boards.specs.Files.{bodies_in, fault_in, digest_of_file};
+ghost use Rattle.squall_cli_boards.specs.Files.{bodies_in, fault_in, fault_after, digest_of_file};
 
-use squall_wire::{Digest, Message, WireFault, decode};
+use squall_wire::{Digest, Heard, Message, WireFault, decode, hear};
 use std::alloc::{AllocError, Global};
 
 /// The fault of a file, unless it is that of a failed allocation.
@@ -17,8 +17,20 @@ fn file_fault(fault: WireFault) -> Result<WireFault, AllocError>
     }
 }
 
+/// The fault of what follows the frames: bytes that are too few for a frame are `Short`.
+fn fault_after(fault: Option<WireFault>, rest: &[u8]) -> Option<WireFault>
+    ensures { result ≡ fault_after fault rest.now }
+{
+    match (fault, rest) {
+        (Some(fault), _) => Some(fault),
+        (None, []) => None,
+        (None, [_, ..]) => Some(WireFault::Short),
+    }
+}
+
 /// The messages whose frames the file begins with, one after the other, and the fault of what
 /// follows them. None if nothing follows.
+#[tactic(auto, using(crate::proofs::Heard::bodies_heard, crate::proofs::Heard::fault_heard))]
 pub(crate) fn hear_file(
     alloc: Global,
     bytes: &[u8],
@@ -26,18 +38,9 @@ pub(crate) fn hear_file(
     ensures bodies { IfOk result (λ heard. map body_of heard.0.items ≡ bodies_in bytes.now) }
     ensures fault { IfOk result (λ heard. heard.1 ≡ fault_in bytes.now) }
 {
-    let mut messages = Vec::new(alloc);
-    let mut rest = bytes;
-    while !rest.is_empty() {
-        match decode(alloc, rest) {
-            Ok((message, used)) => {
-                messages.push(message)?;
-                rest = rest.split_at(used).1;
-            }
-            Err(fault) => return Ok((messages, Some(file_fault(fault)?))),
-        }
-    }
-    Ok((messages, None))
+    let (heard, rest) = hear(alloc, bytes)?;
+    let Heard { messages, fault } = heard;
+    Ok((messages, fault_after(fault, rest)))
 }
 
 /// The digest of a file that is the frame of one, or the fault of the file; and apart from both a

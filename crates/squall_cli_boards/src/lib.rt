@@ -20,7 +20,7 @@ mod report_words;
 mod routes;
 
 pub use answer::Answer;
-pub use courses::CourseQuestion;
+pub use courses::{CourseQuestion, status_text};
 pub use file::NamedFile;
 pub use joining::join_files;
 pub use plans::{plans_in, read_plans};

@@ -1,46 +1,125 @@
 //! The words of a report on a command line.
 
-ghost use Rattle.std.specs.Prelude.{◌≡◌, IfOk, IfSome, map, string_bytes};
-ghost use Rattle.squall_cli_lines.specs.Words.{words_of};
-ghost use Rattle.std.specs.Option.{option_map, option_and_then};
-ghost use Rattle.squall_cli_words.specs.ReportLines.{report_line, report_of};
-ghost use Rattle.squall_cli_boards.specs.declared.question.Question.TheVariants.{Report as Reported};
+ghost use Rattle.std.specs.Prelude.{◌≡◌, IfSome, map, string_bytes};
+ghost use Rattle.std.specs.Option.{option_map};
+ghost use Rattle.squall_key.specs.Keys.{bound_of};
+ghost use Rattle.squall_cli_lines.specs.Words.{only_word};
+ghost use Rattle.squall_cli_words.specs.Forms.{number_first, cell_first, two_bounds};
+ghost use Rattle.squall_cli_words.specs.ReportLines.{loaded_line, done_line, opened_line, report_line};
 ghost use Rattle.squall_cli_boards.specs.Questions.{IsAskable};
-ghost use Rattle.squall_cli_boards.specs.ReportWords.{line_of, report_in, issue_in, issue_numbered, question_in, question_of_report};
+ghost use Rattle.squall_cli_boards.specs.ReportWords.{report_in, issue_in, issue_numbered, question_in, question_of_report};
 ghost use Rattle.squall_cli_boards.specs.ReportWords.{files_of_report};
 
 use crate::question::Question;
-use squall_cli_words::report_line;
-use squall_key::read_number;
-use std::alloc::{AllocError, Global};
+use squall_cli_words::ReportWords;
+use squall_key::{Bound, read_number};
 
-/// The words on a line, a blank before each.
-fn line_of(alloc: Global, words: &[String]) -> Result<String, AllocError>
-    ensures { IfOk result (λ line. string_bytes line ≡ line_of (map string_bytes words.now)) }
+/// The number that the first word writes, and the words after it.
+fn number_first(words: &[String]) -> Option<(u32, &[String])>
+    ensures { option_map (λ r. (r.0, map string_bytes r.1.now)) result ≡ number_first (map string_bytes words.now) }
 {
-    let mut line = String::new(alloc);
-    for word in words {
-        line.push_str(" ")?;
-        line.push_str(word.as_str())?;
+    match words {
+        [word, rest @ ..] => Some((read_number(word.as_str().as_bytes())?, rest)),
+        [] => None,
     }
-    Ok(line)
 }
 
-/// The report that a line writes after its name.
-fn read_report(name: &[u8], rest: &[u8]) -> Option<Question>
-    ensures { result ≡ option_map (λ report. Reported report) (option_and_then report_of (report_line name.now (words_of rest.now))) }
+/// The numbers of a course, a sub-plan and a partition, and the words after them.
+fn cell_first(words: &[String]) -> Option<(u32, u32, u32, &[String])>
+    ensures { option_map (λ r. (r.0, r.1, r.2, map string_bytes r.3.now)) result ≡ cell_first (map string_bytes words.now) }
 {
-    let words = report_line(name, rest)?;
-    let report = words.report()?;
-    Some(Question::Report(report))
+    let (number, rest) = number_first(words)?;
+    let (sub, rest) = number_first(rest)?;
+    let (part, rest) = number_first(rest)?;
+    Some((number, sub, part, rest))
+}
+
+/// The bound that a word writes.
+fn bound_in(word: &String) -> Option<Bound>
+    ensures { result ≡ bound_of (string_bytes word.now) }
+{
+    Bound::read_bytes(word.as_str().as_bytes())
+}
+
+/// The only word that there is.
+fn only_word(words: &[String]) -> Option<&String>
+    ensures { option_map (λ w. string_bytes w.now) result ≡ only_word (map string_bytes words.now) }
+{
+    match words {
+        [word] => Some(word),
+        _ => None,
+    }
+}
+
+/// The two bounds that are written.
+fn two_bounds(words: &[String]) -> Option<(Bound, Bound)>
+    ensures { result ≡ two_bounds (map string_bytes words.now) }
+{
+    match words {
+        [word, rest @ ..] => {
+            let other = only_word(rest)?;
+            let lo = bound_in(word)?;
+            let hi = bound_in(other)?;
+            Some((lo, hi))
+        }
+        [] => None,
+    }
+}
+
+/// `N S P LO HI`
+fn loaded_words(words: &[String]) -> Option<ReportWords>
+    ensures { result ≡ loaded_line (map string_bytes words.now) }
+{
+    let (number, sub, part, rest) = cell_first(words)?;
+    let (lo, hi) = two_bounds(rest)?;
+    Some(ReportWords::Loaded {
+        number,
+        sub,
+        part,
+        lo,
+        hi,
+    })
+}
+
+/// `N S P`
+fn done_words(words: &[String]) -> Option<ReportWords>
+    ensures { result ≡ done_line (map string_bytes words.now) }
+{
+    match cell_first(words)? {
+        (number, sub, part, []) => Some(ReportWords::Done { number, sub, part }),
+        _ => None,
+    }
+}
+
+/// `N S`
+fn opened_words(words: &[String]) -> Option<ReportWords>
+    ensures { result ≡ opened_line (map string_bytes words.now) }
+{
+    let (number, rest) = number_first(words)?;
+    let sub = read_number(only_word(rest)?.as_str().as_bytes())?;
+    Some(ReportWords::Opened { number, sub })
+}
+
+/// What the words after the name of a report write. Each word is read by itself, so none may be
+/// empty or have a blank.
+fn words_in(name: &str, rest: &[String]) -> Option<ReportWords>
+    ensures { result ≡ report_line name.now (map string_bytes rest.now) }
+{
+    match name {
+        "loaded" => loaded_words(rest),
+        "done" => done_words(rest),
+        "opened" => opened_words(rest),
+        _ => None,
+    }
 }
 
 /// The report that the words write after its name.
-fn report_in(alloc: Global, name: &str, rest: &[String]) -> Result<Option<Question>, AllocError>
-    ensures { IfOk result (λ question. question ≡ report_in name.now (map string_bytes rest.now)) }
+fn report_in(name: &str, rest: &[String]) -> Option<Question>
+    ensures { result ≡ report_in name.now (map string_bytes rest.now) }
 {
-    let line = line_of(alloc, rest)?;
-    Ok(read_report(name.as_bytes(), line.as_bytes()))
+    let words = words_in(name, rest)?;
+    let report = words.report()?;
+    Some(Question::Report(report))
 }
 
 /// The issue of that number. None if the number is 0.
@@ -64,25 +143,26 @@ fn issue_in(rest: &[String]) -> Option<Question>
 }
 
 /// The question of the words after a name.
-fn question_in(alloc: Global, name: &str, rest: &[String]) -> Result<Option<Question>, AllocError>
-    ensures { IfOk result (λ question. question ≡ question_in name.now (map string_bytes rest.now)) }
+fn question_in(name: &str, rest: &[String]) -> Option<Question>
+    ensures { result ≡ question_in name.now (map string_bytes rest.now) }
 {
     if name == "issued" {
-        return Ok(issue_in(rest));
+        return issue_in(rest);
     }
-    report_in(alloc, name, rest)
+    report_in(name, rest)
 }
 
 /// The question that the words of a report ask: `loaded N S P LO HI`, `done N S P`, `opened N S` or
 /// `issued N OLD NEW`. OLD and NEW name the files of two plans. None if the words are no report or a
-/// number lies outside its limits.
-pub fn report_question(alloc: Global, words: &[String]) -> Result<Option<Question>, AllocError>
-    ensures question { IfOk result (λ question. question ≡ question_of_report (map string_bytes words.now)) }
-    ensures askable { IfOk result (λ question. IfSome question IsAskable) }
+/// number lies outside its limits. Each word is read by itself: one that is empty or has a blank is
+/// no number.
+pub fn report_question(words: &[String]) -> Option<Question>
+    ensures question { result ≡ question_of_report (map string_bytes words.now) }
+    ensures askable { IfSome result IsAskable }
 {
     match words {
-        [] => Ok(None),
-        [name, rest @ ..] => question_in(alloc, name.as_str(), rest),
+        [] => None,
+        [name, rest @ ..] => question_in(name.as_str(), rest),
     }
 }
 

@@ -12,7 +12,7 @@ use clap::{Arg, ArgAction, Command};
 use std::alloc::{AllocError, Global};
 
 const STATUS: &str =
-    "OLD and NEW are the plans of the first reconfiguration. The status is that of the newest one that
+    "OLD and NEW are the plans of the first course. The status is that of the newest one that
 the files tell of.
 
 Example:
@@ -20,7 +20,7 @@ Example:
   squall status --json old.json new.json board.bin";
 
 const PICTURE: &str =
-    "OLD and NEW are the plans of the first reconfiguration. The picture is that of the newest one that
+    "OLD and NEW are the plans of the first course. The picture is that of the newest one that
 the files tell of: its old plan above, its new plan below, and a band between them for each move.
 The loaded share of a band is filled.
 
@@ -28,7 +28,7 @@ Example:
   squall picture old.json new.json board.bin >move.svg";
 
 const WATCH: &str =
-    "OLD and NEW are the plans of the first reconfiguration. Frames of boards are read from standard
+    "OLD and NEW are the plans of the first course. Frames of boards are read from standard
 input as they come, so that no file can be -. Each frame is answered before the next read: with the
 lines of squall status that it changes, and the first frame with all of them. A frame that is broken
 ends the answers.
@@ -43,7 +43,7 @@ Example:
   tail -c +1 -f board.bin | squall watch --json old.json new.json";
 
 const ROUTE: &str =
-    "OLD and NEW are the plans of the first reconfiguration. A key is written ROOT:SECOND, as 2:0. The
+    "OLD and NEW are the plans of the first course. A key is written ROOT:SECOND, as 2:0. The
 answers are the lines that a scenario answers to: route KEY. See: squall help run
 
 Without a key, and with - as the only one, keys are read from standard input, one a line, and no
@@ -54,7 +54,7 @@ Example:
   squall route old.json new.json --board board.bin <keys.txt";
 
 const LEGS: &str =
-    "OLD and NEW are the plans of the first reconfiguration. LO and HI are two bounds, as 2:0 and end.
+    "OLD and NEW are the plans of the first course. LO and HI are two bounds, as 2:0 and end.
 Without them all keys are shown. The answers are the lines that a scenario answers to: legs LO HI.
 See: squall help run
 
@@ -97,7 +97,7 @@ pub(crate) fn status_command<'a>(alloc: Global) -> Result<Command<'a>, AllocErro
     of_plans(
         alloc,
         "status",
-        "Shows how far the newest reconfiguration is",
+        "Shows how far the newest course is",
         STATUS,
     )?
     .arg(files(alloc, "FILE", "The files of frames, or -"))?
@@ -117,7 +117,7 @@ pub(crate) fn picture_command<'a>(alloc: Global) -> Result<Command<'a>, AllocErr
     of_plans(
         alloc,
         "picture",
-        "Draws how far the newest reconfiguration is, as an SVG image",
+        "Draws how far the newest course is, as an SVG image",
         PICTURE,
     )?
     .arg(files(alloc, "FILE", "The files of frames, or -"))
@@ -131,7 +131,7 @@ pub(crate) fn watch_command<'a>(alloc: Global) -> Result<Command<'a>, AllocError
     of_plans(
         alloc,
         "watch",
-        "Shows how far the newest reconfiguration is, as frames come on standard input",
+        "Shows how far the newest course is, as frames come on standard input",
         WATCH,
     )?
     .arg(json(alloc))

@@ -15,7 +15,7 @@ use Rattle.squall_protocol.specs.declared.answer.Answer.{Answer}
 use Rattle.squall_protocol.specs.declared.answer.Answer.TheVariants.{Opened, Begun, Gave, Loaded, Again, Finished, Sent, Delivered, Routed, Served, Refused}
 use Rattle.squall_protocol.specs.declared.answer.Refusal.{Refusal}
 use Rattle.squall_protocol.specs.declared.answer.Refusal.TheVariants.{NoSuch, NotDone, NoMore, Running, NoNumber, NotOpen, NothingLeft}
-use Rattle.squall_protocol.specs.declared.answer.Refusal.TheVariants.{ZeroMax, NotOutgoing, Given, NotHeld, Stranger, NotAll, NothingDue}
+use Rattle.squall_protocol.specs.declared.answer.Refusal.TheVariants.{ZeroMax, NotOutgoing, Given, NotHeld, Stranger, NotAll, NothingDue, NotKnown}
 
 -- why nothing changed
 abbrev pub text_of_refusal : Refusal → List ℕ
@@ -33,6 +33,7 @@ text_of_refusal NotHeld = codes "NotHeld"
 text_of_refusal Stranger = codes "Stranger"
 text_of_refusal (NotAll span) = codes "NotAll " ++ text_of_span span
 text_of_refusal NothingDue = codes "NothingDue"
+text_of_refusal NotKnown = codes "NotKnown"
 
 -- a partition's reply: `moved` with the partition and the number of the reconfiguration, `pending` with the source
 abbrev pub text_of_reply : Reply → List ℕ
@@ -64,6 +65,7 @@ asked_key (event.GiveAt part key) = key
 asked_key (event.Load chunk) = 0
 asked_key (event.Finish part sub) = 0
 asked_key (event.Send node) = 0
+asked_key (event.SendPart node said) = 0
 asked_key (event.Deliver message node) = 0
 asked_key (event.Route router key) = key
 asked_key (event.Serve part key after) = key

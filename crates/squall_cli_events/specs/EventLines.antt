@@ -9,8 +9,14 @@ use Rattle.squall_key.specs.Numbers.{number_of}
 use Rattle.squall_plan.specs.declared.range.PlanRange.{PlanRange}
 use Rattle.squall_plan.specs.declared.fault.PlanFault.{PlanFault}
 use Rattle.squall_plan.specs.Form.{plan_of_text}
+use Rattle.squall_report.specs.declared.report.ReportKind.{ReportKind}
+use Rattle.squall_report.specs.Issues.{PlanPair}
+use Rattle.squall_board.specs.Takes.{board_by}
 use Rattle.squall_cli_lines.specs.Words.{only_word}
 use Rattle.squall_cli_words.specs.Forms.{number_first}
+use Rattle.squall_cli_words.specs.declared.reports.ReportWords.{ReportWords}
+use Rattle.squall_cli_words.specs.declared.reports.ReportWords.TheVariants as report
+use Rattle.squall_cli_words.specs.ReportLines.{report_line, report_of}
 use Rattle.squall_protocol.specs.declared.event.Node.{Node}
 use Rattle.squall_protocol.specs.declared.event.Node.TheVariants as node
 use Rattle.squall_protocol.specs.declared.event.Event.{Event}
@@ -31,6 +37,7 @@ pub data EventLine : Type 0 where
   Load : ℕ → EventLine
   Finish : ℕ → ℕ → EventLine
   Send : NodeWords → EventLine
+  SendPart : NodeWords → ReportWords → EventLine
   Deliver : ℕ → NodeWords → EventLine
   Route : ℕ → ℕ → EventLine
   Serve : ℕ → ℕ → ℕ → EventLine
@@ -79,9 +86,15 @@ load_line words = option_map Load (option_and_then number_of (only_word words))
 abbrev pub finish_line : List (List ℕ) → Option EventLine
 finish_line words = with_number (λ part word. option_map (Finish part) (number_of word)) words
 
--- send NODE
+-- what a node sends: all that it knows, if no word is left, or else the report that the words write
+abbrev pub sent_by : NodeWords → List (List ℕ) → Option EventLine
+sent_by node [] = Some (Send node)
+sent_by node (name ∷ words) = option_map (SendPart node) (report_line name words)
+
+-- send NODE, or send NODE REPORT
 abbrev pub send_line : List (List ℕ) → Option EventLine
-send_line words = option_map Send (option_and_then node_of (only_word words))
+send_line [] = None
+send_line (word ∷ words) = option_and_then (λ node. sent_by node words) (node_of word)
 
 -- deliver I NODE
 abbrev pub deliver_line : List (List ℕ) → Option EventLine
@@ -127,6 +140,9 @@ line_seen (words.GiveAt part key) = GiveAt part key
 line_seen (words.Load chunk) = Load chunk
 line_seen (words.Finish part sub) = Finish part sub
 line_seen (words.Send node) = Send node
+line_seen (words.SendLoaded node number sub part lo hi) = SendPart node (report.Loaded number sub part lo hi)
+line_seen (words.SendDone node number sub part) = SendPart node (report.Done number sub part)
+line_seen (words.SendOpened node number sub) = SendPart node (report.Opened number sub)
 line_seen (words.Deliver message node) = Deliver message node
 line_seen (words.Route router key) = Route router key
 line_seen (words.Serve part key after) = Serve part key after
@@ -146,6 +162,11 @@ at_node named.Leader e = Ok (e node.Leader)
 at_node (named.Part part) e = at_part part (e (node.Part part))
 at_node (named.Router router) e = Ok (e (node.Router router))
 
+-- the node sends the board of the one report, if the numbers of both lie within their limits
+abbrev pub said_of : NodeWords → Option (ReportKind PlanPair) → Result Event Unfit
+said_of node None = Err OverLimit
+said_of node (Some report) = at_node node (λ n. event.SendPart n (board_by (report ∷ [])))
+
 abbrev pub begin_of : Result (List PlanRange) PlanFault → Result Event Unfit
 begin_of (Ok plan) = Ok (event.Begin plan)
 begin_of (Err fault) = Err (NoPlan fault)
@@ -159,6 +180,7 @@ event_of (GiveAt part key) = at_part part (event.GiveAt part key)
 event_of (Load chunk) = Ok (event.Load chunk)
 event_of (Finish part sub) = at_sub sub (at_part part (event.Finish part sub))
 event_of (Send node) = at_node node event.Send
+event_of (SendPart node words) = said_of node (report_of words)
 event_of (Deliver message node) = at_node node (event.Deliver message)
 event_of (Route router key) = Ok (event.Route router key)
 event_of (Serve part key after) = at_part part (event.Serve part key after)

@@ -28,6 +28,7 @@ fn add_refusal(why: &Refusal, out: &mut String) -> Result<(), AllocError>
         Refusal::Stranger => write!(out, "Stranger"),
         Refusal::NotAll(span) => write!(out, "NotAll {span}"),
         Refusal::NothingDue => write!(out, "NothingDue"),
+        Refusal::NotKnown => write!(out, "NotKnown"),
     }
 }
 

@@ -1,18 +1,25 @@
 //! Events within their limits.
 
-ghost use Rattle.std.specs.Prelude.{◌≡◌, IfOk};
+ghost use Rattle.std.specs.Prelude.{◌≡◌, [], ◌∷◌, IfOk};
 ghost use Rattle.std.specs.Option.{option_map, ok_or};
 ghost use Rattle.squall_protocol.specs.declared.event.Node.{Node};
 ghost use Rattle.squall_protocol.specs.declared.event.Event.{Event};
 ghost use Rattle.squall_protocol.specs.declared.event.Event.TheVariants.{Finish};
 ghost use Rattle.squall_cli_events.specs.declared.events.Unfit.TheVariants.{OverLimit};
-ghost use Rattle.squall_cli_events.specs.EventLines.{line_seen, at_part, at_sub, at_node, begin_of, event_of};
+ghost use Rattle.squall_cli_events.specs.EventLines.{line_seen, at_part, at_sub, at_node, said_of, begin_of, event_of};
+ghost use Rattle.squall_plan.specs.Form.{plan_of_text};
+ghost use Rattle.squall_span.specs.Spans.{span_at};
+ghost use Rattle.squall_cli_words.specs.ReportLines.{load_of};
+ghost use Rattle.squall_board.specs.Takes.{board_by};
 
 use crate::words::{EventWords, NodeWords};
+use squall_board::Board;
 use squall_cli_words::read_plan;
-use squall_key::{PART_LIMIT, PartId};
+use squall_key::{Bound, PART_LIMIT, PartId};
 use squall_plan::{Plan, PlanFault};
 use squall_protocol::{Event, Node};
+use squall_report::Report;
+use squall_span::Span;
 use std::alloc::{AllocError, Global};
 
 /// Why a line is no event.
@@ -56,27 +63,94 @@ fn node_within(node: NodeWords) -> Option<Node>
     }
 }
 
+/// The board of one report.
+fn board_of(alloc: Global, report: &Report) -> Result<Board, AllocError>
+    ensures { IfOk result (λ board. board ≡ board_by (report.now ∷ [])) }
+{
+    let mut board = Board::new(alloc);
+    board.take(report)?;
+    Ok(board)
+}
+
+/// The report of a load, if its numbers lie within their limits and the span has a key.
+fn load_report(number: u32, sub: u32, part: u32, lo: Bound, hi: Bound) -> Option<Report>
+    ensures { result ≡ load_of (span_at lo hi) number sub part }
+{
+    let span = Span::new(lo, hi)?;
+    Report::loaded(number, sub, part, span)
+}
+
+/// That the node sends this one report, or why not: a number of either is outside its limits.
+fn send_part_event(
+    alloc: Global,
+    node: NodeWords,
+    report: Option<Report>,
+) -> Result<Result<Event, Unfit>, AllocError>
+    ensures { IfOk result (λ event. event ≡ said_of node report) }
+{
+    let Some(report) = report else {
+        return Ok(Err(Unfit::OverLimit));
+    };
+    let Some(node) = node_within(node) else {
+        return Ok(Err(Unfit::OverLimit));
+    };
+    let board = board_of(alloc, &report)?;
+    Ok(Ok(Event::SendPart(node, board)))
+}
+
+/// The event that begins a course to the plan of the text, or why there is none.
+fn begin_line(alloc: Global, text: &[u8]) -> Result<Result<Event, Unfit>, AllocError>
+    ensures { IfOk result (λ event. event ≡ begin_of (plan_of_text text.now)) }
+{
+    Ok(begin_event(read_plan(alloc, text)?))
+}
+
+/// The event, or that a number is outside its limits.
+fn within(event: Option<Event>) -> Result<Result<Event, Unfit>, AllocError>
+    ensures { IfOk result (λ found. found ≡ ok_or event OverLimit) }
+{
+    Ok(event.ok_or(Unfit::OverLimit))
+}
+
 /// The event of a line, or why it is none; and apart from both a failed allocation, which only the
-/// plan of `begin` may meet. A router, a chunk or a message may have any number: one that is not
-/// there is for the world to refuse.
+/// plan of `begin` and the report of `send` may meet. A router, a chunk or a message may have any
+/// number: one that is not there is for the world to refuse.
 pub fn event_of(alloc: Global, words: EventWords) -> Result<Result<Event, Unfit>, AllocError>
     ensures { IfOk result (λ event. event_of (line_seen words.entry) ≡ event) }
 {
-    let event = match words {
-        EventWords::Open => Some(Event::OpenNext),
-        EventWords::Begin(text) => return Ok(begin_event(read_plan(alloc, text)?)),
-        EventWords::Give { part, most } => PartId::new(part).map(|part| Event::Give(part, most)),
-        EventWords::GiveAt { part, key } => PartId::new(part).map(|part| Event::GiveAt(part, key)),
-        EventWords::Load(chunk) => Some(Event::Load(chunk as usize)),
-        EventWords::Finish { part, sub } => finish_event(part, sub),
-        EventWords::Send(node) => node_within(node).map(|node| Event::Send(node)),
+    match words {
+        EventWords::Open => within(Some(Event::OpenNext)),
+        EventWords::Begin(text) => begin_line(alloc, text),
+        EventWords::Give { part, most } => within(PartId::new(part).map(|p| Event::Give(p, most))),
+        EventWords::GiveAt { part, key } => {
+            within(PartId::new(part).map(|part| Event::GiveAt(part, key)))
+        }
+        EventWords::Load(chunk) => within(Some(Event::Load(chunk as usize))),
+        EventWords::Finish { part, sub } => within(finish_event(part, sub)),
+        EventWords::Send(node) => within(node_within(node).map(|node| Event::Send(node))),
+        EventWords::SendLoaded {
+            node,
+            number,
+            sub,
+            part,
+            lo,
+            hi,
+        } => send_part_event(alloc, node, load_report(number, sub, part, lo, hi)),
+        EventWords::SendDone {
+            node,
+            number,
+            sub,
+            part,
+        } => send_part_event(alloc, node, Report::done(number, sub, part)),
+        EventWords::SendOpened { node, number, sub } => {
+            send_part_event(alloc, node, Report::opened(number, sub))
+        }
         EventWords::Deliver { message, node } => {
-            node_within(node).map(|node| Event::Deliver(message as usize, node))
+            within(node_within(node).map(|node| Event::Deliver(message as usize, node)))
         }
-        EventWords::Route { router, key } => Some(Event::Route(router, key)),
+        EventWords::Route { router, key } => within(Some(Event::Route(router, key))),
         EventWords::Serve { part, key, after } => {
-            PartId::new(part).map(|part| Event::Serve(part, key, after))
+            within(PartId::new(part).map(|part| Event::Serve(part, key, after)))
         }
-    };
-    Ok(event.ok_or(Unfit::OverLimit))
+    }
 }

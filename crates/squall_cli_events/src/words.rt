@@ -3,14 +3,15 @@
 ghost use Rattle.std.specs.Prelude.{◌≡◌};
 ghost use Rattle.std.specs.Option.{option_map};
 ghost use Rattle.squall_cli_lines.specs.Words.{words_of, is_letter, from_first};
-ghost use Rattle.squall_cli_events.specs.EventLines.{line_seen, after_of, give_line, give_at_line, load_line, finish_line};
+ghost use Rattle.squall_cli_events.specs.EventLines.{SendPart, line_seen, after_of, give_line, give_at_line, load_line, finish_line};
 ghost use Rattle.squall_cli_events.specs.EventLines.{send_line, deliver_line, route_line, serve_line, event_line};
 
 use crate::most::read_most;
 use crate::nodes::read_node;
 use squall_cli_lines::words::{after_blanks, next_word, only_word};
 use squall_cli_words::words::{no_word, number_first};
-use squall_key::{Key, read_number};
+use squall_cli_words::{ReportWords, report_line};
+use squall_key::{Bound, Key, read_number};
 
 /// A node as a line writes it, whatever its number is.
 #[derive(Clone, Copy, Debug)]
@@ -55,6 +56,41 @@ pub enum EventWords<'a> {
     },
     /// `send NODE`
     Send(NodeWords),
+    /// `send NODE loaded N S P LO HI`
+    SendLoaded {
+        /// The node that sends.
+        node: NodeWords,
+        /// The number of the reconfiguration.
+        number: u32,
+        /// The sub-plan.
+        sub: u32,
+        /// The partition that loaded the keys.
+        part: u32,
+        /// The first key.
+        lo: Bound,
+        /// The end of the keys.
+        hi: Bound,
+    },
+    /// `send NODE done N S P`
+    SendDone {
+        /// The node that sends.
+        node: NodeWords,
+        /// The number of the reconfiguration.
+        number: u32,
+        /// The sub-plan.
+        sub: u32,
+        /// The partition that has all its keys.
+        part: u32,
+    },
+    /// `send NODE opened N S`
+    SendOpened {
+        /// The node that sends.
+        node: NodeWords,
+        /// The number of the reconfiguration.
+        number: u32,
+        /// The sub-plan.
+        sub: u32,
+    },
     /// `deliver I NODE`
     Deliver {
         /// The index of a message.
@@ -115,12 +151,46 @@ fn finish_line(rest: &[u8]) -> Option<EventWords<'static>>
     Some(EventWords::Finish { part, sub })
 }
 
-/// `send NODE`
+/// That the node sends the one report.
+fn sent(node: NodeWords, report: ReportWords) -> EventWords<'static>
+    ensures { line_seen result ≡ SendPart node report }
+{
+    match report {
+        ReportWords::Loaded {
+            number,
+            sub,
+            part,
+            lo,
+            hi,
+        } => EventWords::SendLoaded {
+            node,
+            number,
+            sub,
+            part,
+            lo,
+            hi,
+        },
+        ReportWords::Done { number, sub, part } => EventWords::SendDone {
+            node,
+            number,
+            sub,
+            part,
+        },
+        ReportWords::Opened { number, sub } => EventWords::SendOpened { node, number, sub },
+    }
+}
+
+/// `send NODE`, or `send NODE REPORT`
 fn send_line(rest: &[u8]) -> Option<EventWords<'static>>
     ensures { option_map line_seen result ≡ send_line (words_of rest.now) }
 {
-    let node = read_node(only_word(rest)?)?;
-    Some(EventWords::Send(node))
+    let (word, rest) = next_word(rest)?;
+    let node = read_node(word)?;
+    let Some((name, rest)) = next_word(rest) else {
+        return Some(EventWords::Send(node));
+    };
+    let report = report_line(name, rest)?;
+    Some(sent(node, report))
 }
 
 /// `deliver I NODE`

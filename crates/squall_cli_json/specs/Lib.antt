@@ -15,3 +15,4 @@ pub use Rattle.squall_status.specs.Coming
 pub use Rattle.squall_status.specs.Summary
 pub use Rattle.squall_status.specs.Texts
 pub mod Values
+pub mod Tokens

@@ -3,138 +3,110 @@
 ghost use Rattle.std.specs.Prelude.{◌≡◌, ◌++◌, IfOk, OnOk, map, string_bytes};
 ghost use Rattle.std.specs.Arc.{arc_value};
 ghost use Rattle.std.specs.List.{flat_map as joined_map};
-ghost use Rattle.serde_json.specs.View.{view};
 ghost use Rattle.squall_join.specs.Flats.{flat_map};
-ghost use Rattle.squall_board.specs.Listed.{cell_entry};
-ghost use Rattle.squall_cli_json.specs.Values.{json_line, json_of_opening, items_of_issue, issue_items, json_of_span};
-ghost use Rattle.squall_cli_json.specs.Values.{json_of_cell, json_of_lists, json_of_board};
+ghost use Rattle.squall_cli_json.specs.Tokens.{tokens_of, tokens_of_each};
+ghost use Rattle.squall_cli_json.specs.Values.{json_line, json_of_list, json_of_opening, json_of_issue, items_of_issue, issue_items};
+ghost use Rattle.squall_cli_json.specs.Values.{json_of_board};
 
-use crate::plan::span_value;
-use crate::text::line_of;
-use serde_json::{Value, json};
-use squall_board::{Board, CellParts, Opening};
+use crate::cell::write_cells;
+use crate::write::{write_flag_member, write_number_member, written_line};
+use json::Writer;
+use squall_board::{Board, Opening};
 use squall_join::Flat;
-use squall_report::{CellId, Issue};
-use squall_span::Span;
+use squall_report::Issue;
 use std::alloc::{AllocError, Global};
 use std::sync::Arc;
 
-/// An opening as a JSON value.
-fn opening_value(alloc: Global, opening: &Opening) -> Result<Value, AllocError>
-    ensures { IfOk result (λ v. view v ≡ json_of_opening opening.now) }
+/// Writes an opening.
+fn write_opening(writer: &mut Writer, opening: &Opening) -> Result<(), AllocError>
+    ensures tokens { OnOk result (writer.new.tokens ≡ writer.old.tokens ++ tokens_of (json_of_opening opening.now)) }
+    ensures before { writer.new.before ≡ writer.old.before }
 {
-    let number = opening.number;
-    let count = opening.count;
-    json!(in alloc; {"course": number, "subplans": count})
+    writer.begin_object()?;
+    write_number_member(writer, "course", opening.number)?;
+    write_number_member(writer, "subplans", opening.count)?;
+    writer.end_object()
 }
 
-/// The openings as JSON values.
-fn opening_values(alloc: Global, openings: &[Opening]) -> Result<Vec<Value>, AllocError>
-    ensures { IfOk result (λ vs. map view vs.items ≡ map json_of_opening openings.now) }
+/// Writes the openings as a list.
+#[tactic(auto, using(crate::proofs::Streams::listed, std::proofs::lemmas::List::take_all))]
+fn write_openings(writer: &mut Writer, openings: &[Opening]) -> Result<(), AllocError>
+    ensures tokens { OnOk result (writer.new.tokens ≡ writer.old.tokens ++ tokens_of (json_of_list (map json_of_opening openings.now))) }
+    ensures before { writer.new.before ≡ writer.old.before }
 {
-    let mut values = Vec::new(alloc);
+    writer.begin_array()?;
     for opening in openings {
-        values.push(opening_value(alloc, opening)?)?;
+        write_opening(writer, opening)?;
     }
-    Ok(values)
+    writer.end_array()
 }
 
-/// Adds what is issued under the number, if anything is.
-fn add_issue(
-    alloc: Global,
+/// Writes whether different plans are issued under the number.
+fn write_issue(writer: &mut Writer, number: u32, clash: bool) -> Result<(), AllocError>
+    ensures tokens { OnOk result (writer.new.tokens ≡ writer.old.tokens ++ tokens_of (json_of_issue number clash)) }
+    ensures before { writer.new.before ≡ writer.old.before }
+{
+    writer.begin_object()?;
+    write_flag_member(writer, "clash", clash)?;
+    write_number_member(writer, "course", number)?;
+    writer.end_object()
+}
+
+/// Writes what is issued under the number, if anything is.
+fn write_issued(
+    writer: &mut Writer,
     number: u32,
     issue: &Flat<Arc<Issue>>,
-    values: &mut Vec<Value>,
 ) -> Result<(), AllocError>
-    ensures { OnOk result (map view values.new.items ≡ map view values.old.items ++ items_of_issue number (flat_map arc_value issue.now)) }
+    ensures tokens { OnOk result (writer.new.tokens
+        ≡ writer.old.tokens ++ tokens_of_each (items_of_issue number (flat_map arc_value issue.now))) }
+    ensures before { writer.new.before ≡ writer.old.before }
 {
     let clash = match issue {
         Flat::Unknown => return Ok(()),
         Flat::One(_) => false,
         Flat::Clash => true,
     };
-    values.push(json!(in alloc; {"course": number, "clash": clash})?)?;
-    Ok(())
+    write_issue(writer, number, clash)
 }
 
-/// What is issued, as JSON values.
-fn issue_values(alloc: Global, issues: &[(u32, Flat<Arc<Issue>>)]) -> Result<Vec<Value>, AllocError>
-    ensures { IfOk result (λ vs. map view vs.items
-        ≡ joined_map issue_items (map (λ e. (e.0, flat_map arc_value e.1)) issues.now)) }
+/// Writes what is issued, as a list.
+#[tactic(auto, using(crate::proofs::Streams::listed, crate::proofs::Streams::each_more, std::proofs::lemmas::List::take_all))]
+fn write_issues(writer: &mut Writer, issues: &[(u32, Flat<Arc<Issue>>)]) -> Result<(), AllocError>
+    ensures tokens { OnOk result (writer.new.tokens ≡ writer.old.tokens
+        ++ tokens_of (json_of_list (joined_map issue_items (map (λ e. (e.0, flat_map arc_value e.1)) issues.now)))) }
+    ensures before { writer.new.before ≡ writer.old.before }
 {
-    let mut values = Vec::new(alloc);
+    writer.begin_array()?;
     for entry in issues {
-        add_issue(alloc, entry.0, &entry.1, &mut values)?;
+        write_issued(writer, entry.0, &entry.1)?;
     }
-    Ok(values)
+    writer.end_array()
 }
 
-/// The spans as JSON values.
-fn span_values(alloc: Global, spans: &[Span]) -> Result<Vec<Value>, AllocError>
-    ensures { IfOk result (λ vs. map view vs.items ≡ map json_of_span spans.now) }
+/// Writes what the board tells.
+fn write_board(writer: &mut Writer, room: &mut String, board: &Board) -> Result<(), AllocError>
+    ensures tokens { OnOk result (writer.new.tokens ≡ writer.old.tokens ++ tokens_of (json_of_board board.now)) }
+    ensures before { writer.new.before ≡ writer.old.before }
 {
-    let mut values = Vec::new(alloc);
-    for span in spans {
-        values.push(span_value(alloc, *span)?)?;
-    }
-    Ok(values)
-}
-
-/// A cell at its place as a JSON value.
-fn cell_value(alloc: Global, place: CellId, cell: &CellParts) -> Result<Value, AllocError>
-    ensures { IfOk result (λ v. view v ≡ json_of_cell (cell_entry place cell.now)) }
-{
-    let number = place.number();
-    let sub = place.sub();
-    let part = place.part().get();
-    let done = cell.second.get();
-    let list = cell.first.list(alloc)?;
-    let loaded = Value::Array(span_values(alloc, list.spans())?);
-    json!(in alloc; {"course": number, "sub": sub, "part": part, "done": done, "loaded": loaded})
-}
-
-/// The cells as JSON values.
-fn cell_values(alloc: Global, cells: &[(CellId, &CellParts)]) -> Result<Vec<Value>, AllocError>
-    ensures { IfOk result (λ vs. map view vs.items ≡ map json_of_cell (map (λ c. cell_entry c.0 c.1.now) cells.now)) }
-{
-    let mut values = Vec::new(alloc);
-    for cell in cells {
-        values.push(cell_value(alloc, cell.0, cell.1)?)?;
-    }
-    Ok(values)
-}
-
-/// The openings, what is issued, and the cells, as a JSON value.
-fn lists_value(
-    alloc: Global,
-    openings: &[Opening],
-    issues: &[(u32, Flat<Arc<Issue>>)],
-    cells: &[(CellId, &CellParts)],
-) -> Result<Value, AllocError>
-    ensures { IfOk result (λ v. view v
-        ≡ json_of_lists openings.now (map (λ e. (e.0, flat_map arc_value e.1)) issues.now) (map (λ c. cell_entry c.0 c.1.now) cells.now)) }
-{
-    let opened = Value::Array(opening_values(alloc, openings)?);
-    let issued = Value::Array(issue_values(alloc, issues)?);
-    let cells = Value::Array(cell_values(alloc, cells)?);
-    json!(in alloc; {"opened": opened, "issued": issued, "cells": cells})
-}
-
-/// What the board tells, as a JSON value.
-#[tactic(auto, using(crate::proofs::BoardLists::lists_tell_the_board))]
-fn board_value(alloc: Global, board: &Board) -> Result<Value, AllocError>
-    ensures { IfOk result (λ v. view v ≡ json_of_board board.now) }
-{
-    let openings = board.openings()?;
     let issues = board.issues()?;
-    let cells = board.lent_cells()?;
-    lists_value(alloc, &openings, &issues, &cells)
+    let openings = board.openings()?;
+    writer.begin_object()?;
+    writer.key("cells")?;
+    write_cells(writer, room, board)?;
+    writer.key("issued")?;
+    write_issues(writer, &issues)?;
+    writer.key("opened")?;
+    write_openings(writer, &openings)?;
+    writer.end_object()
 }
 
 /// What the board tells, as a JSON object on a line. The error comes if an allocation failed.
-#[tactic(auto, using(crate::proofs::Plain::board_is_plain))]
 pub fn board_json(alloc: Global, board: &Board) -> Result<String, AllocError>
     ensures { IfOk result (λ s. string_bytes s ≡ json_line (json_of_board board.now)) }
 {
-    line_of(alloc, &board_value(alloc, board)?)
+    let mut room = String::new(alloc);
+    let mut writer = Writer::new(Vec::new(alloc));
+    write_board(&mut writer, &mut room, board)?;
+    written_line(writer)
 }

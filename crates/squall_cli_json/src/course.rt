@@ -1,52 +1,60 @@
 //! A course as JSON.
 
-ghost use Rattle.std.specs.Prelude.{◌≡◌, IfOk, map, string_bytes};
-ghost use Rattle.serde_json.specs.View.{view};
-ghost use Rattle.squall_cli_json.specs.Values.{json_line, json_of_move, json_of_course};
+ghost use Rattle.std.specs.Prelude.{◌≡◌, ◌++◌, IfOk, OnOk, map, string_bytes};
+ghost use Rattle.squall_cli_json.specs.Tokens.{tokens_of};
+ghost use Rattle.squall_cli_json.specs.Values.{json_line, json_of_list, json_of_move, json_of_course};
 
-use crate::plan::bound_value;
-use crate::text::line_of;
-use serde_json::{Value, json};
+use crate::write::{write_bound_member, write_number_member, write_part_member, written_line};
+use json::Writer;
 use squall_course::{Course, Move};
 use std::alloc::{AllocError, Global};
 
-/// A move as a JSON value.
-fn move_value(alloc: Global, moving: &Move) -> Result<Value, AllocError>
-    ensures { IfOk result (λ v. view v ≡ json_of_move moving.now) }
+/// Writes a move: its members in the order of their names.
+fn write_move(writer: &mut Writer, room: &mut String, moving: &Move) -> Result<(), AllocError>
+    ensures tokens { OnOk result (writer.new.tokens ≡ writer.old.tokens ++ tokens_of (json_of_move moving.now)) }
+    ensures before { writer.new.before ≡ writer.old.before }
 {
-    let lo = bound_value(alloc, moving.span.lo())?;
-    let hi = bound_value(alloc, moving.span.hi())?;
-    let source = moving.source.get();
-    let dest = moving.dest.get();
-    let sub = moving.sub;
-    json!(in alloc; {"lo": lo, "hi": hi, "from": source, "to": dest, "sub": sub})
+    writer.begin_object()?;
+    write_part_member(writer, "from", moving.source)?;
+    write_bound_member(writer, room, "hi", moving.span.hi())?;
+    write_bound_member(writer, room, "lo", moving.span.lo())?;
+    write_number_member(writer, "sub", moving.sub)?;
+    write_part_member(writer, "to", moving.dest)?;
+    writer.end_object()
 }
 
-/// The moves as JSON values.
-fn move_values(alloc: Global, moves: &[Move]) -> Result<Vec<Value>, AllocError>
-    ensures { IfOk result (λ vs. map view vs.items ≡ map json_of_move moves.now) }
+/// Writes the moves as a list.
+#[tactic(auto, using(crate::proofs::Streams::listed, std::proofs::lemmas::List::take_all))]
+fn write_moves(writer: &mut Writer, room: &mut String, moves: &[Move]) -> Result<(), AllocError>
+    ensures tokens { OnOk result (writer.new.tokens ≡ writer.old.tokens ++ tokens_of (json_of_list (map json_of_move moves.now))) }
+    ensures before { writer.new.before ≡ writer.old.before }
 {
-    let mut values = Vec::new(alloc);
+    writer.begin_array()?;
     for moving in moves {
-        values.push(move_value(alloc, moving)?)?;
+        write_move(writer, room, moving)?;
     }
-    Ok(values)
+    writer.end_array()
 }
 
-/// The course as a JSON value.
-fn course_value(alloc: Global, course: &Course) -> Result<Value, AllocError>
-    ensures { IfOk result (λ v. view v ≡ json_of_course course.now.old course.now.new) }
+/// Writes the course.
+fn write_course(writer: &mut Writer, room: &mut String, course: &Course) -> Result<(), AllocError>
+    ensures tokens { OnOk result (writer.new.tokens ≡ writer.old.tokens ++ tokens_of (json_of_course course.now.old course.now.new)) }
+    ensures before { writer.new.before ≡ writer.old.before }
 {
-    let moves = Value::Array(move_values(alloc, course.moves())?);
-    let subplans = course.subplans();
-    json!(in alloc; {"subplan_count": subplans, "moves": moves})
+    writer.begin_object()?;
+    writer.key("moves")?;
+    write_moves(writer, room, course.moves())?;
+    write_number_member(writer, "subplan_count", course.subplans())?;
+    writer.end_object()
 }
 
 /// The moves of the course, and how many sub-plans it has, as a JSON object on a line. The error
 /// comes if an allocation failed.
-#[tactic(auto, using(crate::proofs::Plain::course_is_plain))]
 pub fn course_json(alloc: Global, course: &Course) -> Result<String, AllocError>
     ensures { IfOk result (λ s. string_bytes s ≡ json_line (json_of_course course.now.old course.now.new)) }
 {
-    line_of(alloc, &course_value(alloc, course)?)
+    let mut room = String::new(alloc);
+    let mut writer = Writer::new(Vec::new(alloc));
+    write_course(&mut writer, &mut room, course)?;
+    written_line(writer)
 }

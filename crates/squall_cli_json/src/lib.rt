@@ -4,11 +4,12 @@
 #![tactic(auto)]
 
 mod board;
+mod cell;
 mod course;
 mod plan;
 mod refusal;
 mod status;
-mod text;
+mod write;
 
 pub use board::board_json;
 pub use course::course_json;

@@ -1,81 +1,82 @@
 //! Plans and legs as JSON.
 
-ghost use Rattle.std.specs.Prelude.{◌≡◌, IfOk, map, string_bytes};
-ghost use Rattle.serde_json.specs.View.{view};
-ghost use Rattle.squall_cli_json.specs.Values.{json_line, json_of_bound, json_of_span, json_of_range, json_of_plan, json_of_legs};
+ghost use Rattle.std.specs.Prelude.{◌≡◌, ◌++◌, IfOk, OnOk, map, string_bytes};
+ghost use Rattle.serde_json.specs.Data.{object, member, no_members};
+ghost use Rattle.squall_cli_json.specs.Tokens.{tokens_of};
+ghost use Rattle.squall_cli_json.specs.Values.{json_line, json_of_list, json_of_range, json_of_plan, json_of_legs};
 
-use crate::text::line_of;
-use serde_json::{Value, json};
-use squall_key::Bound;
+use crate::write::{write_bound_member, write_part_member, written_line};
+use json::Writer;
 use squall_plan::PlanRange;
-use squall_span::Span;
 use std::alloc::{AllocError, Global};
 
-/// The bound as a JSON value.
-pub(crate) fn bound_value(alloc: Global, bound: Bound) -> Result<Value, AllocError>
-    ensures { IfOk result (λ v. view v ≡ json_of_bound bound) }
+/// Writes a range of a plan, or a leg: its members in the order of their names.
+fn write_range(writer: &mut Writer, room: &mut String, range: &PlanRange) -> Result<(), AllocError>
+    ensures tokens { OnOk result (writer.new.tokens ≡ writer.old.tokens ++ tokens_of (json_of_range range.now)) }
+    ensures before { writer.new.before ≡ writer.old.before }
 {
-    Ok(Value::String(format!(in alloc; "{bound}")?))
+    writer.begin_object()?;
+    write_bound_member(writer, room, "hi", range.span.hi())?;
+    write_bound_member(writer, room, "lo", range.span.lo())?;
+    write_part_member(writer, "part", range.part)?;
+    writer.end_object()
 }
 
-/// The two bounds of the span as a JSON value.
-pub(crate) fn span_value(alloc: Global, span: Span) -> Result<Value, AllocError>
-    ensures { IfOk result (λ v. view v ≡ json_of_span span) }
+/// Writes the ranges as a list.
+#[tactic(auto, using(crate::proofs::Streams::listed, std::proofs::lemmas::List::take_all))]
+fn write_ranges(
+    writer: &mut Writer,
+    room: &mut String,
+    ranges: &[PlanRange],
+) -> Result<(), AllocError>
+    ensures tokens { OnOk result (writer.new.tokens ≡ writer.old.tokens ++ tokens_of (json_of_list (map json_of_range ranges.now))) }
+    ensures before { writer.new.before ≡ writer.old.before }
 {
-    let lo = bound_value(alloc, span.lo())?;
-    let hi = bound_value(alloc, span.hi())?;
-    json!(in alloc; {"lo": lo, "hi": hi})
-}
-
-/// A range of a plan, or a leg, as a JSON value.
-fn range_value(alloc: Global, range: &PlanRange) -> Result<Value, AllocError>
-    ensures { IfOk result (λ v. view v ≡ json_of_range range.now) }
-{
-    let lo = bound_value(alloc, range.span.lo())?;
-    let hi = bound_value(alloc, range.span.hi())?;
-    let part = range.part.get();
-    json!(in alloc; {"part": part, "lo": lo, "hi": hi})
-}
-
-/// The ranges as JSON values.
-fn range_values(alloc: Global, ranges: &[PlanRange]) -> Result<Vec<Value>, AllocError>
-    ensures { IfOk result (λ vs. map view vs.items ≡ map json_of_range ranges.now) }
-{
-    let mut values = Vec::new(alloc);
+    writer.begin_array()?;
     for range in ranges {
-        values.push(range_value(alloc, range)?)?;
+        write_range(writer, room, range)?;
     }
-    Ok(values)
+    writer.end_array()
 }
 
-/// The ranges of a plan as a JSON value.
-fn plan_value(alloc: Global, ranges: &[PlanRange]) -> Result<Value, AllocError>
-    ensures { IfOk result (λ v. view v ≡ json_of_plan ranges.now) }
+/// Writes the object whose one member is the list of the ranges.
+fn write_listed(
+    writer: &mut Writer,
+    room: &mut String,
+    name: &str,
+    ranges: &[PlanRange],
+) -> Result<(), AllocError>
+    ensures tokens { OnOk result (writer.new.tokens ≡ writer.old.tokens
+        ++ tokens_of (object (member name.now (json_of_list (map json_of_range ranges.now)) no_members))) }
+    ensures before { writer.new.before ≡ writer.old.before }
 {
-    let ranges = Value::Array(range_values(alloc, ranges)?);
-    json!(in alloc; {"ranges": ranges})
+    writer.begin_object()?;
+    writer.key(name)?;
+    write_ranges(writer, room, ranges)?;
+    writer.end_object()
 }
 
-/// Legs as a JSON value.
-fn legs_value(alloc: Global, legs: &[PlanRange]) -> Result<Value, AllocError>
-    ensures { IfOk result (λ v. view v ≡ json_of_legs legs.now) }
+/// That object on a line.
+fn listed_json(alloc: Global, name: &str, ranges: &[PlanRange]) -> Result<String, AllocError>
+    ensures { IfOk result (λ s. string_bytes s
+        ≡ json_line (object (member name.now (json_of_list (map json_of_range ranges.now)) no_members))) }
 {
-    let legs = Value::Array(range_values(alloc, legs)?);
-    json!(in alloc; {"legs": legs})
+    let mut room = String::new(alloc);
+    let mut writer = Writer::new(Vec::new(alloc));
+    write_listed(&mut writer, &mut room, name, ranges)?;
+    written_line(writer)
 }
 
 /// The ranges of a plan as a JSON object on a line. The error comes if an allocation failed.
-#[tactic(auto, using(crate::proofs::Plain::plan_is_plain))]
 pub fn plan_json(alloc: Global, ranges: &[PlanRange]) -> Result<String, AllocError>
     ensures { IfOk result (λ s. string_bytes s ≡ json_line (json_of_plan ranges.now)) }
 {
-    line_of(alloc, &plan_value(alloc, ranges)?)
+    listed_json(alloc, "ranges", ranges)
 }
 
 /// Legs as a JSON object on a line. The error comes if an allocation failed.
-#[tactic(auto, using(crate::proofs::Plain::legs_are_plain))]
 pub fn legs_json(alloc: Global, legs: &[PlanRange]) -> Result<String, AllocError>
     ensures { IfOk result (λ s. string_bytes s ≡ json_line (json_of_legs legs.now)) }
 {
-    line_of(alloc, &legs_value(alloc, legs)?)
+    listed_json(alloc, "legs", legs)
 }

@@ -2,14 +2,16 @@
 
 ghost use Rattle.std.specs.Prelude.{◌≡◌, ◌++◌, IfOk, OnOk, map, string_bytes};
 ghost use Rattle.std.specs.List.{flat_map};
-ghost use Rattle.serde_json.specs.View.{view};
 ghost use Rattle.squall_status.specs.Texts.{is_shown};
-ghost use Rattle.squall_cli_json.specs.Values.{json_line, json_of_state, json_of_missing, json_of_move_status, shown_move};
+ghost use Rattle.squall_cli_json.specs.Tokens.{tokens_of, tokens_of_each};
+ghost use Rattle.squall_cli_json.specs.Values.{json_line, json_of_list, json_of_state, json_of_missing, json_of_move_status, shown_move};
 ghost use Rattle.squall_cli_json.specs.Values.{json_of_subplan, json_of_open, json_of_status};
 
-use crate::plan::{bound_value, span_value};
-use crate::text::line_of;
-use serde_json::{Value, json};
+use crate::write::{
+    write_bound_member, write_count_member, write_flag_member, write_number_member,
+    write_part_member, write_span, write_text_member, written_line,
+};
+use json::Writer;
 use squall_status::{CourseStatus, MoveStatus, Progress, Shown, SubplanStatus};
 use std::alloc::{AllocError, Global};
 
@@ -24,38 +26,39 @@ fn state_of(progress: Progress) -> &'static str
     }
 }
 
-/// The first run of keys that are missing, as a JSON value: null if none or all are.
-fn missing_value(alloc: Global, progress: Progress) -> Result<Value, AllocError>
-    ensures { IfOk result (λ v. view v ≡ json_of_missing progress) }
+/// Writes the first run of keys that are missing: null if none or all are.
+fn write_missing(
+    writer: &mut Writer,
+    room: &mut String,
+    progress: Progress,
+) -> Result<(), AllocError>
+    ensures tokens { OnOk result (writer.new.tokens ≡ writer.old.tokens ++ tokens_of (json_of_missing progress)) }
+    ensures before { writer.new.before ≡ writer.old.before }
 {
     match progress {
-        Progress::Partial { missing, .. } => span_value(alloc, missing),
-        _ => Ok(Value::Null),
+        Progress::Partial { missing, .. } => write_span(writer, room, missing),
+        _ => writer.null(),
     }
 }
 
-/// A move, and how far its keys have come, as a JSON value.
-fn move_value(alloc: Global, status: &MoveStatus) -> Result<Value, AllocError>
-    ensures { IfOk result (λ v. view v ≡ json_of_move_status status.now) }
+/// Writes a move, and how far its keys have come: the members in the order of their names.
+fn write_move(writer: &mut Writer, room: &mut String, status: &MoveStatus) -> Result<(), AllocError>
+    ensures tokens { OnOk result (writer.new.tokens ≡ writer.old.tokens ++ tokens_of (json_of_move_status status.now)) }
+    ensures before { writer.new.before ≡ writer.old.before }
 {
     let moving = &status.moving;
-    let lo = bound_value(alloc, moving.span.lo())?;
-    let hi = bound_value(alloc, moving.span.hi())?;
-    let missing = missing_value(alloc, status.progress)?;
-    let state = state_of(status.progress);
-    let keys = status.keys();
-    let loaded = status.loaded();
-    json!(in alloc; {
-        "lo": lo,
-        "hi": hi,
-        "from": moving.source.get(),
-        "to": moving.dest.get(),
-        "sub": moving.sub,
-        "state": state,
-        "loaded": loaded,
-        "keys": keys,
-        "missing": missing
-    })
+    writer.begin_object()?;
+    write_part_member(writer, "from", moving.source)?;
+    write_bound_member(writer, room, "hi", moving.span.hi())?;
+    write_count_member(writer, "keys", status.keys())?;
+    write_bound_member(writer, room, "lo", moving.span.lo())?;
+    write_count_member(writer, "loaded", status.loaded())?;
+    writer.key("missing")?;
+    write_missing(writer, room, status.progress)?;
+    write_text_member(writer, "state", state_of(status.progress))?;
+    write_number_member(writer, "sub", moving.sub)?;
+    write_part_member(writer, "to", moving.dest)?;
+    writer.end_object()
 }
 
 /// Whether the move is shown.
@@ -68,92 +71,112 @@ fn is_shown(shown: Shown, status: &MoveStatus) -> bool
     }
 }
 
-/// Adds a move if it is shown.
-fn add_shown(
-    alloc: Global,
+/// Writes a move if it is shown.
+fn write_shown(
+    writer: &mut Writer,
+    room: &mut String,
     shown: Shown,
     status: &MoveStatus,
-    values: &mut Vec<Value>,
 ) -> Result<(), AllocError>
-    ensures { OnOk result (map view values.new.items ≡ map view values.old.items ++ shown_move shown status.now) }
+    ensures tokens { OnOk result (writer.new.tokens ≡ writer.old.tokens ++ tokens_of_each (shown_move shown status.now)) }
+    ensures before { writer.new.before ≡ writer.old.before }
 {
     if is_shown(shown, status) {
-        values.push(move_value(alloc, status)?)?;
+        return write_move(writer, room, status);
     }
     Ok(())
 }
 
-/// The moves that are shown, as JSON values.
-fn move_values(alloc: Global, shown: Shown, moves: &[MoveStatus]) -> Result<Vec<Value>, AllocError>
-    ensures { IfOk result (λ vs. map view vs.items ≡ flat_map (shown_move shown) moves.now) }
+/// Writes the moves that are shown, as a list.
+#[tactic(auto, using(crate::proofs::Streams::listed, crate::proofs::Streams::each_more, std::proofs::lemmas::List::take_all))]
+fn write_moves(
+    writer: &mut Writer,
+    room: &mut String,
+    shown: Shown,
+    moves: &[MoveStatus],
+) -> Result<(), AllocError>
+    ensures tokens { OnOk result (writer.new.tokens ≡ writer.old.tokens ++ tokens_of (json_of_list (flat_map (shown_move shown) moves.now))) }
+    ensures before { writer.new.before ≡ writer.old.before }
 {
-    let mut values = Vec::new(alloc);
+    writer.begin_array()?;
     for status in moves {
-        add_shown(alloc, shown, status, &mut values)?;
+        write_shown(writer, room, shown, status)?;
     }
-    Ok(values)
+    writer.end_array()
 }
 
-/// A sub-plan as a JSON value.
-fn subplan_value(alloc: Global, status: &SubplanStatus) -> Result<Value, AllocError>
-    ensures { IfOk result (λ v. view v ≡ json_of_subplan status.now) }
+/// Writes a sub-plan.
+fn write_subplan(writer: &mut Writer, status: &SubplanStatus) -> Result<(), AllocError>
+    ensures tokens { OnOk result (writer.new.tokens ≡ writer.old.tokens ++ tokens_of (json_of_subplan status.now)) }
+    ensures before { writer.new.before ≡ writer.old.before }
 {
-    let sub = status.sub;
-    let receivers = status.receivers;
-    let done = status.done;
-    let opened = status.opened;
-    json!(in alloc; {"sub": sub, "opened": opened, "receivers": receivers, "done": done})
+    writer.begin_object()?;
+    write_number_member(writer, "done", status.done)?;
+    write_flag_member(writer, "opened", status.opened)?;
+    write_number_member(writer, "receivers", status.receivers)?;
+    write_number_member(writer, "sub", status.sub)?;
+    writer.end_object()
 }
 
-/// The sub-plans as JSON values.
-fn subplan_values(alloc: Global, subplans: &[SubplanStatus]) -> Result<Vec<Value>, AllocError>
-    ensures { IfOk result (λ vs. map view vs.items ≡ map json_of_subplan subplans.now) }
+/// Writes the sub-plans as a list.
+#[tactic(auto, using(crate::proofs::Streams::listed, std::proofs::lemmas::List::take_all))]
+fn write_subplans(writer: &mut Writer, subplans: &[SubplanStatus]) -> Result<(), AllocError>
+    ensures tokens { OnOk result (writer.new.tokens ≡ writer.old.tokens ++ tokens_of (json_of_list (map json_of_subplan subplans.now))) }
+    ensures before { writer.new.before ≡ writer.old.before }
 {
-    let mut values = Vec::new(alloc);
+    writer.begin_array()?;
     for status in subplans {
-        values.push(subplan_value(alloc, status)?)?;
+        write_subplan(writer, status)?;
     }
-    Ok(values)
+    writer.end_array()
 }
 
-/// The number of the sub-plan that is open, as a JSON value: null if none is.
-fn open_value(open_sub: Option<u32>) -> Value
-    ensures { view result ≡ json_of_open open_sub }
+/// Writes the number of the sub-plan that is open: null if none is.
+fn write_open(writer: &mut Writer, open_sub: Option<u32>) -> Result<(), AllocError>
+    ensures tokens { OnOk result (writer.new.tokens ≡ writer.old.tokens ++ tokens_of (json_of_open open_sub)) }
+    ensures before { writer.new.before ≡ writer.old.before }
 {
     match open_sub {
-        Some(sub) => Value::from(sub),
-        None => Value::Null,
+        Some(sub) => writer.u64(u64::from(sub)),
+        None => writer.null(),
     }
 }
 
-/// How far the course has come, as a JSON value.
-fn status_value(alloc: Global, status: &CourseStatus, shown: Shown) -> Result<Value, AllocError>
-    ensures { IfOk result (λ v. view v ≡ json_of_status shown status.now) }
+/// Writes how far the course has come: the members in the order of their names.
+fn write_status(
+    writer: &mut Writer,
+    room: &mut String,
+    status: &CourseStatus,
+    shown: Shown,
+) -> Result<(), AllocError>
+    ensures tokens { OnOk result (writer.new.tokens ≡ writer.old.tokens ++ tokens_of (json_of_status shown status.now)) }
+    ensures before { writer.new.before ≡ writer.old.before }
 {
-    let subplans = Value::Array(subplan_values(alloc, status.subplans())?);
-    let moves = Value::Array(move_values(alloc, shown, status.moves())?);
-    let open = open_value(status.open_subplan());
-    let loaded = status.loaded();
-    let keys = status.keys();
-    let share = status.thousandths();
-    json!(in alloc; {
-        "course": status.number(),
-        "move_count": status.moves().len(),
-        "subplan_count": status.subplans().len(),
-        "open": open,
-        "loaded": loaded,
-        "keys": keys,
-        "thousandths": share,
-        "subplans": subplans,
-        "moves": moves
-    })
+    let moves = status.moves();
+    let subplans = status.subplans();
+    writer.begin_object()?;
+    write_number_member(writer, "course", status.number())?;
+    write_count_member(writer, "keys", status.keys())?;
+    write_count_member(writer, "loaded", status.loaded())?;
+    write_count_member(writer, "move_count", moves.len() as u64)?;
+    writer.key("moves")?;
+    write_moves(writer, room, shown, moves)?;
+    writer.key("open")?;
+    write_open(writer, status.open_subplan())?;
+    write_count_member(writer, "subplan_count", subplans.len() as u64)?;
+    writer.key("subplans")?;
+    write_subplans(writer, subplans)?;
+    write_number_member(writer, "thousandths", status.thousandths())?;
+    writer.end_object()
 }
 
 /// How far a course has come, as a JSON object on a line: what [`squall_status::add_status`] writes
 /// as lines. The error comes if an allocation failed.
-#[tactic(auto, using(crate::proofs::Plain::status_is_plain))]
 pub fn status_json(alloc: Global, status: &CourseStatus, shown: Shown) -> Result<String, AllocError>
     ensures { IfOk result (λ s. string_bytes s ≡ json_line (json_of_status shown status.now)) }
 {
-    line_of(alloc, &status_value(alloc, status, shown)?)
+    let mut room = String::new(alloc);
+    let mut writer = Writer::new(Vec::new(alloc));
+    write_status(&mut writer, &mut room, status, shown)?;
+    written_line(writer)
 }

@@ -1,6 +1,6 @@
 -- What is done for a task where something stops it, and which task words ask for.
 use Rattle.std.proofs.Math.Seq.{take-length}
-use Rattle.std.proofs.Common.{◌≡◌, ◌≢◌, ◌⊎◌, inl, inr, ℕ, ◌<◌, List, [], ◌++◌, Bool, true, false, not, ◌&&◌, Option, Some, None, Result, Err, refl, sym, subst, ap, ◌∙◌, arith}
+use Rattle.std.proofs.Common.{◌≡◌, ◌≢◌, ◌⊎◌, inl, inr, ℕ, ◌<◌, List, [], ◌++◌, Bool, true, false, not, ◌&&◌, Option, Some, None, Result, Ok, Err, refl, sym, subst, ap, ◌∙◌, arith}
 use Rattle.std.proofs.KnownBytes.{Appends-nil, Consumes-nil}
 use Rattle.std.proofs.lemmas.Bool.{false≢true}
 use Rattle.std.proofs.lemmas.List.{append-nil}
@@ -8,8 +8,9 @@ use Rattle.std.proofs.lemmas.Option.{none-some, same_Some}
 use Rattle.std.specs.Prelude.{MatchBool}
 use Rattle.std.specs.List.{list_any}
 use Rattle.std.specs.Io.KnownBytes.{Appends, Consumes, IsAtEnd}
-use Rattle.squall_cli_device.specs.States.{SinkState}
+use Rattle.squall_cli_device.specs.States.{SourceState, SinkState}
 use Rattle.squall_cli_lines.specs.declared.Ended.{Ended}
+use Rattle.squall_cli_lines.specs.declared.Ended.TheVariants.{Fine, Refused}
 use Rattle.squall_cli_lines.specs.declared.RunFault.{RunFault}
 use Rattle.squall_cli_lines.specs.declared.RunFault.TheVariants.{Read, Write, NoMemory}
 use Rattle.squall_cli_lines.specs.Script.{silence}
@@ -24,7 +25,7 @@ use Rattle.squall_cli_ask.proofs.Followed.{nothing_followed, nothing_drawn}
 use Rattle.squall_cli_run.specs.declared.tasks.Purpose.{Purpose}
 use Rattle.squall_cli_run.specs.declared.tasks.Purpose.TheVariants as purpose
 use Rattle.squall_cli_run.specs.Output.{Output, course_in, IsWritten}
-use Rattle.squall_cli_run.specs.Tasks.{ShowsCourseWith, IsDone, DrawsFor, DrawsByWords, EndsInput, NamesFile, ShowsHelp}
+use Rattle.squall_cli_run.specs.Tasks.{ShowsCourseWith, IsDone, RunsPromptly, AnswersPromptly, StopsAtBadLine, ReadsNoFurther, DrawsFor, DrawsByWords, EndsInput, NamesFile, ShowsHelp}
 use Rattle.squall_cli_run.specs.Sources.{IsAnswered, NeedsAll, IsDoneBy}
 
 -- ---- nothing is read
@@ -113,6 +114,39 @@ not_ended (run name) status l h = omega (arith, h.1)
 not_ended (race name) status l h = omega (arith, h.1)
 not_ended (ask inquiry words files) status l h = omega (arith, h.1)
 not_ended (stream kind files) status l h = omega (arith, h)
+
+-- ---- promptness
+
+-- a scenario that is refused
+pub refused_is : (outcome : Result Ended RunFault) → status_of outcome ≡ 1 → outcome ≡ Ok Refused
+refused_is (Ok Fine) e = absurd (omega (arith, e))
+refused_is (Ok Refused) e = refl
+refused_is (Err Read) e = absurd (omega (arith, e))
+refused_is (Err Write) e = absurd (omega (arith, e))
+refused_is (Err NoMemory) e = absurd (omega (arith, e))
+
+-- a scenario of this name is run
+module _ (job : Job) (now name : List ℕ) (is : job ≡ run name) (same : now ≡ name) where
+  pub run_promptly : (before after : Bytes) → (is_input now ≡ true → RunsPromptly before after) → AnswersPromptly before after job
+  run_promptly before after prompt = subst (AnswersPromptly before after) (sym is) (λ named. prompt (ap is_input same ∙ named))
+
+  pub run_stops : (old new : SourceState) → (is_input now ≡ true → StopsAtBadLine old new) → ReadsNoFurther old new job
+  run_stops old new stops = subst (ReadsNoFurther old new) (sym is) (λ named. stops (ap is_input same ∙ named))
+
+-- an allocation failed before anything was read
+pub nothing_promptly : (f : List ℕ → KnownFile) (i o : Option (List ℕ)) (job : Job) → AnswersPromptly (bytes_of f i o) (bytes_of f i o) job
+nothing_promptly f i o (check form name) = tt
+nothing_promptly f i o (course form old new) = tt
+nothing_promptly f i o (run name) = λ named. (
+  [],
+  [],
+  Consumes-nil i,
+  Appends-nil o,
+  record { earlier = []; last = []; split = refl; small = omega arith; script = silence; played = refl; good = refl; answered = ([], refl) },
+)
+nothing_promptly f i o (race name) = tt
+nothing_promptly f i o (ask inquiry words files) = tt
+nothing_promptly f i o (stream kind files) = inr (Consumes-nil i)
 
 -- ---- courses of which a file was not read
 

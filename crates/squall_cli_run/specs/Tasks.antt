@@ -2,9 +2,10 @@
 use Rattle.std.specs.Prelude.{◌≡◌, ◌⊎◌, ℕ, ◌<◌, List, [], Bool, true, false, ◌&&◌, ◌||◌, None, Result, MatchBool}
 use Rattle.std.specs.List.{list_all, list_any}
 use Rattle.std.specs.Io.{StartsWith}
-use Rattle.std.specs.Io.KnownBytes.{Appends}
-use Rattle.squall_cli_device.specs.States.{SinkState, TookBytes}
-use Rattle.squall_cli_lines.specs.Script.{IsOutcome}
+use Rattle.std.specs.Io.KnownBytes.{Appends, Consumes}
+use Rattle.squall_cli_device.specs.States.{SourceState, SinkState, GaveBytes, TookBytes}
+use Rattle.squall_cli_lines.specs.Lines.{whole_lines}
+use Rattle.squall_cli_lines.specs.Script.{HasNoBadLine, IsOutcome, IsPrompt}
 use Rattle.squall_cli_lines.specs.declared.Ended.{Ended}
 use Rattle.squall_cli_lines.specs.declared.RunFault.{RunFault}
 use Rattle.squall_cli_command.specs.declared.form.Form.{Form}
@@ -13,7 +14,7 @@ use Rattle.squall_cli_ask.specs.Files.{is_input}
 use Rattle.squall_cli_ask.specs.Reads.{Bytes, ReadsFrom, ReadsAll}
 use Rattle.squall_cli_ask.specs.Told.{status_of}
 use Rattle.squall_cli_ask.specs.Asked.{question_of, files_of, IsInquired}
-use Rattle.squall_cli_ask.specs.Followed.{IsFollowed, DrawsStream}
+use Rattle.squall_cli_ask.specs.Followed.{IsFollowed, FollowsPromptly, DrawsStream}
 use Rattle.squall_cli_scenario.specs.Text.{IsScript}
 use Rattle.squall_cli_run.specs.Output.{check_in, course_in, IsWritten}
 use Rattle.squall_cli_run.specs.Races.{IsRaced}
@@ -64,6 +65,35 @@ IsDone before after (run name) status = RunsWith before after name status
 IsDone before after (race name) status = RacesWith before after name status
 IsDone before after (ask inquiry words files) status = IsInquired (question_of inquiry words) words before after (files_of inquiry words files) status
 IsDone before after (stream kind files) status = IsFollowed kind before after files status
+
+-- ---- promptness
+
+-- standard input is run: the lines that came before the last read of it were answered before that read
+abbrev pub RunsPromptly : Bytes → Bytes → Type 0
+RunsPromptly before after =
+    (read : List ℕ) × (written : List ℕ) × Consumes before.input after.input read × Appends before.output after.output written × IsPrompt IsScript read written
+
+-- A task that answers standard input as it comes does so: a scenario, keys or the frames of boards. Of any other task this says nothing.
+abbrev pub AnswersPromptly : Bytes → Bytes → Job → Type 0
+AnswersPromptly before after (check form name) = Unit {0}
+AnswersPromptly before after (course form old new) = Unit {0}
+AnswersPromptly before after (run name) = is_input name ≡ true → RunsPromptly before after
+AnswersPromptly before after (race name) = Unit {0}
+AnswersPromptly before after (ask inquiry words files) = Unit {0}
+AnswersPromptly before after (stream kind files) = FollowsPromptly kind before after files
+
+-- a scenario is read no further than to the read with a bad line: the end was found only if that line came without its LF
+abbrev pub StopsAtBadLine : SourceState → SourceState → Type 0
+StopsAtBadLine old new = (new.ends ≡ old.ends) ⊎ ((read : List ℕ) × GaveBytes old new read × HasNoBadLine IsScript (whole_lines read))
+
+-- If the task runs the scenario of standard input, no read follows a bad line. Of any other task this says nothing.
+abbrev pub ReadsNoFurther : SourceState → SourceState → Job → Type 0
+ReadsNoFurther old new (check form name) = Unit {0}
+ReadsNoFurther old new (course form before after) = Unit {0}
+ReadsNoFurther old new (run name) = is_input name ≡ true → StopsAtBadLine old new
+ReadsNoFurther old new (race name) = Unit {0}
+ReadsNoFurther old new (ask inquiry words files) = Unit {0}
+ReadsNoFurther old new (stream kind files) = Unit {0}
 
 -- ---- what is drawn
 

@@ -6,7 +6,7 @@ ghost use Rattle.squall_cli_command.specs.Line.{Job, words_of, Asks, AsksForHelp
 ghost use Rattle.squall_cli_lines.specs.Heeding.{InputFails, Says};
 ghost use Rattle.squall_cli_ask.specs.Reads.{bytes_at};
 ghost use Rattle.squall_cli_ask.specs.Told.{IsTold};
-ghost use Rattle.squall_cli_run.specs.Tasks.{IsDone, DrawsByWords, EndsInput, NamesFile, AreBad, ShowsHelp};
+ghost use Rattle.squall_cli_run.specs.Tasks.{IsDone, AnswersPromptly, ReadsNoFurther, DrawsByWords, EndsInput, NamesFile, AreBad, ShowsHelp};
 ghost use Rattle.squall_cli_run.specs.Named.{NamesIt};
 
 use crate::output::write_output;
@@ -66,7 +66,8 @@ pub struct Program<'t> {
 impl Program<'_> {
     /// Does what the words of a command line ask for, the program's name first. It gives the status with
     /// which the program is to end. A file named `-` is what `input` gives to its end. Files are opened
-    /// and read in the order of the words.
+    /// and read in the order of the words. A scenario, keys and frames that `input` gives are answered as
+    /// they come: what one read brings is answered before the next read.
     ///
     /// - 0: the task was done, or `out` has the help or the version that was asked for.
     /// - 1: the input was refused; `out` says why.
@@ -99,22 +100,22 @@ impl Program<'_> {
         // The task that the words ask for is done.
         ensures done { (job : Job) → Asks (words_of words.entry.now) job → IsDone (bytes_at (F.known files.old) (S.state input.old) (O.state out.old))
             (bytes_at (F.known files.new) (S.state input.new) (O.state out.new)) job result }
-
+        // If it answers standard input as it comes, what came before the last read was answered before it,
+        ensures prompt { (job : Job) → Asks (words_of words.entry.now) job → AnswersPromptly
+            (bytes_at (F.known files.old) (S.state input.old) (O.state out.old)) (bytes_at (F.known files.new) (S.state input.new) (O.state out.new)) job }
+        // and no read follows a bad line of a scenario.
+        ensures no_read_after { (job : Job) → Asks (words_of words.entry.now) job → result ≡ 1 → ReadsNoFurther (S.state input.old) (S.state input.new) job }
         // A status that says that standard input was read to its end comes only when a read found that end.
         ensures ended { (job : Job) → Asks (words_of words.entry.now) job → EndsInput job result → FoundEnd (S.state input.old) (S.state input.new) }
-
         // Status 3 comes only when a device failed, or the words name a file, which may have failed.
         ensures device { result ≡ 3 → InputFails (S.state input.old) (S.state input.new)
             ⊎ (OutputFails (O.state out.old) (O.state out.new) ⊎ ((job : Job) × Asks (words_of words.entry.now) job × NamesFile job)) }
-
         // A read of standard input that failed gives status 3, and so does a write to `out` that failed or took nothing.
         ensures heeds { result ≢ 3 → NoReadFails (S.state input.old) (S.state input.new) × NoWriteFails (O.state out.old) (O.state out.new) }
         // `err` gets the bars of a course that is watched, if it is a terminal, and then the text that goes with the status, if no write fails.
         ensures told { (drawn : SinkState) × DrawsByWords (words_of words.entry.now) (E.terminal err.old)
             (bytes_at (F.known files.old) (S.state input.old) (O.state out.old)) (bytes_at (F.known files.new) (S.state input.new) (O.state out.new))
-            result (E.state err.old) drawn
-            × (text : List ℕ) × IsTold (NamesIt (words_of words.entry.now)) result text × Says drawn (E.state err.new) text }
-
+            result (E.state err.old) drawn × (text : List ℕ) × IsTold (NamesIt (words_of words.entry.now)) result text × Says drawn (E.state err.new) text }
         // Unless an allocation failed, status 2 comes exactly for bad words,
         ensures bad { result ≢ 4 → (result ≡ 2) ↔ AreBad (words_of words.entry.now) }
         // and help that is asked for is written, whole at status 0.

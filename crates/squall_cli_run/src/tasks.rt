@@ -1,13 +1,16 @@
 //! What the program does for a task.
 
-ghost use Rattle.std.specs.Prelude.{◌≡◌, ◌≢◌, ◌⊎◌, ◌↔◌, ◌&&◌, ℕ, List, true, false};
+ghost use Rattle.std.specs.Prelude.{◌≡◌, ◌≢◌, ◌⊎◌, ◌↔◌, ◌&&◌, ◌∷◌, [], ℕ, List, true, false};
 ghost use Rattle.squall_cli_device.specs.States.{SinkState, FoundEnd, GaveAll, NoReadFails, OutputFails, NoWriteFails, ReadAndWrote};
 ghost use Rattle.squall_cli_lines.specs.Heeding.{InputFails, Says};
 ghost use Rattle.squall_cli_command.specs.Line.{course, job_seen};
-ghost use Rattle.squall_cli_ask.specs.Files.{is_input};
+ghost use Rattle.squall_cli_ask.specs.Files.{is_input, AddsNames};
 ghost use Rattle.squall_cli_ask.specs.Reads.{bytes_at};
 ghost use Rattle.squall_cli_ask.specs.Told.{status_of, IsTold};
+ghost use Rattle.squall_cli_lines.specs.Script.{IsPrompt};
+ghost use Rattle.squall_cli_scenario.specs.Text.{IsScript};
 ghost use Rattle.squall_cli_run.specs.Tasks.{ShowsCourseWith, IsDone, DrawsFor, EndsInput, NamesFile, CannotBe};
+ghost use Rattle.squall_cli_run.specs.Tasks.{AnswersPromptly, StopsAtBadLine, ReadsNoFurther};
 ghost use Rattle.squall_cli_run.specs.Named.{IsNamed};
 ghost use Rattle.squall_cli_run.specs.Sources.{IsAnswered, NeedsAll, IsDoneBy};
 
@@ -45,6 +48,8 @@ fn answer_source<R: Threads + Wait + Sync, S: Source, O: Sink>(
     out: &mut O,
 ) -> Result<Ended, RunFault>
     ensures text { ReadAndWrote (S.state source.old) (S.state source.new) (O.state out.old) (O.state out.new) (IsAnswered purpose result) }
+    ensures prompt { purpose ≡ Purpose.Run → ReadAndWrote (S.state source.old) (S.state source.new) (O.state out.old) (O.state out.new) (IsPrompt IsScript) }
+    ensures no_read_after { purpose ≡ Purpose.Run → status_of result ≡ 1 → StopsAtBadLine (S.state source.old) (S.state source.new) }
     ensures all { NeedsAll purpose (status_of result) → GaveAll (S.state source.old) (S.state source.new) }
     ensures device { status_of result ≡ 3 → InputFails (S.state source.old) (S.state source.new) ⊎ OutputFails (O.state out.old) (O.state out.new) }
     ensures heeds { status_of result ≢ 3 → NoReadFails (S.state source.old) (S.state source.new) × NoWriteFails (O.state out.old) (O.state out.new) }
@@ -68,6 +73,12 @@ fn answer_file<R: Threads + Wait + Sync, F: Files, S: Source, O: Sink, E: Sink>(
 ) -> u8
     ensures done { IsDoneBy file.entry.0 (bytes_at (F.known files.old) (S.state input.old) (O.state out.old))
         (bytes_at (F.known files.new) (S.state input.new) (O.state out.new)) file.entry.1.now result }
+    ensures prompt { file.entry.0 ≡ Purpose.Run → is_input file.entry.1.now ≡ true
+        → ReadAndWrote (S.state input.old) (S.state input.new) (O.state out.old) (O.state out.new) (IsPrompt IsScript) }
+    ensures no_read_after { file.entry.0 ≡ Purpose.Run → is_input file.entry.1.now ≡ true → result ≡ 1
+        → StopsAtBadLine (S.state input.old) (S.state input.new) }
+    ensures once { is_input file.entry.1.now ≡ false → AddsNames (F.opened files.old) (F.opened files.new) (file.entry.1.now ∷ []) }
+    ensures unopened { is_input file.entry.1.now ≡ true → F.opened files.new ≡ F.opened files.old }
     ensures ended { is_input file.entry.1.now ≡ true → NeedsAll file.entry.0 result → FoundEnd (S.state input.old) (S.state input.new) }
     ensures device { result ≡ 3 → InputFails (S.state input.old) (S.state input.new)
         ⊎ (OutputFails (O.state out.old) (O.state out.new) ⊎ (is_input file.entry.1.now ≡ false)) }
@@ -138,6 +149,9 @@ pub(crate) fn do_task<R: Threads + Wait + Sync, F: Files, S: Source, O: Sink, E:
 ) -> u8
     ensures done { IsDone (bytes_at (F.known files.old) (S.state input.old) (O.state out.old))
         (bytes_at (F.known files.new) (S.state input.new) (O.state out.new)) (job_seen task.now) result }
+    ensures prompt { AnswersPromptly (bytes_at (F.known files.old) (S.state input.old) (O.state out.old))
+        (bytes_at (F.known files.new) (S.state input.new) (O.state out.new)) (job_seen task.now) }
+    ensures no_read_after { result ≡ 1 → ReadsNoFurther (S.state input.old) (S.state input.new) (job_seen task.now) }
     ensures ended { EndsInput (job_seen task.now) result → FoundEnd (S.state input.old) (S.state input.new) }
     ensures device { result ≡ 3 → InputFails (S.state input.old) (S.state input.new)
         ⊎ (OutputFails (O.state out.old) (O.state out.new) ⊎ NamesFile (job_seen task.now)) }

@@ -14,7 +14,7 @@ use Rattle.squall_protocol.specs.declared.event.Event.{Event}
 use Rattle.squall_protocol.specs.declared.answer.Answer.{Answer}
 use Rattle.squall_protocol.specs.declared.answer.Answer.TheVariants.{Opened, Begun, Gave, Loaded, Again, Finished, Sent, Delivered, Routed, Served, Refused}
 use Rattle.squall_protocol.specs.declared.answer.Refusal.{Refusal}
-use Rattle.squall_protocol.specs.declared.answer.Refusal.TheVariants.{NoSuch, NotDone, NoMore, Running, NoNumber, NotOpen, NothingLeft, ZeroMax, NotOutgoing, Given, NotHeld, Stranger, NotAll, NothingDue}
+use Rattle.squall_protocol.specs.declared.answer.Refusal.TheVariants.{NoSuch, NotDone, NoMore, Running, NoNumber, NotOpen, NothingLeft, ZeroMax, NotOutgoing, Given, NotHeld, Stranger, NotAll, NothingDue, NotKnown}
 use Rattle.squall_cli_events.specs.AnswerText.{text_of_refusal, text_of_reply, text_of_chunk, text_of_report, asked_key, text_of_answer, answer_line}
 use Rattle.squall_cli_words.proofs.LineTexts.{no_lf, no_lf-append, decimal_no_lf, key_no_lf, span_no_lf, spells_lf, spells_glued, NotBegun, differs_at, Lacks, lacks_line}
 
@@ -42,6 +42,7 @@ refusal_no_lf NotHeld = refl
 refusal_no_lf Stranger = refl
 refusal_no_lf (NotAll span) = span_no_lf span
 refusal_no_lf NothingDue = refl
+refusal_no_lf NotKnown = refl
 
 reply_no_lf : (reply : Reply) → no_lf (text_of_reply reply) ≡ true
 reply_no_lf Held = refl

@@ -8,7 +8,7 @@ use Rattle.squall_wire.specs.Messages.{Body}
 use Rattle.squall_cli_lines.specs.Script.{Script, after, last_word}
 use Rattle.squall_cli_lines.specs.declared.Flow.TheVariants.{On, End}
 use Rattle.squall_cli_lines.proofs.RunningLemmas.{concat-append}
-use Rattle.squall_cli_watch.specs.Watched.{fault_at_end}
+use Rattle.squall_cli_boards.specs.Files.{fault_after}
 use Rattle.squall_board.specs.Boards.{BoardValue}
 use Rattle.squall_cli_watch.specs.Taken.{TakesFrame, TakesFrames}
 use Rattle.squall_cli_watch.specs.Drawn.{joined}
@@ -48,9 +48,9 @@ module _ (old now next : List Body → Option WireFault → Script → Type 0) (
   pub begun_ends : (text : List ℕ) (body : Body) (rest : List Body) (fault : Option WireFault) → left ≡ body ∷ rest → TakesFrame End text now next body
       → TakesFrames End (texts ++ text ∷ []) old next all fault
   begun_ends text body rest fault is taken = λ tail.
-      subst (λ b. old b (fault_at_end fault tail) (after texts (last_word text))) (append-nil all)
-      (begun [] (fault_at_end fault tail) (last_word text)
-      (subst (λ b. now (b ++ []) (fault_at_end fault tail) (last_word text)) (sym is) (taken (rest ++ []) (fault_at_end fault tail))))
+      subst (λ b. old b (fault_after fault tail) (after texts (last_word text))) (append-nil all)
+      (begun [] (fault_after fault tail) (last_word text)
+      (subst (λ b. now (b ++ []) (fault_after fault tail) (last_word text)) (sym is) (taken (rest ++ []) (fault_after fault tail))))
 
   -- no frame is left
   pub begun_all : left ≡ [] → TakesFrames On texts old now all None

@@ -25,9 +25,9 @@ use Rattle.squall_cli_lines.specs.declared.Ended.{Ended}
 use Rattle.squall_cli_lines.specs.declared.RunFault.{RunFault}
 use Rattle.squall_cli_lines.specs.declared.RunFault.TheVariants.{Read, Write, NoMemory}
 use Rattle.squall_cli_lines.proofs.RunningLemmas.{concat-append}
-use Rattle.squall_cli_bar.specs.Bars.{redrawn, later_bars}
-use Rattle.squall_cli_bar.specs.BarLines.{LineValue, IsDrawn, Adds, Ends}
-use Rattle.squall_cli_bar.proofs.Drawing.{drawn_then, drawn_ended}
+use Rattle.squall_cli_watch.specs.Bars.{redrawn, later_bars}
+use Rattle.squall_cli_watch.specs.BarLines.{LineValue, IsDrawn, Adds, Ends}
+use Rattle.squall_cli_watch.proofs.BarLines.{drawn_then, drawn_ended}
 use Rattle.squall_cli_watch.specs.Drawn.{joined, IsNewestBar, IsBarAfter, AreDrawn}
 use Rattle.squall_cli_watch.specs.Drawing.{JoinsFrames, JoinsBytes, JoinsPiece, IsToDraw, Replaces, ShowsOne, ShowsIfOn, ShowsPiece, DrawsAfter, DrawsOn}
 

@@ -1,5 +1,6 @@
 pub mod Front
 pub mod Begun
 pub mod Watching
+pub mod BarLines
 pub mod Drawing
 pub mod Shown

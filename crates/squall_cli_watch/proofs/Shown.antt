@@ -11,9 +11,9 @@ use Rattle.squall_cli_lines.specs.Heeding.{Says}
 use Rattle.squall_cli_lines.specs.declared.Ended.{Ended}
 use Rattle.squall_cli_lines.specs.declared.RunFault.{RunFault}
 use Rattle.squall_cli_lines.specs.declared.RunFault.TheVariants.{NoMemory}
-use Rattle.squall_cli_bar.specs.Bars.{later_bars, all_bars}
-use Rattle.squall_cli_bar.specs.BarLines.{LineValue, IsDrawn, Ends}
-use Rattle.squall_cli_bar.proofs.Drawing.{drawn_said, drawn_ended}
+use Rattle.squall_cli_watch.specs.Bars.{later_bars, all_bars}
+use Rattle.squall_cli_watch.specs.BarLines.{LineValue, IsDrawn, Ends}
+use Rattle.squall_cli_watch.proofs.BarLines.{drawn_said, drawn_ended}
 use Rattle.squall_cli_watch.specs.Drawn.{IsNewestBar, Draws, ShowsBars}
 use Rattle.squall_cli_watch.specs.Drawing.{IsStarted, DrawsAfter, DrawsOn}
 

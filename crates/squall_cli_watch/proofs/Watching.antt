@@ -23,7 +23,8 @@ use Rattle.squall_cli_lines.specs.declared.RunFault.{RunFault}
 use Rattle.squall_cli_lines.specs.declared.RunFault.TheVariants.{Read, Write, NoMemory}
 use Rattle.squall_cli_lines.specs.Script.{Script, silence, after, last_word, text_of, IsPrefix}
 use Rattle.squall_cli_lines.proofs.RunningLemmas.{concat-append}
-use Rattle.squall_cli_watch.specs.Watched.{fault_at_end, last_answer, refused_frame, AnswersInput, AnswersSoFar, IsOutcome, IsPrompt, IsWatchedBy}
+use Rattle.squall_cli_boards.specs.Files.{fault_after}
+use Rattle.squall_cli_watch.specs.Watched.{last_answer, refused_frame, AnswersInput, AnswersSoFar, IsOutcome, IsPrompt, IsWatchedBy}
 use Rattle.squall_cli_watch.specs.Taken.{TakesPiece, AnswersPiece, AnswersEnd, refusing}
 use Rattle.squall_cli_watch.proofs.Begun.{after-after}
 
@@ -54,10 +55,10 @@ so_far : (plays : List Body → Option WireFault → Script → Type 0) (read : 
 so_far plays read ms f rest s heard p = subst (λ (h : HeardValue). plays h.bodies h.fault s) (sym (heard_is read ms f rest heard)) p
 
 whole : (plays : List Body → Option WireFault → Script → Type 0) (read : List ℕ) (ms : List Message) (f : Option WireFault) (rest : List ℕ) (s : Script) → IsHeard read ms f rest
-    → plays (map body_of ms) (fault_at_end f rest) s → AnswersInput plays read s
-whole plays read ms f rest s heard p = subst (λ (h : HeardValue). plays h.bodies (fault_at_end h.fault h.rest) s) (sym (heard_is read ms f rest heard)) p
+    → plays (map body_of ms) (fault_after f rest) s → AnswersInput plays read s
+whole plays read ms f rest s heard p = subst (λ (h : HeardValue). plays h.bodies (fault_after h.fault h.rest) s) (sym (heard_is read ms f rest heard)) p
 
-short_at_end : (waiting : List ℕ) → waiting ≢ [] → fault_at_end None waiting ≡ Some Short
+short_at_end : (waiting : List ℕ) → waiting ≢ [] → fault_after None waiting ≡ Some Short
 short_at_end [] some = absurd (some refl)
 short_at_end (b ∷ rest) some = refl
 
@@ -133,7 +134,7 @@ module _ (form : Form) (old now : List Body → Option WireFault → Script → 
     last (Ok Fine) sent a = (
       after w.texts silence,
       whole old w.read w.messages None waiting (after w.texts silence) w.heard
-          (subst (λ (r : List ℕ). old (map body_of w.messages) (fault_at_end None r) (after w.texts silence)) (sym a.0) (played None)),
+          (subst (λ (r : List ℕ). old (map body_of w.messages) (fault_after None r) (after w.texts silence)) (sym a.0) (played None)),
       ap (λ t. concat w.texts ++ t) a.1 ∙ append-nil (concat w.texts) ∙ written,
       refl,
     )
@@ -180,10 +181,10 @@ module _ (form : Form) (old now : List Body → Option WireFault → Script → 
         (p, q),
       )
 
-      all_of : (ms : List Message) (f : Option WireFault) (s : Script) → IsHeard (waiting ++ piece) ms f left → now (map body_of ms) (fault_at_end f left) s
+      all_of : (ms : List Message) (f : Option WireFault) (s : Script) → IsHeard (waiting ++ piece) ms f left → now (map body_of ms) (fault_after f left) s
           → AnswersInput old (w.read ++ piece) (after w.texts s)
       all_of ms f s heard p = whole old (w.read ++ piece) (w.messages ++ ms) f left (after w.texts s) (heard_more ms f heard)
-          (subst (λ b. old b (fault_at_end f left) (after w.texts s)) (sym (map-append body_of w.messages ms)) (w.answered (map body_of ms) (fault_at_end f left) s p))
+          (subst (λ b. old b (fault_after f left) (after w.texts s)) (sym (map-append body_of w.messages ms)) (w.answered (map body_of ms) (fault_after f left) s p))
 
       -- it was answered whole
       pub watching_more : (texts : List (List ℕ)) → sent ≡ concat texts → TakesPiece On texts now next (waiting ++ piece) left → Watching old next reader reader'' writer writer'' left
@@ -214,7 +215,7 @@ module _ (form : Form) (old now : List Body → Option WireFault → Script → 
       begins : (flow : Flow) (texts : List (List ℕ)) → IsPrefix sent (concat texts) → TakesPiece flow texts now next (waiting ++ piece) left
           → (s : Script) × AnswersInput old (w.read ++ piece) s × IsPrefix (concat w.texts ++ sent) (text_of s)
       begins On texts p t =
-          let f = fault_at_end t.1 left in
+          let f = fault_after t.1 left in
           let s = after texts (last_answer next_form f) in (
             after w.texts s,
             all_of t.0 t.1 s t.2 (subst (λ b. now b f s) (append-nil (map body_of t.0)) (t.3.1 [] f (last_answer next_form f) (next_ends f))),

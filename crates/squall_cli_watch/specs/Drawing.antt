@@ -17,8 +17,8 @@ use Rattle.squall_cli_lines.specs.declared.Flow.TheVariants.{On, End}
 use Rattle.squall_cli_lines.specs.declared.Ended.{Ended}
 use Rattle.squall_cli_lines.specs.declared.RunFault.{RunFault}
 use Rattle.squall_cli_lines.specs.declared.RunFault.TheVariants.{Read, Write, NoMemory}
-use Rattle.squall_cli_bar.specs.Bars.{redrawn, later_bars}
-use Rattle.squall_cli_bar.specs.BarLines.{LineValue, IsDrawn, Adds, Ends}
+use Rattle.squall_cli_watch.specs.Bars.{redrawn, later_bars}
+use Rattle.squall_cli_watch.specs.BarLines.{LineValue, IsDrawn, Adds, Ends}
 use Rattle.squall_cli_watch.specs.Drawn.{joined, AreDrawn}
 
 -- ---- boards

@@ -17,8 +17,8 @@ use Rattle.squall_cli_lines.specs.Heeding.{Says}
 use Rattle.squall_cli_lines.specs.declared.Ended.{Ended}
 use Rattle.squall_cli_lines.specs.declared.RunFault.{RunFault}
 use Rattle.squall_cli_lines.specs.declared.RunFault.TheVariants.{NoMemory}
-use Rattle.squall_cli_bar.specs.declared.text.Bar.{Bar}
-use Rattle.squall_cli_bar.specs.Bars.{bar_text, all_bars}
+use Rattle.squall_cli_watch.specs.declared.bar.text.Bar.{Bar}
+use Rattle.squall_cli_watch.specs.Bars.{bar_text, all_bars}
 
 -- ---- one bar
 

@@ -2,7 +2,6 @@
 pub use Rattle.squall_board.specs.Boards
 pub use Rattle.squall_board.specs.CourseRoute
 pub use Rattle.squall_status.specs.Summary
-pub use Rattle.squall_status.specs.Texts
 pub use Rattle.squall_wire.specs.Messages
 pub use Rattle.squall_wire.specs.Reading
 pub use Rattle.squall_wire.specs.Hearing
@@ -11,9 +10,11 @@ pub use Rattle.squall_cli_device.specs.States
 pub use Rattle.squall_cli_lines.specs.Lines
 pub use Rattle.squall_cli_lines.specs.Script
 pub use Rattle.squall_cli_lines.specs.Heeding
-pub use Rattle.squall_cli_bar.specs.Bars
-pub use Rattle.squall_cli_bar.specs.BarLines
 pub use Rattle.squall_cli_json.specs.Values
+pub use Rattle.squall_cli_boards.specs.Files
+pub use Rattle.squall_cli_boards.specs.Courses
+pub mod Bars
+pub mod BarLines
 pub mod Changed
 pub mod Watched
 pub mod Taken

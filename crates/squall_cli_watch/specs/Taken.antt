@@ -15,7 +15,8 @@ use Rattle.squall_cli_lines.specs.declared.RunFault.{RunFault}
 use Rattle.squall_cli_lines.specs.declared.RunFault.TheVariants.{Read, Write, NoMemory}
 use Rattle.squall_cli_command.specs.declared.form.Form.{Form}
 use Rattle.squall_cli_watch.specs.declared.watcher.Watcher.{Watcher}
-use Rattle.squall_cli_watch.specs.Watched.{AnswersFrames, fault_at_end, refused_frame}
+use Rattle.squall_cli_boards.specs.Files.{fault_after}
+use Rattle.squall_cli_watch.specs.Watched.{AnswersFrames, refused_frame}
 
 -- the scripts that answer the frames to come
 abbrev pub plays : Watcher → List Body → Option WireFault → Script → Type 0
@@ -36,7 +37,7 @@ abbrev pub TakesFrames : Flow → List (List ℕ) → (List Body → Option Wire
     → List Body → Option WireFault → Type 0
 TakesFrames On texts old new bodies fault = (fault ≡ None)
     × ((more : List Body) (f : Option WireFault) (s : Script) → new more f s → old (bodies ++ more) f (after texts s))
-TakesFrames End texts old new bodies fault = (left : List ℕ) → old bodies (fault_at_end fault left) (refusing texts)
+TakesFrames End texts old new bodies fault = (left : List ℕ) → old bodies (fault_after fault left) (refusing texts)
 
 -- the frames taken that end in these bytes, of which the rest is left
 abbrev pub TakesPiece : Flow → List (List ℕ) → (List Body → Option WireFault → Script → Type 0) → (List Body → Option WireFault → Script → Type 0)

@@ -7,11 +7,10 @@ use Rattle.squall_board.specs.CourseRoute.{course_of_board}
 use Rattle.squall_status.specs.declared.text.Shown.TheVariants.{EachMove}
 use Rattle.squall_cli_command.specs.declared.form.Form.{Form}
 use Rattle.squall_cli_command.specs.declared.form.Form.TheVariants.{Lines, Json}
-use Rattle.squall_cli_json.specs.Values.{json_line, json_of_refusal, json_of_status}
+use Rattle.squall_cli_json.specs.Values.{json_line, json_of_refusal}
 use Rattle.squall_status.specs.Summary.{StatusValue, IsStatusOf}
-use Rattle.squall_status.specs.Texts.{status_text}
 use Rattle.squall_wire.specs.declared.fault.WireFault.{WireFault}
-use Rattle.squall_wire.specs.declared.fault.WireFault.TheVariants.{Kind, Short}
+use Rattle.squall_wire.specs.declared.fault.WireFault.TheVariants.{Kind}
 use Rattle.squall_wire.specs.FaultText.{text_of_fault}
 use Rattle.squall_wire.specs.Messages.{Body, lists, rows}
 use Rattle.squall_wire.specs.BoardOf.{board_of_lists}
@@ -21,20 +20,17 @@ use Rattle.squall_cli_lines.specs.declared.Ended.{Ended}
 use Rattle.squall_cli_lines.specs.declared.Ended.TheVariants.{Fine, Refused}
 use Rattle.squall_cli_lines.specs.declared.RunFault.{RunFault}
 use Rattle.squall_cli_lines.specs.declared.RunFault.TheVariants.{Read, Write, NoMemory}
+use Rattle.squall_cli_boards.specs.Files.{fault_after}
+use Rattle.squall_cli_boards.specs.Courses.{status_in, first_course}
 use Rattle.squall_cli_watch.specs.Changed.{change_in}
 
 -- ---- the status
-
--- how far a course has come, as lines or as JSON
-abbrev pub status_in : Form → StatusValue → List ℕ
-status_in Lines status = status_text EachMove status
-status_in Json status = json_line (json_of_status EachMove status)
 
 -- how far the course has come, as the board says
 pub record IsStatusText (form : Form) (c : Change) (b : BoardValue) (text : List ℕ) : Type 0 where
   pub status : StatusValue
   pub is : IsStatusOf c (says b) status
-  pub shown : text ≡ status_in form status
+  pub shown : text ≡ status_in form EachMove status
 
 -- the same of the newest course of the board after the first
 abbrev pub IsNewestText : Form → Change → BoardValue → List ℕ → Type 0
@@ -65,15 +61,9 @@ AnswersFrames form first b shown (lists d ∷ bodies) fault s = (text : List ℕ
 
 -- ---- an input
 
--- the fault of an input that ends: bytes that are too few for a frame are `Short`
-abbrev pub fault_at_end : Option WireFault → List ℕ → Option WireFault
-fault_at_end (Some fault) rest = Some fault
-fault_at_end None [] = None
-fault_at_end None (b ∷ rest) = Some Short
-
 -- the script answers an input of these bytes
 abbrev pub AnswersInput : (List Body → Option WireFault → Script → Type 0) → List ℕ → Script → Type 0
-AnswersInput plays read s = plays (heard_of read).bodies (fault_at_end (heard_of read).fault (heard_of read).rest) s
+AnswersInput plays read s = plays (heard_of read).bodies (fault_after (heard_of read).fault (heard_of read).rest) s
 
 -- the script answers an input that begins with these bytes, as far as they go
 abbrev pub AnswersSoFar : (List Body → Option WireFault → Script → Type 0) → List ℕ → Script → Type 0
@@ -108,10 +98,6 @@ pub record IsPrompt (plays : List Body → Option WireFault → Script → Type 
 -- both
 abbrev pub IsWatchedBy : Result Ended RunFault → (List Body → Option WireFault → Script → Type 0) → List ℕ → List ℕ → Type 0
 IsWatchedBy result plays read written = IsOutcome result plays read written × IsPrompt plays read written
-
--- the first course of two plans
-abbrev pub first_course : List PlanRange → List PlanRange → Change
-first_course old new = record { number = 1; old = old; new = new }
 
 -- `watch`: the course of two plans is watched, of which nothing is told yet and no status is answered
 abbrev pub Watches : Form → Result Ended RunFault → List PlanRange → List PlanRange → List ℕ → List ℕ → Type 0

@@ -4,17 +4,22 @@ ghost use Rattle.std.specs.Prelude.{◌≡◌, ◌≤◌, IfOk, OnOk, OnErr, ℕ
 ghost use Rattle.std.specs.List.{count_by};
 ghost use Rattle.std.specs.Option.{option_map};
 ghost use Rattle.squall_cli_device.specs.States.{TookBytes, OutputFails, NoWriteFails};
-ghost use Rattle.squall_cli_bar.specs.Bars.{bar_text};
+ghost use Rattle.squall_cli_watch.specs.Bars.{bar_text};
 ghost use Rattle.squall_cli_watch.specs.Drawn.{is_over, bar_of, IsNewestBar};
 ghost use Rattle.squall_cli_watch.specs.Drawing.{IsToDraw, Replaces, IsStarted};
 
 use crate::status::newest_status;
 use crate::watcher::Watcher;
-use squall_cli_bar::{Bar, BarLine, bar_text};
 use squall_cli_device::{DeviceFault, Sink};
 use squall_cli_lines::send;
 use squall_status::{CourseStatus, MoveStatus};
 use std::alloc::{AllocError, Global};
+
+mod line;
+mod text;
+
+pub(crate) use line::BarLine;
+pub use text::{Bar, bar_text};
 
 /// How many of the moves are complete.
 fn count_over(moves: &[MoveStatus]) -> usize

@@ -4,16 +4,16 @@ ghost use Rattle.std.specs.Prelude.{◌≡◌, ℕ, IfOk, Ok, false, length, tru
 ghost use Rattle.squall_board.specs.Boards.{empty_board};
 ghost use Rattle.squall_cli_device.specs.States.{GaveAll, ReadAndWrote};
 ghost use Rattle.squall_cli_lines.specs.Heeding.{HeedsReads, HeedsWrites};
+ghost use Rattle.squall_cli_boards.specs.Courses.{first_course};
 ghost use Rattle.squall_cli_watch.specs.Drawn.{ShowsBars};
 ghost use Rattle.squall_cli_watch.specs.Drawing.{DrawsOn};
 ghost use Rattle.squall_cli_watch.specs.Taken.{plays};
-ghost use Rattle.squall_cli_watch.specs.Watched.{IsWatchedBy, Watches, first_course};
+ghost use Rattle.squall_cli_watch.specs.Watched.{IsWatchedBy, Watches};
 
-use crate::bar::start_line;
+use crate::bar::{BarLine, start_line};
 use crate::piece::{answer_end, answer_piece};
 use crate::watcher::Watcher;
 use squall_board::Board;
-use squall_cli_bar::BarLine;
 use squall_cli_command::Form;
 use squall_cli_device::{Sink, Source};
 use squall_cli_lines::{BLOCK_SIZE, Ended, Flow, MOST_READS, RunFault};

@@ -8,14 +8,13 @@ ghost use Rattle.squall_cli_watch.specs.Drawn.{IsNewestBar};
 ghost use Rattle.squall_cli_watch.specs.Drawing.{JoinsBytes, JoinsPiece, ShowsPiece};
 ghost use Rattle.squall_cli_watch.specs.Taken.{plays, TakesPiece, AnswersPiece, AnswersEnd};
 
-use crate::bar::{next_bar, send_above};
-use crate::hearing::hear;
+use crate::bar::{BarLine, next_bar, send_above};
 use crate::refusal::unfinished;
 use crate::watcher::Watcher;
-use squall_cli_bar::BarLine;
 use squall_cli_command::Form;
 use squall_cli_device::{DeviceFault, Sink};
 use squall_cli_lines::{Ended, Flow, RunFault, send};
+use squall_wire::hear;
 use std::alloc::{AllocError, Global};
 
 /// Adds the answers to the frames that end in the piece. It comes after bytes that wait for the rest

@@ -11,29 +11,22 @@ use Rattle.squall_cli_ask.specs.Asked.{words_asked, question_asked, files_asked,
 use Rattle.squall_cli_ask.proofs.Inquired.{nothing_inquired, inquired}
 use Rattle.squall_cli_ask.proofs.inquiry.answer_inquiry.Goals as goal
 
-pub returns-in-Ok-Some-clause-done : goal.returns-in-Ok-Some-clause-done
-returns-in-Ok-Some-clause-done g c =
-    inquired (question_asked c.args.ask.now) c.in-Ok-Some.question (words_asked c.args.ask.now)
+pub returns-in-Some-clause-done : goal.returns-in-Some-clause-done
+returns-in-Some-clause-done g c =
+    inquired (question_asked c.args.ask.now) c.in-Some.question (words_asked c.args.ask.now)
     (bytes_at (g.F.Files.known c.args.files.now) (g.S.Source.state c.args.input.now) (g.O.Sink.state c.args.out.now))
     (bytes_at (g.F.Files.known c.answer_named.new.files) (g.S.Source.state c.answer_named.new.input) (g.O.Sink.state c.answer_named.new.out))
-    (map string_bytes c.files_of.result.now) (files_asked c.args.ask.now) c.answer_named.result (sym c.in-Ok-Some.field-0-is ∙ c.in-Ok-Some.ensures.question) c.files_of.ensures
+    (map string_bytes c.files_of.result.now) (files_asked c.args.ask.now) c.answer_named.result (sym c.in-Some.is ∙ c.question_of.ensures.question) c.files_of.ensures
     (subst (λ w. AnswersWith (bytes_at (g.F.Files.known c.args.files.now) (g.S.Source.state c.args.input.now) (g.O.Sink.state c.args.out.now))
-    (bytes_at (g.F.Files.known c.answer_named.new.files) (g.S.Source.state c.answer_named.new.input) (g.O.Sink.state c.answer_named.new.out)) c.in-Ok-Some.question
+    (bytes_at (g.F.Files.known c.answer_named.new.files) (g.S.Source.state c.answer_named.new.input) (g.O.Sink.state c.answer_named.new.out)) c.in-Some.question
     (map string_bytes w) (map string_bytes c.files_of.result.now) c.answer_named.result) c.deref.ensures.value c.answer_named.ensures.done)
 
-pub returns-in-Ok-Some-clause-device : goal.returns-in-Ok-Some-clause-device
-returns-in-Ok-Some-clause-device g c = λ three.
+pub returns-in-Some-clause-device : goal.returns-in-Some-clause-device
+returns-in-Some-clause-device g c = λ three.
     subst (λ w. InputFails (g.S.Source.state c.args.input.now) (g.S.Source.state c.answer_named.new.input)
     ⊎ (OutputFails (g.O.Sink.state c.args.out.now) (g.O.Sink.state c.answer_named.new.out) ⊎ (list_all is_input w ≡ false))) c.files_of.ensures (c.answer_named.ensures.device three)
 
-pub returns-in-Ok-Some-clause-told : goal.returns-in-Ok-Some-clause-told
-returns-in-Ok-Some-clause-told g c =
+pub returns-in-Some-clause-told : goal.returns-in-Some-clause-told
+returns-in-Some-clause-told g c =
     subst (λ w. (text : List ℕ) × IsTold (Contains w) c.answer_named.result text × Says (g.E.Sink.state c.args.err.now) (g.E.Sink.state c.answer_named.new.err) text) c.files_of.ensures
     c.answer_named.ensures.told
-
-pub returns-in-Err-clause-done : goal.returns-in-Err-clause-done
-returns-in-Err-clause-done g c = nothing_inquired (question_asked c.args.ask.now) (words_asked c.args.ask.now) (g.F.Files.known c.args.files.now)
-    (g.S.Source.state c.args.input.now).remaining (g.O.Sink.state c.args.out.now).contents (files_asked c.args.ask.now) c.tell_fault.result c.tell_fault.ensures.status
-
-pub returns-in-Err-clause-told : goal.returns-in-Err-clause-told
-returns-in-Err-clause-told g c = (fault_told NoMemory, inl (Err NoMemory, c.tell_fault.ensures.status, refl), c.tell_fault.ensures.told)

@@ -8,8 +8,18 @@ use Rattle.squall_cli_ask.specs.Files.{is_input}
 use Rattle.squall_cli_ask.specs.Told.{IsTold, fault_told}
 use Rattle.squall_cli_ask.specs.Gathered.{AreRead, IsNextRead}
 use Rattle.squall_cli_ask.proofs.Telling.{told_of, told_after}
-use Rattle.squall_cli_ask.proofs.Gathering.{read_more, next_names, contains_next, not_all, taken_next, kept_next, ended_next, device_next}
+use Rattle.squall_cli_ask.proofs.Gathering.{read_more, next_names, contains_next, not_all, none_named, taken_next, kept_next, ended_next, device_next}
 use Rattle.squall_cli_ask.proofs.reading.read_files.Goals as goal
+
+pub returns-in-Err-clause-kept : goal.returns-in-Err-clause-kept
+returns-in-Err-clause-kept g c = λ none.
+    let before = none_named string_bytes is_input c.args.names.now c.loop-name.name-index c.name-item.result c.as_str-name.result.now c.loop-name-test.true c.name-item.is c.as_str-name.ensures.value none in
+    c.in-Err.ensures.kept_too before.1 ∙ c.loop-name.invariant.kept (c.loop-name.invariant.taken ∙ before.0)
+
+pub returns-in_default-clause-kept : goal.returns-in_default-clause-kept
+returns-in_default-clause-kept g c = λ none.
+    let before = none_named string_bytes is_input c.args.names.now c.loop-name.name-index c.name-item.result c.as_str-name.result.now c.loop-name-test.true c.name-item.is c.as_str-name.ensures.value none in
+    c.in-Ok.ensures.kept_too before.1 ∙ c.loop-name.invariant.kept (c.loop-name.invariant.taken ∙ before.0)
 
 pub returns-in-Err-clause-device : goal.returns-in-Err-clause-device
 returns-in-Err-clause-device g c = λ three.

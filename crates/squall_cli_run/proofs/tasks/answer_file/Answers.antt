@@ -24,3 +24,6 @@ returns-in-Some-clause-done g c =
     answered c.args.file.0 (g.F.Files.known c.args.files.now) (g.F.Files.known c.open.new.self) (g.S.Source.state c.args.input.now).remaining (g.S.Source.state c.args.input.now).remaining (g.O.Sink.state c.args.out.now).contents (g.O.Sink.state c.answer_source-in-Some.new.out).contents c.args.file.1.now read.text.0 read.text.1 c.answer_source-in-Some.result c.tell_outcome-in-Some.result c.tell_outcome-in-Some.ensures.status
     read.text.3 read.text.4 (matched_false (is_input c.args.file.1.now) _ _ named (opened_begins known bytes left read.text.0 c.in-Some.ensures.opens read.text.2))
     (λ needs. matched_false (is_input c.args.file.1.now) _ _ named (opened_whole known bytes left read.text.0 c.in-Some.ensures.opens read.text.2 (read.all needs).1))
+
+pub returns-then-eq-clause-no_read_after : goal.returns-then-eq-clause-no_read_after
+returns-then-eq-clause-no_read_after g c = λ is named one. c.answer_source.ensures.no_read_after is (sym c.tell_outcome.ensures.status ∙ one)

@@ -8,12 +8,12 @@ use Rattle.squall_cli_command.specs.Line.{course, job_seen}
 use Rattle.squall_cli_ask.specs.Asked.{files_asked}
 use Rattle.squall_cli_ask.specs.Followed.{files_followed}
 use Rattle.squall_cli_ask.specs.Reads.{bytes_at}
-use Rattle.squall_cli_run.specs.Tasks.{DrawsFor, NamesFile}
+use Rattle.squall_cli_run.specs.Tasks.{AnswersPromptly, ReadsNoFurther, DrawsFor, NamesFile}
 use Rattle.squall_cli_run.specs.declared.tasks.Purpose.{Purpose}
 use Rattle.squall_cli_run.specs.Named.{IsNamed}
 use Rattle.squall_cli_ask.proofs.Telling.{told_of}
 use Rattle.squall_cli_run.proofs.Telling.{named_check, named_course, named_run, named_race}
-use Rattle.squall_cli_run.proofs.TaskLemmas.{undrawn_check, undrawn_course, undrawn_run, undrawn_race}
+use Rattle.squall_cli_run.proofs.TaskLemmas.{run_promptly, run_stops, undrawn_check, undrawn_course, undrawn_run, undrawn_race}
 use Rattle.squall_cli_run.proofs.tasks.do_task.Goals.{in-Check, in-Run, in-Race}
 use Rattle.squall_cli_run.proofs.tasks.do_task.Goals as goal
 
@@ -66,8 +66,57 @@ returns-in-Stream-clause-told g c =
       t.4,
     )
 
+pub returns-in-Course-clause-prompt : goal.returns-in-Course-clause-prompt
+returns-in-Course-clause-prompt g c = subst (AnswersPromptly (bytes_at (g.F.Files.known c.args.files.now) (g.S.Source.state c.args.input.now) (g.O.Sink.state c.args.out.now))
+    (bytes_at (g.F.Files.known c.course_files.new.files) (g.S.Source.state c.course_files.new.input) (g.O.Sink.state c.course_files.new.out)))
+    (sym (ap job_seen c.in-Course.is)) tt
+
+pub returns-in-Course-clause-no_read_after : goal.returns-in-Course-clause-no_read_after
+returns-in-Course-clause-no_read_after g c = λ one. subst (ReadsNoFurther (g.S.Source.state c.args.input.now) (g.S.Source.state c.course_files.new.input)) (sym (ap job_seen c.in-Course.is)) tt
+
+pub returns-in-Ask-clause-prompt : goal.returns-in-Ask-clause-prompt
+returns-in-Ask-clause-prompt g c = subst (AnswersPromptly (bytes_at (g.F.Files.known c.args.files.now) (g.S.Source.state c.args.input.now) (g.O.Sink.state c.args.out.now))
+    (bytes_at (g.F.Files.known c.answer_inquiry.new.files) (g.S.Source.state c.answer_inquiry.new.input) (g.O.Sink.state c.answer_inquiry.new.out)))
+    (sym (ap job_seen c.in-Ask.is)) tt
+
+pub returns-in-Ask-clause-no_read_after : goal.returns-in-Ask-clause-no_read_after
+returns-in-Ask-clause-no_read_after g c = λ one. subst (ReadsNoFurther (g.S.Source.state c.args.input.now) (g.S.Source.state c.answer_inquiry.new.input)) (sym (ap job_seen c.in-Ask.is)) tt
+
+pub returns-in-Stream-clause-prompt : goal.returns-in-Stream-clause-prompt
+returns-in-Stream-clause-prompt g c = subst (AnswersPromptly (bytes_at (g.F.Files.known c.args.files.now) (g.S.Source.state c.args.input.now) (g.O.Sink.state c.args.out.now))
+    (bytes_at (g.F.Files.known c.answer_stream.new.files) (g.S.Source.state c.answer_stream.new.input) (g.O.Sink.state c.answer_stream.new.out)))
+    (sym (ap job_seen c.in-Stream.is)) c.answer_stream.ensures.prompt
+
+pub returns-in-Stream-clause-no_read_after : goal.returns-in-Stream-clause-no_read_after
+returns-in-Stream-clause-no_read_after g c = λ one. subst (ReadsNoFurther (g.S.Source.state c.args.input.now) (g.S.Source.state c.answer_stream.new.input)) (sym (ap job_seen c.in-Stream.is)) tt
+
 abbrev file_name : Purpose × Bor (List ℕ) → List ℕ
 file_name file = file.1.now
+
+abbrev file_purpose : Purpose × Bor (List ℕ) → Purpose
+file_purpose file = file.0
+
+pub returns-clause-prompt : goal.returns-clause-prompt
+returns-clause-prompt g c =
+    let job = job_seen c.args.task.now in
+    let before = bytes_at (g.F.Files.known c.args.files.now) (g.S.Source.state c.args.input.now) (g.O.Sink.state c.args.out.now) in
+    let after = bytes_at (g.F.Files.known c.answer_file.new.files) (g.S.Source.state c.answer_file.new.input) (g.O.Sink.state c.answer_file.new.out) in
+    elim c.match-task.branch [
+      | in-Check w ↦ subst (AnswersPromptly before after) (sym (ap job_seen w.in-Check.is)) tt
+      | in-Run w ↦ run_promptly job c.match-task.file.1.now _ (ap job_seen w.in-Run.is) (ap file_name w.file-is ∙ w.as_str-in-Run.ensures.value) before after (c.answer_file.ensures.prompt (ap file_purpose w.file-is))
+      | in-Race w ↦ subst (AnswersPromptly before after) (sym (ap job_seen w.in-Race.is)) tt
+    ]
+
+pub returns-clause-no_read_after : goal.returns-clause-no_read_after
+returns-clause-no_read_after g c = λ one.
+    let job = job_seen c.args.task.now in
+    let old = g.S.Source.state c.args.input.now in
+    let new = g.S.Source.state c.answer_file.new.input in
+    elim c.match-task.branch [
+      | in-Check w ↦ subst (ReadsNoFurther old new) (sym (ap job_seen w.in-Check.is)) tt
+      | in-Run w ↦ run_stops job c.match-task.file.1.now _ (ap job_seen w.in-Run.is) (ap file_name w.file-is ∙ w.as_str-in-Run.ensures.value) old new (λ named. c.answer_file.ensures.no_read_after (ap file_purpose w.file-is) named one)
+      | in-Race w ↦ subst (ReadsNoFurther old new) (sym (ap job_seen w.in-Race.is)) tt
+    ]
 
 pub returns-clause-told : goal.returns-clause-told
 returns-clause-told g c =

@@ -1,5 +1,5 @@
-use Rattle.squall_cli_bar.specs.Bars.{erasure}
-use Rattle.squall_cli_bar.proofs.Drawing.{adds_then}
+use Rattle.squall_cli_watch.specs.Bars.{erasure}
+use Rattle.squall_cli_watch.proofs.BarLines.{adds_then}
 use Rattle.squall_cli_watch.proofs.bar.send_above.Goals as goal
 
 pub returns-clause-bar : goal.returns-clause-bar

@@ -5,7 +5,7 @@ use Rattle.squall_cli_lines.proofs.Outcomes.{take_small}
 use Rattle.squall_cli_lines.specs.declared.Flow.TheVariants.{On, End}
 use Rattle.squall_cli_lines.specs.declared.Ended.TheVariants.{Refused}
 use Rattle.squall_cli_lines.specs.declared.RunFault.TheVariants.{Read}
-use Rattle.squall_cli_bar.specs.BarLines.{Ends}
+use Rattle.squall_cli_watch.specs.BarLines.{Ends}
 use Rattle.squall_cli_watch.specs.Drawn.{IsNewestBar}
 use Rattle.squall_cli_watch.specs.Taken.{plays}
 use Rattle.squall_cli_watch.proofs.Drawing.{Drawing, drawing_start, closed_now, closed_read, closed_last, draws_on, draws_ended, draws_more, draws_refused, draws_stopped, quiet_piece}

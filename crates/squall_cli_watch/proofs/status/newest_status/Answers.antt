@@ -1,20 +1,17 @@
-use Rattle.std.proofs.Common.{sym, ap, subst, ◌∙◌}
-use Rattle.std.specs.Prelude.{IfOk}
-use Rattle.std.specs.Arc.{arc_value}
+use Rattle.std.specs.Prelude.{◌≡◌, IfOk, Option, None, Some, option_copied, unwrap_or}
+use Rattle.std.proofs.Common.{Bor, ap, refl, subst, ◌∙◌}
 use Rattle.squall_course.specs.Change.{Change}
 use Rattle.squall_board.specs.Boards.{says}
 use Rattle.squall_status.specs.Summary.{IsStatusOf}
 use Rattle.squall_cli_watch.proofs.status.newest_status.Goals as goal
 
-pub returns-in-Ok : goal.returns-in-Ok
-returns-in-Ok c =
-    let number = c.in-Some.number in
-    let old = c.old.ensures ∙ ap (λ i. i.old) c.deref.ensures in
-    let new = c.new_plan.ensures ∙ ap (λ i. i.new) c.deref-in-Some.ensures in
-    let is = c.in-Ok.ensures.course
-    ∙ ap {B = Change} (λ p. record { number = number; old = p; new = c.new_plan.result.now }) old
-    ∙ ap {B = Change} (λ p. record { number = number; old = (arc_value c.in-Some.issue.now).old; new = p }) new in
-    rw (sym c.in-Some.ensures.newest) (subst (λ course. IfOk c.of.result (λ status. IsStatusOf course (says c.args.board.now) status)) is c.of.ensures)
+-- what stands behind the reference that is there, or behind the other one
+behind : {T : Type 0} (o : Option (Bor T)) (other : Bor T) → (unwrap_or o other).now ≡ unwrap_or (option_copied o) other.now
+behind None other = refl
+behind (Some x) other = refl
 
-pub returns-in-None : goal.returns-in-None
-returns-in-None c = rw (sym c.in-None.ensures.newest) c.of-in-None.ensures
+pub returns : goal.returns
+returns c =
+    let first = c.args.first in
+    let lent = ap (λ r. r.now) c.unwrap_or-course.ensures ∙ behind c.as_ref.result first ∙ ap (λ o. unwrap_or o first.now) c.as_ref.ensures.value in
+    subst (λ (course : Change). IfOk c.of.result (λ status. IsStatusOf course (says c.args.board.now) status)) (lent ∙ c.in_ok-newest.ensures.course) c.of.ensures

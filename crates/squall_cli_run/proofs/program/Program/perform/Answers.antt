@@ -1,15 +1,27 @@
-use Rattle.std.proofs.Common.{inl, inr, Err, refl}
+use Rattle.std.proofs.Common.{inl, inr, Err, refl, subst, arith}
 use Rattle.squall_cli_lines.specs.declared.RunFault.TheVariants.{NoMemory}
 use Rattle.squall_cli_ask.specs.Reads.{bytes_at}
 use Rattle.squall_cli_ask.specs.Told.{fault_told}
+use Rattle.squall_cli_run.specs.Tasks.{AnswersPromptly, ReadsNoFurther}
 use Rattle.squall_cli_run.specs.Named.{IsNamed, NamesIt}
-use Rattle.squall_cli_run.proofs.TaskLemmas.{nothing_done, device_of_words, help_unwritten, drawn_for_words, undrawn_unasked, no_help, no_fault}
+use Rattle.squall_cli_run.proofs.TaskLemmas.{nothing_done, nothing_promptly, device_of_words, help_unwritten, drawn_for_words, undrawn_unasked, no_help, no_fault, one_job}
 use Rattle.squall_cli_ask.proofs.Telling.{told_of}
 use Rattle.squall_cli_command.specs.Line.{words_of, job_seen}
 use Rattle.squall_cli_run.proofs.program.Program.perform.Goals as goal
 
 pub returns-in-Ok-clause-device : goal.returns-in-Ok-clause-device
 returns-in-Ok-clause-device g c = λ e. device_of_words _ _ (words_of c.args.words.now) (job_seen c.in-Ok.task) c.in-Ok.ensures.task (c.do_task.ensures.device e)
+
+pub returns-in-Ok-clause-prompt : goal.returns-in-Ok-clause-prompt
+returns-in-Ok-clause-prompt g c = λ job also.
+    subst (AnswersPromptly (bytes_at (g.F.Files.known c.args.files.now) (g.S.Source.state c.args.input.now) (g.O.Sink.state c.args.out.now))
+    (bytes_at (g.F.Files.known c.do_task.new.files) (g.S.Source.state c.do_task.new.input) (g.O.Sink.state c.do_task.new.out)))
+    (one_job (words_of c.args.words.now) (job_seen c.in-Ok.task) job c.in-Ok.ensures.task also) c.do_task.ensures.prompt
+
+pub returns-in-Ok-clause-no_read_after : goal.returns-in-Ok-clause-no_read_after
+returns-in-Ok-clause-no_read_after g c = λ job also one.
+    subst (ReadsNoFurther (g.S.Source.state c.args.input.now) (g.S.Source.state c.do_task.new.input))
+    (one_job (words_of c.args.words.now) (job_seen c.in-Ok.task) job c.in-Ok.ensures.task also) (c.do_task.ensures.no_read_after one)
 
 pub returns-in-Ok-clause-told : goal.returns-in-Ok-clause-told
 returns-in-Ok-clause-told g c =
@@ -44,6 +56,12 @@ returns-in-Err-Bad-clause-device g c = λ e. absurd (c.show_fault.ensures.device
 
 pub returns-in-Err-NoMemory-clause-done : goal.returns-in-Err-NoMemory-clause-done
 returns-in-Err-NoMemory-clause-done g c = λ job asks. nothing_done (g.F.Files.known c.args.files.now) (g.S.Source.state c.args.input.now).remaining (g.O.Sink.state c.args.out.now).contents job c.tell_fault.result c.tell_fault.ensures.status
+
+pub returns-in-Err-NoMemory-clause-prompt : goal.returns-in-Err-NoMemory-clause-prompt
+returns-in-Err-NoMemory-clause-prompt g c = λ job asks. nothing_promptly (g.F.Files.known c.args.files.now) (g.S.Source.state c.args.input.now).remaining (g.O.Sink.state c.args.out.now).contents job
+
+pub returns-in-Err-NoMemory-clause-no_read_after : goal.returns-in-Err-NoMemory-clause-no_read_after
+returns-in-Err-NoMemory-clause-no_read_after g c = λ job asks one. absurd (omega (arith, c.tell_fault.ensures.status, one))
 
 pub returns-in-Err-NoMemory-clause-help : goal.returns-in-Err-NoMemory-clause-help
 returns-in-Err-NoMemory-clause-help g c = λ _. help_unwritten c.args.self.now.title.now (g.O.Sink.state c.args.out.now) c.tell_fault.result c.tell_fault.ensures.status

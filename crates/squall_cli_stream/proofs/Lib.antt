@@ -1,4 +1,0 @@
-pub mod ByLine
-pub mod Refused
-pub mod Streamed
-pub mod Watched
