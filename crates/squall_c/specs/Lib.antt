@@ -2,7 +2,7 @@
 pub use Rattle.squall_key.specs.Keys
 pub use Rattle.squall_keymap.specs.KeyMap
 pub use Rattle.squall_plan.specs.Form
-pub use Rattle.squall_plan_text.specs.PlanText
+pub use Rattle.squall_plan.specs.PlanText
 pub use Rattle.squall_course.specs.Change
 pub use Rattle.squall_report.specs.Facts
 pub use Rattle.squall_board.specs.Boards
@@ -20,8 +20,8 @@ pub use Rattle.squall_errand.specs.Errands
 pub use Rattle.squall_c_values.specs.Rooms
 pub use Rattle.squall_c_values.specs.Values
 pub use Rattle.squall_c_values.specs.ReportFrames
-pub use Rattle.squall_tally.specs.Tallies
-pub use Rattle.squall_changes.specs.Changes
+pub use Rattle.squall_status.specs.Tallies
+pub use Rattle.squall_c_changes.specs.Changes
 pub use Rattle.squall_part.specs.Parts
 pub use Rattle.squall_c_parts.specs.Nodes
 pub use Rattle.squall_c_parts.specs.PartCalls

@@ -3,8 +3,8 @@ use Rattle.std.specs.Prelude.{◌≡◌, ◌≢◌, ℕ, ◌+◌, ◌==◌, Bool
 use Rattle.squall_board.specs.Boards.{BoardValue, board_join}
 use Rattle.squall_wire.specs.declared.message.Message.{Message}
 use Rattle.squall_delta.specs.Pieces.{joined_boards}
-use Rattle.squall_tally.specs.declared.tally.Tally.{Tally}
-use Rattle.squall_tally.specs.Tallies.{at_most_64_bits, tally_of, IsWithin}
+use Rattle.squall_status.specs.declared.tally.Tally.{Tally}
+use Rattle.squall_status.specs.Tallies.{at_most_64_bits, tally_of, IsWithin}
 use Rattle.squall_c_frames.specs.Joined.{deltas_of}
 use Rattle.squall_c.specs.declared.router.RouterSlot.{RouterSlot}
 use Rattle.squall_c.specs.declared.router.Station.{Station}

@@ -6,7 +6,7 @@ use Rattle.squall_plan.specs.Form.{plan_of_text}
 use Rattle.squall_course.specs.Change.{Change}
 use Rattle.squall_board.specs.Boards.{BoardValue, empty_board}
 use Rattle.squall_router.specs.Routers.{router_with}
-use Rattle.squall_tally.specs.declared.tally.Tally.{Tally}
+use Rattle.squall_status.specs.declared.tally.Tally.{Tally}
 use Rattle.squall_wire.specs.Hearing.{new_feed}
 use Rattle.squall_c.specs.declared.status.Cause.{Cause}
 use Rattle.squall_c.specs.declared.router.RouterSlot.{RouterSlot}

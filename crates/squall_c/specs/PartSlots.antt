@@ -7,7 +7,7 @@ use Rattle.squall_c_parts.specs.declared.chunks.CAnswer.{CAnswer}
 use Rattle.squall_c_values.specs.declared.spans.CSpan.{CSpan}
 use Rattle.squall_c_values.specs.Values.{spans_that_fit}
 use Rattle.squall_c_parts.specs.Nodes.{NodeValue, new_node, given_spans, loaded_spans}
-use Rattle.squall_c_parts.specs.PartCalls.{Gives, GivesAt, Loads, Finishes, Serves}
+use Rattle.squall_c_parts.specs.PartCalls.{Gives, GivesAt, Loads, Finds, Finishes, Serves}
 use Rattle.squall_c_parts.specs.PartHearing.{HearsFrame}
 use Rattle.squall_c_parts.specs.PartFeeding.{Feeds}
 use Rattle.squall_c_parts.specs.PartFrames.{GathersBoard, GathersDigest, GathersRepair, node_after}
@@ -72,6 +72,14 @@ PartGivesAt rank old before new after status = through (λ n m s. GivesAt rank n
 -- after a chunk came to it
 abbrev pub PartLoads : CChunk → PartSlot → PartSlot → ℕ → Type 0
 PartLoads chunk old new status = through (Loads chunk) (Unit {0}) old old.node new status
+
+-- the first span of the new keys of a chunk from a bound on
+abbrev pub node_finds : Option NodeValue → CChunk → ℕ → CSpan → CSpan → ℕ → Type 0
+node_finds None chunk from before after status = (status ≡ closed) × (after ≡ before)
+node_finds (Some n) chunk from before after status = Finds chunk from n before after status
+
+abbrev pub PartFinds : CChunk → ℕ → PartSlot → CSpan → CSpan → ℕ → Type 0
+PartFinds chunk from slot before after status = node_finds slot.node chunk from before after status
 
 -- after a sub-plan was to be finished
 abbrev pub PartFinishes : ℕ → PartSlot → PartSlot → ℕ → Type 0

@@ -2,7 +2,7 @@
 use Rattle.std.specs.Prelude.{◌≡◌, ◌≢◌, ℕ, Bool, List, [], ◌∷◌, length, take, Option, None, Some, Ok, ◌⊎◌}
 use Rattle.squall_plan.specs.declared.range.PlanRange.{PlanRange}
 use Rattle.squall_plan.specs.Form.{plan_of_text}
-use Rattle.squall_plan_text.specs.PlanText.{text_of_plan}
+use Rattle.squall_plan.specs.PlanText.{text_of_plan}
 use Rattle.squall_course.specs.Change.{Change}
 use Rattle.squall_report.specs.Facts.{Fact}
 use Rattle.squall_board.specs.Boards.{says, issued}
@@ -11,8 +11,8 @@ use Rattle.squall_status.specs.Summary.{StatusValue, IsStatusOf}
 use Rattle.squall_status.specs.Texts.{status_text}
 use Rattle.squall_picture.specs.Picture.{IsPictureOf}
 use Rattle.squall_router.specs.Routers.{RouterValue, course_of_router}
-use Rattle.squall_tally.specs.declared.tally.Tally.{Tally}
-use Rattle.squall_tally.specs.Tallies.{HasClashAbove, tally_of}
+use Rattle.squall_status.specs.declared.tally.Tally.{Tally}
+use Rattle.squall_status.specs.Tallies.{HasClashAbove, tally_of}
 use Rattle.squall_c_values.specs.Rooms.{over}
 use Rattle.squall_c_values.specs.ReportFrames.{no_count, room_with}
 use Rattle.squall_c.specs.declared.courses.HeldCourse.{HeldCourse}

@@ -1,12 +1,12 @@
 //! For which keys two views answer differently.
 
 ghost use Rattle.std.specs.Prelude.{None, Some};
-ghost use Rattle.squall_changes.specs.Changes.{PutsChanges};
+ghost use Rattle.squall_c_changes.specs.Changes.{PutsChanges};
 ghost use Rattle.squall_c.specs.Views.{seen};
 
 use crate::views::{View, ViewSlot};
+use squall_c_changes::{owners_are_partitions, put_changes, put_each_key};
 use squall_c_values::CSpan;
-use squall_changes::{owners_are_partitions, put_changes, put_each_key};
 
 /// The changes between two views.
 fn both_changes(before: &View, after: &View, lo: u64, hi: u64, room: &mut [CSpan]) -> usize

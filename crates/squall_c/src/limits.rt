@@ -15,7 +15,7 @@ use crate::status::{CLOSED, OK};
 use squall_board::Delta;
 use squall_c_frames::{alone, joined};
 use squall_router::{AbsorbFault, Router};
-use squall_tally::Tally;
+use squall_status::Tally;
 use squall_wire::Message;
 use std::alloc::Global;
 

@@ -8,15 +8,16 @@ ghost use Rattle.squall_c_frames.specs.Queues.{first_length, room_after};
 ghost use Rattle.squall_c.specs.declared.courses.CourseSlot.{CourseSlot};
 ghost use Rattle.squall_c.specs.declared.parts.PartSlot.{PartSlot};
 ghost use Rattle.squall_c.specs.Handles.{course_at, part_bytes, part_room, part_at, part_such};
-ghost use Rattle.squall_c.specs.PartSlots.{IsPartOpened, PartHears, PartFeeds, PartGives, PartGivesAt, PartLoads, PartFinishes, PartServes};
+ghost use Rattle.squall_c.specs.PartSlots.{IsPartOpened, PartHears, PartFeeds, PartGives, PartGivesAt, PartLoads, PartFinds, PartFinishes, PartServes};
 ghost use Rattle.squall_c.specs.PartSlots.{held_in, given_in, loaded_in, PartGathersBoard, PartGathersDigest, PartGathersRepair};
 ghost use Rattle.squall_c.specs.PartSlots.{part_frames, part_after, part_waiting_bytes};
 
 use crate::courses::CourseSlot;
 use crate::handles::{CCourse, CPart};
 use crate::parts::{
-    PartSlot, close_part, finish, give, give_at, given, held, load, loaded, open_part, part_board,
-    part_digest, part_feed, part_frame, part_hear, part_repair, part_status, part_waiting, serve,
+    PartSlot, close_part, finish, fresh, give, give_at, given, held, load, loaded, open_part,
+    part_board, part_digest, part_feed, part_frame, part_hear, part_repair, part_status,
+    part_waiting, serve,
 };
 use squall_c_parts::{CAnswer, CChunk};
 use squall_c_values::CSpan;
@@ -130,6 +131,25 @@ pub unsafe extern "C" fn squall_part_load(part: *mut CPart, chunk: &CChunk) -> u
     ensures* { sem 𝓛 (part_such part (λ now. PartLoads chunk.now s now result)) }
 {
     load(&mut *(part as *mut PartSlot), chunk)
+}
+
+/// Writes the first span of the new keys of the chunk that ends above the rank `from`. New keys are
+/// neither loaded nor held: the rows of these keys, and of no others, go in place before the chunk is
+/// loaded. If there is no such span, one without a key is written. No memory (1), the numbers are no
+/// chunk's or the rank is no bound's (2), no partition (3), the sub-plan is not open (71), the course does
+/// not bring the keys to this partition (77): then nothing is written. It allocates.
+#[unsafe(no_mangle)]
+pub unsafe extern "C" fn squall_part_fresh(
+    part: *const CPart,
+    chunk: &CChunk,
+    from: u64,
+    out: &mut CSpan,
+) -> u32
+    ghost s: { PartSlot }
+    requires* { sem 𝓛 (part_at part s) }
+    ensures* { sem 𝓛 (part_at part s) ∗ ⌜ PartFinds chunk.now from s out.old out.new result ⌝ }
+{
+    fresh(&*(part as *const PartSlot), chunk, from, out)
 }
 
 /// Reports that the partition has all keys that the sub-plan brings it. No memory (1), no partition (3),

@@ -3,7 +3,7 @@
 ghost use Rattle.std.specs.Prelude.{◌≡◌, length};
 ghost use Rattle.squall_c_values.specs.Rooms.{over};
 ghost use Rattle.squall_c_frames.specs.Queues.{first_length, room_after};
-ghost use Rattle.squall_c.specs.PartSlots.{no_part, IsPartOpened, PartHears, PartFeeds, PartGives, PartGivesAt, PartLoads, PartFinishes, PartServes};
+ghost use Rattle.squall_c.specs.PartSlots.{no_part, IsPartOpened, PartHears, PartFeeds, PartGives, PartGivesAt, PartLoads, PartFinds, PartFinishes, PartServes};
 ghost use Rattle.squall_c.specs.PartSlots.{held_in, given_in, loaded_in, PartGathersBoard, PartGathersDigest, PartGathersRepair};
 ghost use Rattle.squall_c.specs.PartSlots.{part_frames, part_after, part_waiting_bytes};
 
@@ -112,6 +112,16 @@ pub(crate) fn load(slot: &mut PartSlot, chunk: &CChunk) -> u32
 {
     match &mut slot.node {
         Some(node) => node.load(chunk),
+        None => CLOSED,
+    }
+}
+
+/// Writes the first span of the new keys of the chunk that ends above the rank `from`.
+pub(crate) fn fresh(slot: &PartSlot, chunk: &CChunk, from: u64, out: &mut CSpan) -> u32
+    ensures { PartFinds chunk.now from slot.now out.old out.new result }
+{
+    match &slot.node {
+        Some(node) => node.fresh(chunk, from, out),
         None => CLOSED,
     }
 }

@@ -17,7 +17,7 @@ use squall_course::Course;
 use squall_key::Key;
 use squall_plan::Plan;
 use squall_router::Router;
-use squall_tally::Tally;
+use squall_status::Tally;
 use squall_wire::Digest;
 use std::alloc::{AllocError, Global};
 use std::sync::Arc;

@@ -6,7 +6,7 @@ ghost use Rattle.squall_c.specs.Telling.{TellsClash, PutsTally};
 
 use crate::router::RouterSlot;
 use squall_c_values::NO_COUNT;
-use squall_tally::{Tally, clashes_above};
+use squall_status::{Tally, clashes_above};
 
 /// 1 if different pairs of plans were issued under a number above that of the router's course, else 0:
 /// also if there is no router. `NO_COUNT` if an allocation fails.

@@ -12,8 +12,7 @@ use squall_board::Board;
 use squall_c_values::NO_COUNT;
 use squall_course::Course;
 use squall_picture::picture;
-use squall_plan::Plan;
-use squall_plan_text::plan_text;
+use squall_plan::{Plan, plan_text};
 use squall_status::{CourseStatus, Shown, add_status};
 use std::alloc::{AllocError, Global};
 

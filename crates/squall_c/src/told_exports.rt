@@ -1,7 +1,7 @@
 //! What a router says of itself, and for which keys two views differ, as C calls them.
 
 ghost use Rattle.std.specs.Borrow.{sem};
-ghost use Rattle.squall_changes.specs.Changes.{PutsChanges};
+ghost use Rattle.squall_c_changes.specs.Changes.{PutsChanges};
 ghost use Rattle.squall_c.specs.declared.router.RouterSlot.{RouterSlot};
 ghost use Rattle.squall_c.specs.declared.views.ViewSlot.{ViewSlot};
 ghost use Rattle.squall_c.specs.Handles.{router_at, view_at};
@@ -15,7 +15,7 @@ use crate::tallies::{clashed, counts};
 use crate::texts::{router_picture, status_text};
 use crate::views::ViewSlot;
 use squall_c_values::CSpan;
-use squall_tally::Tally;
+use squall_status::Tally;
 
 /// 1 if the router heard of different pairs of plans under a number above that of its course, else 0:
 /// also if there is no router. It allocates: if that fails, the answer is the greatest number of its type.

@@ -11,6 +11,10 @@ deltas_of [] = []
 deltas_of (Delta b ∷ ms) = b ∷ deltas_of ms
 deltas_of (Digest d ∷ ms) = deltas_of ms
 
+-- the messages are one board alone
+abbrev pub IsOneDelta : List Message → Type 0
+IsOneDelta ms = (b : BoardValue) × (ms ≡ Delta b ∷ [])
+
 -- the last digest that messages bring, or the one before them
 abbrev pub last_digest : Option DigestValue → List Message → Option DigestValue
 last_digest d [] = d

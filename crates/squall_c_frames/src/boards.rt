@@ -1,9 +1,10 @@
 //! The frames of a board, of its digest and of a repair.
 
-ghost use Rattle.std.specs.Prelude.{◌≡◌, IfOk};
+ghost use Rattle.std.specs.Prelude.{◌≡◌, ◌<◌, length, IfOk, OnOk, OnErr, Err};
 ghost use Rattle.squall_wire.specs.declared.message.Message.TheVariants.{Delta as DeltaMessage};
 ghost use Rattle.squall_wire.specs.Messages.{spell};
-ghost use Rattle.squall_c_frames.specs.BoardFrames.{frames_of, IsBoardFrames, IsDigestFrame, IsRepairFrames};
+ghost use Rattle.squall_c_frames.specs.declared.fault.FrameFault.TheVariants.{TooLong};
+ghost use Rattle.squall_c_frames.specs.BoardFrames.{frames_of, HasAtMost, IsBoardFrames, IsDigestFrame, IsRepairFrames};
 
 use crate::fault::FrameFault;
 use crate::frames::Frames;
@@ -58,16 +59,27 @@ pub fn repair_frames(
     board_frames(alloc, &repair, limit)
 }
 
+/// The frame, if it has at most `limit` bytes. The fault is `TooLong` and no other one, and only of a
+/// frame that has more.
+fn short(frame: Vec<u8>, limit: usize) -> Result<Vec<u8>, FrameFault>
+    ensures frame { IfOk result (λ short. short.items ≡ frame.items) }
+    ensures short { OnOk result (HasAtMost limit frame.items) }
+    ensures too_long { OnErr result (result ≡ Err TooLong) }
+    ensures long { OnErr result (limit < length frame.items) }
+{
+    if frame.len() > limit {
+        return Err(FrameFault::TooLong);
+    }
+    Ok(frame)
+}
+
 /// The frame of the digest of the board, which has at most `limit` bytes. `TooLong` if it would have
 /// more, or its body more than 1,048,576. `NoMemory` if an allocation failed.
 pub fn digest_frame(alloc: Global, board: &Board, limit: usize) -> Result<Frames, FrameFault>
     ensures { IsDigestFrame limit board.now result }
 {
     let digest = digest(alloc, board)?;
-    let frame = encode(alloc, &Message::Digest(digest))?;
-    if frame.len() > limit {
-        return Err(FrameFault::TooLong);
-    }
+    let frame = short(encode(alloc, &Message::Digest(digest))?, limit)?;
     let mut frames = Frames::new(alloc);
     frames.push(frame)?;
     Ok(frames)

@@ -1,6 +1,6 @@
 //! A queue of frames.
 
-ghost use Rattle.std.specs.Prelude.{◌≡◌, [], ◌∷◌, ◌++◌, OnOk};
+ghost use Rattle.std.specs.Prelude.{◌≡◌, [], ◌∷◌, ◌++◌, OnOk, OnErr};
 ghost use Rattle.squall_c_frames.specs.Queues.{frames_after, room_after, first_length};
 
 use std::alloc::{AllocError, Global};
@@ -32,9 +32,11 @@ impl Frames {
         }
     }
 
-    /// Adds a frame, behind the others. It fails only if an allocation fails.
+    /// Adds a frame, behind the others. It fails only if an allocation fails, and then the others wait
+    /// on.
     pub fn push(&mut self, frame: Vec<u8>) -> Result<(), AllocError>
-        ensures { OnOk result (self.new ≡ self.old ++ frame.items ∷ []) }
+        ensures ok { OnOk result (self.new ≡ self.old ++ frame.items ∷ []) }
+        ensures err { OnErr result (self.new ≡ self.old) }
     {
         self.waiting.push_back(frame)?;
         Ok(())

@@ -1,10 +1,10 @@
 //! What the messages of a stream tell together.
 
-ghost use Rattle.std.specs.Prelude.{◌≡◌, IfOk, IfSome, OnOk, None};
+ghost use Rattle.std.specs.Prelude.{◌≡◌, IfOk, IfSome, IfNone, OnOk, None};
 ghost use Rattle.std.specs.List.{AllByRecursion};
 ghost use Rattle.squall_wire.specs.Messages.{IsMessage};
 ghost use Rattle.squall_delta.specs.Pieces.{joined_boards};
-ghost use Rattle.squall_c_frames.specs.Joined.{JoinsMessage, deltas_of, last_digest};
+ghost use Rattle.squall_c_frames.specs.Joined.{IsOneDelta, JoinsMessage, deltas_of, last_digest};
 
 use squall_board::{Board, Delta};
 use squall_wire::{Digest, Message};
@@ -38,7 +38,8 @@ pub fn joined(alloc: Global, messages: &[Message]) -> Result<Delta, AllocError>
 #[tactic(auto, using(crate::specs::JoinedLaws::one_delta))]
 pub fn alone(messages: &[Message]) -> Option<&Delta>
     requires { AllByRecursion IsMessage messages.now }
-    ensures { IfSome result (λ delta. delta.now ≡ joined_boards (deltas_of messages.now)) }
+    ensures delta { IfSome result (λ delta. delta.now ≡ joined_boards (deltas_of messages.now)) }
+    ensures none { IfNone result (IsOneDelta messages.now → ⊥) }
 {
     match messages.first()? {
         Message::Delta(delta) if messages.len() == 1 => Some(delta),

@@ -1,6 +1,9 @@
 -- What a node of the C library gives, loads, finishes and replies (this project).
-use Rattle.std.specs.Prelude.{◌≡◌, ℕ, nat_lt, Bool, true, false, Option, None, Some, Result, Ok, Err}
+use Rattle.std.specs.Prelude.{◌≡◌, ℕ, nat_lt, nat_le, Bool, true, false, List, Option, None, Some, Result, Ok, Err}
 use Rattle.squall_key.specs.Keys.{top}
+use Rattle.squall_span.specs.Spans.{Interval, first_span, spans_beyond}
+use Rattle.squall_c_values.specs.declared.spans.CSpan.{CSpan}
+use Rattle.squall_c_values.specs.Values.{c_span}
 use Rattle.squall_report.specs.declared.report.ReportKind.{ReportKind}
 use Rattle.squall_report.specs.Issues.{PlanPair}
 use Rattle.squall_errand.specs.declared.errand.Reply.{Reply}
@@ -11,11 +14,11 @@ use Rattle.squall_part.specs.declared.loading.LoadFault.{LoadFault}
 use Rattle.squall_part.specs.declared.finishing.FinishFault.{FinishFault}
 use Rattle.squall_part.specs.Parts.{PartValue}
 use Rattle.squall_part.specs.Giving.{IsGiven, IsGivenAt}
-use Rattle.squall_part.specs.Loading.{IsLoaded, IsFinished}
+use Rattle.squall_part.specs.Loading.{IsLoaded, IsFresh, IsFinished}
 use Rattle.squall_part.specs.Serving.{IsReply}
 use Rattle.squall_c_parts.specs.declared.chunks.CChunk.{CChunk}
 use Rattle.squall_c_parts.specs.declared.chunks.CAnswer.{CAnswer}
-use Rattle.squall_c_parts.specs.PartStatus.{ok, limit, give_status, load_status, finish_status}
+use Rattle.squall_c_parts.specs.PartStatus.{ok, limit, give_status, load_status, fresh_status, finish_status}
 use Rattle.squall_c_parts.specs.PartValues.{c_chunk, chunk_in, c_answer}
 use Rattle.squall_c_parts.specs.Nodes.{NodeValue, with_part}
 
@@ -64,6 +67,35 @@ loads_in (Some chunk) old new status = LoadsChunk chunk old new status
 -- the same of the chunk of these numbers, if there is one
 abbrev pub Loads : CChunk → NodeValue → NodeValue → ℕ → Type 0
 Loads chunk old new status = loads_in (chunk_in chunk) old new status
+
+-- the span as C sees it; one without a key if there is none
+abbrev pub span_or_none : Option Interval → CSpan
+span_or_none (Some s) = c_span s
+span_or_none None = record { lo = top; hi = top }
+
+-- the first span of the new keys that ends above the bound is written, and nothing if the chunk may not be loaded
+abbrev pub fresh_span : ℕ → Result (List Interval) LoadFault → CSpan → CSpan
+fresh_span from (Ok keys) before = span_or_none (first_span (spans_beyond from keys))
+fresh_span from (Err fault) before = before
+
+-- the new keys of the chunk are looked at from the bound on, and the status says how it ended
+pub record FindsFresh (chunk : ChunkValue) (from : ℕ) (n : NodeValue) (before after : CSpan) (status : ℕ) : Type 0 where
+  pub answer : Result (List Interval) LoadFault
+  pub is : IsFresh n.part chunk answer
+  pub span : after ≡ fresh_span from answer before
+  pub told : status ≡ fresh_status answer
+
+abbrev pub finds_if : Bool → ChunkValue → ℕ → NodeValue → CSpan → CSpan → ℕ → Type 0
+finds_if true chunk from n before after status = FindsFresh chunk from n before after status
+finds_if false chunk from n before after status = (status ≡ limit) × (after ≡ before)
+
+abbrev pub finds_in : Option ChunkValue → ℕ → NodeValue → CSpan → CSpan → ℕ → Type 0
+finds_in None from n before after status = (status ≡ limit) × (after ≡ before)
+finds_in (Some chunk) from n before after status = finds_if (nat_le from top) chunk from n before after status
+
+-- the same of the chunk of these numbers, if there is one, and if the rank is one of a bound
+abbrev pub Finds : CChunk → ℕ → NodeValue → CSpan → CSpan → ℕ → Type 0
+Finds chunk from n before after status = finds_in (chunk_in chunk) from n before after status
 
 -- the partition finishes the sub-plan, and the status says how it ended
 pub record Finishes (sub : ℕ) (old new : NodeValue) (status : ℕ) : Type 0 where

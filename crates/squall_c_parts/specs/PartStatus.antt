@@ -1,5 +1,6 @@
 -- The numbers by which calls of a partition of the C library say how they ended (this project).
-use Rattle.std.specs.Prelude.{ℕ, Result, Ok, Err}
+use Rattle.std.specs.Prelude.{ℕ, List, Result, Ok, Err}
+use Rattle.squall_span.specs.Spans.{Interval}
 use Rattle.squall_report.specs.declared.report.ReportKind.{ReportKind}
 use Rattle.squall_report.specs.Issues.{PlanPair}
 use Rattle.squall_protocol.specs.Chunks.{ChunkValue}
@@ -51,13 +52,22 @@ give_status (Err Given) = 75
 give_status (Err NotHeld) = 76
 give_status (Err NoMemory) = no_memory
 
+-- of the reason why a chunk is not loaded
+abbrev pub load_fault_status : LoadFault → ℕ
+load_fault_status NotOpenToLoad = not_open
+load_fault_status Stranger = 77
+load_fault_status NoMemoryToLoad = no_memory
+
 -- of the answer to a chunk; 80 says that each of its keys was loaded before
 abbrev pub load_status : Result Load LoadFault → ℕ
 load_status (Ok (Loaded report)) = ok
 load_status (Ok Again) = 80
-load_status (Err NotOpenToLoad) = not_open
-load_status (Err Stranger) = 77
-load_status (Err NoMemoryToLoad) = no_memory
+load_status (Err fault) = load_fault_status fault
+
+-- of the answer to the question which keys of a chunk are new
+abbrev pub fresh_status : Result (List Interval) LoadFault → ℕ
+fresh_status (Ok keys) = ok
+fresh_status (Err fault) = load_fault_status fault
 
 -- of the answer when a sub-plan is to be finished
 abbrev pub finish_status : Result (ReportKind PlanPair) FinishFault → ℕ

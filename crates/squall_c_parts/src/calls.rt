@@ -2,13 +2,16 @@
 
 ghost use Rattle.std.specs.Prelude.{◌≡◌};
 ghost use Rattle.squall_c_parts.specs.PartStatus.{give_status};
-ghost use Rattle.squall_c_parts.specs.PartCalls.{chunk_after, Gives, GivesAt, LoadsChunk, Loads, Finishes, Serves};
+ghost use Rattle.squall_c_parts.specs.PartCalls.{chunk_after, span_or_none, Gives, GivesAt, LoadsChunk, Loads, FindsFresh, Finds};
+ghost use Rattle.squall_c_parts.specs.PartCalls.{Finishes, Serves};
 
 use crate::chunks::{CAnswer, CChunk, c_answer, c_chunk, chunk_in};
 use crate::node::Node;
-use crate::status::{LIMIT, OK, finish_status, give_status, load_status};
-use squall_key::Key;
+use crate::status::{LIMIT, OK, finish_status, give_status, load_fault_status, load_status};
+use squall_c_values::{CSpan, c_span};
+use squall_key::{Bound, Key};
 use squall_part::{Chunk, GiveFault};
+use squall_span::Span;
 
 /// Writes the chunk that was given, if one was, and answers how it ended.
 fn write_gift(answer: &Result<Chunk, GiveFault>, out: &mut CChunk) -> u32
@@ -19,6 +22,19 @@ fn write_gift(answer: &Result<Chunk, GiveFault>, out: &mut CChunk) -> u32
         *out = c_chunk(chunk);
     }
     give_status(answer)
+}
+
+/// The span as C sees it. One without a key if there is none.
+fn span_or_none(found: Option<Span>) -> CSpan
+    ensures { result ≡ span_or_none found }
+{
+    match found {
+        Some(span) => c_span(span),
+        None => CSpan {
+            lo: Bound::TOP.rank(),
+            hi: Bound::TOP.rank(),
+        },
+    }
 }
 
 impl Node {
@@ -54,6 +70,35 @@ impl Node {
     {
         match chunk_in(chunk) {
             Some(chunk) => self.load_chunk(&chunk),
+            None => LIMIT,
+        }
+    }
+
+    /// Looks at the new keys of the chunk from the bound on.
+    fn fresh_from(&self, chunk: &Chunk, from: Bound, out: &mut CSpan) -> u32
+        ensures { FindsFresh chunk.now from self.now out.old out.new result }
+    {
+        match self.part.fresh(chunk) {
+            Ok(keys) => {
+                *out = span_or_none(keys.first_beyond(from));
+                OK
+            }
+            Err(fault) => load_fault_status(&fault),
+        }
+    }
+
+    /// Writes the first span of the new keys of the chunk that ends above the rank `from`. New keys
+    /// are neither loaded nor held. If there is none, the span has no key. `LIMIT` if the numbers are
+    /// no chunk's, or the rank is no bound's. Any other status than `OK` says why the chunk may not be
+    /// loaded, or that an allocation failed: then nothing is written.
+    pub fn fresh(&self, chunk: &CChunk, from: u64, out: &mut CSpan) -> u32
+        ensures { Finds chunk.now from self.now out.old out.new result }
+    {
+        let Some(chunk) = chunk_in(chunk) else {
+            return LIMIT;
+        };
+        match Bound::of_rank(from) {
+            Some(from) => self.fresh_from(&chunk, from, out),
             None => LIMIT,
         }
     }

@@ -1,7 +1,7 @@
 //! The numbers that say how a call of a partition ended.
 
 ghost use Rattle.std.specs.Prelude.{◌≡◌};
-ghost use Rattle.squall_c_parts.specs.PartStatus.{give_status, load_status, finish_status};
+ghost use Rattle.squall_c_parts.specs.PartStatus.{give_status, load_fault_status, load_status, finish_status};
 
 use squall_part::{Chunk, FinishFault, GiveFault, Load, LoadFault};
 use squall_report::Report;
@@ -43,6 +43,17 @@ pub(crate) fn give_status(answer: &Result<Chunk, GiveFault>) -> u32
     }
 }
 
+/// The number of the reason why a chunk is not loaded.
+pub(crate) fn load_fault_status(fault: &LoadFault) -> u32
+    ensures { result ≡ load_fault_status fault.now }
+{
+    match fault {
+        LoadFault::NotOpen => NOT_OPEN,
+        LoadFault::Stranger => 77,
+        LoadFault::NoMemory => NO_MEMORY,
+    }
+}
+
 /// The number of the answer to a chunk.
 pub(crate) fn load_status(answer: &Result<Load, LoadFault>) -> u32
     ensures { result ≡ load_status answer.now }
@@ -50,9 +61,7 @@ pub(crate) fn load_status(answer: &Result<Load, LoadFault>) -> u32
     match answer {
         Ok(Load::Loaded(_)) => OK,
         Ok(Load::Again) => 80,
-        Err(LoadFault::NotOpen) => NOT_OPEN,
-        Err(LoadFault::Stranger) => 77,
-        Err(LoadFault::NoMemory) => NO_MEMORY,
+        Err(fault) => load_fault_status(fault),
     }
 }
 

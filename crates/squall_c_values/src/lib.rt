@@ -33,4 +33,4 @@ pub use frames::{NO_COUNT, put_report};
 pub use legs::{CLeg, put_ranges};
 pub use moves::{CMove, put_moves, put_receivers};
 pub use places::{CPlace, put_places};
-pub use spans::{CSpan, put_spans};
+pub use spans::{CSpan, c_span, put_spans};

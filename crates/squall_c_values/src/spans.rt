@@ -17,7 +17,7 @@ pub struct CSpan {
 }
 
 /// The span as C sees it.
-fn span_of(span: Span) -> CSpan
+pub fn c_span(span: Span) -> CSpan
     ensures { result ≡ c_span span }
 {
     CSpan {
@@ -50,7 +50,7 @@ fn put_all(mut spans: Spans<'_>, room: &mut [CSpan]) -> usize
         let Some(span) = spans.next() else {
             return count;
         };
-        room[count] = span_of(span);
+        room[count] = c_span(span);
         count += 1;
     }
     count

@@ -3,7 +3,7 @@ use Rattle.squall_c.proofs.Steps.{ℕ, [], ◌∷◌, ◌++◌, refl, w64, prove
 use Rattle.squall_c.specs.declared.router.RouterSlot as declared
 use Rattle.squall_c.specs.contracts.router.RouterSlot.{the_row as R}
 use Rattle.squall_c.proofs.router.RouterSlot.TheLaws.{the_row_laws as L}
-use Rattle.squall_tally.specs.contracts.tally.Tally.{the_row as Row}
+use Rattle.squall_status.specs.contracts.tally.Tally.{the_row as Row}
 use Rattle.squall_c.specs.Telling.{PutsTally}
 use Rattle.squall_c.specs.contracts.told_exports.squall_router_counts as f
 use Rattle.squall_c.proofs.told_exports.squall_router_counts.Statement.{statement}

@@ -4,7 +4,7 @@ use Rattle.squall_c.specs.declared.views.ViewSlot as declared
 use Rattle.squall_c.specs.contracts.views.ViewSlot.{the_row as R}
 use Rattle.squall_c.proofs.views.ViewSlot.TheLaws.{the_row_laws as L}
 use Rattle.squall_c_values.specs.contracts.spans.CSpan.{the_row as Row}
-use Rattle.squall_changes.specs.Changes.{PutsChanges}
+use Rattle.squall_c_changes.specs.Changes.{PutsChanges}
 use Rattle.squall_c.specs.Views.{seen}
 use Rattle.squall_c.specs.contracts.told_exports.squall_view_changes as f
 use Rattle.squall_c.proofs.told_exports.squall_view_changes.Statement.{statement}

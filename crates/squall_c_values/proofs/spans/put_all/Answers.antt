@@ -21,11 +21,11 @@ loop-count-preserved c =
     let room : c.loop-count.count < length c.args.room.now = omega (arith, c.loop-count-test.true, c.loop-count.invariant.same) in
     let one : c.loop-count.count + 1 ≡ suc c.loop-count.count = omega arith in
     record {
-      room = written_more c_span c.args.spans c.args.room.now c.loop-count.room c.loop-count.count c.in-Some.span c.in-Some.span c.span_of.result next.0 room (next.1 c.in-Some.span) c.span_of.ensures c.loop-count.invariant.room
+      room = written_more c_span c.args.spans c.args.room.now c.loop-count.room c.loop-count.count c.in-Some.span c.in-Some.span c.c_span.result next.0 room (next.1 c.in-Some.span) c.c_span.ensures c.loop-count.invariant.room
           ∙ ap (λ n. over (take n (map c_span c.args.spans)) c.args.room.now) (sym one);
       rest = sym next.2 ∙ ap (λ n. drop n c.args.spans) (sym one);
       within = omega (arith, next.0);
-      same = length-set c.loop-count.room c.loop-count.count c.span_of.result ∙ c.loop-count.invariant.same;
+      same = length-set c.loop-count.room c.loop-count.count c.c_span.result ∙ c.loop-count.invariant.same;
       fits = omega (arith, room);
     }
 
