@@ -1,4 +1,4 @@
-//! Queries of boards, over public names alone. There is nothing here to call.
+//! Tests of boards, over public names alone. There is nothing here to call.
 #![tactic(auto)]
 
 /// Ends the test if the condition does not hold.

@@ -1,4 +1,4 @@
-//! Queries of what boards send each other.
+//! Tests of what boards send each other.
 
 mod example;
 mod limits;

@@ -1,4 +1,4 @@
-//! Queries of frames and of what boards send each other, over public names alone. There is nothing here to call.
+//! Tests of frames and of what boards send each other, over public names alone. There is nothing here to call.
 #![tactic(auto)]
 
 /// Ends the test if the condition does not hold.

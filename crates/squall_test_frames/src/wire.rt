@@ -1,4 +1,4 @@
-//! Queries of frames.
+//! Tests of frames.
 
 mod clients;
 mod digests;

@@ -1,3 +1,3 @@
-//! Queries of errands, beside those of `router/errands.rt`.
+//! Tests of errands, beside those of `router/errands.rt`.
 
 mod example;

@@ -6,13 +6,12 @@ mod tolerant;
 
 use squall_board::Board;
 use squall_course::Course;
-use squall_example::{NEW, OLD, plan};
 use squall_join::Flat;
 use squall_leader::{Leader, LeaderFault};
 use squall_plan::{Plan, PlanRange};
 use squall_report::{Report, ReportKind};
+use squall_test_example::{OLD, plan};
 use std::alloc::{AllocError, Global};
-use std::process::Abort;
 use std::sync::Arc;
 
 /// What is asked of a leader.
@@ -141,88 +140,4 @@ fn leader(alloc: Global, last: u32) -> Option<Leader> {
         0 => Leader::new(alloc, &plan).ok(),
         _ => Leader::after(alloc, &plan, last).ok(),
     }
-}
-
-/// Whether the steps of a leader of the old plan have these answers, if numbers up to `last` were
-/// used before. None if an allocation fails.
-fn has_answers(alloc: Global, last: u32, steps: &[Step], wanted: &str) -> Option<bool> {
-    let mut leader = leader(alloc, last)?;
-    let mut out = String::new(alloc);
-    write_answers(alloc, &mut leader, steps, &mut out)?;
-    Some(out.as_str() == wanted)
-}
-
-/// The last number that was used before, and steps of a leader of the old plan, each with its
-/// answer.
-const STEPS: [(u32, &[Step], &str); 5] = [
-    // It begins once, opens and waits.
-    (
-        0,
-        &[
-            Step::Open,
-            Step::Tell,
-            Step::Begin(NEW),
-            Step::Begin(OLD),
-            Step::Tell,
-            Step::Open,
-            Step::Tell,
-            Step::Open,
-            Step::Hear(3),
-            Step::Open,
-            Step::Tell,
-        ],
-        "Idle; 0 false; course 1; Running; 0 false; opened 1 0; 1 false; NotDone 0 3; true; NotDone 0 4; 1 false; ",
-    ),
-    // It finishes, and leads back.
-    (
-        0,
-        &[
-            Step::Begin(NEW),
-            Step::Open,
-            Step::Hear(4),
-            Step::Hear(3),
-            Step::Tell,
-            Step::Open,
-            Step::Issued(2),
-            Step::Begin(OLD),
-            Step::Tell,
-            Step::Open,
-            Step::Issued(1),
-            Step::Issued(2),
-        ],
-        "course 1; opened 1 0; true; true; 1 true; NoMore; unknown; course 2; 1 false; opened 2 0; \
-         1 [0:0,3:0) 2 [3:0,5:0) 3 [5:0,9:0) 4 [9:0,end) to \
-         1 [0:0,2:0) 3 [2:0,3:0) 2 [3:0,5:0) 3 [5:0,6:0) 4 [6:0,end) ; \
-         1 [0:0,2:0) 3 [2:0,3:0) 2 [3:0,5:0) 3 [5:0,6:0) 4 [6:0,end) to \
-         1 [0:0,3:0) 2 [3:0,5:0) 3 [5:0,9:0) 4 [9:0,end) ; ",
-    ),
-    // Nothing moves.
-    (
-        0,
-        &[Step::Begin(OLD), Step::Tell, Step::Open, Step::Begin(NEW)],
-        "course 1; 0 true; NoMore; course 2; ",
-    ),
-    // Numbers end.
-    (
-        4294967294,
-        &[Step::Begin(OLD), Step::Begin(NEW)],
-        "course 4294967295; NoNumber; ",
-    ),
-    (
-        4294967295,
-        &[Step::Begin(NEW), Step::Open],
-        "NoNumber; Idle; ",
-    ),
-];
-
-/// Each leader has its answers.
-fn have_answers(rt: &impl Abort, alloc: Global, rows: &[(u32, &[Step], &str)]) {
-    for (last, steps, wanted) in rows {
-        holds!(rt; has_answers(alloc, *last, steps, wanted).expect(rt, "memory"), wanted);
-    }
-}
-
-#[test]
-fn leaders_answer(rt: HostRuntime) {
-    have_answers(&rt, rt.alloc(), &STEPS)
 }

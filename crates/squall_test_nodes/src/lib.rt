@@ -1,4 +1,4 @@
-//! Queries of routers, partitions, leaders and worlds, over public names alone. There is nothing here to call.
+//! Tests of routers, partitions, leaders, their laws and worlds, over public names alone. There is nothing here to call.
 #![tactic(auto)]
 
 /// Ends the test if the condition does not hold.
@@ -24,10 +24,16 @@ mod example;
 #[cfg(test)]
 mod leader;
 #[cfg(test)]
+mod nodes;
+#[cfg(test)]
 mod part;
 #[cfg(test)]
 mod protocol;
 #[cfg(test)]
+mod replay;
+#[cfg(test)]
 mod router;
+#[cfg(test)]
+mod rows;
 #[cfg(test)]
 mod world;

@@ -1,3 +1,3 @@
-//! Queries of what goes between the nodes of a world.
+//! Tests of what goes between the nodes of a world.
 
 mod example;

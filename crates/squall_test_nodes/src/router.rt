@@ -1,20 +1,19 @@
-//! Queries of routers and errands. The plans, reports and partitions were worked out by hand.
+//! Tests of routers and errands. What routers do with reports and frames the tests in C show.
 
 mod clients;
 mod errands;
 mod example;
+mod known;
 mod legs;
 mod limits;
-mod routers;
-mod takes;
 mod tolerant;
 mod ways;
 
 use crate::example::{course, issued};
 use squall_board::Board;
-use squall_example::{NEW, OLD, span};
 use squall_report::Report;
 use squall_router::Router;
+use squall_test_example::{NEW, OLD, load};
 use std::alloc::Global;
 
 /// What a message tells.
@@ -24,35 +23,21 @@ pub(crate) enum Said {
     Half,
     /// From 2:0 to 3:0 they are.
     Load,
-    /// From 2:0 to 4:0 they are, of which those from 3:0 on don't move.
-    Wide,
-    /// From 2:0 to 3:0 they are, in sub-plan 1, in which no key moves.
-    Astray,
     /// Sub-plan 0 of number 1 is opened.
     Opened,
     /// Partition 4 is done in sub-plan 0 of number 1.
     Done,
-    /// The new plan follows the old one under the number.
-    There(u32),
     /// The old plan follows the new one under the number.
     Back(u32),
-}
-
-/// The report of a load from 2:0 on at partition 3, in a sub-plan of number 1.
-fn load(sub: u32, hi: &str) -> Option<Report> {
-    Report::loaded(1, sub, 3, span("2:0", hi)?)
 }
 
 /// The report of what is said.
 pub(crate) fn report(alloc: Global, said: Said) -> Option<Report> {
     match said {
-        Said::Half => load(0, "2:7"),
-        Said::Load => load(0, "3:0"),
-        Said::Wide => load(0, "4:0"),
-        Said::Astray => load(1, "3:0"),
+        Said::Half => load("2:0", "2:7"),
+        Said::Load => load("2:0", "3:0"),
         Said::Opened => Report::opened(1, 0),
         Said::Done => Report::done(1, 0, 4),
-        Said::There(number) => issued(alloc, number, OLD, NEW),
         Said::Back(number) => issued(alloc, number, NEW, OLD),
     }
 }

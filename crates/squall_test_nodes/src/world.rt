@@ -2,12 +2,13 @@
 //! partition 1 to 3, and those from 6:0 up to 9:0 from 3 to 4, each in sub-plan 0. Longer runs are
 //! among the cases of the built program.
 
-mod calls;
 mod clients;
 mod example;
 mod over;
+mod parts;
 mod tolerant;
 
+use squall_board::Board;
 use squall_errand::Reply;
 use squall_key::{Bound, Key, PartId};
 use squall_part::Chunk;
@@ -68,6 +69,33 @@ fn node(to: To) -> Option<Node> {
     })
 }
 
+/// A report, with its keys as two bounds.
+#[derive(Clone, Copy)]
+enum Made {
+    Loaded(u32, u32, u32, Keys),
+    Done(u32, u32, u32),
+    Opened(u32, u32),
+}
+
+/// The report. None if its numbers are none of a report.
+fn report(made: Made) -> Option<Report> {
+    match made {
+        Made::Loaded(number, sub, part, (lo, lo_second, hi, hi_second)) => {
+            let span = Span::new(Bound::new(lo, lo_second)?, Bound::new(hi, hi_second)?)?;
+            Report::loaded(number, sub, part, span)
+        }
+        Made::Done(number, sub, part) => Report::done(number, sub, part),
+        Made::Opened(number, sub) => Report::opened(number, sub),
+    }
+}
+
+/// The board of the report. None if an allocation fails.
+fn board(alloc: Global, made: Made) -> Option<Board> {
+    let mut board = Board::new(alloc);
+    board.take(&report(made)?).ok()?;
+    Some(board)
+}
+
 /// A call, with its plan as ranges and its key as two numbers.
 #[derive(Clone, Copy)]
 enum Call {
@@ -78,6 +106,7 @@ enum Call {
     Load(usize),
     Finish(u32, u32),
     Send(To),
+    SendPart(To, Made),
     Deliver(usize, To),
     Route(u32, (u32, u32)),
     Serve(u32, (u32, u32), u32),
@@ -96,6 +125,7 @@ fn answer(alloc: Global, world: &mut World, call: Call) -> Option<Answer> {
         Call::Load(chunk) => world.load(chunk).ok(),
         Call::Finish(number, sub) => world.finish(PartId::new(number)?, sub).ok(),
         Call::Send(to) => world.send(node(to)?).ok(),
+        Call::SendPart(to, made) => world.send_part(node(to)?, &board(alloc, made)?).ok(),
         Call::Deliver(message, to) => world.deliver(message, node(to)?).ok(),
         Call::Route(router, at) => Some(world.route(router, Key::new(at.0, at.1)?)),
         Call::Serve(number, at, after) => {
@@ -193,5 +223,6 @@ fn refused(refusal: &Refusal) -> Said {
         Refusal::Stranger => numbers("stranger", (0, 0, 0)),
         Refusal::NotAll(span) => ("not all", (0, 0, 0), keys(*span)),
         Refusal::NothingDue => numbers("nothing due", (0, 0, 0)),
+        Refusal::NotKnown => numbers("not known", (0, 0, 0)),
     }
 }

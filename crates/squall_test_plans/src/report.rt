@@ -1,11 +1,11 @@
 mod example;
 mod worked;
 
-use squall_example::{NEW, OLD, issue, plan, span};
 use squall_join::Exact;
 use squall_plan::Plan;
 use squall_report::*;
 use squall_span::Span;
+use squall_test_example::{NEW, OLD, issue, plan, span};
 use std::alloc::Global;
 use std::process::Abort;
 use std::sync::Arc;

@@ -2,9 +2,8 @@
 
 mod example;
 
-use squall_example::{NEW, OLD, plan};
-use squall_plan::Plan;
-use squall_plan_text::plan_text;
+use squall_plan::{Plan, plan_text};
+use squall_test_example::{NEW, OLD, plan};
 use std::alloc::Global;
 use std::process::Abort;
 use std::test::Fail;

@@ -4,7 +4,7 @@ use jobs::{JOBS, Job, Task};
 use squall_cli_run::{
     Ended, Reader, RunFault, Writer, check_text, course_text, race_text, run_text,
 };
-use squall_example::NEW as NEW_PLAN;
+use squall_test_example::NEW as NEW_PLAN;
 use std::alloc::{AllocError, Global};
 use std::io;
 use std::io::{ErrorKind, Read, Write};

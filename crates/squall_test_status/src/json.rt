@@ -3,10 +3,10 @@
 use squall_board::Board;
 use squall_cli_json::{board_json, course_json, legs_json, plan_json, refusal_json, status_json};
 use squall_course::Course;
-use squall_example::{OLD, course, issue, plan, span};
 use squall_plan::PlanRange;
 use squall_report::Report;
 use squall_status::{CourseStatus, Shown};
+use squall_test_example::{NEW, OLD, course, issue, plan, span};
 use std::alloc::{AllocError, Global};
 use std::process::Abort;
 
@@ -48,6 +48,16 @@ const WAITING: &str = concat!(
 const BOARD: &str = concat!(
     r#"{"cells":[{"course":1,"done":false,"loaded":[{"hi":"2:5","lo":"2:0"}],"part":3,"sub":0}],"#,
     r#""issued":[{"clash":false,"course":2}],"opened":[{"course":1,"subplans":1}]}"#,
+    "\n",
+);
+
+/// Two cells and two openings of 1, one of each of 3, and different plans of 2.
+const CLASHING: &str = concat!(
+    r#"{"cells":[{"course":1,"done":false,"loaded":[{"hi":"2:5","lo":"2:0"},{"hi":"end","lo":"9:1"}],"#,
+    r#""part":3,"sub":0},{"course":1,"done":true,"loaded":[],"part":4,"sub":1},"#,
+    r#"{"course":3,"done":true,"loaded":[{"hi":"end","lo":"0:0"}],"part":9999,"sub":7}],"#,
+    r#""issued":[{"clash":true,"course":2}],"#,
+    r#""opened":[{"course":1,"subplans":2},{"course":3,"subplans":1}]}"#,
     "\n",
 );
 
@@ -142,6 +152,27 @@ fn tolerant_board(rt: HostRuntime) {
     assert!(rt; is_text(board_json(rt.alloc(), &Board::new(rt.alloc())), NOTHING));
     if let Some(mut board) = loaded(rt.alloc()) {
         assert!(rt; is_board(rt.alloc(), &mut board));
+    }
+}
+
+/// Takes what [`CLASHING`] shows besides the board of [`loaded`].
+fn take_more(alloc: Global, board: &mut Board) -> Option<()> {
+    take(board, Report::opened(1, 1))?;
+    take(board, Report::opened(3, 0))?;
+    take(board, Report::loaded(1, 0, 3, span("9:1", "end")?))?;
+    take(board, Report::done(1, 1, 4))?;
+    take(board, Report::loaded(3, 7, 9999, span("0:0", "end")?))?;
+    take(board, Report::done(3, 7, 9999))?;
+    take(board, Report::issued(2, issue(alloc, OLD, NEW)?))?;
+    take(board, Report::issued(2, issue(alloc, OLD, OLD)?))
+}
+
+#[test]
+fn tolerant_clash(rt: HostRuntime) {
+    if let Some(mut board) = loaded(rt.alloc()) {
+        if take_more(rt.alloc(), &mut board).is_some() {
+            assert!(rt; is_text(board_json(rt.alloc(), &board), CLASHING));
+        }
     }
 }
 

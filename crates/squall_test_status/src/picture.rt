@@ -1,17 +1,13 @@
-//! Pictures of reconfigurations, as worked out by hand.
+//! The picture of a reconfiguration, as worked out by hand. Others are among the cases of the built program.
 
 mod example;
 mod tolerant;
 
 use squall_board::Board;
 use squall_course::Course;
-use squall_example::{OLD, course, course_between, span};
-use squall_picture::{add_picture, picture};
-use squall_report::Report;
+use squall_picture::add_picture;
 use squall_status::CourseStatus;
 use std::alloc::{AllocError, Global};
-use std::process::Abort;
-use std::test::Fail;
 
 /// The outermost tag of each picture here.
 const SVG: &str = concat!(
@@ -95,14 +91,7 @@ fn is_made_of(text: &str, parts: &[&str]) -> bool {
     after(text, parts) == Some("")
 }
 
-/// Takes the report, if there is one.
-fn take(board: &mut Board, report: Option<Report>) -> Result<(), Fail> {
-    let report = report.ok_or("report")?;
-    board.take(&report)?;
-    Ok(())
-}
-
-/// Adds the picture behind other text.
+/// Adds the picture.
 fn add_text(
     alloc: Global,
     course: &Course,
@@ -115,33 +104,16 @@ fn add_text(
     add_picture(alloc, old, new, &status, out)
 }
 
-/// The picture is these parts, alone and behind other text.
-fn shows(
-    rt: &impl Abort,
-    alloc: Global,
-    course: &Course,
-    board: &Board,
-    parts: &[&str],
-) -> Result<(), Fail> {
-    let text = picture(alloc, course, board)?;
-    assert!(rt; is_made_of(text.as_str(), parts));
-    let mut out = String::new(alloc);
-    out.push_str("before")?;
-    add_text(alloc, course, board, &mut out)?;
-    assert!(rt; out.as_str().strip_prefix("before") == Some(text.as_str()));
-    Ok(())
-}
-
 /// The names if nothing is loaded.
 const NAMES_NONE: &str = concat!(
-    "<title id='squall-title'>reconfiguration 1</title>\n",
-    "<desc id='squall-desc'>reconfiguration 1: moves 2, sub-plans 1, open none, loaded 0 of 17179869184 keys, 0/1000</desc>\n",
+    "<title id='squall-title'>course 1</title>\n",
+    "<desc id='squall-desc'>course 1: moves 2, sub-plans 1, open none, loaded 0 of 17179869184 keys, 0/1000</desc>\n",
 );
 
 /// The ground if nothing is loaded.
 const GROUND_NONE: &str = concat!(
     "<rect width='1088' height='348' fill='#fff'/>\n",
-    "<text x='96' y='20' font-size='13'>reconfiguration 1: moves 2, sub-plans 1, open none, loaded 0 of 17179869184 keys, 0/1000",
+    "<text x='96' y='20' font-size='13'>course 1: moves 2, sub-plans 1, open none, loaded 0 of 17179869184 keys, 0/1000",
     "</text>\n",
 );
 
@@ -165,106 +137,3 @@ const NONE: [&str; 8] = [
     BANDS_NONE,
     NEW_BARS,
 ];
-
-#[test]
-fn no_report(rt: HostRuntime) -> Result<(), Fail> {
-    let board = Board::new(rt.alloc());
-    let course = course(rt.alloc()).ok_or("a course")?;
-    shows(&rt, rt.alloc(), &course, &board, &NONE)
-}
-
-/// The names if half of a move is loaded.
-const NAMES_HALF: &str = concat!(
-    "<title id='squall-title'>reconfiguration 1</title>\n",
-    "<desc id='squall-desc'>reconfiguration 1: moves 2, sub-plans 1, open 0, loaded 2147483648 of 17179869184 keys, 125/1000</desc>\n",
-);
-
-/// The ground if half of a move is loaded.
-const GROUND_HALF: &str = concat!(
-    "<rect width='1088' height='348' fill='#fff'/>\n",
-    "<text x='96' y='20' font-size='13'>reconfiguration 1: moves 2, sub-plans 1, open 0, loaded 2147483648 of 17179869184 keys, 125/100",
-    "0</text>\n",
-);
-
-/// The moves if half of the first is loaded.
-const BANDS_HALF: &str = concat!(
-    "<g class='band'><title>[2:0,3:0) from 1 to 3, sub-plan 0, loaded 2147483648 of 4294967296</title>",
-    "<rect class='c3 load' x='256' y='108' width='80' height='96'/><rect class='c3 open' x='256' y='108' width='160' height='96'/>",
-    "<text x='256' y='108' dx='4' dy='16'>0</text></g>\n",
-    "<g class='band'><title>[6:0,9:0) from 3 to 4, sub-plan 0, loaded 0 of 12884901888</title>",
-    "<rect class='c4 load' x='736' y='108' width='0' height='96'/><rect class='c4 open' x='736' y='108' width='160' height='96'/>",
-    "<text x='736' y='108' dx='4' dy='16'>0</text></g>\n",
-);
-
-const HALF: [&str; 8] = [
-    SVG,
-    NAMES_HALF,
-    STYLE,
-    GROUND_HALF,
-    LEGEND,
-    OLD_BARS,
-    BANDS_HALF,
-    NEW_BARS,
-];
-
-/// Takes the load of the first half of a move, and the opening of its sub-plan.
-fn take_half(board: &mut Board) -> Result<(), Fail> {
-    let span = span("2:0", "2:2147483648").ok_or("a span")?;
-    take(board, Report::loaded(1, 0, 3, span))?;
-    take(board, Report::opened(1, 0))
-}
-
-#[test]
-fn half_a_load(rt: HostRuntime) -> Result<(), Fail> {
-    let mut board = Board::new(rt.alloc());
-    take_half(&mut board)?;
-    let course = course(rt.alloc()).ok_or("a course")?;
-    shows(&rt, rt.alloc(), &course, &board, &HALF)
-}
-
-/// The names if no key moves.
-const NAMES_SAME: &str = concat!(
-    "<title id='squall-title'>reconfiguration 1</title>\n",
-    "<desc id='squall-desc'>reconfiguration 1: moves 0, sub-plans 0, open none, loaded 0 of 0 keys, 1000/1000</desc>\n",
-);
-
-/// The ground if no key moves.
-const GROUND_SAME: &str = concat!(
-    "<rect width='1088' height='348' fill='#fff'/>\n",
-    "<text x='96' y='20' font-size='13'>reconfiguration 1: moves 0, sub-plans 0, open none, loaded 0 of 0 keys, 1000/1000</text>\n",
-);
-
-/// The old plan of the examples twice, over four columns.
-const ROWS_SAME: &str = concat!(
-    "<g class='bar'><title>partition 1: [0:0,3:0)</title><rect class='c1' x='96' y='84' width='240' height='24'/>",
-    "<text x='96' y='84' dx='4' dy='16'>1</text></g>\n",
-    "<g class='bar'><title>partition 2: [3:0,5:0)</title><rect class='c2' x='336' y='84' width='240' height='24'/>",
-    "<text x='336' y='84' dx='4' dy='16'>2</text></g>\n",
-    "<g class='bar'><title>partition 3: [5:0,9:0)</title><rect class='c3' x='576' y='84' width='240' height='24'/>",
-    "<text x='576' y='84' dx='4' dy='16'>3</text></g>\n",
-    "<g class='bar'><title>partition 4: [9:0,end)</title><rect class='c4' x='816' y='84' width='240' height='24'/>",
-    "<text x='816' y='84' dx='4' dy='16'>4</text></g>\n",
-    "<g class='bar'><title>partition 1: [0:0,3:0)</title><rect class='c1' x='96' y='204' width='240' height='24'/>",
-    "<text x='96' y='204' dx='4' dy='16'>1</text></g>\n",
-    "<g class='bar'><title>partition 2: [3:0,5:0)</title><rect class='c2' x='336' y='204' width='240' height='24'/>",
-    "<text x='336' y='204' dx='4' dy='16'>2</text></g>\n",
-    "<g class='bar'><title>partition 3: [5:0,9:0)</title><rect class='c3' x='576' y='204' width='240' height='24'/>",
-    "<text x='576' y='204' dx='4' dy='16'>3</text></g>\n",
-    "<g class='bar'><title>partition 4: [9:0,end)</title><rect class='c4' x='816' y='204' width='240' height='24'/>",
-    "<text x='816' y='204' dx='4' dy='16'>4</text></g>\n",
-    "<g class='tick' transform='translate(96 228)'><path d='M0 0v6'/><text transform='translate(3 14)rotate(-45)'>0:0</text></g>\n",
-    "<g class='tick' transform='translate(336 228)'><path d='M0 0v6'/><text transform='translate(3 14)rotate(-45)'>3:0</text></g>\n",
-    "<g class='tick' transform='translate(576 228)'><path d='M0 0v6'/><text transform='translate(3 14)rotate(-45)'>5:0</text></g>\n",
-    "<g class='tick' transform='translate(816 228)'><path d='M0 0v6'/><text transform='translate(3 14)rotate(-45)'>9:0</text></g>\n",
-    "<g class='tick' transform='translate(1056 228)'><path d='M0 0v6'/><text transform='translate(3 14)rotate(-45)'>end</text></g>\n",
-    "</svg>\n",
-);
-
-const SAME: [&str; 6] = [SVG, NAMES_SAME, STYLE, GROUND_SAME, LEGEND, ROWS_SAME];
-
-#[test]
-fn no_moves(rt: HostRuntime) -> Result<(), Fail> {
-    let board = Board::new(rt.alloc());
-    let course = course_between(rt.alloc(), OLD, OLD).ok_or("a course")?;
-    shows(&rt, rt.alloc(), &course, &board, &SAME)
-}

@@ -3,9 +3,9 @@
 mod example;
 
 use squall_board::Board;
-use squall_example::{NEW, OLD, issue, load};
 use squall_report::Report;
-use squall_tally::{Tally, clashes_above};
+use squall_status::{Tally, clashes_above};
+use squall_test_example::{NEW, OLD, issue, load};
 use std::alloc::Global;
 use std::process::Abort;
 use std::test::Fail;

@@ -1,7 +1,8 @@
-//! Queries of route tables: their rows were worked out by hand.
+//! Tests of route tables: their rows were worked out by hand.
 
 mod absorbs;
 mod example;
+mod hears;
 mod legs;
 mod many;
 mod patches;
@@ -12,10 +13,10 @@ mod unchanged;
 
 use squall_board::{Board, Delta};
 use squall_course::Course;
-use squall_example::{course, load, span};
 use squall_key::Key;
 use squall_report::Report;
 use squall_table::{Leg, Legs, RouteTable};
+use squall_test_example::{course, load, span};
 use std::alloc::Global;
 use std::test::Fail;
 
@@ -100,65 +101,6 @@ pub(crate) fn is_built(
     has_rows(alloc, &table, rows)
 }
 
-/// Whether the table of the course has the rows after what is said.
-fn is_built_after(alloc: Global, course: &Course, said: &[Said], rows: &str) -> Result<bool, Fail> {
-    let board = delta(alloc, said)?;
-    is_built(alloc, course, &board, rows)
-}
-
-/// Whether the table of the example course has the rows after what is said.
-fn is_built_of(alloc: Global, said: &[Said], rows: &str) -> Result<bool, Fail> {
-    let course = course(alloc).ok_or("a course")?;
-    is_built_after(alloc, &course, said, rows)
-}
-
-#[test]
-fn rows(rt: HostRuntime) -> Result<(), Fail> {
-    let cases: [(&[Said], &str); 3] = [
-        (&[], "1 [0:0,3:0);2 [3:0,5:0);3 [5:0,9:0);4 [9:0,end);"),
-        (
-            &[Said::Load("2:0", "2:7")],
-            "1 [0:0,2:0);3 [2:0,2:7);1 [2:7,3:0);2 [3:0,5:0);3 [5:0,9:0);4 [9:0,end);",
-        ),
-        (
-            &[
-                Said::Load("2:0", "2:7"),
-                Said::Load("2:7", "3:0"),
-                Said::Done {
-                    number: 1,
-                    sub: 0,
-                    part: 4,
-                },
-            ],
-            "1 [0:0,2:0);3 [2:0,3:0);2 [3:0,5:0);3 [5:0,6:0);4 [6:0,end);",
-        ),
-    ];
-    for (said, rows) in cases {
-        assert!(rt; is_built_of(rt.alloc(), said, rows)?, "{rows}");
-    }
-    Ok(())
-}
-
-#[test]
-fn reports_of_others_change_no_row(rt: HostRuntime) -> Result<(), Fail> {
-    let said = [
-        Said::Done {
-            number: 2,
-            sub: 0,
-            part: 4,
-        },
-        Said::Done {
-            number: 1,
-            sub: 1,
-            part: 4,
-        },
-        Said::Load("6:0", "9:0"),
-    ];
-    let rows = "1 [0:0,3:0);2 [3:0,5:0);3 [5:0,9:0);4 [9:0,end);";
-    assert!(rt; is_built_of(rt.alloc(), &said, rows)?);
-    Ok(())
-}
-
 /// The table of the course after one load.
 fn table_after_a_load(alloc: Global, course: &Course) -> Result<RouteTable, Fail> {
     let board = delta(alloc, &[Said::Load("2:0", "2:7")])?;
@@ -181,25 +123,6 @@ pub(crate) fn is_cut(
 ) -> Result<bool, Fail> {
     let legs = table.legs(alloc, &span(lo, hi).ok_or("span")?)?;
     Ok(shown(alloc, &legs)?.as_str() == rows)
-}
-
-#[test]
-fn cuts(rt: HostRuntime) -> Result<(), Fail> {
-    let table = table_of_a_load(rt.alloc())?;
-    let cases: [(&str, &str, &str); 4] = [
-        ("3:1", "4:0", "2 [3:1,4:0);"),
-        ("2:0", "2:7", "3 [2:0,2:7);"),
-        (
-            "1:9",
-            "5:1",
-            "1 [1:9,2:0);3 [2:0,2:7);1 [2:7,3:0);2 [3:0,5:0);3 [5:0,5:1);",
-        ),
-        ("9:0", "end", "4 [9:0,end);"),
-    ];
-    for (lo, hi, rows) in cases {
-        assert!(rt; is_cut(rt.alloc(), &table, lo, hi, rows)?, "{rows}");
-    }
-    Ok(())
 }
 
 /// Whether the table's legs from that of a key on are these.

@@ -1,4 +1,4 @@
-//! Queries of running clusters. The plans, reports and partitions were worked out by hand.
+//! Tests of running clusters. The plans, reports and partitions were worked out by hand.
 
 ghost use Rattle.std.specs.Prelude.{◌≡◌, [], ◌∷◌, length, All, IfSome, None};
 ghost use Rattle.std.specs.Arc.{arc_value};
@@ -13,7 +13,6 @@ mod gates;
 mod made;
 mod numbered;
 mod races;
-mod random;
 mod sizes;
 mod steps;
 mod tolerant;
@@ -30,13 +29,13 @@ use std::sync::{Arc, Wait};
 
 /// Course 1 of the example plans. None if an allocation fails.
 fn course(alloc: Global) -> Option<Arc<Course>> {
-    let course = squall_example::course(alloc)?;
+    let course = squall_test_example::course(alloc)?;
     Arc::new(alloc, course).ok()
 }
 
 /// From 2:0 to 3:0 the keys are loaded at partition 3.
 fn load() -> Option<Report> {
-    squall_example::load("2:0", "3:0")
+    squall_test_example::load("2:0", "3:0")
 }
 
 /// Partition 4 is done.

@@ -1,3 +1,3 @@
-//! Queries of the desk alone.
+//! Tests of the desk alone.
 
 mod example;

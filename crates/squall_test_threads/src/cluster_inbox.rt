@@ -1,3 +1,3 @@
-//! Queries of the inbox alone.
+//! Tests of the inbox alone.
 
 mod example;

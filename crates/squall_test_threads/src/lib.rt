@@ -1,4 +1,4 @@
-//! Queries of threads that post, publish and route at once, over public names alone. There is nothing here to call.
+//! Tests of threads that post, publish and route at once, over public names alone. There is nothing here to call.
 #![tactic(auto)]
 
 #[cfg(test)]

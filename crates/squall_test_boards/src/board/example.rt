@@ -2,8 +2,8 @@
 
 use squall_board::Board;
 use squall_course::Course;
-use squall_example::{course, load};
 use squall_key::Key;
+use squall_test_example::{course, load};
 use std::process::Abort;
 use std::test::Fail;
 

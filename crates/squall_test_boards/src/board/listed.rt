@@ -1,4 +1,4 @@
-//! Queries of the lists of a board.
+//! Tests of the lists of a board.
 
 ghost use Rattle.std.specs.Prelude.{◌≡◌, ◌≢◌, ◌≤◌, [], map, IfOk, OnOk};
 ghost use Rattle.std.specs.List.{AllByRecursion};
@@ -12,12 +12,12 @@ mod tolerant;
 
 use super::*;
 use squall_board::laws::lists_determine_the_board;
-use squall_example::span;
 use squall_join::{Flat, JoinMap};
 use squall_key::PartId;
 use squall_plan::{Plan, PlanRange};
 use squall_report::{CellId, Issue, Report};
 use squall_span::SpanSet;
+use squall_test_example::span;
 use std::alloc::{AllocError, Global};
 use std::process::Abort;
 use std::sync::Arc;
@@ -126,39 +126,6 @@ fn complete(alloc: Global, number: u32, sub: u32, part: u32) -> Option<Cell> {
     Cell::new(number, sub, part, true, SpanSet::empty(alloc))
 }
 
-/// Whether these are the cells of the two reports.
-fn are_of_two(cells: &[Cell]) -> bool {
-    cells.len() == 2
-        && cells[0].part() == 3
-        && cells[1].part() == 4
-        && !cells[0].complete()
-        && cells[0].spans().count() == 4294967296
-}
-
-/// Whether these are the openings of the board.
-fn has_openings(board: &Board, wanted: &[Opening]) -> Result<bool, AllocError> {
-    let openings = board.openings()?;
-    Ok(*openings.as_slice() == *wanted)
-}
-
-/// Whether the cells of the board are those of the two reports.
-fn has_cells_of_two(board: &Board) -> Result<bool, AllocError> {
-    let cells = board.cells()?;
-    Ok(are_of_two(&cells))
-}
-
-/// Looks at the lists of the board of the two reports.
-fn look_at_lists(rt: &impl Abort, board: &Board) {
-    holds!(rt; has_openings(board, &[]).expect(rt, "memory"));
-    holds!(rt; has_cells_of_two(board).expect(rt, "memory"));
-}
-
-#[test]
-fn cells_of_a_board(rt: HostRuntime) {
-    let board = board_of_two(rt.alloc()).expect(&rt, "a board");
-    look_at_lists(&rt, &board)
-}
-
 /// Puts the rows of the board into the other.
 pub(crate) fn put_rows_of(board: &Board, again: &mut Board) -> Result<(), AllocError> {
     put_all_rows(again, board.cell_map().entries())
@@ -208,58 +175,6 @@ fn lent_are_of_two(cells: &[(CellId, &CellParts)]) -> bool {
 fn lends_cells_of_two(board: &Board) -> Result<bool, AllocError> {
     let cells = board.lent_cells()?;
     Ok(lent_are_of_two(&cells))
-}
-
-/// Looks at the cells that the board of the two reports lends.
-fn look_at_lent_cells(rt: &impl Abort, board: &Board) {
-    holds!(rt; lends_cells_of_two(board).expect(rt, "memory"));
-}
-
-#[test]
-fn cells_lent(rt: HostRuntime) {
-    let board = board_of_two(rt.alloc()).expect(&rt, "a board");
-    look_at_lent_cells(&rt, &board)
-}
-
-/// Puts the cells of the board into the other.
-fn put_cells_of(board: &Board, again: &mut Board) -> Result<(), AllocError> {
-    let cells = board.cells()?;
-    put_cells(again, &cells)
-}
-
-/// Whether an empty board is the board once it has its cells.
-fn is_of_its_cells(alloc: Global, board: &Board) -> Result<bool, AllocError> {
-    let mut again = Board::new(alloc);
-    put_cells_of(board, &mut again)?;
-    Ok(again == *board)
-}
-
-/// The board is that of its cells.
-fn look_at_its_cells(rt: &impl Abort, alloc: Global, board: &Board) {
-    holds!(rt; is_of_its_cells(alloc, board).expect(rt, "memory"));
-}
-
-#[test]
-fn cells_put_again(rt: HostRuntime) {
-    let board = board_of_two(rt.alloc()).expect(&rt, "a board");
-    look_at_its_cells(&rt, rt.alloc(), &board)
-}
-
-/// Puts an opening into an empty board.
-fn put_opening(rt: &impl Abort, board: &mut Board) {
-    let opening = Opening {
-        number: 1,
-        count: 2,
-    };
-    board.put_opening(&opening).expect(rt, "memory");
-    holds!(rt; board.opened(1) == 2 && board.opened(2) == 0);
-    holds!(rt; has_openings(board, &[opening]).expect(rt, "memory"));
-}
-
-#[test]
-fn an_opening_put(rt: HostRuntime) {
-    let mut board = Board::new(rt.alloc());
-    put_opening(&rt, &mut board)
 }
 
 /// The board is the other, and has an issue.

@@ -10,11 +10,11 @@ ghost use Rattle.squall_board.specs.CourseRoute.{route_by_newest, route_by_repor
 use super::{take, take_issue};
 use squall_board::Board;
 use squall_board::laws::{taken_openings_count, taken_reports_route};
-use squall_course::{Course, CourseFault};
-use squall_example::{NEW, OLD, course};
+use squall_course::Course;
 use squall_key::{Key, PartId};
 use squall_report::Report;
-use std::alloc::Global;
+use squall_test_example::{NEW, OLD, course};
+use std::alloc::{AllocError, Global};
 use std::process::Abort;
 
 /// How many sub-plans of the number are opened by the reports that the board has taken.
@@ -31,16 +31,13 @@ fn newest_route(
     first: &Course,
     board: &Board,
     key: Key,
-) -> Result<PartId, CourseFault>
+) -> Result<PartId, AllocError>
     ensures board { IfOk result (λ part. part ≡ route_by_newest first.now board.now key) }
     ensures reports { IfOk result (λ part. (rs : List (ReportKind PlanPair)) → HasTaken board.now rs → part ≡ route_by_reports first.now rs key) }
 {
     taken_reports_route(board);
-    match board.newest(first) {
-        Some((number, issue)) => {
-            let course = Course::new(alloc, number, issue.old(), issue.new_plan())?;
-            Ok(board.route(&course, key))
-        }
+    match board.newest_course(alloc, first)? {
+        Some(course) => Ok(board.route(&course, key)),
         None => Ok(board.route(first, key)),
     }
 }

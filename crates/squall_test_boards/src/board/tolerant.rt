@@ -3,10 +3,10 @@
 use crate::board::listed::{put_rows_of, still_issue};
 use crate::board::{board_of_two, has_one_issue, is_empty, two_reports};
 use squall_board::{Board, Opening};
-use squall_example::load;
 use squall_join::Flat;
 use squall_key::Key;
 use squall_report::Report;
+use squall_test_example::load;
 use std::alloc::Global;
 use std::process::Abort;
 use std::test::Fail;

@@ -38,45 +38,6 @@ fn is_delta_of(alloc: Global, report: &Report, text: &str) -> Result<bool, Encod
     is_framed_as(alloc, &delta, text)
 }
 
-#[test]
-fn the_delta_of_a_completion(rt: HostRuntime) {
-    let report = Report::done(1, 0, 4).expect(&rt, "a report");
-    holds!(&rt; is_delta_of(rt.alloc(), &report, DONE).expect(&rt, "memory"));
-}
-
-/// The board of the load of these keys at partition 3, and of the opening of the sub-plan, in
-/// number 1. None if an allocation fails.
-fn take_two(board: &mut Board, lo: &str, hi: &str, sub: u32) -> Option<()> {
-    let lo = Bound::read(lo)?;
-    let hi = Bound::read(hi)?;
-    let span = Span::new(lo, hi)?;
-    board.take(&Report::loaded(1, 0, 3, span)?).ok()?;
-    board.take(&Report::opened(1, sub)?).ok()?;
-    Some(())
-}
-
-/// What the board has beyond that of the keys amid its load and of a lower opening. None if an
-/// allocation fails.
-fn beyond_middle(alloc: Global, board: &Board) -> Option<Board> {
-    let mut middle = Board::new(alloc);
-    take_two(&mut middle, "2:7", "2:9", 0)?;
-    beyond(alloc, board, &middle).ok()
-}
-
-/// Whether the board has the ends of its load, and its opening, beyond the other. None if an
-/// allocation fails.
-fn has_ends_beyond_middle(alloc: Global, board: &Board) -> Option<bool> {
-    let rest = beyond_middle(alloc, board)?;
-    is_framed_as(alloc, &rest, ENDS).ok()
-}
-
-#[test]
-fn a_load_and_an_opening_beyond_others(rt: HostRuntime) {
-    let mut whole = Board::new(rt.alloc());
-    take_two(&mut whole, "2:0", "3:0", 1).expect(&rt, "memory");
-    holds!(&rt; has_ends_beyond_middle(rt.alloc(), &whole).expect(&rt, "memory"));
-}
-
 /// The plan by which partition 1 has all keys. None if an allocation fails.
 fn all_keys(alloc: Global) -> Option<Plan> {
     let span = Span::new(Bound::read("0:0")?, Bound::TOP)?;

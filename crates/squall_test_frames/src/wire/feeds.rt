@@ -86,26 +86,22 @@ fn pieces_of_each_length(rt: HostRuntime) {
     hear_each_length(&rt, rt.alloc(), FAULTY, 49, Some(WireFault::Magic))
 }
 
-/// How many bytes wait after the piece. None if an allocation fails.
-fn waiting_after(feed: &mut Feed, piece: &[u8]) -> Option<usize> {
-    feed.push(piece).ok()?;
-    Some(feed.waiting())
+/// How many messages the bytes begin with, and how many bytes follow them. None if an allocation fails.
+fn heard_at_once(alloc: Global, bytes: &[u8]) -> Option<(usize, usize)> {
+    let (heard, rest) = squall_wire::hear(alloc, bytes).ok()?;
+    Some((heard.messages.len(), rest.len()))
 }
 
-/// The bytes of a frame wait until the rest of it comes, and none waits after a fault.
-fn look_at_waiting(rt: &impl Abort, feed: &mut Feed, frame: &[u8]) {
-    assert!(rt; frame.len() == 49);
-    let (first, second) = frame.split_at(30);
-    holds!(rt; feed.waiting() == 0);
-    holds!(rt; waiting_after(feed, first).expect(rt, "memory") == 30);
-    holds!(rt; waiting_after(feed, second).expect(rt, "memory") == 0);
-    holds!(rt; waiting_after(feed, &[0x53, 0x51]).expect(rt, "memory") == 2);
-    holds!(rt; waiting_after(feed, &[0x54]).expect(rt, "memory") == 0);
+/// What follows the frames is left, with a fault or without.
+fn look_at_the_rest(rt: &impl Abort, alloc: Global, bytes: &[u8]) {
+    assert!(rt; bytes.len() == 51);
+    let (frame, _) = bytes.split_at(49);
+    holds!(rt; heard_at_once(alloc, frame).expect(rt, "memory") == (1, 0));
+    holds!(rt; heard_at_once(alloc, bytes).expect(rt, "memory") == (1, 2));
 }
 
 #[test]
-fn bytes_of_an_unfinished_frame(rt: HostRuntime) {
-    let frame = hex(rt.alloc(), LOAD).expect(&rt, "memory");
-    let mut feed = Feed::new(rt.alloc());
-    look_at_waiting(&rt, &mut feed, &frame);
+fn bytes_after_a_frame(rt: HostRuntime) {
+    let bytes = hex(rt.alloc(), FAULTY).expect(&rt, "memory");
+    look_at_the_rest(&rt, rt.alloc(), &bytes);
 }

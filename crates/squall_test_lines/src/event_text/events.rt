@@ -1,6 +1,8 @@
 //! Events of lines, limits, and lines that are none.
 
+use squall_board::Board;
 use squall_cli_events::{Unfit, event_line, event_of};
+use squall_key::Key;
 use squall_plan::{Plan, PlanFault, PlanRange};
 use squall_protocol::{Event, Node};
 use std::alloc::{AllocError, Global};
@@ -32,6 +34,20 @@ fn numbers_of_plan(plan: &Plan) -> [u64; 4] {
     }
 }
 
+/// How many sub-plans of reconfiguration 1 the board says opened. And 1 if it says partition 3 done in
+/// the first one, 2 if it says 2:0 loaded there, else 0.
+fn numbers_of_board(board: &Board) -> [u64; 2] {
+    let loaded = match Key::new(2, 0) {
+        Some(key) => board.says_loaded(1, 0, 3, key),
+        None => false,
+    };
+    let opened = u64::from(board.opened(1));
+    if loaded {
+        return [opened, 2];
+    }
+    [opened, u64::from(board.says_done(1, 0, 3))]
+}
+
 /// The event in numbers.
 fn numbers_of(event: &Event) -> Told {
     match event {
@@ -47,6 +63,11 @@ fn numbers_of(event: &Event) -> Told {
         Event::Send(node) => {
             let (kind, number) = node_numbers(*node);
             ("send", [kind, number, 0, 0])
+        }
+        Event::SendPart(node, said) => {
+            let (kind, number) = node_numbers(*node);
+            let [opened, others] = numbers_of_board(said);
+            ("send", [kind, number, opened, others])
         }
         Event::Deliver(index, node) => {
             let (kind, number) = node_numbers(*node);
@@ -81,7 +102,7 @@ fn told(alloc: Global, name: &str, rest: &str) -> Result<Told, AllocError> {
 }
 
 /// Lines of events, and their numbers.
-static EVENTS: [(&str, &str, [u64; 4]); 20] = [
+static EVENTS: [(&str, &str, [u64; 4]); 23] = [
     ("open", " \t", [0; 4]),
     (
         "begin",
@@ -102,6 +123,9 @@ static EVENTS: [(&str, &str, [u64; 4]); 20] = [
     ("send", " p3", [1, 3, 0, 0]),
     ("send", " p9999", [1, 9999, 0, 0]),
     ("send", " r10000", [2, 10000, 0, 0]),
+    ("send", " l opened 1 1", [0, 0, 2, 0]),
+    ("send", " p3\tdone 1 0 3 ", [1, 3, 0, 1]),
+    ("send", " r2 loaded 1 0 3 1:9 2:1", [2, 2, 0, 2]),
     ("deliver", " 2 r07", [2, 2, 7, 0]),
     ("deliver", " 1 p9999", [1, 1, 9999, 0]),
     ("deliver", " 0 l", [0; 4]),
@@ -125,11 +149,13 @@ fn events(rt: HostRuntime) -> Result<(), Fail> {
 
 /// Names, what follows each, and why none of these lines is an event. A value is over its limit, a
 /// plan is none, the number of words is wrong, or one of them has another form.
-static OTHERS: [(&str, &[&str], &str); 23] = [
+static OTHERS: [(&str, &[&str], &str); 26] = [
     ("give", &[" 10000 1"], "limit"),
     ("giveat", &[" 10000 2:0"], "limit"),
     ("finish", &[" 10000 0", " 3 10000"], "limit"),
-    ("send", &[" p10000"], "limit"),
+    ("send", &[" p10000", " p10000 opened 1 0"], "limit"),
+    ("send", &[" l done 1 10000 3", " l opened 0 0"], "limit"),
+    ("send", &[" p3 loaded 1 0 3 2:0 2:0"], "limit"),
     ("deliver", &[" 0 p10000"], "limit"),
     ("serve", &[" 10000 2:0"], "limit"),
     ("begin", &[""], "json"),
@@ -153,6 +179,11 @@ static OTHERS: [(&str, &[&str], &str); 23] = [
     ("load", &["", " 1 2", " 4294967296", " p1"], "no"),
     ("finish", &["", " 1", " 1 2 3", " 1 x"], "no"),
     ("send", &["", " l l", " p", " px", " l0", " r"], "no"),
+    (
+        "send",
+        &[" l issued 1", " l opened 1", " l opened 1 0 0"],
+        "no",
+    ),
     ("send", &[" P3", " 3", " p 3", " p4294967296"], "no"),
     ("deliver", &["", " 1", " 1 l l"], "no"),
     ("route", &["", " 1", " 1 2:0 3", " r0 2:0"], "no"),

@@ -27,6 +27,23 @@ fn tolerant_plan(rt: HostRuntime) -> Result<(), Fail> {
     Ok(())
 }
 
+/// Whether the line sends a report, or an allocation fails.
+fn sends(alloc: Global, text: &[u8]) -> bool {
+    let Some(words) = event_line(b"send", text) else {
+        return false;
+    };
+    match event_of(alloc, words) {
+        Ok(Ok(Event::SendPart(..))) | Err(_) => true,
+        Ok(_) => false,
+    }
+}
+
+#[test]
+fn tolerant_report(rt: HostRuntime) -> Result<(), Fail> {
+    assert!(rt; sends(rt.alloc(), b" p3 loaded 1 0 3 2:0 2:5"));
+    Ok(())
+}
+
 #[test]
 fn tolerant_answer(rt: HostRuntime) -> Result<(), Fail> {
     let mut out = String::new(rt.alloc());

@@ -1,10 +1,9 @@
 // Bars that are drawn while frames come, over terminals that take few bytes, or fail.
 use super::{DONE, FIRST, LOADED, NEW, Narrow, OLD, OPENED, OTHERS};
-use squall_cli_bar::{Bar, bar_text};
 use squall_cli_command::Form;
 use squall_cli_device::{Reader, Writer};
 use squall_cli_lines::{Ended, RunFault};
-use squall_cli_watch::watch;
+use squall_cli_watch::{Bar, bar_text, watch};
 use squall_plan::Plan;
 use std::alloc::Global;
 use std::io;

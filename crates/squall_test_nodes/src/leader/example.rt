@@ -2,10 +2,10 @@
 
 use crate::leader::leader;
 use squall_board::Board;
-use squall_example::{NEW, plan};
 use squall_leader::{Leader, LeaderFault};
 use squall_plan::Plan;
 use squall_report::Report;
+use squall_test_example::{NEW, plan};
 use std::alloc::Global;
 use std::process::Abort;
 

@@ -3,10 +3,10 @@
 use crate::leader::{Step, leader, write_answers};
 use squall_board::Board;
 use squall_course::Course;
-use squall_example::{NEW, OLD, course, plan};
 use squall_leader::{Leader, LeaderFault};
 use squall_plan::Plan;
 use squall_report::{Report, ReportKind};
+use squall_test_example::{NEW, OLD, course, plan};
 use std::alloc::{AllocError, Global};
 use std::process::Abort;
 use std::sync::Arc;

@@ -1,15 +1,14 @@
 //! If an allocation fails the answer is NoMemory, and partition and arguments are unchanged.
 
 use crate::example::{course, issued};
-use crate::part::chunk;
 use squall_board::Board;
 use squall_course::Course;
-use squall_example::{NEW, OLD, plan};
 use squall_key::{Key, PartId};
 use squall_part::{Chunk, FinishFault, GiveFault, Load, LoadFault, Part};
 use squall_plan::Plan;
 use squall_report::Report;
 use squall_span::SpanSet;
+use squall_test_example::{NEW, OLD, plan, span};
 use std::alloc::Global;
 use std::process::Abort;
 use std::sync::Arc;
@@ -90,6 +89,11 @@ fn finished(rt: &impl Abort, done: Result<Report, FinishFault>) -> bool {
     done.is_ok()
 }
 
+/// The chunk of the keys of root 2.
+fn chunk() -> Option<Chunk> {
+    Chunk::new(1, 0, PartId::new(1)?, PartId::new(3)?, span("2:0", "3:0")?)
+}
+
 /// Whether the call was answered, and not by NoMemory. None if an allocation failed before it.
 fn is_answered(rt: &impl Abort, alloc: Global, part: &mut Part, call: Call) -> Option<bool> {
     match call {
@@ -104,7 +108,7 @@ fn is_answered(rt: &impl Abort, alloc: Global, part: &mut Part, call: Call) -> O
         Call::Give => Some(gave(rt, part.give(u64::MAX))),
         Call::GiveAt => Some(gave(rt, part.give_at(Key::new(2, 0)?))),
         Call::Load => {
-            let chunk = chunk(1, 0, 1, "3:0")?;
+            let chunk = chunk()?;
             Some(loaded(rt, part.load(&chunk)))
         }
         Call::Finish => Some(finished(rt, part.finish(0))),

@@ -1,8 +1,8 @@
 //! The example of the crate's first page.
 
-use squall_example::span;
 use squall_key::PartId;
 use squall_protocol::Chunk;
+use squall_test_example::span;
 use std::test::Fail;
 
 #[test]

@@ -2,10 +2,10 @@
 
 use crate::example::course;
 use squall_course::Course;
-use squall_example::load;
 use squall_key::Key;
 use squall_report::Report;
 use squall_router::Router;
+use squall_test_example::load;
 use std::alloc::Global;
 use std::process::Abort;
 use std::sync::Arc;

@@ -52,3 +52,16 @@ fn tolerant_over(rt: HostRuntime) {
 fn worlds_are_made_over_a_course(rt: HostRuntime) {
     holds!(&rt; try_over(&rt, rt.alloc()) == Some(true));
 }
+
+/// A world has at most 1000 routers.
+fn count_routers(rt: &impl Abort, alloc: Global, plan: &Plan) {
+    let many = World::new(alloc, plan, plan, 1001);
+    holds!(rt; matches!(many, Err(WorldFault::TooManyRouters)));
+    holds!(rt; World::new(alloc, plan, plan, 1000).is_ok());
+}
+
+#[test]
+fn routers_are_counted(rt: HostRuntime) {
+    let old = plan(rt.alloc(), &OLD).expect(&rt, "a plan");
+    count_routers(&rt, rt.alloc(), &old);
+}

@@ -1,5 +1,6 @@
 //! If an allocation fails a world is unchanged, and so are the arguments.
 
+use crate::world::parts::LOADED;
 use crate::world::{Call, END, NEW, OLD, Range, Said, To, answer, plan, said, world_to};
 use squall_key::PartId;
 use squall_plan::Plan;
@@ -35,7 +36,7 @@ struct Case {
     tried: &'static [Call],
 }
 
-static CASES: [Case; 9] = [
+static CASES: [Case; 10] = [
     Case {
         new: &NEW,
         before: &[],
@@ -70,6 +71,14 @@ static CASES: [Case; 9] = [
         new: &NEW,
         before: &MOVING,
         tried: &[Call::Deliver(1, To::Router(0))],
+    },
+    Case {
+        new: &NEW,
+        before: &MOVING,
+        tried: &[
+            Call::SendPart(To::Part(3), LOADED),
+            Call::Deliver(2, To::Part(4)),
+        ],
     },
     Case {
         new: &NEW,

@@ -1,8 +1,8 @@
 //! The example of the crate's first page.
 
 use squall_course::Course;
-use squall_example::{NEW, OLD, plan};
 use squall_key::Key;
+use squall_test_example::{NEW, OLD, plan};
 use std::test::Fail;
 
 #[test]

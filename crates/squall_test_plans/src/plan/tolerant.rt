@@ -1,7 +1,8 @@
 //! Each call that allocates: it may answer NoMemory, and leaves its arguments unchanged.
 
-use super::{OLD, range};
+use super::range;
 use squall_plan::{Plan, PlanFault};
+use squall_test_example::OLD;
 use std::alloc::Global;
 use std::process::Abort;
 

@@ -1,7 +1,7 @@
 //! The example of the crate's first page.
 
-use squall_example::span;
 use squall_report::{Report, ReportKind};
+use squall_test_example::span;
 use std::test::Fail;
 
 #[test]

@@ -1,8 +1,7 @@
-//! The example at the head of `squall_plan_text`.
+//! The example at the head of `squall_plan`, of `plan_text`.
 
-use squall_example::{OLD, plan};
-use squall_plan::Plan;
-use squall_plan_text::plan_text;
+use squall_plan::{Plan, plan_text};
+use squall_test_example::{OLD, plan};
 use std::alloc::Global;
 use std::process::Abort;
 use std::test::Fail;

@@ -2,7 +2,7 @@
 
 use super::jobs::GAP;
 use super::program::{ALL, NO_READ, NO_WRITE, NO_X, SOME, Wanted};
-use squall_example::NEW as NEW_PLAN;
+use squall_test_example::NEW as NEW_PLAN;
 
 /// The frame of the opening of sub-plan 0 in reconfiguration 1.
 const OPENED: &str = "SQ\u{1}\u{1}\0\0\0\u{10}\0\0\0\u{1}\0\0\0\u{1}\0\0\0\u{1}\0\0\0\0";

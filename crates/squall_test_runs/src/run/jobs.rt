@@ -1,7 +1,7 @@
 //! Tasks with their inputs and outputs.
 
 use squall_cli_run::Form;
-use squall_example::{NEW as NEW_PLAN, OLD as OLD_PLAN};
+use squall_test_example::{NEW as NEW_PLAN, OLD as OLD_PLAN};
 
 pub(super) const OLD: &str = concat!(
     r#"old {"plan":[{"part":1,"from":[0,0],"to":[3,0]},{"part":2,"from":[3,0],"to":[5,0]},"#,

@@ -4,7 +4,7 @@ use super::asked::ASKED;
 use super::jobs::{GAP, NEW_CHECKED, OLD, RACE, SHOWN};
 use super::{Drip, Drops};
 use squall_cli_run::{Files, Program, Reader, Source, Writer};
-use squall_example::NEW as NEW_PLAN;
+use squall_test_example::NEW as NEW_PLAN;
 use std::alloc::{AllocError, Global};
 use std::io;
 use std::io::Read;

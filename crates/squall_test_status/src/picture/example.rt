@@ -2,8 +2,8 @@
 
 use squall_board::Board;
 use squall_course::Course;
-use squall_example::course;
 use squall_picture::picture;
+use squall_test_example::course;
 use std::alloc::Global;
 use std::process::Abort;
 use std::test::Fail;

@@ -3,8 +3,8 @@
 use super::{NONE, add_text, is_made_of};
 use squall_board::Board;
 use squall_course::Course;
-use squall_example::course;
 use squall_picture::picture;
+use squall_test_example::course;
 use std::alloc::Global;
 use std::process::Abort;
 

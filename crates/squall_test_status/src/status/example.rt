@@ -2,9 +2,9 @@
 
 use squall_board::Board;
 use squall_course::Course;
-use squall_example::course;
 use squall_report::Report;
 use squall_status::CourseStatus;
+use squall_test_example::course;
 use std::alloc::Global;
 use std::process::Abort;
 use std::test::Fail;

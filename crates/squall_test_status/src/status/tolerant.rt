@@ -3,9 +3,9 @@
 use super::load;
 use squall_board::Board;
 use squall_course::Course;
-use squall_example::course;
 use squall_report::Report;
 use squall_status::{CourseStatus, Shown, add_status};
+use squall_test_example::course;
 use std::alloc::Global;
 use std::process::Abort;
 

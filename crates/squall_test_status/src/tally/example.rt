@@ -1,8 +1,8 @@
 //! The example of the crate's first page.
 
 use squall_board::Board;
-use squall_example::load;
-use squall_tally::{Tally, clashes_above};
+use squall_status::{Tally, clashes_above};
+use squall_test_example::load;
 use std::process::Abort;
 use std::test::Fail;
 

@@ -1,11 +1,11 @@
 //! The example of the crate's first page.
 
 use super::{new_table, old_table};
+use squall_c_changes::put_changes;
 use squall_c_values::CSpan;
-use squall_changes::put_changes;
 use squall_course::Course;
-use squall_example::course;
 use squall_table::RouteTable;
+use squall_test_example::course;
 use std::alloc::Global;
 use std::process::Abort;
 use std::test::Fail;

@@ -2,7 +2,7 @@
 
 use squall_c_values::put_receivers;
 use squall_course::Course;
-use squall_example::course;
+use squall_test_example::course;
 use std::alloc::Global;
 use std::process::Abort;
 use std::test::Fail;

@@ -1,13 +1,12 @@
 //! Tables that absorb deltas, each beside the table that is built of the same board.
 
-ghost use Rattle.squall_table.specs.Tables.{IsTable};
-
+use super::hears::hear;
 use super::patches::DONE;
 use crate::table::{Said, delta, has_rows, is_built};
 use squall_board::{Board, Delta};
 use squall_course::Course;
-use squall_example::{NEW, OLD, course_between};
-use squall_table::RouteTable;
+use squall_table::{News, RouteTable};
+use squall_test_example::{NEW, OLD, course_between};
 use std::alloc::Global;
 use std::test::Fail;
 
@@ -18,19 +17,17 @@ const ENDS: &str = concat!(
     r#"{"part":3,"from":[8,0],"to":"end"}]}"#,
 );
 
-/// The board, and its table, after both deltas, one after the other.
+/// The table of the board, after both deltas, one after the other.
 pub(crate) fn absorb(
     course: &Course,
     board: &mut Board,
-    table: &mut RouteTable,
+    table: RouteTable,
     first: &Delta,
     second: &Delta,
-) -> Result<(), Fail>
-    requires { IsTable course.now board.old table.old }
-{
-    table.absorb(course, board, first)?;
-    table.absorb(course, board, second)?;
-    Ok(())
+) -> RouteTable {
+    let (table, _) = hear(course, board, table, News::Delta(first));
+    let (table, _) = hear(course, board, table, News::Delta(second));
+    table
 }
 
 /// Whether the table has the rows, and that which is built of the board too.
@@ -53,8 +50,8 @@ fn absorbed(
     rows: &str,
 ) -> Result<bool, Fail> {
     let mut board = Board::new(alloc);
-    let mut table = RouteTable::build(alloc, course, &board)?;
-    absorb(course, &mut board, &mut table, first, second)?;
+    let table = RouteTable::build(alloc, course, &board)?;
+    let table = absorb(course, &mut board, table, first, second);
     has_both(alloc, course, &board, &table, rows)
 }
 

@@ -2,10 +2,10 @@
 
 use squall_board::Board;
 use squall_course::Course;
-use squall_example::{course, load};
 use squall_key::Key;
 use squall_report::Report;
-use squall_table::RouteTable;
+use squall_table::{News, RouteTable};
+use squall_test_example::{course, load};
 use std::alloc::Global;
 use std::process::Abort;
 use std::test::Fail;
@@ -19,10 +19,12 @@ fn takes_a_load(
 ) -> Result<(), Fail> {
     let key = Key::read("2:0").ok_or("a key")?;
     let mut board = Board::new(alloc);
-    let mut table = RouteTable::build(alloc, course, &board)?;
+    let table = RouteTable::build(alloc, course, &board)?;
     assert!(rt; table.owner(key).get() == 1);
-    table.take(course, &mut board, load)?;
-    assert!(rt; table.owner(key).get() == 3);
+    let ready = table.prepare(course, News::Report(load)).ok();
+    let ready = ready.ok_or("a patch")?;
+    board.take(load)?;
+    assert!(rt; ready.make().owner(key).get() == 3);
     Ok(())
 }
 

@@ -1,15 +1,13 @@
 //! Tables of several blocks: patches that split and join legs in several of them, each table beside
-//! that which is built of the same board.
+//! that which is built of the same board. Reports and deltas of such tables the tests in C show.
 
 ghost use Rattle.squall_table.specs.Tables.{IsTable};
 
 mod tolerant;
 
-use super::absorbs::absorb;
 use super::legs::{are_same, count};
 use super::patches::patch;
 use super::searches::begin;
-use super::takes::take;
 use crate::table::{Said, delta};
 use squall_board::{Board, Delta};
 use squall_course::Course;
@@ -75,45 +73,6 @@ fn is_as_built(
     Ok(count(table.entries()) == legs && are_same(table.entries(), built.entries()))
 }
 
-/// Whether the table that has absorbed both deltas, one after the other, has this many legs, and is
-/// that which is built.
-fn absorbs_to(
-    alloc: Global,
-    course: &Course,
-    first: &Delta,
-    second: &Delta,
-    legs: usize,
-) -> Result<bool, Fail> {
-    let mut board = Board::new(alloc);
-    let mut table = RouteTable::build(alloc, course, &board)?;
-    absorb(course, &mut board, &mut table, first, second)?;
-    is_as_built(alloc, course, &board, &table, legs)
-}
-
-/// The same of the delta and what is said.
-fn absorbs_then(
-    alloc: Global,
-    course: &Course,
-    first: &Delta,
-    second: &[Said],
-    legs: usize,
-) -> Result<bool, Fail> {
-    let second = delta(alloc, second)?;
-    absorbs_to(alloc, course, first, &second, legs)
-}
-
-/// The same of what is said first and what is said then.
-fn absorbs_both(
-    alloc: Global,
-    course: &Course,
-    first: &[Said],
-    second: &[Said],
-    legs: usize,
-) -> Result<bool, Fail> {
-    let first = delta(alloc, first)?;
-    absorbs_then(alloc, course, &first, second, legs)
-}
-
 /// Whether the table is patched for the delta, has this many legs then, and is that which is built.
 fn patches_to(
     alloc: Global,
@@ -147,29 +106,6 @@ fn is_patched(alloc: Global, course: &Course, said: &[Said], legs: usize) -> Res
     first_patches_to(alloc, course, &delta, legs)
 }
 
-/// The board, and its table, take four reports, one after the other.
-fn take_four(
-    course: &Course,
-    board: &mut Board,
-    table: &mut RouteTable,
-    said: &[Said; 4],
-) -> Result<(), Fail>
-    requires { IsTable course.now board.old table.old }
-{
-    take(course, board, table, said[0])?;
-    take(course, board, table, said[1])?;
-    take(course, board, table, said[2])?;
-    take(course, board, table, said[3])
-}
-
-/// Whether the table that has taken four reports has this many legs, and is that which is built.
-fn is_taken(alloc: Global, course: &Course, said: &[Said; 4], legs: usize) -> Result<bool, Fail> {
-    let mut board = Board::new(alloc);
-    let mut table = RouteTable::build(alloc, course, &board)?;
-    take_four(course, &mut board, &mut table, said)?;
-    is_as_built(alloc, course, &board, &table, legs)
-}
-
 /// Some keys in the middle of legs 1, 301, 1201 and 2099, each of partition 4: two legs more for each.
 const SPLITS: [Said; 4] = [
     Said::Load("4:0", "5:0"),
@@ -201,40 +137,6 @@ const ALL: Said = Said::Done {
     part: 3,
 };
 
-/// What is absorbed first of 2101 legs, what is absorbed then, and how many legs there are after both.
-const ABSORBS: [(&[Said], &[Said], usize); 7] = [
-    (&SPLITS, &[], 2109),
-    // The pieces of legs 301 and 1201 go, with those of leg 303.
-    (&SPLITS, &JOINS, 2099),
-    (&JOINS, &SPLITS, 2099),
-    (&BORDERS, &[WIDE], 1501),
-    (&[WIDE], &SPLITS, 1509),
-    (&[WIDE], &[ALL], 1),
-    (&[ALL], &SPLITS, 1),
-];
-
-/// The course's table absorbs each row.
-fn look_at_absorbs(
-    rt: &impl Abort,
-    alloc: Global,
-    course: &Course,
-    rows: &[(&[Said], &[Said], usize)],
-) -> Result<(), Fail> {
-    for (first, second, legs) in rows {
-        assert!(rt;
-            absorbs_both(alloc, course, first, second, *legs)?,
-            "{legs}"
-        );
-    }
-    Ok(())
-}
-
-#[test]
-fn absorbs_in_several_blocks(rt: HostRuntime) -> Result<(), Fail> {
-    let course = many(rt.alloc(), 2101).ok_or("a course")?;
-    look_at_absorbs(&rt, rt.alloc(), &course, &ABSORBS)
-}
-
 /// What is said of 2101 legs, and how many there are once the table is patched for it.
 const PATCHES: [(&[Said], usize); 5] = [
     (&SPLITS, 2109),
@@ -261,20 +163,4 @@ fn look_at_patches(
 fn patches_in_several_blocks(rt: HostRuntime) -> Result<(), Fail> {
     let course = many(rt.alloc(), 2101).ok_or("a course")?;
     look_at_patches(&rt, rt.alloc(), &course, &PATCHES)
-}
-
-/// Leg 301 is split, legs 400 to 1000 become one, leg 301 is joined, and leg 2099 is split.
-const TAKES: [Said; 4] = [
-    Said::Load("904:0", "905:0"),
-    WIDE,
-    Said::Load("903:301", "906:302"),
-    Said::Load("6298:0", "6299:0"),
-];
-
-#[test]
-fn takes_in_several_blocks(rt: HostRuntime) -> Result<(), Fail> {
-    let course = many(rt.alloc(), 2101).ok_or("a course")?;
-    assert!(rt; is_taken(rt.alloc(), &course, &SPLITS, 2109)?);
-    assert!(rt; is_taken(rt.alloc(), &course, &TAKES, 1501)?);
-    Ok(())
 }

@@ -7,9 +7,9 @@ ghost use Rattle.squall_table.specs.Touched.{WasTable};
 use crate::table::{Said, delta, has_rows, is_built};
 use squall_board::{Board, Delta};
 use squall_course::Course;
-use squall_example::course;
 use squall_span::SpanSet;
 use squall_table::{Meter, RouteTable, touched};
+use squall_test_example::course;
 use std::alloc::{AllocError, Global};
 use std::test::Fail;
 

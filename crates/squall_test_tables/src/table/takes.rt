@@ -1,43 +1,36 @@
 //! Tables that take reports, each beside the table that is built of the same board.
 
-ghost use Rattle.std.specs.Prelude.{OnOk};
-ghost use Rattle.squall_table.specs.Tables.{IsTable};
-
+use crate::table::hears::hear;
 use crate::table::{Said, has_rows, is_built, is_cut, report};
 use squall_board::Board;
 use squall_course::Course;
-use squall_example::course;
-use squall_table::RouteTable;
+use squall_table::{News, RouteTable};
+use squall_test_example::course;
 use std::alloc::Global;
 use std::process::Abort;
 use std::test::Fail;
 
-/// The board, and its table, take a report.
+/// The table of the board, once both have taken a report.
 pub(crate) fn take(
     course: &Course,
     board: &mut Board,
-    table: &mut RouteTable,
+    table: RouteTable,
     said: Said,
-) -> Result<(), Fail>
-    requires { IsTable course.now board.old table.old }
-    ensures { OnOk result (IsTable course.now board.new table.new) }
-{
+) -> Result<RouteTable, Fail> {
     let report = report(said).ok_or("report")?;
-    table.take(course, board, &report)?;
-    Ok(())
+    let (table, _) = hear(course, board, table, News::Report(&report));
+    Ok(table)
 }
 
-/// The board, and its table, take two reports.
+/// The table of the board, once both have taken two reports.
 fn take_both(
     course: &Course,
     board: &mut Board,
-    table: &mut RouteTable,
+    table: RouteTable,
     first: Said,
     second: Said,
-) -> Result<(), Fail>
-    requires { IsTable course.now board.old table.old }
-{
-    take(course, board, table, first)?;
+) -> Result<RouteTable, Fail> {
+    let table = take(course, board, table, first)?;
     take(course, board, table, second)
 }
 
@@ -61,8 +54,8 @@ fn is_taken(
     rows: &str,
 ) -> Result<bool, Fail> {
     let mut board = Board::new(alloc);
-    let mut table = RouteTable::build(alloc, course, &board)?;
-    take_both(course, &mut board, &mut table, first, second)?;
+    let table = RouteTable::build(alloc, course, &board)?;
+    let table = take_both(course, &mut board, table, first, second)?;
     has_both(alloc, course, &board, &table, rows)
 }
 
@@ -137,11 +130,30 @@ fn reports_taken(rt: HostRuntime) -> Result<(), Fail> {
     look_at_takes(&rt, rt.alloc(), &course, &TAKES)
 }
 
+/// Whether the table is as before, once the patch for what is said is left out.
+fn is_left(alloc: Global, course: &Course, said: Said) -> Result<bool, Fail> {
+    let report = report(said).ok_or("report")?;
+    let board = Board::new(alloc);
+    let table = RouteTable::build(alloc, course, &board)?;
+    let ready = table.prepare(course, News::Report(&report)).ok();
+    let table = ready.ok_or("a patch")?.leave();
+    has_rows(alloc, &table, BEFORE)
+}
+
+/// A patch of one block, and one that is a draft.
+#[test]
+fn patches_left_out(rt: HostRuntime) -> Result<(), Fail> {
+    let course = course(rt.alloc()).ok_or("a course")?;
+    assert!(rt; is_left(rt.alloc(), &course, Said::Load("2:0", "3:0"))?);
+    assert!(rt; is_left(rt.alloc(), &course, DONE)?);
+    Ok(())
+}
+
 /// Whether the legs from 2:0 to 4:0 are these, after the load from 2:0 to 3:0.
 fn is_cut_after_a_load(alloc: Global, course: &Course, rows: &str) -> Result<bool, Fail> {
     let mut board = Board::new(alloc);
-    let mut table = RouteTable::build(alloc, course, &board)?;
-    take(course, &mut board, &mut table, Said::Load("2:0", "3:0"))?;
+    let table = RouteTable::build(alloc, course, &board)?;
+    let table = take(course, &mut board, table, Said::Load("2:0", "3:0"))?;
     is_cut(alloc, &table, "2:0", "4:0", rows)
 }
 

@@ -2,13 +2,14 @@
 
 ghost use Rattle.squall_table.specs.Tables.{IsTable};
 
+use crate::table::hears::hear;
 use crate::table::legs::count;
 use crate::table::patches::patch;
 use squall_board::{Board, Delta};
 use squall_course::Course;
-use squall_example::{course, load, span};
 use squall_span::Span;
-use squall_table::{RouteTable, touched};
+use squall_table::{News, RouteTable, touched};
+use squall_test_example::{course, load, span};
 use std::alloc::{AllocError, Global};
 use std::process::Abort;
 use std::test::Fail;
@@ -97,17 +98,15 @@ fn patched(
     patch_and_count(alloc, course, &mut board, &mut table, delta)
 }
 
-/// The board and its table have absorbed the delta, or are unchanged.
-fn absorbs_or_not(
+/// The board and its table take the delta, or are unchanged.
+fn hears_or_not(
     rt: &impl Abort,
     course: &Course,
     board: &mut Board,
-    table: &mut RouteTable,
+    table: RouteTable,
     delta: &Delta,
-)
-    requires { IsTable course.now board.old table.old }
-{
-    let is_absorbed = table.absorb(course, board, delta).is_ok();
+) {
+    let (table, is_absorbed) = hear(course, board, table, News::Delta(delta));
     assert!(rt; count(table.entries()) == if is_absorbed { 6 } else { 4 });
     assert!(rt; board.covers(delta) == is_absorbed);
 }
@@ -119,8 +118,8 @@ enum Step {
     Touch,
     /// The course's table is patched for the delta.
     Patch,
-    /// The course's table absorbs the delta.
-    Absorb,
+    /// A patch of the course's table is prepared for the delta, and then made or left out.
+    Prepare,
 }
 
 /// How many keys the delta touches. None if an allocation fails.
@@ -144,11 +143,11 @@ fn patches_or_not(rt: &impl Abort, alloc: Global, course: &Course, delta: &Delta
     }
 }
 
-/// A board and its table absorb the delta, or are unchanged.
-fn first_absorbs_or_not(rt: &impl Abort, alloc: Global, course: &Course, delta: &Delta) {
+/// A board and its table take the delta, or are unchanged.
+fn first_hears_or_not(rt: &impl Abort, alloc: Global, course: &Course, delta: &Delta) {
     let mut board = Board::new(alloc);
-    if let Ok(mut table) = RouteTable::build(alloc, course, &board) {
-        absorbs_or_not(rt, course, &mut board, &mut table, delta);
+    if let Ok(table) = RouteTable::build(alloc, course, &board) {
+        hears_or_not(rt, course, &mut board, table, delta);
     }
 }
 
@@ -158,7 +157,7 @@ fn takes_with(rt: &impl Abort, alloc: Global, course: &Course, step: Step) {
         match step {
             Step::Touch => touches_or_not(rt, alloc, course, &delta),
             Step::Patch => patches_or_not(rt, alloc, course, &delta),
-            Step::Absorb => first_absorbs_or_not(rt, alloc, course, &delta),
+            Step::Prepare => first_hears_or_not(rt, alloc, course, &delta),
         }
     }
 }
@@ -183,7 +182,7 @@ fn tolerant_patch(rt: HostRuntime) -> Result<(), Fail> {
 }
 
 #[test]
-fn tolerant_absorb(rt: HostRuntime) -> Result<(), Fail> {
-    takes(&rt, rt.alloc(), Step::Absorb);
+fn tolerant_prepare(rt: HostRuntime) -> Result<(), Fail> {
+    takes(&rt, rt.alloc(), Step::Prepare);
     Ok(())
 }

@@ -1,14 +1,13 @@
 //! If an allocation fails, no report is taken and no table copied, and nothing changes.
 
-ghost use Rattle.squall_table.specs.Tables.{IsTable};
-
+use crate::table::hears::hear;
 use crate::table::legs::has_legs;
 use crate::table::{Said, report};
 use squall_board::Board;
 use squall_course::Course;
-use squall_example::course;
 use squall_report::Report;
-use squall_table::{Leg, RouteTable};
+use squall_table::{Leg, News, RouteTable};
+use squall_test_example::course;
 use std::alloc::{AllocError, Global};
 use std::process::Abort;
 use std::test::Fail;
@@ -27,23 +26,19 @@ fn takes_or_not(
     alloc: Global,
     course: &Course,
     board: &mut Board,
-    table: &mut RouteTable,
+    table: RouteTable,
     report: &Report,
-)
-    requires { IsTable course.now board.old table.old }
-{
-    match table.take(course, board, report) {
-        Ok(()) => assert!(rt; !are_new(alloc, course, board, table)),
-        Err(AllocError) => assert!(rt; are_new(alloc, course, board, table)),
-    }
+) {
+    let (table, is_taken) = hear(course, board, table, News::Report(report));
+    assert!(rt; are_new(alloc, course, board, &table) == !is_taken);
 }
 
 /// A new board and its table take the report or not. If an allocation fails before, nothing is
 /// looked at.
 fn new_take_or_not(rt: &impl Abort, alloc: Global, course: &Course, report: &Report) {
     let mut board = Board::new(alloc);
-    if let Ok(mut table) = RouteTable::build(alloc, course, &board) {
-        takes_or_not(rt, alloc, course, &mut board, &mut table, report);
+    if let Ok(table) = RouteTable::build(alloc, course, &board) {
+        takes_or_not(rt, alloc, course, &mut board, table, report);
     }
 }
 
@@ -58,7 +53,7 @@ fn each_or_not(rt: &impl Abort, alloc: Global, course: &Course, said: &[Said]) {
 }
 
 #[test]
-fn tolerant_take(rt: HostRuntime) -> Result<(), Fail> {
+fn tolerant_prepare(rt: HostRuntime) -> Result<(), Fail> {
     let done = Said::Done {
         number: 1,
         sub: 0,

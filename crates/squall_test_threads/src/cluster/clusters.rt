@@ -1,4 +1,4 @@
-//! Clusters of all sizes, and two at once.
+//! Clusters that are refused, that end at once, and two at once.
 
 ghost use Rattle.squall_cluster_desk.specs.Start.{IsStartOf};
 
@@ -157,54 +157,5 @@ fn two_at_once(rt: HostRuntime) -> Result<(), Fail> {
     let before = (PartId::new(1), PartId::new(3));
     let after = (None, PartId::new(3));
     assert!(rt; asked == Some((before, after)));
-    Ok(())
-}
-
-/// Adds 64 seats of the cluster. None if there are fewer, or if an allocation fails.
-fn push_seats<K: Constants>(cluster: &Cluster<K>, seats: &mut Vec<Seat<K>>) -> Option<()> {
-    for _ in 0..64 {
-        seats.push(cluster.seat().ok()?).ok()?;
-    }
-    Some(())
-}
-
-/// Whether all seats send the key to partition 1.
-fn all_send<K: Constants>(seats: &mut [Seat<K>], key: Key) -> bool {
-    seats
-        .iter_mut()
-        .all(|seat| seat.route(key) == PartId::new(1))
-}
-
-/// Whether there is no further seat once all are out, all answer as they should, and one that is given
-/// back is handed out again.
-fn seats_are_right<K: Constants>(cluster: &Cluster<K>, seats: &mut Vec<Seat<K>>) -> Option<bool> {
-    push_seats(cluster, seats)?;
-    let full = cluster.seat().is_err();
-    let right = all_send(seats, moving_key()?);
-    drop(seats.pop());
-    let again = cluster.seat().is_ok();
-    Some(full && right && again)
-}
-
-/// Whether all 64 seats of the cluster answer as they should. None if an allocation fails.
-fn are_seated<K: Constants>(alloc: Global, cluster: &Cluster<K>) -> Option<bool> {
-    let mut seats = Vec::new(alloc);
-    seats_are_right(cluster, &mut seats)
-}
-
-/// Whether all 64 seats of a cluster answer as they should, and one that is given back is handed out
-/// again. None if an allocation fails.
-fn seated<K: Constants, R: Wait>(rt: &R, alloc: Global, start: Start) -> Option<bool>
-    requires { IsStartOf K.book K.first K.opening start }
-{
-    let pair = opened::<K, &R>(rt, alloc, start, 64, 1)?;
-    are_seated(alloc, &pair.cluster)
-}
-
-#[test]
-fn all_readers(rt: HostRuntime) -> Result<(), Fail> {
-    let origin = empty_origin(rt.alloc()).ok_or("an origin")?;
-    let seated = seated::<Brand, _>(&rt, rt.alloc(), origin.start());
-    assert!(rt; seated == Some(true));
     Ok(())
 }

@@ -14,7 +14,7 @@ use std::test::Fail;
 use std::thread::Threads;
 
 /// A gate at which nobody waits.
-pub(super) struct Open;
+struct Open;
 
 impl Gate for Open {
     fn before(&self, _actor: Actor, _call: u64) {}
@@ -56,7 +56,7 @@ fn list_of(alloc: Global, told: &[Told]) -> Option<Vec<Report>> {
 }
 
 /// Adds the list. None if an allocation fails.
-pub(super) fn push_list(lists: &mut Vec<Vec<Report>>, list: Option<Vec<Report>>) -> Option<()> {
+fn push_list(lists: &mut Vec<Vec<Report>>, list: Option<Vec<Report>>) -> Option<()> {
     lists.push(list?).ok()
 }
 
@@ -101,7 +101,7 @@ pub(super) struct Setting {
 
 /// Course 1 and the empty board, with these lists, whose race has to give that board. None if an
 /// allocation fails.
-pub(super) fn setting_of(alloc: Global, lists: Vec<Vec<Report>>, wanted: Board) -> Option<Setting> {
+fn setting_of(alloc: Global, lists: Vec<Vec<Report>>, wanted: Board) -> Option<Setting> {
     let first = course(alloc)?;
     Some(Setting {
         first,

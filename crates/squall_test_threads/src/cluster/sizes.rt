@@ -3,9 +3,10 @@
 ghost use Rattle.std.specs.Prelude.{◌≡◌, None};
 ghost use Rattle.squall_cluster_desk.specs.Start.{IsStartOf};
 
-use super::{Origin, board, closed, empty_origin, load, load_letter, opened};
+use super::{Origin, board, closed, empty_origin, load, load_letter, moving_key, opened};
 use squall_board::Board;
 use squall_cluster::{Cluster, Constants, Owner, Seat, SeatFault, Sender, Start};
+use squall_key::{Key, PartId};
 use std::alloc::Global;
 use std::marker::Brand;
 use std::process::Abort;
@@ -16,7 +17,7 @@ use std::test::Fail;
 type Size = (usize, usize);
 
 /// Sizes of clusters.
-const SIZES: [Size; 4] = [(0, 1), (1, 2), (2, 3), (5, 16)];
+const SIZES: [Size; 5] = [(0, 1), (1, 2), (2, 3), (5, 16), (64, 1)];
 
 /// Adds that many seats of the cluster. None if it has fewer.
 fn push_seats<K: Constants>(
@@ -30,11 +31,33 @@ fn push_seats<K: Constants>(
     Some(())
 }
 
-/// Whether the cluster hands out that many seats at once, and then has no place.
+/// Whether all seats send the key to partition 1.
+fn all_send<K: Constants>(seats: &mut [Seat<K>], key: Key) -> bool {
+    seats
+        .iter_mut()
+        .all(|seat| seat.route(key) == PartId::new(1))
+}
+
+/// Whether there is no further seat once that many are out, all answer as they should, and one that is given
+/// back is handed out again.
+fn seats_are_right<K: Constants>(
+    cluster: &Cluster<K>,
+    count: usize,
+    seats: &mut Vec<Seat<K>>,
+) -> Option<bool> {
+    push_seats(cluster, count, seats)?;
+    let full = matches!(cluster.seat(), Err(SeatFault::NoPlace));
+    let right = all_send(seats, moving_key()?);
+    drop(seats.pop());
+    let again = cluster.seat().is_ok();
+    Some(full && right && again == (count > 0))
+}
+
+/// Whether the cluster hands out that many seats at once, each of which answers as it should, and then has no
+/// place. None if an allocation fails.
 fn has_seats<K: Constants>(alloc: Global, cluster: &Cluster<K>, count: usize) -> Option<bool> {
     let mut seats = Vec::new(alloc);
-    push_seats(cluster, count, &mut seats)?;
-    Some(matches!(cluster.seat(), Err(SeatFault::NoPlace)))
+    seats_are_right(cluster, count, &mut seats)
 }
 
 /// Posts the load. None if the inbox is full, or if an allocation fails.

@@ -1,43 +1,41 @@
 //! If an allocation fails, a table of several blocks and its board are unchanged.
 
-ghost use Rattle.squall_table.specs.Tables.{IsTable};
-
 use super::many;
+use crate::table::hears::hear;
 use crate::table::legs::count;
 use crate::table::unchanged::are_new;
 use crate::table::{Said, report};
 use squall_board::{Board, Delta};
 use squall_course::Course;
-use squall_report::Report;
-use squall_table::RouteTable;
-use std::alloc::{AllocError, Global};
+use squall_table::{News, RouteTable};
+use std::alloc::Global;
 use std::process::Abort;
 
-/// The board and its table, which are new, absorb the delta, and the table has this many legs then.
-/// Or the answer is a failed allocation, and they are unchanged.
-fn absorbs_or_not(
+/// The board and its table, which are new, take the news, and the table has this many legs then. Or
+/// they are unchanged, since an allocation failed.
+fn hears_or_not(
     rt: &impl Abort,
     alloc: Global,
     course: &Course,
     board: &mut Board,
-    table: &mut RouteTable,
-    delta: &Delta,
+    table: RouteTable,
+    news: News,
     legs: usize,
-)
-    requires { IsTable course.now board.old table.old }
-{
-    match table.absorb(course, board, delta) {
-        Ok(()) => assert!(rt; board.covers(delta) && count(table.entries()) == legs),
-        Err(AllocError) => assert!(rt; are_new(alloc, course, board, table)),
+) {
+    let (table, is_heard) = hear(course, board, table, news);
+    if is_heard {
+        assert!(rt; count(table.entries()) == legs);
+    } else {
+        assert!(rt; are_new(alloc, course, board, &table));
     }
 }
 
-/// A new board and its table absorb the delta or not. If an allocation fails before, nothing is
-/// looked at.
-fn new_absorbs_or_not(rt: &impl Abort, alloc: Global, course: &Course, delta: &Delta, legs: usize) {
+/// A new board and its table take the news or not. If an allocation fails before, nothing is looked
+/// at.
+fn new_hears_or_not(rt: &impl Abort, alloc: Global, course: &Course, news: News, legs: usize) {
     let mut board = Board::new(alloc);
-    if let Ok(mut table) = RouteTable::build(alloc, course, &board) {
-        absorbs_or_not(rt, alloc, course, &mut board, &mut table, delta, legs);
+    if let Ok(table) = RouteTable::build(alloc, course, &board) {
+        hears_or_not(rt, alloc, course, &mut board, table, news, legs);
     }
 }
 
@@ -59,7 +57,7 @@ fn delta(alloc: Global, said: &[Said]) -> Option<Delta> {
 /// The same of what is said.
 fn said_or_not(rt: &impl Abort, alloc: Global, course: &Course, said: &[Said], legs: usize) {
     if let Some(delta) = delta(alloc, said) {
-        new_absorbs_or_not(rt, alloc, course, &delta, legs);
+        new_hears_or_not(rt, alloc, course, News::Delta(&delta), legs);
     }
 }
 
@@ -71,37 +69,9 @@ const SAID: [Said; 3] = [
 ];
 
 #[test]
-fn tolerant_absorb(rt: HostRuntime) {
+fn tolerant_prepare_delta(rt: HostRuntime) {
     if let Some(course) = many(rt.alloc(), 601) {
         said_or_not(&rt, rt.alloc(), &course, &SAID, 603);
-    }
-}
-
-/// The board and its table, which are new, take the report, and the table has this many legs then.
-/// Or the answer is a failed allocation, and they are unchanged.
-fn takes_or_not(
-    rt: &impl Abort,
-    alloc: Global,
-    course: &Course,
-    board: &mut Board,
-    table: &mut RouteTable,
-    report: &Report,
-    legs: usize,
-)
-    requires { IsTable course.now board.old table.old }
-{
-    match table.take(course, board, report) {
-        Ok(()) => assert!(rt; count(table.entries()) == legs),
-        Err(AllocError) => assert!(rt; are_new(alloc, course, board, table)),
-    }
-}
-
-/// A new board and its table take the report or not. If an allocation fails before, nothing is
-/// looked at.
-fn new_takes_or_not(rt: &impl Abort, alloc: Global, course: &Course, report: &Report, legs: usize) {
-    let mut board = Board::new(alloc);
-    if let Ok(mut table) = RouteTable::build(alloc, course, &board) {
-        takes_or_not(rt, alloc, course, &mut board, &mut table, report, legs);
     }
 }
 
@@ -109,7 +79,7 @@ fn new_takes_or_not(rt: &impl Abort, alloc: Global, course: &Course, report: &Re
 fn each_or_not(rt: &impl Abort, alloc: Global, course: &Course, rows: &[(Said, usize)]) {
     for (said, legs) in rows {
         if let Some(report) = report(*said) {
-            new_takes_or_not(rt, alloc, course, &report, *legs);
+            new_hears_or_not(rt, alloc, course, News::Report(&report), *legs);
         }
     }
 }
@@ -123,7 +93,7 @@ const REPORTS: [(Said, usize); 3] = [
 ];
 
 #[test]
-fn tolerant_take(rt: HostRuntime) {
+fn tolerant_prepare_report(rt: HostRuntime) {
     if let Some(course) = many(rt.alloc(), 601) {
         each_or_not(&rt, rt.alloc(), &course, &REPORTS);
     }

@@ -4,13 +4,12 @@ ghost use Rattle.std.specs.Prelude.{◌≡◌, IfOk};
 ghost use Rattle.squall_report.specs.Facts.{reports_say};
 ghost use Rattle.squall_board.specs.Route.{route};
 
-use crate::tests::random::one_by_one;
 use squall_board::Board;
 use squall_course::Course;
 use squall_delta::delta_of;
-use squall_example::{course, load};
 use squall_key::{Key, PartId};
 use squall_report::Report;
+use squall_test_example::{course, load};
 use std::alloc::{AllocError, Global};
 use std::process::Abort;
 
@@ -26,6 +25,15 @@ fn routed(
     let mut board = Board::new(alloc);
     board.take_all(reports)?;
     Ok(board.route(course, key))
+}
+
+/// The board that took the reports one by one.
+fn one_by_one(alloc: Global, list: &[Report]) -> Result<Board, AllocError> {
+    let mut board = Board::new(alloc);
+    for report in list {
+        board.take(report)?;
+    }
+    Ok(board)
 }
 
 /// Whether the board is that of the list, taken report by report.

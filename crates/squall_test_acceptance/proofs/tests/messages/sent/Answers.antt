@@ -1,5 +1,5 @@
-use Rattle.squall_acceptance.proofs.Sent.{message_is, delta_is, no_digest}
-use Rattle.squall_acceptance.proofs.tests.messages.sent.Goals as goal
+use Rattle.squall_test_acceptance.proofs.Sent.{message_is, delta_is, no_digest}
+use Rattle.squall_test_acceptance.proofs.tests.messages.sent.Goals as goal
 
 pub returns-in-Delta : goal.returns-in-Delta
 returns-in-Delta c =

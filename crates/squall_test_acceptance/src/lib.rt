@@ -1,4 +1,4 @@
-//! Queries that cross crates: what a caller who has public names alone can do and prove. There is
+//! Tests that cross crates: what a caller who has public names alone can do and prove. There is
 //! nothing here to call.
 #![tactic(auto)]
 

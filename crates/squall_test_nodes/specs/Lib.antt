@@ -1,0 +1,4 @@
+-- what the clauses here cite of the crates below
+pub use Rattle.squall_rows.specs.RowSteps
+pub use Rattle.squall_rows.specs.OneMap
+pub mod Clients
