@@ -85,6 +85,69 @@ static void numbers_end(void) {
     CHECK(squall_course_number(course) == 4294967295u);
     drop_course(course);
     drop_leader(leader);
+    uint32_t out[2] = {7, 7};
+    leader = leader_of(OLD, 4294967295u);
+    CHECK(begin(leader, NEW) == SQUALL_NO_NUMBER);
+    CHECK(squall_leader_open_next(leader, out, 2) == SQUALL_IDLE && out[0] == 7);
+    drop_leader(leader);
+}
+
+/* A course in which no key moves has no sub-plan, and ends as it begins. */
+static void nothing_moves(void) {
+    squall_leader *leader = leader_of(OLD, 0);
+    uint32_t out[2] = {7, 7};
+    CHECK(begin(leader, OLD) == SQUALL_OK);
+    CHECK(squall_leader_finished(leader) == 1);
+    CHECK(squall_leader_open_next(leader, out, 2) == SQUALL_NO_MORE && out[0] == 7);
+    CHECK(begin(leader, NEW) == SQUALL_OK);
+    squall_course *course = begun_by(leader);
+    CHECK(squall_course_number(course) == 2);
+    drop_course(course);
+    drop_leader(leader);
+}
+
+/* A router hears the frame of a course. */
+static void hear_course(squall_router *router, uint32_t number, const char *old, const char *new_plan) {
+    squall_course *course = (squall_course *)room_of(squall_course_size());
+    uint8_t frame[512];
+    squall_course_open(number, bytes_of(old), strlen(old), bytes_of(new_plan), strlen(new_plan), course);
+    size_t len = squall_course_frame(course, frame, sizeof frame);
+    CHECK(squall_router_hear(router, frame, len) == SQUALL_OK);
+    drop_course(course);
+}
+
+/* Whether the leader's board is the router's. */
+static bool tells_as(squall_leader *leader, squall_router *router) {
+    uint8_t one[2048];
+    uint8_t other[2048];
+    CHECK(squall_leader_gather_board(leader, SQUALL_NO_LIMIT) == SQUALL_OK);
+    CHECK(squall_router_gather_board(router, SQUALL_NO_LIMIT) == SQUALL_OK);
+    size_t len = squall_leader_frame(leader, one, sizeof one);
+    return squall_router_frame(router, other, sizeof other) == len && memcmp(one, other, len) == 0
+           && squall_leader_frame(leader, one, sizeof one) == 0 && squall_router_frame(router, other, sizeof other) == 0;
+}
+
+/* The board has what is begun, opened and heard, and nothing else. */
+static void what_a_leader_tells(void) {
+    squall_leader *leader = leader_of(OLD, 0);
+    squall_router *router = router_of(1, OLD, NEW);
+    uint32_t out[2];
+    CHECK(tells_as(leader, router));
+    CHECK(begin(leader, NEW) == SQUALL_OK && !tells_as(leader, router));
+    hear_course(router, 1, OLD, NEW);
+    CHECK(tells_as(leader, router));
+    CHECK(squall_leader_open_next(leader, out, 2) == SQUALL_OK && !tells_as(leader, router));
+    CHECK(squall_router_opened(router, 1, 0) == SQUALL_OK && tells_as(leader, router));
+    for (uint32_t part = 3; part <= 4; part++) {
+        CHECK(hear_done(leader, 1, 0, part) == SQUALL_OK && !tells_as(leader, router));
+        CHECK(squall_router_done(router, 1, 0, part) == SQUALL_OK && tells_as(leader, router));
+    }
+    CHECK(begin(leader, OLD) == SQUALL_OK && squall_leader_finished(leader) == 0);
+    CHECK(squall_leader_open_next(leader, out, 2) == SQUALL_OK && out[0] == 0);
+    hear_course(router, 2, NEW, OLD);
+    CHECK(squall_router_opened(router, 2, 0) == SQUALL_OK && tells_as(leader, router));
+    drop_router(router);
+    drop_leader(leader);
 }
 
 static void a_course_is_resumed(void) {
@@ -332,6 +395,8 @@ static void frames_within_a_limit(void) {
 static const struct test TESTS[] = {
     TEST(there_and_back),
     TEST(numbers_end),
+    TEST(nothing_moves),
+    TEST(what_a_leader_tells),
     TEST(a_course_is_resumed),
     TEST(leaders_that_are_none),
     TEST(texts_that_are_no_plans),

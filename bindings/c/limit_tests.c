@@ -189,6 +189,60 @@ static void the_limit_is_on_what_is_joined(void) {
     }
 }
 
+static struct frames load_in(uint32_t sub, uint64_t hi) {
+    struct frames made = {0};
+    made.len = squall_frame_loaded(1, sub, 3, squall_rank(2, 0), hi, made.bytes, sizeof made.bytes);
+    return made;
+}
+
+/* The frame by which a course follows, from the new plan to the old one. */
+static struct frames way_back(uint32_t number) {
+    struct frames made = {0};
+    squall_course *course = (squall_course *)room_of(squall_course_size());
+    squall_course_open(number, bytes_of(NEW), strlen(NEW), bytes_of(OLD), strlen(OLD), course);
+    made.len = squall_course_frame(course, made.bytes, sizeof made.bytes);
+    squall_course_close(course);
+    free(course);
+    return made;
+}
+
+/* At most one cell of one span, two opened sub-plans, and one issue. A load of more keys joins the one before.
+ * Partition 4 would be a second cell, and a load in another sub-plan too. The number 3 would be a second issue. */
+static void what_is_within_is_taken(void) {
+    for (int way = 0; way < COUNT_OF_WAYS; way++) {
+        squall_router *router = fresh();
+        CHECK(squall_router_limit(router, 1, 1, 2, 1) == SQUALL_OK);
+        CHECK(take(WAYS[way], router, load_in(0, squall_rank(2, 7))) == SQUALL_OK);
+        CHECK(take(WAYS[way], router, load_in(0, squall_rank(3, 0))) == SQUALL_OK);
+        CHECK(is_full_for(WAYS[way], router, completion(4)));
+        CHECK(is_full_for(WAYS[way], router, load_in(1, squall_rank(3, 0))));
+        CHECK(take(WAYS[way], router, opening(0)) == SQUALL_OK);
+        CHECK(take(WAYS[way], router, way_back(2)) == SQUALL_OK);
+        CHECK(is_full_for(WAYS[way], router, issue(3)));
+        CHECK(take(WAYS[way], router, way_back(2)) == SQUALL_OK);
+        CHECK(take(WAYS[way], router, load_in(0, squall_rank(4, 0))) == SQUALL_OK);
+        CHECK(squall_router_number(router) == 2 && squall_router_route(router, squall_rank(2, 0)) == 3);
+        CHECK(told(router, CELLS) == 1 && told(router, SPANS) == 1);
+        CHECK(told(router, OPENED) == 1 && told(router, ISSUES) == 1);
+        drop_router(router);
+    }
+    CHECK(blocks == 0);
+}
+
+/* Above the limit no frame passes, not even one that is known. */
+static void above_the_limit_nothing_is_taken(void) {
+    squall_router *router = fresh();
+    CHECK(take(squall_router_hear, router, load_in(0, squall_rank(2, 7))) == SQUALL_OK);
+    CHECK(take(squall_router_hear, router, completion(4)) == SQUALL_OK);
+    CHECK(squall_router_limit(router, 1, 1, 2, 1) == SQUALL_OK);
+    CHECK(is_full_for(squall_router_hear, router, load_in(0, squall_rank(2, 7))));
+    CHECK(is_full_for(squall_router_hear, router, completion(4)));
+    CHECK(is_full_for(squall_router_hear, router, way_back(2)));
+    CHECK(told(router, CELLS) == 2);
+    drop_router(router);
+    CHECK(blocks == 0);
+}
+
 static void a_limit_taken_away(void) {
     for (int way = 0; way < COUNT_OF_WAYS; way++) {
         squall_router *router = fresh();
@@ -405,6 +459,8 @@ static void what_allocates_nothing(void) {
 static const struct test TESTS[] = {
     TEST(each_number_has_its_limit),
     TEST(the_limit_is_on_what_is_joined),
+    TEST(what_is_within_is_taken),
+    TEST(above_the_limit_nothing_is_taken),
     TEST(a_limit_taken_away),
     TEST(reports_of_the_host_itself),
     TEST(digests_are_never_refused),

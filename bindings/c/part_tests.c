@@ -88,6 +88,7 @@ static void has_no_partition(squall_part *part) {
     CHECK(squall_part_give_at(part, 0, &chunk) == SQUALL_CLOSED);
     CHECK(is_chunk(chunk, NO_CHUNK));
     CHECK(squall_part_load(part, &chunk) == SQUALL_CLOSED);
+    CHECK(squall_part_fresh(part, &chunk, 0, spans) == SQUALL_CLOSED);
     CHECK(squall_part_finish(part, 0) == SQUALL_CLOSED);
     CHECK(squall_part_serve(part, 0, 0, &answer) == SQUALL_CLOSED);
     CHECK(is_answer(answer, 7, 7, 7));
@@ -144,6 +145,30 @@ static void gifts(void) {
     CHECK(blocks == 0);
 }
 
+/* The rows of a chunk that overlaps another go in place for its new keys alone. */
+static void chunks_have_new_keys(void) {
+    squall_part *part = part_of(3);
+    squall_chunk whole = chunk_of(key(2), key(3));
+    squall_chunk middle = chunk_of(key(2) + 5, key(2) + 9);
+    squall_chunk other = chunk_of(key(2), key(3) + 1);
+    squall_span span = {7, 8};
+    CHECK(squall_part_fresh(part, &whole, 0, &span) == SQUALL_NOT_OPEN);
+    CHECK(hear_opening(part) == SQUALL_OK);
+    CHECK(squall_part_fresh(part, &other, 0, &span) == SQUALL_STRANGER);
+    CHECK(squall_part_fresh(part, &NO_CHUNK, 0, &span) == SQUALL_LIMIT);
+    CHECK(squall_part_fresh(part, &whole, SQUALL_TOP + 1, &span) == SQUALL_LIMIT);
+    CHECK(span.lo == 7 && span.hi == 8);
+    CHECK(squall_part_load(part, &middle) == SQUALL_OK);
+    CHECK(squall_part_fresh(part, &whole, 0, &span) == SQUALL_OK);
+    CHECK(span.lo == key(2) && span.hi == key(2) + 5);
+    CHECK(squall_part_fresh(part, &whole, span.hi, &span) == SQUALL_OK);
+    CHECK(span.lo == key(2) + 9 && span.hi == key(3));
+    CHECK(squall_part_fresh(part, &whole, span.hi, &span) == SQUALL_OK && span.lo == span.hi);
+    CHECK(squall_part_fresh(part, &middle, 0, &span) == SQUALL_OK && span.lo == span.hi);
+    drop_part(part);
+    CHECK(blocks == 0);
+}
+
 static void loads(void) {
     squall_part *part = part_of(3);
     squall_chunk chunk = chunk_of(key(2), key(3));
@@ -155,8 +180,15 @@ static void loads(void) {
     CHECK(squall_part_finish(part, 0) == SQUALL_NOT_ALL);
     CHECK(squall_part_load(part, &other) == SQUALL_STRANGER);
     CHECK(squall_part_load(part, &NO_CHUNK) == SQUALL_LIMIT);
+    squall_chunk strangers[] = {chunk, chunk};
+    strangers[0].number = 2;
+    strangers[1].source = 2;
+    CHECK(squall_part_load(part, &strangers[0]) == SQUALL_STRANGER);
+    CHECK(squall_part_load(part, &strangers[1]) == SQUALL_STRANGER);
+    CHECK(squall_part_held(part, 0, spans, 2) == 1 && spans[0].lo == key(5));
     CHECK(squall_part_load(part, &chunk) == SQUALL_OK);
     CHECK(squall_part_load(part, &chunk) == SQUALL_LOADED_BEFORE);
+    CHECK(squall_part_fresh(part, &chunk, 0, spans) == SQUALL_OK && spans[0].lo == spans[0].hi);
     CHECK(squall_part_finish(part, 0) == SQUALL_OK);
     CHECK(squall_part_finish(part, 0) == SQUALL_OK);
     CHECK(squall_part_held(part, 0, spans, 2) == 2);
@@ -165,6 +197,111 @@ static void loads(void) {
     drop_part(part);
     part = open_part(2);
     CHECK(squall_part_finish(part, 0) == SQUALL_NOTHING_DUE);
+    drop_part(part);
+    CHECK(blocks == 0);
+}
+
+/* A chunk has a number above 0, and a sub-plan up to 9999. The second one's sub-plan is not opened. */
+static void chunks_have_limits(void) {
+    squall_part *part = open_part(3);
+    squall_chunk chunk = chunk_of(key(2), key(2) + 1);
+    chunk.number = 0;
+    CHECK(squall_part_load(part, &chunk) == SQUALL_LIMIT);
+    chunk.number = 1;
+    chunk.sub = 10000;
+    CHECK(squall_part_load(part, &chunk) == SQUALL_LIMIT);
+    chunk.sub = 9999;
+    CHECK(squall_part_load(part, &chunk) == SQUALL_NOT_OPEN);
+    chunk.sub = 1;
+    CHECK(squall_part_load(part, &chunk) == SQUALL_NOT_OPEN);
+    drop_part(part);
+    CHECK(blocks == 0);
+}
+
+static bool serves(const squall_part *part, uint32_t after, uint32_t reply, uint32_t named, uint32_t number) {
+    squall_answer answer = NO_ANSWER;
+    return squall_part_serve(part, key(2), after, &answer) == SQUALL_OK && is_answer(answer, reply, named, number);
+}
+
+/* The partition hears of the way back, course 2, and that its sub-plan 0 is opened. */
+static void hear_way_back(squall_part *part) {
+    squall_course *course = (squall_course *)room_of(squall_course_size());
+    uint8_t frame[512];
+    squall_course_open(2, bytes_of(NEW), strlen(NEW), bytes_of(OLD), strlen(OLD), course);
+    size_t len = squall_course_frame(course, frame, sizeof frame);
+    squall_course_close(course);
+    free(course);
+    CHECK(squall_part_hear(part, frame, len) == SQUALL_OK);
+    len = squall_frame_opened(2, 0, frame, sizeof frame);
+    CHECK(squall_part_hear(part, frame, len) == SQUALL_OK);
+}
+
+/* Of a number that it has not heard of, a partition knows nothing. */
+static void a_later_number_is_awaited(void) {
+    squall_part *part = open_part(1);
+    squall_chunk chunk;
+    CHECK(serves(part, 0, SQUALL_HELD, 0, 0));
+    CHECK(squall_part_give_at(part, key(2), &chunk) == SQUALL_OK);
+    CHECK(is_chunk(chunk, chunk_of(key(2), key(2) + 1)));
+    CHECK(serves(part, 0, SQUALL_MOVED, 3, 1) && serves(part, 2, SQUALL_BEHIND, 0, 0));
+    hear_way_back(part);
+    CHECK(serves(part, 2, SQUALL_PENDING, 3, 0));
+    drop_part(part);
+    CHECK(blocks == 0);
+}
+
+/* Keys come and go back, and a repeat brings nothing back. */
+static void keys_go_back(void) {
+    squall_part *part = open_part(3);
+    squall_chunk chunk = chunk_of(key(2), key(3));
+    squall_chunk first = chunk_of(key(2), key(2) + 1);
+    const squall_chunk back = {key(2), key(2) + 1, 2, 0, 3, 1};
+    squall_chunk given;
+    squall_span spans[3];
+    CHECK(squall_part_load(part, &chunk) == SQUALL_OK && squall_part_finish(part, 0) == SQUALL_OK);
+    hear_way_back(part);
+    CHECK(squall_part_give(part, 1, &given) == SQUALL_OK && is_chunk(given, back));
+    CHECK(serves(part, 0, SQUALL_MOVED, 1, 2));
+    CHECK(squall_part_load(part, &first) == SQUALL_LOADED_BEFORE);
+    CHECK(squall_part_held(part, 0, spans, 3) == 2);
+    CHECK(spans[0].lo == key(2) + 1 && spans[0].hi == key(3) && spans[1].lo == key(5) && spans[1].hi == key(9));
+    CHECK(squall_part_given(part, 1, 0, spans, 3) == 0);
+    CHECK(squall_part_loaded(part, 1, 0, spans, 3) == 1 && spans[0].lo == key(2) && spans[0].hi == key(3));
+    CHECK(squall_part_given(part, 2, 0, spans, 3) == 1 && spans[0].lo == key(2) && spans[0].hi == key(2) + 1);
+    CHECK(squall_part_loaded(part, 2, 0, spans, 3) == 0);
+    drop_part(part);
+    CHECK(blocks == 0);
+}
+
+/* What was not loaded before its key is to go back is not held. */
+static void keys_that_never_came(void) {
+    squall_part *part = part_of(3);
+    squall_chunk chunk = NO_CHUNK;
+    squall_span spans[2];
+    hear_way_back(part);
+    CHECK(squall_part_give_at(part, key(2), &chunk) == SQUALL_NOT_HELD);
+    CHECK(is_chunk(chunk, NO_CHUNK));
+    CHECK(squall_part_held(part, 0, spans, 2) == 1 && spans[0].lo == key(5) && spans[0].hi == key(9));
+    drop_part(part);
+    CHECK(blocks == 0);
+}
+
+/* The board of a partition that is done has its load and that it is done. */
+static void what_a_partition_tells(void) {
+    squall_part *part = open_part(3);
+    squall_router *router = router_of(1, OLD, NEW);
+    squall_chunk chunk = chunk_of(key(2), key(3));
+    uint8_t one[1024];
+    uint8_t other[1024];
+    CHECK(squall_part_load(part, &chunk) == SQUALL_OK && squall_part_finish(part, 0) == SQUALL_OK);
+    CHECK(squall_router_opened(router, 1, 0) == SQUALL_OK && squall_router_done(router, 1, 0, 3) == SQUALL_OK);
+    CHECK(squall_router_loaded(router, 1, 0, 3, key(2), key(3)) == SQUALL_OK);
+    CHECK(squall_part_gather_board(part, SQUALL_NO_LIMIT) == SQUALL_OK);
+    CHECK(squall_router_gather_board(router, SQUALL_NO_LIMIT) == SQUALL_OK);
+    size_t len = squall_part_frame(part, one, sizeof one);
+    CHECK(len != 0 && squall_router_frame(router, other, sizeof other) == len && memcmp(one, other, len) == 0);
+    CHECK(squall_part_frame(part, one, sizeof one) == 0 && squall_router_frame(router, other, sizeof other) == 0);
+    drop_router(router);
     drop_part(part);
     CHECK(blocks == 0);
 }
@@ -329,6 +466,12 @@ static uint32_t load_some(squall_part *part) {
     return squall_part_load(part, &chunk);
 }
 
+static uint32_t find_fresh(squall_part *part) {
+    squall_chunk chunk = chunk_of(key(2), key(3));
+    squall_span span;
+    return squall_part_fresh(part, &chunk, 0, &span);
+}
+
 static uint32_t finish(squall_part *part) {
     squall_chunk chunk = chunk_of(key(2), key(3));
     uint32_t status = squall_part_load(part, &chunk);
@@ -429,6 +572,7 @@ static void refused_allocations(void) {
     refuse_each(give_some);
     refuse_each(give_one);
     refuse_each(load_some);
+    refuse_each(find_fresh);
     refuse_each(finish);
     refuse_each(gather_board);
     refuse_each(gather_digest);
@@ -485,6 +629,12 @@ static const struct test TESTS[] = {
     TEST(partitions_that_are_none),
     TEST(gifts),
     TEST(loads),
+    TEST(chunks_have_new_keys),
+    TEST(chunks_have_limits),
+    TEST(a_later_number_is_awaited),
+    TEST(keys_go_back),
+    TEST(keys_that_never_came),
+    TEST(what_a_partition_tells),
     TEST(replies_for_errands),
     TEST(frames),
     TEST(frames_within_a_limit),

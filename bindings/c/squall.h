@@ -148,7 +148,7 @@ enum squall_reply {
     SQUALL_MOVED = 1,    /* it gave the key to `part` in the course `number` */
     SQUALL_PENDING = 2,  /* the key is on its way to it from `part` */
     SQUALL_BEHIND = 3,   /* it has not heard of the course by which the key was sent to it */
-    SQUALL_ELSEWHERE = 4 /* the key was never there: the old plan has it at `part` */
+    SQUALL_ELSEWHERE = 4 /* it neither has the key nor awaits it: the old plan has it at `part` */
 };
 
 /* What to do after a reply. */
@@ -665,6 +665,14 @@ uint32_t squall_part_give_at(squall_part *part, uint64_t rank, squall_chunk *out
  *   SQUALL_CLOSED         there is no partition
  * At all but SQUALL_OK nothing changed. squall_frame_loaded writes the frame of that report. Allocates. */
 uint32_t squall_part_load(squall_part *part, const squall_chunk *chunk);
+
+/* Writes the first span of the new keys of the chunk that ends above the rank `from` to `out`. New keys are
+ * neither loaded under the chunk's number nor held. Put the chunk's rows of these keys in place before
+ * squall_part_load, and no others: the partition may have changed the row of any other key since. Ask from
+ * 0 on, and then from the `hi` of each span on, until a span has no key: its lo is its hi. Answers
+ * SQUALL_OK; or as squall_part_load refuses the chunk, and also SQUALL_LIMIT if `from` is above SQUALL_TOP:
+ * then nothing is written. Allocates. */
+uint32_t squall_part_fresh(const squall_part *part, const squall_chunk *chunk, uint64_t from, squall_span *out);
 
 /* Reports that the partition has all keys that the sub-plan of its newest course brings it. A repeat
  * reports the same. Answers SQUALL_OK, SQUALL_CLOSED, or the first of these that is so: SQUALL_NOT_OPEN,

@@ -167,6 +167,7 @@ static void changes_without_a_view(void) {
     CHECK(squall_view_changes(view, none, 0, 9, &span, 1) == 1);
     CHECK(is_span(span, 0, 9));
     CHECK(squall_view_changes(view, none, 0, 9, &span, 0) == 0);
+    CHECK(squall_view_changes(view, none, 5, 5, &span, 1) == 0 && is_span(span, 0, 9));
     CHECK(squall_view_changes(view, none, SQUALL_TOP, UINT64_MAX, &span, 1) == 0);
     CHECK(squall_view_changes(none, other, 0, SQUALL_TOP, &span, 1) == 0);
     drop_view(view);

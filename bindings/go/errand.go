@@ -20,7 +20,8 @@ const (
 	ReplyPending ReplyKind = C.SQUALL_PENDING + 1
 	// ReplyBehind says that it has not heard of the course by which the key was sent to it.
 	ReplyBehind ReplyKind = C.SQUALL_BEHIND + 1
-	// ReplyElsewhere says that the key was never there: the old plan has it at the reply's partition.
+	// ReplyElsewhere says that the partition neither has the key nor awaits it: the old plan has it at the reply's
+	// partition.
 	ReplyElsewhere ReplyKind = C.SQUALL_ELSEWHERE + 1
 )
 

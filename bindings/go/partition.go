@@ -211,6 +211,28 @@ func (p *Partition) Load(chunk Chunk) (bool, error) {
 	return status == C.SQUALL_OK, errorOf(uint32(status), C.SQUALL_NO_PLACE)
 }
 
+// Fresh are the spans of the keys of the chunk that are new here, by rising key: neither loaded under its
+// number nor held. Put the chunk's rows of these keys in place before Load, and no others: the partition may
+// have changed the row of any other key since.
+//
+// Errors: those of Load.
+func (p *Partition) Fresh(chunk Chunk) ([]Span, error) {
+	var spans []Span
+	in := chunk.inC()
+	err := p.take(func(at *C.squall_part) C.uint32_t {
+		for span := (C.squall_span{}); ; spans = append(spans, spanOf(span)) {
+			status := C.squall_part_fresh(at, &in, span.hi, &span)
+			if status != C.SQUALL_OK || span.lo == span.hi {
+				return status
+			}
+		}
+	})
+	if err != nil {
+		return nil, err
+	}
+	return spans, nil
+}
+
 // Finish reports that the partition has all keys that the sub-plan of its newest course brings it: send the
 // frame of [FrameDone]. A repeat reports the same.
 //

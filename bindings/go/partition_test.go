@@ -118,8 +118,18 @@ func loadsNot(t *testing.T, partition *squall.Partition, chunk squall.Chunk, wan
 	equals(t, []any{isNew, err}, []any{false, wanted})
 }
 
+// brings checks which keys of the chunk are new.
+func brings(t *testing.T, partition *squall.Partition, chunk squall.Chunk, wanted ...squall.Span) {
+	t.Helper()
+	spans, err := partition.Fresh(chunk)
+	succeeds(t, err)
+	equals(t, spans, wanted)
+}
+
 func TestLoads(t *testing.T) {
 	partition, whole := partitionOf(t, 3), chunkOf(two, three)
+	_, err := partition.Fresh(whole)
+	equals(t, err, squall.ErrNotOpen)
 	loadsNot(t, partition, whole, squall.ErrNotOpen)
 	equals(t, partition.Finish(0), squall.ErrNotOpen)
 	succeeds(t, partition.Hear(unhex(openingFrame)))
@@ -134,9 +144,11 @@ func TestLoads(t *testing.T) {
 	} {
 		loadsNot(t, partition, none, squall.ErrLimit)
 	}
-	loads(t, partition, chunkOf(two, two+7), true)
-	loads(t, partition, chunkOf(two, two+7), false)
+	loads(t, partition, chunkOf(two+5, two+7), true)
+	loads(t, partition, chunkOf(two+5, two+7), false)
+	brings(t, partition, whole, span(two, two+5), span(two+7, three))
 	loads(t, partition, whole, true)
+	brings(t, partition, whole)
 	loads(t, partition, whole, false)
 	succeeds(t, partition.Finish(0))
 	succeeds(t, partition.Finish(0))

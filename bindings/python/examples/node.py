@@ -1,4 +1,4 @@
-"""Two partitions of one process, as `bindings/c/examples/node.c` has them.
+"""Two partitions of one process. `bindings/c/examples/node` has processes with logs on disk.
 
 Partition 1 gives the keys of root 2 in chunks, partition 3 loads them, and a client asks for a key
 before, while and after it moves. Partition 3 keeps a list of its calls. At the end it is closed, as

@@ -253,6 +253,8 @@ part_give = _slow("part_give", _U32, _PART, _U64, _CHUNK)
 part_give_at: Callable[[PartRoom, int, ChunkRecord], int]
 part_give_at = _slow("part_give_at", _U32, _PART, _U64, _CHUNK)
 part_load: Callable[[PartRoom, ChunkRecord], int] = _slow("part_load", _U32, _PART, _CHUNK)
+part_fresh: Callable[[PartRoom, ChunkRecord, int, SpanRecord], int]
+part_fresh = _slow("part_fresh", _U32, _PART, _CHUNK, _U64, _SPANS)
 part_finish: Callable[[PartRoom, int], int] = _slow("part_finish", _U32, _PART, _U32)
 part_serve: Callable[[PartRoom, int, int, AnswerRecord], int]
 part_serve = _quick("part_serve", _U32, _PART, _U64, _U32, _ANSWER)

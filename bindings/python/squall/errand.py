@@ -25,7 +25,7 @@ class Reply(enum.IntEnum):
     PENDING = 2
     #: It has not heard of the course by which the key was sent to it.
     BEHIND = 3
-    #: The key was never there: the old plan has it at `part`.
+    #: It neither has the key nor awaits it: the old plan has it at `part`.
     ELSEWHERE = 4
 
 

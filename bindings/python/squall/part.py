@@ -144,13 +144,22 @@ class Part(Hears):
         course is not known, or does not bring these keys so. Raises `NumberError` if there is no
         such chunk, `NoMemory` and `ClosedError`.
         """
-        lo, hi, number, sub, source, dest = chunk
-        words = word(number), word(sub), word(source), word(dest)
-        status = self._ask(lib.part_load, ChunkRecord(rank(lo), rank(hi), *words))
+        status = self._ask(lib.part_load, _record(chunk))
         if status == _LOADED_BEFORE:
             return False
         check(status)
         return True
+
+    def fresh(self, chunk: Chunk) -> List[Span]:
+        """The spans of the keys of the chunk that are new here, by rising key.
+
+        They are neither loaded under its number nor held. Put the chunk's rows of these keys in
+        place before `load`, and no others: the partition may have changed the row of any other key
+        since.
+
+        Raises what `load` raises.
+        """
+        return _spans_of(self._ask(_fresh_records, _record(chunk)))
 
     def finish(self, sub: int) -> None:
         """Reports that it has all keys that the sub-plan of its newest course brings it.
@@ -196,9 +205,31 @@ class Part(Hears):
         return self._spans(lib.part_loaded, word(number))
 
     def _spans(self, call: Callable[..., int], *words: int) -> List[Span]:
-        new = int.__new__
-        records = self._ask(_records, call, *words)
-        return [Span(new(Rank, it.lo), new(Rank, it.hi)) for it in records]
+        return _spans_of(self._ask(_records, call, *words))
+
+
+def _spans_of(records: List[SpanRecord]) -> List[Span]:
+    new = int.__new__
+    return [Span(new(Rank, it.lo), new(Rank, it.hi)) for it in records]
+
+
+def _record(chunk: Chunk) -> ChunkRecord:
+    lo, hi, number, sub, source, dest = chunk
+    words = word(number), word(sub), word(source), word(dest)
+    return ChunkRecord(rank(lo), rank(hi), *words)
+
+
+def _fresh_records(room: PartRoom, chunk: ChunkRecord) -> List[SpanRecord]:
+    # All in one call, as in `_records`.
+    records: List[SpanRecord] = []
+    first = 0
+    while True:
+        found = SpanRecord()
+        check(lib.part_fresh(room, chunk, first, found))
+        if found.lo == found.hi:
+            return records
+        records.append(found)
+        first = found.hi
 
 
 def _records(room: PartRoom, call: Callable[..., int], *words: int) -> List[SpanRecord]:

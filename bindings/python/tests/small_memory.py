@@ -10,7 +10,7 @@ from array import array
 from functools import partial
 from typing import Any, Callable, List
 
-from squall import Chunk, Course, Leader, NoMemory, Part, Router
+from squall import Chunk, Course, FrameError, Leader, NoMemory, Part, Router
 from squall import _library as lib
 from squall import frame
 
@@ -20,6 +20,7 @@ _heap: Any = lib._short
 BLOCKS = ctypes.c_long.in_dll(_heap, "test_blocks")
 ASKED = ctypes.c_long.in_dll(_heap, "test_asked")
 REFUSED = ctypes.c_long.in_dll(_heap, "test_refused")
+LARGEST = ctypes.c_size_t.in_dll(_heap, "test_largest")
 
 CALLS: List[Callable[[Router], object]] = [
     lambda it: it.loaded(1, 0, 3, key(2), key(3)),
@@ -38,6 +39,7 @@ CALLS: List[Callable[[Router], object]] = [
 PART_CALLS: List[Callable[[Part], object]] = [
     lambda it: it.give(7),
     lambda it: it.give_at(key(7)),
+    lambda it: it.fresh(Chunk(key(2), key(3), 1, 0, 1, 3)),
     lambda it: it.load(Chunk(key(2), key(3), 1, 0, 1, 3)),
     lambda it: it.feed(LOAD_FRAME),
     lambda it: it.feed(bytearray(LOAD_FRAME)),
@@ -274,6 +276,20 @@ class SmallMemory(unittest.TestCase):
             router.board()
             del router, handles
             self.assertEqual(BLOCKS.value, 0)
+
+    def test_counts_that_no_bytes_follow(self) -> None:
+        """A frame that says of a list that it is the longest takes no memory for it."""
+        busy_digest = busy().digest()
+        for whole in [LOAD_FRAME, OPENING_FRAME, Course(2, OLD, NEW).frame(), busy_digest]:
+            router, refused = fresh(), 0
+            for at in range(8, len(whole) - 3):
+                LARGEST.value = 0
+                try:
+                    router.hear(whole[:at] + b"\xff" * 4 + whole[at + 4 :])
+                except FrameError:
+                    refused += 1
+                self.assertLess(LARGEST.value, 65536, at)
+            self.assertGreater(refused, 4)
 
 
 if __name__ == "__main__":

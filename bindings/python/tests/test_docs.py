@@ -110,8 +110,7 @@ class Documentation(unittest.TestCase):
         self.assertEqual(self.proxy(lines), wanted)
         self.assertEqual(self.proxy("keys\nkey 2\nframe 5\n"), "no such line\nno key\ntaken\n")
 
-    @unittest.skipUnless(C_EXAMPLES.is_dir(), "examples/ is not here")
-    def test_the_node_prints_what_that_in_c_prints(self) -> None:
+    def test_the_node_prints_its_lines(self) -> None:
         printed = subprocess.run(
             [sys.executable, "-B", PYTHON / "examples/node.py"],
             env={**os.environ, "PYTHONPATH": str(Path(squall.__file__).parent.parent)},
@@ -119,7 +118,7 @@ class Documentation(unittest.TestCase):
             universal_newlines=True,
             check=True,
         ).stdout
-        self.assertEqual(printed, (C_EXAMPLES / "node.out").read_text("utf-8"))
+        self.assertEqual(printed, (PYTHON / "examples/node.out").read_text("utf-8"))
 
     @unittest.skipUnless(PLANS.is_dir(), "examples/ is not here")
     def test_the_proxy_answers_as_the_page_shows(self) -> None:

@@ -81,6 +81,7 @@ ERRAND_CALLS: Dict[str, Callable[[Errand], object]] = {
 PART_CALLS: Dict[str, Callable[[Part], object]] = {
     "give": lambda it: it.give(1),
     "give_at": lambda it: it.give_at(key(7)),
+    "fresh": lambda it: it.fresh(Chunk(key(2), key(3), 1, 0, 1, 3)),
     "load": lambda it: it.load(Chunk(key(2), key(3), 1, 0, 1, 3)),
     "finish": lambda it: it.finish(0),
     "serve": lambda it: it.serve(0),

@@ -37,7 +37,7 @@ class Memory(unittest.TestCase):
                 check=False,
             )
         self.assertEqual(ran.returncode, 0, ran.stdout)
-        self.assertRegex(ran.stdout, re.compile(r"^Ran 7 tests .*^OK$", re.MULTILINE | re.DOTALL))
+        self.assertRegex(ran.stdout, re.compile(r"^Ran 8 tests .*^OK$", re.MULTILINE | re.DOTALL))
 
 
 if __name__ == "__main__":

@@ -76,7 +76,9 @@ class Keys(unittest.TestCase):
         self.assertIs(part.load(late), False)
         self.assertEqual(part.held(), [(Rank(2, 8), key(3)), (key(5), key(9))])
         # Some of its keys are new.
+        self.assertEqual(part.fresh(CHUNK), [(key(2), Rank(2, 8))])
         self.assertIs(part.load(CHUNK), True)
+        self.assertEqual(part.fresh(CHUNK), [])
         self.assertIs(part.load(CHUNK._replace(hi=Rank(2, 3))), False)
         self.assertEqual(part.loaded(1), [(key(2), key(3))])
         self.assertEqual(part.loaded(2), [])

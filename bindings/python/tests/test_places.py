@@ -1,5 +1,6 @@
 """Where keys stand: of one key, and of many in one call."""
 
+import ctypes
 import unittest
 from array import array
 from typing import Any, List, Optional
@@ -92,6 +93,11 @@ class ManyKeys(unittest.TestCase):
         self.assertEqual(self.view.locate(array("L", KEYS[3:])), PLACES[3:])
         packed = memoryview(b"x" + array("Q", KEYS).tobytes())[1:].cast("Q")
         self.assertEqual(self.view.locate(packed[1:3]), PLACES[1:3])
+        of_ctypes = (ctypes.c_uint64 * len(KEYS))(*KEYS)
+        self.assertEqual(self.view.locate(of_ctypes), PLACES)
+        room = (ctypes.c_uint32 * len(NUMBERS))()
+        self.assertEqual(self.view.locate_into(of_ctypes, room), len(KEYS))
+        self.assertEqual(list(room), NUMBERS)
 
     def test_places_are_those_of_single_keys(self) -> None:
         view = Router(1, wide_plan(4096, 0), wide_plan(4096, 1)).view()

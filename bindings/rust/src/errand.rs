@@ -23,7 +23,7 @@ pub enum Reply {
     },
     /// It has not heard of the course by which the key was sent to it.
     Behind,
-    /// The key was never there: the old plan has it at `dest`.
+    /// The partition neither has the key nor awaits it: the old plan has it at `dest`.
     Elsewhere {
         /// The key's partition in the old plan.
         dest: u32,

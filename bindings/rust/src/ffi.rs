@@ -269,6 +269,12 @@ unsafe extern "C" {
     pub(crate) fn squall_part_give(part: *mut RawPart, max: u64, out: *mut Chunk) -> u32;
     pub(crate) fn squall_part_give_at(part: *mut RawPart, rank: u64, out: *mut Chunk) -> u32;
     pub(crate) fn squall_part_load(part: *mut RawPart, chunk: *const Chunk) -> u32;
+    pub(crate) fn squall_part_fresh(
+        part: *const RawPart,
+        chunk: *const Chunk,
+        from: u64,
+        out: *mut Span,
+    ) -> u32;
     pub(crate) fn squall_part_finish(part: *mut RawPart, sub: u32) -> u32;
     pub(crate) fn squall_part_serve(
         part: *const RawPart,

@@ -181,6 +181,28 @@ impl Part {
         }
     }
 
+    /// The spans of the keys of the chunk that are new here, by rising key: neither loaded under its
+    /// number nor held. Put the chunk's rows of these keys in place before [`load`](Self::load), and no
+    /// others: the partition may have changed the row of any other key since.
+    ///
+    /// # Errors
+    ///
+    /// As [`load`](Self::load) refuses the chunk.
+    pub fn fresh(&self, chunk: &Chunk) -> Result<Vec<Span>, Error> {
+        let mut spans = Vec::new();
+        let mut from = 0;
+        loop {
+            let mut span = NO_SPAN;
+            // SAFETY: the partition was opened, the chunk is readable, and the place is writable.
+            check(unsafe { ffi::squall_part_fresh(self.room.get(), chunk, from, &mut span) })?;
+            if span.lo == span.hi {
+                return Ok(spans);
+            }
+            from = span.hi.0;
+            spans.push(span);
+        }
+    }
+
     /// Reports that the partition has all keys that the sub-plan of its newest course brings it.
     /// [`frame::done`](crate::frame::done) makes the frame of that. A repeat reports the same.
     ///

@@ -80,6 +80,10 @@ fn loads() -> Result<(), Error> {
     let mut part = fresh(3);
     let all = chunk(key(2), key(3));
     assert_eq!(part.load(&all), no(PartFault::NotOpen));
+    assert_eq!(
+        part.fresh(&all).unwrap_err(),
+        Error::Part(PartFault::NotOpen)
+    );
     assert_eq!(part.finish(0), no(PartFault::NotOpen));
     part.hear(&frame::opened(1, 0)?)?;
     assert_eq!(part.finish(0), no(PartFault::NotAll));
@@ -89,9 +93,15 @@ fn loads() -> Result<(), Error> {
     );
     assert_eq!(part.load(&Chunk { number: 0, ..all }), Err(Error::Limit));
     assert_eq!(part.load(&Chunk { hi: all.lo, ..all }), Err(Error::Limit));
-    assert_eq!(part.load(&chunk(key(2), Rank::new(2, 5)))?, Loaded::Now);
+    assert_eq!(
+        part.load(&chunk(Rank::new(2, 5), Rank::new(2, 9)))?,
+        Loaded::Now
+    );
+    let apart = [span(key(2), Rank::new(2, 5)), span(Rank::new(2, 9), key(3))];
+    assert_eq!(part.fresh(&all)?, apart);
     assert_eq!(part.load(&all)?, Loaded::Now);
     assert_eq!(part.load(&all)?, Loaded::Before);
+    assert_eq!(part.fresh(&all)?, []);
     part.finish(0)?;
     part.finish(0)?;
     assert_eq!(part.held(), [span(key(2), key(3)), span(key(5), key(9))]);
