@@ -1,8 +1,10 @@
 //! Words of the command line: `--name value`, and flags.
 
+use crate::config;
 use crate::conn::Server;
 use crate::fault::{note, say, Done, Fault, Trying};
 use crate::keep_alive::KeepAlive;
+use crate::log;
 use crate::secret;
 use crate::tls::Peer;
 use std::collections::BTreeMap;
@@ -23,40 +25,71 @@ pub struct Usage {
     pub flags: &'static [&'static str],
 }
 
-/// The words of one run.
-pub struct Args(Vec<(String, String)>);
+/// The words of one run, and what its file of options adds to them.
+#[derive(Clone)]
+pub struct Args {
+    pairs: Vec<(String, String)>,
+    words: Vec<String>,
+}
+
+/// The option that names a file of options.
+pub const CONFIG: &str = "config";
 
 impl Args {
     /// The words, if each name is known and has a value exactly if it needs one.
     pub fn parse(words: &[String], usage: &Usage) -> Done<Args> {
         let mut pairs = Vec::new();
-        let mut words = words.iter();
-        while let Some(word) = words.next() {
+        let mut left = words.iter();
+        while let Some(word) = left.next() {
             let Some(name) = word.strip_prefix("--") else {
                 return Err(Fault::of_words(format!("{word} is no option")));
             };
             let value = if usage.flags.contains(&name) {
                 String::new()
             } else if usage.options.contains(&name) {
-                let value = words.next();
+                let value = left.next();
                 value.ok_or_else(|| Fault::of_words(format!("--{name} needs a value")))?.clone()
             } else {
                 return Err(Fault::of_words(format!("--{name} is not known")));
             };
             pairs.push((name.to_string(), value));
         }
-        Ok(Args(pairs))
+        let mut args = Args { pairs, words: words.to_vec() };
+        args.add_file(usage)?;
+        Ok(args)
+    }
+
+    /// The same words, with what their file of options says now.
+    ///
+    /// # Errors
+    ///
+    /// The file can't be read, or has another form.
+    pub fn again(&self, usage: &Usage) -> Done<Args> {
+        Args::parse(&self.words, usage)
+    }
+
+    /// Adds the options of the file, but for those that the words have.
+    fn add_file(&mut self, usage: &Usage) -> Done<()> {
+        let Some(path) = self.get(CONFIG) else {
+            return Ok(());
+        };
+        let text = fs::read_to_string(path).trying(|| format!("--config {path}"))?;
+        let read = config::read(&text, usage);
+        let mut all = read.map_err(|why| Fault::of_words(format!("--config {path}: {why}")))?;
+        all.retain(|(name, _)| !self.has(name));
+        self.pairs.append(&mut all);
+        Ok(())
     }
 
     /// The value that was given last.
     pub fn get(&self, name: &str) -> Option<&str> {
-        let given = self.0.iter().rev().find(|(other, _)| other == name);
+        let given = self.pairs.iter().rev().find(|(other, _)| other == name);
         given.map(|(_, value)| value.as_str())
     }
 
     /// Each value that was given, in order.
     pub fn all<'a>(&'a self, name: &'a str) -> impl Iterator<Item = &'a str> {
-        let given = self.0.iter().filter(move |(other, _)| other == name);
+        let given = self.pairs.iter().filter(move |(other, _)| other == name);
         given.map(|(_, value)| value.as_str())
     }
 
@@ -159,6 +192,7 @@ fn preferred(found: &[SocketAddr]) -> Option<SocketAddr> {
 
 /// Runs a program: 0 if it is done, 1 if not, 2 if its words are wrong.
 pub fn run(usage: &Usage, program: impl FnOnce(&Args) -> Done<()>) -> ExitCode {
+    log::begin(usage.name);
     let words: Result<Vec<String>, OsString> =
         std::env::args_os().skip(1).map(OsString::into_string).collect();
     let has = |names: &[&str]| words.iter().flatten().any(|word| names.contains(&word.as_str()));
@@ -168,7 +202,11 @@ pub fn run(usage: &Usage, program: impl FnOnce(&Args) -> Done<()>) -> ExitCode {
         say(format!("{} {} (squall {})", usage.name, env!("CARGO_PKG_VERSION"), squall::version()))
     } else {
         let other = |word: OsString| Fault::of_words(format!("{} is not UTF-8", word.to_string_lossy()));
-        words.map_err(other).and_then(|words| program(&Args::parse(&words, usage)?))
+        words.map_err(other).and_then(|words| {
+            let args = Args::parse(&words, usage)?;
+            log::set_form(&args)?;
+            program(&args)
+        })
     };
     match done {
         Ok(()) => ExitCode::SUCCESS,
@@ -177,7 +215,7 @@ pub fn run(usage: &Usage, program: impl FnOnce(&Args) -> Done<()>) -> ExitCode {
             ExitCode::from(2)
         }
         Err(fault) => {
-            note(format!("{}: {fault}", usage.name));
+            log::fail(fault);
             ExitCode::FAILURE
         }
     }

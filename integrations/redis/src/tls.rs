@@ -12,6 +12,7 @@ use std::error::Error;
 use std::io::{self, Read, Write};
 use std::net::IpAddr;
 use std::ops::DerefMut;
+use std::sync::{Arc, Mutex, MutexGuard, PoisonError};
 
 /// The options by which a program connects to servers by TLS, and those of its flags.
 pub const OPTIONS: [&str; 3] = ["tls-ca", "tls-own-cert", "tls-own-key"];
@@ -20,7 +21,7 @@ pub const FLAGS: [&str; 2] = ["tls-partitions", "tls-bus"];
 /// How to connect to one server by TLS.
 #[derive(Clone)]
 pub struct Peer {
-    connector: SslConnector,
+    connector: Arc<Mutex<SslConnector>>,
     /// The name or address that its certificate has to have.
     host: String,
 }
@@ -51,18 +52,32 @@ impl Peer {
             return Err(Fault::new(format!("{addr}: no name that a certificate could have")));
         }
         let connector = connector(args).map(SslConnectorBuilder::build)?;
-        Ok(Peer { connector, host })
+        Ok(Peer { connector: Arc::new(Mutex::new(connector)), host })
+    }
+
+    fn lock(&self) -> MutexGuard<'_, SslConnector> {
+        self.connector.lock().unwrap_or_else(PoisonError::into_inner)
+    }
+
+    /// Reads all files again. New connections take what they say.
+    ///
+    /// # Errors
+    ///
+    /// A file of certificates or keys can't be read. Then all stays as it is.
+    pub fn renew(&self, args: &Args) -> Done<()> {
+        *self.lock() = connector(args)?.build();
+        Ok(())
     }
 
     /// Whether it is shown a certificate, if it asks for one.
     pub fn has_own(&self) -> bool {
-        self.connector.context().certificate().is_some()
+        self.lock().context().certificate().is_some()
     }
 
     /// The session of a connection to it, before its handshake.
     fn session(&self) -> Done<Ssl> {
         let is_name = self.host.parse::<IpAddr>().is_err();
-        let config = self.connector.configure().and_then(|mut config| {
+        let config = self.lock().configure().and_then(|mut config| {
             config.set_use_server_name_indication(is_name);
             config.into_ssl(&self.host)
         });

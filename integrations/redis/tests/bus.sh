@@ -41,7 +41,7 @@ is_unmoved() {
   kill -TERM "$id"
   wait "$id"
   move 2 old new && agrees 3 2 450:7 && [ "$(redis-cli -p "${proxies[0]}" get 450:7)" = "${proxies[1]}" ] || return
-  grep -q "^bus: an entry is passed over" "$run"/proxy.*
+  grep -q " bus: an entry is passed over" "$run"/proxy.*
 }
 
 fill_roots() {
@@ -275,11 +275,11 @@ test_ready() {
   # shellcheck disable=SC2086
   run_redis "${servers[1]}" $redis_words && await shows ready "^partition 2 refuses course 1: WRONGPASS" || return
   redis-cli -p "$port" set 900:0 x > "$run/asked" &
-  sleep 2
+  sleep 1.5
   before=$(logins)
-  sleep 3
+  sleep 2
   before=$(($(logins) - before))
-  [ "$before" -le 12 ] || { echo "$before log-ins in 3 s"; return 1; }
+  [ "$before" -le 8 ] || { echo "$before log-ins in 2 s"; return 1; }
   "$bin/squall-redis-mover" --init --first "$run/old.json" --secret-file "$secret" "${parts[@]}" || return
   await shows ready "^ready$" && await is_said OK "$run/asked" && shows "" "partition 2</th><td>up"
 }

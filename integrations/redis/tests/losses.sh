@@ -277,7 +277,7 @@ test_supervise() {
   restart 3 rm -rf "$run/${servers[2]}/appendonlydir" "$run/${servers[2]}/dump.rdb" || return
   await is_said_of 3 "not let in: it is in no course, and course 2 had begun" || return
   # It goes on to look.
-  sleep 2.5
+  sleep 1.5
   is_shut "${servers[2]}" || return
   [ "$(grep -c 'course 2 had begun' "$run/supervisor")" -eq 1 ] || return
   # One that has lost its keys and still has its users: these are shut out.

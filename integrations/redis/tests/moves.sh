@@ -50,7 +50,11 @@ xadd x1 * a b
 xgroup create x2 g 0 mkstream
 pfadd p1 a
 pfmerge p2 p1
+sort l1 alpha store l4
+georadius g1 1 1 10 km store g3
+georadiusbymember g1 a 10 km storedist g4
 E2
+  redis-cli --no-raw -p "$port" dump s1 | sed 's/^/restore s17 0 /' | redis-cli -p "$port" >> "$run/answers"
   redis-cli -p "$port" --scan | sort > "$run/keys"
   local missing
   await has_news && [ "$(wc -l < "$run/keys")" -gt 30 ] && return
@@ -409,7 +413,7 @@ test_node_ends_in_order() {
   start_node --bus "127.0.0.1:$bus" --board board --every 3
   node=$id
   await [ -e "$run/board" ] && await ln -s /dev/full "$run/board.new" && cp "$run/board" "$run/before" || return
-  redis-cli -p "${proxies[0]}" set 400:0 x && move 2 old new && await is_said 'No space left' "$run/node" && sleep 2.5 || return
+  redis-cli -p "${proxies[0]}" set 400:0 x && move 2 old new && await is_said 'No space left' "$run/node" && sleep 1.5 || return
   cmp "$run/board" "$run/before" || return
   cat "$run/node"
   [ "$(grep -c 'No space left' "$run/node")" -eq 1 ] || return

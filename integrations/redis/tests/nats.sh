@@ -58,8 +58,8 @@ test_over_nats() {
   stop "${hosts[1]}"
   move 4 old new || return
   end_load && has_moved && agrees 3 4 || return
-  grep -h "^bus: " "$run"/proxy.* | sort | uniq -c
-  grep -q "^bus: 127.0.0.1" "$run"/proxy.* || { echo "no proxy has missed a server"; return 1; }
+  grep -oh "bus: .*" "$run"/proxy.* | sort | uniq -c
+  grep -q " bus: 127.0.0.1" "$run"/proxy.* || { echo "no proxy has missed a server"; return 1; }
   await is_said "^key 400:0 partition 3 course 4" "$run/follow" && kill "$follower" && return
   cat "$run/follow"
   return 1
@@ -83,4 +83,21 @@ test_over_nats_with_losses() {
   end_load && has_moved && agrees 3 4 || return
   mover_words=()
   refused "bus-password-file is missing" 2 old new
+}
+
+# The one server of the bus is away when a mover starts, for longer than a message waits for it. The mover begins again by
+# itself, and ends once the server is there.
+test_nats_away_at_the_start() {
+  local nats id server moving settle=10000
+  command -v nats-server > /dev/null || { echo "no nats-server here"; return 1; }
+  start_one_nats && server=$id && deploy && fill_roots || return
+  kill -KILL "$server"
+  wait "$server" 2> /dev/null
+  start_move 2 old new
+  moving=$id
+  await is_said "no server of the bus is connected; this is tried again" "$run/mover" || { cat "$run/mover"; return 1; }
+  ! has_ended "$moving" || { echo "the mover had ended too soon"; return 1; }
+  launch "$run" nats.again nats-server -a 127.0.0.1 -p "${nats##*:}"
+  wait "$moving" || { cat "$run/mover"; return 1; }
+  agrees 3 2 450:0
 }

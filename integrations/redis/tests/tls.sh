@@ -61,7 +61,7 @@ test_tls_refusals() {
   refused "certificate is refused: hostname mismatch" 2 old new || return
   # Partitions ask for certificates, as Redis does if nothing else is set.
   mover_words=(--tls-partitions --tls-bus --tls-ca "$certs/ca.pem")
-  refused "TLS: [a-z0-9]* alert certificate required\|reset by peer\|has closed\|Broken pipe\|unexpected EOF" 2 old new --patience 2 || return
+  refused "[a-z0-9]* alert certificate required\|reset by peer\|has closed\|Broken pipe\|unexpected EOF" 2 old new --patience 2 || return
   # A proxy that trusts another authority says so, and asks for no key there.
   local patience=300
   limits=(--tls-partitions --tls-bus --tls-ca "$certs/foreign.pem")
@@ -71,7 +71,40 @@ test_tls_refusals() {
   # Clients that have to show a certificate.
   limits=("${others[@]}" --tls-cert "$certs/server.pem" --tls-key "$certs/server.key" --tls-client-ca "$certs/ca.pem")
   run_proxy 0 env || return
-  redis-cli "${secure[@]}" -p "$port" set 1:1 x | grep OK && ! redis-cli --tls --cacert "$certs/ca.pem" -p "$port" get 1:1
+  redis-cli "${secure[@]}" -p "$port" set 1:1 x | grep OK && ! redis-cli --tls --cacert "$certs/ca.pem" -p "$port" get 1:1 || return
+  mover_words=("${others[@]}")
+  reads_again
+}
+
+# A proxy that goes on has new certificates and one more partition, and its words win over its file.
+reads_again() {
+  local at id own
+  cp "$certs"/foreign.{key,pem} "$run" || return
+  for at in server own; do certify "$at" foreign subjectAltName=IP:127.0.0.1 || return; done
+  redis-cli "${secure[@]}" -p "${proxies[0]}" set 400:0 x && move 2 old new || return
+  free_port
+  at=$port
+  printf '%s\n' "first = 'old.json'  # of course 1" "bus = \"$bus_at\"" "secret-file = '$secret'" "wait = 0_600" "log = 'text'" \
+    "tls-cert = 'server.pem'" "tls-key = 'server.key'" "tls-own-cert = 'own.pem'" "tls-own-key = 'own.key'" "tls-ca = '$certs/ca.pem'" \
+    "tls-bus = true" "tls-partitions = true" '[part]' "1 = '127.0.0.1:${servers[0]}'" "2 = '127.0.0.1:${servers[1]}'" > "$run/proxy.toml"
+  launch "$run" again "$bin/squall-redis-proxy" --config proxy.toml --listen "127.0.0.1:$at" --log json --threads 2
+  # Neither partitions nor the bus let it in.
+  own=(redis-cli --tls --cacert "$run/foreign.pem" -p "$at")
+  await says_again "serves at 127.0.0.1:$at" && "${own[@]}" get 400:0 | grep "^TRYAGAIN partition 1 can't be reached" || return
+  echo "3 = '127.0.0.1:${servers[2]}'" >> "$run/proxy.toml"
+  cp "$certs/server.pem" "$run/server.pem" && kill -HUP "$id" && await says_again "stays as it is" && "${own[@]}" ping | grep -x PONG || return
+  cp "$certs"/{server,own}.{key,pem} "$run" && kill -HUP "$id" && await says_again "3 partitions were read again" || return
+  await gets_again && ! "${own[@]}" ping && redis-cli "${secure[@]}" -p "$at" squall info | grep ' frames_taken [1-9]' || return
+  sed -i '1i port = 1' "$run/proxy.toml"
+  ! env -C "$run" "$bin/squall-redis-proxy" --config proxy.toml 2> "$run/refused" && grep 'proxy.toml: line 1: `port` is not known' "$run/refused"
+}
+
+gets_again() {
+  redis-cli "${secure[@]}" -p "$at" get 400:0 | grep -x x
+}
+
+says_again() {
+  is_said "^{.*$1" "$run/again"
 }
 
 # Starts a NATS server on a free port, into `port`, with a log of all that it hears in $log. The words are the server's.

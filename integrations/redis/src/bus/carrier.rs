@@ -68,6 +68,18 @@ impl Carrier {
         }
     }
 
+    /// Reads the files of certificates again.
+    ///
+    /// # Errors
+    ///
+    /// One of them can't be read.
+    pub fn renew(&self, args: &Args) -> Done<()> {
+        match self {
+            Carrier::Redis(redis) => redis.server.tls.iter().try_for_each(|peer| peer.renew(args)),
+            Carrier::Nats(nats) => nats.renew(args),
+        }
+    }
+
     /// The most bytes that a frame may have.
     pub fn most(&self) -> usize {
         match self {

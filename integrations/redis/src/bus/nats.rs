@@ -11,8 +11,9 @@ use super::nats_wire::{Wire, PATIENCE};
 use super::seal::{About, Seal, HEAD};
 use crate::args::Args;
 use crate::dice::Dice;
-use crate::fault::{note, Done, Fault, Trying};
+use crate::fault::{Done, Fault, Trying};
 use crate::keep_alive::KeepAlive;
+use crate::log;
 use crate::tls::Peer;
 use std::sync::atomic::{AtomicUsize, Ordering::Relaxed};
 use std::sync::{Arc, Condvar, Mutex, MutexGuard, PoisonError};
@@ -99,6 +100,11 @@ impl Nats {
         self.link.lock().unwrap_or_else(PoisonError::into_inner)
     }
 
+    /// Reads the files of certificates again.
+    pub fn renew(&self, args: &Args) -> Done<()> {
+        self.servers.iter().try_for_each(|server| server.peer.renew(args))
+    }
+
     /// The most bytes that a frame may have: what the server takes, or until there is one what each takes.
     pub fn most(&self) -> usize {
         let link = self.lock();
@@ -151,7 +157,7 @@ impl Nats {
             let envelope = self.seal.envelope(about, frame);
             if envelope.len() > most {
                 let len = envelope.len();
-                note(format!("bus: a message of {len} bytes is not sent: the server takes {most}"));
+                log::warn(format!("bus: a message of {len} bytes is not sent: the server takes {most}"));
             } else {
                 message(&mut bytes, about.place, about.re, &envelope);
             }
@@ -179,11 +185,11 @@ impl Nats {
         }
     }
 
-    /// The connection, which is waited for, and the most bytes of a message.
+    /// The connection, which is waited for, and the most bytes of a message. Without one it may be there again later.
     fn link(&self) -> Done<(Arc<Wire>, usize)> {
         let waited = self.up.wait_timeout_while(self.lock(), PATIENCE, |link| link.wire.is_none());
         let link = waited.unwrap_or_else(PoisonError::into_inner).0;
-        let wire = link.wire.clone().ok_or_else(|| Fault::new("no server of the bus is connected"))?;
+        let wire = link.wire.clone().ok_or_else(|| Fault::lost("no server of the bus is connected"))?;
         Ok((wire, link.most))
     }
 }

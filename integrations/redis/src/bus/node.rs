@@ -8,7 +8,8 @@ use super::peers::Peers;
 use crate::args::Args;
 use crate::course::{Plan, Progress};
 use crate::dice::Dice;
-use crate::fault::{note, Done};
+use crate::fault::Done;
+use crate::log;
 use crate::{faults, stop};
 use squall::{Course, Error, Router, View};
 use std::sync::atomic::{AtomicBool, AtomicU64, Ordering::Relaxed, Ordering::SeqCst};
@@ -124,7 +125,7 @@ impl Node {
                 node.counts.faults.fetch_add(1, Relaxed);
                 let fault = fault.to_string();
                 if fault != last {
-                    note(format!("bus: {fault}"));
+                    log::warn(format!("bus: {fault}"));
                     last = fault;
                 }
                 thread::sleep(Duration::from_millis(200));
@@ -136,6 +137,11 @@ impl Node {
     /// Calls the function after each change of the view, in a thread of the node.
     pub fn on_news(&self, waker: impl Fn() + Send + 'static) {
         lock(&self.wakers).push(Box::new(waker));
+    }
+
+    /// Reads the files of certificates again.
+    pub fn renew(&self, args: &Args) -> Done<()> {
+        self.carrier.renew(args)
     }
 
     /// Its name on the bus.
@@ -218,7 +224,7 @@ impl Node {
             match self.carrier.write(&self.name, frames, None) {
                 Err(fault) if self.may_pass() && began.elapsed() < BORNE => {
                     if !is_said {
-                        note(format!("bus: {fault}; this is tried again for {} s", BORNE.as_secs()));
+                        log::warn(format!("bus: {fault}; this is tried again for {} s", BORNE.as_secs()));
                     }
                     is_said = true;
                     stop::sleep(AGAIN);
@@ -316,7 +322,7 @@ impl Node {
     /// Counts entries that were passed over, and says once that there are some.
     fn pass_over(&self, foreign: u64) {
         if foreign > 0 && self.counts.foreign.fetch_add(foreign, Relaxed) == 0 {
-            note(
+            log::warn(
                 "bus: an entry is passed over that no program with this --secret-file has written; \
                  SQUALL INFO and /metrics count all of them (entries_foreign)",
             );

@@ -1,12 +1,15 @@
 //! Lets routers in again at partitions whose servers were restarted and have lost nothing.
 
+use super::numbers::Numbers;
 use crate::args::Args;
 use crate::conn::Server;
-use crate::fault::{note, Done, Fault};
+use crate::fault::{Done, Fault};
+use crate::log;
 use crate::mover::partition::Partition;
 use crate::mover::survey::Survey;
 use crate::{stop, user};
 use std::collections::BTreeMap;
+use std::sync::atomic::Ordering::Relaxed;
 use std::sync::Arc;
 use std::thread;
 use std::time::Duration;
@@ -21,7 +24,7 @@ struct Supervisor {
 }
 
 /// Begins to look at each partition, in a thread for each: one that does not answer holds up no other.
-pub fn start(args: &Args) -> Done<()> {
+pub fn start(args: &Args, numbers: &Arc<Numbers>) -> Done<()> {
     let password = args.password("password-file")?;
     let with = |server| Server { password: password.clone(), ..server };
     let supervisor = Arc::new(Supervisor {
@@ -29,27 +32,29 @@ pub fn start(args: &Args) -> Done<()> {
         secret: args.secret()?,
     });
     for &part in supervisor.servers.keys() {
-        let supervisor = Arc::clone(&supervisor);
-        thread::spawn(move || supervisor.watch(part));
+        let (supervisor, numbers) = (supervisor.clone(), numbers.clone());
+        thread::spawn(move || supervisor.watch(part, &numbers));
     }
     Ok(())
 }
 
 impl Supervisor {
     /// Looks at a partition until the program is asked to end. Why it is not let in is said once.
-    fn watch(&self, part: u32) {
+    fn watch(&self, part: u32, numbers: &Numbers) {
         let mut said = String::new();
         while !stop::is_asked() {
             let now = match self.look(part) {
                 Ok(false) => String::new(),
                 Ok(true) => {
-                    note(format!("squall-redis-node: partition {part} is let in again"));
+                    numbers.admissions.fetch_add(1, Relaxed);
+                    log::info(format!("partition {part} is let in again"));
                     String::new()
                 }
                 Err(fault) => fault.to_string(),
             };
+            numbers.see(part, now.is_empty());
             if !now.is_empty() && now != said {
-                note(format!("squall-redis-node: partition {part} is not let in: {now}"));
+                log::warn(format!("partition {part} is not let in: {now}"));
             }
             said = now;
             stop::sleep(ROUND);

@@ -5,7 +5,8 @@ use super::losses::Loss;
 use super::partition::{Beginning, Partition};
 use super::survey::Survey;
 use super::Mover;
-use crate::fault::{note, Done, Fault};
+use crate::fault::{Done, Fault};
+use crate::log;
 use crate::resp::Value;
 use std::collections::BTreeMap;
 
@@ -97,15 +98,13 @@ impl Mover {
         losses: &BTreeMap<u32, Loss>,
     ) -> Done<()> {
         for part in self.accepted.iter().filter(|part| !losses.contains_key(part)) {
-            note(format!(
-                "squall-redis-mover: partition {part} has lost nothing: --accept-loss {part} changes nothing"
-            ));
+            log::info(format!("partition {part} has lost nothing: --accept-loss {part} changes nothing"));
         }
         let refused: Vec<&Loss> = losses.values().filter(|it| !self.accepted.contains(&it.part)).collect();
         if refused.is_empty() {
             return Ok(());
         }
-        refused.iter().for_each(|loss| note(format!("squall-redis-mover: {loss}")));
+        refused.iter().for_each(|loss| log::fail(format!("{loss}")));
         for partition in partitions {
             let part = partition.part;
             if refused.iter().any(|it| it.part == part) {

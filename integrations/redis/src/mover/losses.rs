@@ -6,8 +6,9 @@ use super::state::{Role, Stand, State};
 use super::survey::{Sign, Survey};
 use super::Mover;
 use crate::course::{Move, Plan};
-use crate::fault::{note, Done, Fault};
+use crate::fault::{Done, Fault};
 use crate::keymap::{self, hex};
+use crate::log;
 use crate::resp::Value;
 use squall::{Course, Leg, Rank};
 use std::collections::BTreeMap;
@@ -94,7 +95,7 @@ impl Mover {
         self.remove(partitions, &states, &holds, may_remove)?;
         let course = self.beginning(part, survey);
         partitions[at].accept(&course, &edges, [own.generation, next, loss.rows])?;
-        note(format!("squall-redis-mover: accepted: {loss}"));
+        log::warn(format!("accepted: {loss}"));
         Ok(())
     }
 
@@ -122,9 +123,7 @@ impl Mover {
             };
             if removed > 0 {
                 let part = it.part;
-                note(format!(
-                    "squall-redis-mover: partition {part}: {removed} rows that it does not hold were removed"
-                ));
+                log::warn(format!("partition {part}: {removed} rows that it does not hold were removed"));
             }
         }
         Ok(())

@@ -7,6 +7,7 @@ mod feeder;
 mod index;
 mod losses;
 mod names;
+mod numbers;
 mod pace;
 pub(crate) mod partition;
 mod patience;
@@ -16,12 +17,13 @@ pub(crate) mod state;
 mod steps;
 pub(crate) mod survey;
 
-use crate::args::{Args, Usage};
+use crate::args::{self, Args, Usage};
 use crate::bus::{Node, Options};
 use crate::conn::{Conn, Server};
 use crate::course::{self, Move, Plan};
-use crate::fault::{note, say, Done, Fault};
-use crate::{faults, keep_alive, keymap, stop, tls};
+use crate::fault::{say, Done, Fault};
+use crate::log;
+use crate::{faults, keep_alive, keymap, metrics, stop, tls};
 pub use index::is_own;
 
 use entry::Entered;
@@ -33,7 +35,7 @@ use progress::Progress;
 use sizes::AllStuck;
 use std::collections::{BTreeMap, BTreeSet};
 use std::sync::atomic::{AtomicBool, Ordering::Relaxed};
-use std::sync::{Mutex, PoisonError};
+use std::sync::{Arc, Mutex, PoisonError};
 use std::thread;
 use std::time::Duration;
 
@@ -59,6 +61,9 @@ pub const USAGE: Usage = Usage {
         "rate",
         "rate-file",
         patience::OPTION,
+        args::CONFIG,
+        log::OPTION,
+        metrics::OPTION,
         keep_alive::OPTION,
         tls::OPTIONS[0],
         tls::OPTIONS[1],
@@ -137,8 +142,9 @@ impl Mover {
     fn run(&self, args: &Args) -> Done<()> {
         let bus = Node::join(Options::of(args, "mover")?)?;
         let pace = Pace::of(args)?;
-        let progress = Progress::new(pace.clone());
-        let stuck = AllStuck::default();
+        let progress = Arc::new(Progress::new(pace.clone()));
+        let stuck = Arc::new(AllStuck::default());
+        numbers::show(args, &bus, &progress, &stuck)?;
         let job = Job {
             number: self.number,
             servers: &self.servers,
@@ -168,7 +174,7 @@ impl Mover {
         let (keys, took) = (progress.moved(), progress.took().as_secs_f64());
         let said = say(format!("course {}: moved {keys} keys in {took:.1} s", self.number));
         if let Err(names) = bus.settle(settle) {
-            note(format!("squall-redis-mover: {}; run it again if they don't", unfollowed(&names)));
+            log::warn(format!("{}; run it again if they don't", unfollowed(&names)));
         }
         said
     }

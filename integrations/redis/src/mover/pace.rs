@@ -1,7 +1,8 @@
 //! How many keys a second may move, of all sources together. An operator may change it while they do.
 
 use crate::args::Args;
-use crate::fault::{note, Done, Fault, Trying};
+use crate::fault::{Done, Fault, Trying};
+use crate::log;
 use crate::stop;
 use std::fs;
 use std::path::PathBuf;
@@ -44,13 +45,10 @@ impl Pace {
         }
         pace.read()?;
         let own = pace.clone();
-        stop::on_hang_up(move || {
-            let words = match own.read() {
-                Ok(0) => "no limit of keys a second".to_string(),
-                Ok(rate) => format!("at most {rate} keys a second"),
-                Err(fault) => format!("{fault}; the rate stays as it is"),
-            };
-            note(format!("squall-redis-mover: {words}"));
+        stop::on_hang_up(move || match own.read() {
+            Ok(0) => log::info("no limit of keys a second"),
+            Ok(rate) => log::info(format!("at most {rate} keys a second")),
+            Err(fault) => log::warn(format!("{fault}; the rate stays as it is")),
         })?;
         Ok(pace)
     }

@@ -29,6 +29,7 @@ const RIGHTS: &[&str] = &[
     "~squall",
     "~squall[^:]*",
     "%R~squall:*",
+    "&*",
     "+@all",
     "-@admin",
     "-@dangerous",
@@ -42,6 +43,10 @@ const RIGHTS: &[&str] = &[
     "+evalsha",
     "+evalsha_ro",
     "+script|load",
+    "+sort",
+    "+sort_ro",
+    "+restore",
+    "+info",
 ];
 
 /// What the user may do who reads what a partition keeps of its course.

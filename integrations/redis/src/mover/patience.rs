@@ -3,7 +3,8 @@
 
 use crate::args::Args;
 use crate::conn::Conn;
-use crate::fault::{note, Done, Fault};
+use crate::fault::{Done, Fault};
+use crate::log;
 use crate::resp::Value;
 use crate::stop;
 use std::sync::atomic::{AtomicU64, Ordering::Relaxed};
@@ -63,7 +64,7 @@ impl Endurance {
         }
         let words = fault.to_string();
         if words != self.said {
-            note(format!("{words}; this is tried again for {} s", most().as_secs()));
+            log::warn(format!("{words}; this is tried again for {} s", most().as_secs()));
             self.said = words;
         }
         stop::sleep(self.pause);
@@ -105,7 +106,7 @@ impl Patience {
             return false;
         }
         let since = *self.since.get_or_insert_with(|| {
-            note(format!("{}: {error}; this is tried again for {} s", conn.addr(), most().as_secs()));
+            log::warn(format!("{}: {error}; this is tried again for {} s", conn.addr(), most().as_secs()));
             Instant::now()
         });
         if since.elapsed() >= most() {

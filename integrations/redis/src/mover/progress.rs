@@ -1,7 +1,7 @@
 //! How far a mover is, on standard error.
 
 use super::pace::Pace;
-use crate::fault::note;
+use crate::log;
 use std::io::{self, IsTerminal, Write};
 use std::sync::atomic::{AtomicBool, AtomicUsize, Ordering::Relaxed};
 use std::sync::Arc;
@@ -64,6 +64,16 @@ impl Progress {
         self.moved.load(Relaxed)
     }
 
+    /// How many are to move, as far as is known.
+    pub fn expected(&self) -> usize {
+        self.expected.load(Relaxed)
+    }
+
+    /// How many may move in a second; 0 is no limit.
+    pub fn rate(&self) -> u64 {
+        self.pace.rate()
+    }
+
     /// How long that took.
     pub fn took(&self) -> Duration {
         self.began.elapsed()
@@ -83,7 +93,7 @@ impl Progress {
             if is_bar {
                 let _ = write!(io::stderr(), "\r{}", self.bar());
             } else if said.elapsed() >= Duration::from_secs(5) {
-                note(self.line());
+                log::info(self.line());
                 said = Instant::now();
             }
         }

@@ -3,7 +3,8 @@
 
 use super::index::Ranked;
 use super::partition::Partition;
-use crate::fault::{note, Done, Fault};
+use crate::fault::{Done, Fault};
+use crate::log;
 use crate::resp::Value;
 use std::collections::BTreeSet;
 use std::fmt;
@@ -139,7 +140,7 @@ impl AllStuck {
     pub fn name(&self, stuck: &Stuck) {
         let mut all = self.0.lock().unwrap_or_else(PoisonError::into_inner);
         if all.insert((stuck.source, stuck.key.clone())) {
-            note(format!("squall-redis-mover: {stuck}"));
+            log::warn(format!("{stuck}"));
         }
     }
 

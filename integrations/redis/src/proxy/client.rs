@@ -1,12 +1,14 @@
 //! A client: its commands in order, and their answers in the same order.
 
-use super::commands::Split;
+use super::feeds::Topic;
 use super::plan::{Plan, Words};
+use super::session::Session;
+use super::slot::{join, Slot};
 use super::socket::{drop_first, Out, Socket, KEPT_OF_CLIENT};
 use super::task::{Deed, Queue, Task, Watch};
-use crate::resp::{error, Parser, Value};
+use crate::resp::{unfold, Broken, Parser};
 use squall::{Errand, Reply};
-use std::collections::VecDeque;
+use std::collections::{BTreeSet, VecDeque};
 use std::time::{Duration, Instant};
 
 /// No client has more commands that wait for answers.
@@ -16,23 +18,6 @@ const FIRST: usize = 1 << 15;
 const LEAST: usize = 1 << 8;
 /// If more bytes than these are answered, they are dropped before all are answered.
 const ANSWERED: usize = 1 << 16;
-
-/// A command that is not answered.
-pub struct Slot {
-    /// Where its bytes begin, counted from the first one that the client sent, and how many it has.
-    begin: u64,
-    len: usize,
-    /// Whether it is to be answered in RESP3.
-    is_resp3: bool,
-    /// How it is done; none if its answer is there from the beginning.
-    plan: Option<Plan>,
-    /// How many parts are not answered.
-    left: usize,
-    /// The answer of each part, how many bytes came, and how many are held.
-    replies: Vec<Vec<u8>>,
-    bytes: usize,
-    held: usize,
-}
 
 /// A request that a partition has refused, to be done by an errand.
 pub struct Diverted {
@@ -60,8 +45,9 @@ pub struct Chase {
 
 /// A client of a worker.
 pub struct Client {
-    /// A number that no other client of the worker has or had.
+    /// A number that no other client has or had, and what is known of it.
     pub id: u64,
+    pub session: Session,
     /// The most bytes of an answer.
     most: usize,
     /// Its connection.
@@ -99,6 +85,10 @@ pub struct Client {
     /// What it has queued since MULTI, and which keys it watches.
     pub queue: Option<Queue>,
     pub watch: Option<Watch>,
+    /// What it subscribes to, what that takes of memory, and what it waits to have.
+    pub topics: BTreeSet<Topic>,
+    pub topics_held: usize,
+    pub awaited: Vec<Topic>,
     /// Its next command, if it is done on a connection of its own.
     pub task: Option<Task>,
     /// Whether it speaks RESP3.
@@ -114,9 +104,10 @@ pub struct Client {
 
 impl Client {
     /// A client that has sent nothing.
-    pub fn new(id: u64, stream: Socket, most: usize) -> Client {
+    pub fn new(session: Session, stream: Socket, most: usize) -> Client {
         Client {
-            id,
+            id: session.card.id,
+            session,
             most,
             stream,
             input: Vec::new(),
@@ -140,6 +131,9 @@ impl Client {
             waits_since: None,
             queue: None,
             watch: None,
+            topics: BTreeSet::new(),
+            topics_held: 0,
+            awaited: Vec::new(),
             task: None,
             is_resp3: false,
             is_shut: false,
@@ -153,13 +147,17 @@ impl Client {
     /// How many bytes it holds.
     pub fn memory(&self) -> usize {
         let queued = self.queue.as_ref().map_or(0, |queue| queue.bytes.len());
-        self.input.len() + self.out.len() + self.held + queued
+        self.input.len() + self.out.len() + self.held + queued + self.gathered()
     }
 
     /// How much memory it takes.
     pub fn footprint(&self) -> usize {
         let queued = self.queue.as_ref().map_or(0, |queue| queue.bytes.capacity());
-        self.input.capacity() + self.out.bytes.capacity() + self.held + queued
+        self.input.capacity() + self.out.bytes.capacity() + self.held + queued + self.gathered()
+    }
+
+    fn gathered(&self) -> usize {
+        self.topics_held + self.task.as_ref().map_or(0, Task::held)
     }
 
     /// Whether it may have another command in flight: the answers that it has not taken and those that are expected
@@ -196,6 +194,15 @@ impl Client {
     /// Whether that connection watches its keys.
     pub fn watches_on(&self, upstream: Option<usize>) -> bool {
         upstream.is_some() && self.watch.as_ref().is_some_and(|watch| watch.upstream == upstream)
+    }
+
+    /// Nothing, as an answer.
+    pub fn nil(&self) -> &'static [u8] {
+        if self.is_resp3 {
+            b"_\r\n"
+        } else {
+            b"$-1\r\n"
+        }
     }
 
     /// The answer to a transaction that was not done, since keys that are watched have changed.
@@ -241,6 +248,35 @@ impl Client {
     fn pass(&mut self) {
         self.next += self.parser.len();
         self.parser.reset();
+    }
+
+    /// Puts the next command into the form of RESP, and some after it, if it comes as a line: whether more of it can be
+    /// read.
+    ///
+    /// # Errors
+    ///
+    /// It is no line of words.
+    pub fn unfold(&mut self) -> Result<bool, Broken> {
+        let rest = &self.input[self.next..];
+        if !self.parser.is_empty() || rest.first().is_none_or(|&byte| byte == b'*') {
+            return Ok(true);
+        }
+        let Some((len, commands)) = unfold(rest)? else {
+            return Ok(false);
+        };
+        // Nothing refers to bytes that come later.
+        self.input.splice(self.next..self.next + len, commands);
+        Ok(true)
+    }
+
+    /// Speaks RESP3 from now on, or RESP2.
+    pub fn speak(&mut self, is_resp3: bool) {
+        let is_other = self.is_resp3 != is_resp3;
+        if let Some(watch) = self.watch.as_mut().filter(|_| is_other) {
+            // The connection that watches its keys speaks the other protocol.
+            watch.is_broken = true;
+        }
+        self.is_resp3 = is_resp3;
     }
 
     /// Goes on after a command of no words.
@@ -324,62 +360,5 @@ impl Client {
         parser.read(bytes, bytes.len()).ok()?;
         let words = Words { bytes, places: parser.words() };
         Some(see(slot.plan.as_ref()?, words, slot.len))
-    }
-}
-
-impl Slot {
-    /// Takes the answer of a part. If all of them are too large, they are dropped, and only that is said.
-    fn take(&mut self, part: usize, reply: &[u8], most: usize) {
-        let was_too_large = self.bytes > most;
-        self.bytes += reply.len();
-        if self.bytes <= most {
-            self.replies[part] = reply.to_vec();
-            self.held += reply.len();
-        } else if !was_too_large {
-            self.replies.iter_mut().for_each(|reply| *reply = Vec::new());
-            self.replies[part] = too_large(self.bytes, most);
-            self.held = self.replies[part].len();
-        }
-    }
-}
-
-/// What is answered instead of an answer that is too large, of which so many bytes are known.
-pub fn too_large(bytes: usize, most: usize) -> Vec<u8> {
-    error(&format!(
-        "ERR the answer has at least {bytes} bytes, and --client-memory is {} MiB: the command was done, and its answer \
-         is dropped",
-        most >> 20
-    ))
-}
-
-/// Appends the answer of a command whose parts are all answered. An error of a part is the answer.
-fn join(slot: &Slot, out: &mut Vec<u8>) {
-    let split = match &slot.plan {
-        Some(Plan::Parts(_, split, _)) => *split,
-        _ => return slot.replies.iter().for_each(|reply| out.extend_from_slice(reply)),
-    };
-    if let Some(error) = slot.replies.iter().find(|reply| reply.first() == Some(&b'-')) {
-        return out.extend_from_slice(error);
-    }
-    match split {
-        Split::List => {
-            out.extend_from_slice(format!("*{}\r\n", slot.replies.len()).as_bytes());
-            for reply in &slot.replies {
-                // Each one is a list of one value.
-                out.extend_from_slice(reply.strip_prefix(b"*1\r\n").unwrap_or(reply));
-            }
-        }
-        Split::Sum => {
-            let sum: i64 = slot.replies.iter().map(|reply| int(reply)).sum();
-            out.extend_from_slice(format!(":{sum}\r\n").as_bytes());
-        }
-        Split::Done => out.extend_from_slice(&slot.replies[0]),
-    }
-}
-
-fn int(reply: &[u8]) -> i64 {
-    match Value::read(reply) {
-        Ok(Some((Value::Int(number), _))) => number,
-        _ => 0,
     }
 }

@@ -1,10 +1,12 @@
 //! The commands that a proxy passes on.
 //!
 //! A command that is not in the [table](COMMANDS) is refused. Left out are those that belong to a
-//! connection, subscriptions, the administration of a server, and those whose keys are found in another
-//! way. `MOVE` would take a key to a database that no mover knows.
+//! connection, and the administration of a server. `MOVE` would take a key to a database that no mover
+//! knows.
 
+use super::places::Line;
 use super::table::{Effect, COMMANDS, FREES, READS};
+use std::ops::Range;
 
 /// The places of a command's keys, as indices of its words.
 #[derive(Clone, Copy, Debug, PartialEq)]
@@ -15,6 +17,25 @@ pub enum Keys {
     Counted(usize),
     /// The word at the index says how many keys follow it, and no word before it is a key.
     Named(usize),
+    /// The first half of the words after `STREAMS`.
+    Streams,
+    /// The first word, and that after `STORE` among the options of `SORT`.
+    Sort,
+    /// The first word, and that after `STORE` or `STOREDIST` among those of `GEORADIUS`.
+    Geo,
+    /// There are none, but the first word is a channel, which is published where a key of its name is.
+    Channel,
+    /// There are none.
+    None,
+}
+
+/// How a command says how long it waits.
+#[derive(Clone, Copy, Debug, PartialEq)]
+pub struct Clock {
+    /// The index of its word.
+    pub at: usize,
+    /// Whether it counts milliseconds. Else it is a number of seconds with a fraction.
+    pub is_millis: bool,
 }
 
 /// Whether a server can do the command by its guard, which is a script, without a change of its reply.
@@ -69,6 +90,8 @@ pub enum Kind {
     Script,
     /// Waits for a key.
     Blocking,
+    /// Messages, and who wants to have them.
+    PubSub,
     /// A transaction, and what belongs to one.
     Transaction,
     /// Walks over all keys.
@@ -78,7 +101,7 @@ pub enum Kind {
 }
 
 /// The names of all kinds, in their order.
-pub const KINDS: [&str; 15] = [
+pub const KINDS: [&str; 16] = [
     "text",
     "bitmap",
     "hash",
@@ -91,6 +114,7 @@ pub const KINDS: [&str; 15] = [
     "key",
     "script",
     "blocking",
+    "pubsub",
     "transaction",
     "scan",
     "own",
@@ -130,7 +154,7 @@ pub fn find(name: &[u8]) -> Option<&'static Command> {
 }
 
 const FEW: &str = "wrong number of arguments";
-const NO_KEY: &str = "numkeys is 0, and only a key says which partition to ask,";
+const NO_KEY: &str = "numkeys should be greater than 0";
 
 /// Where the keys end whose count the word at that index is.
 fn counted<'a>(count: usize, at: usize, word: impl Fn(usize) -> &'a [u8]) -> Result<usize, &'static str> {
@@ -143,11 +167,6 @@ fn counted<'a>(count: usize, at: usize, word: impl Fn(usize) -> &'a [u8]) -> Res
 }
 
 impl Command {
-    /// Whether it waits for a key.
-    pub fn waits(&self) -> bool {
-        self.kind == Kind::Blocking
-    }
-
     /// What it does to the data of a server.
     pub fn effect(&self) -> Effect {
         if READS.binary_search(&self.name).is_ok() {
@@ -169,44 +188,65 @@ impl Command {
         }
     }
 
-    /// The index of the word that says how long a command of `count` words waits.
-    pub fn timeout_at(&self, count: usize) -> usize {
-        if matches!(self.keys, Keys::Named(_)) {
-            1
-        } else {
-            count - 1
+    /// Which of its words says how long it waits for a key, if it waits.
+    pub fn clock<'a>(&self, count: usize, word: impl Fn(usize) -> &'a [u8]) -> Option<Clock> {
+        match (self.kind, self.keys) {
+            (_, Keys::Streams) => Line { count, word }.block().map(|at| Clock { at, is_millis: true }),
+            (Kind::Blocking, Keys::Named(_)) => Some(Clock { at: 1, is_millis: false }),
+            (Kind::Blocking, _) => Some(Clock { at: count - 1, is_millis: false }),
+            _ => None,
         }
     }
 
-    /// The indices of its keys, if it has `count` words.
+    /// The indices of its keys, if it has `count` words. A script may have none, and then any partition may do it.
     ///
     /// # Errors
     ///
-    /// Words are missing, or the count of keys is none.
+    /// Words are missing, the count of keys is none, or it reads keys that it does not name.
     pub fn places<'a>(
         &self,
         count: usize,
         word: impl Fn(usize) -> &'a [u8],
     ) -> Result<impl Iterator<Item = usize>, &'static str> {
-        let (first, end, step, apart) = match self.keys {
-            Keys::Range(first, last, step) => {
-                let last = if last < 0 { count.checked_add_signed(last) } else { Some(last as usize) };
-                (first, last.ok_or(FEW)? + 1, step, 0..0)
-            }
-            Keys::Counted(at) => (at + 1, counted(count, at, word)?, 1, 1..at),
-            Keys::Named(at) => match counted(count, at, word)? {
-                end if end == at + 1 => return Err(NO_KEY),
-                end => (at + 1, end, 1, 0..0),
-            },
-        };
-        let most = if self.name == "COPY" { 4 } else { count };
-        if end <= first || end > count || (end - first) % step != 0 {
+        let (apart, rest, step) = self.spread(Line { count, word })?;
+        let may_have_none = self.keys == Keys::None || self.kind == Kind::Script;
+        let has_none = apart.is_empty() && rest.is_empty();
+        if has_none && !may_have_none || apart.end.max(rest.end) > count || rest.len() % step != 0 {
             return Err(FEW);
         }
-        if count > most {
+        if self.name == "COPY" && count > 4 {
             return Err("COPY to another database is not served");
         }
-        Ok(apart.chain((first..end).step_by(step)))
+        Ok(apart.chain(rest.step_by(step)))
+    }
+
+    /// Those that come first, the others, and the step between two of these.
+    fn spread<'a, F: Fn(usize) -> &'a [u8]>(
+        &self,
+        line: Line<F>,
+    ) -> Result<(Range<usize>, Range<usize>, usize), &'static str> {
+        let count = line.count;
+        let with_store = |store: Option<usize>| (1..2, store.map_or(0..0, |at| at..at + 1), 1);
+        Ok(match self.keys {
+            Keys::Range(first, last, step) => {
+                let last = if last < 0 { count.checked_add_signed(last) } else { Some(last as usize) };
+                let last = last.filter(|&last| last >= first).ok_or(FEW)?;
+                (0..0, first..last + 1, step)
+            }
+            Keys::Counted(at) => match counted(count, at, line.word)? {
+                end if end == at + 1 => return Err(FEW),
+                end => (1..at, at + 1..end, 1),
+            },
+            Keys::Named(at) => match counted(count, at, line.word)? {
+                end if end == at + 1 && self.kind != Kind::Script => return Err(NO_KEY),
+                end => (0..0, at + 1..end, 1),
+            },
+            Keys::Streams => (0..0, line.streams()?, 1),
+            Keys::Sort => with_store(line.sort_store()?),
+            Keys::Geo => with_store(line.geo_store()),
+            Keys::Channel => (0..0, 1..2, 1),
+            Keys::None => (0..0, 0..0, 1),
+        })
     }
 }
 
@@ -232,7 +272,7 @@ mod tests {
         for name in ["get", "GET", "gEt", "zremrangebyscore"] {
             assert!(find(name.as_bytes()).is_some(), "{name}");
         }
-        for name in ["", "KEYS", "FLUSHALL", "MULTI", "SCAN", "MOVE", "SORT", "AUTH"] {
+        for name in ["", "KEYS", "FLUSHALL", "MULTI", "SCAN", "MOVE", "AUTH"] {
             assert!(find(name.as_bytes()).is_none(), "{name}");
         }
     }
@@ -252,6 +292,39 @@ mod tests {
         assert_eq!(places("BLPOP a b 0"), Ok(vec![1, 2]));
         assert_eq!(places("BLMOVE a b LEFT RIGHT 0"), Ok(vec![1, 2]));
         assert_eq!(places("BZMPOP 0 1 a MIN"), Ok(vec![3]));
+        assert_eq!(places("EVAL x 0 a"), Ok(vec![]));
+        assert_eq!(places("COMMAND INFO get"), Ok(vec![]));
+    }
+
+    #[test]
+    fn keys_among_options_are_found() {
+        assert_eq!(places("XREAD COUNT 1 STREAMS a b 0 0"), Ok(vec![4, 5]));
+        assert_eq!(places("XREAD block 0 streams streams $"), Ok(vec![4]));
+        assert_eq!(places("XREADGROUP GROUP streams c NOACK STREAMS a >"), Ok(vec![6]));
+        assert_eq!(places("SORT a"), Ok(vec![1]));
+        assert_eq!(places("SORT a BY nosort LIMIT 0 1 DESC ALPHA STORE b STORE c"), Ok(vec![1, 12]));
+        assert_eq!(places("SORT a BY store LIMIT store store"), Ok(vec![1]));
+        assert_eq!(places("SORT a STORE"), Ok(vec![1]));
+        assert_eq!(places("SORT_RO a DESC"), Ok(vec![1]));
+        assert_eq!(places("GEORADIUS a 1 1 1 km COUNT 1 STORE b"), Ok(vec![1, 9]));
+        assert_eq!(places("GEORADIUS a 1 1 1 km"), Ok(vec![1]));
+        assert_eq!(places("GEORADIUSBYMEMBER a m 1 km STOREDIST b"), Ok(vec![1, 6]));
+        assert_eq!(places("RESTORE a 0 x REPLACE"), Ok(vec![1]));
+    }
+
+    #[test]
+    fn waits_are_found() {
+        let clock = |line: &str| {
+            let words: Vec<&[u8]> = line.split(' ').map(str::as_bytes).collect();
+            let clock = find(words[0]).expect("a known command").clock(words.len(), |at| words[at]);
+            clock.map(|it| (it.at, it.is_millis))
+        };
+        assert_eq!(clock("BLPOP a b 7"), Some((3, false)));
+        assert_eq!(clock("BLMPOP 7 1 a LEFT"), Some((1, false)));
+        assert_eq!(clock("XREAD BLOCK 7 STREAMS block 0"), Some((2, true)));
+        assert_eq!(clock("XREADGROUP GROUP block block BLOCK 7 STREAMS a >"), Some((5, true)));
+        assert_eq!(clock("XREADGROUP GROUP block 7 STREAMS a >"), None);
+        assert_eq!(clock("GET a"), None);
     }
 
     #[test]
@@ -269,10 +342,18 @@ mod tests {
             "ZUNIONSTORE d",
             "OBJECT HELP",
             "COPY a b DB 1",
-            "EVAL x 0",
             "EVAL x 2 a",
+            "EVAL x -1",
             "FCALL f",
             "BLPOP a",
+            "XREAD STREAMS a b 0",
+            "XREAD COUNT 1",
+            "XREAD STREAMS",
+            "SORT",
+            "SORT a BY w_*",
+            "SORT a GET #",
+            "SORT_RO a LIMIT 0 1 GET d_*",
+            "GEORADIUS",
             "BLMPOP 0 0 LEFT",
         ] {
             assert!(places(line).is_err(), "{line}");

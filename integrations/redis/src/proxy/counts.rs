@@ -5,8 +5,8 @@ use std::fmt::Write as _;
 use std::sync::atomic::{AtomicU64, Ordering::Relaxed};
 use std::time::Duration;
 
-/// The upper ends of the classes of waits, in milliseconds.
-const CLASSES: [u64; 9] = [1, 2, 5, 10, 20, 50, 100, 500, 2000];
+/// The upper ends of the classes of waits, in milliseconds. No `--wait` is as long as the last one.
+const CLASSES: [u64; 14] = [1, 2, 5, 10, 20, 50, 100, 500, 2000, 5000, 10_000, 60_000, 600_000, 4_000_000];
 
 /// What a worker has counted.
 #[derive(Default)]
@@ -34,6 +34,8 @@ pub struct Counts {
     pub held_back: AtomicU64,
     pub evicted: AtomicU64,
     pub too_large: AtomicU64,
+    /// Messages of channels that clients were given.
+    pub messages: AtomicU64,
     /// Commands that waited, by class, and how long they all did, in microseconds.
     waits: [AtomicU64; CLASSES.len() + 1],
     waited: AtomicU64,
@@ -132,7 +134,7 @@ mod tests {
         let mut page = String::new();
         add_waits(&mut page, &counts);
         assert!(page.contains("_bucket{le=\"0.002\"} 0\n") && page.contains("_bucket{le=\"0.005\"} 1\n"));
-        assert!(page.contains("_bucket{le=\"2\"} 1\n") && page.contains("_bucket{le=\"+Inf\"} 2\n"));
+        assert!(page.contains("_bucket{le=\"10\"} 1\n") && page.contains("_bucket{le=\"60\"} 2\n"));
         assert!(page.contains("_sum 60.003\n"), "{page}");
     }
 }

@@ -4,7 +4,7 @@ use super::client::Client;
 use super::follow::{read, Said};
 use super::own::Outcome;
 use super::roles::Standing;
-use super::scan::Known;
+use super::scan::{Cursor, Known, Page};
 use super::task::{Deed, Step, Task, Watch};
 use super::worker::Worker;
 use crate::faults;
@@ -13,9 +13,6 @@ use crate::resp::{error, push};
 use squall::Next;
 use std::sync::atomic::Ordering::Relaxed;
 use std::time::Instant;
-
-/// No wait is sent on that is shorter: 0 has no end.
-const SHORTEST: f64 = 0.001;
 
 impl Worker {
     /// Asks a partition for the first time, or again.
@@ -26,14 +23,14 @@ impl Worker {
             self.confirm(it.part, it.is_resp3);
         }
         let is_plain = standing == Standing::Stays || faults::is_on("never-guard");
-        match task.deed {
-            Deed::Scan(_) => {
+        match &task.deed {
+            Deed::Scan(_) | Deed::Names(_) | Deed::Visit(_) => {
                 self.confirm_loads(client.is_resp3);
-                self.ask_plain(client, task, at, None);
+                self.ask_plain(client, task, at);
             }
-            Deed::Load(_) => self.ask_plain(client, task, at, None),
-            Deed::Wait(until) if is_plain => self.ask_plain(client, task, at, Some(until)),
-            Deed::Exec(_) | Deed::One if is_plain => self.ask_to_do(client, task, at),
+            Deed::Load(_) => self.ask_plain(client, task, at),
+            Deed::Wait(wait) if is_plain && !wait.ids.are_open() => self.ask_plain(client, task, at),
+            Deed::Exec(_) | Deed::One | Deed::Wait(_) if is_plain => self.ask_to_do(client, task, at),
             _ => self.ask_where(client, task, at),
         }
     }
@@ -80,6 +77,11 @@ impl Worker {
                 out.extend_from_slice(&queue.bytes);
                 queue.count
             }
+            Deed::Wait(wait) if wait.ids.are_open() => wait.ids.ask(client.words(), out),
+            Deed::Wait(wait) => {
+                push(out, &wait.ids.words(client.words()));
+                1
+            }
             _ => {
                 out.extend_from_slice(&client.words().bytes[..client.parser.len()]);
                 1
@@ -90,22 +92,26 @@ impl Worker {
         self.expect_own(task, at, Step::Doing, (count + 2, Some(until)));
     }
 
-    /// Asks by a plain command. One that waits does so until then.
-    fn ask_plain(&mut self, client: &Client, task: &mut Task, at: usize, until: Option<Option<Instant>>) {
-        let words = client.words();
-        let mut all: Vec<Vec<u8>> = (0..words.count()).map(|at| words.at(at).to_vec()).collect();
-        if let Deed::Scan(cursor) = &task.deed {
-            all[1] = cursor.at.to_string().into_bytes();
+    /// Asks by a plain command, or by several. One that waits does so until its end.
+    fn ask_plain(&mut self, client: &Client, task: &mut Task, at: usize) {
+        let (words, out) = (client.words(), &mut self.upstreams[at].out.bytes);
+        let (mut due, mut until) = (1, Some(self.now));
+        match &task.deed {
+            Deed::Scan(cursor) => {
+                let mut all = words.all();
+                all[1] = cursor.at.to_string().into_bytes();
+                push(out, &all);
+            }
+            Deed::Names(names) => names.ask(out),
+            Deed::Visit(visit) => due = visit.ask(out),
+            Deed::Wait(wait) => {
+                push(out, &wait.words(words, self.now));
+                until = wait.until.map(|until| until.max(self.now));
+            }
+            _ => push(out, &words.all()),
         }
-        if let Some(until) = until {
-            let seconds =
-                until.map(|until| until.saturating_duration_since(self.now).as_secs_f64().max(SHORTEST));
-            let place = super::commands::find(words.at(0)).map_or(1, |it| it.timeout_at(words.count()));
-            all[place] = format!("{:.3}", seconds.unwrap_or(0.0)).into_bytes();
-        }
-        push(&mut self.upstreams[at].out.bytes, &all);
-        let due = until.unwrap_or(Some(self.now)).map(|until| until + self.shared.answer);
-        self.expect_own(task, at, Step::Asking, (1, due));
+        let until = until.map(|until| until + self.shared.answer);
+        self.expect_own(task, at, Step::Asking, (due, until));
     }
 
     /// What the answers mean; none if the partition is to be asked again, or another one.
@@ -123,6 +129,7 @@ impl Worker {
         match step {
             Step::Checking => self.judge_check(client, task, &replies),
             Step::Doing => self.judge_done(client, task, &replies),
+            _ if matches!(task.deed, Deed::Visit(_)) => self.judge_visit(client, task, &replies),
             _ => self.judge_asked(task, &replies[0]),
         }
     }
@@ -173,7 +180,7 @@ impl Worker {
     }
 
     /// The partition lets this proxy in no longer: the connection logs in anew.
-    fn fenced(&mut self, task: &mut Task, at: usize) {
+    pub(super) fn fenced(&mut self, task: &mut Task, at: usize) {
         self.counts().fenced.fetch_add(1, Relaxed);
         self.upstreams[at].number = 0;
         self.shared.node.ask();
@@ -211,12 +218,19 @@ impl Worker {
             // Else keys were given since it was asked where they are: it is asked again.
             return None;
         }
-        match (&task.deed, refusal) {
+        let asked_at = task.again;
+        match (&mut task.deed, refusal) {
             (Deed::Exec(_), _) => Some(Outcome::Answer(done.clone())),
             (_, Some(refusal)) => Some(Outcome::Answer(refusal.to_vec())),
-            (&Deed::Wait(until), _) if is_nil(element(done)) => {
+            (Deed::Wait(wait), _) if wait.ids.are_open() => {
+                let taken = wait.ids.take(done);
+                task.go_on(self.now);
+                taken.err().map(Outcome::Answer)
+            }
+            (Deed::Wait(wait), _) if is_nil(element(done)) => {
                 // It was looked for after the end of the wait.
-                if until.is_some_and(|until| task.again >= until) {
+                let until = wait.until;
+                if until.is_some_and(|until| asked_at >= until) {
                     return Some(Outcome::Answer(client.nil_list()));
                 }
                 task.look_again(self.now, until);
@@ -226,6 +240,13 @@ impl Worker {
         }
     }
 
+    /// The page of a walk that a partition has answered, if the course is known: none in it if it is no page.
+    fn page(&mut self, at: usize, cursor: Cursor, reply: &[u8]) -> Option<Option<Page>> {
+        let ground = self.ground()?;
+        let known = Known { view: &self.view, tables: &self.shared.tables };
+        Some(cursor.page(reply, &self.upstreams[at], &ground, &known))
+    }
+
     /// What a plain command has come to.
     fn judge_asked(&mut self, task: &mut Task, reply: &[u8]) -> Option<Outcome> {
         let at = task.upstream?;
@@ -233,23 +254,26 @@ impl Worker {
             self.fenced(task, at);
             return None;
         }
-        let it = &self.upstreams[at];
-        let (part, number) = (it.part, it.number);
+        let part = self.upstreams[at].part;
         match &mut task.deed {
-            Deed::Wait(_) if reply.starts_with(b"-UNBLOCKED") => {
-                // The fence of the next course has ended the wait.
+            Deed::Wait(_) if is_end_of_wait(reply) => {
+                // The fence of the next course has ended it.
                 (task.since, task.is_refused) = (self.now, true);
                 self.shared.node.ask();
                 None
             }
             Deed::Scan(cursor) if reply.first() != Some(&b'-') => {
-                let ground = self.ground()?;
-                let (it, view, tables) = (&self.upstreams[at], &self.view, &self.shared.tables);
-                let is_known = view.number() == number;
-                let route = |rank| if is_known { view.route(rank) } else { Some(part) };
-                let answer = cursor.answer(reply, it, &ground, Known { route: &route, tables });
+                let cursor = *cursor;
+                let page = self.page(at, cursor, reply)?;
                 let large = || error("ERR the partition's cursor is too large");
-                Some(Outcome::Answer(answer.unwrap_or_else(large)))
+                Some(Outcome::Answer(page.and_then(|page| page.answer()).unwrap_or_else(large)))
+            }
+            Deed::Names(names) if reply.first() != Some(&b'-') => {
+                let page = self.page(at, names.cursor, reply)?;
+                let odd = || Some(error("ERR the partition answers in another form"));
+                let answer = page.map_or_else(odd, |page| names.take(page, self.shared.memory));
+                task.go_on(self.now);
+                answer.map(Outcome::Answer)
             }
             Deed::Load(from) if reply.first() != Some(&b'-') => {
                 *from = part + 1;
@@ -276,6 +300,11 @@ fn element(list: &[u8]) -> &[u8] {
 
 fn is_nil(reply: &[u8]) -> bool {
     [&b"*-1\r"[..], b"$-1\r", b"_\r"].iter().any(|nil| reply.starts_with(nil))
+}
+
+/// Whether somebody has ended a wait. A stream that was deleted ends waits of its groups in another way.
+fn is_end_of_wait(reply: &[u8]) -> bool {
+    reply.starts_with(b"-UNBLOCKED") && !reply.starts_with(b"-UNBLOCKED the stream key")
 }
 
 /// Whether a command was refused by the fence. A script that was, has not begun; one that asks for what

@@ -1,14 +1,14 @@
 //! How many files the system lets a proxy open: each connection is one.
 
-use crate::fault::note;
+use crate::log;
 use std::fs;
 
 /// Says so if the system lets this program open fewer files than it may need.
 pub fn warn(needed: usize) {
     let limits = fs::read_to_string("/proc/self/limits").unwrap_or_default();
     if let Some(most) = most(&limits).filter(|&most| most < needed) {
-        note(format!(
-            "squall-redis-proxy: it may need {needed} open files, and the system allows {most}: raise that (ulimit -n, \
+        log::warn(format!(
+            "it may need {needed} open files, and the system allows {most}: raise that (ulimit -n, \
              LimitNOFILE), or lower --clients"
         ));
     }

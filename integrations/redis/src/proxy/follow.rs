@@ -2,6 +2,7 @@
 
 use super::client::{Chase, Client, Diverted};
 use super::deeds::is_fence;
+use super::link::unreached;
 use super::plan::Plan;
 use super::roles::Standing;
 use super::upstream::{Due, InFlight};
@@ -86,11 +87,11 @@ impl Worker {
         let mut is_guarded = false;
         for &rank in ranks {
             let standing = self.upstreams[at].table.standing(rank);
-            is_guarded |= standing != Standing::Stays;
+            is_guarded |= standing != Standing::Stays && !plan.is_free();
             if self.view.route(rank) != Some(asked) {
                 return self.apart(client, ranks);
             }
-            if standing == Standing::Comes {
+            if standing == Standing::Comes && is_guarded {
                 self.confirm(asked, client.is_resp3);
             }
         }
@@ -214,7 +215,9 @@ impl Worker {
             client.chase = None;
             client.diverted.remove(0);
             self.counts().gave_up.fetch_add(1, Relaxed);
-            client.answer(seq, part, &error("TRYAGAIN the key is on its way"));
+            let late = error("TRYAGAIN the key is on its way");
+            let down = self.unready(&[rank], client.is_resp3_of(seq));
+            client.answer(seq, part, &down.map_or(late, unreached));
             return false;
         }
         if self.now < chase.again {
@@ -286,7 +289,8 @@ impl Worker {
         let (id, is_resp3) = (client.id, client.is_resp3_of(seq));
         let is_guarded = client.with(seq, |plan, words, len| {
             let part = part as usize;
-            let is_plain = plan.ranks(part).iter().all(|&rank| to.table.standing(rank) == Standing::Stays);
+            let stays = |&rank: &squall::Rank| to.table.standing(rank) == Standing::Stays;
+            let is_plain = plan.is_free() || plan.ranks(part).iter().all(stays);
             if is_plain {
                 plan.put(&mut to.out.bytes, part, words, len);
             } else if plan.may_be_guarded(is_resp3) {

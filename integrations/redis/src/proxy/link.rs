@@ -1,11 +1,12 @@
 //! A worker's connections to the partitions: they log in, and what they answer.
 
-use super::client::too_large;
+use super::slot::too_large;
 use super::socket::{drop_first, Received, KEPT};
 use super::upstream::{Due, State, Upstream};
 use super::worker::{upstream_token, Worker};
 use crate::resp::error;
 use mio::Interest;
+use squall::Rank;
 use std::sync::atomic::Ordering::Relaxed;
 
 impl Worker {
@@ -15,7 +16,7 @@ impl Worker {
         let at = match self.by_part.get(&(part, is_resp3)) {
             Some(&at) => at,
             None => {
-                let server = self.shared.parts.get(&part)?.clone();
+                let server = self.shared.setup.server(part)?;
                 let at = self.upstreams.len();
                 self.upstreams.push(Upstream::new(part, server, is_resp3, self.now));
                 self.by_part.insert((part, is_resp3), at);
@@ -23,6 +24,15 @@ impl Worker {
             }
         };
         self.ready_at(at)
+    }
+
+    /// The first partition of these keys that can't be asked now.
+    pub(super) fn unready(&self, ranks: &[Rank], is_resp3: bool) -> Option<u32> {
+        let is_ready = |part: &u32| {
+            let at = self.by_part.get(&(*part, is_resp3));
+            at.is_some_and(|&at| self.upstreams[at].is_ready(self.view.number()))
+        };
+        ranks.iter().filter_map(|&rank| self.view.route(rank)).find(|part| !is_ready(part))
     }
 
     /// The same of a connection.
@@ -59,6 +69,9 @@ impl Worker {
     pub(super) fn enter(&mut self, at: usize) {
         let (number, views) = (self.view.number(), self.views);
         let upstream = &mut self.upstreams[at];
+        if self.feeds.holds(upstream, number) {
+            return;
+        }
         if upstream.may_enter(number, views, self.now) && !upstream.is_held() {
             upstream.enter((number, views), &self.shared.secret, &self.shared.first);
             upstream.progress = self.now;
@@ -130,6 +143,9 @@ impl Worker {
     /// Takes one reply: whether one was due.
     fn take_reply(&mut self, at: usize, reply: &[u8]) -> bool {
         let upstream = &mut self.upstreams[at];
+        if upstream.is_feed && (reply.first() == Some(&b'>') || upstream.state == State::Ready) {
+            return self.take_fed(at, reply);
+        }
         if let Some(own) = upstream.own.as_mut().filter(|own| own.skip > 0) {
             own.skip -= 1;
             return true;
@@ -151,6 +167,7 @@ impl Worker {
             None => return false,
             Some(Due::Request(sent)) => self.answered(at, sent, reply),
             Some(Due::Moves) => upstream.answered_moves(reply, self.now, &self.shared.tables),
+            Some(Due::Beat) => {}
         }
         if self.upstreams[at].sent.is_empty() {
             self.enter(at);
@@ -173,12 +190,18 @@ impl Worker {
         let sent = self.upstreams[at].drop_stream(self.now);
         self.counts().lost.fetch_add(1, Relaxed);
         self.lose_own(at);
+        self.lose_feed(at);
         let unknown = unknown(part);
         for sent in sent {
             self.deliver(&sent, &unknown);
         }
         self.wake_blocked();
     }
+}
+
+/// What is answered if a command was not done in time, since a partition could not be asked.
+pub fn unreached(part: u32) -> Vec<u8> {
+    error(&format!("TRYAGAIN partition {part} can't be reached, or does not let this proxy in"))
 }
 
 /// What is answered if a connection was lost while a command was under way on it.

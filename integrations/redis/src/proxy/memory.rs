@@ -7,7 +7,8 @@
 use super::client::Client;
 use super::worker::Worker;
 use crate::args::Args;
-use crate::fault::{note, Done};
+use crate::fault::Done;
+use crate::log;
 use std::fs;
 use std::sync::atomic::{AtomicBool, AtomicUsize, Ordering::Relaxed};
 use std::time::{Duration, Instant};
@@ -57,8 +58,8 @@ impl Bound {
     fn is_reached(&self) -> bool {
         let is_reached = self.held() >= self.most;
         if is_reached && !self.is_said.swap(true, Relaxed) {
-            note(format!(
-                "squall-redis-proxy: --memory {} is reached: nothing more is read from clients that hold more than their \
+            log::warn(format!(
+                "--memory {} is reached: nothing more is read from clients that hold more than their \
                  share",
                 self.most / MIB
             ));

@@ -1,16 +1,19 @@
 //! What all workers of a proxy share, and how Prometheus reads what they count.
 
 use super::counts::{add_kinds, add_waits, sum, Counts};
+use super::info;
 use super::memory::Bound;
 use super::roles::Tables;
+use super::session::Cards;
+use super::setup::Setup;
+use super::users::Users;
 use super::watch::Watch;
 use crate::bus::Node;
-use crate::conn::Server;
 use crate::fault::Done;
 use crate::keep_alive::KeepAlive;
-use crate::tls::Acceptor;
+use crate::metrics::{add_counters, add_gauges, add_partitions, of_bus, of_course, Number};
 use mio::net::TcpStream;
-use std::collections::{BTreeMap, BTreeSet};
+use std::collections::BTreeSet;
 use std::fmt::Write as _;
 use std::sync::atomic::{AtomicBool, AtomicU64, AtomicUsize, Ordering::Relaxed};
 use std::sync::{Arc, Mutex};
@@ -23,10 +26,8 @@ const SILENCE: Duration = Duration::from_secs(5);
 pub struct Shared {
     /// The node of the bus.
     pub node: Arc<Node>,
-    /// The partitions.
-    pub parts: BTreeMap<u32, Server>,
-    /// How clients connect by TLS, if they do.
-    pub tls: Option<Acceptor>,
+    /// The partitions, and certificates.
+    pub setup: Setup,
     /// The password of the users squall-N.
     pub secret: String,
     /// The password of the user who reads what partitions keep of their course.
@@ -37,6 +38,10 @@ pub struct Shared {
     pub wait: Duration,
     /// How long a partition may take for an answer.
     pub answer: Duration,
+    /// The users of clients, if these need a password.
+    pub users: Option<Users>,
+    /// The clients.
+    pub cards: Cards,
     /// When a client that is silent is probed.
     pub keep_alive: KeepAlive,
     /// How many bytes a client may hold.
@@ -47,8 +52,12 @@ pub struct Shared {
     pub tables: Tables,
     /// What was seen of the partitions.
     pub watch: Watch,
-    /// How many clients there are.
+    /// The port at which clients connect.
+    pub port: u16,
+    /// How many clients are let in, how many there are, and how many there were.
+    pub most_clients: usize,
     pub clients: AtomicUsize,
+    pub connections: AtomicU64,
     /// Whether the proxy ends.
     pub is_ending: AtomicBool,
     /// Clients that have come, for each worker.
@@ -64,26 +73,13 @@ impl Shared {
         sum(&self.counts, of)
     }
 
-    /// The counters: name, help and value.
-    fn counters(&self) -> Vec<(&'static str, &'static str, u64)> {
+    fn counters(&self) -> Vec<Number> {
         let mut all = self.worker_counters();
-        let bus = &self.node.counts;
-        all.extend([
-            ("frames_taken", "frames of the bus that were taken", bus.taken.load(Relaxed)),
-            ("frames_refused", "entries of the bus that are no frame", bus.refused.load(Relaxed)),
-            (
-                "entries_foreign",
-                "entries of the bus without this deployment's seal",
-                bus.foreign.load(Relaxed),
-            ),
-            ("repairs_sent", "frames of repairs that were sent", bus.repairs.load(Relaxed)),
-            ("repairs_dropped", "repairs that another node sent first", bus.dropped.load(Relaxed)),
-            ("bus_faults", "faults of the connection to the bus", bus.faults.load(Relaxed)),
-        ]);
+        all.extend(of_bus(&self.node));
         all
     }
 
-    fn worker_counters(&self) -> Vec<(&'static str, &'static str, u64)> {
+    fn worker_counters(&self) -> Vec<Number> {
         vec![
             ("commands", "commands of clients", self.sum(|it| &it.commands)),
             ("refused", "commands that are not served", self.sum(|it| &it.refused)),
@@ -100,7 +96,21 @@ impl Shared {
             ),
             ("evicted", "clients that were closed for want of memory", self.sum(|it| &it.evicted)),
             ("too_large", "answers that were larger than a client may hold", self.sum(|it| &it.too_large)),
+            ("messages", "messages of channels that clients were given", self.sum(|it| &it.messages)),
         ]
+    }
+
+    /// What `INFO` says of the proxy.
+    pub fn own_info(&self) -> info::Own {
+        info::Own {
+            port: self.port,
+            uptime: self.began.elapsed().as_secs(),
+            clients: self.clients.load(Relaxed),
+            most_clients: self.most_clients,
+            connections: self.connections.load(Relaxed),
+            commands: self.sum(|it| &it.commands),
+            course: self.node.view().0.number(),
+        }
     }
 
     /// The counters in one line, for `SQUALL INFO`.
@@ -144,15 +154,6 @@ impl Shared {
         Ok(all)
     }
 
-    /// Appends which partitions let this proxy in.
-    fn add_partitions(&self, page: &mut String) {
-        let name = "squall_partition_up";
-        let _ = write!(page, "# HELP {name} whether the partition lets this proxy in\n# TYPE {name} gauge\n");
-        for (part, why) in self.watch.states() {
-            let _ = writeln!(page, "{name}{{partition=\"{part}\"}} {}", u8::from(why.is_none()));
-        }
-    }
-
     /// All that Prometheus reads.
     ///
     /// # Errors
@@ -160,30 +161,15 @@ impl Shared {
     /// There is no memory.
     pub fn metrics(&self) -> Done<String> {
         let mut page = String::new();
-        for (name, help, value) in self.counters() {
-            let _ = write!(
-                page,
-                "# HELP squall_{name}_total {help}\n# TYPE squall_{name}_total counter\nsquall_{name}_total {value}\n"
-            );
-        }
-        let progress = self.node.progress()?;
+        add_counters(&mut page, &self.counters());
+        add_gauges(&mut page, &of_course(&self.node)?);
         let gauges = [
-            ("course", "the number of the course", u64::from(progress.number)),
-            ("moves", "moves of the course", progress.moves as u64),
-            ("moving_keys", "keys that the course moves", progress.moving),
-            ("loaded_keys", "keys among them whose load is known", progress.loaded),
             ("clients", "clients", self.clients.load(Relaxed) as u64),
             ("memory_bytes", "bytes of commands and answers that are held", self.bound.held() as u64),
-            ("bus_last_heard_seconds", "seconds since the bus said anything", self.node.silence().as_secs()),
-            ("uptime_seconds", "seconds since the proxy began", self.began.elapsed().as_secs()),
+            ("uptime_seconds", "seconds since the program began", self.began.elapsed().as_secs()),
         ];
-        for (name, help, value) in gauges {
-            let _ = write!(
-                page,
-                "# HELP squall_{name} {help}\n# TYPE squall_{name} gauge\nsquall_{name} {value}\n"
-            );
-        }
-        self.add_partitions(&mut page);
+        add_gauges(&mut page, &gauges);
+        add_partitions(&mut page, self.watch.states().into_iter().map(|(part, why)| (part, why.is_none())));
         add_kinds(&mut page, &self.counts);
         add_waits(&mut page, &self.counts);
         Ok(page)

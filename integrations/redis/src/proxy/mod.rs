@@ -4,44 +4,59 @@ mod client;
 mod commands;
 mod counts;
 mod deeds;
+mod feeds;
 mod files;
 mod follow;
-mod http;
+mod glob;
+mod ids;
+mod info;
 mod link;
 mod local;
 mod memory;
 mod metrics;
 mod multi;
+mod names;
 mod own;
 mod page;
+mod places;
 mod plan;
+mod rights;
 mod roles;
 mod scan;
 mod serve;
+mod session;
+mod setup;
+mod slot;
 mod socket;
+mod subscribe;
 mod table;
 mod task;
 mod upstream;
+mod users;
+mod visit;
 mod watch;
 mod worker;
 
-use crate::args::{Args, Usage};
+use crate::args::{self, Args, Usage};
 use crate::bus::{Node, Options};
 use crate::course::Plan;
-use crate::fault::{note, Done, Fault, Trying};
+use crate::fault::{Done, Fault, Trying};
 use crate::keep_alive::{self, KeepAlive};
-use crate::tls::{self, Acceptor};
+use crate::log;
+use crate::metrics::serve_site;
+use crate::tls;
 use crate::{secret, stop};
 use metrics::Shared;
 use mio::{Poll, Waker};
+use socket::ready_stream;
 use socket2::SockRef;
 use std::io::Write;
 use std::net::{Shutdown, TcpListener, TcpStream};
-use std::sync::atomic::{AtomicBool, AtomicUsize, Ordering::SeqCst};
+use std::sync::atomic::{AtomicBool, AtomicU64, AtomicUsize, Ordering::SeqCst};
 use std::sync::{Arc, Mutex, PoisonError};
 use std::thread;
 use std::time::{Duration, Instant};
-use worker::{ready_stream, Worker, WAKE};
+use worker::{Worker, WAKE};
 
 /// What the program is.
 pub const USAGE: Usage = Usage {
@@ -60,9 +75,13 @@ pub const USAGE: Usage = Usage {
         "answer",
         "clients",
         "client-memory",
+        "client-password-file",
+        "client-users",
         "memory",
         keep_alive::OPTION,
-        "metrics",
+        args::CONFIG,
+        log::OPTION,
+        crate::metrics::OPTION,
         "program",
         "tls-cert",
         "tls-key",
@@ -76,6 +95,9 @@ pub const USAGE: Usage = Usage {
 
 /// How long clients may take for their last answers, once the program is asked to end.
 const GRACE: Duration = Duration::from_secs(10);
+/// What is said if other machines may connect.
+const OPEN: &str = "whoever reaches this address may read and write all keys: --client-password-file or \
+                    --client-users asks for a password, and --tls-client-ca for a certificate";
 /// Open files beside those of clients and of partitions.
 const FILES: usize = 64;
 
@@ -85,26 +107,31 @@ pub fn run(args: &Args) -> Done<()> {
     let listener = TcpListener::bind(listen).trying(|| format!("--listen {listen}"))?;
     let cores = thread::available_parallelism().map_or(1, |cores| cores.get());
     let threads = args.number("threads", (cores / 4).clamp(1, 8) as u64, 1, 64)? as usize;
-    let shared = Arc::new(share(args, threads)?);
-    if let Some(addr) = args.get("metrics") {
-        let listener = TcpListener::bind(addr).trying(|| format!("--metrics {addr}"))?;
-        let page =
-            page::Page::new(shared.clone(), args.get("program").unwrap_or("squall"), args.need("first")?);
-        thread::spawn(move || http::serve(&listener, &Arc::new(page)));
-    }
-    let most = args.number("clients", 10_000, 1, 1_000_000)? as usize;
+    let shared = Arc::new(share(args, threads, listener.local_addr()?.port())?);
+    let program = args.get("program").unwrap_or("squall");
+    serve_site(args, || Ok(page::Page::new(shared.clone(), program, args.need("first")?)))?;
+    let most = shared.most_clients;
     let listener = Arc::new(listener);
     let wakers = Arc::new(start(&shared)?);
-    watch::start(&shared);
-    let files = most + shared.parts.len() * (threads * 2 + 1) + FILES;
+    let parts: Vec<u32> = shared.setup.now().parts.keys().copied().collect();
+    watch::start(&shared, &parts);
+    let (words, own) = (args.clone(), shared.clone());
+    stop::on_hang_up(move || setup::read_again(&words, &own))?;
+    let files = most + shared.setup.now().parts.len() * (threads * 3 + 1) + FILES;
     files::warn(files);
-    note(format!("squall-redis-proxy: serves at {}", listener.local_addr()?));
+    if shared.users.is_none()
+        && args.get("tls-client-ca").is_none()
+        && !listener.local_addr()?.ip().is_loopback()
+    {
+        log::warn(OPEN);
+    }
+    log::info(format!("serves at {}", listener.local_addr()?));
     stop::watch(|| ())?;
     let all = (listener.clone(), shared.clone(), wakers.clone());
     thread::spawn(move || {
         let (listener, shared, wakers) = all;
-        if let Err(fault) = accept(&listener, &shared, &wakers, most) {
-            note(format!("squall-redis-proxy: {fault}"));
+        if let Err(fault) = accept(&listener, &shared, &wakers) {
+            log::fail(format!("{fault}"));
             std::process::exit(1);
         }
     });
@@ -126,15 +153,16 @@ fn end(listener: &TcpListener, shared: &Shared, wakers: &[Arc<Waker>]) {
         thread::sleep(Duration::from_millis(5));
     }
     let left = shared.clients.load(SeqCst);
-    note(format!("squall-redis-proxy: ends; {left} clients wait for answers"));
+    log::info(format!("ends; {left} clients wait for answers"));
 }
 
-fn share(args: &Args, threads: usize) -> Done<Shared> {
+fn share(args: &Args, threads: usize, port: u16) -> Done<Shared> {
     let node = Node::join(Options::of(args, "proxy")?)?;
-    let (parts, secret) = (args.parts()?, args.secret()?);
+    let (setup, secret) = (setup::Setup::of(args)?, args.secret()?);
     Ok(Shared {
         node,
-        tls: Acceptor::of(args)?,
+        users: users::Users::of(args)?,
+        cards: session::Cards::default(),
         first: Plan::of(args, "first")?.ranges,
         reader: secret::of_reader(&secret),
         secret,
@@ -144,9 +172,12 @@ fn share(args: &Args, threads: usize) -> Done<Shared> {
         memory: args.number("client-memory", 64, 1, 4096)? as usize * (1 << 20),
         bound: memory::Bound::of(args)?,
         tables: roles::Tables::default(),
-        watch: watch::Watch::new(parts.keys().copied()),
-        parts,
+        watch: watch::Watch::default(),
+        setup,
+        port,
+        most_clients: args.number("clients", 10_000, 1, 1_000_000)? as usize,
         clients: AtomicUsize::new(0),
+        connections: AtomicU64::new(0),
         is_ending: AtomicBool::new(false),
         arrivals: (0..threads).map(|_| Mutex::default()).collect(),
         counts: (0..threads).map(|_| counts::Counts::default()).collect(),
@@ -167,7 +198,7 @@ fn start(shared: &Arc<Shared>) -> Done<Vec<Arc<Waker>>> {
         let worker = Worker::new(poll, shared.clone(), own);
         thread::Builder::new().name(format!("worker {own}")).spawn(move || {
             if let Err(error) = worker.run() {
-                note(format!("squall-redis-proxy: {error}"));
+                log::fail(format!("{error}"));
                 std::process::exit(1);
             }
         })?;
@@ -176,7 +207,7 @@ fn start(shared: &Arc<Shared>) -> Done<Vec<Arc<Waker>>> {
 }
 
 /// Gives clients to the workers in turn, until the program is asked to end.
-fn accept(listener: &TcpListener, shared: &Shared, wakers: &[Arc<Waker>], most: usize) -> Done<()> {
+fn accept(listener: &TcpListener, shared: &Shared, wakers: &[Arc<Waker>]) -> Done<()> {
     let mut next = 0;
     let mut said = String::new();
     while !shared.is_ending.load(SeqCst) {
@@ -187,14 +218,14 @@ fn accept(listener: &TcpListener, shared: &Shared, wakers: &[Arc<Waker>], most: 
                 // With too many open files it fails for long, and this is said once.
                 let words = error.to_string();
                 if words != said {
-                    note(format!("squall-redis-proxy: to accept: {words}"));
+                    log::warn(format!("to accept: {words}"));
                 }
                 said = words;
                 thread::sleep(Duration::from_millis(100));
                 continue;
             }
         };
-        if shared.clients.load(SeqCst) >= most {
+        if shared.clients.load(SeqCst) >= shared.most_clients {
             let _ = stream.write_all(b"-ERR max number of clients reached\r\n");
             continue;
         }
@@ -202,6 +233,7 @@ fn accept(listener: &TcpListener, shared: &Shared, wakers: &[Arc<Waker>], most: 
             continue;
         };
         shared.clients.fetch_add(1, SeqCst);
+        shared.connections.fetch_add(1, SeqCst);
         let arrivals = &shared.arrivals[next];
         arrivals.lock().unwrap_or_else(PoisonError::into_inner).push(stream);
         wakers[next].wake().map_err(|error| Fault::new(error.to_string()))?;

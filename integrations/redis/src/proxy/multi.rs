@@ -1,11 +1,15 @@
 //! Transactions, and the beginning of all other tasks.
 
 use super::client::Client;
-use super::commands::Kind;
-use super::plan::{shown, Plan};
+use super::commands::{Clock, Kind};
+use super::ids::Ids;
+use super::local;
+use super::names::Names;
+use super::plan::Plan;
 use super::scan::Cursor;
 use super::serve::Flow;
-use super::task::{Deed, Queue, Task};
+use super::task::{Deed, Queue, Task, Wait};
+use super::visit::{Goal, Visit};
 use super::worker::Worker;
 use crate::keymap;
 use crate::mover::is_own;
@@ -13,6 +17,8 @@ use crate::resp::error;
 use squall::Rank;
 use std::time::Duration;
 
+/// What is answered if the moves of the course are not known yet.
+const BEGUN: &str = "-TRYAGAIN a course has just begun\r\n";
 /// No wait is longer.
 const LONGEST: f64 = 1e9;
 
@@ -45,7 +51,11 @@ impl Worker {
             b"EXEC" => self.answer_of(client, "-ERR EXEC without MULTI\r\n"),
             b"DISCARD" => self.answer_of(client, "-ERR DISCARD without MULTI\r\n"),
             // The others come after all that the client asked for before.
-            b"UNWATCH" | b"WATCH" | b"SCAN" | b"SCRIPT" if client.in_flight > 0 => Flow::Idle,
+            b"UNWATCH" | b"WATCH" | b"SCAN" | b"SCRIPT" | b"KEYS" | b"DBSIZE" | b"RANDOMKEY" | b"INFO"
+                if client.in_flight > 0 =>
+            {
+                Flow::Idle
+            }
             b"UNWATCH" => {
                 self.unwatch(client);
                 self.answer_of(client, "+OK\r\n")
@@ -53,6 +63,14 @@ impl Worker {
             b"WATCH" if is_alone => self.few(client),
             b"WATCH" => self.watch_keys(client),
             b"SCAN" if count > 1 => self.start_scan(client),
+            b"KEYS" if count == 2 => self.start_names(client),
+            b"DBSIZE" if is_alone => self.start_visit(client, Goal::Size),
+            b"RANDOMKEY" if is_alone => self.start_visit(client, Goal::Key),
+            b"INFO" => {
+                let sections = client.words().all().split_off(1);
+                self.start_visit(client, Goal::Info(sections))
+            }
+            b"SCAN" | b"KEYS" | b"DBSIZE" | b"RANDOMKEY" => self.few(client),
             b"SCRIPT" if count == 3 && client.words().at(1).eq_ignore_ascii_case(b"LOAD") => {
                 self.start(client, Kind::Script, Deed::Load(0), Vec::new())
             }
@@ -62,8 +80,8 @@ impl Worker {
     }
 
     fn few(&mut self, client: &mut Client) -> Flow {
-        let name = shown(client.words().at(0));
-        self.answer_of(client, error(&format!("ERR wrong number of arguments for '{name}' command")))
+        let answer = local::few(client.words());
+        self.answer_of(client, answer)
     }
 
     fn watch_keys(&mut self, client: &mut Client) -> Flow {
@@ -91,7 +109,7 @@ impl Worker {
             (b"WATCH", _) => return self.answer_of(client, "-ERR WATCH inside MULTI is not allowed\r\n"),
             _ => {}
         }
-        let planned = Plan::of(words);
+        let (planned, is_free) = (Plan::of(words), local::may_be_queued(words));
         let len = client.parser.len();
         let bytes = words.bytes[..len].to_vec();
         let is_full = client.memory() + len > self.shared.memory;
@@ -99,14 +117,16 @@ impl Worker {
             return Flow::On;
         };
         let answer = match planned {
-            Ok(_) if is_full => Err(error("ERR the transaction is too large")),
-            Ok(plan) => {
+            Err(refused) if !is_free => Err(refused),
+            _ if is_full => Err(error("ERR the transaction is too large")),
+            planned => {
                 queue.bytes.extend_from_slice(&bytes);
                 queue.count += 1;
-                queue.ranks.extend(plan.all_ranks());
+                // What has no key is done where the others are.
+                let keyed = planned.ok().filter(|plan| !matches!(plan, Plan::Free(..)));
+                queue.ranks.extend(keyed.into_iter().flat_map(|plan| plan.all_ranks()));
                 Ok(b"+QUEUED\r\n".to_vec())
             }
-            Err(refused) => Err(refused),
         };
         queue.is_broken |= answer.is_err();
         self.answer_of(client, answer.unwrap_or_else(|refused| refused))
@@ -129,32 +149,28 @@ impl Worker {
         let mut ranks = [&queue.ranks, watched].concat();
         ranks.sort_unstable();
         ranks.dedup();
-        if ranks.is_empty() {
+        if queue.count == 0 && ranks.is_empty() {
             return self.answer_of(client, "*0\r\n");
+        }
+        if ranks.is_empty() {
+            ranks.push(keymap::rank(b""));
         }
         self.start(client, Kind::Transaction, Deed::Exec(queue), ranks)
     }
 
     /// Begins a command that waits for a key.
-    pub(super) fn start_wait(&mut self, client: &mut Client, plan: &Plan) -> Flow {
+    pub(super) fn start_wait(&mut self, client: &mut Client, plan: &Plan, clock: Clock) -> Flow {
         client.is_ending = client.is_shut;
         if client.in_flight > 0 || client.is_ending {
             return Flow::Idle;
         }
         let words = client.words();
-        let word = words.at(plan.command().timeout_at(words.count()));
-        let seconds = std::str::from_utf8(word).ok().and_then(|word| word.parse::<f64>().ok());
-        let until = match seconds.filter(|it| it.is_finite() && *it < LONGEST) {
-            None => {
-                return self.answer_of(client, "-ERR timeout is not a float or out of range\r\n");
-            }
-            Some(seconds) if seconds < 0.0 => {
-                return self.answer_of(client, "-ERR timeout is negative\r\n");
-            }
-            Some(0.0) => None,
-            Some(seconds) => Some(self.now + Duration::from_secs_f64(seconds)),
+        let until = match read_wait(words.at(clock.at), clock.is_millis) {
+            Err(refused) => return self.answer_of(client, refused),
+            Ok(wait) => wait.map(|wait| self.now + wait),
         };
-        self.start(client, Kind::Blocking, Deed::Wait(until), plan.all_ranks())
+        let wait = Wait { until, clock, ids: Ids::of(plan, words) };
+        self.start(client, Kind::Blocking, Deed::Wait(wait), plan.all_ranks())
     }
 
     /// Begins a command that can only be guarded on a connection of the client's own.
@@ -176,7 +192,71 @@ impl Worker {
         };
         match cursor {
             Some(cursor) => self.start(client, Kind::Scan, Deed::Scan(cursor), Vec::new()),
-            None => self.answer_of(client, "-TRYAGAIN a course has just begun\r\n"),
+            None => self.answer_of(client, BEGUN),
+        }
+    }
+
+    fn start_names(&mut self, client: &mut Client) -> Flow {
+        let Some(cursor) = self.ground().and_then(|ground| Cursor::begin(&ground)) else {
+            return self.answer_of(client, BEGUN);
+        };
+        let names = Names::new(cursor, client.words().at(1));
+        self.start(client, Kind::Scan, Deed::Names(names), Vec::new())
+    }
+
+    fn start_visit(&mut self, client: &mut Client, goal: Goal) -> Flow {
+        self.start(client, Kind::Own, Deed::Visit(Visit::new(goal)), Vec::new())
+    }
+}
+
+/// How long the word lets a command wait, if there is an end; or the error that answers it.
+fn read_wait(word: &[u8], is_millis: bool) -> Result<Option<Duration>, &'static str> {
+    let text = std::str::from_utf8(word).unwrap_or_default();
+    let seconds = if is_millis {
+        let millis: i64 = text.parse().map_err(|_| "-ERR timeout is not an integer or out of range\r\n")?;
+        millis as f64 / 1000.0
+    } else {
+        text.parse().unwrap_or(f64::NAN)
+    };
+    if !seconds.is_finite() || seconds >= LONGEST {
+        let what = if is_millis {
+            "-ERR timeout is out of range\r\n"
+        } else {
+            "-ERR timeout is not a float or out of range\r\n"
+        };
+        return Err(what);
+    }
+    if seconds < 0.0 {
+        return Err("-ERR timeout is negative\r\n");
+    }
+    Ok((seconds > 0.0).then(|| Duration::from_secs_f64(seconds)))
+}
+
+#[cfg(test)]
+mod tests {
+    use super::*;
+
+    #[test]
+    fn waits_are_read() {
+        for (word, is_millis, wanted) in [
+            ("0", false, Ok(None)),
+            ("1.5", false, Ok(Some(Duration::from_millis(1500)))),
+            ("20", true, Ok(Some(Duration::from_millis(20)))),
+            ("0", true, Ok(None)),
+        ] {
+            assert_eq!(read_wait(word.as_bytes(), is_millis), wanted);
+        }
+        for (word, is_millis, why) in [
+            ("-1", false, "negative"),
+            ("-1", true, "negative"),
+            ("1.5", true, "not an integer"),
+            ("9223372036854775807", true, "out of range"),
+            ("nan", false, "not a float"),
+            ("-inf", false, "not a float"),
+            ("", false, "not a float"),
+            ("1e10", false, "not a float"),
+        ] {
+            assert!(read_wait(word.as_bytes(), is_millis).is_err_and(|it| it.contains(why)), "{word}");
         }
     }
 }

@@ -1,11 +1,12 @@
 //! Connections of clients' own, and how far their tasks are.
 
 use super::client::Client;
-use super::link::unknown;
+use super::link::{unknown, unreached};
 use super::scan::Ground;
 use super::serve::Flow;
 use super::task::{Deed, Step, Task};
 use super::upstream::{Own, State, Upstream};
+use super::visit::Visit;
 use super::worker::Worker;
 use crate::resp::{error, push};
 use std::sync::atomic::Ordering::Relaxed;
@@ -90,14 +91,21 @@ impl Worker {
             return None;
         }
         self.counts().gave_up.fetch_add(1, Relaxed);
-        Some(error("TRYAGAIN the keys move, or their partition can't be reached"))
+        let asked = task.errand.as_ref().map(|(errand, _)| errand.asked());
+        let part = task.upstream.map(|at| self.upstreams[at].part).or(asked);
+        let is_ready = task.upstream.is_some_and(|at| self.upstreams[at].is_ready(self.view.number()));
+        Some(match part.filter(|_| !is_ready) {
+            Some(part) => unreached(part),
+            None => error("TRYAGAIN the keys are on their way"),
+        })
     }
 
     /// The partition to ask, or what is answered if none can be.
     fn destination(&mut self, client: &Client, task: &mut Task) -> Result<u32, Vec<u8>> {
         match (&task.deed, &client.watch) {
             (Deed::Scan(cursor), _) => return Ok(cursor.part),
-            (&Deed::Load(from), _) => {
+            (Deed::Names(names), _) => return Ok(names.cursor.part),
+            (&Deed::Load(from) | &Deed::Visit(Visit { from, .. }), _) => {
                 let part = self.ground().and_then(|ground| ground.part_from(from));
                 return part.ok_or_else(|| error("TRYAGAIN a course has just begun"));
             }
@@ -125,7 +133,7 @@ impl Worker {
         task: &mut Task,
         part: u32,
     ) -> Option<usize> {
-        let is_resp3 = client.is_resp3;
+        let is_resp3 = client.is_resp3 && !task.is_read();
         let number = self.view.number();
         let watch = client.watch.as_ref().filter(|watch| task.is_transaction() && !watch.is_over(number));
         if let Some(at) = watch.and_then(|watch| watch.upstream) {
@@ -144,7 +152,7 @@ impl Worker {
         let at = match spare {
             Some(at) => at,
             None => {
-                let server = self.shared.parts.get(&part)?.clone();
+                let server = self.shared.setup.server(part)?;
                 self.upstreams.push(Upstream::new(part, server, is_resp3, self.now));
                 self.upstreams.len() - 1
             }
@@ -251,7 +259,8 @@ impl Worker {
     /// What is done about a task whose connection was lost before it had its answers.
     pub(super) fn judge_lost(&mut self, task: &mut Task, step: Step) -> Option<Outcome> {
         let part = task.upstream.map_or(0, |at| self.upstreams[at].part);
-        let may_repeat = step == Step::Checking || matches!(task.deed, Deed::Scan(_) | Deed::Load(_));
+        let may_repeat =
+            step == Step::Checking || matches!(task.deed, Deed::Scan(_) | Deed::Load(_)) || task.is_read();
         task.later(self.now);
         (!may_repeat).then(|| Outcome::Answer(unknown(part)))
     }

@@ -2,6 +2,7 @@
 
 use super::metrics::Shared;
 use crate::fault::{Done, Fault, Trying};
+use crate::http::{Answer, Site};
 use std::io::Write;
 use std::process::{Command, Stdio};
 use std::sync::{Arc, Mutex, PoisonError};
@@ -39,33 +40,23 @@ impl Page {
         Page { shared, program: program.into(), first: first.into(), said: Mutex::default() }
     }
 
-    /// All that Prometheus reads.
-    pub fn metrics(&self) -> Done<String> {
-        self.shared.metrics()
-    }
-
-    /// Why the proxy is not ready: a line for each reason.
-    pub fn hindrances(&self) -> Done<Vec<String>> {
-        self.shared.hindrances()
-    }
-
     /// The frames of the board, one after another.
-    pub fn board(&self) -> Done<Vec<u8>> {
+    fn board(&self) -> Done<Vec<u8>> {
         Ok(self.shared.node.board()?.concat())
     }
 
     /// The lines of the course.
-    pub fn status(&self) -> Done<String> {
+    fn status(&self) -> Done<String> {
         self.ask(Asked::Status)
     }
 
     /// The picture of the course.
-    pub fn picture(&self) -> Done<String> {
+    fn picture(&self) -> Done<String> {
         self.ask(Asked::Picture)
     }
 
     /// The page for people.
-    pub fn html(&self) -> Done<String> {
+    fn html(&self) -> Done<String> {
         let or_why = |said: Done<String>| said.unwrap_or_else(|fault| escaped(&fault.to_string()));
         let status = self.status().map(|text| escaped(&text));
         let info = self.shared.info();
@@ -74,7 +65,8 @@ impl Page {
         while let (Some(name), Some(value)) = (words.next(), words.next()) {
             rows.push_str(&format!("<tr><th>{}</th><td>{value}</td></tr>\n", name.replace('_', " ")));
         }
-        let ready = self.hindrances().map(|why| if why.is_empty() { "ready".into() } else { why.join("\n") });
+        let ready =
+            self.shared.hindrances().map(|why| if why.is_empty() { "ready".into() } else { why.join("\n") });
         let rows = rows + &self.partitions();
         let page = HTML.replace("@ready@", &escaped(&or_why(ready)));
         let page = page.replace("@rows@", &rows).replace("@status@", &or_why(status));
@@ -126,6 +118,23 @@ impl Page {
             return Err(Fault::new(format!("{} {name}: {}", self.program, why.trim_end())));
         }
         Ok(String::from_utf8_lossy(&output.stdout).into_owned())
+    }
+}
+
+impl Site for Page {
+    fn answer(&self, path: &str) -> Answer {
+        match path {
+            "/ready" => match self.shared.hindrances() {
+                Ok(why) if !why.is_empty() => Answer::down(&why.join("\n")),
+                ready => Answer::text(ready.map(|_| "ready\n")),
+            },
+            "/" => Answer::of("text/html; charset=utf-8", self.html()),
+            "/metrics" => Answer::metrics(self.shared.metrics()),
+            "/picture.svg" => Answer::of("image/svg+xml", self.picture()),
+            "/status" => Answer::text(self.status()),
+            "/board" => Answer::of("application/octet-stream", self.board()),
+            _ => Answer::missing("/  /metrics  /picture.svg  /status  /board  /ready"),
+        }
     }
 }
 

@@ -1,6 +1,7 @@
 //! What a command asks for: the keys that it touches, and how its answer is made.
 
-use super::commands::{find, Command, Guard, Split};
+use super::commands::{find, Command, Guard, Keys, Split};
+use super::feeds::Topic;
 use crate::keymap;
 use crate::mover::is_own;
 use crate::resp::{error, push};
@@ -22,6 +23,11 @@ impl<'a> Words<'a> {
         self.places.len()
     }
 
+    /// All of them.
+    pub fn all(&self) -> Vec<Vec<u8>> {
+        (0..self.count()).map(|at| self.at(at).to_vec()).collect()
+    }
+
     /// The word of that index, which is there.
     pub fn at(&self, index: usize) -> &'a [u8] {
         &self.bytes[self.places[index].clone()]
@@ -32,6 +38,8 @@ impl<'a> Words<'a> {
 pub enum Plan {
     /// As it is: all its keys have one rank.
     One(&'static Command, Rank),
+    /// As it is, at any partition: it has no key. The rank is that of the empty key, by which all proxies ask one.
+    Free(&'static Command, Rank),
     /// As it is, if all its keys are at one partition.
     Joint(&'static Command, Vec<Rank>),
     /// In parts, one for each key.
@@ -60,7 +68,12 @@ impl Plan {
         }
         let places = command.places(words.count(), |at| words.at(at));
         let mut places = places.map_err(wrong)?;
-        let first = places.next().ok_or_else(|| wrong("wrong number of arguments"))?;
+        let Some(first) = places.next() else {
+            return Ok(Plan::Free(command, keymap::rank(b"")));
+        };
+        if command.keys == Keys::Channel {
+            return channel(words.at(first)).map(|rank| Plan::One(command, rank));
+        }
         let rank = rank_at(words, first)?;
         let mut ranks = vec![];
         for at in places {
@@ -86,7 +99,10 @@ impl Plan {
     /// The command.
     pub fn command(&self) -> &'static Command {
         match self {
-            Plan::One(command, _) | Plan::Joint(command, _) | Plan::Parts(command, _, _) => command,
+            Plan::One(command, _)
+            | Plan::Free(command, _)
+            | Plan::Joint(command, _)
+            | Plan::Parts(command, _, _) => command,
         }
     }
 
@@ -106,10 +122,15 @@ impl Plan {
     /// The ranks of a request, of which there is at least one.
     pub fn ranks(&self, part: usize) -> &[Rank] {
         match self {
-            Plan::One(_, rank) => std::slice::from_ref(rank),
+            Plan::One(_, rank) | Plan::Free(_, rank) => std::slice::from_ref(rank),
             Plan::Joint(_, ranks) => ranks,
             Plan::Parts(_, _, parts) => std::slice::from_ref(&parts[part].rank),
         }
+    }
+
+    /// Whether it is done where its key is routed, also while that moves: it is about no key.
+    pub fn is_free(&self) -> bool {
+        self.command().keys == Keys::Channel
     }
 
     /// Whether a script may do it for a client of that protocol, without a change of its reply.
@@ -160,6 +181,14 @@ fn parts(keys: &[(usize, Rank)], count: usize) -> Vec<Part> {
     parts.map(|(&(at, rank), end)| Part { rank, words: at..end }).collect()
 }
 
+/// The rank of a key that has the name of a channel.
+fn channel(name: &[u8]) -> Result<Rank, Vec<u8>> {
+    if Topic::is_own(name) {
+        return Err(error("ERR channels that begin with '__key' are the servers' own"));
+    }
+    Ok(keymap::rank(name))
+}
+
 fn rank_at(words: Words, at: usize) -> Result<Rank, Vec<u8>> {
     let key = words.at(at);
     if is_own(key) {
@@ -193,6 +222,7 @@ mod tests {
     fn kind(line: &str) -> String {
         with_plan(line, |plan, _, _| match plan {
             Ok(Plan::One(_, rank)) => format!("one {rank}"),
+            Ok(Plan::Free(..)) => "free".into(),
             Ok(Plan::Joint(_, ranks)) => format!("joint {}", ranks.len()),
             Ok(Plan::Parts(_, split, parts)) => format!("{split:?} {}", parts.len()),
             Err(error) => error,
@@ -209,6 +239,11 @@ mod tests {
         assert_eq!(kind("MGET 2:7 2:7 2:8"), "List 3");
         assert_eq!(kind("MSET 2:7 a 2:8 b"), "Done 2");
         assert_eq!(kind("del 1:1 1:2"), "Sum 2");
+        assert_eq!(kind("EVAL x 0 2:7"), "free");
+        assert_eq!(kind("SORT 2:7 STORE 2:8"), "joint 2");
+        assert_eq!(kind("XREAD STREAMS 2:7 2:7:a 0 0"), "one 2:7");
+        assert!(kind("SORT 2:7 BY w_*").starts_with("-ERR a pattern of BY or GET"));
+        assert!(kind("SORT 2:7 STORE squall:x").starts_with("-ERR keys that begin"));
         assert!(kind("KEYS *").starts_with("-ERR this proxy does not serve"));
         assert!(kind("GET squall:number").starts_with("-ERR keys that begin"));
         assert!(kind("MSET 2:7 a 2:8").starts_with("-ERR wrong number"));

@@ -12,7 +12,7 @@ use crate::faults;
 use crate::keymap;
 use crate::mover::is_own;
 use crate::resp::{push, Value};
-use squall::{Course, Rank};
+use squall::{Course, Move, Rank, View};
 use std::collections::BTreeSet;
 
 /// How many bits of a cursor are the partition and one more, and those of the course's number.
@@ -44,12 +44,13 @@ pub struct Ground {
     parts: BTreeSet<u32>,
     /// The partitions to which keys move.
     pub dests: BTreeSet<u32>,
+    moves: Vec<Move>,
 }
 
 /// What a worker knows beside what it is told.
 pub struct Known<'a> {
-    /// The partition to which its view routes a key.
-    pub route: &'a dyn Fn(Rank) -> Option<u32>,
+    /// Its view, which says where keys are routed.
+    pub view: &'a View,
     /// What the partitions have said.
     pub tables: &'a Tables,
 }
@@ -58,13 +59,27 @@ impl Ground {
     /// That of a course, of which it is known whether all has come to a partition.
     pub fn of(course: &Course, has_loaded: impl Fn(u32) -> bool) -> Ground {
         let legs = course.old_plan().into_iter().chain(course.new_plan());
-        let dests: BTreeSet<u32> = course.moves().iter().map(|it| it.dest).collect();
+        let moves = course.moves();
+        let dests: BTreeSet<u32> = moves.iter().map(|it| it.dest).collect();
         Ground {
             number: course.number() % (1 << NUMBER),
             is_quiet: dests.iter().all(|&dest| has_loaded(dest)),
             parts: legs.map(|leg| leg.part).collect(),
             dests,
+            moves,
         }
+    }
+
+    /// All partitions of the course.
+    pub fn parts(&self) -> impl Iterator<Item = u32> + '_ {
+        self.parts.iter().copied()
+    }
+
+    /// The source and the destination of a key, if it moves.
+    pub fn ends(&self, rank: Rank) -> Option<[u32; 2]> {
+        let before = self.moves.partition_point(|it| it.lo <= rank);
+        let it = self.moves[..before].last().filter(|it| rank < it.hi)?;
+        Some([it.source, it.dest])
     }
 
     /// The first partition that the walk visits from that one on.
@@ -118,38 +133,58 @@ impl Cursor {
         first.map(|&part| Cursor { part, at, is_second: true, ..self })
     }
 
-    /// The client's answer of the partition's; none if that is no page of names.
-    ///
-    /// Rows are left out of which the view and their destination say that they are elsewhere: they were copied away,
-    /// and not removed yet. Those that come here stay, since the view may lag.
-    pub fn answer(self, page: &[u8], from: &Upstream, ground: &Ground, known: Known) -> Option<Vec<u8>> {
-        let (page, _) = Value::read(page).ok()??;
+    /// The page that a partition has answered; none if it is none.
+    pub fn page(self, reply: &[u8], from: &Upstream, ground: &Ground, known: &Known) -> Option<Page> {
+        let (page, _) = Value::read(reply).ok()??;
         let mut page = page.list();
-        let keys: Vec<Vec<u8>> = page.pop()?.list().into_iter().map(Value::bytes).collect();
+        let keys = page.pop()?.list().into_iter().map(Value::bytes);
+        let keys = keys.filter(|key| !is_own(key) && known.has(from, key)).collect();
         let at: u64 = page.pop()?.text().parse().ok()?;
-        let has_come = |part: u32, rank: Rank| {
-            let table = known.tables.of(part, from.number);
-            table.is_some_and(|table| table.standing(rank) == Standing::Stays)
-        };
-        let is_here = |key: &&Vec<u8>| {
-            let rank = keymap::rank(key);
-            let elsewhere = (known.route)(rank).filter(|&part| part != self.part);
-            let is_gone = match from.role(rank) {
-                Some(Role::In) => false,
-                Some(Role::Out) => elsewhere.is_some_and(|part| has_come(part, rank)),
-                Some(Role::Beside) | None => (known.route)(rank) != Some(self.part),
-            };
-            !is_own(key) && !is_gone
-        };
-        let kept: Vec<&Vec<u8>> = keys.iter().filter(is_here).collect();
-        let next = match self.next(at, ground) {
+        Some(Page { keys, next: self.next(at, ground) })
+    }
+}
+
+/// Names of keys, and where the walk goes on.
+pub struct Page {
+    /// Those of keys that are at the partition, or come there.
+    pub keys: Vec<Vec<u8>>,
+    /// None at the end of the walk.
+    pub next: Option<Cursor>,
+}
+
+impl Page {
+    /// The client's answer; none if a server's cursor is too large.
+    pub fn answer(&self) -> Option<Vec<u8>> {
+        let next = match &self.next {
             None => 0,
             Some(next) => next.number()?,
         };
         let digits = next.to_string();
         let mut answer = format!("*2\r\n${}\r\n{digits}\r\n", digits.len()).into_bytes();
-        push(&mut answer, &kept);
+        push(&mut answer, &self.keys);
         Some(answer)
+    }
+}
+
+impl Known<'_> {
+    /// Whether a row that a partition names counts as one of its.
+    ///
+    /// Rows do not of which the view and their destination say that they are elsewhere: they were copied away, and not
+    /// removed yet. Those that come count, since the view may lag.
+    pub fn has(&self, from: &Upstream, key: &[u8]) -> bool {
+        let rank = keymap::rank(key);
+        let is_current = self.view.number() == from.number;
+        let routed = if is_current { self.view.route(rank) } else { Some(from.part) };
+        let elsewhere = routed.filter(|&part| part != from.part);
+        let has_come = |part: u32| {
+            let table = self.tables.of(part, from.number);
+            table.is_some_and(|table| table.standing(rank) == Standing::Stays)
+        };
+        match from.role(rank) {
+            Some(Role::In) => true,
+            Some(Role::Out) => !elsewhere.is_some_and(has_come),
+            Some(Role::Beside) | None => routed == Some(from.part),
+        }
     }
 }
 
@@ -158,7 +193,8 @@ mod tests {
     use super::*;
 
     fn ground(number: u32, is_quiet: bool) -> Ground {
-        Ground { number, is_quiet, parts: BTreeSet::from([1, 2, 9999]), dests: BTreeSet::from([2]) }
+        let (parts, dests) = (BTreeSet::from([1, 2, 9999]), BTreeSet::from([2]));
+        Ground { number, is_quiet, parts, dests, moves: Vec::new() }
     }
 
     #[test]

@@ -3,6 +3,7 @@
 use super::client::Client;
 use super::commands::Kind;
 use super::follow::Targets;
+use super::link::unreached;
 use super::local;
 use super::plan::{Plan, Words};
 use super::socket::A_TURN;
@@ -10,6 +11,9 @@ use super::upstream::{Due, InFlight};
 use super::worker::Worker;
 use crate::resp::{error, Broken};
 use std::sync::atomic::Ordering::Relaxed;
+
+/// No word is longer of one who has to log in first.
+const STRANGER: usize = 1 << 14;
 
 /// What a client's next command came to.
 #[derive(PartialEq)]
@@ -103,7 +107,8 @@ impl Worker {
         if client.is_ending || !self.has_room(client) {
             return Flow::Idle;
         }
-        if !read_command(client, self.shared.memory) {
+        let most = if client.session.is_stranger() { STRANGER } else { self.shared.memory };
+        if !read_command(client, most) {
             return Flow::Hungry;
         }
         let words = Words { bytes: &client.input[client.next..], places: client.parser.words() };
@@ -111,16 +116,22 @@ impl Worker {
             client.skip();
             return Flow::On;
         }
-        // Each protocol has connections of its own, on which commands could overtake those before.
-        if client.in_flight > 0 && words.at(0).eq_ignore_ascii_case(b"HELLO") {
-            return Flow::Idle;
+        if let Some(flow) = self.bound(client).or_else(|| self.session(at, client)) {
+            return flow;
         }
-        if client.queue.is_some() {
+        let words = Words { bytes: &client.input[client.next..], places: client.parser.words() };
+        if client.queue.is_some() && !words.at(0).eq_ignore_ascii_case(b"QUIT") {
             return self.queue(client);
         }
+        if let Some(flow) = self.subscription(at, client) {
+            return flow;
+        }
+        let words = client.words();
         match Plan::of(words) {
-            Ok(plan) if plan.command().waits() => self.start_wait(client, &plan),
-            Ok(plan) => self.send(at, client, plan),
+            Ok(plan) => match plan.command().clock(words.count(), |at| words.at(at)) {
+                Some(clock) => self.start_wait(client, &plan, clock),
+                None => self.send(at, client, plan),
+            },
             Err(refused) => match self.special(client) {
                 Some(flow) => flow,
                 None => self.answer_here(client, refused),
@@ -132,7 +143,7 @@ impl Worker {
     fn answer_here(&mut self, client: &mut Client, refused: Vec<u8>) -> Flow {
         let words = Words { bytes: &client.input[client.next..], places: client.parser.words() };
         let shared = self.shared.clone();
-        let local = local::answer(words, client.is_resp3, &self.view, || shared.info());
+        let local = local::answer(words, &self.view, || shared.info());
         self.turn.count(Kind::Own);
         match local {
             None => {
@@ -141,12 +152,6 @@ impl Worker {
             }
             Some(local) => {
                 client.add_answer(local.answer);
-                // The connection that watches its keys speaks the other protocol.
-                let is_other = local.proto.is_some_and(|proto| client.is_resp3 != (proto == 3));
-                if let Some(watch) = client.watch.as_mut().filter(|_| is_other) {
-                    watch.is_broken = true;
-                }
-                client.is_resp3 = local.proto.map_or(client.is_resp3, |proto| proto == 3);
                 client.is_ending |= local.is_end;
             }
         }
@@ -163,7 +168,7 @@ impl Worker {
         };
         match targets {
             Err(refused) => client.add_answer(refused),
-            Ok(None) => return self.wait(client),
+            Ok(None) => return self.wait(client, &plan),
             Ok(Some(Targets::Own)) => return self.start_one(client, &plan),
             Ok(Some(targets)) => {
                 if let Some(since) = client.waits_since.take() {
@@ -206,14 +211,16 @@ impl Worker {
     }
 
     /// Waits with a command, and refuses it once that took too long.
-    fn wait(&mut self, client: &mut Client) -> Flow {
+    fn wait(&mut self, client: &mut Client, plan: &Plan) -> Flow {
         let since = *client.waits_since.get_or_insert(self.now);
         if self.now - since < self.shared.wait {
             return Flow::Blocked;
         }
         client.waits_since = None;
         self.counts().gave_up.fetch_add(1, Relaxed);
-        client.add_answer(error("TRYAGAIN the partition does not let this proxy in, or can't be reached"));
+        let part = self.unready(&plan.all_ranks(), client.is_resp3);
+        let busy = || error("TRYAGAIN what was asked before is not answered yet");
+        client.add_answer(part.map_or_else(busy, unreached));
         Flow::On
     }
 }
@@ -221,11 +228,13 @@ impl Worker {
 /// Reads a client's next command: whether it is whole. If it is none, or none comes any more, the client is
 /// ending.
 fn read_command(client: &mut Client, most: usize) -> bool {
-    let rest = &client.input[client.next..];
-    let read = match client.parser.read(rest, most) {
-        Ok(false) if rest.len() >= most => Err(Broken("too large a command")),
-        read => read,
-    };
+    let read = client.unfold().and_then(|is_there| {
+        let rest = &client.input[client.next..];
+        match is_there && client.parser.read(rest, most)? {
+            false if rest.len() >= most => Err(Broken("too large a command")),
+            is_whole => Ok(is_whole),
+        }
+    });
     match read {
         Ok(true) => true,
         Ok(false) => {

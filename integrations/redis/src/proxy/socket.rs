@@ -2,6 +2,7 @@
 
 use crate::conn::Server;
 use crate::fault::Done;
+use crate::keep_alive::KeepAlive;
 use crate::tls::{self, Acceptor};
 use mio::net::TcpStream;
 use openssl::ssl::SslStream;
@@ -116,6 +117,14 @@ impl Drop for Socket {
             tls::end(&mut session.stream);
         }
     }
+}
+
+/// Makes a client's connection one that never waits, and that is closed if the client has gone without a word.
+pub fn ready_stream(stream: std::net::TcpStream, keep_alive: KeepAlive) -> io::Result<TcpStream> {
+    stream.set_nonblocking(true)?;
+    stream.set_nodelay(true)?;
+    keep_alive.set(&stream)?;
+    Ok(TcpStream::from_std(stream))
 }
 
 /// Bytes that are to be sent.

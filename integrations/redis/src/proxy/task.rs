@@ -1,7 +1,12 @@
 //! Commands that are done on a connection of the client's own: transactions, scripts on keys that
 //! move, commands that wait, and those that visit partition after partition.
 
+use super::commands::Clock;
+use super::ids::Ids;
+use super::names::Names;
+use super::plan::Words;
 use super::scan::Cursor;
+use super::visit::Visit;
 use squall::{Errand, Rank};
 use std::time::{Duration, Instant};
 
@@ -10,6 +15,9 @@ const FIRST: Duration = Duration::from_millis(2);
 const LAST: Duration = Duration::from_millis(50);
 /// The pause before a key that may be given at any moment is looked at again.
 const LOOK: Duration = Duration::from_millis(10);
+
+/// No wait is sent on that is shorter: 0 has no end.
+const SHORTEST: Duration = Duration::from_millis(1);
 
 /// The commands of a transaction, until EXEC or DISCARD.
 #[derive(Default)]
@@ -51,12 +59,46 @@ pub enum Deed {
     Exec(Queue),
     /// Does a command in one step with its guard.
     One,
-    /// Waits for a key until then, if there is an end. Only a partition says that there was none.
-    Wait(Option<Instant>),
+    /// Waits for a key.
+    Wait(Wait),
     /// Reads names of keys.
     Scan(Cursor),
+    /// Reads the names of all keys.
+    Names(Names),
+    /// Asks each partition, and then answers.
+    Visit(Visit),
     /// Gives a script to each partition from this one on.
     Load(u32),
+}
+
+/// How a command waits.
+pub struct Wait {
+    /// Until when, if there is an end. Only a partition says that nothing came.
+    pub until: Option<Instant>,
+    /// The word that says so.
+    pub clock: Clock,
+    /// The IDs that are found before it waits.
+    pub ids: Ids,
+}
+
+impl Wait {
+    /// The words of the command that waits from now on.
+    pub fn words(&self, words: Words, now: Instant) -> Vec<Vec<u8>> {
+        let mut all = self.ids.words(words);
+        all[self.clock.at] = self.left(now).into_bytes();
+        all
+    }
+
+    /// Its word for what is left of the time at that moment. 0 has no end.
+    fn left(&self, now: Instant) -> String {
+        let left = self.until.map(|until| until.saturating_duration_since(now).max(SHORTEST));
+        let left = left.unwrap_or_default();
+        if self.clock.is_millis {
+            left.as_micros().div_ceil(1000).to_string()
+        } else {
+            format!("{:.3}", left.as_secs_f64())
+        }
+    }
 }
 
 /// What a connection was asked last.
@@ -122,6 +164,19 @@ impl Task {
         matches!(self.deed, Deed::Watch | Deed::Exec(_))
     }
 
+    /// How many bytes it holds for its answer.
+    pub fn held(&self) -> usize {
+        match &self.deed {
+            Deed::Names(names) => names.bytes,
+            _ => 0,
+        }
+    }
+
+    /// Whether it asks by RESP2, since the proxy reads the answers. Those of the others go to the client as they are.
+    pub fn is_read(&self) -> bool {
+        matches!(self.deed, Deed::Names(_) | Deed::Visit(_))
+    }
+
     /// Whether it waits for answers.
     pub fn is_waiting(&self) -> bool {
         self.step != Step::Idle && !self.is_lost && self.replies.len() < self.due
@@ -140,8 +195,36 @@ impl Task {
         (self.since, self.again, self.pause) = (now, again, FIRST);
     }
 
+    /// A partition has served it, and it goes on at once.
+    pub fn go_on(&mut self, now: Instant) {
+        (self.since, self.again, self.pause) = (now, now, FIRST);
+    }
+
     /// Whether it has something to do now.
     pub fn is_due(&self, now: Instant, views: u64) -> bool {
         now >= self.again || self.errand.as_ref().is_some_and(|&(_, begun)| begun != views)
+    }
+}
+
+#[cfg(test)]
+mod tests {
+    use super::*;
+
+    #[test]
+    fn what_is_left_is_never_0() {
+        let now = Instant::now();
+        let left = |millis: u64, is_millis| {
+            let until = (millis > 0).then(|| now + Duration::from_millis(millis));
+            let wait = Wait { until, clock: Clock { at: 1, is_millis }, ids: Ids::default() };
+            [wait.left(now), wait.left(now + Duration::from_micros(1_999_500))]
+        };
+        assert_eq!(left(2000, true), ["2000", "1"]);
+        assert_eq!(left(1000, true), ["1000", "1"]);
+        assert_eq!(left(2500, false), ["2.500", "0.500"]);
+        assert_eq!(left(1000, false), ["1.000", "0.001"]);
+        assert_eq!(
+            (left(0, true), left(0, false)),
+            (["0", "0"].map(String::from), ["0.000", "0.000"].map(String::from))
+        );
     }
 }

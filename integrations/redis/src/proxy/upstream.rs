@@ -3,7 +3,8 @@
 use super::roles::{Role, Standing, Table, Tables};
 use super::socket::{drop_first, receive, Out, Received, Socket, A_TURN, KEPT};
 use crate::conn::Server;
-use crate::fault::{note, Done};
+use crate::fault::Done;
+use crate::log;
 use crate::resp::{push, Scan};
 use crate::user;
 use mio::net::TcpStream;
@@ -53,6 +54,8 @@ pub enum Due {
     Request(InFlight),
     /// How far the partition is with its moves.
     Moves,
+    /// That it is there.
+    Beat,
 }
 
 /// A connection to a partition.
@@ -61,7 +64,8 @@ pub struct Upstream {
     pub part: u32,
     /// Whether it speaks RESP3.
     pub is_resp3: bool,
-    server: Server,
+    /// Its address, and how to connect there.
+    pub server: Server,
     /// The connection, if there is one.
     pub stream: Option<Socket>,
     /// What it is at.
@@ -93,6 +97,8 @@ pub struct Upstream {
     pub is_dirty: bool,
     /// What it is to the client whose own it is, if it is no connection of all clients.
     pub own: Option<Own>,
+    /// Whether it tells of messages.
+    pub is_feed: bool,
 }
 
 /// A connection that serves one client at a time.
@@ -132,6 +138,7 @@ impl Upstream {
             progress: now,
             is_dirty: false,
             own: None,
+            is_feed: false,
         }
     }
 
@@ -148,7 +155,7 @@ impl Upstream {
     pub fn drop_stream(&mut self, now: Instant) -> VecDeque<InFlight> {
         let stream = self.stream.take();
         if let Some(fault) = stream.as_ref().and_then(Socket::fault).filter(|it| *it != self.shown_fault) {
-            note(format!("partition {}: {fault}", self.part));
+            log::warn(format!("partition {}: {fault}", self.part));
             self.shown_fault = fault.to_string();
         }
         self.state = State::Down(now + AGAIN);
@@ -161,6 +168,7 @@ impl Upstream {
             match due {
                 Due::Request(sent) => lost.push_back(sent),
                 Due::Moves => self.table.end_question(now),
+                Due::Beat => {}
             }
         }
         lost
@@ -192,7 +200,7 @@ impl Upstream {
         if is_refused && !was_refused && self.shown != self.number {
             self.shown = self.number;
             let why = String::from_utf8_lossy(&reply[1..]);
-            note(format!("partition {} refuses course {}: {}", self.part, self.number, why.trim_end()));
+            log::warn(format!("partition {} refuses course {}: {}", self.part, self.number, why.trim_end()));
         }
         if left > 1 {
             self.state = State::Entering(left - 1, is_refused);

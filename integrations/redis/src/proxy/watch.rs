@@ -4,7 +4,8 @@
 use super::metrics::Shared;
 use crate::bus::report;
 use crate::conn::{Conn, Server};
-use crate::fault::{note, Done, Fault};
+use crate::fault::{Done, Fault};
+use crate::log;
 use crate::resp::Value;
 use crate::secret::READER;
 use crate::user;
@@ -29,6 +30,7 @@ const PATIENCE: Duration = Duration::from_secs(2);
 const MOST: usize = 32;
 
 /// What was seen of the partitions: why each of them can't be used, or nothing if it can.
+#[derive(Default)]
 pub struct Watch {
     states: Mutex<BTreeMap<u32, Option<String>>>,
     hurries: Mutex<u64>,
@@ -40,16 +42,6 @@ fn lock<T>(mutex: &Mutex<T>) -> MutexGuard<'_, T> {
 }
 
 impl Watch {
-    /// That of partitions that were not looked at.
-    pub fn new(parts: impl Iterator<Item = u32>) -> Watch {
-        let unknown = |part| (part, Some("was not looked at yet".to_string()));
-        Watch {
-            states: Mutex::new(parts.map(unknown).collect()),
-            hurries: Mutex::default(),
-            news: Condvar::new(),
-        }
-    }
-
     /// Looks at once, since a partition has refused this proxy.
     pub fn hurry(&self) {
         *lock(&self.hurries) += 1;
@@ -73,6 +65,8 @@ struct Eye {
     part: u32,
     server: Server,
     conn: Option<Conn>,
+    /// Whether it is said that the partition is down.
+    is_down: bool,
 }
 
 /// What a partition made of a log-in.
@@ -81,10 +75,12 @@ enum Seen {
     Refused(String),
 }
 
-/// Looks at all partitions for ever, in threads of their own.
-pub fn start(shared: &Arc<Shared>) {
-    let mut eyes: Vec<Eye> =
-        shared.parts.iter().map(|(&part, server)| Eye { part, server: server.clone(), conn: None }).collect();
+/// Looks at these partitions for ever, in threads of their own.
+pub fn start(shared: &Arc<Shared>, parts: &[u32]) {
+    let unknown = |&part| (part, Some("was not looked at yet".to_string()));
+    lock(&shared.watch.states).extend(parts.iter().map(unknown));
+    let eye = |&part| Some(Eye { part, server: shared.setup.server(part)?, conn: None, is_down: false });
+    let mut eyes: Vec<Eye> = parts.iter().filter_map(eye).collect();
     let size = eyes.len().div_ceil(MOST);
     while !eyes.is_empty() {
         let mut some = eyes.split_off(eyes.len().saturating_sub(size));
@@ -102,6 +98,12 @@ pub fn start(shared: &Arc<Shared>) {
 
 impl Eye {
     fn look(&mut self, shared: &Shared) {
+        if let Some(server) = shared.setup.server(self.part) {
+            if server.addr != self.server.addr {
+                self.conn = None;
+            }
+            self.server = server;
+        }
         let mut number = shared.node.number();
         let mut seen = self.enter(shared, number);
         let asks = match &seen {
@@ -124,12 +126,27 @@ impl Eye {
                 Some(format!("does not answer: {fault}"))
             }
         };
+        self.say(why.as_deref());
         lock(&shared.watch.states).insert(self.part, why);
         match learned {
             Ok(true) => shared.watch.hurry(),
             Ok(false) => {}
             // It has no such user yet, or is gone by now.
             Err(_) => self.conn = None,
+        }
+    }
+
+    /// Says that the partition does not answer, and that it lets this proxy in again.
+    fn say(&mut self, why: Option<&str>) {
+        match why {
+            Some(why) if !self.is_down && self.conn.is_none() => {
+                log::warn(format!("partition {} {why}", self.part));
+                self.is_down = true;
+            }
+            None if std::mem::take(&mut self.is_down) => {
+                log::info(format!("partition {} is up again", self.part));
+            }
+            _ => {}
         }
     }
 
@@ -187,9 +204,7 @@ impl Eye {
         }
         if shared.node.number() != before {
             let number = shared.node.number();
-            note(format!(
-                "squall-redis-proxy: the bus did not tell of course {number}; partition {part} has"
-            ));
+            log::warn(format!("the bus did not tell of course {number}; partition {part} has"));
         }
         Ok(is_news)
     }

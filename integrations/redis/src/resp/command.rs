@@ -86,11 +86,7 @@ fn head(bytes: &[u8], at: usize, mark: u8) -> Result<Option<(i64, usize)>, Broke
         return Ok(None);
     };
     if rest[0] != mark {
-        return Err(Broken(if mark == b'*' {
-            "expected '*': inline commands are not served"
-        } else {
-            "expected '$'"
-        }));
+        return Err(Broken(if mark == b'*' { "expected '*'" } else { "expected '$'" }));
     }
     let window = &rest[..rest.len().min(MOST_DIGITS + 3)];
     let Some(len) = window.iter().position(|&byte| byte == b'\r') else {

@@ -1,12 +1,14 @@
 //! RESP, the protocol of Redis, in its versions 2 and 3.
 
 mod command;
+mod inline;
 mod reply;
 mod value;
 
 pub use command::Parser;
+pub use inline::unfold;
 pub use reply::Scan;
-pub use value::{error, push, Value};
+pub use value::{error, push, texts, Value};
 
 /// Why bytes are no RESP.
 #[derive(Clone, Copy, Debug, PartialEq, Eq)]

@@ -90,6 +90,21 @@ fn list(bytes: &[u8], mut at: usize, count: usize, depth: usize) -> Result<(Valu
     Ok((Value::List(list), at))
 }
 
+/// The texts with which a list or a push begins.
+pub fn texts(list: &[u8]) -> Vec<&[u8]> {
+    let mut texts = Vec::new();
+    let mut at = line(list, 0).map_or(list.len(), |(_, next)| next);
+    while let Some((head, next)) = line(list, at) {
+        let len = head.strip_prefix(b"$").and_then(number).and_then(|len| usize::try_from(len).ok());
+        let Some(text) = len.and_then(|len| list.get(next..next + len)) else {
+            break;
+        };
+        texts.push(text);
+        at = next + text.len() + 2;
+    }
+    texts
+}
+
 /// Appends a command.
 pub fn push<W: AsRef<[u8]>>(out: &mut Vec<u8>, words: &[W]) {
     count(out, b'*', words.len());
@@ -132,6 +147,16 @@ mod tests {
         let deep = |depth| ["*1\r\n".repeat(depth), ":1\r\n".into()].concat();
         assert!(Value::read(deep(DEEPEST).as_bytes()).is_ok());
         assert!(Value::read(deep(1_000_000).as_bytes()).is_err());
+    }
+
+    #[test]
+    fn texts_are_read() {
+        assert_eq!(
+            texts(b">3\r\n$7\r\nmessage\r\n$0\r\n\r\n$2\r\n\r\n\r\n"),
+            [&b"message"[..], b"", b"\r\n"]
+        );
+        assert_eq!(texts(b">3\r\n$9\r\nsubscribe\r\n$1\r\na\r\n:1\r\n"), [&b"subscribe"[..], b"a"]);
+        assert!(texts(b">1\r\n$9\r\ncut").is_empty() && texts(b"-ERR x").is_empty());
     }
 
     #[test]

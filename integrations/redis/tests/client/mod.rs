@@ -75,6 +75,18 @@ pub fn is_moving() -> bool {
     std::env::var("SQUALL_COURSE").is_ok_and(|course| course == "2")
 }
 
+/// A text of a reply.
+#[allow(dead_code)]
+pub fn bulk(text: &str) -> String {
+    format!("${}\r\n{text}\r\n", text.len())
+}
+
+/// Whether a command was refused since its keys are at several partitions.
+#[allow(dead_code)]
+pub fn is_apart(reply: &str) -> bool {
+    reply.starts_with("-CROSSSLOT ") || is_moving() && reply.starts_with("-TRYAGAIN ")
+}
+
 /// The bytes of a command.
 pub fn command(line: &str) -> Vec<u8> {
     let words: Vec<&str> = line.split(' ').collect();

@@ -1,7 +1,7 @@
-//! The port of the status page and of Prometheus.
+//! The port of Prometheus, and of a proxy's status page.
 
-use super::page::Page;
 use crate::conn::steady;
+use crate::fault::Done;
 use std::io::{self, Read, Write};
 use std::net::{TcpListener, TcpStream};
 use std::sync::atomic::{AtomicUsize, Ordering::SeqCst};
@@ -18,15 +18,54 @@ const MOST: usize = 32;
 /// No head of a request is longer.
 const LONGEST: usize = 1 << 13;
 
+const TEXT: &str = "text/plain; charset=utf-8";
+const DOWN: &str = "503 Service Unavailable";
+
+/// What a port shows.
+pub trait Site: Send + Sync {
+    /// The answer to a request for a path.
+    fn answer(&self, path: &str) -> Answer;
+}
+
 /// An answer.
-struct Answer {
+pub struct Answer {
     status: &'static str,
     kind: &'static str,
     body: Vec<u8>,
 }
 
+impl Answer {
+    /// A body of that kind, or why there is none.
+    pub fn of(kind: &'static str, body: Done<impl Into<Vec<u8>>>) -> Answer {
+        match body {
+            Ok(body) => Answer { status: "200 OK", kind, body: body.into() },
+            Err(fault) => Answer::down(&fault.to_string()),
+        }
+    }
+
+    /// A text, or why there is none.
+    pub fn text(body: Done<impl Into<Vec<u8>>>) -> Answer {
+        Answer::of(TEXT, body)
+    }
+
+    /// All that Prometheus reads.
+    pub fn metrics(body: Done<String>) -> Answer {
+        Answer::of("text/plain; version=0.0.4", body)
+    }
+
+    /// Why something can't be done now.
+    pub fn down(why: &str) -> Answer {
+        Answer { status: DOWN, kind: TEXT, body: format!("{why}\n").into_bytes() }
+    }
+
+    /// That there is no such path, but those.
+    pub fn missing(paths: &str) -> Answer {
+        Answer { status: "404 Not Found", kind: TEXT, body: format!("{paths}\n").into_bytes() }
+    }
+}
+
 /// Answers the requests on a port, each in a thread of its own, for ever.
-pub fn serve(listener: &TcpListener, page: &Arc<Page>) {
+pub fn serve<S: Site + 'static>(listener: &TcpListener, site: &Arc<S>) {
     let under_way = Arc::new(AtomicUsize::new(0));
     for stream in listener.incoming() {
         let Ok(stream) = stream else {
@@ -36,21 +75,21 @@ pub fn serve(listener: &TcpListener, page: &Arc<Page>) {
         if under_way.load(SeqCst) >= MOST {
             continue;
         }
-        let (page, count) = (page.clone(), under_way.clone());
+        let (site, count) = (site.clone(), under_way.clone());
         under_way.fetch_add(1, SeqCst);
         thread::spawn(move || {
             // One that reads slowly is given up.
-            let _ = answer(stream, &page);
+            let _ = answer(stream, &*site);
             count.fetch_sub(1, SeqCst);
         });
     }
 }
 
-fn answer(mut stream: TcpStream, page: &Page) -> io::Result<()> {
+fn answer(mut stream: TcpStream, site: &dyn Site) -> io::Result<()> {
     stream.set_read_timeout(Some(PATIENCE))?;
     stream.set_write_timeout(Some(PATIENCE))?;
     let Answer { status, kind, body } = match read(&mut stream)? {
-        Some(path) => of(&path, page),
+        Some(path) => site.answer(&path),
         None => return Ok(()),
     };
     write!(
@@ -81,36 +120,6 @@ fn read(stream: &mut TcpStream) -> io::Result<Option<String>> {
     let is_get = words.next() == Some("GET");
     let path = words.next().filter(|_| is_get);
     Ok(path.map(|path| path.split('?').next().unwrap_or_default().to_string()))
-}
-
-fn of(path: &str, page: &Page) -> Answer {
-    const TEXT: &str = "text/plain; charset=utf-8";
-    const DOWN: &str = "503 Service Unavailable";
-    let (kind, body) = match path {
-        "/ready" => match page.hindrances() {
-            Ok(why) if !why.is_empty() => {
-                let body = format!("{}\n", why.join("\n")).into_bytes();
-                return Answer { status: DOWN, kind: TEXT, body };
-            }
-            ready => (TEXT, ready.map(|_| b"ready\n".to_vec())),
-        },
-        "/" => ("text/html; charset=utf-8", page.html().map(String::into_bytes)),
-        "/metrics" => ("text/plain; version=0.0.4", page.metrics().map(String::into_bytes)),
-        "/picture.svg" => ("image/svg+xml", page.picture().map(String::into_bytes)),
-        "/status" => (TEXT, page.status().map(String::into_bytes)),
-        "/board" => ("application/octet-stream", page.board()),
-        _ => {
-            let body = b"/  /metrics  /picture.svg  /status  /board  /ready\n".to_vec();
-            return Answer { status: "404 Not Found", kind: TEXT, body };
-        }
-    };
-    match body {
-        Ok(body) => Answer { status: "200 OK", kind, body },
-        Err(fault) => {
-            let body = format!("{fault}\n").into_bytes();
-            Answer { status: DOWN, kind: TEXT, body }
-        }
-    }
 }
 
 #[cfg(test)]
