@@ -88,11 +88,16 @@ def crates() -> dict[str, Crate]:
 
 def below(known: dict[str, Crate], name: str) -> list[str]:
     """The crates of this repository below the crate, each once and after those on which it stands."""
-    found: list[str] = []
-    for one in known[name].uses:
-        if one in known:
-            found += [it for it in [*below(known, one), one] if it not in found]
-    return found
+    found: dict[str, None] = {}
+
+    def visit(one: str) -> None:
+        for it in known[one].uses:
+            if it in known and it not in found:
+                visit(it)
+                found[it] = None
+
+    visit(name)
+    return list(found)
 
 
 def kit(known: dict[str, Crate]) -> list[str]:

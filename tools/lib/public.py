@@ -8,7 +8,7 @@ from pathlib import Path
 sys.dont_write_bytecode = True
 import house
 
-TESTS = re.compile(r"squall_test_|squall_(acceptance|example)$")
+TESTS = re.compile(r"squall_test_")
 NAMED = re.compile(r"^pub (?:\w+ )*?(?:fn|struct|enum|trait|type) (\w+)", re.MULTILINE)
 PASSED = re.compile(r"^pub use crate::\w+::(\{[^}]*\}|\w+);", re.MULTILINE)
 

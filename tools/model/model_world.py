@@ -1,6 +1,6 @@
 """Worlds of random events, for tools/model."""
 from model_draw import Lines, Trial
-from plain import PLACES, bound
+from plain import PLACES, Facts, bound, spans_of
 from plain_world import Refused, World
 
 EVENTS = 5000
@@ -56,8 +56,7 @@ class Events:
             sub = draw.randrange(4)
             self.ask(f"finish {part} {sub}", world.finish, part, sub)
         elif kind == 5:
-            node = self.node()
-            self.ask(f"send {node}", world.send, node)
+            self.send(self.node())
         elif kind == 6:
             message, node = self.index(len(world.messages)), self.node()
             self.ask(f"deliver {message} {node}", world.deliver, message, node)
@@ -112,6 +111,35 @@ class Events:
         for router in range(self.world.routers):
             for place in range(PLACES):
                 self.follow(router, place)
+
+    def send(self, node):
+        """The node sends all that it knows or a report, which now and then it does not know."""
+        if self.draw.randrange(2):
+            self.ask(f"send {node}", self.world.send, node)
+        else:
+            said = Facts()
+            report = self.report(self.world.facts.get(node, Facts()), said)
+            self.ask(f"send {node} {report}", self.world.send_part, node, said)
+
+    def report(self, known, said):
+        """A report, mostly of what is known, which `said` takes: its words."""
+        draw = self.draw
+        facts = [("loaded", known.loaded), ("done", known.done), ("opened", known.opened)]
+        drawn = [(kind, at) for kind, places in facts for at in sorted(places)]
+        if not drawn or not draw.randrange(6):
+            return draw.report(said, [])
+        kind, at = draw.choice(drawn)
+        if kind == "loaded":
+            lo, hi = draw.choice(spans_of(known.loaded[at]))
+            lo, hi = draw.choice([(lo, hi), (lo, lo + 1), (hi - 1, hi), (lo, min(PLACES, hi + draw.randrange(2)))])
+            said.load(at, range(lo, hi))
+            return f"loaded {at[0]} {at[1]} {at[2]} {bound(lo)} {bound(hi)}"
+        if kind == "done":
+            said.done.add(at)
+            return f"done {at[0]} {at[1]} {at[2]}"
+        sub = draw.randrange(known.opened[at])
+        said.open(at, sub)
+        return f"opened {at} {sub}"
 
     def tell(self, sender, receivers):
         """A node sends what it knows; one message in 24 is lost."""

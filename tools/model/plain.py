@@ -87,6 +87,13 @@ class Facts:
         for number, pairs in other.issued.items():
             self.issued.setdefault(number, set()).update(pairs)
 
+    def covers(self, other):
+        """Whether these tell all that the others tell."""
+        loads = all(keys <= self.loaded.get(cell, set()) for cell, keys in other.loaded.items())
+        opened = all(count <= self.opened.get(number, 0) for number, count in other.opened.items())
+        issued = all(pairs <= self.issued.get(number, set()) for number, pairs in other.issued.items())
+        return loads and opened and issued and other.done <= self.done
+
     def copied(self):
         copy = Facts()
         copy.join(self)

@@ -146,6 +146,13 @@ class World:
         self.messages.append(self.node(name).copied())
         return f"sent {len(self.messages) - 1}"
 
+    def send_part(self, name, said):
+        """The node sends these facts alone, if it knows all of them."""
+        if not self.node(name).covers(said):
+            raise Refused("NotKnown")
+        self.messages.append(said.copied())
+        return f"sent {len(self.messages) - 1}"
+
     def deliver(self, index, name):
         facts = self.node(name)
         if index >= len(self.messages):

@@ -52,7 +52,7 @@ def packages(kind: type, folder: Path, whole: Path, version: str) -> list[Any]:
     copies = {source / it: f"usr/bin/{it}" for it in redis_programs.NAMES}
     copies |= {it: f"{UNITS}/{it.name}" for it in source.glob("systemd/*.service")}
     copies |= {it: f"{USERS}/{it.name}" for it in source.glob("systemd/*.conf")}
-    copies |= {it: f"{DOCUMENTS}/examples/{it.name}" for it in source.glob("default/*")}
+    copies |= {it: f"{DOCUMENTS}/examples/{it.name}" for it in [*source.glob("default/*"), *source.glob("monitoring/*")]}
     for file, name in copies.items():
         (whole / name).parent.mkdir(parents=True, exist_ok=True)
         shutil.copy(file, whole / name)

@@ -158,7 +158,7 @@ def fill(stage: Path, said: str | None, version: str) -> None:
     for name, folder in PROGRAMS.items():
         text = (PACKAGE / "src" / folder / "help.txt").read_text(encoding="utf-8")
         put(stage / f"redis/man/squall-redis-{name}.1", page(f"squall-redis-{name}", text, version).encode())
-    for part in ("default", "systemd"):
+    for part in ("default", "monitoring", "systemd"):
         shutil.copytree(PACKAGE / part, stage / "redis" / part)
 
 
