@@ -5,7 +5,7 @@ import sys
 from pathlib import Path
 
 sys.dont_write_bytecode = True
-sys.path.append(str(Path(__file__).resolve().parent.parent.parent / "tools"))
+sys.path.append(str(Path(__file__).resolve().parents[2] / "tools" / "model"))
 from plain_board import Board, Change, union
 from plain_frames import TOP
 
