@@ -193,7 +193,7 @@ one_log p q r s (c ∷ cs) (x ∷ xs) (y ∷ ys) is js same h g =
 
 -- no call tells a partition from itself
 pub itself : (p : PartValue) → IsSamePart p p
-itself p = record { id = refl; first = refl; board = refl; held = refl; given = λ n. refl; loaded = λ n. refl; }
+itself p = record { id = refl; first = refl; board = refl; held = refl; given = λ n. refl; loaded = λ n. refl }
 
 -- what a log leads to from one partition is one
 pub one_lead : (p r s : PartValue) (calls : List Call) → IsPart p → Leads p calls r → Leads p calls s → IsSamePart r s
