@@ -5,4 +5,10 @@ pub use Rattle.squall_part.specs.Parts
 pub use Rattle.squall_part.specs.Giving
 pub use Rattle.squall_part.specs.Loading
 pub use Rattle.squall_part.specs.Serving
+pub use Rattle.squall_nodes.specs.Standing
+pub use Rattle.squall_nodes.specs.PartCalls
+pub use Rattle.squall_rows.specs.Rows
+pub use Rattle.squall_rows.specs.RowSteps
+pub mod Acts
+pub mod Memory
 pub mod Stores

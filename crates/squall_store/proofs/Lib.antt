@@ -1,0 +1,4 @@
+mod Acts
+mod Firsts
+mod Promised
+mod Standing
