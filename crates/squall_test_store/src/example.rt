@@ -1,0 +1,37 @@
+//! The example of the first page of `squall_store`.
+
+use crate::stores::{ran, store};
+use squall_key::Key;
+use squall_part::Load;
+use squall_store::{Bytes, Command, MemoryRows, Store};
+use std::alloc::Global;
+use std::process::Abort;
+
+fn row_moves(
+    rt: &impl Abort,
+    alloc: Global,
+    source: &mut Store<MemoryRows>,
+    dest: &mut Store<MemoryRows>,
+) -> Option<()> {
+    let key = Key::new(2, 7)?;
+    let put = Command::Put(Bytes::new(alloc, b"seven").ok()?);
+    assert!(rt; ran(source.ask(key, 0, &put))?.is_none());
+    let chunk = source.give_at(key).ok()?;
+    let rows = source.copy(&chunk).ok()?;
+    assert!(rt; matches!(dest.load(&chunk, &rows), Ok(Load::Loaded(_))));
+    let row = ran(dest.ask(key, 1, &Command::Get))??;
+    assert!(rt; row.as_slice() == b"seven".as_slice());
+    Some(())
+}
+
+/// The same from partition 1 to 3.
+fn goes(rt: &impl Abort, alloc: Global) -> Option<()> {
+    let mut source = store(alloc, 1)?;
+    let mut dest = store(alloc, 3)?;
+    row_moves(rt, alloc, &mut source, &mut dest)
+}
+
+#[test]
+fn a_row_moves(rt: HostRuntime) {
+    goes(&rt, rt.alloc()).expect(&rt, "memory");
+}
