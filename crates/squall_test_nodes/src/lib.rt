@@ -33,7 +33,7 @@ mod protocol;
 mod replay;
 #[cfg(test)]
 mod router;
-#[cfg(test)]
+// Its commands stand in a definition, which is read without the tests, too.
 mod rows;
 #[cfg(test)]
 mod world;
