@@ -58,6 +58,18 @@ pub fn steady<T>(mut work: impl FnMut() -> io::Result<T>) -> io::Result<T> {
     }
 }
 
+/// What refusals begin with that pass. Nothing was done then.
+const PASSING: [&str; 7] =
+    ["BUSY ", "LOADING ", "MASTERDOWN ", "MISCONF ", "NOREPLICAS ", "OOM ", "READONLY "];
+/// What stands before that if it is `EXEC` that is refused.
+const ABORTED: &str = "EXECABORT Transaction discarded because of: ";
+
+/// Whether a refusal passes: the server runs a long script, loads its data, or has no memory or disk left.
+pub fn passes(error: &str) -> bool {
+    let reason = error.strip_prefix(ABORTED).unwrap_or(error);
+    PASSING.iter().any(|it| reason.starts_with(it))
+}
+
 /// What bytes go over.
 trait Stream: Read + Write + Send {}
 
@@ -172,5 +184,24 @@ impl Conn {
     /// How long an answer may take from now on.
     pub fn set_patience(&mut self, patience: Duration) -> Done<()> {
         Ok(self.tcp.set_read_timeout(Some(patience))?)
+    }
+}
+
+#[cfg(test)]
+mod tests {
+    use super::*;
+
+    #[test]
+    fn refusals_that_pass_are_told_from_others() {
+        for error in
+            ["OOM command not allowed", "BUSY Redis is busy", "LOADING Redis is loading", "READONLY You"]
+        {
+            assert!(passes(error) && passes(&format!("EXECABORT Transaction discarded because of: {error}")));
+        }
+        for error in
+            ["EXECABORT Transaction discarded because of previous errors.", "BUSYKEY x", "ERR OOM x", ""]
+        {
+            assert!(!passes(error), "{error}");
+        }
     }
 }

@@ -5,7 +5,7 @@ use std::fmt;
 use std::io::{self, Write};
 
 /// Why a program can't go on.
-#[derive(Debug)]
+#[derive(Clone, Debug)]
 pub struct Fault {
     words: String,
     kind: Kind,

@@ -84,20 +84,3 @@ test_over_nats_with_losses() {
   mover_words=()
   refused "bus-password-file is missing" 2 old new
 }
-
-# The one server of the bus is away when a mover starts, for longer than a message waits for it. The mover begins again by
-# itself, and ends once the server is there.
-test_nats_away_at_the_start() {
-  local nats id server moving settle=10000
-  command -v nats-server > /dev/null || { echo "no nats-server here"; return 1; }
-  start_one_nats && server=$id && deploy && fill_roots || return
-  kill -KILL "$server"
-  wait "$server" 2> /dev/null
-  start_move 2 old new
-  moving=$id
-  await is_said "no server of the bus is connected; this is tried again" "$run/mover" || { cat "$run/mover"; return 1; }
-  ! has_ended "$moving" || { echo "the mover had ended too soon"; return 1; }
-  launch "$run" nats.again nats-server -a 127.0.0.1 -p "${nats##*:}"
-  wait "$moving" || { cat "$run/mover"; return 1; }
-  agrees 3 2 450:0
-}

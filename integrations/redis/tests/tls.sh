@@ -94,13 +94,17 @@ reads_again() {
   echo "3 = '127.0.0.1:${servers[2]}'" >> "$run/proxy.toml"
   cp "$certs/server.pem" "$run/server.pem" && kill -HUP "$id" && await says_again "stays as it is" && "${own[@]}" ping | grep -x PONG || return
   cp "$certs"/{server,own}.{key,pem} "$run" && kill -HUP "$id" && await says_again "3 partitions were read again" || return
-  await gets_again && ! "${own[@]}" ping && redis-cli "${secure[@]}" -p "$at" squall info | grep ' frames_taken [1-9]' || return
+  await gets_again && ! "${own[@]}" ping && await hears_again || return
   sed -i '1i port = 1' "$run/proxy.toml"
   ! env -C "$run" "$bin/squall-redis-proxy" --config proxy.toml 2> "$run/refused" && grep 'proxy.toml: line 1: `port` is not known' "$run/refused"
 }
 
 gets_again() {
   redis-cli "${secure[@]}" -p "$at" get 400:0 | grep -x x
+}
+
+hears_again() {
+  redis-cli "${secure[@]}" -p "$at" squall info | grep -q ' frames_taken [1-9]'
 }
 
 says_again() {

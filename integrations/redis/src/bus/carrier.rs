@@ -6,7 +6,7 @@ use super::nats_address::Address;
 use super::seal::Seal;
 use crate::args::{resolve, Args};
 use crate::conn::{Conn, Server};
-use crate::fault::Done;
+use crate::fault::{Done, Fault};
 use crate::keep_alive::KeepAlive;
 use crate::tls::Peer;
 use std::sync::{Mutex, PoisonError};
@@ -23,7 +23,11 @@ pub enum Carrier {
 
 /// The streams of a Redis server.
 pub struct Redis {
-    server: Server,
+    /// Its `HOST:PORT`. A name is looked up at each connection.
+    addr: String,
+    password: Option<String>,
+    tls: Option<Peer>,
+    keep_alive: KeepAlive,
     streams: Streams,
     sender: Mutex<Option<Conn>>,
 }
@@ -40,7 +44,7 @@ impl Carrier {
     ///
     /// # Errors
     ///
-    /// The words are wrong, or a host has no address.
+    /// The words are wrong.
     pub fn of(args: &Args, hears_all: bool) -> Done<Carrier> {
         let addr = args.need("bus")?;
         let name = args.get("streams").unwrap_or("squall");
@@ -49,17 +53,25 @@ impl Carrier {
         if let Some(address) = Address::read(addr, name, password.as_deref())? {
             return Nats::new(address, args, &secret, hears_all).map(Carrier::Nats);
         }
-        let (tls, keep_alive) = (Peer::of(args, "tls-bus", addr)?, KeepAlive::of(args)?);
-        let server = Server { addr: resolve(addr)?, password, tls, keep_alive };
-        let streams = Streams::new(name, Seal::new(&secret, name));
-        Ok(Carrier::Redis(Redis { server, streams, sender: Mutex::new(None) }))
+        let has_port = addr.rsplit_once(':').is_some_and(|(_, port)| port.parse::<u16>().is_ok());
+        if !has_port {
+            return Err(Fault::of_words(format!("--bus {addr}: not of the form HOST:PORT")));
+        }
+        Ok(Carrier::Redis(Redis {
+            addr: addr.to_string(),
+            password,
+            tls: Peer::of(args, "tls-bus", addr)?,
+            keep_alive: KeepAlive::of(args)?,
+            streams: Streams::new(name, Seal::new(&secret, name)),
+            sender: Mutex::new(None),
+        }))
     }
 
     /// Connects, to hear others. Over Redis it begins with all frames that the stream still has.
     pub fn listen(&self) -> Done<Ears<'_>> {
         match self {
             Carrier::Redis(redis) => {
-                let mut conn = Conn::open(&redis.server)?;
+                let mut conn = redis.connect()?;
                 conn.set_patience(PATIENCE)?;
                 let places = redis.streams.begin(&mut conn)?;
                 Ok(Ears::Redis(&redis.streams, Box::new(conn), places))
@@ -75,7 +87,7 @@ impl Carrier {
     /// One of them can't be read.
     pub fn renew(&self, args: &Args) -> Done<()> {
         match self {
-            Carrier::Redis(redis) => redis.server.tls.iter().try_for_each(|peer| peer.renew(args)),
+            Carrier::Redis(redis) => redis.tls.iter().try_for_each(|peer| peer.renew(args)),
             Carrier::Nats(nats) => nats.renew(args),
         }
     }
@@ -106,6 +118,12 @@ impl Carrier {
 }
 
 impl Redis {
+    fn connect(&self) -> Done<Conn> {
+        let Redis { addr, password, tls, keep_alive, .. } = self;
+        let (addr, password, tls) = (resolve(addr)?, password.clone(), tls.clone());
+        Conn::open(&Server { addr, password, tls, keep_alive: *keep_alive })
+    }
+
     /// Writes over the connection that was used last, or over a new one if the server has ended that meanwhile. Frames
     /// that it had taken are then written twice, which changes nothing.
     fn send(&self, write: impl Fn(&Streams, &mut Conn) -> Done<()>) -> Done<()> {
@@ -116,7 +134,7 @@ impl Redis {
                 return Ok(());
             }
         }
-        let mut conn = Conn::open(&self.server)?;
+        let mut conn = self.connect()?;
         write(&self.streams, &mut conn)?;
         *sender = Some(conn);
         Ok(())

@@ -1,7 +1,7 @@
 //! Entries of the streams.
 
 use super::seal::{About, Seal};
-use crate::conn::Conn;
+use crate::conn::{passes, Conn};
 use crate::fault::{Done, Fault};
 use crate::resp::Value;
 use std::time::Instant;
@@ -54,7 +54,7 @@ impl Streams {
 
     /// The beginning of all frames, and the end of all digests.
     pub fn begin(&self, conn: &mut Conn) -> Done<Places> {
-        let last = conn.ask(&["XREVRANGE", &self.digests, "+", "-", "COUNT", "1"])?;
+        let last = ask(conn, &["XREVRANGE", &self.digests, "+", "-", "COUNT", "1"])?;
         let last = last.list().pop().map(Value::list);
         let id = last.and_then(|entry| entry.into_iter().next());
         Ok(Places { frames: "0".into(), digests: id.map_or("0".into(), Value::text) })
@@ -65,7 +65,7 @@ impl Streams {
         let head = ["XREAD", "COUNT", "256", "BLOCK", "1000", "STREAMS"];
         let names = [self.frames.as_str(), &self.digests];
         let after = [places.frames.as_str(), &places.digests];
-        let answer = conn.ask(&[&head[..], &names, &after].concat())?;
+        let answer = ask(conn, &[&head[..], &names, &after].concat())?;
         let mut heard = Heard { at: Some(Instant::now()), ..Heard::default() };
         for stream in answer.list() {
             let [name, entries] = two(stream)?;
@@ -121,12 +121,24 @@ impl Streams {
             words.extend([&b"mac"[..], &code, b"frame", frame]);
             conn.put(&words);
         }
-        for answer in conn.hear_all(frames.len())? {
-            if let Value::Error(text) = answer {
-                return Err(Fault::new(format!("the bus: {text}")));
-            }
-        }
-        Ok(())
+        let answers = conn.hear_all(frames.len())?;
+        answers.into_iter().try_for_each(|answer| accepted(answer).map(drop))
+    }
+}
+
+/// Sends one command and hears its answer.
+fn ask(conn: &mut Conn, words: &[&str]) -> Done<Value> {
+    conn.put(words);
+    let answers = conn.hear_all(1)?;
+    accepted(answers.into_iter().next().unwrap_or(Value::Nil))
+}
+
+/// An answer that is no error. A server that refuses for a while only counts as one that is away.
+fn accepted(answer: Value) -> Done<Value> {
+    match answer {
+        Value::Error(text) if passes(&text) => Err(Fault::lost(text)),
+        Value::Error(text) => Err(Fault::new(text)),
+        answer => Ok(answer),
     }
 }
 

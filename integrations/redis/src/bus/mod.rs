@@ -15,6 +15,7 @@ mod nats_wire;
 mod node;
 mod outbox;
 mod peers;
+mod reach;
 mod seal;
 
 pub use node::{Counts, Node, Options};

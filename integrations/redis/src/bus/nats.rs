@@ -120,12 +120,15 @@ impl Nats {
         let mut faults = Vec::new();
         for _ in &self.servers {
             let server = &self.servers[self.next.fetch_add(1, Relaxed) % self.servers.len()];
-            match self.connect(server) {
+            match self.connect(server).trying(|| server.addr.clone()) {
                 Ok(ears) => return Ok(ears),
-                Err(fault) => faults.push(format!("{}: {fault}", server.addr)),
+                Err(fault) => faults.push(fault),
             }
         }
-        Err(Fault::new(faults.join(", ")))
+        let words: Vec<String> = faults.iter().map(ToString::to_string).collect();
+        let words = words.join(", ");
+        // One that is away may let it in later.
+        Err(if faults.iter().any(Fault::is_lost) { Fault::lost(words) } else { Fault::new(words) })
     }
 
     fn connect<'a>(&'a self, server: &'a Server) -> Done<NatsEars<'a>> {
@@ -258,7 +261,7 @@ impl NatsEars<'_> {
                 self.parser.feed(&bytes);
                 Ok(())
             }
-            None if self.heard.elapsed() >= SILENCE => Err(Fault::new("the server says nothing")),
+            None if self.heard.elapsed() >= SILENCE => Err(Fault::lost("the server says nothing")),
             None if self.is_known => self.wire.send(b"PING\r\n"),
             None => Ok(()),
         }

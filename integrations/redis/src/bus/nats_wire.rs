@@ -92,7 +92,7 @@ impl Wire {
             if let Some(sealed) = self.fetch()? {
                 session.get_mut().come.extend(sealed);
             } else if began.elapsed() >= PATIENCE {
-                return Err(Fault::new("TLS: the server does not answer"));
+                return Err(Fault::lost("TLS: the server does not answer"));
             }
         }
         *self.lock() = Some(session);
@@ -177,5 +177,5 @@ fn reach(addr: &str) -> Done<TcpStream> {
 }
 
 fn closed() -> Fault {
-    Fault::new("the server has closed the connection")
+    Fault::lost("the server has closed the connection")
 }

@@ -1,16 +1,16 @@
 //! A node of the bus: a router that hears all others.
 
-use super::agenda::{Agenda, Answer, AT_ONCE, PAUSE};
+use super::agenda::{Agenda, Answer, AT_ONCE};
 use super::carrier::Carrier;
 use super::entry::{Entry, Heard};
-use super::outbox;
 use super::peers::Peers;
+use super::reach::{Reach, Side};
 use crate::args::Args;
 use crate::course::{Plan, Progress};
 use crate::dice::Dice;
 use crate::fault::Done;
+use crate::faults;
 use crate::log;
-use crate::{faults, stop};
 use squall::{Course, Error, Router, View};
 use std::sync::atomic::{AtomicBool, AtomicU64, Ordering::Relaxed, Ordering::SeqCst};
 use std::sync::{Arc, Mutex, MutexGuard, PoisonError};
@@ -18,10 +18,13 @@ use std::thread;
 use std::time::{Duration, Instant};
 
 /// Between two digests of a node.
-const ROUND: Duration = Duration::from_secs(1);
-/// How long a mover bears a bus that takes no report, and the pause before the next try.
-const BORNE: Duration = Duration::from_secs(60);
-const AGAIN: Duration = Duration::from_millis(200);
+pub const ROUND: Duration = Duration::from_secs(1);
+/// The pause before the bus is tried again, at first and at most.
+pub const FIRST: Duration = Duration::from_millis(50);
+const LAST: Duration = Duration::from_secs(1);
+/// A connection that has lasted for so long is no vain one.
+const STEADY: Duration = Duration::from_secs(1);
+
 /// What a node needs to join.
 pub struct Options {
     /// What carries frames.
@@ -62,18 +65,18 @@ pub struct Counts {
 
 /// A node of the bus, which hears and answers in threads of its own.
 pub struct Node {
-    carrier: Carrier,
-    name: String,
+    pub(super) carrier: Carrier,
+    pub(super) name: String,
     router: Mutex<Router>,
     /// The newest view. `views` is how many there were.
     view: Mutex<View>,
     views: AtomicU64,
     agenda: Agenda,
     wakers: Mutex<Vec<Box<dyn Fn() + Send>>>,
-    /// Whether the bus has taken anything that a mover had to tell. Until then a fault is no passing one.
-    has_told: AtomicBool,
+    /// How it stands with the bus.
+    pub(super) reach: Reach,
     /// What other nodes have shown.
-    peers: Mutex<Peers>,
+    pub(super) peers: Mutex<Peers>,
     /// When the node joined, or the bus has said anything last.
     heard: Mutex<Instant>,
     has_heard: AtomicBool,
@@ -105,31 +108,29 @@ impl Node {
             views: AtomicU64::new(1),
             agenda: Agenda::new(),
             wakers: Mutex::default(),
-            has_told: AtomicBool::new(false),
+            reach: Reach::default(),
             peers: Mutex::new(Peers::new(Instant::now())),
             heard: Mutex::new(Instant::now()),
             has_heard: AtomicBool::new(false),
             counts: Counts::default(),
         });
-        node.run(Node::hear);
-        node.run(Node::answer);
+        node.run(Side::Hear, Node::hear);
+        node.run(Side::Tell, Node::answer);
         Ok(node)
     }
 
-    /// Does the work in a thread, and begins it again after a fault.
-    fn run(self: &Arc<Node>, work: fn(&Node) -> Done<()>) {
+    /// Does the work in a thread, and begins it again after a fault, later each time that it was in vain.
+    fn run(self: &Arc<Node>, side: Side, work: fn(&Node) -> Done<()>) {
         let node = self.clone();
         thread::spawn(move || {
-            let mut last = String::new();
+            let (mut began, mut pause) = (Instant::now(), FIRST);
             while let Err(fault) = work(&node) {
                 node.counts.faults.fetch_add(1, Relaxed);
-                let fault = fault.to_string();
-                if fault != last {
-                    log::warn(format!("bus: {fault}"));
-                    last = fault;
-                }
-                thread::sleep(Duration::from_millis(200));
+                node.reach.lose(side, fault);
+                pause = if began.elapsed() < STEADY { LAST.min(pause * 2) } else { FIRST };
+                thread::sleep(pause);
                 node.ask();
+                began = Instant::now();
             }
         });
     }
@@ -210,33 +211,6 @@ impl Node {
         self.agenda.want();
     }
 
-    /// Takes a report, and sends it to all nodes. A bus that took one before is asked again for a minute.
-    pub fn tell(&self, give: impl FnOnce(&mut Router) -> Result<(), Error>) -> Done<()> {
-        self.tell_frames(&outbox::report(give)?)
-    }
-
-    /// Takes frames, and sends them to all nodes. A bus that took some before is asked again for a minute.
-    pub fn tell_frames(&self, frames: &[Vec<u8>]) -> Done<()> {
-        self.learn(frames)?;
-        let began = Instant::now();
-        let mut is_said = false;
-        loop {
-            match self.carrier.write(&self.name, frames, None) {
-                Err(fault) if self.may_pass() && began.elapsed() < BORNE => {
-                    if !is_said {
-                        log::warn(format!("bus: {fault}; this is tried again for {} s", BORNE.as_secs()));
-                    }
-                    is_said = true;
-                    stop::sleep(AGAIN);
-                }
-                done => {
-                    self.has_told.fetch_or(done.is_ok(), Relaxed);
-                    return done;
-                }
-            }
-        }
-    }
-
     /// Takes frames that did not come over the bus: whether there was any news.
     pub fn learn(&self, frames: &[Vec<u8>]) -> Done<bool> {
         let mut router = lock(&self.router);
@@ -249,14 +223,9 @@ impl Node {
         Ok(is_news)
     }
 
-    /// Whether a fault of the bus may pass, and is worth a wait.
-    fn may_pass(&self) -> bool {
-        self.has_told.load(Relaxed) && !stop::is_asked()
-    }
-
     /// Frames that the bus takes. If a single report or a digest is too long for it, they are made without a
     /// limit: the bus leaves out what it does not take, and says so.
-    fn within(
+    pub(super) fn within(
         &self,
         make: impl Fn(&mut Router, usize) -> Result<Vec<Vec<u8>>, Error>,
     ) -> Result<Vec<Vec<u8>>, Error> {
@@ -265,30 +234,6 @@ impl Node {
             Err(Error::TooLong) => make(&mut router, usize::MAX),
             frames => frames,
         }
-    }
-
-    /// Sends all that this node knows. A stream that is trimmed then has it at its end.
-    pub fn tell_all(&self) -> Done<()> {
-        let frames = self.within(|router, limit| Ok(router.board_within(limit)?.collect()))?;
-        self.carrier.write(&self.name, &frames, None)
-    }
-
-    /// Answers others until each node that shows a digest has shown that it knows the same.
-    ///
-    /// # Errors
-    ///
-    /// That did not come about in the given time: the names of those whose last digest was another one.
-    pub fn settle(&self, most: Duration) -> Result<(), Vec<String>> {
-        let began = Instant::now();
-        let quiet = ROUND + Duration::from_micros(2 * PAUSE);
-        lock(&self.peers).begin(began);
-        while began.elapsed() < most && !stop::is_asked() {
-            if lock(&self.peers).quiet() >= quiet {
-                return Ok(());
-            }
-            thread::sleep(Duration::from_millis(10));
-        }
-        Err(lock(&self.peers).behind(began))
     }
 
     fn publish(&self, router: &Router) -> Done<()> {
@@ -302,10 +247,14 @@ impl Node {
     /// Hears others, for ever.
     fn hear(&self) -> Done<()> {
         let mut ears = self.carrier.listen()?;
+        let began = Instant::now();
         let mut dice = Dice::fresh();
         let misses = faults::misses();
         loop {
             let Heard { mut frames, mut digests, foreign, at } = ears.read()?;
+            if began.elapsed() >= STEADY {
+                self.reach.find(Side::Hear);
+            }
             if let Some(at) = at {
                 *lock(&self.heard) = at;
                 self.has_heard.store(true, Relaxed);
@@ -367,8 +316,9 @@ impl Node {
             if shown.elapsed() >= AT_ONCE && (due.is_none() || shown.elapsed() >= ROUND) {
                 let digest = self.within(|router, limit| Ok(router.digest_within(limit)?.collect()))?;
                 self.carrier.show(&self.name, &digest)?;
-                shown = Instant::now();
-                pause = ROUND;
+                (shown, pause) = (Instant::now(), ROUND);
+                self.reach.find(Side::Tell);
+                self.pay()?;
             }
             for answer in due.into_iter().flatten() {
                 self.repair(&answer)?;

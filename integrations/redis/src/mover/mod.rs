@@ -21,7 +21,7 @@ use crate::args::{self, Args, Usage};
 use crate::bus::{Node, Options};
 use crate::conn::{Conn, Server};
 use crate::course::{self, Move, Plan};
-use crate::fault::{say, Done, Fault};
+use crate::fault::{say, Done, Fault, Trying};
 use crate::log;
 use crate::{faults, keep_alive, keymap, metrics, stop, tls};
 pub use index::is_own;
@@ -165,8 +165,7 @@ impl Mover {
             progress.finish();
             moved
         });
-        if stuck.count() > 0 {
-            bus.tell_all()?;
+        if stuck.count() > 0 && bus.tell_all().is_ok() {
             // Whether all have followed is said by the run that ends the course.
             let _ = bus.settle(settle);
         }
@@ -191,7 +190,9 @@ impl Mover {
         self.fence(&mut entered)?;
         drop(entered);
         self.sub_plans(job)?;
-        job.bus.tell_all()
+        job.bus.tell_all()?;
+        let told = job.bus.wait_paid(patience::most());
+        told.trying(|| "all keys have moved; start it again once the bus is up".to_string())
     }
 
     /// All partitions, those of the old plan first. The first one decides between two movers that

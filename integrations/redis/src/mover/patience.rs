@@ -2,7 +2,7 @@
 //! a connection is lost.
 
 use crate::args::Args;
-use crate::conn::Conn;
+use crate::conn::{passes, Conn};
 use crate::fault::{Done, Fault};
 use crate::log;
 use crate::resp::Value;
@@ -11,11 +11,6 @@ use std::sync::atomic::{AtomicU64, Ordering::Relaxed};
 use std::thread;
 use std::time::{Duration, Instant};
 
-/// What such refusals begin with. Nothing was done then.
-const PASSING: [&str; 7] =
-    ["BUSY ", "LOADING ", "MASTERDOWN ", "MISCONF ", "NOREPLICAS ", "OOM ", "READONLY "];
-/// What stands before that if it is `EXEC` that is refused.
-const ABORTED: &str = "EXECABORT Transaction discarded because of: ";
 /// The option that says how long both are borne without any progress, and what it says by default, in seconds.
 pub const OPTION: &str = "patience";
 static SECONDS: AtomicU64 = AtomicU64::new(60);
@@ -36,7 +31,7 @@ pub fn set(args: &Args) -> Done<()> {
 }
 
 /// How long it is borne.
-fn most() -> Duration {
+pub fn most() -> Duration {
     Duration::from_secs(SECONDS.load(Relaxed))
 }
 
@@ -71,12 +66,6 @@ impl Endurance {
         self.pause = LAST.min(self.pause * 2);
         true
     }
-}
-
-/// Whether a refusal is one of these.
-fn passes(error: &str) -> bool {
-    let reason = error.strip_prefix(ABORTED).unwrap_or(error);
-    PASSING.iter().any(|it| reason.starts_with(it))
 }
 
 /// Asks a server until it does not refuse for such a reason. An answer that is an error is a fault.
@@ -154,19 +143,5 @@ mod tests {
         endurance.since = Instant::now().checked_sub(most());
         assert!(!endurance.bears(&lost, 0));
         assert!(endurance.bears(&lost, 1));
-    }
-
-    #[test]
-    fn refusals_that_pass_are_told_from_others() {
-        for error in
-            ["OOM command not allowed", "BUSY Redis is busy", "LOADING Redis is loading", "READONLY You"]
-        {
-            assert!(passes(error) && passes(&format!("EXECABORT Transaction discarded because of: {error}")));
-        }
-        for error in
-            ["EXECABORT Transaction discarded because of previous errors.", "BUSYKEY x", "ERR OOM x", ""]
-        {
-            assert!(!passes(error), "{error}");
-        }
     }
 }
