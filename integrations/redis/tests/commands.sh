@@ -312,3 +312,70 @@ says_if_open() {
   done
   [ "$(grep -c 'whoever reaches this address' "$run/open.0")" -eq 1 ] && ! grep whoever "$run/open.2" && ! grep whoever "$run"/proxy.*
 }
+
+# A connection to the proxy at $port on which a user has logged in, into `fd`.
+log_in() {
+  local answer
+  exec {fd}<> "/dev/tcp/127.0.0.1/$port" && asks "$fd" auth "$@" && [ "$answer" = +OK ] && return
+  echo "$*: $answer"
+  return 1
+}
+
+# Lets the proxy at $port read again, and waits until it says this.
+read_again() {
+  local log before
+  log=$(grep -l "serves at 127.0.0.1:$port\$" "$run"/proxy.*)
+  before=$(grep -c "$1" "$log")
+  kill -HUP "${ids[$port]}" && await has_said_more "$before" "$1" "$log"
+}
+
+has_said_more() {
+  [ "$(grep -c "$2" "$3")" -gt "$1" ]
+}
+
+# Whether this is answered to a command over a connection.
+answers() {
+  local wanted=$1 answer
+  shift
+  asks "$@"
+  [[ $answer == "$wanted"* ]] || { echo "$*: $answer"; return 1; }
+}
+
+# The users are read again while clients are there. A client has the new rights at once. Closed are those that could not log in
+# any more, and those that are amid what they may not do now. A file with a fault changes nothing.
+test_users_are_read_again() {
+  local limits fd app gone heard waits old kept queues port=
+  deploy || return
+  printf '%s\n' 'user app on >app-word +@all ~* &*' 'user gone on >gone-word +@all ~*' 'user two on >old-word >kept-word +@all ~*' > "$run/users.acl"
+  limits=(--client-users "$run/users.acl")
+  run_proxy 0 env || return
+  log_in app app-word && app=$fd && log_in gone gone-word && gone=$fd && log_in two old-word && old=$fd || return
+  log_in two kept-word && kept=$fd && log_in app app-word && heard=$fd && log_in app app-word && queues=$fd || return
+  answers '*3' "$heard" subscribe news && for _ in 1 2 3 4 5; do IFS= read -r -t 60 -u "$heard" _; done
+  answers +OK "$queues" multi && answers +QUEUED "$queues" set 1:0 y && answers +OK "$app" set 1:0 x && answers +OK "$kept" set 1:1 x || return
+  echo 'user app on resetkeys' > "$run/users.acl"
+  read_again 'line 1: `resetkeys` is not known; all stays as it is' && answers +OK "$app" set 1:0 x || return
+  printf '%s\n' 'user app on >app-word +@read ~1:*' 'user two on >kept-word >new-word +@all ~*' > "$run/users.acl"
+  read_again "users, certificates and the addresses of 3 partitions were read again" || return
+  for fd in "$gone" "$old" "$heard" "$queues"; do is_closed "$fd" || { echo "connection $fd is open"; return 1; }; done
+  answers -NOPERM "$app" set 1:0 z && answers '$1' "$app" get 1:0 && IFS= read -r -t 60 -u "$app" fd && answers -NOPERM "$app" get 2:0 || return
+  answers +OK "$kept" set 1:1 z && log_in two new-word && ! log_in two old-word && ! log_in gone gone-word || return
+  # What others did has stayed.
+  [ "$(redis-cli -p "${proxies[0]}" get 1:0)" = x ] && says_no_password "${ids[$port]}"
+}
+
+# So is the password of all clients. A proxy does not begin to ask for one, or end.
+test_password_is_read_again() {
+  local limits fd old
+  deploy || return
+  echo old-word > "$run/password"
+  printf '%s\n' "client-password-file = '$run/password'" > "$run/proxy.toml"
+  limits=(--config "$run/proxy.toml")
+  run_proxy 0 env && log_in old-word && old=$fd && answers +OK "$old" set 1:0 x || return
+  echo new-word > "$run/password"
+  read_again "users, certificates" && is_closed "$old" && ! log_in old-word && log_in new-word || return
+  true > "$run/password"
+  read_again "the first line is no password, or has blanks; all stays" || return
+  true > "$run/proxy.toml"
+  read_again "client-password-file begin and end with the program; all stays" && answers +OK "$fd" set 1:0 y || return
+}

@@ -186,6 +186,11 @@ impl Client {
         self.task.as_ref().is_some_and(|task| matches!(task.deed, Deed::Wait(_)))
     }
 
+    /// Whether it has begun what goes on: a transaction, a wait or a subscription.
+    pub fn is_amid(&self) -> bool {
+        self.queue.is_some() || self.waits() || !self.topics.is_empty() || !self.awaited.is_empty()
+    }
+
     /// The words of the command that was read.
     pub fn words(&self) -> Words<'_> {
         Words { bytes: &self.input[self.next..], places: self.parser.words() }

@@ -6,7 +6,6 @@ use super::memory::Bound;
 use super::roles::Tables;
 use super::session::Cards;
 use super::setup::Setup;
-use super::users::Users;
 use super::watch::Watch;
 use crate::bus::Node;
 use crate::fault::Done;
@@ -26,7 +25,7 @@ const SILENCE: Duration = Duration::from_secs(5);
 pub struct Shared {
     /// The node of the bus.
     pub node: Arc<Node>,
-    /// The partitions, and certificates.
+    /// The partitions, the users of clients, and certificates.
     pub setup: Setup,
     /// The password of the users squall-N.
     pub secret: String,
@@ -38,8 +37,6 @@ pub struct Shared {
     pub wait: Duration,
     /// How long a partition may take for an answer.
     pub answer: Duration,
-    /// The users of clients, if these need a password.
-    pub users: Option<Users>,
     /// The clients.
     pub cards: Cards,
     /// When a client that is silent is probed.

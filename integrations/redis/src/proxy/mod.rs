@@ -119,7 +119,7 @@ pub fn run(args: &Args) -> Done<()> {
     stop::on_hang_up(move || setup::read_again(&words, &own))?;
     let files = most + shared.setup.now().parts.len() * (threads * 3 + 1) + FILES;
     files::warn(files);
-    if shared.users.is_none()
+    if !shared.setup.has_users
         && args.get("tls-client-ca").is_none()
         && !listener.local_addr()?.ip().is_loopback()
     {
@@ -161,7 +161,6 @@ fn share(args: &Args, threads: usize, port: u16) -> Done<Shared> {
     let (setup, secret) = (setup::Setup::of(args)?, args.secret()?);
     Ok(Shared {
         node,
-        users: users::Users::of(args)?,
         cards: session::Cards::default(),
         first: Plan::of(args, "first")?.ranges,
         reader: secret::of_reader(&secret),

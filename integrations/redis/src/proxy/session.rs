@@ -6,7 +6,7 @@ use super::local;
 use super::metrics::Shared;
 use super::plan::{shown, Words};
 use super::serve::Flow;
-use super::users::{User, DEFAULT};
+use super::users::{hash, Hash, User, DEFAULT};
 use super::worker::Worker;
 use crate::resp::error;
 use std::collections::BTreeMap;
@@ -57,8 +57,9 @@ impl Cards {
 pub struct Session {
     pub card: Arc<Card>,
     shared: Arc<Shared>,
-    /// The user, if it has logged in or needs no password.
+    /// The user, if it has logged in or needs no password, and the hash of the password that it has shown.
     user: Option<Arc<User>>,
+    shown: Option<Hash>,
 }
 
 impl Session {
@@ -66,7 +67,7 @@ impl Session {
     pub fn new(id: u64, addr: String, shared: &Arc<Shared>) -> Session {
         let card = Arc::new(Card { id, addr, began: Instant::now(), says: Mutex::default() });
         shared.cards.lock().insert(id, card.clone());
-        let mut session = Session { card, shared: shared.clone(), user: None };
+        let mut session = Session { card, shared: shared.clone(), user: None, shown: None };
         session.begin();
         session
     }
@@ -77,13 +78,15 @@ impl Session {
 
     /// Makes it one that has said nothing.
     fn begin(&mut self) {
-        self.user = self.shared.users.as_ref().and_then(|users| users.first().cloned());
+        let means = self.shared.setup.now();
+        self.user = means.users.as_ref().and_then(|users| users.first().cloned());
+        self.shown = None;
         *self.says() = Says { name: String::new(), user: DEFAULT.into() };
     }
 
     /// Whether it needs to log in before it does anything.
     pub fn is_stranger(&self) -> bool {
-        self.user.is_none() && self.shared.users.is_some()
+        self.user.is_none() && self.shared.setup.has_users
     }
 
     /// Why a command is refused, by who sends it.
@@ -96,21 +99,44 @@ impl Session {
 
     /// Whether that is the password of a user, as whom it is known from then on.
     fn log_in(&mut self, name: &[u8], password: &[u8]) -> bool {
-        let Some(users) = &self.shared.users else {
+        let means = self.shared.setup.now();
+        let Some(users) = &means.users else {
             // The one user needs no password.
             return name == DEFAULT.as_bytes();
         };
-        let Some(user) = users.log_in(name, password).cloned() else {
+        let shown = hash(password);
+        let Some(user) = users.log_in(name, &shown).cloned() else {
             return false;
         };
         self.says().user.clone_from(&user.name);
-        self.user = Some(user);
+        (self.user, self.shown) = (Some(user), Some(shown));
         true
+    }
+
+    /// Takes the rights that its user has now: whether these are others. None if it could not log in any more with what it
+    /// has shown.
+    pub fn renew(&mut self) -> Option<bool> {
+        let means = self.shared.setup.now();
+        let Some(users) = &means.users else {
+            return Some(false);
+        };
+        let Some(old) = self.user.take() else {
+            self.user = users.first().cloned();
+            return Some(false);
+        };
+        let new = match &self.shown {
+            Some(shown) => users.log_in(old.name.as_bytes(), shown),
+            None => users.first(),
+        };
+        let has_others = !new?.has_rights_of(&old);
+        self.user = new.cloned();
+        Some(has_others)
     }
 
     /// `AUTH [user] password`.
     fn auth(&mut self, words: Words) -> Vec<u8> {
-        let needs_none = || self.shared.users.as_ref().is_none_or(|users| users.first().is_some());
+        let means = self.shared.setup.now();
+        let needs_none = || means.users.as_ref().is_none_or(|users| users.first().is_some());
         let (name, password) = match words.count() {
             2 if needs_none() => return error(NO_PASSWORD),
             2 => (DEFAULT.as_bytes(), words.at(1)),

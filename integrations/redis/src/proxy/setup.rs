@@ -1,6 +1,7 @@
-//! What SIGHUP lets a proxy read again: the addresses of partitions, and the files of certificates and keys.
+//! What SIGHUP lets a proxy read again: the addresses of partitions, the users of clients, and the files of certificates and keys.
 
 use super::metrics::Shared;
+use super::users::Users;
 use super::worker::Worker;
 use super::{watch, USAGE};
 use crate::args::Args;
@@ -17,19 +18,23 @@ use std::sync::{Arc, Mutex, MutexGuard, PoisonError};
 pub struct Setup {
     now: Mutex<Arc<Means>>,
     readings: AtomicU64,
+    /// Whether clients have users. That does not change.
+    pub has_users: bool,
 }
 
-/// How to connect.
+/// How to connect, and who may.
 pub struct Means {
     /// The partitions.
     pub parts: BTreeMap<u32, Server>,
     /// How clients connect by TLS, if they do.
     pub tls: Option<Acceptor>,
+    /// The users of clients, if these need a password.
+    pub users: Option<Users>,
 }
 
 impl Means {
     fn of(args: &Args) -> Done<Arc<Means>> {
-        Ok(Arc::new(Means { parts: args.parts()?, tls: Acceptor::of(args)? }))
+        Ok(Arc::new(Means { parts: args.parts()?, tls: Acceptor::of(args)?, users: Users::of(args)? }))
     }
 }
 
@@ -40,7 +45,9 @@ impl Setup {
     ///
     /// A word is wrong, or a file can't be read.
     pub fn of(args: &Args) -> Done<Setup> {
-        Ok(Setup { now: Mutex::new(Means::of(args)?), readings: AtomicU64::new(0) })
+        let now = Means::of(args)?;
+        let has_users = now.users.is_some();
+        Ok(Setup { now: Mutex::new(now), readings: AtomicU64::new(0), has_users })
     }
 
     fn lock(&self) -> MutexGuard<'_, Arc<Means>> {
@@ -69,6 +76,10 @@ impl Setup {
         if new.tls.is_some() != now.tls.is_some() {
             return Err(Fault::new("--tls-cert begins and ends with the program"));
         }
+        if new.users.is_some() != self.has_users {
+            let words = "--client-users and --client-password-file begin and end with the program";
+            return Err(Fault::new(words));
+        }
         bus.renew(args)?;
         let parts = new.parts.keys().filter(|part| !now.parts.contains_key(part)).copied().collect();
         *now = new;
@@ -82,7 +93,7 @@ pub fn read_again(args: &Args, shared: &Arc<Shared>) {
     match args.again(&USAGE).and_then(|args| shared.setup.take(&args, &shared.node)) {
         Ok(new) => {
             let count = shared.setup.now().parts.len();
-            log::info(format!("certificates and the addresses of {count} partitions were read again"));
+            log::info(format!("users, certificates and the addresses of {count} partitions were read again"));
             watch::start(shared, &new);
         }
         Err(fault) => log::warn(format!("{fault}; all stays as it is")),
@@ -90,13 +101,14 @@ pub fn read_again(args: &Args, shared: &Arc<Shared>) {
 }
 
 impl Worker {
-    /// Takes the addresses that were read again. A connection to another one is given up.
+    /// Takes the addresses and users that were read again. A connection to another address is given up.
     pub(super) fn take_setup(&mut self) {
         let readings = self.shared.setup.readings();
         if readings == self.readings {
             return;
         }
         self.readings = readings;
+        self.take_users();
         for at in 0..self.upstreams.len() {
             let it = &mut self.upstreams[at];
             let Some(server) = self.shared.setup.server(it.part) else {
@@ -107,6 +119,18 @@ impl Worker {
             if is_other && it.stream.is_some() {
                 self.lose(at);
             }
+        }
+    }
+
+    /// Gives all clients the rights that their users have now. Closed are those that could not log in any more with what they
+    /// have shown, and those that have begun something that they may not do now.
+    fn take_users(&mut self) {
+        for place in 0..self.clients.len() {
+            let Some(mut client) = self.clients[place].take() else {
+                continue;
+            };
+            let stands = client.session.renew().is_some_and(|has_others| !has_others || !client.is_amid());
+            self.put_back(place, client, stands);
         }
     }
 }

@@ -1,4 +1,4 @@
-//! The users of clients: who may do what. They are read once, from a file in the form of Redis' ACL files.
+//! The users of clients: who may do what. They are read from a file in the form of Redis' ACL files.
 
 use super::commands::{find, Keys};
 use super::glob;
@@ -17,6 +17,9 @@ pub const DEFAULT: &str = "default";
 /// How a refusal of keys or channels begins.
 const NO_ACCESS: &str = "NOPERM this user has no permissions to access one of the";
 
+/// The hash of a password.
+pub type Hash = [u8; 32];
+
 /// All users.
 pub struct Users(BTreeMap<Vec<u8>, Arc<User>>);
 
@@ -27,7 +30,7 @@ pub struct User {
     pub name: String,
     is_on: bool,
     needs_no_password: bool,
-    hashes: Vec<[u8; 32]>,
+    hashes: Vec<Hash>,
     allowed: BTreeSet<&'static str>,
     /// Commands that were allowed by their own name.
     named: BTreeSet<&'static str>,
@@ -73,7 +76,7 @@ impl User {
             "allchannels" => self.channels = None,
             _ => match (rule.as_bytes()[0], &rule[1..]) {
                 (b'>', "") => return Err("`>` without a password".into()),
-                (b'>', password) => self.add_hash(sha256(password.as_bytes())),
+                (b'>', password) => self.add_hash(hash(password.as_bytes())),
                 (b'#', digits) => {
                     self.add_hash(
                         hash_of(digits)
@@ -91,7 +94,7 @@ impl User {
         Ok(())
     }
 
-    fn add_hash(&mut self, hash: [u8; 32]) {
+    fn add_hash(&mut self, hash: Hash) {
         self.needs_no_password = false;
         self.hashes.push(hash);
     }
@@ -130,9 +133,14 @@ impl User {
     }
 
     /// Whether that is a password. All are compared, and each in the same time.
-    fn has(&self, hash: &[u8; 32]) -> bool {
+    fn has(&self, hash: &Hash) -> bool {
         let is_one = self.hashes.iter().fold(false, |is_one, own| memcmp::eq(own, hash) | is_one);
         is_one || self.needs_no_password
+    }
+
+    /// Whether it may do exactly what another one may.
+    pub fn has_rights_of(&self, other: &User) -> bool {
+        self.allowed == other.allowed && self.keys == other.keys && self.channels == other.channels
     }
 
     /// Why a command is refused: one whose name is not known is not.
@@ -184,8 +192,13 @@ fn add(patterns: &mut Option<Vec<Vec<u8>>>, pattern: &str) {
     }
 }
 
+/// The hash of a password.
+pub fn hash(password: &[u8]) -> Hash {
+    sha256(password)
+}
+
 /// The hash of 64 digits.
-fn hash_of(digits: &str) -> Option<[u8; 32]> {
+fn hash_of(digits: &str) -> Option<Hash> {
     let is_digit = |byte: u8| matches!(byte, b'0'..=b'9' | b'a'..=b'f');
     if digits.len() != 64 || !digits.bytes().all(is_digit) {
         return None;
@@ -224,10 +237,9 @@ impl Users {
         self.0.get(DEFAULT.as_bytes()).filter(|user| user.is_on && user.needs_no_password)
     }
 
-    /// The user of that name and password.
-    pub fn log_in(&self, name: &[u8], password: &[u8]) -> Option<&Arc<User>> {
-        let hash = sha256(password);
-        self.0.get(name).filter(|user| user.has(&hash) && user.is_on)
+    /// The user of that name, and of a password with that hash.
+    pub fn log_in(&self, name: &[u8], shown: &Hash) -> Option<&Arc<User>> {
+        self.0.get(name).filter(|user| user.has(shown) && user.is_on)
     }
 }
 
@@ -339,12 +351,12 @@ mod tests {
         );
         let users = Users(read(&text).unwrap());
         let log_in =
-            |name: &str, password: &str| users.log_in(name.as_bytes(), password.as_bytes()).is_some();
+            |name: &str, password: &str| users.log_in(name.as_bytes(), &hash(password.as_bytes())).is_some();
         assert!(log_in("a", "test") && log_in("a", "other") && log_in("b", "test"));
         assert!(!log_in("a", "tes") && !log_in("b", "other") && !log_in("c", "x") && !log_in("d", "x"));
         assert!(users.first().is_none());
         let open = Users(read("user default on nopass +@all ~*").unwrap());
-        assert!(open.first().is_some() && open.log_in(b"default", b"any").is_some());
+        assert!(open.first().is_some() && open.log_in(b"default", &hash(b"any")).is_some());
     }
 
     #[test]
