@@ -346,7 +346,11 @@ fn subscribers_may_speak_resp3() {
         "PUBLISH a",
         "SUBSCRIBE __keyevent@0__:new",
         "PUBLISH __keyspace@0__:a x",
-        "SSUBSCRIBE a",
+        "SSUBSCRIBE",
+        "PUBSUB",
+        "PUBSUB HELP",
+        "PUBSUB NUMPAT x",
+        "PUBSUB CHANNELS a b",
     ] {
         assert!(client.ask(line).starts_with("-ERR "), "{line}");
     }
@@ -355,4 +359,89 @@ fn subscribers_may_speak_resp3() {
         [client.ask("QUIT"), client.hear().map_or("closed".into(), |_| "open".into())],
         ["+OK\r\n", "closed"]
     );
+}
+
+/// A client of that protocol, and the mark of what it is sent unasked.
+fn speaking(proto: u8) -> (Client, &'static str) {
+    let mut client = Client::new();
+    if proto == 3 {
+        assert!(client.ask("HELLO 3").starts_with("%7"));
+    }
+    (client, if proto == 3 { ">" } else { "*" })
+}
+
+#[test]
+#[ignore = "needs a proxy"]
+fn sharded_channels_are_heard() {
+    for proto in [2, 3] {
+        let ((mut client, mark), (mut other, _)) = (speaking(proto), speaking(proto));
+        let marked = |text: String| text.replacen('*', mark, 1);
+        assert_eq!(other.ask("SPUBLISH 1:0:s x"), ":0\r\n");
+        client.send(&command("SSUBSCRIBE 1:0:s 900:0:s hashed"));
+        for (at, name) in ["1:0:s", "900:0:s", "hashed"].into_iter().enumerate() {
+            assert_eq!(client.text(), marked(told("ssubscribe", name, at + 1)));
+        }
+        // Channels of the same name are others, and count apart.
+        assert_eq!(client.ask("SUBSCRIBE 1:0:s"), marked(told("subscribe", "1:0:s", 1)));
+        for name in ["1:0:s", "900:0:s", "hashed"] {
+            assert_eq!(other.ask(&format!("SPUBLISH {name} {name}")), ":1\r\n");
+            assert_eq!(client.text(), marked(message(name, name).replacen("$7\r\nm", "$8\r\nsm", 1)));
+        }
+        assert_eq!(other.ask("PUBLISH 1:0:s x"), ":1\r\n");
+        assert_eq!(client.text(), marked(message("1:0:s", "x")));
+        assert_eq!(client.ask("SUNSUBSCRIBE hashed none"), marked(told("sunsubscribe", "hashed", 2)));
+        assert_eq!(client.text(), marked(told("sunsubscribe", "none", 2)));
+        assert_eq!(client.ask("UNSUBSCRIBE"), marked(told("unsubscribe", "1:0:s", 0)));
+        if proto == 2 {
+            assert!(client.ask("GET a").starts_with("-ERR Can't execute 'get'"));
+        }
+        client.send(&command("SUNSUBSCRIBE"));
+        for (left, name) in [(1, "1:0:s"), (0, "900:0:s")] {
+            assert_eq!(client.text(), marked(told("sunsubscribe", name, left)));
+        }
+        assert_eq!(client.ask("GET 1:0:none"), if proto == 2 { "$-1\r\n" } else { "_\r\n" });
+        assert_eq!([other.ask("MULTI"), other.ask("SPUBLISH 1:0:s b")], ["+OK\r\n", "+QUEUED\r\n"]);
+        assert_eq!(other.ask("EXEC"), "*1\r\n:0\r\n");
+    }
+}
+
+/// Asks until that is the answer: those who have gone are forgotten a little later.
+fn until_answered(client: &mut Client, line: &str, wanted: &str) {
+    let began = Instant::now();
+    while client.ask(line) != wanted {
+        assert!(began.elapsed() < Duration::from_secs(20), "{line}: {}", client.ask(line));
+        sleep(Duration::from_millis(10));
+    }
+}
+
+#[test]
+#[ignore = "needs a proxy"]
+fn subscriptions_are_shown() {
+    for proto in [2, 3] {
+        let ((mut client, _), (mut other, _)) = (speaking(proto), speaking(proto));
+        let list = |names: &[&str]| {
+            format!("*{}\r\n", names.len()) + &names.iter().map(|name| bulk(name)).collect::<String>()
+        };
+        until_answered(&mut other, "PUBSUB CHANNELS", "*0\r\n");
+        until_answered(&mut other, "PUBSUB SHARDCHANNELS", "*0\r\n");
+        until_answered(&mut other, "PUBSUB NUMPAT", ":0\r\n");
+        client.send(&command("SUBSCRIBE 1:0:q 900:0:q hashed"));
+        client.send(&command("PSUBSCRIBE *:q *:r"));
+        client.send(&command("SSUBSCRIBE 900:0:q"));
+        (0..6).for_each(|_| drop(client.text()));
+        assert_eq!(other.ask("PUBSUB CHANNELS"), list(&["1:0:q", "900:0:q", "hashed"]));
+        assert_eq!(other.ask("pubsub channels 9*"), list(&["900:0:q"]));
+        assert_eq!(other.ask("PUBSUB SHARDCHANNELS"), list(&["900:0:q"]));
+        assert_eq!(other.ask("PUBSUB NUMPAT"), ":2\r\n");
+        let counts = |of: &[(&str, u8)]| {
+            let pairs = of.iter().map(|(name, count)| format!("{}:{count}\r\n", bulk(name)));
+            format!("*{}\r\n", 2 * of.len()) + &pairs.collect::<String>()
+        };
+        assert_eq!(
+            other.ask("PUBSUB NUMSUB hashed none 1:0:q"),
+            counts(&[("hashed", 1), ("none", 0), ("1:0:q", 1)])
+        );
+        assert_eq!(other.ask("PUBSUB SHARDNUMSUB 1:0:q 900:0:q"), counts(&[("1:0:q", 0), ("900:0:q", 1)]));
+        assert_eq!(other.ask("PUBSUB NUMSUB"), "*0\r\n");
+    }
 }

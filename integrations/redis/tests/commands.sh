@@ -85,11 +85,7 @@ test_messages() {
   for number in $(seq 330 10 660); do echo "set $number:0 x"; done | redis-cli -p "${proxies[0]}" > "$run/set"
   for number in 2 3; do
     start_move "$number" "${plans[number % 2]}" "${plans[1 - number % 2]}" --chunk 2 --pause 20
-    until has_ended "$id"; do
-      for at in 0 1 2 3 4; do echo "publish 400:0:c <$((count += 1))>"; done > "$run/publish"
-      redis-cli -p "${proxies[count / 5 % 2]}" < "$run/publish" >> "$run/published" || return
-    done
-    wait "$id" || return
+    publish_while "$id" publish && wait "$id" || return
   done
   echo "$count messages"
   [ "$(grep -cx '[2-4]' "$run/published")" -eq "$count" ] || return
@@ -103,6 +99,38 @@ test_messages() {
   redis-cli -p "${proxies[0]}" psubscribe '*' | grep "^TRYAGAIN partition 1 can't be reached" || return
   redis-cli -p "${proxies[0]}" mget 900:0 1:0 | grep "^TRYAGAIN partition 1 can't be reached" || return
   grep -h "warn squall-redis-proxy: partition 1 does not answer" "$run"/proxy.*
+}
+
+# Sends messages on by that command as long as a process runs, through both proxies.
+publish_while() {
+  local at
+  until has_ended "$1"; do
+    for at in 0 1 2 3 4; do echo "$2 400:0:c <$((count += 1))>"; done > "$run/publish"
+    redis-cli -p "${proxies[count / 5 % 2]}" < "$run/publish" >> "$run/published" || return
+  done
+}
+
+# The same of a sharded channel. A channel of its name has other messages.
+test_sharded_messages() {
+  local number plans=(old new) id at count=0 subscribers=() patience=500
+  deploy || return
+  for at in 0 1; do subscribe "$at" ssubscribe 400:0:c 1:0:c && subscribe "$at" subscribe 400:0:c || return; done
+  for number in $(seq 330 10 660); do echo "set $number:0 x"; done | redis-cli -p "${proxies[0]}" > "$run/set"
+  for number in 2 3; do
+    start_move "$number" "${plans[number % 2]}" "${plans[1 - number % 2]}" --chunk 2 --pause 20
+    publish_while "$id" spublish && wait "$id" || return
+    redis-cli -p "${proxies[0]}" pubsub shardchannels | sort | tr '\n' ' ' | grep -x '1:0:c 400:0:c ' || return
+    # One thread of each proxy.
+    redis-cli -p "${proxies[1]}" pubsub shardnumsub 400:0:c | tail -n 1 | grep -x 2 || return
+  done
+  echo "$count messages"
+  [ "$(grep -cx 2 "$run/published")" -eq "$count" ] || return
+  for at in 0 2; do redis-cli -p "${servers[at]}" info commandstats | grep cmdstat_spublish || return; done
+  for at in 0 2; do has_heard "$at" || return; done
+  ! grep '<' "$run/heard.1" "$run/heard.3" || return
+  stop "${servers[0]}"
+  for at in 0 2; do await has_ended "${subscribers[at]}" || return; done
+  redis-cli -p "${proxies[0]}" pubsub channels | grep "^TRYAGAIN partition 1 can't be reached"
 }
 
 # Starts a client of a proxy that subscribes, and waits until it has.

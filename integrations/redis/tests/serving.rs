@@ -90,7 +90,7 @@ fn what_is_not_served_is_refused() {
         "BLPOP a x",
         "BLPOP a -1",
         "BLPOP a nan",
-        "SPUBLISH a x",
+        "SPUBLISH a",
         "FCALL squall_do 1 a",
         "FCALL squall_give 1 a",
         "SCAN",

@@ -1,14 +1,14 @@
 //! A client: its commands in order, and their answers in the same order.
 
-use super::feeds::Topic;
 use super::plan::{Plan, Words};
 use super::session::Session;
 use super::slot::{join, Slot};
 use super::socket::{drop_first, Out, Socket, KEPT_OF_CLIENT};
 use super::task::{Deed, Queue, Task, Watch};
+use super::topics::{Topic, Topics};
 use crate::resp::{unfold, Broken, Parser};
 use squall::{Errand, Reply};
-use std::collections::{BTreeSet, VecDeque};
+use std::collections::VecDeque;
 use std::time::{Duration, Instant};
 
 /// No client has more commands that wait for answers.
@@ -85,9 +85,8 @@ pub struct Client {
     /// What it has queued since MULTI, and which keys it watches.
     pub queue: Option<Queue>,
     pub watch: Option<Watch>,
-    /// What it subscribes to, what that takes of memory, and what it waits to have.
-    pub topics: BTreeSet<Topic>,
-    pub topics_held: usize,
+    /// What it subscribes to, and what it waits to have.
+    pub topics: Topics,
     pub awaited: Vec<Topic>,
     /// Its next command, if it is done on a connection of its own.
     pub task: Option<Task>,
@@ -131,8 +130,7 @@ impl Client {
             waits_since: None,
             queue: None,
             watch: None,
-            topics: BTreeSet::new(),
-            topics_held: 0,
+            topics: Topics::default(),
             awaited: Vec::new(),
             task: None,
             is_resp3: false,
@@ -157,7 +155,7 @@ impl Client {
     }
 
     fn gathered(&self) -> usize {
-        self.topics_held + self.task.as_ref().map_or(0, Task::held)
+        self.topics.held + self.task.as_ref().map_or(0, Task::held)
     }
 
     /// Whether it may have another command in flight: the answers that it has not taken and those that are expected

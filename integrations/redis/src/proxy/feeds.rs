@@ -10,6 +10,7 @@
 
 use super::client::Client;
 use super::scan::Ground;
+use super::topics::{Sort, Topic};
 use super::upstream::{Due, State, Upstream};
 use super::worker::Worker;
 use crate::keymap;
@@ -22,34 +23,13 @@ use std::time::Duration;
 /// A connection that says nothing for so long is asked whether it is there.
 const BEAT: Duration = Duration::from_secs(5);
 
-/// What a client subscribes to.
-#[derive(Clone, PartialEq, Eq, PartialOrd, Ord, Hash)]
-pub struct Topic {
-    /// Whether it is a pattern of channels, and not one.
-    pub is_pattern: bool,
-    /// Its name.
-    pub name: Vec<u8>,
-}
-
-impl Topic {
-    /// About how many bytes a worker holds for it and a client.
-    pub fn cost(&self) -> usize {
-        4 * (self.name.len() + 64)
+/// Where the messages of a topic are published in a course, if the view routes its name to that partition.
+fn places_in(ground: &Ground, topic: &Topic, routed: Option<u32>) -> Vec<u32> {
+    if topic.sort == Sort::Pattern {
+        return ground.parts().collect();
     }
-
-    /// Whether it is one of the server's own, by which a mover hears of keys.
-    pub fn is_own(name: &[u8]) -> bool {
-        name.starts_with(b"__key")
-    }
-
-    /// Where its messages are published in a course, if the view routes it to that partition.
-    fn places(&self, ground: &Ground, routed: Option<u32>) -> Vec<u32> {
-        if self.is_pattern {
-            return ground.parts().collect();
-        }
-        let ends = ground.ends(keymap::rank(&self.name));
-        ends.map_or_else(|| routed.into_iter().collect(), Vec::from)
-    }
+    let ends = ground.ends(keymap::rank(&topic.name));
+    ends.map_or_else(|| routed.into_iter().collect(), Vec::from)
 }
 
 /// A connection over which a partition tells of messages.
@@ -89,7 +69,7 @@ impl Feeds {
 
 impl Worker {
     fn places(&self, ground: &Ground, topic: &Topic) -> Vec<u32> {
-        topic.places(ground, self.view.route(keymap::rank(&topic.name)))
+        places_in(ground, topic, self.view.route(keymap::rank(&topic.name)))
     }
 
     /// A partition that does not tell of these topics yet; none if all do. Each one is asked.
@@ -120,9 +100,7 @@ impl Worker {
         }
         feed.asked += 1;
         feed.topics.insert(topic.clone(), feed.asked);
-        let word: &[u8] = if topic.is_pattern { b"PSUBSCRIBE" } else { b"SUBSCRIBE" };
-        push(&mut self.upstreams[at].out.bytes, &[word, &topic.name]);
-        self.mark_upstream(at);
+        self.ask_feed(at, topic, true);
         false
     }
 
@@ -169,18 +147,22 @@ impl Worker {
         if feed.topics.remove(topic).is_some() {
             feed.asked += 1;
             let at = feed.at;
-            let word: &[u8] = if topic.is_pattern { b"PUNSUBSCRIBE" } else { b"UNSUBSCRIBE" };
-            push(&mut self.upstreams[at].out.bytes, &[word, &topic.name]);
-            self.mark_upstream(at);
+            self.ask_feed(at, topic, false);
         }
+    }
+
+    /// Begins to hear a topic over a connection, or ends that.
+    fn ask_feed(&mut self, at: usize, topic: &Topic, is_begin: bool) {
+        let verb = topic.sort.verb(is_begin).as_bytes();
+        push(&mut self.upstreams[at].out.bytes, &[verb, &topic.name]);
+        self.mark_upstream(at);
     }
 
     /// A client has no topic any more, and waits for none.
     pub(super) fn leave(&mut self, place: usize, client: &mut Client) {
         let topics = std::mem::take(&mut client.topics);
         let awaited = std::mem::take(&mut client.awaited);
-        topics.iter().chain(&awaited).for_each(|topic| self.drop_topic(place, topic));
-        client.topics_held = 0;
+        topics.into_iter().chain(awaited).for_each(|topic| self.drop_topic(place, &topic));
     }
 
     /// Once a course has begun: asks for all topics where it has them, then logs in by it, and in the end forgets where
@@ -215,7 +197,7 @@ impl Worker {
         let mut old: Vec<(u32, Topic)> = Vec::new();
         for (&part, feed) in &self.feeds.by_part {
             let is_old = |topic: &&Topic| {
-                let before = last.as_ref().map_or(Vec::new(), |last| topic.places(last, None));
+                let before = last.as_ref().map_or(Vec::new(), |last| places_in(last, topic, None));
                 !self.places(&ground, topic).contains(&part) && !before.contains(&part)
             };
             old.extend(feed.topics.keys().filter(is_old).map(|topic| (part, topic.clone())));
@@ -229,11 +211,12 @@ impl Worker {
             return reply.first() == Some(&b'+') && self.upstreams[at].sent.pop_front().is_some();
         }
         match texts(reply)[..] {
-            [b"message", name, _] => self.tell(&Topic { is_pattern: false, name: name.to_vec() }, reply),
+            [b"message", name, _] => self.tell(&Topic::new(Sort::Channel, name), reply),
+            [b"smessage", name, _] => self.tell(&Topic::new(Sort::Shard, name), reply),
             [b"pmessage", name, channel, _] if !Topic::is_own(channel) => {
-                self.tell(&Topic { is_pattern: true, name: name.to_vec() }, reply);
+                self.tell(&Topic::new(Sort::Pattern, name), reply);
             }
-            [b"subscribe" | b"psubscribe" | b"unsubscribe" | b"punsubscribe", _] => {
+            [verb, _] if Sort::of(verb).is_some() => {
                 let part = self.upstreams[at].part;
                 if let Some(feed) = self.feeds.by_part.get_mut(&part) {
                     feed.answered += 1;
@@ -299,10 +282,10 @@ mod tests {
     #[test]
     fn a_channel_that_moves_is_heard_at_both_ends() {
         let ground = Ground::of(&Course::open(2, OLD, NEW).unwrap(), |_| false);
-        let places =
-            |is_pattern, name: &str| Topic { is_pattern, name: name.into() }.places(&ground, Some(1));
-        assert_eq!((places(false, "1:7:x"), places(false, "2:7:x")), (vec![1], vec![1, 3]));
-        assert_eq!((places(true, "1:7:*"), ground.ends(Rank::new(1, 9))), (vec![1, 3], None));
-        assert!(Topic::is_own(b"__keyevent@0__:new") && !Topic::is_own(b"_key"));
+        let places = |sort, name: &str| places_in(&ground, &Topic::new(sort, name.as_bytes()), Some(1));
+        for sort in [Sort::Channel, Sort::Shard] {
+            assert_eq!((places(sort, "1:7:x"), places(sort, "2:7:x")), (vec![1], vec![1, 3]));
+        }
+        assert_eq!((places(Sort::Pattern, "1:7:*"), ground.ends(Rank::new(1, 9))), (vec![1, 3], None));
     }
 }

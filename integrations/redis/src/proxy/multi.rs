@@ -52,6 +52,7 @@ impl Worker {
             b"DISCARD" => self.answer_of(client, "-ERR DISCARD without MULTI\r\n"),
             // The others come after all that the client asked for before.
             b"UNWATCH" | b"WATCH" | b"SCAN" | b"SCRIPT" | b"KEYS" | b"DBSIZE" | b"RANDOMKEY" | b"INFO"
+            | b"PUBSUB"
                 if client.in_flight > 0 =>
             {
                 Flow::Idle
@@ -64,13 +65,14 @@ impl Worker {
             b"WATCH" => self.watch_keys(client),
             b"SCAN" if count > 1 => self.start_scan(client),
             b"KEYS" if count == 2 => self.start_names(client),
-            b"DBSIZE" if is_alone => self.start_visit(client, Goal::Size),
-            b"RANDOMKEY" if is_alone => self.start_visit(client, Goal::Key),
+            b"DBSIZE" if is_alone => self.start_visit(client, Kind::Own, Goal::Size),
+            b"RANDOMKEY" if is_alone => self.start_visit(client, Kind::Own, Goal::Key),
+            b"PUBSUB" if count > 1 => self.start_pubsub(client),
             b"INFO" => {
                 let sections = client.words().all().split_off(1);
-                self.start_visit(client, Goal::Info(sections))
+                self.start_visit(client, Kind::Own, Goal::Info(sections))
             }
-            b"SCAN" | b"KEYS" | b"DBSIZE" | b"RANDOMKEY" => self.few(client),
+            b"SCAN" | b"KEYS" | b"DBSIZE" | b"RANDOMKEY" | b"PUBSUB" => self.few(client),
             b"SCRIPT" if count == 3 && client.words().at(1).eq_ignore_ascii_case(b"LOAD") => {
                 self.start(client, Kind::Script, Deed::Load(0), Vec::new())
             }
@@ -204,8 +206,8 @@ impl Worker {
         self.start(client, Kind::Scan, Deed::Names(names), Vec::new())
     }
 
-    fn start_visit(&mut self, client: &mut Client, goal: Goal) -> Flow {
-        self.start(client, Kind::Own, Deed::Visit(Visit::new(goal)), Vec::new())
+    pub(super) fn start_visit(&mut self, client: &mut Client, kind: Kind, goal: Goal) -> Flow {
+        self.start(client, kind, Deed::Visit(Visit::new(goal)), Vec::new())
     }
 }
 

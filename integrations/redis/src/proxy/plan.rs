@@ -1,7 +1,7 @@
 //! What a command asks for: the keys that it touches, and how its answer is made.
 
 use super::commands::{find, Command, Guard, Keys, Split};
-use super::feeds::Topic;
+use super::topics::Topic;
 use crate::keymap;
 use crate::mover::is_own;
 use crate::resp::{error, push};

@@ -7,10 +7,10 @@ use std::collections::BTreeSet;
 
 /// Commands that are not in the table, and can be allowed. Any client may call AUTH, HELLO, QUIT and RESET.
 #[rustfmt::skip]
-pub const OTHERS: [&str; 23] = [
+pub const OTHERS: [&str; 26] = [
     "ACL", "CLIENT", "CLIENT|LIST", "DBSIZE", "DISCARD", "ECHO", "EXEC", "INFO", "KEYS", "MULTI", "PING",
-    "PSUBSCRIBE", "PUNSUBSCRIBE", "RANDOMKEY", "SCAN", "SCRIPT", "SELECT", "SQUALL", "SUBSCRIBE", "TIME", "UNSUBSCRIBE",
-    "UNWATCH", "WATCH",
+    "PSUBSCRIBE", "PUBSUB", "PUNSUBSCRIBE", "RANDOMKEY", "SCAN", "SCRIPT", "SELECT", "SQUALL", "SSUBSCRIBE", "SUBSCRIBE",
+    "SUNSUBSCRIBE", "TIME", "UNSUBSCRIBE", "UNWATCH", "WATCH",
 ];
 /// Those that only read beside the table's, for whoever gives rights.
 pub const MORE_READS: [&str; 7] = ["BITFIELD_RO", "DBSIZE", "KEYS", "PFCOUNT", "RANDOMKEY", "SCAN", "XREAD"];
@@ -18,8 +18,8 @@ pub const MORE_READS: [&str; 7] = ["BITFIELD_RO", "DBSIZE", "KEYS", "PFCOUNT", "
 pub const DANGEROUS: [&str; 7] = ["CLIENT|LIST", "INFO", "KEYS", "RESTORE", "SORT", "SORT_RO", "SQUALL"];
 
 /// Commands whose second word is a part of their name.
-const WITH_SUBCOMMANDS: [&str; 8] =
-    ["ACL", "CLIENT", "COMMAND", "MEMORY", "OBJECT", "SCRIPT", "XGROUP", "XINFO"];
+const WITH_SUBCOMMANDS: [&str; 9] =
+    ["ACL", "CLIENT", "COMMAND", "MEMORY", "OBJECT", "PUBSUB", "SCRIPT", "XGROUP", "XINFO"];
 
 /// The name of a command as rules have it, and of a subcommand if it has a right of its own.
 pub fn known(name: &[u8], sub: Option<&[u8]>) -> Option<&'static str> {

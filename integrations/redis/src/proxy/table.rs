@@ -158,6 +158,7 @@ pub const COMMANDS: &[Command] = &[
     row("SORT", Kind::Key, Keys::Sort, Guard::Both, None),
     row("SORT_RO", Kind::Key, Keys::Sort, Guard::Both, None),
     row("SPOP", Kind::Set, Keys::Range(1, 1, 1), Guard::Both, None),
+    row("SPUBLISH", Kind::PubSub, Keys::Channel, Guard::Never, None),
     row("SRANDMEMBER", Kind::Set, Keys::Range(1, 1, 1), Guard::Both, None),
     row("SREM", Kind::Set, Keys::Range(1, 1, 1), Guard::Both, None),
     row("SSCAN", Kind::Set, Keys::Range(1, 1, 1), Guard::Both, None),

@@ -175,8 +175,8 @@ impl User {
         };
         let is_allowed = |at: usize| allowed.iter().any(|pattern| glob::matches(pattern, word(at)));
         match name {
-            "PUBLISH" => count < 2 || is_allowed(1),
-            "SUBSCRIBE" => (1..count).all(is_allowed),
+            "PUBLISH" | "SPUBLISH" => count < 2 || is_allowed(1),
+            "SUBSCRIBE" | "SSUBSCRIBE" => (1..count).all(is_allowed),
             "PSUBSCRIBE" => (1..count).all(|at| allowed.iter().any(|pattern| pattern == word(at))),
             _ => true,
         }
@@ -330,6 +330,11 @@ mod tests {
         let heard = user("+@all ~* &news:* &all");
         assert!(may(&heard, "PUBLISH news:1 x") && !may(&heard, "PUBLISH new x") && !heard.is_full);
         assert!(may(&heard, "SUBSCRIBE news:1 all") && !may(&heard, "SUBSCRIBE all x"));
+        assert!(
+            may(&heard, "SSUBSCRIBE news:1 all")
+                && !may(&heard, "SSUBSCRIBE all x")
+                && !may(&heard, "SPUBLISH x y")
+        );
         assert!(
             may(&heard, "PSUBSCRIBE news:*") && !may(&heard, "PSUBSCRIBE news:1") && may(&heard, "EVAL x 0")
         );

@@ -1,9 +1,10 @@
-//! Commands about all partitions that are answered once each of them was asked: `DBSIZE`, `INFO` and `RANDOMKEY`.
+//! Commands about all partitions that are answered once each of them was asked: `DBSIZE`, `INFO`, `PUBSUB` and `RANDOMKEY`.
 
 use super::client::Client;
 use super::deeds::is_fence;
 use super::info;
 use super::own::Outcome;
+use super::pubsub;
 use super::scan::Known;
 use super::task::{Deed, Task};
 use super::worker::Worker;
@@ -40,6 +41,8 @@ pub enum Goal {
     Key,
     /// What the servers say of themselves, in these sections.
     Info(Vec<Vec<u8>>),
+    /// What is subscribed to, by these words.
+    Topics(Vec<Vec<u8>>),
 }
 
 /// A command that visits partition after partition.
@@ -48,6 +51,7 @@ pub struct Visit {
     /// The first partition that was not asked.
     pub from: u32,
     heard: Vec<Heard>,
+    topics: Vec<Value>,
 }
 
 /// What a partition has said.
@@ -71,15 +75,19 @@ impl Heard {
 impl Visit {
     /// A visit that has asked nobody.
     pub fn new(goal: Goal) -> Visit {
-        Visit { goal, from: 0, heard: Vec::new() }
+        Visit { goal, from: 0, heard: Vec::new(), topics: Vec::new() }
     }
 
     /// Appends the questions to a partition: how many they are.
     pub fn ask(&self, out: &mut Vec<u8>) -> usize {
+        if let Goal::Topics(words) = &self.goal {
+            push(out, words);
+            return 1;
+        }
         push(out, &["DBSIZE"]);
         push(out, &[&["EXISTS"], &OWN[..]].concat());
         let (more, count) = match self.goal {
-            Goal::Size => ("", 0),
+            Goal::Size | Goal::Topics(_) => ("", 0),
             Goal::Key => ("RANDOMKEY", DRAWS),
             Goal::Info(_) => ("INFO", 1),
         };
@@ -144,13 +152,16 @@ impl Worker {
         }
         let ground = self.ground()?;
         let (it, known) = (&self.upstreams[at], Known { view: &self.view, tables: &self.shared.tables });
-        let heard = read(replies, |key| known.has(it, key));
-        let next = it.part + 1;
         let Deed::Visit(visit) = &mut task.deed else {
             return None;
         };
+        let next = it.part + 1;
         visit.from = next;
-        visit.heard.extend(heard);
+        if let Goal::Topics(_) = visit.goal {
+            visit.topics.extend(replies.iter().filter_map(|reply| Some(Value::read(reply).ok()??.0)));
+        } else {
+            visit.heard.extend(read(replies, |key| known.has(it, key)));
+        }
         if ground.part_from(next).is_some() {
             task.go_on(self.now);
             return None;
@@ -169,6 +180,7 @@ impl Worker {
                 let text = info::text(&visit.heard, sections, &self.shared.own_info());
                 info::verbatim(&text, client.is_resp3)
             }
+            Goal::Topics(words) => pubsub::joined(words, &visit.topics),
             Goal::Key => match visit.draw() {
                 Some(key) => [format!("${}\r\n", key.len()).as_bytes(), key, b"\r\n"].concat(),
                 None if visit.size() == 0 => client.nil().to_vec(),
@@ -204,15 +216,12 @@ mod tests {
 
     #[test]
     fn large_partitions_are_drawn_more_often() {
-        let visit = Visit {
-            goal: Goal::Key,
-            from: 0,
-            heard: vec![heard(900, &["a"]), heard(100, &["b"]), heard(5, &[])],
-        };
+        let of = vec![heard(900, &["a"]), heard(100, &["b"]), heard(5, &[])];
+        let visit = Visit { heard: of, ..Visit::new(Goal::Key) };
         let drawn = (0..1000).filter(|_| visit.draw() == Some(b"a")).count();
         assert!((800..1000).contains(&drawn), "{drawn}");
         assert_eq!(visit.size(), 1005);
-        let none = Visit { goal: Goal::Key, from: 0, heard: vec![heard(5, &[])] };
+        let none = Visit { heard: vec![heard(5, &[])], ..Visit::new(Goal::Key) };
         assert_eq!(none.draw(), None);
     }
 }
