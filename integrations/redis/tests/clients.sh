@@ -29,12 +29,14 @@ counts() {
   grep -qx "$1 $2" "$run/page" || { echo "not $1 $2"; grep "^${1%%\{*}" "$run/page"; return 1; }
 }
 
-# Sets `program` to the program squall.
+# Sets `program` to the program squall. An unpacked archive has it beside the library.
 set_program() {
   if program=$("$top/tools/released" program 2> /dev/null); then
     program=$program/squall
   elif "$top/tools/releasing/is-built"; then
     program=$top/squall
+  elif [ -x "$SQUALL_DIR/squall" ]; then
+    program=$SQUALL_DIR/squall
   else
     echo "there is no program squall"
     return 1
@@ -60,6 +62,28 @@ test_status_page() {
   cat "$run/status"
   page '' && grep -q '<svg' "$run/page" && grep -q 'http-equiv="refresh"' "$run/page" && ! page nothing || return
   are_exported "$http" "${at[@]}" && have_times
+}
+
+# While keys move, the picture and the lines of the page are of one moment.
+test_page_of_one_moment() {
+  local program http id limits looks=0 last='' loads=0 drawn said
+  set_program && deploy && fill_roots || return
+  free_port
+  http=$port
+  limits=(--metrics "127.0.0.1:$http" --program "$program")
+  run_proxy 0 env || return
+  start_move 2 old new --chunk 1 --pause 5
+  until has_ended "$id"; do
+    page '' || return
+    drawn=$(sed -n "s/^<text [^>]*y='20'[^>]*>course .* loaded \([0-9]* of [0-9]*\) keys.*/\1/p" "$run/page")
+    said=$(sed -n 's/^<pre>course .* loaded \([0-9]* of [0-9]*\) keys.*/\1/p' "$run/page")
+    [ -n "$said" ] && [ "$drawn" = "$said" ] || { echo "the picture says $drawn, and the lines $said"; return 1; }
+    looks=$((looks + 1))
+    [ "$said" = "$last" ] || loads=$((loads + 1))
+    last=$said
+  done
+  counts="($looks looks at $loads boards)"
+  [ "$loads" -gt 5 ]
 }
 
 # Whether the programs at these ports export together all that the files of monitoring/ name.

@@ -45,20 +45,17 @@ impl Page {
         Ok(self.shared.node.board()?.concat())
     }
 
-    /// The lines of the course.
-    fn status(&self) -> Done<String> {
-        self.ask(Asked::Status)
+    /// What the program says of the board as it is.
+    fn say(&self, asked: Asked) -> Done<String> {
+        self.ask(asked, &self.board()?)
     }
 
-    /// The picture of the course.
-    fn picture(&self) -> Done<String> {
-        self.ask(Asked::Picture)
-    }
-
-    /// The page for people.
+    /// The page for people. Its picture and its lines are those of one board.
     fn html(&self) -> Done<String> {
         let or_why = |said: Done<String>| said.unwrap_or_else(|fault| escaped(&fault.to_string()));
-        let status = self.status().map(|text| escaped(&text));
+        let board = self.board()?;
+        let [status, picture] = [Asked::Status, Asked::Picture].map(|asked| self.ask(asked, &board));
+        let status = status.map(|text| escaped(&text));
         let info = self.shared.info();
         let mut words = info.split(' ');
         let mut rows = String::new();
@@ -70,7 +67,7 @@ impl Page {
         let rows = rows + &self.partitions();
         let page = HTML.replace("@ready@", &escaped(&or_why(ready)));
         let page = page.replace("@rows@", &rows).replace("@status@", &or_why(status));
-        Ok(page.replace("@picture@", &or_why(self.picture())))
+        Ok(page.replace("@picture@", &or_why(picture)))
     }
 
     /// A row for each partition, and one for the bus.
@@ -84,14 +81,13 @@ impl Page {
         rows
     }
 
-    /// What the program says of the board. It is asked again if the board has changed.
-    fn ask(&self, asked: Asked) -> Done<String> {
-        let board = self.board()?;
+    /// What the program says of a board. It is asked again if the board is another one.
+    fn ask(&self, asked: Asked, board: &[u8]) -> Done<String> {
         let mut said = self.said.lock().unwrap_or_else(PoisonError::into_inner);
         let last = &mut said[asked as usize];
         if last.text.is_empty() || last.board != board {
-            let text = self.run(asked, &board)?;
-            *last = Said { board, text };
+            let text = self.run(asked, board)?;
+            *last = Said { board: board.to_vec(), text };
         }
         Ok(last.text.clone())
     }
@@ -130,8 +126,8 @@ impl Site for Page {
             },
             "/" => Answer::of("text/html; charset=utf-8", self.html()),
             "/metrics" => Answer::metrics(self.shared.metrics()),
-            "/picture.svg" => Answer::of("image/svg+xml", self.picture()),
-            "/status" => Answer::text(self.status()),
+            "/picture.svg" => Answer::of("image/svg+xml", self.say(Asked::Picture)),
+            "/status" => Answer::text(self.say(Asked::Status)),
             "/board" => Answer::of("application/octet-stream", self.board()),
             _ => Answer::missing("/  /metrics  /picture.svg  /status  /board  /ready"),
         }
