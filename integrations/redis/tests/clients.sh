@@ -186,6 +186,63 @@ scans_find_all() {
   echo "$scans scans"
 }
 
+# Reads pages of a walk over the members of a key, so many at most, from the cursor in $run/cursor on, which then has the next one.
+# Members are added to $run/members.
+read_pages() {
+  local verb=$1 key=$2 left=$3 step=1 cursor
+  [ "$verb" = sscan ] || step=2
+  cursor=$(cat "$run/cursor")
+  while [ "$left" -gt 0 ]; do
+    redis-cli -p "${proxies[left % 2]}" "$verb" "$key" "$cursor" count 100 > "$run/page" || return
+    cursor=$(head -n 1 "$run/page")
+    [[ $cursor =~ ^[0-9]+$ ]] || { cat "$run/page"; return 1; }
+    tail -n +2 "$run/page" | awk -v step="$step" 'NR % step == 1 || step == 1' >> "$run/members"
+    left=$((left - 1))
+    [ "$cursor" != 0 ] || left=0
+  done
+  echo "$cursor" > "$run/cursor"
+}
+
+# Whether a walk over a key of many members names all of them, if the key moves amid the walk. The first word is what is done
+# after some pages.
+walks_all() {
+  local verb=$2 key=$3
+  echo 0 > "$run/cursor"
+  : > "$run/members"
+  read_pages "$verb" "$key" 5 && "$1" && read_pages "$verb" "$key" 10000 || return
+  [ "$(cat "$run/cursor")" = 0 ] && sort -u "$run/members" | diff - "$run/wanted" > "$run/differs" && return
+  echo "$verb $key: $(grep -c '^>' "$run/differs") members are missed, and $(grep -c '^<' "$run/differs") are none"
+  return 1
+}
+
+test_members_while_keys_move() {
+  local id number=1 plans=(old new) add verb
+  deploy || return
+  seq -f 'm%04.0f' 1200 | sort > "$run/wanted"
+  for add in "hset 400:0:h %s v" "sadd 400:0:s %s" "zadd 400:0:z 1 %s" "hset 600:0:h %s v"; do
+    awk -v add="$add\n" '{ printf add, $0 }' "$run/wanted"
+  done | redis-cli -p "${proxies[0]}" > "$run/set"
+  for verb in "hscan 400:0:h" "sscan 400:0:s" "zscan 400:0:z" "hscan 600:0:h"; do
+    # shellcheck disable=SC2086
+    walks_all true $verb && walks_all to_and_fro $verb || return
+  done
+  # The rest of the walk is by the guard: the key is not given yet.
+  for number in $(seq 330 399); do echo "set $number:0 x"; done | redis-cli -p "${proxies[0]}" > "$run/set"
+  walks_all begins_to_move hscan 400:0:h
+}
+
+# The next course.
+to_and_fro() {
+  number=$((number + 1))
+  move "$number" "${plans[number % 2]}" "${plans[1 - number % 2]}" > "$run/said"
+}
+
+# The next course, which waits after its first chunks.
+begins_to_move() {
+  start_move 6 old new --chunk 1 --pause 600000
+  agrees 3 6 330:0
+}
+
 # A command on two keys is refused while it waits, if only one of them moves: at the new place it would be done without
 # the other.
 test_keys_that_part() {

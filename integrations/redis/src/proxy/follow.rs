@@ -3,6 +3,7 @@
 use super::client::{Chase, Client, Diverted};
 use super::deeds::is_fence;
 use super::link::unreached;
+use super::pages;
 use super::plan::Plan;
 use super::roles::Standing;
 use super::upstream::{Due, InFlight};
@@ -16,6 +17,8 @@ use std::time::Duration;
 /// The pause before a key that is on its way is asked for again, at first and at most. News end it.
 const FIRST: Duration = Duration::from_millis(2);
 const LAST: Duration = Duration::from_millis(50);
+/// What is answered instead of a page that is none, or has too large a cursor.
+const ODD: &str = "ERR the partition's page is of another form";
 
 /// The connection of each request, and whether it is sent by the guard.
 pub enum Targets {
@@ -127,9 +130,12 @@ impl Worker {
     pub(super) fn answered(&mut self, at: usize, sent: InFlight, reply: &[u8]) {
         if reply.first() != Some(&b'-') {
             let exact = reply.strip_prefix(b"+SQUALL INT ").filter(|_| sent.is_guarded);
-            return match exact {
-                Some(number) => self.deliver(&sent, &[b":", number].concat()),
-                None => self.deliver(&sent, reply),
+            let page = if sent.is_page { pages::answer(reply, self.upstreams[at].part) } else { None };
+            return match (exact, page) {
+                (Some(number), _) => self.deliver(&sent, &[b":", number].concat()),
+                (_, Some(page)) => self.deliver(&sent, &page),
+                (None, None) if sent.is_page => self.deliver(&sent, &error(ODD)),
+                (None, None) => self.deliver(&sent, reply),
             };
         }
         match read(reply, sent.is_guarded) {
@@ -287,10 +293,10 @@ impl Worker {
     ) -> bool {
         let to = &mut self.upstreams[upstream];
         let (id, is_resp3) = (client.id, client.is_resp3_of(seq));
-        let is_guarded = client.with(seq, |plan, words, len| {
-            let part = part as usize;
+        let sent_as = client.with(seq, |plan, words, len| {
+            let part = (part as usize, to.part);
             let stays = |&rank: &squall::Rank| to.table.standing(rank) == Standing::Stays;
-            let is_plain = plan.is_free() || plan.ranks(part).iter().all(stays);
+            let is_plain = plan.is_free() || plan.ranks(part.0).iter().all(stays);
             if is_plain {
                 plan.put(&mut to.out.bytes, part, words, len);
             } else if plan.may_be_guarded(is_resp3) {
@@ -298,12 +304,12 @@ impl Worker {
             } else {
                 return None;
             }
-            Some(!is_plain)
+            Some((!is_plain, plan.is_page()))
         });
-        let Some(is_guarded) = is_guarded.flatten() else {
+        let Some((is_guarded, is_page)) = sent_as.flatten() else {
             return false;
         };
-        let sent = InFlight { client: at, id, seq, part, is_guarded, is_chased: true };
+        let sent = InFlight { client: at, id, seq, part, is_guarded, is_chased: true, is_page };
         to.expect(Due::Request(sent), self.now);
         client.in_flight += 1;
         self.mark_upstream(upstream);

@@ -18,6 +18,7 @@ mod multi;
 mod names;
 mod own;
 mod page;
+mod pages;
 mod places;
 mod plan;
 mod pubsub;

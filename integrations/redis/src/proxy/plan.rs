@@ -1,6 +1,7 @@
 //! What a command asks for: the keys that it touches, and how its answer is made.
 
 use super::commands::{find, Command, Guard, Keys, Split};
+use super::pages;
 use super::topics::Topic;
 use crate::keymap;
 use crate::mover::is_own;
@@ -142,16 +143,30 @@ impl Plan {
         }
     }
 
-    /// Appends a request as a plain command. `bytes` are those of the whole one.
-    pub fn put(&self, out: &mut Vec<u8>, part: usize, words: Words, len: usize) {
+    /// Whether it reads a page of a walk over the members of a key.
+    pub fn is_page(&self) -> bool {
+        pages::is_walk(self.command())
+    }
+
+    /// Appends a request to the partition `to` as a plain command. The whole one has `len` bytes.
+    pub fn put(&self, out: &mut Vec<u8>, (part, to): (usize, u32), words: Words, len: usize) {
+        let mut cursor = String::new();
         match self {
             Plan::Parts(_, _, parts) => push(out, &part_words(&parts[part], words)),
+            _ if self.is_page() => push(out, &page_words(words, to, &mut cursor)),
             _ => out.extend_from_slice(&words.bytes[..len]),
         }
     }
 
-    /// Appends a request by the guard of a partition in the course `number`.
-    pub fn put_guarded(&self, out: &mut Vec<u8>, part: usize, words: Words, (number, is_resp3): (u32, bool)) {
+    /// Appends a request by the guard of the partition `to` in the course `number`.
+    pub fn put_guarded(
+        &self,
+        out: &mut Vec<u8>,
+        (part, to): (usize, u32),
+        words: Words,
+        (number, is_resp3): (u32, bool),
+    ) {
+        let mut cursor = String::new();
         let ranks = self.ranks(part);
         let proto = if is_resp3 && self.command().guard == Guard::Both { "3" } else { "2" };
         let texts: Vec<String> = [number.to_string(), proto.into(), ranks.len().to_string()]
@@ -162,10 +177,18 @@ impl Plan {
         all.extend(texts.iter().map(|text| text.as_bytes()));
         match self {
             Plan::Parts(_, _, parts) => all.extend(part_words(&parts[part], words)),
+            _ if self.is_page() => all.extend(page_words(words, to, &mut cursor)),
             _ => all.extend((0..words.count()).map(|at| words.at(at))),
         }
         push(out, &all);
     }
+}
+
+/// The words of a command that reads a page, with the cursor of a partition.
+fn page_words<'a>(words: Words<'a>, to: u32, cursor: &'a mut String) -> Vec<&'a [u8]> {
+    let mut all: Vec<&[u8]> = (0..words.count()).map(|at| words.at(at)).collect();
+    pages::ask(&mut all, to, cursor);
+    all
 }
 
 /// The words of a part.
@@ -253,18 +276,28 @@ mod tests {
     fn requests_are_written() {
         with_plan("MSET 2:7 a 2:8 b", |plan, words, len| {
             let mut out = Vec::new();
-            plan.unwrap().put(&mut out, 1, words, len);
+            plan.unwrap().put(&mut out, (1, 1), words, len);
             assert_eq!(out, b"*3\r\n$4\r\nMSET\r\n$3\r\n2:8\r\n$1\r\nb\r\n");
         });
         with_plan("GET 2:7", |plan, words, len| {
             let plan = plan.unwrap();
             let (mut plain, mut guarded, mut wanted) = (Vec::new(), Vec::new(), Vec::new());
-            plan.put(&mut plain, 0, words, len);
+            plan.put(&mut plain, (0, 1), words, len);
             assert_eq!(plain, words.bytes);
-            plan.put_guarded(&mut guarded, 0, words, (5, true));
+            plan.put_guarded(&mut guarded, (0, 1), words, (5, true));
             let all = ["FCALL", "squall_read", "0", "5", "3", "1", "0000000200000007", "GET", "2:7"];
             push(&mut wanted, &all);
             assert_eq!(guarded, wanted);
+        });
+        // Partition 1 has given the cursor 5.
+        with_plan("HSCAN 2:7 81922", |plan, words, len| {
+            let plan = plan.unwrap();
+            for (to, cursor) in [(1, "5"), (2, "0")] {
+                let (mut out, mut wanted) = (Vec::new(), Vec::new());
+                plan.put(&mut out, (0, to), words, len);
+                push(&mut wanted, &["HSCAN", "2:7", cursor]);
+                assert_eq!(out, wanted);
+            }
         });
     }
 }

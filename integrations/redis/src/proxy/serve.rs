@@ -197,13 +197,13 @@ impl Worker {
         let to = &mut self.upstreams[upstream];
         if is_guarded {
             let course = (to.number, client.is_resp3);
-            plan.put_guarded(&mut to.out.bytes, part, words, course);
+            plan.put_guarded(&mut to.out.bytes, (part, to.part), words, course);
         } else {
-            plan.put(&mut to.out.bytes, part, words, client.parser.len());
+            plan.put(&mut to.out.bytes, (part, to.part), words, client.parser.len());
         }
-        let seq = client.next_seq();
+        let (seq, id, is_page) = (client.next_seq(), client.id, plan.is_page());
         let part = part as u32;
-        let sent = InFlight { client: at, id: client.id, seq, part, is_guarded, is_chased: false };
+        let sent = InFlight { client: at, id, seq, part, is_guarded, is_chased: false, is_page };
         to.expect(Due::Request(sent), self.now);
         client.in_flight += 1;
         client.guarded += usize::from(is_guarded);

@@ -32,6 +32,8 @@ pub struct InFlight {
     pub is_guarded: bool,
     /// Whether an errand sent it.
     pub is_chased: bool,
+    /// Whether its answer is a page of a walk over the members of a key.
+    pub is_page: bool,
 }
 
 /// What a connection is at.
