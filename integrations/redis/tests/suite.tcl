@@ -1,6 +1,6 @@
 
 # Added by integrations/redis/suite to what Redis' tests load last. A check that fails may leave its client in a transaction,
-# so the next one gets a new client, and a server that has memory and runs no script.
+# so the next one gets a new client, and a server that has memory, runs no script and needs no replicas.
 rename test test_as_it_is
 proc test {name code args} {
     set before $::num_failed
@@ -9,6 +9,7 @@ proc test {name code args} {
         catch {reconnect}
         catch {r script kill}
         catch {r config set maxmemory 0}
+        catch {r config set min-replicas-to-write 0}
     }
 }
 
