@@ -39,6 +39,13 @@ fn transactions_are_done_in_one_piece() {
     assert_eq!(client.ask("SET 900:0:t c"), "+QUEUED\r\n");
     assert!(is_apart(&client.ask("EXEC")));
     assert_eq!(client.ask("GET 1:0:t"), bulk("a"));
+    // What a partition refuses when it is queued is named.
+    let few = "ERR wrong number of arguments for 'get' command\r\n";
+    assert_eq!(client.ask("MULTI"), "+OK\r\n");
+    assert_eq!(client.ask("SET 1:0:t d"), "+QUEUED\r\n");
+    assert_eq!(client.ask("GET 1:0:t x"), "+QUEUED\r\n");
+    assert_eq!(client.ask("EXEC"), format!("-EXECABORT Transaction discarded because of: {few}"));
+    assert_eq!(client.ask("GET 1:0:t"), bulk("a"));
     assert_eq!(client.ask("MULTI"), "+OK\r\n");
     assert_eq!(client.ask("BLPOP 1:0:none 0"), "+QUEUED\r\n");
     assert_eq!(client.ask("DEL 1:0:t 2:0:t"), "+QUEUED\r\n");
@@ -90,6 +97,11 @@ fn scripts_have_keys_of_one_partition() {
     let loaded = client.ask(&format!("SCRIPT LOAD {script}"));
     let sha = loaded.lines().nth(1).unwrap().to_string();
     assert_eq!(sha.len(), 40, "{loaded}");
+    let unknown = "0000000000000000000000000000000000000000";
+    assert_eq!(client.ask(&format!("SCRIPT EXISTS {sha} {unknown}")), "*2\r\n:1\r\n:0\r\n");
+    assert!(
+        client.ask("SCRIPT EXISTS").starts_with("-ERR ") && client.ask("SCRIPT FLUSH").starts_with("-ERR ")
+    );
     for key in ["1:2:s", "900:2:s", "hashed:s"] {
         assert!(client.ask(&format!("EVALSHA {sha} 1 {key} 2")).starts_with(':'), "{key}");
     }

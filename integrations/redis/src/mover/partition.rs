@@ -42,6 +42,7 @@ const RIGHTS: &[&str] = &[
     "+eval_ro",
     "+evalsha",
     "+evalsha_ro",
+    "+script|exists",
     "+script|load",
     "+sort",
     "+sort_ro",

@@ -220,7 +220,7 @@ impl Worker {
         }
         let asked_at = task.again;
         match (&mut task.deed, refusal) {
-            (Deed::Exec(_), _) => Some(Outcome::Answer(done.clone())),
+            (Deed::Exec(_), _) => Some(Outcome::Answer(with_reason(queued, done))),
             (_, Some(refusal)) => Some(Outcome::Answer(refusal.to_vec())),
             (Deed::Wait(wait), _) if wait.ids.are_open() => {
                 let taken = wait.ids.take(done);
@@ -292,6 +292,16 @@ fn refusal<'a>(queued: &'a [Vec<u8>], done: &'a [u8]) -> Option<&'a [u8]> {
     all.find(|reply| reply.first() == Some(&b'-'))
 }
 
+/// What a transaction is answered with. If a command of it was refused when it was queued, the client has not seen why, and so
+/// this says it, as a server says why it refuses `EXEC`.
+fn with_reason(queued: &[Vec<u8>], done: &[u8]) -> Vec<u8> {
+    let refused = queued.iter().find_map(|reply| reply.strip_prefix(b"-"));
+    match refused.filter(|_| done.starts_with(b"-EXECABORT")) {
+        Some(why) => [b"-EXECABORT Transaction discarded because of: ", why].concat(),
+        None => done.to_vec(),
+    }
+}
+
 /// The one element of a list.
 fn element(list: &[u8]) -> &[u8] {
     let begin = list.iter().position(|&byte| byte == b'\n').map_or(0, |at| at + 1);
@@ -327,6 +337,10 @@ mod tests {
         assert_eq!(refusal(&queued, aborted), Some(&aborted[..]));
         let refused = [b"+OK\r\n".to_vec(), b"-OOM\r\n".to_vec()];
         assert_eq!(refusal(&refused, aborted), Some(&b"-OOM\r\n"[..]));
+        let unknown = b"-EXECABORT Transaction discarded because of previous errors.\r\n";
+        assert_eq!(with_reason(&refused, unknown), aborted);
+        assert_eq!(with_reason(&queued, unknown), unknown);
+        assert_eq!(with_reason(&queued, b"*1\r\n:5\r\n"), b"*1\r\n:5\r\n");
     }
 
     #[test]

@@ -43,7 +43,7 @@ pub fn answer(words: Words, view: &View, info: impl FnOnce() -> String) -> Optio
             (Some(b"ROUTE"), 3) => Local::new(bulk(route(words.at(2), view).as_bytes())),
             _ => Local::new(error("ERR SQUALL INFO, or SQUALL ROUTE key")),
         },
-        b"SCRIPT" => Local::new(error("ERR this proxy serves SCRIPT LOAD alone")),
+        b"SCRIPT" => Local::new(error("ERR this proxy serves SCRIPT LOAD and SCRIPT EXISTS alone")),
         b"FLUSHALL" | b"FLUSHDB" => Local::new(error(FLUSH)),
         b"WAIT" => Local::new(error("ERR this proxy serves no WAIT: partitions have no replicas here")),
         _ => return None,

@@ -19,6 +19,9 @@ use std::time::Duration;
 
 /// What is answered if the moves of the course are not known yet.
 const BEGUN: &str = "-TRYAGAIN a course has just begun\r\n";
+/// Commands that begin once all that the client asked for before is answered.
+const AFTER: [&[u8]; 9] =
+    [b"DBSIZE", b"INFO", b"KEYS", b"PUBSUB", b"RANDOMKEY", b"SCAN", b"SCRIPT", b"UNWATCH", b"WATCH"];
 /// No wait is longer.
 const LONGEST: f64 = 1e9;
 
@@ -50,13 +53,7 @@ impl Worker {
             }
             b"EXEC" => self.answer_of(client, "-ERR EXEC without MULTI\r\n"),
             b"DISCARD" => self.answer_of(client, "-ERR DISCARD without MULTI\r\n"),
-            // The others come after all that the client asked for before.
-            b"UNWATCH" | b"WATCH" | b"SCAN" | b"SCRIPT" | b"KEYS" | b"DBSIZE" | b"RANDOMKEY" | b"INFO"
-            | b"PUBSUB"
-                if client.in_flight > 0 =>
-            {
-                Flow::Idle
-            }
+            name if client.in_flight > 0 && AFTER.contains(&name) => Flow::Idle,
             b"UNWATCH" => {
                 self.unwatch(client);
                 self.answer_of(client, "+OK\r\n")
@@ -73,9 +70,7 @@ impl Worker {
                 self.start_visit(client, Kind::Own, Goal::Info(sections))
             }
             b"SCAN" | b"KEYS" | b"DBSIZE" | b"RANDOMKEY" | b"PUBSUB" => self.few(client),
-            b"SCRIPT" if count == 3 && client.words().at(1).eq_ignore_ascii_case(b"LOAD") => {
-                self.start(client, Kind::Script, Deed::Load(0), Vec::new())
-            }
+            b"SCRIPT" if count > 2 => return self.start_script(client),
             _ => return None,
         };
         Some(flow)
@@ -204,6 +199,19 @@ impl Worker {
         };
         let names = Names::new(cursor, client.words().at(1));
         self.start(client, Kind::Scan, Deed::Names(names), Vec::new())
+    }
+
+    /// `SCRIPT LOAD`, or `EXISTS`; none of another one.
+    fn start_script(&mut self, client: &mut Client) -> Option<Flow> {
+        let words = client.words();
+        match (&words.at(1).to_ascii_uppercase()[..], words.count()) {
+            (b"LOAD", 3) => Some(self.start(client, Kind::Script, Deed::Load(0), Vec::new())),
+            (b"EXISTS", _) => {
+                let goal = Goal::Scripts(words.all());
+                Some(self.start_visit(client, Kind::Script, goal))
+            }
+            _ => None,
+        }
     }
 
     pub(super) fn start_visit(&mut self, client: &mut Client, kind: Kind, goal: Goal) -> Flow {

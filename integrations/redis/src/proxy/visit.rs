@@ -1,4 +1,5 @@
-//! Commands about all partitions that are answered once each of them was asked: `DBSIZE`, `INFO`, `PUBSUB` and `RANDOMKEY`.
+//! Commands about all partitions that are answered once each of them was asked: `DBSIZE`, `INFO`, `PUBSUB`, `RANDOMKEY` and
+//! `SCRIPT EXISTS`.
 
 use super::client::Client;
 use super::deeds::is_fence;
@@ -43,6 +44,8 @@ pub enum Goal {
     Info(Vec<Vec<u8>>),
     /// What is subscribed to, by these words.
     Topics(Vec<Vec<u8>>),
+    /// Which scripts there are, by these words.
+    Scripts(Vec<Vec<u8>>),
 }
 
 /// A command that visits partition after partition.
@@ -51,7 +54,8 @@ pub struct Visit {
     /// The first partition that was not asked.
     pub from: u32,
     heard: Vec<Heard>,
-    topics: Vec<Value>,
+    /// What they have said to words of the client.
+    said: Vec<Value>,
 }
 
 /// What a partition has said.
@@ -75,19 +79,19 @@ impl Heard {
 impl Visit {
     /// A visit that has asked nobody.
     pub fn new(goal: Goal) -> Visit {
-        Visit { goal, from: 0, heard: Vec::new(), topics: Vec::new() }
+        Visit { goal, from: 0, heard: Vec::new(), said: Vec::new() }
     }
 
     /// Appends the questions to a partition: how many they are.
     pub fn ask(&self, out: &mut Vec<u8>) -> usize {
-        if let Goal::Topics(words) = &self.goal {
+        if let Goal::Topics(words) | Goal::Scripts(words) = &self.goal {
             push(out, words);
             return 1;
         }
         push(out, &["DBSIZE"]);
         push(out, &[&["EXISTS"], &OWN[..]].concat());
         let (more, count) = match self.goal {
-            Goal::Size | Goal::Topics(_) => ("", 0),
+            Goal::Size | Goal::Topics(_) | Goal::Scripts(_) => ("", 0),
             Goal::Key => ("RANDOMKEY", DRAWS),
             Goal::Info(_) => ("INFO", 1),
         };
@@ -134,6 +138,17 @@ fn read(replies: &[Vec<u8>], is_here: impl Fn(&[u8]) -> bool) -> Option<Heard> {
     Some(heard)
 }
 
+/// Whether each of so many scripts is known at all partitions.
+fn known_everywhere(count: usize, said: &[Value]) -> Vec<u8> {
+    let lists: Vec<Vec<Value>> = said.iter().map(|value| value.clone().list()).collect();
+    let mut answer = format!("*{count}\r\n");
+    for at in 0..count {
+        let is_known = lists.iter().all(|list| list.get(at) == Some(&Value::Int(1)));
+        answer += if is_known { ":1\r\n" } else { ":0\r\n" };
+    }
+    answer.into_bytes()
+}
+
 impl Worker {
     /// What the answers of a partition mean; none if it is to be asked again, or another one.
     pub(super) fn judge_visit(
@@ -157,8 +172,8 @@ impl Worker {
         };
         let next = it.part + 1;
         visit.from = next;
-        if let Goal::Topics(_) = visit.goal {
-            visit.topics.extend(replies.iter().filter_map(|reply| Some(Value::read(reply).ok()??.0)));
+        if let Goal::Topics(_) | Goal::Scripts(_) = visit.goal {
+            visit.said.extend(replies.iter().filter_map(|reply| Some(Value::read(reply).ok()??.0)));
         } else {
             visit.heard.extend(read(replies, |key| known.has(it, key)));
         }
@@ -180,7 +195,8 @@ impl Worker {
                 let text = info::text(&visit.heard, sections, &self.shared.own_info());
                 info::verbatim(&text, client.is_resp3)
             }
-            Goal::Topics(words) => pubsub::joined(words, &visit.topics),
+            Goal::Topics(words) => pubsub::joined(words, &visit.said),
+            Goal::Scripts(words) => known_everywhere(words.len() - 2, &visit.said),
             Goal::Key => match visit.draw() {
                 Some(key) => [format!("${}\r\n", key.len()).as_bytes(), key, b"\r\n"].concat(),
                 None if visit.size() == 0 => client.nil().to_vec(),
@@ -212,6 +228,12 @@ mod tests {
         let heard = read(&replies.map(<[u8]>::to_vec), |key| key != b"a").unwrap();
         assert_eq!((heard.size, heard.keys), (2, vec![b"b".to_vec()]));
         assert!(read(&[b"+OK\r\n".to_vec(), b":7\r\n".to_vec()], |_| true).is_none());
+    }
+
+    #[test]
+    fn a_script_is_known_if_all_know_it() {
+        let list = |known: [i64; 2]| Value::List(known.map(Value::Int).to_vec());
+        assert_eq!(known_everywhere(2, &[list([1, 1]), list([1, 0])]), b"*2\r\n:1\r\n:0\r\n");
     }
 
     #[test]
