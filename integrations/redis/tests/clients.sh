@@ -416,6 +416,8 @@ test_wrong_words() {
   agrees 1 1 && ! "$bin/squall-redis-proxy" --listen 127.0.0.1:0 --first "$run/old.json" --bus "$bus_at" "${parts[@]}" \
     --secret-file "$secret" --keep-alive 1h 2> "$run/said" || return
   grep -- "--keep-alive 1h: not between 0 and 32767" "$run/said" || return
+  ! "$bin/squall-redis-proxy" --listen 127.0.0.1:0 --first "$run/old.json" --bus nowhere "${parts[@]}" --secret-file "$secret" \
+    2> "$run/said" && grep -- "--bus nowhere: not of the form HOST:PORT" "$run/said" || return
   # One server for two partitions.
   refused "partition 1 has the same address" 2 old new --part "4=127.0.0.1:${servers[0]}" && refused "is given twice" 2 old new \
     --part "3=127.0.0.1:1"

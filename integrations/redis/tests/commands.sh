@@ -372,24 +372,26 @@ answers() {
 # The users are read again while clients are there. A client has the new rights at once. Closed are those that could not log in
 # any more, and those that are amid what they may not do now. A file with a fault changes nothing.
 test_users_are_read_again() {
-  local limits fd app gone heard waits old kept queues port=
+  local limits fd app gone heard waits old kept queues
   deploy || return
   printf '%s\n' 'user app on >app-word +@all ~* &*' 'user gone on >gone-word +@all ~*' 'user two on >old-word >kept-word +@all ~*' > "$run/users.acl"
   limits=(--client-users "$run/users.acl")
   run_proxy 0 env || return
   log_in app app-word && app=$fd && log_in gone gone-word && gone=$fd && log_in two old-word && old=$fd || return
-  log_in two kept-word && kept=$fd && log_in app app-word && heard=$fd && log_in app app-word && queues=$fd || return
+  log_in two kept-word && kept=$fd && log_in app app-word && heard=$fd && log_in app app-word && queues=$fd && log_in app app-word && waits=$fd || return
+  printf '*3\r\n$5\r\nBLPOP\r\n$5\r\n1:0:q\r\n$1\r\n0\r\n' >&"$waits"
+  await has_waiting "${servers[0]}" 1 || return
   answers '*3' "$heard" subscribe news && for _ in 1 2 3 4 5; do IFS= read -r -t 60 -u "$heard" _; done
   answers +OK "$queues" multi && answers +QUEUED "$queues" set 1:0 y && answers +OK "$app" set 1:0 x && answers +OK "$kept" set 1:1 x || return
   echo 'user app on resetkeys' > "$run/users.acl"
   read_again 'line 1: `resetkeys` is not known; all stays as it is' && answers +OK "$app" set 1:0 x || return
   printf '%s\n' 'user app on >app-word +@read ~1:*' 'user two on >kept-word >new-word +@all ~*' > "$run/users.acl"
   read_again "users, certificates and the addresses of 3 partitions were read again" || return
-  for fd in "$gone" "$old" "$heard" "$queues"; do is_closed "$fd" || { echo "connection $fd is open"; return 1; }; done
+  for fd in "$gone" "$old" "$heard" "$queues" "$waits"; do is_closed "$fd" || { echo "connection $fd is open"; return 1; }; done
   answers -NOPERM "$app" set 1:0 z && answers '$1' "$app" get 1:0 && IFS= read -r -t 60 -u "$app" fd && answers -NOPERM "$app" get 2:0 || return
   answers +OK "$kept" set 1:1 z && log_in two new-word && ! log_in two old-word && ! log_in gone gone-word || return
-  # What others did has stayed.
-  [ "$(redis-cli -p "${proxies[0]}" get 1:0)" = x ] && says_no_password "${ids[$port]}"
+  # What others did has stayed, and the wait has ended at its partition too.
+  [ "$(redis-cli -p "${proxies[0]}" get 1:0)" = x ] && await has_waiting "${servers[0]}" 0 && says_no_password "${ids[$port]}"
 }
 
 # So is the password of all clients. A proxy does not begin to ask for one, or end.

@@ -4,7 +4,7 @@
 # Does one fault by chance, and ends it again.
 one_fault() {
   local which=$((RANDOM % 3))
-  case $((RANDOM % 7)) in
+  case $((RANDOM % 8)) in
     0)
       stop "${proxies[which % 2]}"
       run_proxy "${proxies[which % 2]}" env
@@ -21,6 +21,11 @@ one_fault() {
     6)
       stop "${servers[which]}"
       run_redis "${servers[which]}" --appendonly yes --appendfsync everysec
+      ;;
+    7)
+      stop "$bus"
+      sleep "$((RANDOM % 3)).$((RANDOM % 8 + 1))"
+      run_redis "$bus"
       ;;
   esac
 }
