@@ -107,5 +107,9 @@ test_bus_that_refuses() {
   deploy_over redis || return
   redis-cli -p "$bus" config set requirepass other || return
   redis-cli -p "$bus" client kill type normal
-  refused "bus: .*NOAUTH" 2 old new && ! grep "tried again" "$run/refused"
+  refused "bus: .*NOAUTH" 2 old new --patience 600 && ! grep "tried again" "$run/refused" || return
+  command -v nats-server > /dev/null || { echo "no nats-server here"; return 1; }
+  free_port
+  launch "$run" nats.log nats-server -a 127.0.0.1 -p "$port" --auth other
+  await is_used "$port" && refused "bus: 127.0.0.1:$port: .*Authorization Violation" 2 old new --bus "nats://127.0.0.1:$port" --patience 600
 }

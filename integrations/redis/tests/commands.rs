@@ -443,5 +443,12 @@ fn subscriptions_are_shown() {
         );
         assert_eq!(other.ask("PUBSUB SHARDNUMSUB 1:0:q 900:0:q"), counts(&[("1:0:q", 0), ("900:0:q", 1)]));
         assert_eq!(other.ask("PUBSUB NUMSUB"), "*0\r\n");
+        // What has ended counts no more once that is answered.
+        for (line, count) in [("UNSUBSCRIBE", 3), ("PUNSUBSCRIBE", 2), ("SUNSUBSCRIBE", 1)] {
+            client.send(&command(line));
+            (0..count).for_each(|_| drop(client.text()));
+        }
+        assert_eq!([other.ask("PUBSUB CHANNELS"), other.ask("PUBSUB SHARDCHANNELS")], ["*0\r\n", "*0\r\n"]);
+        assert_eq!([other.ask("PUBSUB NUMPAT"), other.ask("PUBLISH hashed x")], [":0\r\n", ":0\r\n"]);
     }
 }

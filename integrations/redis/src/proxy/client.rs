@@ -5,7 +5,7 @@ use super::session::Session;
 use super::slot::{join, Slot};
 use super::socket::{drop_first, Out, Socket, KEPT_OF_CLIENT};
 use super::task::{Deed, Queue, Task, Watch};
-use super::topics::{Topic, Topics};
+use super::topics::{Ending, Topic, Topics};
 use crate::resp::{unfold, Broken, Parser};
 use squall::{Errand, Reply};
 use std::collections::VecDeque;
@@ -88,6 +88,8 @@ pub struct Client {
     /// What it subscribes to, and what it waits to have.
     pub topics: Topics,
     pub awaited: Vec<Topic>,
+    /// What it has ended.
+    pub ending: Option<Ending>,
     /// Its next command, if it is done on a connection of its own.
     pub task: Option<Task>,
     /// Whether it speaks RESP3.
@@ -132,6 +134,7 @@ impl Client {
             watch: None,
             topics: Topics::default(),
             awaited: Vec::new(),
+            ending: None,
             task: None,
             is_resp3: false,
             is_shut: false,

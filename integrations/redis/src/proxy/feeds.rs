@@ -127,28 +127,35 @@ impl Worker {
         None
     }
 
-    /// A client has a topic no more. If none has it, it is heard no more.
-    pub(super) fn drop_topic(&mut self, place: usize, topic: &Topic) {
+    /// A client has a topic no more. If none has it, it is heard no more: the requests for that, by partition.
+    pub(super) fn drop_topic(&mut self, place: usize, topic: &Topic) -> Vec<(u32, u64)> {
         let Some(clients) = self.feeds.clients.get_mut(topic) else {
-            return;
+            return Vec::new();
         };
         clients.remove(&place);
-        if clients.is_empty() {
-            self.feeds.clients.remove(topic);
-            let parts: Vec<u32> = self.feeds.by_part.keys().copied().collect();
-            parts.into_iter().for_each(|part| self.end_topic(part, topic));
+        if !clients.is_empty() {
+            return Vec::new();
         }
+        self.feeds.clients.remove(topic);
+        let parts: Vec<u32> = self.feeds.by_part.keys().copied().collect();
+        parts.into_iter().filter_map(|part| Some((part, self.end_topic(part, topic)?))).collect()
     }
 
-    fn end_topic(&mut self, part: u32, topic: &Topic) {
-        let Some(feed) = self.feeds.by_part.get_mut(&part) else {
-            return;
-        };
-        if feed.topics.remove(topic).is_some() {
-            feed.asked += 1;
-            let at = feed.at;
-            self.ask_feed(at, topic, false);
-        }
+    fn end_topic(&mut self, part: u32, topic: &Topic) -> Option<u64> {
+        let feed = self.feeds.by_part.get_mut(&part)?;
+        feed.topics.remove(topic)?;
+        feed.asked += 1;
+        let (at, request) = (feed.at, feed.asked);
+        self.ask_feed(at, topic, false);
+        Some(request)
+    }
+
+    /// Whether partitions have confirmed these requests, or their connections were lost.
+    pub(super) fn are_confirmed(&self, due: &[(u32, u64)]) -> bool {
+        due.iter().all(|(part, request)| {
+            let feed = self.feeds.by_part.get(part);
+            feed.is_none_or(|feed| feed.answered >= *request || feed.asked < *request)
+        })
     }
 
     /// Begins to hear a topic over a connection, or ends that.
@@ -162,7 +169,7 @@ impl Worker {
     pub(super) fn leave(&mut self, place: usize, client: &mut Client) {
         let topics = std::mem::take(&mut client.topics);
         let awaited = std::mem::take(&mut client.awaited);
-        topics.into_iter().chain(awaited).for_each(|topic| self.drop_topic(place, &topic));
+        topics.into_iter().chain(awaited).for_each(|topic| drop(self.drop_topic(place, &topic)));
     }
 
     /// Once a course has begun: asks for all topics where it has them, then logs in by it, and in the end forgets where
@@ -202,7 +209,9 @@ impl Worker {
             };
             old.extend(feed.topics.keys().filter(is_old).map(|topic| (part, topic.clone())));
         }
-        old.iter().for_each(|(part, topic)| self.end_topic(*part, topic));
+        for (part, topic) in &old {
+            self.end_topic(*part, topic);
+        }
     }
 
     /// Takes what a partition tells: whether that was due. What it refuses ends the connection.

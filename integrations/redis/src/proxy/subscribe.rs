@@ -6,7 +6,7 @@ use super::link::unreached;
 use super::local;
 use super::plan::shown;
 use super::serve::Flow;
-use super::topics::{Sort, Topic};
+use super::topics::{Ending, Sort, Topic};
 use super::worker::Worker;
 use crate::resp::error;
 use std::sync::atomic::Ordering::Relaxed;
@@ -99,7 +99,7 @@ impl Worker {
         if let Some(part) = deaf {
             self.counts().gave_up.fetch_add(1, Relaxed);
             let new = awaited.iter().filter(|topic| !client.topics.contains(topic));
-            new.for_each(|topic| self.drop_topic(place, topic));
+            new.for_each(|topic| drop(self.drop_topic(place, topic)));
             return self.answer_about(client, unreached(part));
         }
         let mut answer = Vec::new();
@@ -111,23 +111,38 @@ impl Worker {
         self.answer_about(client, answer)
     }
 
-    /// Without names all topics of the kind are meant.
+    /// The client has its topics no more, once partitions have confirmed that.
     fn unsubscribe(&mut self, place: usize, client: &mut Client, sort: Sort) -> Flow {
+        let ending = match client.ending.take() {
+            Some(ending) => ending,
+            None => self.end_topics(place, client, sort),
+        };
+        let since = *client.waits_since.get_or_insert(self.now);
+        if !self.are_confirmed(&ending.due) && self.now - since < self.shared.wait {
+            client.ending = Some(ending);
+            return Flow::Blocked;
+        }
+        client.waits_since = None;
+        self.answer_about(client, ending.answer)
+    }
+
+    /// Ends the topics of a client's next command. Without names all topics of the kind are meant.
+    fn end_topics(&mut self, place: usize, client: &mut Client, sort: Sort) -> Ending {
         let mut names = client.words().all().split_off(1);
         if names.is_empty() {
             names = client.topics.names(sort);
         }
-        let mut answer = Vec::new();
+        let mut ending = Ending { answer: Vec::new(), due: Vec::new() };
         for name in &names {
             let topic = Topic::new(sort, name);
             if client.topics.remove(&topic) {
-                self.drop_topic(place, &topic);
+                ending.due.extend(self.drop_topic(place, &topic));
             }
-            answer.extend(told(client, (sort, false), Some(name)));
+            ending.answer.extend(told(client, (sort, false), Some(name)));
         }
         if names.is_empty() {
-            answer = told(client, (sort, false), None);
+            ending.answer = told(client, (sort, false), None);
         }
-        self.answer_about(client, answer)
+        ending
     }
 }

@@ -63,6 +63,14 @@ impl Topic {
     }
 }
 
+/// Subscriptions that a client has ended. It is told so once partitions have confirmed it: else they would count it for a moment.
+pub struct Ending {
+    /// What it is answered.
+    pub answer: Vec<u8>,
+    /// The requests by partition.
+    pub due: Vec<(u32, u64)>,
+}
+
 /// All that a client subscribes to.
 #[derive(Default)]
 pub struct Topics {
