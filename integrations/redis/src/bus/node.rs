@@ -73,7 +73,7 @@ pub struct Node {
     views: AtomicU64,
     agenda: Agenda,
     wakers: Mutex<Vec<Box<dyn Fn() + Send>>>,
-    /// How it stands with the bus.
+    /// Whether the bus can be reached.
     pub(super) reach: Reach,
     /// What other nodes have shown.
     pub(super) peers: Mutex<Peers>,

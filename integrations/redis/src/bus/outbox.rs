@@ -1,4 +1,4 @@
-//! Frames of reports, and how a node sends what it has to tell.
+//! Frames of reports, and how a node sends them.
 
 use super::agenda::PAUSE;
 use super::node::{lock, Node, FIRST, ROUND};
@@ -60,7 +60,7 @@ impl Node {
     ///
     /// # Errors
     ///
-    /// Those of `tell_frames`.
+    /// The same as of `tell_frames`.
     pub fn tell_all(&self) -> Done<()> {
         self.reach.owe();
         self.give(|| self.pay())

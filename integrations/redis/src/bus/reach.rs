@@ -1,19 +1,19 @@
-//! Whether a node reaches the bus, and what it says of that: once if the bus is away, and once if it is back. What could not be
-//! sent meanwhile is owed.
+//! Whether a node reaches the bus. A node logs once that the bus is away, and once that it is back. Reports that could not be sent
+//! meanwhile are owed.
 
 use super::node::lock;
 use crate::fault::Fault;
 use crate::log;
 use std::sync::Mutex;
 
-/// What a node does over the bus.
+/// The two uses that a node makes of the bus.
 #[derive(Clone, Copy)]
 pub enum Side {
     Hear,
     Tell,
 }
 
-/// How a node stands with the bus.
+/// Whether the bus can be reached, and whether reports are owed.
 #[derive(Default)]
 pub struct Reach(Mutex<State>);
 
@@ -21,9 +21,9 @@ pub struct Reach(Mutex<State>);
 struct State {
     /// Why a side does not work now. A refusal, as of a password, is no lost connection.
     faults: [Option<Fault>; 2],
-    /// Whether it is said that the bus is away.
+    /// Whether it is logged that the bus is away.
     is_said: bool,
-    /// The last refusal that was said.
+    /// The last refusal that was logged.
     refusal: String,
     /// Whether the bus has taken any report.
     has_taken: bool,
@@ -33,8 +33,8 @@ struct State {
 }
 
 impl Reach {
-    /// Takes a fault of a side. Each refusal is said, and of lost connections the first one until the bus is back. What the bus
-    /// had taken last may be lost with the connection, and so it is owed.
+    /// Takes a fault of a side. Each refusal is logged, and of lost connections the first one until the bus is back. Reports
+    /// that the bus had taken last may be lost with the connection, so they are owed.
     pub fn lose(&self, side: Side, fault: Fault) {
         let mut state = lock(&self.0);
         state.owed += u64::from(state.has_taken);
@@ -93,13 +93,13 @@ impl Reach {
         lock(&self.0).owed += 1;
     }
 
-    /// What is owed, for `pay`; none if nothing is.
+    /// The number of the last debt, for `pay`; none if all are paid.
     pub fn debt(&self) -> Option<u64> {
         let state = lock(&self.0);
         (state.owed > state.paid).then_some(state.owed)
     }
 
-    /// All was sent that was owed then.
+    /// All was sent that was owed up to that debt.
     pub fn pay(&self, debt: u64) {
         let mut state = lock(&self.0);
         (state.paid, state.has_taken) = (state.paid.max(debt), true);

@@ -88,7 +88,7 @@ pub struct Client {
     /// What it subscribes to, and what it waits to have.
     pub topics: Topics,
     pub awaited: Vec<Topic>,
-    /// What it has ended.
+    /// Subscriptions that it has ended, if they are not confirmed yet.
     pub ending: Option<Ending>,
     /// Its next command, if it is done on a connection of its own.
     pub task: Option<Task>,

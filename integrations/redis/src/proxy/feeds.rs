@@ -23,7 +23,7 @@ use std::time::Duration;
 /// A connection that says nothing for so long is asked whether it is there.
 const BEAT: Duration = Duration::from_secs(5);
 
-/// Where the messages of a topic are published in a course, if the view routes its name to that partition.
+/// The partitions at which the messages of a topic are published in a course, if the view routes its name to that one.
 fn places_in(ground: &Ground, topic: &Topic, routed: Option<u32>) -> Vec<u32> {
     if topic.sort == Sort::Pattern {
         return ground.parts().collect();

@@ -1,4 +1,4 @@
-//! `PUBSUB`: what all proxies subscribe to, as the partitions say it.
+//! `PUBSUB`: the topics of all proxies, as the partitions name and count them.
 //!
 //! A proxy subscribes once for each of its threads, and while a channel moves at both of its ends. So a partition counts threads
 //! of proxies, and of several partitions the one with the highest count is right.
@@ -15,7 +15,7 @@ use std::collections::BTreeSet;
 
 const SERVED: &str = "ERR this proxy serves PUBSUB CHANNELS, NUMPAT, NUMSUB, SHARDCHANNELS and SHARDNUMSUB";
 
-/// What a client asks for.
+/// The questions of `PUBSUB`.
 #[derive(Clone, Copy, Debug, PartialEq)]
 enum About {
     /// The names of channels.

@@ -1,9 +1,9 @@
-//! What clients subscribe to: channels, patterns of channels, and sharded channels. The latter have names and messages of their
-//! own, and are published and received where channels of these names would be.
+//! The topics of clients: channels, patterns of channels, and sharded channels. A sharded channel is another one than the channel
+//! of its name, and has its messages at the same partitions.
 
 use std::collections::BTreeSet;
 
-/// What a topic is.
+/// The kinds of topics.
 #[derive(Clone, Copy, Debug, PartialEq, Eq, PartialOrd, Ord, Hash)]
 pub enum Sort {
     Channel,
@@ -38,7 +38,7 @@ impl Sort {
     }
 }
 
-/// What a client subscribes to.
+/// A topic to which a client subscribes.
 #[derive(Clone, PartialEq, Eq, PartialOrd, Ord, Hash)]
 pub struct Topic {
     pub sort: Sort,
@@ -57,15 +57,16 @@ impl Topic {
         4 * (self.name.len() + 64)
     }
 
-    /// Whether it is one of the server's own, by which a mover hears of keys.
+    /// Whether it is one of the server's own, over which a mover receives news of keys.
     pub fn is_own(name: &[u8]) -> bool {
         name.starts_with(b"__key")
     }
 }
 
-/// Subscriptions that a client has ended. It is told so once partitions have confirmed it: else they would count it for a moment.
+/// Subscriptions that a client has ended. The answer waits until partitions have confirmed it: else they would count the client
+/// for a moment.
 pub struct Ending {
-    /// What it is answered.
+    /// The answer.
     pub answer: Vec<u8>,
     /// The requests by partition.
     pub due: Vec<(u32, u64)>,
@@ -76,12 +77,12 @@ pub struct Ending {
 pub struct Topics {
     all: BTreeSet<Topic>,
     shards: usize,
-    /// What they take of memory.
+    /// How many bytes of memory they take.
     pub held: usize,
 }
 
 impl Topics {
-    /// Whether there is none.
+    /// Whether there are no topics.
     pub fn is_empty(&self) -> bool {
         self.all.is_empty()
     }
@@ -91,7 +92,7 @@ impl Topics {
         self.all.contains(topic)
     }
 
-    /// How many of them clients are told to have: sharded channels count apart.
+    /// How many there are, in answers about that sort: sharded channels count apart.
     pub fn count(&self, sort: Sort) -> usize {
         match sort {
             Sort::Shard => self.shards,

@@ -42,9 +42,9 @@ pub enum Goal {
     Key,
     /// What the servers say of themselves, in these sections.
     Info(Vec<Vec<u8>>),
-    /// What is subscribed to, by these words.
+    /// The topics of all proxies, by these words of `PUBSUB`.
     Topics(Vec<Vec<u8>>),
-    /// Which scripts there are, by these words.
+    /// Which scripts are known, by these words of `SCRIPT EXISTS`.
     Scripts(Vec<Vec<u8>>),
 }
 
@@ -54,7 +54,7 @@ pub struct Visit {
     /// The first partition that was not asked.
     pub from: u32,
     heard: Vec<Heard>,
-    /// What they have said to words of the client.
+    /// Their answers to the client's own words.
     said: Vec<Value>,
 }
 
@@ -138,7 +138,7 @@ fn read(replies: &[Vec<u8>], is_here: impl Fn(&[u8]) -> bool) -> Option<Heard> {
     Some(heard)
 }
 
-/// Whether each of so many scripts is known at all partitions.
+/// Whether each script is known at all partitions. There are `count` of them.
 fn known_everywhere(count: usize, said: &[Value]) -> Vec<u8> {
     let lists: Vec<Vec<Value>> = said.iter().map(|value| value.clone().list()).collect();
     let mut answer = format!("*{count}\r\n");
