@@ -2,14 +2,8 @@
 #![tactic(auto)]
 
 #[cfg(test)]
-mod calls;
-#[cfg(test)]
 mod example;
 #[cfg(test)]
 mod memory;
 #[cfg(test)]
-mod store;
-#[cfg(test)]
 mod stores;
-#[cfg(test)]
-mod tolerant;

@@ -2,16 +2,16 @@
 //! partition 1 to 3 in sub-plan 0, which is opened.
 
 use squall_board::Board;
-use squall_key::{Key, PartId};
-use squall_part::{Chunk, Part};
+use squall_key::PartId;
+use squall_part::Part;
 use squall_report::Report;
 use squall_store::{Asked, Bytes, Command, MemoryRows, Store};
-use squall_test_example::{course, span};
+use squall_test_example::course;
 use std::alloc::{AllocError, Global};
 use std::sync::Arc;
 
 /// A partition that has heard that sub-plan 0 of course 1 is opened.
-pub(crate) fn opened_part(alloc: Global, number: u32) -> Option<Part> {
+fn opened_part(alloc: Global, number: u32) -> Option<Part> {
     let id = PartId::new(number)?;
     let course = Arc::new(alloc, course(alloc)?).ok()?;
     let mut part = Part::new(alloc, id, &course).ok()?;
@@ -27,11 +27,6 @@ pub(crate) fn store(alloc: Global, number: u32) -> Option<Store<MemoryRows>> {
     Some(Store::new(part, MemoryRows::new(alloc)))
 }
 
-/// The chunk of the keys of a span of root 2, from partition 1 to 3.
-pub(crate) fn chunk(lo: &str, hi: &str) -> Option<Chunk> {
-    Chunk::new(1, 0, PartId::new(1)?, PartId::new(3)?, span(lo, hi)?)
-}
-
 /// The reply of a command that ran.
 pub(crate) fn ran(asked: Result<Asked<Option<Bytes>>, AllocError>) -> Option<Option<Bytes>> {
     match asked.ok()? {
@@ -45,31 +40,11 @@ pub(crate) fn put(alloc: Global, bytes: &[u8]) -> Option<Command> {
     Some(Command::Put(Bytes::new(alloc, bytes).ok()?))
 }
 
-/// Puts the bytes at the key, and forgets what was there.
-pub(crate) fn puts(
-    alloc: Global,
-    store: &mut Store<MemoryRows>,
-    key: Key,
-    bytes: &[u8],
-) -> Option<()> {
-    let command = put(alloc, bytes)?;
-    ran(store.ask(key, 1, &command))?;
-    Some(())
-}
-
 /// Whether the row has these bytes, or no value if there are none.
 pub(crate) fn is_row(row: &Option<Bytes>, bytes: Option<&[u8]>) -> bool {
     match (row, bytes) {
         (Some(value), Some(bytes)) => value.as_slice() == bytes,
         (None, None) => true,
         _ => false,
-    }
-}
-
-/// Whether the store holds the key, with these bytes or none.
-pub(crate) fn has_row(store: &mut Store<MemoryRows>, key: Key, bytes: Option<&[u8]>) -> bool {
-    match ran(store.ask(key, 1, &Command::Get)) {
-        Some(row) => is_row(&row, bytes),
-        None => false,
     }
 }
