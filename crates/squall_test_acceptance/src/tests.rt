@@ -2,3 +2,4 @@
 
 mod headline;
 mod messages;
+mod routes;
