@@ -3,3 +3,4 @@ pub mod CutLegs
 mod Routed
 mod Settled
 mod Wholes
+mod Opened

@@ -1,5 +1,5 @@
 -- Courses of the C library: how they are opened, and what they tell (this project).
-use Rattle.std.specs.Prelude.{◌≡◌, ◌≢◌, ℕ, List, [], length, take, drop, Option, None, Some, Result, Ok, Err}
+use Rattle.std.specs.Prelude.{◌≡◌, ◌≢◌, ◌≤◌, ℕ, List, [], length, take, drop, Option, None, Some, Result, Ok, Err}
 use Rattle.squall_course.specs.Change.{Change}
 use Rattle.squall_course.specs.Moves.{moves_of, receivers_of}
 use Rattle.squall_course.specs.Subplans.{subplan_count}
@@ -35,9 +35,10 @@ pub record IsCourseSlot (want : Result Change Cause) (slot : CourseSlot) : Type 
   pub opened : slot.status ≢ no_memory → IsSlotWith want slot
   pub memory : slot.status ≡ no_memory → (slot.course ≡ None) × (slot.fault_at ≡ no_place)
 
--- the slot that is opened: that of the plans of both texts
-abbrev pub IsCourseOpened : ℕ → List ℕ → List ℕ → CourseSlot → Type 0
-IsCourseOpened number old new slot = IsCourseSlot (first_course number old new) slot
+-- the slot that is opened: that of the plans of both texts; the number 0 needs no memory
+pub record IsCourseOpened (number : ℕ) (old new : List ℕ) (slot : CourseSlot) : Type 0 where
+  pub course : IsCourseSlot (first_course number old new) slot
+  pub numbered : slot.status ≡ no_memory → 1 ≤ number
 
 -- a course that there is
 abbrev pub course_seen : Change → Result Change Cause

@@ -1,5 +1,5 @@
 -- What a router of the C library hears in the bytes of frames (this project).
-use Rattle.std.specs.Prelude.{◌≡◌, ℕ, Bool, true, false, List, length, Option, None, Some, Result, Ok, Err, ◌⊎◌}
+use Rattle.std.specs.Prelude.{◌≡◌, ℕ, true, false, List, length, Option, None, Some, Result, Ok, Err}
 use Rattle.squall_wire.specs.declared.fault.WireFault.{WireFault}
 use Rattle.squall_wire.specs.declared.message.Message.{Message}
 use Rattle.squall_wire.specs.Hearing.{FeedValue, HearsOn}
@@ -13,9 +13,9 @@ use Rattle.squall_c.specs.declared.feeding.HearFault.{HearFault}
 use Rattle.squall_c.specs.declared.feeding.HearFault.TheVariants.{Failed, Full, NoMemory}
 use Rattle.squall_c.specs.declared.router.RouterSlot.{RouterSlot}
 use Rattle.squall_c.specs.declared.router.Station.{Station}
-use Rattle.squall_c.specs.Status.{closed, failed, full}
+use Rattle.squall_c.specs.Status.{no_memory, failed, full}
 use Rattle.squall_c_frames.specs.FrameStatus.{heard_status}
-use Rattle.squall_c.specs.Opening.{with_station, Ends}
+use Rattle.squall_c.specs.Opening.{AnswersIn}
 use Rattle.squall_c.specs.Limits.{joined_with, IsAdmitted, IsRefused, taken_after}
 
 -- the station whose router has absorbed all that the messages tell
@@ -60,41 +60,22 @@ pub record RefusesPiece (old : Station) (piece : List ℕ) : Type 0 where
   pub refused : IsRefused old messages
 
 -- they are heard; or nothing is, if a fault ended the stream before, if they are beyond the limit, or if there was not the memory for it
-abbrev pub HearsInStation : Station → List ℕ → Result (Option WireFault) HearFault → Station → Type 0
-HearsInStation old piece (Ok fault) new = HearsPiece old piece fault new × (old.feed.failed ≡ false)
-HearsInStation old piece (Err Failed) new = (old.feed.failed ≡ true) × (new ≡ old)
-HearsInStation old piece (Err Full) new = RefusesPiece old piece × (old.feed.failed ≡ false) × (new ≡ old)
-HearsInStation old piece (Err NoMemory) new = (old.feed.failed ≡ false) × (new ≡ old)
+abbrev pub HearsInStation : List ℕ → Station → Result (Option WireFault) HearFault → Station → Type 0
+HearsInStation piece old (Ok fault) new = HearsPiece old piece fault new × (old.feed.failed ≡ false)
+HearsInStation piece old (Err Failed) new = (old.feed.failed ≡ true) × (new ≡ old)
+HearsInStation piece old (Err Full) new = RefusesPiece old piece × (old.feed.failed ≡ false) × (new ≡ old)
+HearsInStation piece old (Err NoMemory) new = (old.feed.failed ≡ false) × (new ≡ old)
 
--- the same in a slot: the status tells the fault
-pub record Hears (old : RouterSlot) (s : Station) (piece : List ℕ) (new : RouterSlot) (status : ℕ) : Type 0 where
-  pub fault : Option WireFault
-  pub station : Station
-  pub told : status ≡ heard_status fault
-  pub hears : HearsPiece s piece fault station
-  pub after : new ≡ with_station old station
+-- the number of how it ended that a piece came
+abbrev pub feed_number : Result (Option WireFault) HearFault → ℕ
+feed_number (Ok fault) = heard_status fault
+feed_number (Err Failed) = failed
+feed_number (Err Full) = full
+feed_number (Err NoMemory) = no_memory
 
--- or the status tells that they are beyond the limit, and nothing changes
-pub record Refuses (old : RouterSlot) (s : Station) (piece : List ℕ) (new : RouterSlot) (status : ℕ) : Type 0 where
-  pub told : status ≡ full
-  pub refuses : RefusesPiece s piece
-  pub after : new ≡ old
-
-abbrev pub HearsOrRefuses : RouterSlot → Station → List ℕ → RouterSlot → ℕ → Type 0
-HearsOrRefuses old s piece new status = Hears old s piece new status ⊎ Refuses old s piece new status
-
--- nothing is heard after a fault
-abbrev pub hears_unless : Bool → RouterSlot → Station → List ℕ → RouterSlot → ℕ → Type 0
-hears_unless true old s piece new status = (status ≡ failed) × (new ≡ old)
-hears_unless false old s piece new status = Ends old (HearsOrRefuses old s piece) new status
-
-abbrev pub station_hears : RouterSlot → Option Station → List ℕ → RouterSlot → ℕ → Type 0
-station_hears old None piece new status = (status ≡ closed) × (new ≡ old)
-station_hears old (Some s) piece new status = hears_unless s.feed.failed old s piece new status
-
--- a slot after a piece of a stream of frames was fed to it
+-- a slot after a piece of a stream of frames was fed to it: the status is the number of how that ended
 abbrev pub Feeds : List ℕ → RouterSlot → RouterSlot → ℕ → Type 0
-Feeds piece old new status = station_hears old old.station piece new status
+Feeds piece old new status = AnswersIn feed_number (HearsInStation piece) old old.station new status
 
 -- how many bytes wait for the rest of their frame, 0 if there is no router
 abbrev pub waiting_bytes : Option Station → ℕ

@@ -1,13 +1,9 @@
 -- Leaders of the C library: how they are opened, and how their calls end (this project).
 use Rattle.std.specs.Prelude.{◌≡◌, ◌≢◌, ℕ, List, [], ◌∷◌, length, take, Option, None, Some, Result, Ok, Err, ◌⊎◌}
-use Rattle.std.specs.declared.alloc.AllocError.{AllocError}
 use Rattle.squall_plan.specs.declared.range.PlanRange.{PlanRange}
 use Rattle.squall_plan.specs.declared.fault.PlanFault.{PlanFault}
 use Rattle.squall_plan.specs.Form.{plan_of_text}
 use Rattle.squall_course.specs.Change.{Change}
-use Rattle.squall_wire.specs.declared.fault.WireFault.{WireFault}
-use Rattle.squall_wire.specs.declared.feed.FeedFault.{FeedFault}
-use Rattle.squall_wire.specs.declared.feed.FeedFault.TheVariants.{Failed, NoMemory as NoMemoryForPiece}
 use Rattle.squall_leader.specs.declared.fault.LeaderFault.{LeaderFault}
 use Rattle.squall_leader.specs.declared.fault.LeaderFault.TheVariants.{Running, NoNumber, Idle, NotDone, NoMore, NoMemory}
 use Rattle.squall_leader.specs.Leaders.{LeaderValue, new_leader, IsFinished}
@@ -22,8 +18,8 @@ use Rattle.squall_c.specs.declared.status.Cause.{Cause}
 use Rattle.squall_c.specs.declared.courses.HeldCourse.{HeldCourse}
 use Rattle.squall_c.specs.declared.courses.CourseSlot.{CourseSlot}
 use Rattle.squall_c.specs.declared.leaders.LeaderSlot.{LeaderSlot}
-use Rattle.squall_c.specs.Status.{ok, no_memory, closed, failed as failed_before, too_long, no_digest, no_place, in_new_plan, plan_status, plan_place, cause_with, cause_of_fault}
-use Rattle.squall_c_frames.specs.FrameStatus.{wire_status, heard_status}
+use Rattle.squall_c.specs.Status.{ok, no_memory, closed, too_long, no_digest, no_place, in_new_plan, plan_status, plan_place, cause_with, cause_of_fault}
+use Rattle.squall_c_frames.specs.FrameStatus.{hear_status, feed_status}
 use Rattle.squall_c.specs.Courses.{IsSlotWith, IsCourseSlot, course_seen}
 
 -- ---- opening
@@ -36,10 +32,10 @@ no_leader cause = record { status = cause.status; fault_at = cause.at; node = No
 abbrev pub leader_slot : NodeValue → LeaderSlot
 leader_slot n = record { status = ok; fault_at = no_place; node = Some n }
 
--- the leader, or that there was no memory for it
-abbrev pub slot_of_leader : Result NodeValue AllocError → LeaderSlot
+-- the leader, or why there is none
+abbrev pub slot_of_leader : Result NodeValue Cause → LeaderSlot
 slot_of_leader (Ok n) = leader_slot n
-slot_of_leader (Err failed) = no_leader (cause_with no_memory)
+slot_of_leader (Err cause) = no_leader cause
 
 -- the slot that is wanted, unless an allocation failed, and then there is no leader
 abbrev pub IsLeaderSlot : LeaderSlot → LeaderSlot → Type 0
@@ -92,15 +88,6 @@ leader_number NoMore = 95
 leader_number NoMemory = no_memory
 
 -- the number of an answer
-abbrev pub hear_number : Result (Unit {0}) WireFault → ℕ
-hear_number (Ok done) = ok
-hear_number (Err fault) = wire_status fault
-
-abbrev pub feed_number : Result (Option WireFault) FeedFault → ℕ
-feed_number (Ok fault) = heard_status fault
-feed_number (Err Failed) = failed_before
-feed_number (Err NoMemoryForPiece) = no_memory
-
 abbrev pub begin_number : Result (Unit {0}) LeaderFault → ℕ
 begin_number (Ok done) = ok
 begin_number (Err fault) = leader_number fault
@@ -139,11 +126,11 @@ AnswersIn number Acts old (Some n) new status = Answers number Acts old n new st
 
 -- a slot after one whole frame came to it
 abbrev pub LeaderHears : List ℕ → LeaderSlot → LeaderSlot → ℕ → Type 0
-LeaderHears frame old new status = AnswersIn hear_number (HearsFrame frame) old old.node new status
+LeaderHears frame old new status = AnswersIn hear_status (HearsFrame frame) old old.node new status
 
 -- a slot after a piece of a stream of frames was fed to it
 abbrev pub LeaderFeeds : List ℕ → LeaderSlot → LeaderSlot → ℕ → Type 0
-LeaderFeeds piece old new status = AnswersIn feed_number (Feeds piece) old old.node new status
+LeaderFeeds piece old new status = AnswersIn feed_status (Feeds piece) old old.node new status
 
 -- how many bytes of that stream wait for the rest of their frame, 0 if there is no leader
 abbrev pub leader_waiting_bytes : Option NodeValue → ℕ

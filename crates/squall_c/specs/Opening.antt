@@ -1,5 +1,5 @@
 -- What a router of the C library is, and how it is opened (this project).
-use Rattle.std.specs.Prelude.{◌≡◌, ◌≢◌, ℕ, ◌==◌, List, [], Option, None, Some, Result, Ok, Err, if◌then◌else◌}
+use Rattle.std.specs.Prelude.{◌≡◌, ◌≢◌, ◌≤◌, ℕ, ◌==◌, List, [], Option, None, Some, Result, Ok, Err, if◌then◌else◌}
 use Rattle.squall_plan.specs.declared.range.PlanRange.{PlanRange}
 use Rattle.squall_plan.specs.declared.fault.PlanFault.{PlanFault}
 use Rattle.squall_plan.specs.Form.{plan_of_text}
@@ -11,7 +11,7 @@ use Rattle.squall_wire.specs.Hearing.{new_feed}
 use Rattle.squall_c.specs.declared.status.Cause.{Cause}
 use Rattle.squall_c.specs.declared.router.RouterSlot.{RouterSlot}
 use Rattle.squall_c.specs.declared.router.Station.{Station}
-use Rattle.squall_c.specs.Status.{ok, no_memory, limit, no_place, in_new_plan, cause_with, cause_of_fault}
+use Rattle.squall_c.specs.Status.{ok, no_memory, limit, closed, no_place, in_new_plan, cause_with, cause_of_fault}
 
 -- ---- parts of a slot
 
@@ -35,6 +35,19 @@ with_limit s most = record s { most = most }
 pub record Ends (old : RouterSlot) (IsEnd : RouterSlot → ℕ → Type 0) (new : RouterSlot) (status : ℕ) : Type 0 where
   pub ended : status ≢ no_memory → IsEnd new status
   pub memory : status ≡ no_memory → new ≡ old
+
+-- the station has answered, and the status is the number of the answer
+pub record StationAnswers {X : Type 0} (number : X → ℕ) (Acts : Station → X → Station → Type 0) (old : RouterSlot) (s : Station) (new : RouterSlot) (status : ℕ) : Type 0 where
+  pub answer : X
+  pub station : Station
+  pub acts : Acts s answer station
+  pub told : status ≡ number answer
+  pub after : new ≡ with_station old station
+
+-- the same if there is a router
+abbrev pub AnswersIn : {X : Type 0} → (X → ℕ) → (Station → X → Station → Type 0) → RouterSlot → Option Station → RouterSlot → ℕ → Type 0
+AnswersIn number Acts old None new status = (status ≡ closed) × (new ≡ old)
+AnswersIn number Acts old (Some s) new status = StationAnswers number Acts old s new status
 
 -- it was done, and the slot is this one
 abbrev pub IsDone : RouterSlot → RouterSlot → ℕ → Type 0
@@ -62,12 +75,19 @@ abbrev pub IsStationOf : Result Change Cause → Result Station Cause → Type 0
 IsStationOf want (Ok s) = (first : Change) × (want ≡ Ok first) × IsNew first (Some s)
 IsStationOf want (Err cause) = cause.status ≢ no_memory → want ≡ Err cause
 
+-- the slot of a router, or of why there is none
+abbrev pub slot_of_router : Result Station Cause → RouterSlot
+slot_of_router (Ok s) = record { status = ok; fault_at = no_place; station = Some s }
+slot_of_router (Err cause) = record { status = cause.status; fault_at = cause.at; station = None }
+
 -- the slot of such a router, or of why there is none
 abbrev pub IsSlotOf : Result Change Cause → RouterSlot → Type 0
 IsSlotOf (Ok first) slot = (slot.status ≡ ok) × (slot.fault_at ≡ no_place) × IsNew first slot.station
 IsSlotOf (Err cause) slot = (slot.status ≡ cause.status) × (slot.fault_at ≡ cause.at) × (slot.station ≡ None)
 
--- the slot that is opened: that of the plans of both texts, unless there was not the memory for it, and then there is no router
+-- the slot that is opened: that of the plans of both texts, unless there was not the memory for it, and then there is no router; the
+-- number 0 needs no memory
 pub record IsOpened (number : ℕ) (old new : List ℕ) (slot : RouterSlot) : Type 0 where
   pub opened : slot.status ≢ no_memory → IsSlotOf (first_course number old new) slot
   pub memory : slot.status ≡ no_memory → (slot.station ≡ None) × (slot.fault_at ≡ no_place)
+  pub numbered : slot.status ≡ no_memory → 1 ≤ number

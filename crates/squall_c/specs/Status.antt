@@ -1,5 +1,5 @@
 -- The numbers by which calls of the C library say how they ended (this project).
-use Rattle.std.specs.Prelude.{◌≡◌, ◌≢◌, ℕ, ◌+◌, List, Option, None, Some, Result, Ok, Err}
+use Rattle.std.specs.Prelude.{◌≡◌, ◌≢◌, ◌≤◌, ℕ, ◌+◌, List, Option, None, Some, Result, Ok, Err}
 use Rattle.squall_plan.specs.declared.fault.PlanFault.{PlanFault}
 use Rattle.squall_plan.specs.declared.range.PlanRange.{PlanRange}
 use Rattle.squall_plan.specs.declared.fault.PlanFault.TheVariants.{Json, Shape, BadPart, BadBound, EmptyRange, TooMany, Overlap, Gap, NoMemory}
@@ -98,3 +98,8 @@ plan_or_cause added (Err fault) = Err (cause_of_fault added fault)
 abbrev pub PlacesMemory : {X : Type 0} → Result X Cause → Type 0
 PlacesMemory (Ok x) = Unit {0}
 PlacesMemory (Err cause) = cause.status ≡ no_memory → cause.at ≡ no_place
+
+-- there was not the memory for it only if the number is not 0
+abbrev pub NeedsNumber : {X : Type 0} → ℕ → Result X Cause → Type 0
+NeedsNumber number (Ok x) = Unit {0}
+NeedsNumber number (Err cause) = cause.status ≡ no_memory → 1 ≤ number

@@ -1,19 +1,21 @@
 -- What a router of the C library hears in one whole frame (this project).
-use Rattle.std.specs.Prelude.{◌≡◌, ℕ, List, [], ◌∷◌, Option, None, Some, Result, Ok, Err, ◌⊎◌}
+use Rattle.std.specs.Prelude.{◌≡◌, ℕ, List, [], ◌∷◌, Some, Result, Ok, Err}
 use Rattle.squall_board.specs.Boards.{BoardValue, board_join}
-use Rattle.squall_wire.specs.declared.fault.WireFault.{WireFault}
+use Rattle.squall_wire.specs.declared.fault.WireFault.TheVariants.{NoMemory as NoMemoryForFrame}
 use Rattle.squall_wire.specs.declared.message.Message.{Message}
 use Rattle.squall_wire.specs.DigestValue.{DigestValue}
-use Rattle.squall_wire.specs.Messages.{Body, IsMessage, body_of, spell}
+use Rattle.squall_wire.specs.Messages.{IsMessage, body_of, spell}
 use Rattle.squall_router.specs.declared.fault.AbsorbFault.{AbsorbFault}
-use Rattle.squall_router.specs.declared.fault.AbsorbFault.TheVariants.{Full, NoMemory}
+use Rattle.squall_router.specs.declared.fault.AbsorbFault.TheVariants.{Full as FullBoard, NoMemory}
 use Rattle.squall_router.specs.Routers.{router_with}
-use Rattle.squall_c_frames.specs.WholeFrames.{whole_at}
+use Rattle.squall_c_frames.specs.WholeFrames.{whole_at, IsFaultOf}
+use Rattle.squall_c.specs.declared.hearing.WholeFault.{WholeFault}
+use Rattle.squall_c.specs.declared.hearing.WholeFault.TheVariants.{Frame, Full}
 use Rattle.squall_c.specs.declared.router.RouterSlot.{RouterSlot}
 use Rattle.squall_c.specs.declared.router.Station.{Station}
-use Rattle.squall_c.specs.Status.{ok, no_memory, closed, full}
+use Rattle.squall_c.specs.Status.{ok, full}
 use Rattle.squall_c_frames.specs.FrameStatus.{wire_status}
-use Rattle.squall_c.specs.Opening.{with_station, Ends}
+use Rattle.squall_c.specs.Opening.{AnswersIn}
 use Rattle.squall_c.specs.Limits.{IsAdmitted, IsRefused, count_after}
 use Rattle.squall_c.specs.Feeding.{heard_station}
 
@@ -27,43 +29,43 @@ absorbed_station s d = record s { router = router_with s.router.first (board_joi
 abbrev pub kept_station : Station → DigestValue → Station
 kept_station s d = record s { heard = Some d; taken = count_after s.taken 1 }
 
+-- ---- faults
+
+abbrev pub whole_fault : AbsorbFault → WholeFault
+whole_fault FullBoard = Full
+whole_fault NoMemory = Frame NoMemoryForFrame
+
 -- ---- whole frames
 
 -- the frame's message is heard, which is within the limit, and what was fed of a stream waits on
-pub record HearsMessage (old : RouterSlot) (s : Station) (frame : List ℕ) (body : Body) (new : RouterSlot) (status : ℕ) : Type 0 where
+pub record HearsMessage (old : Station) (frame : List ℕ) (new : Station) : Type 0 where
   pub message : Message
   pub is : IsMessage message
-  pub says : body_of message ≡ body
   pub spelled : frame ≡ spell message
-  pub admitted : IsAdmitted s (message ∷ [])
-  pub done : status ≡ ok
-  pub after : new ≡ with_station old (heard_station s (message ∷ []) s.feed)
+  pub says : whole_at frame ≡ Ok (body_of message)
+  pub admitted : IsAdmitted old (message ∷ [])
+  pub after : new ≡ heard_station old (message ∷ []) old.feed
 
--- the message is beyond the limit, as the status tells, and nothing changes
-pub record RefusesMessage (old : RouterSlot) (s : Station) (frame : List ℕ) (body : Body) (new : RouterSlot) (status : ℕ) : Type 0 where
+-- the message is beyond the limit
+pub record RefusesMessage (old : Station) (frame : List ℕ) : Type 0 where
   pub message : Message
   pub is : IsMessage message
-  pub says : body_of message ≡ body
   pub spelled : frame ≡ spell message
-  pub refused : IsRefused s (message ∷ [])
-  pub told : status ≡ full
-  pub after : new ≡ old
+  pub says : whole_at frame ≡ Ok (body_of message)
+  pub refused : IsRefused old (message ∷ [])
 
--- a frame is heard, or refused, or its fault is told and nothing changes
-abbrev pub HearsWhole : RouterSlot → Station → List ℕ → Result Body WireFault → RouterSlot → ℕ → Type 0
-HearsWhole old s frame (Ok body) new status = HearsMessage old s frame body new status ⊎ RefusesMessage old s frame body new status
-HearsWhole old s frame (Err fault) new status = (status ≡ wire_status fault) × (new ≡ old)
+-- the message is heard, or why not, and then nothing changes
+abbrev pub HearsWhole : List ℕ → Station → Result (Unit {0}) WholeFault → Station → Type 0
+HearsWhole frame old (Ok done) new = HearsMessage old frame new
+HearsWhole frame old (Err (Frame fault)) new = IsFaultOf frame fault × (new ≡ old)
+HearsWhole frame old (Err Full) new = RefusesMessage old frame × (new ≡ old)
 
-abbrev pub station_hears_frame : RouterSlot → Option Station → List ℕ → RouterSlot → ℕ → Type 0
-station_hears_frame old None frame new status = (status ≡ closed) × (new ≡ old)
-station_hears_frame old (Some s) frame new status = Ends old (HearsWhole old s frame (whole_at frame)) new status
+-- the number of how it ended that a whole frame came
+abbrev pub whole_number : Result (Unit {0}) WholeFault → ℕ
+whole_number (Ok done) = ok
+whole_number (Err (Frame fault)) = wire_status fault
+whole_number (Err Full) = full
 
--- the number of how a message was taken, or of why it was not
-abbrev pub taken_status : Result Unit AbsorbFault → ℕ
-taken_status (Ok x) = ok
-taken_status (Err Full) = full
-taken_status (Err NoMemory) = no_memory
-
--- a slot after one whole frame came to it
+-- a slot after one whole frame came to it: the status is the number of how that ended
 abbrev pub HearsFrame : List ℕ → RouterSlot → RouterSlot → ℕ → Type 0
-HearsFrame frame old new status = station_hears_frame old old.station frame new status
+HearsFrame frame old new status = AnswersIn whole_number (HearsWhole frame) old old.station new status

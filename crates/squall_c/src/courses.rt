@@ -6,7 +6,7 @@ ghost use Rattle.squall_report.specs.declared.report.ReportKind.TheVariants.{Iss
 ghost use Rattle.squall_report.specs.Issues.{plan_pair};
 ghost use Rattle.squall_router.specs.Routers.{course_of_router};
 ghost use Rattle.squall_c_values.specs.Rooms.{over};
-ghost use Rattle.squall_c.specs.Status.{GivesSeen, PlacesMemory};
+ghost use Rattle.squall_c.specs.Status.{GivesSeen, PlacesMemory, NeedsNumber};
 ghost use Rattle.squall_c.specs.Opening.{first_course};
 ghost use Rattle.squall_c.specs.Courses.{IsCourseOpened, IsCourseOf, IsSlotWith, course_seen, number_of};
 ghost use Rattle.squall_c.specs.Courses.{subplans_of, moves_of_slot, old_of_slot, new_of_slot, receivers_from, GivesReceivers, PutsIssue};
@@ -72,6 +72,7 @@ fn course_of_plans(
 ) -> Result<Shared<Course>, Cause>
     ensures course { GivesSeen (λ c. c) result (first_course number old.now new.now) }
     ensures place { PlacesMemory result }
+    ensures numbered { NeedsNumber number result }
 {
     let course = first_course(alloc, number, old, new)?;
     Ok(owned(alloc, course)?)

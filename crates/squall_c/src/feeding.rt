@@ -7,7 +7,7 @@ ghost use Rattle.squall_wire.specs.Hearing.{HearsOn};
 ghost use Rattle.squall_wire.specs.Messages.{IsMessage};
 ghost use Rattle.squall_router.specs.declared.fault.AbsorbFault.TheVariants.{Full};
 ghost use Rattle.squall_c.specs.Limits.{IsAdmitted, IsRefused};
-ghost use Rattle.squall_c.specs.Feeding.{heard_station, joined_station, waiting_bytes, HearsInStation, Feeds};
+ghost use Rattle.squall_c.specs.Feeding.{heard_station, joined_station, waiting_bytes, feed_number, HearsInStation, Feeds};
 
 use crate::limits::{absorb_all, brings_boards, taken_after};
 use crate::router::{RouterSlot, Station};
@@ -109,7 +109,7 @@ fn take_messages(
 /// Has the station hear the messages whose frames end in the piece, all of them or none, and gives
 /// the fault of what follows them if there is one. It changes nothing if it fails.
 fn hear(station: &mut Station, piece: &[u8]) -> Result<Option<WireFault>, HearFault>
-    ensures { HearsInStation station.old piece.now result station.new }
+    ensures { HearsInStation piece.now station.old result station.new }
 {
     let (heard, ahead) = station.feed.try_piece(station.alloc, piece)?;
     if heard.messages.is_empty() {
@@ -121,20 +121,27 @@ fn hear(station: &mut Station, piece: &[u8]) -> Result<Option<WireFault>, HearFa
     Ok(fault)
 }
 
+/// The number of how it ended that a piece came.
+fn feed_number(answer: Result<Option<WireFault>, HearFault>) -> u32
+    ensures { result ≡ feed_number answer }
+{
+    match answer {
+        Ok(fault) => heard_status(fault),
+        Err(HearFault::Failed) => FAILED,
+        Err(HearFault::Full) => FULL,
+        Err(HearFault::NoMemory) => NO_MEMORY,
+    }
+}
+
 /// Takes a piece of a stream of frames, cut anywhere: the messages whose frames end in it are heard,
 /// up to the first fault, which the status tells. `FAILED` if a fault ended the stream before, and `FULL`
 /// if the messages tell more than the limit: then nothing changes.
 pub(crate) fn feed(slot: &mut RouterSlot, piece: &[u8]) -> u32
     ensures { Feeds piece.now slot.old slot.new result }
 {
-    let Some(station) = &mut slot.station else {
-        return CLOSED;
-    };
-    match hear(station, piece) {
-        Ok(fault) => heard_status(fault),
-        Err(HearFault::Failed) => FAILED,
-        Err(HearFault::Full) => FULL,
-        Err(HearFault::NoMemory) => NO_MEMORY,
+    match &mut slot.station {
+        Some(station) => feed_number(hear(station, piece)),
+        None => CLOSED,
     }
 }
 

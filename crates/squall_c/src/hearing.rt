@@ -1,23 +1,54 @@
 //! Whole frames that routers behind handles hear, for hosts whose messages come one by one.
 
 ghost use Rattle.std.specs.Prelude.{◌≡◌, [], ◌∷◌, Err, OnOk, OnErr};
-ghost use Rattle.squall_wire.specs.declared.message.Message.{Message as MessageValue};
 ghost use Rattle.squall_router.specs.declared.fault.AbsorbFault.TheVariants.{Full};
 ghost use Rattle.squall_board.specs.Boards.{board_join};
-ghost use Rattle.squall_wire.specs.Messages.{IsMessage, spell};
-ghost use Rattle.squall_wire.specs.Hearing.{new_feed};
-ghost use Rattle.squall_c.specs.declared.router.Station.{Station as StationValue};
-ghost use Rattle.squall_c.specs.Feeding.{HearsPiece, heard_station};
+ghost use Rattle.squall_wire.specs.Messages.{IsMessage};
+ghost use Rattle.squall_c.specs.Feeding.{heard_station};
 ghost use Rattle.squall_c.specs.Limits.{IsAdmitted, IsRefused, IsWithinLimit, IsBeyondLimit};
-ghost use Rattle.squall_c.specs.WholeFrames.{HearsFrame, absorbed_station, kept_station, taken_status};
+ghost use Rattle.squall_c.specs.WholeFrames.{HearsFrame, HearsWhole, absorbed_station, kept_station, whole_number};
 
 use crate::limits::{absorb, taken_after};
 use crate::router::{RouterSlot, Station};
-use crate::status::{CLOSED, FULL, NO_MEMORY, OK};
+use crate::status::{CLOSED, FULL, OK};
 use squall_board::Delta;
 use squall_c_frames::{whole, wire_status};
 use squall_router::AbsorbFault;
-use squall_wire::{Digest, Message};
+use squall_wire::{Digest, Message, WireFault};
+
+/// Why a whole frame is not heard.
+#[derive(Clone, Copy, Debug, PartialEq, Eq)]
+pub enum WholeFault {
+    /// The fault of the frame, or that an allocation failed.
+    Frame(WireFault),
+    /// The router would hear of more than its limit.
+    Full,
+}
+
+impl From<WireFault> for WholeFault {
+    ghost use Rattle.std.specs.Prelude.{◌≡◌};
+    ghost use Rattle.squall_c.specs.declared.hearing.WholeFault.TheVariants.{Frame};
+
+    ghost from_gives = { λ fault e. e ≡ Frame fault };
+
+    fn from(fault: WireFault) -> WholeFault {
+        WholeFault::Frame(fault)
+    }
+}
+
+impl From<AbsorbFault> for WholeFault {
+    ghost use Rattle.std.specs.Prelude.{◌≡◌};
+    ghost use Rattle.squall_c.specs.WholeFrames.{whole_fault};
+
+    ghost from_gives = { λ fault e. e ≡ whole_fault fault };
+
+    fn from(fault: AbsorbFault) -> WholeFault {
+        match fault {
+            AbsorbFault::Full => WholeFault::Full,
+            AbsorbFault::NoMemory => WholeFault::Frame(WireFault::NoMemory),
+        }
+    }
+}
 
 /// Has the station absorb the delta, unless it tells more than its limit. It changes nothing if it
 /// fails.
@@ -59,35 +90,35 @@ fn take_message(station: &mut Station, message: Message) -> Result<(), AbsorbFau
     }
 }
 
-/// The status of a message that was taken, or of why it was not.
-fn taken_status(outcome: Result<(), AbsorbFault>) -> u32
-    ensures { result ≡ taken_status outcome }
+/// Has the station hear the message of the frame, unless it tells more than its limit. It changes
+/// nothing if it fails.
+fn take_frame(station: &mut Station, frame: &[u8]) -> Result<(), WholeFault>
+    ensures { HearsWhole frame.now station.old result station.new }
 {
-    match outcome {
+    let message = whole(station.alloc, frame)?;
+    take_message(station, message)?;
+    Ok(())
+}
+
+/// The number of how it ended that a whole frame came.
+fn whole_number(answer: Result<(), WholeFault>) -> u32
+    ensures { result ≡ whole_number answer }
+{
+    match answer {
         Ok(()) => OK,
-        Err(AbsorbFault::Full) => FULL,
-        Err(AbsorbFault::NoMemory) => NO_MEMORY,
+        Err(WholeFault::Frame(fault)) => wire_status(fault),
+        Err(WholeFault::Full) => FULL,
     }
 }
 
 /// Hears one whole frame: its message is taken, or the status tells its fault and nothing changes.
-/// `FULL` if the message tells more than the limit, and then nothing changes either. What was fed of a
-/// stream before waits on.
+/// `FULL` if the message tells more than the limit, and then nothing changes either. An allocation that
+/// fails is told only of bytes that begin with a whole frame. What was fed of a stream before waits on.
 pub(crate) fn hear_frame(slot: &mut RouterSlot, frame: &[u8]) -> u32
     ensures { HearsFrame frame.now slot.old slot.new result }
 {
-    let Some(station) = &mut slot.station else {
-        return CLOSED;
-    };
-    match whole(station.alloc, frame) {
-        Ok(message) => taken_status(take_message(station, message)),
-        Err(fault) => wire_status(fault),
+    match &mut slot.station {
+        Some(station) => whole_number(take_frame(station, frame)),
+        None => CLOSED,
     }
 }
-
-/// Changes nothing: after it a proof knows that a whole frame leaves what it leaves if it is fed to a
-/// station to which nothing was fed before, if it is within the limit.
-pub fn heard_as_if_fed()
-    ensures { (s : StationValue) (m : MessageValue) → IsMessage m → IsAdmitted s (m ∷ []) → s.feed ≡ new_feed
-        → HearsPiece s (spell m) None (heard_station s (m ∷ []) s.feed) }
-{}

@@ -6,9 +6,9 @@ ghost use Rattle.squall_c.specs.LeaderSlots.{no_leader, course_begun};
 
 use crate::courses::{CourseSlot, HeldCourse, share, slot_with};
 use crate::router::{may_cross, read_plan};
-use crate::status::{CLOSED, Cause, IN_OLD_PLAN, NO_MEMORY, NO_PLACE, OK};
+use crate::status::{CLOSED, Cause, IN_OLD_PLAN, NO_PLACE, OK};
 use squall_c_leaders::LeaderNode;
-use std::alloc::{AllocError, Global};
+use std::alloc::Global;
 
 /// What lies behind the handle of a leader: a leader, or why there is none.
 #[derive(Drop)]
@@ -31,8 +31,8 @@ fn no_leader(cause: Cause) -> LeaderSlot
     }
 }
 
-/// The leader, or that there was no memory for it.
-fn slot_of(node: Result<LeaderNode, AllocError>) -> LeaderSlot
+/// The slot of the leader, or of why there is none.
+fn slot_of(node: Result<LeaderNode, Cause>) -> LeaderSlot
     ensures { result ≡ slot_of_leader node }
 {
     match node {
@@ -41,34 +41,39 @@ fn slot_of(node: Result<LeaderNode, AllocError>) -> LeaderSlot
             fault_at: NO_PLACE,
             node: Some(node),
         },
-        Err(_) => no_leader(Cause::with(NO_MEMORY)),
+        Err(cause) => no_leader(cause),
     }
 }
 
 /// The leader of data that lies as the plan of the text says, which goes on after the number `last`; or
 /// why there is none.
+fn leader_of(alloc: Global, plan: &[u8], last: u32) -> Result<LeaderNode, Cause>
+    ensures { IsLeaderOpened plan.now last (slot_of_leader result) }
+{
+    let plan = read_plan(alloc, plan, IN_OLD_PLAN)?;
+    Ok(LeaderNode::new(alloc, &plan, last)?)
+}
+
+/// The slot of that leader, or of why there is none.
 pub(crate) fn open_leader(alloc: Global, plan: &[u8], last: u32) -> LeaderSlot
     ensures { IsLeaderOpened plan.now last result }
 {
-    match read_plan(alloc, plan, IN_OLD_PLAN) {
-        Ok(plan) => slot_of(LeaderNode::new(alloc, &plan, last)),
-        Err(cause) => no_leader(cause),
-    }
+    slot_of(leader_of(alloc, plan, last))
 }
 
 /// The leader in the midst of the course; or why there is none.
-fn resume(alloc: Global, held: &HeldCourse) -> LeaderSlot
-    ensures { IsLeaderResumed held.now.course result }
+fn resumed(alloc: Global, held: &HeldCourse) -> Result<LeaderNode, Cause>
+    ensures { IsLeaderResumed held.now.course (slot_of_leader result) }
 {
-    slot_of(LeaderNode::resumed(alloc, held.course.as_arc()))
+    Ok(LeaderNode::resumed(alloc, held.course.as_arc())?)
 }
 
-/// The same where there may be no course.
+/// The slot of that leader where there may be no course.
 pub(crate) fn resume_leader(alloc: Global, slot: &CourseSlot) -> LeaderSlot
     ensures { IsLeaderResumedOf slot.now.course result }
 {
     match &slot.course {
-        Some(held) => resume(alloc, held),
+        Some(held) => slot_of(resumed(alloc, held)),
         None => no_leader(Cause::with(CLOSED)),
     }
 }

@@ -3,19 +3,18 @@
 ghost use Rattle.std.specs.Prelude.{◌≡◌, length, take};
 ghost use Rattle.squall_c_frames.specs.Queues.{room_after, first_length};
 ghost use Rattle.squall_c_values.specs.Rooms.{over};
-ghost use Rattle.squall_c.specs.LeaderSlots.{leader_number, hear_number, feed_number, begin_number, open_number, frame_number, repair_number};
+ghost use Rattle.squall_c.specs.LeaderSlots.{leader_number, begin_number, open_number, frame_number, repair_number};
 ghost use Rattle.squall_c.specs.LeaderSlots.{numbers_told, frames_of_leader, leader_slot_after, leader_waiting_bytes};
 ghost use Rattle.squall_c.specs.LeaderSlots.{LeaderHears, LeaderFeeds, LeaderBegins, LeaderOpens, LeaderGathersBoard, LeaderGathersDigest, LeaderGathersRepair};
 
 use crate::leaders::LeaderSlot;
 use crate::numbers::put_numbers;
 use crate::router::read_plan;
-use crate::status::{CLOSED, FAILED, IN_NEW_PLAN, NO_DIGEST, NO_MEMORY, OK, TOO_LONG};
-use squall_c_frames::{FrameFault, heard_status, wire_status};
+use crate::status::{CLOSED, IN_NEW_PLAN, NO_DIGEST, NO_MEMORY, OK, TOO_LONG};
+use squall_c_frames::{FrameFault, feed_status, hear_status};
 use squall_c_leaders::{LeaderNode, RepairFault};
 use squall_leader::LeaderFault;
 use squall_plan::Plan;
-use squall_wire::{FeedFault, WireFault};
 
 /// The course begun last is not over.
 const RUNNING: u32 = 91;
@@ -46,34 +45,13 @@ fn leader_number(fault: &LeaderFault) -> u32
     }
 }
 
-/// How it ended that a leader was to hear a frame.
-fn hear_number(answer: Result<(), WireFault>) -> u32
-    ensures { result ≡ hear_number answer }
-{
-    match answer {
-        Ok(()) => OK,
-        Err(fault) => wire_status(fault),
-    }
-}
-
 /// Hears one whole frame: its message is taken, or the status tells its fault and nothing changes.
 pub(crate) fn leader_hear(slot: &mut LeaderSlot, frame: &[u8]) -> u32
     ensures { LeaderHears frame.now slot.old slot.new result }
 {
     match &mut slot.node {
-        Some(node) => hear_number(node.hear(frame)),
+        Some(node) => hear_status(node.hear(frame)),
         None => CLOSED,
-    }
-}
-
-/// How it ended that a leader was to hear a piece of a stream of frames.
-fn feed_number(answer: Result<Option<WireFault>, FeedFault>) -> u32
-    ensures { result ≡ feed_number answer }
-{
-    match answer {
-        Ok(fault) => heard_status(fault),
-        Err(FeedFault::Failed) => FAILED,
-        Err(FeedFault::NoMemory) => NO_MEMORY,
     }
 }
 
@@ -83,7 +61,7 @@ pub(crate) fn leader_feed(slot: &mut LeaderSlot, piece: &[u8]) -> u32
     ensures { LeaderFeeds piece.now slot.old slot.new result }
 {
     match &mut slot.node {
-        Some(node) => feed_number(node.feed(piece)),
+        Some(node) => feed_status(node.feed(piece)),
         None => CLOSED,
     }
 }

@@ -2,8 +2,8 @@
 
 ghost use Rattle.std.specs.Prelude.{◌≡◌, ◌≤◌, IfOk, Some, length};
 ghost use Rattle.squall_plan.specs.Form.{plan_of_text};
-ghost use Rattle.squall_c.specs.Status.{GivesSeen, PlacesMemory, plan_or_cause};
-ghost use Rattle.squall_c.specs.Opening.{first_course, IsNew, IsStationOf, IsOpened};
+ghost use Rattle.squall_c.specs.Status.{GivesSeen, PlacesMemory, NeedsNumber, plan_or_cause};
+ghost use Rattle.squall_c.specs.Opening.{first_course, slot_of_router, IsNew, IsStationOf, IsOpened};
 ghost use Rattle.squall_c.specs.Showing.{routed, course_number, legs_of_station, that_fit};
 ghost use Rattle.squall_c_values.specs.Rooms.{over};
 
@@ -15,7 +15,7 @@ use squall_c_frames::{Frames, TwinFeed};
 use squall_c_values::CLeg;
 use squall_course::Course;
 use squall_key::Key;
-use squall_plan::Plan;
+use squall_plan::{Plan, PlanFault};
 use squall_router::Router;
 use squall_status::Tally;
 use squall_wire::Digest;
@@ -49,16 +49,25 @@ pub struct RouterSlot {
     pub(crate) station: Option<Station>,
 }
 
+/// The plan that was read, or the cause of its fault, to whose number so much is added.
+fn plan_or_cause(added: u32, read: Result<Plan, PlanFault>) -> Result<Plan, Cause>
+    requires { added ≤ 20 }
+    ensures plan { result ≡ plan_or_cause added read }
+    ensures place { PlacesMemory result }
+{
+    match read {
+        Ok(plan) => Ok(plan),
+        Err(fault) => Err(Cause::of_fault(added, &fault)),
+    }
+}
+
 /// The plan of the text, or why there is none.
 pub(crate) fn read_plan(alloc: Global, text: &[u8], added: u32) -> Result<Plan, Cause>
     requires { added ≤ 20 }
     ensures plan { GivesSeen (λ p. p) result (plan_or_cause added (plan_of_text text.now)) }
     ensures place { PlacesMemory result }
 {
-    match Plan::read(alloc, text) {
-        Ok(plan) => Ok(plan),
-        Err(fault) => Err(Cause::of_fault(added, &fault)),
-    }
+    plan_or_cause(added, Plan::read(alloc, text))
 }
 
 /// The first course of the router of two texts, or why there is none.
@@ -70,6 +79,7 @@ pub(crate) fn first_course(
 ) -> Result<Course, Cause>
     ensures course { GivesSeen (λ c. c) result (first_course number old.now new.now) }
     ensures place { PlacesMemory result }
+    ensures numbered { NeedsNumber number result }
 {
     if number == 0 {
         return Err(Cause::with(LIMIT));
@@ -104,16 +114,17 @@ fn station_of(alloc: Global, course: Course) -> Result<Station, AllocError>
 fn station_of_plans(alloc: Global, number: u32, old: &[u8], new: &[u8]) -> Result<Station, Cause>
     ensures station { IsStationOf (first_course number old.now new.now) result }
     ensures place { PlacesMemory result }
+    ensures numbered { NeedsNumber number result }
 {
     let course = first_course(alloc, number, old, new)?;
     Ok(station_of(alloc, course)?)
 }
 
-/// The router of the plans of both texts, before any report, or why there is none.
-pub(crate) fn open(alloc: Global, number: u32, old: &[u8], new: &[u8]) -> RouterSlot
-    ensures { IsOpened number old.now new.now result }
+/// The slot of the station, or of why there is none.
+fn slot_of(station: Result<Station, Cause>) -> RouterSlot
+    ensures { result ≡ slot_of_router station }
 {
-    match station_of_plans(alloc, number, old, new) {
+    match station {
         Ok(station) => RouterSlot {
             status: OK,
             fault_at: NO_PLACE,
@@ -125,6 +136,13 @@ pub(crate) fn open(alloc: Global, number: u32, old: &[u8], new: &[u8]) -> Router
             station: None,
         },
     }
+}
+
+/// The router of the plans of both texts, before any report, or why there is none.
+pub(crate) fn open(alloc: Global, number: u32, old: &[u8], new: &[u8]) -> RouterSlot
+    ensures { IsOpened number old.now new.now result }
+{
+    slot_of(station_of_plans(alloc, number, old, new))
 }
 
 /// 0, or why there is no router.

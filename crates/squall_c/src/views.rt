@@ -1,15 +1,9 @@
 //! Views: what a router answered at one moment, for readers that share one table.
 
-ghost use Rattle.std.specs.Prelude.{◌≡◌, ℕ, IfOk, Some, length};
-ghost use Rattle.squall_plan.specs.Ranges.{owner_of};
-ghost use Rattle.squall_report.specs.Told.{TellsAll};
-ghost use Rattle.squall_board.specs.Boards.{told};
-ghost use Rattle.squall_router.specs.Routers.{RouterValue, course_of_router, route_of_router};
-ghost use Rattle.squall_c_values.specs.Values.{place_at, place_of};
-ghost use Rattle.squall_c.specs.declared.views.View.{View as ViewValue};
+ghost use Rattle.std.specs.Prelude.{◌≡◌, IfOk, Some, length};
 ghost use Rattle.squall_c_values.specs.Rooms.{over};
-ghost use Rattle.squall_c.specs.Showing.{part_at, legs_by, that_fit};
-ghost use Rattle.squall_c.specs.Views.{IsSettled, places_of_view, Shows, IsViewOf, IsSameView};
+ghost use Rattle.squall_c.specs.Showing.{that_fit};
+ghost use Rattle.squall_c.specs.Views.{places_of_view, Shows, IsViewOf, IsSameView};
 ghost use Rattle.squall_c.specs.Views.{seen, seen_number, routes_that_fit, legs_of_view, blank_view, slot_of_view};
 
 use crate::legs::put_legs;
@@ -164,23 +158,6 @@ pub(crate) fn view_number(slot: &ViewSlot) -> u32
         None => 0,
     }
 }
-
-/// Changes nothing: after it a proof knows that a view of a router answers as the router did.
-pub fn views_answer_as_their_router()
-    ensures routes { (r : RouterValue) (v : ViewValue) (rank : ℕ) → Shows r (Some v) → seen (Some v) rank ≡ part_at (route_of_router r) rank }
-    ensures legs { (r : RouterValue) (v : ViewValue) (lo hi : ℕ) → Shows r (Some v) → legs_of_view (Some v) lo hi ≡ legs_by (route_of_router r) lo hi }
-    ensures number { (r : RouterValue) (v : ViewValue) → Shows r (Some v) → seen_number (Some v) ≡ (course_of_router r).number }
-{}
-
-/// Changes nothing: after it a proof knows that a view gives the places of keys that its router gave. It
-/// also knows that a settled key stays. A router that took more reports routes the key to the same
-/// partition while its course is the same.
-pub fn settled_keys_stay()
-    ensures places { (r : RouterValue) (v : ViewValue) (rank : ℕ) → Shows r (Some v)
-        → place_at v.course (owner_of v.table) rank ≡ place_at (course_of_router r) (route_of_router r) rank }
-    ensures stays { (r later : RouterValue) (k : ℕ) → TellsAll (told later.board) (told r.board) → course_of_router later ≡ course_of_router r
-        → IsSettled (place_of (course_of_router r) (route_of_router r) k) → route_of_router later k ≡ route_of_router r k }
-{}
 
 /// Drops the view.
 pub(crate) fn close_view(slot: ViewSlot) {}

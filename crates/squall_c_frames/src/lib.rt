@@ -7,6 +7,7 @@
 mod boards;
 mod fault;
 mod frames;
+mod head;
 mod messages;
 mod single;
 mod status;
@@ -17,5 +18,5 @@ pub use fault::FrameFault;
 pub use frames::Frames;
 pub use messages::{alone, joined, keep_digest};
 pub use single::whole;
-pub use status::{heard_status, memory_status, wire_status};
+pub use status::{feed_status, hear_status, heard_status, memory_status, wire_status};
 pub use twin_feed::TwinFeed;

@@ -1,5 +1,5 @@
 -- What a leader behind a handle is, what it hears and which frames wait (this project).
-use Rattle.std.specs.Prelude.{◌≡◌, ◌≢◌, ℕ, ◌-◌, List, [], ◌∷◌, Option, None, Some, Result, Ok, Err}
+use Rattle.std.specs.Prelude.{◌≡◌, ℕ, ◌-◌, List, [], ◌∷◌, Option, None, Some, Result, Ok, Err}
 use Rattle.squall_plan.specs.declared.range.PlanRange.{PlanRange}
 use Rattle.squall_course.specs.Change.{Change}
 use Rattle.squall_report.specs.declared.report.ReportKind.{ReportKind}
@@ -7,7 +7,6 @@ use Rattle.squall_report.specs.declared.report.ReportKind.TheVariants.{Opened}
 use Rattle.squall_report.specs.Issues.{PlanPair}
 use Rattle.squall_board.specs.Boards.{board_join}
 use Rattle.squall_wire.specs.declared.fault.WireFault.{WireFault}
-use Rattle.squall_wire.specs.declared.fault.WireFault.TheVariants.{NoMemory}
 use Rattle.squall_wire.specs.declared.message.Message.{Message}
 use Rattle.squall_wire.specs.declared.message.Message.TheVariants.{Delta, Digest}
 use Rattle.squall_wire.specs.DigestValue.{DigestValue}
@@ -17,9 +16,9 @@ use Rattle.squall_leader.specs.declared.fault.LeaderFault.{LeaderFault}
 use Rattle.squall_leader.specs.Leaders.{LeaderValue, new_leader, after_begin, IsBegun, IsOpened}
 use Rattle.squall_c_frames.specs.Queues.{frames_after}
 use Rattle.squall_c_frames.specs.declared.fault.FrameFault.{FrameFault}
-use Rattle.squall_c_frames.specs.declared.fault.FrameFault.TheVariants.{TooLong, NoMemory as NoMemoryForFrames}
+use Rattle.squall_c_frames.specs.declared.fault.FrameFault.TheVariants.{TooLong, NoMemory}
 use Rattle.squall_c_frames.specs.BoardFrames.{ArePieceFrames, AreRepairFrames, AreDigestFrames, HasLongItem, HasLongRepair, HasLongDigest}
-use Rattle.squall_c_frames.specs.WholeFrames.{whole_at}
+use Rattle.squall_c_frames.specs.WholeFrames.{whole_at, IsFaultOf}
 use Rattle.squall_c_leaders.specs.declared.fault.RepairFault.{RepairFault}
 use Rattle.squall_c_leaders.specs.declared.fault.RepairFault.TheVariants.{NoDigest, TooLong as TooLongForRepair, NoMemory as NoMemoryForRepair}
 
@@ -71,7 +70,7 @@ heard_node n (Digest d) = record n { heard = Some d }
 abbrev pub HearsFrame : List ℕ → NodeValue → Result (Unit {0}) WireFault → NodeValue → Type 0
 HearsFrame frame n (Ok done) m =
     (message : Message) × IsMessage message × (frame ≡ spell message) × (whole_at frame ≡ Ok (body_of message)) × (m ≡ heard_node n message)
-HearsFrame frame n (Err fault) m = (fault ≢ NoMemory → whole_at frame ≡ Err fault) × (m ≡ n)
+HearsFrame frame n (Err fault) m = IsFaultOf frame fault × (m ≡ n)
 
 -- ---- frames that wait
 
@@ -87,7 +86,7 @@ KeepsFrames AreFrames n m = AreFrames m.frames × (m ≡ with_frames n m.frames)
 abbrev pub Keeps : (List (List ℕ) → Type 0) → Type 0 → NodeValue → Result (Unit {0}) FrameFault → NodeValue → Type 0
 Keeps AreFrames IsLong n (Ok done) m = KeepsFrames AreFrames n m
 Keeps AreFrames IsLong n (Err TooLong) m = IsLong × (m ≡ n)
-Keeps AreFrames IsLong n (Err NoMemoryForFrames) m = m ≡ n
+Keeps AreFrames IsLong n (Err NoMemory) m = m ≡ n
 
 -- the frames of the board's pieces, each of at most so many bytes
 abbrev pub KeepsBoard : ℕ → NodeValue → Result (Unit {0}) FrameFault → NodeValue → Type 0
@@ -100,7 +99,7 @@ KeepsDigest limit n answer m = Keeps (AreDigestFrames limit n.leader.board) (Has
 -- why a repair is not made, if a digest was heard
 abbrev pub repair_fault : FrameFault → RepairFault
 repair_fault TooLong = TooLongForRepair
-repair_fault NoMemoryForFrames = NoMemoryForRepair
+repair_fault NoMemory = NoMemoryForRepair
 
 -- the frames of a repair by the digest heard last wait, likewise; or there is no such digest, and nothing changed
 abbrev pub KeepsRepair : ℕ → NodeValue → Result (Unit {0}) RepairFault → NodeValue → Type 0

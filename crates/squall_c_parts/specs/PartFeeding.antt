@@ -1,5 +1,5 @@
 -- What a node of the C library hears in the pieces of a stream of frames (this project).
-use Rattle.std.specs.Prelude.{◌≡◌, ℕ, Bool, true, false, List, [], ◌∷◌, Option, Result, Ok, Err}
+use Rattle.std.specs.Prelude.{◌≡◌, ℕ, true, false, List, [], ◌∷◌, Option, Result, Ok, Err}
 use Rattle.squall_wire.specs.declared.fault.WireFault.{WireFault}
 use Rattle.squall_wire.specs.declared.message.Message.{Message}
 use Rattle.squall_wire.specs.declared.feed.FeedFault.{FeedFault}
@@ -9,9 +9,8 @@ use Rattle.squall_delta.specs.Pieces.{joined_boards}
 use Rattle.squall_part.specs.Parts.{PartValue}
 use Rattle.squall_replay.specs.Calls.{Absorbs}
 use Rattle.squall_c_frames.specs.Joined.{deltas_of, last_digest}
-use Rattle.squall_c_parts.specs.PartStatus.{failed}
-use Rattle.squall_c_frames.specs.FrameStatus.{heard_status}
-use Rattle.squall_c_parts.specs.Nodes.{NodeValue, with_feed, Ends}
+use Rattle.squall_c_frames.specs.FrameStatus.{feed_status}
+use Rattle.squall_c_parts.specs.Nodes.{NodeValue, with_feed}
 
 -- the node with another partition and another feed, which keeps the last digest among the messages
 abbrev pub heard_with : NodeValue → List Message → PartValue → FeedValue → NodeValue
@@ -41,17 +40,8 @@ HearsInNode old piece (Ok fault) new = HearsPiece old piece fault new × (old.fe
 HearsInNode old piece (Err Failed) new = (old.feed.failed ≡ true) × (new ≡ old)
 HearsInNode old piece (Err NoMemory) new = (old.feed.failed ≡ false) × (new ≡ old)
 
--- the same with a status, which tells the fault
-pub record Hears (old : NodeValue) (piece : List ℕ) (new : NodeValue) (status : ℕ) : Type 0 where
-  pub fault : Option WireFault
-  pub told : status ≡ heard_status fault
-  pub hears : HearsPiece old piece fault new
-
--- nothing is heard after a fault
-abbrev pub feeds_unless : Bool → NodeValue → List ℕ → NodeValue → ℕ → Type 0
-feeds_unless true old piece new status = (status ≡ failed) × (new ≡ old)
-feeds_unless false old piece new status = Ends old (Hears old piece) new status
-
--- a node after a piece of a stream of frames was fed to it
-abbrev pub Feeds : List ℕ → NodeValue → NodeValue → ℕ → Type 0
-Feeds piece old new status = feeds_unless old.feed.failed old piece new status
+-- a node after a piece of a stream of frames was fed to it: the status is the number of how that ended
+pub record Feeds (piece : List ℕ) (old new : NodeValue) (status : ℕ) : Type 0 where
+  pub answer : Result (Option WireFault) FeedFault
+  pub hears : HearsInNode old piece answer new
+  pub told : status ≡ feed_status answer

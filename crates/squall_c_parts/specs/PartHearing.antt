@@ -4,13 +4,12 @@ use Rattle.squall_board.specs.Boards.{BoardValue}
 use Rattle.squall_wire.specs.declared.fault.WireFault.{WireFault}
 use Rattle.squall_wire.specs.declared.message.Message.{Message}
 use Rattle.squall_wire.specs.declared.message.Message.TheVariants.{Delta, Digest}
-use Rattle.squall_wire.specs.Messages.{Body, IsMessage, body_of, spell}
+use Rattle.squall_wire.specs.Messages.{IsMessage, body_of, spell}
 use Rattle.squall_part.specs.Parts.{PartValue}
 use Rattle.squall_replay.specs.Calls.{Absorbs}
-use Rattle.squall_c_frames.specs.WholeFrames.{whole_at}
-use Rattle.squall_c_parts.specs.PartStatus.{ok}
-use Rattle.squall_c_frames.specs.FrameStatus.{wire_status}
-use Rattle.squall_c_parts.specs.Nodes.{NodeValue, with_part, with_heard, Ends}
+use Rattle.squall_c_frames.specs.WholeFrames.{whole_at, IsFaultOf}
+use Rattle.squall_c_frames.specs.FrameStatus.{hear_status}
+use Rattle.squall_c_parts.specs.Nodes.{NodeValue, with_part, with_heard}
 
 -- the node's partition has absorbed the delta
 pub record AbsorbsDelta (old : NodeValue) (delta : BoardValue) (new : NodeValue) : Type 0 where
@@ -24,19 +23,20 @@ TakesMessage old (Delta delta) new = AbsorbsDelta old delta new
 TakesMessage old (Digest digest) new = new ≡ with_heard old digest
 
 -- the frame's message is taken
-pub record HearsMessage (old : NodeValue) (frame : List ℕ) (body : Body) (new : NodeValue) (status : ℕ) : Type 0 where
+pub record HearsMessage (old : NodeValue) (frame : List ℕ) (new : NodeValue) : Type 0 where
   pub message : Message
   pub is : IsMessage message
-  pub says : body_of message ≡ body
   pub spelled : frame ≡ spell message
-  pub done : status ≡ ok
+  pub says : whole_at frame ≡ Ok (body_of message)
   pub takes : TakesMessage old message new
 
--- a frame is heard, or its fault is told and nothing changes
-abbrev pub HearsWhole : NodeValue → List ℕ → Result Body WireFault → NodeValue → ℕ → Type 0
-HearsWhole old frame (Ok body) new status = HearsMessage old frame body new status
-HearsWhole old frame (Err fault) new status = (status ≡ wire_status fault) × (new ≡ old)
+-- it is, or why not, and then nothing changes
+abbrev pub TakesFrame : List ℕ → NodeValue → Result (Unit {0}) WireFault → NodeValue → Type 0
+TakesFrame frame old (Ok done) new = HearsMessage old frame new
+TakesFrame frame old (Err fault) new = IsFaultOf frame fault × (new ≡ old)
 
--- a node after one whole frame came to it
-abbrev pub HearsFrame : List ℕ → NodeValue → NodeValue → ℕ → Type 0
-HearsFrame frame old new status = Ends old (HearsWhole old frame (whole_at frame)) new status
+-- a node after one whole frame came to it: the status is the number of how that ended
+pub record HearsFrame (frame : List ℕ) (old new : NodeValue) (status : ℕ) : Type 0 where
+  pub answer : Result (Unit {0}) WireFault
+  pub takes : TakesFrame frame old answer new
+  pub told : status ≡ hear_status answer

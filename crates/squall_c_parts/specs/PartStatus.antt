@@ -25,10 +25,6 @@ no_memory = 1
 abbrev pub limit : ℕ
 limit = 2
 
--- a fault ended the stream before
-abbrev pub failed : ℕ
-failed = 4
-
 -- a frame would have more bytes than it may have
 abbrev pub too_long : ℕ
 too_long = 5

@@ -12,8 +12,7 @@ ghost use Rattle.squall_c_parts.specs.PartFeeding.{AbsorbsAll, TakesAll, HearsIn
 
 use crate::hearing::absorb;
 use crate::node::Node;
-use crate::status::{FAILED, NO_MEMORY};
-use squall_c_frames::{TwinFeed, alone, heard_status, joined, keep_digest};
+use squall_c_frames::{TwinFeed, alone, feed_status, joined, keep_digest};
 use squall_part::Part;
 use squall_wire::{Feed, FeedFault, Heard, Message, WireFault};
 use std::alloc::{AllocError, Global};
@@ -81,10 +80,6 @@ impl Node {
     pub fn feed(&mut self, piece: &[u8]) -> u32
         ensures { Feeds piece.now self.old self.new result }
     {
-        match self.hear_piece(piece) {
-            Ok(fault) => heard_status(fault),
-            Err(FeedFault::Failed) => FAILED,
-            Err(FeedFault::NoMemory) => NO_MEMORY,
-        }
+        feed_status(self.hear_piece(piece))
     }
 }

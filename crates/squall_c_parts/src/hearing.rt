@@ -2,13 +2,13 @@
 
 ghost use Rattle.std.specs.Prelude.{◌≡◌, OnErr, OnOk};
 ghost use Rattle.squall_replay.specs.Calls.{Absorbs};
-ghost use Rattle.squall_c_parts.specs.PartHearing.{AbsorbsDelta, TakesMessage, HearsFrame};
+ghost use Rattle.squall_c_parts.specs.PartHearing.{AbsorbsDelta, TakesMessage, TakesFrame, HearsFrame};
 
 use crate::node::Node;
 use squall_board::Delta;
-use squall_c_frames::{memory_status, whole, wire_status};
+use squall_c_frames::{hear_status, whole};
 use squall_part::Part;
-use squall_wire::Message;
+use squall_wire::{Message, WireFault};
 use std::alloc::AllocError;
 
 /// Has the partition absorb the delta. If it fails, nothing changes.
@@ -42,14 +42,21 @@ impl Node {
         }
     }
 
+    /// Has the partition take the message of the frame. If it fails, nothing changes.
+    fn take_frame(&mut self, frame: &[u8]) -> Result<(), WireFault>
+        ensures { TakesFrame frame.now self.old result self.new }
+    {
+        let message = whole(self.alloc, frame)?;
+        self.take(message)?;
+        Ok(())
+    }
+
     /// Hears one whole frame: its message is taken, or the status tells its fault and nothing changes.
-    /// What was fed of a stream before waits on.
+    /// An allocation that fails is told only of bytes that begin with a whole frame. What was fed of a
+    /// stream before waits on.
     pub fn hear(&mut self, frame: &[u8]) -> u32
         ensures { HearsFrame frame.now self.old self.new result }
     {
-        match whole(self.alloc, frame) {
-            Ok(message) => memory_status(self.take(message)),
-            Err(fault) => wire_status(fault),
-        }
+        hear_status(self.take_frame(frame))
     }
 }

@@ -15,9 +15,6 @@ pub(crate) const NO_MEMORY: u32 = 1;
 /// A number or a rank lies outside its limits, or a span has no key.
 pub(crate) const LIMIT: u32 = 2;
 
-/// A fault ended the stream of frames before.
-pub(crate) const FAILED: u32 = 4;
-
 /// A frame would have more bytes than it may have.
 pub(crate) const TOO_LONG: u32 = 5;
 

@@ -1,5 +1,5 @@
 use Rattle.squall_c.proofs.CutLegs.{same_part, same_shown}
-use Rattle.squall_c.proofs.views.views_answer_as_their_router.Goals as goal
+use Rattle.squall_c.proofs.laws.views_answer_as_their_router.Goals as goal
 
 pub returns-clause-routes : goal.returns-clause-routes
 returns-clause-routes c r v rank shows = same_part r v.table rank shows.0

@@ -3,7 +3,7 @@ use Rattle.std.proofs.Common.{sym, ap, subst, ◌∙◌, append-nil}
 use Rattle.squall_wire.specs.Messages.{spell}
 use Rattle.squall_wire.specs.Hearing.{FeedValue, IsHeard}
 use Rattle.squall_wire.specs.HearingLaws.{spelled_are_heard}
-use Rattle.squall_c.proofs.hearing.heard_as_if_fed.Goals as goal
+use Rattle.squall_c.proofs.laws.router_hears_as_if_fed.Goals as goal
 
 pub returns : goal.returns
 returns c s m is admitted e = record {

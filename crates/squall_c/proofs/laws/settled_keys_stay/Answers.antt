@@ -5,7 +5,7 @@ use Rattle.squall_board.specs.Boards.{says}
 use Rattle.squall_board.specs.Route.{route}
 use Rattle.squall_router.specs.Routers.{course_of_router}
 use Rattle.squall_c.proofs.Settled.{stays, same_place}
-use Rattle.squall_c.proofs.views.settled_keys_stay.Goals as goal
+use Rattle.squall_c.proofs.laws.settled_keys_stay.Goals as goal
 
 pub returns-clause-places : goal.returns-clause-places
 returns-clause-places c r v rank shows = same_place r v.table v.course rank shows.0 shows.1
