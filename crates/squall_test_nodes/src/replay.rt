@@ -149,19 +149,30 @@ fn calls_are_answered(rt: HostRuntime) {
     holds!(&rt; answers_log(&rt, rt.alloc()).is_some());
 }
 
-/// The fault at which the log of the destination ends at a partition. None if it goes on to its end,
-/// or an allocation fails before.
-fn fault_at(alloc: Global, id: u32) -> Option<CallFault> {
+/// Whether the fault is that of a chunk that comes from a stranger.
+fn is_stranger(fault: &CallFault) -> bool {
+    matches!(fault, CallFault::Load(LoadFault::Stranger))
+}
+
+/// Whether the partition refuses a chunk of the log as that of a stranger. The log ends there.
+fn ends_at_a_stranger(part: &mut Part, calls: &[Call]) -> bool {
+    match replay(part, calls) {
+        Ok(()) => false,
+        Err(fault) => is_stranger(&fault),
+    }
+}
+
+/// The same of a new partition and the log of the destination. None if an allocation fails before.
+fn refuses_the_log(alloc: Global, id: u32) -> Option<bool> {
     let course = course(alloc)?;
     let mut part = Part::new(alloc, PartId::new(id)?, &course).ok()?;
     let log = dest_log(alloc)?;
-    replay(&mut part, &log).err()
+    Some(ends_at_a_stranger(&mut part, &log))
 }
 
-/// At the source the chunk is a stranger's: the log ends there.
+/// At the source the chunk is a stranger's.
 #[test]
 fn a_log_ends_at_a_refused_call(rt: HostRuntime) {
-    let fault = fault_at(rt.alloc(), 1);
-    holds!(&rt; matches!(fault, Some(CallFault::Load(LoadFault::Stranger))));
-    holds!(&rt; fault_at(rt.alloc(), 3).is_none());
+    holds!(&rt; refuses_the_log(rt.alloc(), 1) == Some(true));
+    holds!(&rt; refuses_the_log(rt.alloc(), 3) == Some(false));
 }
