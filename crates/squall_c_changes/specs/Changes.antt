@@ -37,6 +37,6 @@ abbrev pub last_end : ℕ → List CSpan → ℕ
 last_end lo [] = lo
 last_end lo (s ∷ ss) = last_end s.hi ss
 
--- the rank up to which all is told: hi, if the room holds more than was written
+-- the rank below which each change is written: hi, if the room was not filled
 abbrev pub reached : ℕ → ℕ → List CSpan → List CSpan → ℕ → ℕ
 reached lo hi old new count = if nat_lt count (length old) then hi else last_end lo (given new count)

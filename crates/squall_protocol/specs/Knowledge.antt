@@ -13,8 +13,8 @@ use Rattle.squall_protocol.specs.Known.{course_under}
 use Rattle.squall_protocol.specs.declared.event.Node.TheVariants.{Part}
 use Rattle.squall_protocol.specs.Worlds.{WorldValue, first_course}
 
--- what a partition answers by: its number, the first course, and what it was told and told itself. Also whether it holds a key,
--- gave it, and loaded it in the course of a number
+-- A partition answers from its number, the first course and its facts. It also answers from whether it holds a key, and whether
+-- it gave or loaded the key in the course of a number.
 pub record PartQueries : Type 0 where
   pub id : ℕ
   pub first : Change

@@ -202,7 +202,7 @@ FinishStep w p s _ v = ⊥
 
 -- ---- messages
 
--- what the node was told and told itself becomes the next message
+-- the facts of the node become the next message
 abbrev pub SendStep : WorldValue → Node → Answer → WorldValue → Type 0
 SendStep w node (Sent index) v = (is_node w node ≡ true) × (index ≡ length w.messages) × SameWorld v (record w { messages = w.messages ++ w.facts node ∷ [] })
 SendStep w node (Refused NoSuch) v = (is_node w node ≡ false) × SameWorld v w
@@ -216,7 +216,7 @@ pub record IsPartOf (q f : Queries) : Type 0 where
   pub opened : (n : ℕ) → q.opened n ≤ f.opened n
   pub issued : (n : ℕ) → (q.issued n ≡ Unknown) ⊎ (q.issued n ≡ f.issued n)
 
--- what the board tells becomes the next message, if it is a part of what the node was told and told itself
+-- a node sends the facts of a board, if they are a part of its own facts: they become the next message
 abbrev pub SendPartStep : WorldValue → Node → BoardValue → Answer → WorldValue → Type 0
 SendPartStep w node said (Sent index) v =
     (is_node w node ≡ true) × IsPartOf (queries_of said) (w.facts node) × (index ≡ length w.messages) × SameWorld v (record w { messages = w.messages ++ queries_of said ∷ [] })

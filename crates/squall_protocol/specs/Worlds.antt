@@ -31,9 +31,9 @@ pub record WorldValue : Type 0 where
   pub held : ℕ → ℕ → Bool
   pub given : ℕ → ℕ → ℕ → Bool
   pub loaded : ℕ → ℕ → ℕ → Bool
-  -- what each node was told, and told itself
+  -- the facts of each node: those that came in messages, and its own
   pub facts : Node → Queries
-  -- what each message tells, and which keys each chunk carries
+  -- the facts of each message, and the keys of each chunk
   pub messages : List Queries
   pub chunks : List ChunkValue
 
@@ -87,7 +87,7 @@ is_node w (Router r) = nat_lt r w.routers
 abbrev pub first_parts : List PlanRange → List PlanRange → List ℕ
 first_parts old new = filter (λ p. names old p || names new p) (range_with_len 0 part_limit)
 
--- the leader has issued the first course, and no other node was told anything
+-- the leader has issued the first course. No other node has any fact yet.
 abbrev pub first_facts : List PlanRange → List PlanRange → Node → Queries
 first_facts old new Leader = issued_queries 1 (plan_pair old new)
 first_facts old new (Part p) = no_queries

@@ -61,7 +61,7 @@ impl Ready {
         }
     }
 
-    /// Leaves the patch out: the table is as it was. It needs no memory.
+    /// Leaves the patch out, and gives back the table unchanged. It needs no memory.
     pub fn leave(self) -> RouteTable
         ensures { result ≡ self.before }
     {
