@@ -272,7 +272,9 @@ def defined_in(module: str, name: str) -> tuple[Path | None, str]:
     if "declared" in parts:
         parts = [it for it in parts[parts.index("declared") + 1:] if it != "TheVariants"]
         return (TOP / "crates" / crate / "src" / "/".join(parts[:-1])).with_suffix(".rt"), parts[-1]
-    return (TOP / "crates" / crate / "/".join(parts)).with_suffix(".antt"), name
+    path = (TOP / "crates" / crate / "/".join(parts)).with_suffix(".antt")
+    # The last word may be a type of the file, whose variants are brought.
+    return (path if path.is_file() else path.parent.with_suffix(".antt")), name
 
 
 def version() -> str:

@@ -81,7 +81,7 @@ module _ (w : WorldValue) (s : SystemValue) (first : Change) (b : Beside first w
       by None gone = absurd (false≢true (sym ((b.stands.absent p gone).held k) ∙ held))
   to_system k (Flight i) (x, chunk, flight) = (x, ap (λ l. slice_get l i) (sym b.stands.chunks) ∙ chunk, on_way x k flight)
 
-  to_world : (k : ℕ) (x : Carrier) → CarriesIn s k x → Carries w k x
+  pub to_world : (k : ℕ) (x : Carrier) → CarriesIn s k x → Carries w k x
   to_world k (Holder p) (a, there, held) = (b.stands.parts p a there).held k ∙ held
   to_world k (Flight i) (x, chunk, way) = (x, chunk_in i x chunk, in_flight x k way)
 

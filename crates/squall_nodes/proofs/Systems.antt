@@ -92,7 +92,7 @@ all_with : {A : Type 0} (P : A → Type 0) (xs : List A) (x : A) → AllByRecurs
 all_with P [] x all is = (is, tt)
 all_with P (y ∷ ys) x all is = (all.0, all_with P ys x all.1 is)
 
-put_some : {A : Type 0} (n : ℕ) (x : A) (xs : ℕ → Option A) (m : ℕ) (y : A) → put_at n x xs m ≡ Some y → ((m ≡ n) × (x ≡ y)) ⊎ (((m == n) ≡ false) × (xs m ≡ Some y))
+pub put_some : {A : Type 0} (n : ℕ) (x : A) (xs : ℕ → Option A) (m : ℕ) (y : A) → put_at n x xs m ≡ Some y → ((m ≡ n) × (x ≡ y)) ⊎ (((m == n) ≡ false) × (xs m ≡ Some y))
 put_some {A = A} n x xs m y e = by (m == n) refl e
   where
     by : (b : Bool) → (m == n) ≡ b → cond b (Some x) (xs m) ≡ Some y → ((m ≡ n) × (x ≡ y)) ⊎ (((m == n) ≡ false) × (xs m ≡ Some y))
@@ -108,7 +108,7 @@ put_none {A = A} n x xs m e = by (m == n) refl e
 
 -- ---- one node moved
 
-part_moved : (first : Change) (w v : WorldValue) (s : SystemValue) (p : ℕ) (b : PartValue) (on_way chunks : List ChunkValue) → Beside first w s → IsPart b → on_way ≡ chunks → IsReached v → PartStands w p b on_way v → Beside first v (with_part s p b chunks)
+pub part_moved : (first : Change) (w v : WorldValue) (s : SystemValue) (p : ℕ) (b : PartValue) (on_way chunks : List ChunkValue) → Beside first w s → IsPart b → on_way ≡ chunks → IsReached v → PartStands w p b on_way v → Beside first v (with_part s p b chunks)
 part_moved first w v s p b on_way chunks beside is same reached moved = record {
   reached = reached;
   first_is = moved.others.first ∙ beside.first_is;

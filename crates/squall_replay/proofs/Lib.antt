@@ -1,4 +1,4 @@
-mod Edits
+pub mod Edits
 mod Same
 mod Alike
 mod Grown

@@ -50,7 +50,7 @@ served serves w p k after a reply stands is h =
     subst (λ v. Step w (Serve p k after) (Served reply) v) step.2 step.1
 
 -- a key that is asked for has the other row, and each other key its own
-alike : {Row : Type 0} (k : ℕ) (rows next : ℕ → Row) → next k ≡ rows k → ((j : ℕ) → j ≢ k → next j ≡ rows j) → (j : ℕ) → next j ≡ rows j
+pub alike : {Row : Type 0} (k : ℕ) (rows next : ℕ → Row) → next k ≡ rows k → ((j : ℕ) → j ≢ k → next j ≡ rows j) → (j : ℕ) → next j ≡ rows j
 alike k rows next own others j = ⊎_elim
     (λ (same : (j == k) ≡ true). subst (λ n. next n ≡ rows n) (sym (eqb-true j k same)) own)
     (λ (apart : (j == k) ≡ false). others j (λ e. both_ways (j == k) apart (eq-eqb j k e)))

@@ -1,4 +1,5 @@
 mod Acts
+mod Called
 mod Firsts
-mod Promised
 mod Standing
+mod Systems

@@ -12,3 +12,4 @@ pub use Rattle.squall_rows.specs.RowSteps
 pub mod Acts
 pub mod Memory
 pub mod Stores
+pub mod Systems

@@ -1,6 +1,7 @@
-//! Tests of stores and of rows in memory, over public names alone. There is nothing here to call.
+//! Tests of stores and of rows in memory, over public names alone, and a client of their theorem.
 #![tactic(auto)]
 
+pub mod clients;
 #[cfg(test)]
 mod example;
 #[cfg(test)]

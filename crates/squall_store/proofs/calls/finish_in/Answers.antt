@@ -1,0 +1,9 @@
+use Rattle.std.proofs.Common.{subst}
+use Rattle.squall_part.specs.Parts.{IsPart}
+use Rattle.squall_store.proofs.Called.{finished}
+use Rattle.squall_store.proofs.calls.finish_in.Goals as goal
+
+pub returns : goal.returns
+returns g c =
+    finished g.D.Rows.run g.D.Rows.row_of c.args.sub c.args.store.now.part c.finish.new.self.part c.args.store.now.rows c.finish.new.self.rows c.finish.result c.finish.ensures.rows
+    c.finish.ensures.answer (subst IsPart c.part.ensures c.known.ensures)
