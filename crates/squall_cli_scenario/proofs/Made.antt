@@ -16,7 +16,7 @@ use Rattle.squall_protocol.specs.Worlds.{WorldValue, SameWorld, most_routers, st
 use Rattle.squall_protocol.specs.Steps.{Step}
 use Rattle.squall_cli_events.specs.declared.events.Unfit.{Unfit}
 use Rattle.squall_cli_events.specs.AnswerText.{answer_line}
-use Rattle.squall_protocol.proofs.Same.{same_world}
+use Rattle.squall_protocol.specs.WorldLaws.{same_world}
 use Rattle.squall_world.specs.declared.steps.WorldFault.{WorldFault}
 use Rattle.squall_world.specs.Nets.{NetValue}
 use Rattle.squall_world.specs.Views.{view}

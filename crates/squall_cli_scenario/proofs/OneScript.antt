@@ -4,7 +4,7 @@ use Rattle.squall_cli_lines.specs.Script.{Script, after}
 use Rattle.squall_cli_lines.specs.Words.{without_cr}
 use Rattle.squall_protocol.specs.declared.event.Event.{Event}
 use Rattle.squall_protocol.specs.Worlds.{WorldValue}
-use Rattle.squall_protocol.proofs.Same.{same_world}
+use Rattle.squall_protocol.specs.WorldLaws.{same_world}
 use Rattle.squall_protocol.proofs.Once.{Once}
 use Rattle.squall_protocol.proofs.OneStep.{one_step}
 use Rattle.squall_cli_events.specs.AnswerText.{answer_line}

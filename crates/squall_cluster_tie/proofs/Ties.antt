@@ -18,7 +18,7 @@ use Rattle.squall_protocol.specs.declared.event.Node.TheVariants.{Router}
 use Rattle.squall_protocol.specs.declared.answer.Answer.TheVariants.{Delivered, Routed}
 use Rattle.squall_protocol.specs.Worlds.{WorldValue, first_course, SameWorld}
 use Rattle.squall_protocol.specs.Steps.{told_to, after_told, DeliverStep, RouteStep}
-use Rattle.squall_protocol.proofs.Same.{same_world}
+use Rattle.squall_protocol.specs.WorldLaws.{same_world}
 use Rattle.squall_cluster_tie.specs.Desks.{StandsFor, IsMessageOf, PublishesByDelivery, LooksByRoute}
 
 same_of : (a b : Queries) → a ≡ b → SameQueries a b

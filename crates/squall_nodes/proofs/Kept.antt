@@ -29,7 +29,7 @@ use Rattle.squall_protocol.specs.Worlds.{WorldValue, first_course, last_course, 
 use Rattle.squall_protocol.specs.Steps.{Step}
 use Rattle.squall_protocol.specs.Promises.{IsReached, Carrier, Carries, IsInFlight, OneCarrier, TrueReports, Happened, opened_of, OneDestination, ChunksHaveNodes, Answers, IsWelcome, IsWelcomeAfter, IsHome, IsDue, RoutedIsLoaded, RoutesAreServed, MovesAreServed, AwaitedComes, OverIsThere, FirstRoutesAreHome, FirstMovesAreDue}
 use Rattle.squall_protocol.specs.Promises.Carrier.{Holder, Flight}
-use Rattle.squall_protocol.proofs.Same.{same_as_itself}
+use Rattle.squall_protocol.specs.WorldLaws.{same_as_itself}
 use Rattle.squall_part.specs.Parts.{PartValue}
 use Rattle.squall_leader.specs.Leaders.{IsOver}
 use Rattle.squall_router.specs.Routers.{course_of_router, route_of_router}

@@ -25,8 +25,7 @@ use Rattle.squall_protocol.specs.declared.answer.Answer.TheVariants.{Delivered}
 use Rattle.squall_protocol.specs.Worlds.{WorldValue, course_at, first_course, pair_at}
 use Rattle.squall_protocol.specs.Steps.{Step, after_told}
 use Rattle.squall_protocol.specs.Promises.{IsReached, TrueReports}
-use Rattle.squall_protocol.proofs.Same.{same_as_itself}
-use Rattle.squall_protocol.proofs.Reached.{reached_step}
+use Rattle.squall_protocol.specs.WorldLaws.{same_as_itself, reached_step}
 use Rattle.squall_router.specs.Routers.{RouterValue, course_of_router}
 use Rattle.squall_nodes.specs.Late.{StandsLate, LateRoutesByStep, LateAbsorbsByStep}
 use Rattle.squall_nodes.proofs.Agree.{queries_join, told_itself, others_stand, beside_told}

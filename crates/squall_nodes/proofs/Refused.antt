@@ -8,7 +8,7 @@ use Rattle.squall_protocol.specs.declared.answer.Refusal.{Refusal}
 use Rattle.squall_protocol.specs.declared.answer.Refusal.TheVariants.{NoSuch, NotDone, NoMore, Running, NoNumber, NotOpen, NothingLeft, ZeroMax, NotOutgoing, Given, NotHeld, Stranger, NotAll, NothingDue, NotKnown}
 use Rattle.squall_protocol.specs.Worlds.{WorldValue, SameWorld}
 use Rattle.squall_protocol.specs.Steps.{Step}
-use Rattle.squall_protocol.proofs.Same.{same_world}
+use Rattle.squall_protocol.specs.WorldLaws.{same_world}
 use Rattle.squall_nodes.specs.Standing.{Becomes, refused}
 
 refused_same : (w v : WorldValue) (event : Event) (e : Refusal) → Step w event (Refused e) v → SameWorld v w

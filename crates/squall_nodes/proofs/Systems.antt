@@ -27,8 +27,7 @@ use Rattle.squall_protocol.specs.declared.answer.Answer.TheVariants.{Sent, Deliv
 use Rattle.squall_protocol.specs.Worlds.{WorldValue, first_course, is_node, start}
 use Rattle.squall_protocol.specs.Steps.{IsPlan, IsPartOf, Step, Run}
 use Rattle.squall_protocol.specs.Promises.{IsReached}
-use Rattle.squall_protocol.proofs.Same.{same_as_itself}
-use Rattle.squall_protocol.proofs.Reached.{reached_start, reached_step, run_more}
+use Rattle.squall_protocol.specs.WorldLaws.{same_as_itself, reached_start, reached_step, run_more}
 use Rattle.squall_protocol.proofs.Parts.{part_first}
 use Rattle.squall_part.specs.Parts.{PartValue, IsPart, new_part}
 use Rattle.squall_replay.specs.Calls.{IsSamePart}

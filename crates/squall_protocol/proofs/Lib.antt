@@ -7,7 +7,6 @@ pub mod Known
 pub mod Parts
 pub mod Lists
 pub mod Threes
-pub mod Same
 pub mod Chain
 pub mod Places
 pub mod Says
@@ -18,7 +17,6 @@ pub mod Open
 pub mod Begin
 pub mod Changes
 pub mod Runs
-pub mod Reached
 pub mod Start
 pub mod Carriers
 pub mod Had

@@ -5,7 +5,7 @@ use Rattle.squall_protocol.specs.declared.event.Event.TheVariants.{OpenNext, Beg
 use Rattle.squall_protocol.specs.declared.answer.Answer.{Answer}
 use Rattle.squall_protocol.specs.Worlds.{WorldValue, SameWorld}
 use Rattle.squall_protocol.specs.Steps.{Step, Run}
-use Rattle.squall_protocol.proofs.Same.{same_world}
+use Rattle.squall_protocol.specs.WorldLaws.{same_world}
 use Rattle.squall_protocol.proofs.Once.{Once, agree}
 use Rattle.squall_protocol.proofs.OneLead.{one_open, one_begin}
 use Rattle.squall_protocol.proofs.OneGift.{one_give}

@@ -16,7 +16,7 @@ use Rattle.squall_protocol.specs.declared.answer.Refusal.TheVariants.{NoSuch, No
 use Rattle.squall_protocol.specs.Worlds.{WorldValue, SameWorld, WasBegun, pair_at}
 use Rattle.squall_protocol.specs.Steps.{after_open, after_begin, after_give, after_load, after_told, OpenStep, BeginStep, GiveStep, GiveAtStep, LoadStep, FinishStep, SendStep, SendPartStep, IsPartOf, DeliverStep, RouteStep, ServeStep, Step, Run}
 use Rattle.squall_protocol.proofs.Kept.{TrueFacts, Kept}
-use Rattle.squall_protocol.proofs.Same.{same_world}
+use Rattle.squall_protocol.specs.WorldLaws.{same_world}
 use Rattle.squall_protocol.proofs.Later.{Later, later_trans, later_by}
 use Rattle.squall_protocol.proofs.Changes.{WorldChange, stays, opens, begins, sends, tells, after_send, first_change, one_change, load_change, finish_change, later_change, keeps_change}
 

@@ -15,7 +15,7 @@ use Rattle.squall_protocol.specs.Knowledge.{part_in, comes_in, is_missing}
 use Rattle.squall_protocol.specs.Steps.{IsPlan, after_told, IsOpenAt}
 use Rattle.squall_protocol.specs.Acts.{HasAnswer}
 use Rattle.squall_protocol.proofs.Kept.{Kept}
-use Rattle.squall_protocol.proofs.Same.{same_as_itself}
+use Rattle.squall_protocol.specs.WorldLaws.{same_as_itself}
 use Rattle.squall_protocol.proofs.Search.{LeastTrue, least_true, some_run}
 use Rattle.squall_protocol.proofs.SomeCourse.{some_course, course_plans}
 use Rattle.squall_protocol.proofs.SomeLead.{incoming_key}

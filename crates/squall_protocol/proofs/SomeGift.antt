@@ -19,7 +19,7 @@ use Rattle.squall_protocol.specs.Acts.{HasAnswer}
 use Rattle.squall_protocol.proofs.Changes.{in_span}
 use Rattle.squall_protocol.proofs.Courses.{is_outgoing_so, moves_is, moving_key, single_dest}
 use Rattle.squall_protocol.proofs.Kept.{Kept}
-use Rattle.squall_protocol.proofs.Same.{same_as_itself}
+use Rattle.squall_protocol.specs.WorldLaws.{same_as_itself}
 use Rattle.squall_protocol.proofs.Search.{LeastTrue, least_true, some_first}
 use Rattle.squall_protocol.proofs.SomeCourse.{zero_or_more, some_course, course_plans}
 

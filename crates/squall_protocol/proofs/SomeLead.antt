@@ -17,7 +17,7 @@ use Rattle.squall_protocol.specs.Steps.{IsWanting, NoneWanting, IsOver, IsPlan, 
 use Rattle.squall_protocol.specs.Acts.{HasAnswer}
 use Rattle.squall_protocol.proofs.Courses.{is_incoming_so, moving_key, named_owner}
 use Rattle.squall_protocol.proofs.Kept.{Kept}
-use Rattle.squall_protocol.proofs.Same.{same_as_itself}
+use Rattle.squall_protocol.specs.WorldLaws.{same_as_itself}
 use Rattle.squall_protocol.proofs.Search.{Decided, least_below, least_true}
 use Rattle.squall_protocol.proofs.SomeCourse.{zero_or_more}
 

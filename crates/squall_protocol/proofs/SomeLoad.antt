@@ -19,7 +19,7 @@ use Rattle.squall_protocol.proofs.Changes.{in_span}
 use Rattle.squall_protocol.proofs.Courses.{moves_is}
 use Rattle.squall_protocol.proofs.Kept.{IsGiven, Kept}
 use Rattle.squall_protocol.proofs.Known.{known_course}
-use Rattle.squall_protocol.proofs.Same.{same_as_itself}
+use Rattle.squall_protocol.specs.WorldLaws.{same_as_itself}
 use Rattle.squall_protocol.proofs.Search.{least_true}
 
 -- there is something, or nothing

@@ -16,7 +16,7 @@ use Rattle.squall_protocol.specs.Steps.{after_told}
 use Rattle.squall_protocol.specs.Acts.{HasAnswer}
 use Rattle.squall_protocol.proofs.Changes.{after_send}
 use Rattle.squall_protocol.proofs.Kept.{Kept}
-use Rattle.squall_protocol.proofs.Same.{same_as_itself}
+use Rattle.squall_protocol.specs.WorldLaws.{same_as_itself}
 use Rattle.squall_protocol.proofs.SomeCourse.{some_course}
 use Rattle.squall_protocol.proofs.SomeLoad.{some_or_none}
 use Rattle.squall_protocol.proofs.SomePart.{part_decided}

@@ -16,7 +16,7 @@ use Rattle.squall_protocol.specs.Acts.{HasAnswer}
 use Rattle.squall_protocol.proofs.Kept.{Kept}
 use Rattle.squall_protocol.proofs.Known.{known_course}
 use Rattle.squall_protocol.proofs.OneReply.{same_change}
-use Rattle.squall_protocol.proofs.Same.{same_as_itself}
+use Rattle.squall_protocol.specs.WorldLaws.{same_as_itself}
 use Rattle.squall_protocol.proofs.Search.{Decided, decided_test, decided_both, some_greatest}
 use Rattle.squall_protocol.proofs.SomeCourse.{some_course}
 use Rattle.squall_protocol.proofs.SomeLoad.{some_or_none, none_is_some}

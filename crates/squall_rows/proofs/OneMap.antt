@@ -14,8 +14,7 @@ use Rattle.squall_protocol.specs.Promises.{IsReached, Holder, Flight, OneCarrier
 use Rattle.squall_rows.specs.Rows.{RowsValue, Starts}
 use Rattle.squall_rows.specs.RowSteps.{Act, Outcome, Plain, Ask, Restart, Answered, Ran, Back, RowStep, RowRun}
 use Rattle.squall_rows.specs.OneMap.{first_map, after_one, after_all, IsMapReply, AreMapReplies, RepliesOfOneMap, RowsOfOneMap}
-use Rattle.squall_protocol.proofs.Same.{same_world}
-use Rattle.squall_protocol.proofs.Reached.{reached_start, reached_step}
+use Rattle.squall_protocol.specs.WorldLaws.{same_world, reached_start, reached_step}
 use Rattle.squall_rows.proofs.Quiet.{HasRows, unchanged, quiet_rows}
 use Rattle.squall_rows.proofs.Plain.{plain_rows}
 use Rattle.squall_rows.proofs.Ran.{ran_reply, ran_rows}

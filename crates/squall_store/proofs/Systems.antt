@@ -17,8 +17,7 @@ use Rattle.squall_protocol.specs.declared.answer.Answer.TheVariants.{Served}
 use Rattle.squall_protocol.specs.Worlds.{WorldValue, SameWorld, start}
 use Rattle.squall_protocol.specs.Steps.{Step}
 use Rattle.squall_protocol.specs.Promises.{IsReached, IsInFlight, Carrier, Carries, Holder, Flight}
-use Rattle.squall_protocol.proofs.Same.{same_world, same_as_itself}
-use Rattle.squall_protocol.proofs.Reached.{reached_step}
+use Rattle.squall_protocol.specs.WorldLaws.{same_world, same_as_itself, reached_step}
 use Rattle.squall_protocol.proofs.Start.{kept_always}
 use Rattle.squall_protocol.proofs.Later.{Later, later_by}
 use Rattle.squall_protocol.proofs.Runs.{later_step}

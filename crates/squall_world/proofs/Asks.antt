@@ -9,7 +9,7 @@ use Rattle.squall_protocol.specs.declared.event.Event.TheVariants.{Route, Serve}
 use Rattle.squall_protocol.specs.declared.answer.Answer.{Answer}
 use Rattle.squall_protocol.specs.declared.answer.Answer.TheVariants.{Routed, Served, Refused}
 use Rattle.squall_protocol.specs.Steps.{Step, RouteStep, ServeStep}
-use Rattle.squall_protocol.proofs.Same.{same_as_itself}
+use Rattle.squall_protocol.specs.WorldLaws.{same_as_itself}
 use Rattle.squall_nodes.specs.Standing.{StandsForRouter}
 use Rattle.squall_nodes.proofs.Agree.{same_by}
 use Rattle.squall_nodes.proofs.Gifts.{serves_by_step}

@@ -5,7 +5,7 @@ use Rattle.squall_protocol.specs.declared.event.Event.{Event}
 use Rattle.squall_protocol.specs.declared.answer.Answer.{Answer}
 use Rattle.squall_protocol.specs.Worlds.{most_routers}
 use Rattle.squall_protocol.specs.Steps.{Step}
-use Rattle.squall_protocol.proofs.Reached.{reached_step}
+use Rattle.squall_protocol.specs.WorldLaws.{reached_step}
 use Rattle.squall_world.specs.declared.steps.WorldFault.TheVariants.{NoMemory, TooManyRouters}
 use Rattle.squall_world.specs.Nets.{NetValue, IsNet}
 use Rattle.squall_world.specs.Views.{view}

@@ -5,8 +5,7 @@ use Rattle.squall_protocol.specs.declared.event.Event.{Event}
 use Rattle.squall_protocol.specs.declared.answer.Answer.{Answer}
 use Rattle.squall_protocol.specs.Worlds.{WorldValue}
 use Rattle.squall_protocol.specs.Steps.{Step, Run}
-use Rattle.squall_protocol.proofs.Same.{same_as_itself}
-use Rattle.squall_protocol.proofs.Reached.{run_more}
+use Rattle.squall_protocol.specs.WorldLaws.{same_as_itself, run_more}
 use Rattle.squall_world.specs.Runs.{IsRun}
 
 -- no event

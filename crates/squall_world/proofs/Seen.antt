@@ -15,7 +15,7 @@ use Rattle.squall_protocol.specs.declared.answer.Answer.TheVariants.{Refused}
 use Rattle.squall_protocol.specs.declared.answer.Refusal.{Refusal}
 use Rattle.squall_protocol.specs.Worlds.{WorldValue, SameWorld, same_node}
 use Rattle.squall_protocol.specs.Steps.{Step, told_to}
-use Rattle.squall_protocol.proofs.Same.{same_as_itself, same_world}
+use Rattle.squall_protocol.specs.WorldLaws.{same_as_itself, same_world}
 use Rattle.squall_nodes.specs.Standing.{StandsForPart, Becomes, refused}
 use Rattle.squall_nodes.proofs.Agree.{same_by, same_refl}
 use Rattle.squall_nodes.proofs.Refused.{refused_step}

@@ -25,7 +25,7 @@ use Rattle.squall_leader.specs.Leaders.{IsLeader, new_leader, issue_report}
 use Rattle.squall_protocol.specs.declared.event.Node.{Node}
 use Rattle.squall_protocol.specs.declared.event.Node.TheVariants.{Leader, Part, Router}
 use Rattle.squall_protocol.specs.Worlds.{SameWorld, start, first_parts, first_facts}
-use Rattle.squall_protocol.proofs.Reached.{reached_start}
+use Rattle.squall_protocol.specs.WorldLaws.{reached_start}
 use Rattle.squall_world.specs.declared.peer.Role.TheVariants.{Leader as LeaderRole, Router as RouterRole}
 use Rattle.squall_world.specs.Nets.{PeerValue, NetValue, IsNet, IsRole, IsRouterAt, ArePlaced, new_peer, place_of, peer_of, at_place, is_part_peer}
 use Rattle.squall_world.specs.Views.{view, id_of, ids_in, part_of, facts_of, held_by, given_under, loaded_under}
