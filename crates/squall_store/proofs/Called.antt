@@ -111,6 +111,11 @@ finished run row_of sub a b before after r same h part first s p is = (
   record { part = part_put p b s.nodes.parts; has_rows = λ k. is.has_rows k ∙ ap (λ d. row_of d k) (sym same) },
 )
 
+-- what holds anyhow holds after an answer
+pub anyhow : {A E : Type 0} {P : Type 0} (r : Result A E) → P → OnOk r P
+anyhow (Ok x) h = h
+anyhow (Err e) h = tt
+
 pub absorbed : {Row Command Reply D A E : Type 0} (run : Command → Row → Row × Reply) (row_of : D → ℕ → Row) (r : Result A E) (a b : PartValue) (before after : D) (said : BoardValue)
     → after ≡ before → OnOk r (TakesBoard a.board said b.board) → b ≡ record a { board = b.board; logs = b.logs } → ((n : ℕ) → given_by b n ≡ given_by a n) → ((n : ℕ) → loaded_by b n ≡ loaded_by a n) → OnOk r (IsPart b)
     → OnOk r ((first : Change) (s : StoresValue Row) (p i : ℕ) → IsStoreIn s p a (row_of before) → slice_get s.nodes.messages i ≡ Some said

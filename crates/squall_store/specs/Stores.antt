@@ -1,5 +1,7 @@
 -- What a partition with rows does (this project: a reply, a gift and a load of a partition, and what becomes of its rows then).
-use Rattle.std.specs.Prelude.{◌≡◌, ◌≢◌, ℕ, true, false, Result, Err}
+use Rattle.std.specs.Prelude.{◌≡◌, ◌≢◌, ℕ, true, false, List, Result, Err, Some, take}
+use Rattle.std.specs.List.{slice_get, AllByRecursion}
+use Rattle.squall_errand.specs.declared.errand.Reply.{Reply}
 use Rattle.squall_span.specs.Spans.{has}
 use Rattle.squall_errand.specs.declared.errand.Reply.TheVariants.{Held}
 use Rattle.squall_protocol.specs.Chunks.{ChunkValue}
@@ -36,3 +38,17 @@ NewRowsAre copied p c after = (k : ℕ) → is_new p c k ≡ true → after k �
 -- a key that is not new keeps its row, also if the partition holds it
 abbrev pub OthersStay : {Row : Type 0} → PartValue → ChunkValue → (ℕ → Row) → (ℕ → Row) → Type 0
 OthersStay p c before after = (k : ℕ) → is_new p c k ≡ false → after k ≡ before k
+
+-- ---- several keys
+
+-- the partition holds each of these keys
+abbrev pub HoldsAll : PartValue → List ℕ → Type 0
+HoldsAll p keys = AllByRecursion (λ k. has p.held k ≡ true) keys
+
+-- the key at that place is the first of these that the partition does not hold, and that is its reply
+pub record IsFirstNotHeld (p : PartValue) (keys : List ℕ) (number at : ℕ) (reply : Reply) : Type 0 where
+  pub key : ℕ
+  pub there : slice_get keys at ≡ Some key
+  pub replied : IsReply p key number reply
+  pub other : reply ≢ Held
+  pub before : HoldsAll p (take at keys)

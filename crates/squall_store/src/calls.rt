@@ -94,7 +94,7 @@ pub fn absorb_in<D: Rows>(store: &mut Store<D>, delta: &Delta) -> Result<(), All
         → slice_get s.nodes.messages i ≡ Some delta.now
         → IsCalledIn D.run first s [] (with_partition s p store.new.part) p store.new.part (D.row_of store.new.rows)) }
 {
-    store.absorb(delta)?;
+    let absorbed = store.absorb(delta);
     store.part().known();
-    Ok(())
+    absorbed
 }

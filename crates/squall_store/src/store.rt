@@ -1,12 +1,12 @@
 //! A partition with its rows.
 
-ghost use Rattle.std.specs.Prelude.{◌≡◌, ◌≢◌, ℕ, true, IfOk, OnOk, OnErr};
+ghost use Rattle.std.specs.Prelude.{◌≡◌, ◌≢◌, ℕ, true, IfOk, OnOk, OnErr, IfSome, IfNone};
 ghost use Rattle.squall_span.specs.Spans.{span_has};
 ghost use Rattle.squall_board.specs.Takes.{TakesBoard};
 ghost use Rattle.squall_part.specs.Parts.{given_by, loaded_by};
 ghost use Rattle.squall_part.specs.Giving.{IsGiven, IsGivenAt};
 ghost use Rattle.squall_part.specs.Loading.{IsFinished};
-ghost use Rattle.squall_store.specs.Stores.{IsAsked, IsAnswered, NewRowsAre, OthersStay};
+ghost use Rattle.squall_store.specs.Stores.{IsAsked, IsAnswered, NewRowsAre, OthersStay, HoldsAll, IsFirstNotHeld};
 
 use crate::rows::Rows;
 use squall_board::Delta;
@@ -84,6 +84,24 @@ impl<D: Rows> Store<D> {
             Reply::Held => Ok(Asked::Ran(self.rows.run(key, command)?)),
             reply => Ok(Asked::NotHeld(reply)),
         }
+    }
+
+    /// The first of these keys that the partition does not hold, by its place, and the partition's
+    /// reply. None means that it holds them all. Then each command on them runs, until keys are given.
+    ///
+    /// So a host does commands on several keys as one transaction: under one lock it asks this, and
+    /// then does one command after another. In a run they stand side by side.
+    pub fn first_not_held(&self, keys: &[Key], after: u32) -> Option<(usize, Reply)>
+        ensures held { IfNone result (HoldsAll self.now.part keys.now) }
+        ensures first { IfSome result (λ r. IsFirstNotHeld self.now.part keys.now after r.0 r.1) }
+    {
+        for (at, key) in keys.iter().enumerate() {
+            match self.part.serve(*key, after) {
+                Reply::Held => {}
+                reply => return Some((at, reply)),
+            }
+        }
+        None
     }
 
     /// Gives keys, as the partition does. Their rows stay here as they are, and no command runs on

@@ -7,4 +7,6 @@ mod example;
 #[cfg(test)]
 mod memory;
 #[cfg(test)]
+mod several;
+#[cfg(test)]
 mod stores;
