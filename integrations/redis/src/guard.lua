@@ -12,6 +12,10 @@
 -- squall:edge    of a move's LO the rank below which its keys were given (out) or loaded (in)
 -- squall:forgot  of a move's LO the rank below which the source has unlinked what it gave
 -- squall:gone    of a move's LO how many rows the source has unlinked
+-- squall:put     of a move's LO the highest generation of its source with which a row was put
+-- squall:arrived the rank and the name of each row that was put and is not loaded
+-- squall:back    of a move's LO the generation of its source up to which nothing counts any more that is not loaded: the source
+--                takes it back
 --
 -- So that a partition that comes back with less is found out, and no other one forgets what it was told:
 --
@@ -34,6 +38,8 @@ local function read_move(text)
     lo = lo, hi = hi, role = role, peer = peer,
     edge = redis.call('HGET', 'squall:edge', lo) or lo,
     forgot = redis.call('HGET', 'squall:forgot', lo) or lo,
+    put = tonumber(redis.call('HGET', 'squall:put', lo) or 0),
+    back = tonumber(redis.call('HGET', 'squall:back', lo) or -1),
   }
 end
 
@@ -97,7 +103,8 @@ local function say(course, rank)
   elseif move.role == 'out' and rank < move.edge then
     return 'MOVED ' .. move.peer .. ' ' .. course.number
   elseif move.role == 'in' and rank >= move.edge then
-    return 'PENDING ' .. move.peer
+    -- What goes back to its source does not come, until a row of it is put once more.
+    return (move.put > move.back and 'PENDING ' or 'ELSEWHERE ') .. move.peer
   end
 end
 
@@ -254,7 +261,8 @@ redis.register_function({
 -- Begins it: the same arguments as squall_begin has.
 local function begin(args)
   kept = nil
-  redis.call('DEL', 'squall:moves', 'squall:edge', 'squall:forgot', 'squall:gone')
+  redis.call('DEL', 'squall:moves', 'squall:edge', 'squall:forgot', 'squall:gone', 'squall:put', 'squall:back')
+  redis.call('UNLINK', 'squall:arrived')
   redis.call('MSET', 'squall:number', args[1], 'squall:old', args[2], 'squall:new', args[3])
   for at = 5, #args do
     redis.call('RPUSH', 'squall:moves', args[at])
@@ -324,66 +332,3 @@ local function step(args, move, name, key, has_changed)
   see(args, 4)
   return redis.status_reply(move[name] .. ' ' .. (redis.call('GET', 'squall:generation') or '0'))
 end
-
--- NUMBER LO EDGE [PART GENERATION]: the keys of the move from LO on, below EDGE, are given. Never undone.
-redis.register_function({
-  function_name = 'squall_give',
-  flags = { 'allow-oom' },
-  callback = function(_, args)
-    local move, refused = own_move(args, 'out')
-    return refused or step(args, move, 'edge', 'squall:edge')
-  end,
-})
-
--- NUMBER LO EDGE [PART GENERATION]: they are loaded. Never undone.
-redis.register_function({
-  function_name = 'squall_load',
-  flags = { 'allow-oom' },
-  callback = function(_, args)
-    local move, refused = own_move(args, 'in')
-    return refused or step(args, move, 'edge', 'squall:edge')
-  end,
-})
-
--- A key; NUMBER RANK, when it ends, its DUMP, and [PART GENERATION] of its give: puts it where it comes to, unless it
--- was loaded.
-redis.register_function('squall_put', function(keys, args)
-  local course = known()
-  if args[1] ~= course.number then
-    return refuse('COURSE ' .. course.number)
-  end
-  local move = move_at(course, args[2])
-  if not move or move.role ~= 'in' then
-    return refuse('STRANGER')
-  elseif args[2] < move.edge then
-    return redis.status_reply('loaded')
-  end
-  local late = before(args[5], args[6])
-  if late then
-    return late
-  end
-  redis.call('RESTORE', keys[1], args[3], args[4], 'REPLACE', 'ABSTTL')
-  return redis.status_reply('put')
-end)
-
--- Keys that were given and loaded; NUMBER LO EDGE [PART GENERATION]: unlinks them. All below EDGE are forgotten then.
-redis.register_function({
-  function_name = 'squall_forget',
-  flags = { 'allow-oom' },
-  callback = function(keys, args)
-    local move, refused = own_move(args, 'out')
-    if refused then
-      return refused
-    elseif args[3] > move.edge then
-      return refuse('STRANGER')
-    end
-    local count = 0
-    for _, key in ipairs(keys) do
-      count = count + redis.call('UNLINK', key)
-    end
-    if count > 0 then
-      redis.call('HINCRBY', 'squall:gone', move.lo, count)
-    end
-    return step(args, move, 'forgot', 'squall:forgot', count > 0)
-  end,
-})

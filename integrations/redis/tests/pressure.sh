@@ -188,17 +188,92 @@ test_keys_that_can_not_be_moved() {
   redis-cli -p "$to" del 630:1 | grep -qx 1 && move 2 old new && move 3 new old && agrees 2 3 630:1
 }
 
-# A key that is seen to be too large only once it was given is named with each run, until it is deleted at its source.
+# A key that is seen to be too large only once it was given goes back to its source with the rest of its chunk, and is served
+# there.
 test_keys_that_grow() {
-  local to key at
+  local to key at rest
   deploy && redis-cli -p "${servers[2]}" config set proto-max-bulk-len 1mb || return
   to=${proxies[0]}
   for at in $(seq 500 670); do echo "set $at:0 x"; done | redis-cli -p "$to" > "$run/set"
   put_skewed "${servers[1]}" || return
-  names "$key" && grep -q "nobody serves it: delete it at partition 2 itself" "$run/named" || return
-  agrees 3 2 619:0 && redis-cli -p "$to" get 619:0 | grep -qx x && redis-cli -p "$to" get 660:0 | grep -qx x || return
-  names "$key" && redis-cli -p "${servers[1]}" del "$key" && move 2 old new && agrees 3 2 660:0 || return
-  redis-cli -p "$to" exists "$key" | grep -qx 0
+  # One of the same chunk.
+  rest=62${key#62}9
+  redis-cli -p "$to" set "$rest" x
+  names "$key" && grep -q "it stays there, and is served: delete it or raise" "$run/named" || return
+  agrees 3 2 619:0 && agrees 2 2 "$key" && redis-cli -p "$to" get "$rest" | grep -qx x || return
+  redis-cli -p "$to" hlen "$key" | grep -qx 2501 && redis-cli -p "$to" get 660:0 | grep -qx x || return
+  # Each run tries it.
+  names "$key" && redis-cli -p "$to" set "$rest" y && redis-cli -p "$to" del 619:0 "$key" | grep -qx 2 || return
+  move 2 old new && agrees 3 2 660:0 && redis-cli -p "$to" get "$rest" | grep -qx y || return
+  redis-cli -p "$to" exists "$key" 619:0 | grep -qx 0
+}
+
+# A mover that has ended between the two steps by which a chunk goes back is finished by the next one. What clients do
+# meanwhile at the source is what they find in the end: no row that was put before comes again.
+test_chunk_that_is_half_back() {
+  local to at lo=000001f400000000 edge=0000025900000000 own
+  deploy || return
+  to=${proxies[0]}
+  for at in $(seq 500 670); do echo "set $at:0 x"; done | redis-cli -p "$to" > "$run/set"
+  redis-cli -p "${servers[2]}" config set proto-max-bulk-len 1mb
+  noise 1500000 | redis-cli -p "$to" -x set 500:0 && names 500:0 || return
+  redis-cli -p "${servers[1]}" fcall squall_give 0 2 "$lo" "$edge" | grep -qx "$edge" || return
+  own=$(redis-cli -p "${servers[1]}" get squall:generation)
+  redis-cli -p "${servers[2]}" fcall squall_back 0 2 "$lo" "$lo" 2 "$own" | grep -q "^$lo " || return
+  redis-cli -p "${servers[2]}" fcall squall_load 0 2 "$lo" "$edge" 2 "$own" | grep -q "SQUALL BACK 2" || return
+  names 500:0 && redis-cli -p "$to" get 600:0 | grep -qx x && redis-cli -p "$to" del 600:0 500:0 | grep -qx 2 || return
+  redis-cli -p "${servers[2]}" fcall squall_load 0 2 "$lo" "$edge" 2 "$own" | grep -q "SQUALL BACK 2" || return
+  move 2 old new && agrees 3 2 600:0 && redis-cli -p "$to" exists 600:0 | grep -qx 0 && redis-cli -p "$to" get 601:0 | grep -qx x
+}
+
+# Rows that their destination refuses for good go back, and are served. Two movers at once do no harm, nor one that is
+# killed: the right of the partition to restore comes and goes.
+test_chunks_that_go_back() {
+  local id to at
+  deploy || return
+  to=${servers[2]}
+  start_load 30000 --pause 2000 --tolerant
+  await has_keys "${servers[0]}" 400 && await has_keys "${servers[1]}" 400 || return
+  redis-cli -p "$to" acl setuser default -restore
+  move 2 old new > "$run/named" 2>&1
+  [ $? -eq 1 ] || { cat "$run/named"; return 1; }
+  grep -c "is refused by partition 3: .*it stays there, and is served" "$run/named" || { cat "$run/named"; return 1; }
+  agrees 1 2 499:0 && agrees 2 2 600:0 || return
+  touch "$run/refusing"
+  refuse_at_times "$to" &
+  local refuser=$!
+  move_till_done 2 old new > "$run/other" 2>&1 &
+  local other=$!
+  move_till_done 2 old new || { cat "$run/mover"; return 1; }
+  wait "$other" || { cat "$run/other"; return 1; }
+  rm "$run/refusing"
+  wait "$refuser"
+  at=$(redis-cli -p "$to" hlen squall:back)
+  echo "$at moves had chunks that went back"
+  [ "$at" -gt 0 ] && end_load && has_moved && agrees 3 2
+}
+
+# Takes a partition the right to restore, and gives it that again, while $run/refusing is there.
+refuse_at_times() {
+  while [ -e "$run/refusing" ]; do
+    redis-cli -p "$1" acl setuser default -restore
+    sleep "0.0$((RANDOM % 9))"
+    redis-cli -p "$1" acl setuser default +restore
+    sleep "0.$((RANDOM % 4))$((RANDOM % 10))"
+  done > "$run/refused"
+  redis-cli -p "$1" acl setuser default +restore
+}
+
+# Begins a mover again and again until all has moved. Some of them are killed.
+move_till_done() {
+  local id status=1
+  for _ in $(seq 200); do
+    start_move "$@" --pause 20
+    sleep "0.$((RANDOM % 10))"
+    [ $((RANDOM % 3)) -gt 0 ] || kill -KILL "$id"
+    wait "$id" && status=0 && break
+  done 2> /dev/null
+  return "$status"
 }
 
 # Cuts connections of the operator at random, those of the mover, while $run/cutting is there. How often comes into

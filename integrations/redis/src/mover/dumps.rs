@@ -1,6 +1,9 @@
 //! Dumps of keys, as a source gives them and a destination takes them.
 
+use super::sizes::Why;
+use crate::conn::passes;
 use crate::resp::Value;
+use squall::Rank;
 
 /// How many keys are copied at once at most, and about how many bytes of them. Both servers and the mover
 /// hold them meanwhile.
@@ -9,12 +12,32 @@ const BYTES: usize = 8 << 20;
 /// What `PEXPIRETIME` says of a key that is not there.
 const GONE: i64 = -2;
 
-/// What was copied: how many bytes, and which of the keys is too large, and how large, if one is. Those before it were
-/// copied.
+/// What was copied: how many bytes, and which of the keys can't be, if one can't. Those before it were copied.
 #[derive(Default)]
 pub struct Copied {
     pub bytes: usize,
-    pub too_large: Option<(usize, u64)>,
+    pub left: Option<(usize, Why)>,
+}
+
+/// Up to where all keys of a span were copied: its end, or the key that is left.
+pub struct Put {
+    pub end: Rank,
+    pub left: Option<(Vec<u8>, Why)>,
+}
+
+/// Of the answers to puts the first one that refuses a row for good, by its place, and those that are no such refusals. A
+/// refusal by the partition's own functions is none: it holds of all rows.
+pub fn split(said: Vec<Value>) -> (Option<(usize, String)>, Vec<Value>) {
+    let (mut refused, mut rest) = (None, Vec::new());
+    for (at, value) in said.into_iter().enumerate() {
+        match value {
+            Value::Error(error) if !passes(&error) && !error.starts_with("SQUALL ") => {
+                refused = refused.or(Some((at, error)));
+            }
+            value => rest.push(value),
+        }
+    }
+    (refused, rest)
 }
 
 /// How many keys are copied at once after so many that had that many bytes: at most twice as many.
@@ -41,6 +64,16 @@ mod tests {
         assert_eq!([next_block(1, 100), next_block(16, 1600), next_block(64, 6400)], [2, 32, 64]);
         assert_eq!([next_block(64, 64 << 20), next_block(8, 80 << 20), next_block(1, 100 << 20)], [8, 1, 1]);
         assert_eq!(next_block(3, 0), 6);
+    }
+
+    #[test]
+    fn rows_that_are_refused_are_told_from_servers_that_refuse() {
+        let error = |text: &str| Value::Error(text.into());
+        let put = || Value::Status("put".into());
+        let said = vec![put(), error("OOM x"), error("ERR Bad"), error("SQUALL BACK 2"), error("ERR other")];
+        let (refused, rest) = split(said);
+        assert_eq!(refused, Some((2, "ERR Bad".to_string())));
+        assert_eq!(rest, [put(), error("OOM x"), error("SQUALL BACK 2")]);
     }
 
     #[test]

@@ -1,19 +1,19 @@
 //! The moves of one source in a sub-plan, chunk by chunk.
 
 use super::disk::{Disk, Loaded};
-use super::dumps::{dumped, next_block, Copied};
+use super::dumps::{dumped, next_block, split, Copied, Put};
 use super::index::{Index, Ranked};
 use super::pace::Pace;
 use super::partition::Partition;
 use super::progress::Progress;
-use super::sizes::{AllStuck, Sizes, Stuck};
+use super::sizes::{AllStuck, Sizes, Why};
 use super::state::State;
 use super::steps::Step;
 use crate::bus::Node;
 use crate::conn::Server;
 use crate::course::Move;
 use crate::fault::{Done, Fault};
-use crate::{keymap, stop};
+use crate::stop;
 use squall::Rank;
 use std::collections::BTreeMap;
 use std::ops::Range;
@@ -46,22 +46,22 @@ pub struct Job<'a> {
 
 /// How long the news of new keys may wait to be heard.
 const NEWS: Duration = Duration::from_secs(1);
-/// How many keys are looked at together, to name those that are too large.
-const LOOKED: usize = 1000;
 /// How many chunks are reported before the whole board is sent.
 const CHUNKS: usize = 1000;
 
 /// A source and its one destination.
-struct Feeder<'a> {
-    job: &'a Job<'a>,
-    source: Partition,
-    dest: Partition,
+pub struct Feeder<'a> {
+    pub(super) job: &'a Job<'a>,
+    pub(super) source: Partition,
+    pub(super) dest: Partition,
     disk: Disk,
-    index: Index,
-    sizes: Sizes,
+    pub(super) index: Index,
+    pub(super) sizes: Sizes,
     /// Below it the keys of the move were given, and whether it can't go on.
-    given: Rank,
-    is_stuck: bool,
+    pub(super) given: Rank,
+    pub(super) is_stuck: bool,
+    /// Whether the source may have back what the destination can't load.
+    pub(super) may_give_back: bool,
     /// How many keys are copied at once.
     block: usize,
     chunks: usize,
@@ -82,6 +82,7 @@ impl Job<'_> {
                 return Err(Fault::new(format!("no move begins at {}", it.lo)));
             };
             (feeder.given, feeder.is_stuck) = (source.edge, false);
+            feeder.finish_back(it, dest.edge)?;
             let step = Step { edge: dest.edge, generation: loaded.generation };
             feeder.run(it, source.forgot, step)?;
         }
@@ -105,9 +106,13 @@ impl Job<'_> {
             return Ok(());
         }
         let mut feeder = self.feeder(moves, first)?;
+        // Routers may know of a load that the destination has lost.
+        feeder.may_give_back = false;
         for (it, loaded) in missing {
             feeder.given = it.hi;
-            feeder.carry(&it, loaded)?;
+            if !feeder.finish_back(&it, loaded)? {
+                feeder.carry(&it, loaded)?;
+            }
         }
         // What is too large stays where it is, and nobody is let in at its destination.
         self.stuck.check(self.number)
@@ -124,6 +129,7 @@ impl Job<'_> {
             dest,
             given: first.lo,
             is_stuck: false,
+            may_give_back: true,
             block: 1,
             chunks: 0,
         })
@@ -143,7 +149,7 @@ impl Job<'_> {
     }
 
     /// Nothing, unless the mover was asked to end, or begins again.
-    fn check(&self) -> Done<()> {
+    pub(super) fn check(&self) -> Done<()> {
         stop::check()?;
         if self.is_over.load(Relaxed) {
             return Err(Fault::lost("another source has lost a connection"));
@@ -207,7 +213,7 @@ impl Feeder<'_> {
     }
 
     /// How many keys the next chunk has. At a low rate it is a tenth of a second's, so that no keys wait for long.
-    fn chunk_size(&self) -> usize {
+    pub(super) fn chunk_size(&self) -> usize {
         match self.job.pace.rate() {
             0 => self.job.chunk,
             rate => self.job.chunk.min((rate / 10).max(1) as usize),
@@ -228,80 +234,23 @@ impl Feeder<'_> {
         Ok(loaded)
     }
 
-    /// Gives, copies and loads a chunk: up to where it was put, and how far keys are loaded then. None if its first key
-    /// can't be moved.
-    fn carry(&mut self, it: &Move, lo: Rank) -> Done<Option<(Rank, Step)>> {
-        let wanted = self.next_end(it, lo)?;
-        let given = self.source.give(it, wanted)?;
-        self.given = given.edge;
-        // From now on the source serves no key of the chunk, and no new one comes.
-        self.index.listen()?;
-        let hi = self.copy_all(it, lo..self.given, given.generation)?;
-        if hi <= lo {
-            return Ok(None);
-        }
-        Ok(Some((hi, self.dest.load(it, hi, given.generation)?)))
-    }
-
-    /// The end of the next chunk. It is before the first key that is too large to be moved.
-    fn next_end(&mut self, it: &Move, lo: Rank) -> Done<Rank> {
-        let wanted = self.index.cut(lo, it.hi, self.chunk_size());
-        if wanted <= self.given {
-            return Ok(wanted);
-        }
-        let from = lo.max(self.given);
-        let keys = self.index.keys(from..wanted);
-        let large = self.sizes.look(&mut self.source, &keys)?;
-        let Some(&(first, _)) = large.first() else {
-            return Ok(wanted);
-        };
-        self.is_stuck = true;
-        let end = keys[first].0;
-        large.into_iter().for_each(|(at, size)| self.name(it, &keys[at].1, size));
-        self.name_rest(it, wanted)?;
-        Ok(end)
-    }
-
-    /// Names all other keys of a move that are too large.
-    fn name_rest(&mut self, it: &Move, mut from: Rank) -> Done<()> {
-        while from < it.hi {
-            self.job.check()?;
-            let to = self.index.cut(from, it.hi, LOOKED);
-            let keys = self.index.keys(from..to);
-            let large = self.sizes.look(&mut self.source, &keys)?;
-            large.into_iter().for_each(|(at, size)| self.name(it, &keys[at].1, size));
-            self.index.keep_up()?;
-            from = to;
-        }
-        Ok(())
-    }
-
-    /// Names a key that can't be moved.
-    fn name(&self, it: &Move, key: &[u8], size: u64) {
-        let is_given = keymap::rank(key) < self.given;
-        let (source, dest, most) = (it.source, it.dest, self.sizes.most);
-        self.job.stuck.name(&Stuck { source, dest, key: key.to_vec(), size, most, is_given });
-    }
-
-    /// Puts the keys of a span where they come to, which the source gave in that generation: up to where all are put. That
-    /// is its end, unless one can't be moved.
-    fn copy_all(&mut self, it: &Move, span: Range<Rank>, given: u64) -> Done<Rank> {
+    /// Puts the keys of a span where they come to, which the source gave in that generation.
+    pub(super) fn copy_all(&mut self, span: Range<Rank>, given: u64) -> Done<Put> {
         let keys = self.index.keys(span.start..span.end);
         self.job.pace.spend(keys.len());
         let mut rest = &keys[..];
         while !rest.is_empty() {
             let (block, later) = rest.split_at(self.block.min(rest.len()));
             let copied = self.copy(block, given)?;
-            if let Some((at, size)) = copied.too_large {
-                self.is_stuck = true;
-                self.name(it, &block[at].1, size);
-                return Ok(block[at].0);
+            if let Some((at, why)) = copied.left {
+                let (rank, key) = block[at].clone();
+                return Ok(Put { end: rank, left: Some((key, why)) });
             }
             self.block = next_block(block.len(), copied.bytes);
             self.index.keep_up()?;
             rest = later;
         }
-        Ok(span.end)
+        Ok(Put { end: span.end, left: None })
     }
 
     fn report(&mut self, it: &Move, keys: Range<Rank>) -> Done<()> {
@@ -333,21 +282,27 @@ impl Feeder<'_> {
         if !self.source.accepts(&said)? {
             return Ok(None);
         }
-        let (mut count, mut copied) = (0, Copied::default());
+        let (mut put, mut copied) = (Vec::new(), Copied::default());
         for (at, ((rank, key), said)) in keys.iter().zip(said.chunks(2)).enumerate() {
             let dumped = dumped(said).ok_or_else(|| Fault::new("a dump of another form"))?;
             let Some((dump, ends)) = dumped else {
                 continue;
             };
             if self.sizes.is_too_large(dump) {
-                copied.too_large = Some((at, dump.len() as u64));
+                copied.left = Some((at, Why::TooLarge { size: dump.len() as u64, most: self.sizes.most }));
                 break;
             }
             self.dest.put(key, *rank, (dump, ends), (self.source.part, given));
             copied.bytes += dump.len();
-            count += 1;
+            put.push(at);
         }
-        let said = self.dest.conn.hear_all(count)?;
-        Ok(self.dest.accepts(&said)?.then_some(copied))
+        let (refused, rest) = split(self.dest.conn.hear_all(put.len())?);
+        if !self.dest.accepts(&rest)? {
+            return Ok(None);
+        }
+        if let Some((at, error)) = refused {
+            copied.left = Some((put[at], Why::Refused(error)));
+        }
+        Ok(Some(copied))
     }
 }

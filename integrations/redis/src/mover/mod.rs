@@ -4,6 +4,7 @@ mod disk;
 mod dumps;
 mod entry;
 mod feeder;
+mod gives;
 mod index;
 mod losses;
 mod names;

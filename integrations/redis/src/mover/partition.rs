@@ -261,10 +261,15 @@ impl Partition {
 
     /// Asks, also again if a refusal passes, and explains one that does not.
     pub fn ask<W: AsRef<[u8]>>(&mut self, words: &[W]) -> Done<Value> {
-        match self.patience.ask(&mut self.conn, words)? {
+        match self.try_ask(words)? {
             Value::Error(text) => Err(self.explain(&text)),
             value => Ok(value),
         }
+    }
+
+    /// Asks, also again if a refusal passes. One that does not is the answer.
+    pub(super) fn try_ask<W: AsRef<[u8]>>(&mut self, words: &[W]) -> Done<Value> {
+        self.patience.ask(&mut self.conn, words)
     }
 
     /// Why a partition refused, in words for an operator.
@@ -275,6 +280,12 @@ impl Partition {
         };
         let words: Vec<&str> = said.split(' ').collect();
         let known = words.get(1).copied().unwrap_or("0");
+        if words[0] == "BACK" {
+            // The mover begins again, and sees where the keys are.
+            return Fault::lost(format!(
+                "partition {part}: another mover gives keys back to partition {known}"
+            ));
+        }
         Fault::new(match words[0] {
             "CLASH" => format!(
                 "partition {part}: course {number} has begun with other plans; this one is refused"

@@ -14,15 +14,8 @@ use std::sync::{Mutex, PoisonError};
 const OTHERWISE: u64 = 512 << 20;
 /// What a command has beside its longest word.
 const BESIDE: u64 = 1 << 16;
-/// How many elements of a value are looked at, and by how many times others may be larger.
-const SAMPLES: &str = "20";
-const DOUBT: u64 = 4;
-/// A value that takes so many times as much memory as a dump may have is not dumped, to see how long that is.
-const HOPELESS: u64 = 8;
-/// How many keys are looked at at once.
+/// How many keys are looked at at once. Clients of their server wait meanwhile.
 const BLOCK: usize = 256;
-/// The length of a dump.
-const LENGTH: &str = "return #(redis.call('DUMP', KEYS[1]) or '')";
 
 /// The most bytes that a dump may have for a destination.
 pub struct Sizes {
@@ -50,47 +43,19 @@ impl Sizes {
     pub fn look(&self, source: &mut Partition, keys: &[Ranked]) -> Done<Vec<(usize, u64)>> {
         let mut found = Vec::new();
         for (block, keys) in keys.chunks(BLOCK).enumerate() {
-            let sizes = usages(source, keys)?;
-            let doubtful = sizes.iter().enumerate().filter(|(_, &size)| size > self.most / DOUBT);
-            for (at, _) in doubtful {
-                if let Some(size) = self.look_closer(source, &keys[at].1)? {
-                    found.push((block * BLOCK + at, size));
-                }
-            }
+            let (count, most) = (keys.len().to_string(), self.most.to_string());
+            let mut words: Vec<&[u8]> = vec![b"FCALL", b"squall_large", count.as_bytes()];
+            words.extend(keys.iter().map(|(_, key)| key.as_slice()));
+            words.push(most.as_bytes());
+            let said: Vec<u64> = source.ask(&words)?.list().iter().map(number).collect();
+            let pairs = said.chunks_exact(2).filter(|pair| (1..=keys.len() as u64).contains(&pair[0]));
+            found.extend(pairs.map(|pair| (block * BLOCK + pair[0] as usize - 1, pair[1])));
         }
         Ok(found)
     }
-
-    /// How large a value is, if it is too large. A dump is mostly no longer than the memory that the value takes, and may
-    /// be much shorter.
-    fn look_closer(&self, source: &mut Partition, key: &[u8]) -> Done<Option<u64>> {
-        let words: [&[u8]; 5] = [b"MEMORY", b"USAGE", key, b"SAMPLES", b"0"];
-        let memory = number(&source.ask(&words)?);
-        if memory <= self.most {
-            return Ok(None);
-        } else if memory > self.most.saturating_mul(HOPELESS) {
-            return Ok(Some(memory));
-        }
-        let words: [&[u8]; 4] = [b"EVAL", LENGTH.as_bytes(), b"1", key];
-        let length = number(&source.ask(&words)?);
-        Ok((length > self.most).then_some(length))
-    }
 }
 
-/// About how much memory each of these keys takes.
-fn usages(source: &mut Partition, keys: &[Ranked]) -> Done<Vec<u64>> {
-    loop {
-        for (_, key) in keys {
-            source.conn.put(&[b"MEMORY".as_slice(), b"USAGE", key, b"SAMPLES", SAMPLES.as_bytes()]);
-        }
-        let said = source.conn.hear_all(keys.len())?;
-        if source.accepts(&said)? {
-            return Ok(said.iter().map(number).collect());
-        }
-    }
-}
-
-/// A number of bytes: 0 if the key has gone.
+/// A number that a server answers.
 fn number(said: &Value) -> u64 {
     match said {
         Value::Int(number) => u64::try_from(*number).unwrap_or(0),
@@ -98,35 +63,48 @@ fn number(said: &Value) -> u64 {
     }
 }
 
+/// Why a key can't be moved.
+#[derive(Clone)]
+pub enum Why {
+    /// Its dump has more bytes than the destination takes.
+    TooLarge { size: u64, most: u64 },
+    /// The destination refuses its dump, in these words.
+    Refused(String),
+}
+
 /// A key that can't be moved.
-#[derive(PartialEq, Eq, PartialOrd, Ord)]
 pub struct Stuck {
     /// Where it is, and where it should go.
     pub source: u32,
     pub dest: u32,
-    /// Its name, its size, and the most bytes of a dump.
+    /// Its name.
     pub key: Vec<u8>,
-    pub size: u64,
-    pub most: u64,
-    /// Whether it was given already, since it has grown since or its size was not seen.
+    pub why: Why,
+    /// Whether it was given, and its source could not have it back.
     pub is_given: bool,
 }
 
 impl fmt::Display for Stuck {
     fn fmt(&self, f: &mut fmt::Formatter<'_>) -> fmt::Result {
-        let Stuck { source, dest, size, most, .. } = self;
+        let Stuck { source, dest, .. } = self;
         let key = self.key.escape_ascii();
-        let state = if self.is_given {
-            "it was given before that was seen, and nobody serves it: "
-        } else {
-            "it stays there, and is served: "
+        let (what, mend) = match &self.why {
+            Why::TooLarge { size, most } => (
+                format!(
+                    "has {size} bytes, and partition {dest} takes {most} (proto-max-bulk-len, client-query-buffer-limit)"
+                ),
+                "raise that limit",
+            ),
+            Why::Refused(error) => (format!("is refused by partition {dest}: {error}"), "mend that"),
         };
-        let place = if self.is_given { format!(" at partition {source} itself") } else { String::new() };
+        let (state, place) = match self.is_given {
+            true => ("it was given, and nobody serves it", format!(" at partition {source} itself")),
+            false => ("it stays there, and is served", String::new()),
+        };
         write!(
             f,
-            "partition {source}: the key \"{key}\" has {size} bytes, and partition {dest} takes {most} \
-             (proto-max-bulk-len, client-query-buffer-limit); {state}delete it{place} or raise that limit, and start the \
-             mover again with the same words"
+            "partition {source}: the key \"{key}\" {what}; {state}: delete it{place} or {mend}, and start the mover again \
+             with the same words"
         )
     }
 }

@@ -4,6 +4,7 @@ use super::partition::{rank, Partition};
 use crate::course::Move;
 use crate::fault::{Done, Fault};
 use crate::keymap::hex;
+use crate::resp::Value;
 use squall::Rank;
 
 /// How many keys are unlinked at once.
@@ -21,15 +22,75 @@ pub struct Step {
 /// A partition and its generation, as a step at the other end of a move tells it.
 type Seen = (u32, u64);
 
+/// What becomes of a give.
+pub enum Given {
+    /// Keys are given up to there.
+    Below(Step),
+    /// Nothing is: of the keys that were named the one at this place is too large, and has so many bytes.
+    TooLarge(usize, u64),
+}
+
+/// What becomes of a chunk that is to go back to its source.
+pub enum Back {
+    /// This was done there.
+    Done(Step),
+    /// The partition has done another step meanwhile.
+    Changed,
+}
+
+/// A step that is asked for.
+struct Asked<'a> {
+    function: &'a str,
+    keys: &'a [Vec<u8>],
+    /// The first key of the move, and the edge.
+    span: (Rank, Rank),
+    /// What the other end had done before. Before a give it has done nothing.
+    seen: Option<Seen>,
+    /// A number that the function takes after these.
+    more: Option<u64>,
+}
+
 impl Partition {
-    /// Gives the keys of the move below the edge: up to where keys are given now.
-    pub fn give(&mut self, it: &Move, edge: Rank) -> Done<Step> {
-        self.step("squall_give", &[], (it.lo, edge), None)
+    /// Gives the keys of the move below the edge, unless one of those that are named has a dump of more bytes.
+    pub fn give(&mut self, it: &Move, edge: Rank, keys: &[Vec<u8>], most: u64) -> Done<Given> {
+        let span = (it.lo, edge);
+        match self.try_step(&Asked { function: "squall_give", keys, span, seen: None, more: Some(most) })? {
+            Ok(step) => Ok(Given::Below(step)),
+            Err(error) => match read_large(&error) {
+                Some((at, size)) if at < keys.len() => Ok(Given::TooLarge(at, size)),
+                _ => Err(self.explain(&error)),
+            },
+        }
+    }
+
+    /// Up to where keys of the move are given, and the partition's generation.
+    pub fn given(&mut self, it: &Move) -> Done<Step> {
+        self.step("squall_give", &[], (it.lo, it.lo), None)
     }
 
     /// Loads the keys of the move below the edge: up to where keys are loaded now.
     pub fn load(&mut self, it: &Move, edge: Rank, given: u64) -> Done<Step> {
         self.step("squall_load", &[], (it.lo, edge), Some((it.source, given)))
+    }
+
+    /// Loads nothing any more that the source has given above the edge, up to that generation of it.
+    pub fn give_back(&mut self, it: &Move, edge: Rank, given: u64) -> Done<Back> {
+        let (span, seen) = ((it.lo, edge), Some((it.source, given)));
+        let said = self.try_step(&Asked { function: "squall_back", keys: &[], span, seen, more: None })?;
+        self.read_back(said)
+    }
+
+    /// The generation of the source up to which nothing is loaded any more, if the partition has done `give_back`.
+    pub fn gives_back(&mut self, it: &Move) -> Done<Option<u64>> {
+        Ok(self.ask(&["HGET", "squall:back", &hex(it.lo)])?.text().parse().ok())
+    }
+
+    /// Has the keys above the edge again, which it gave up to that generation, and which the destination does not load.
+    pub fn take_back(&mut self, it: &Move, edge: Rank, refused: u64, given: u64) -> Done<Back> {
+        let (span, seen) = ((it.lo, edge), Some((it.dest, refused)));
+        let more = Some(given);
+        let said = self.try_step(&Asked { function: "squall_take", keys: &[], span, seen, more })?;
+        self.read_back(said)
     }
 
     /// Unlinks keys that were given and loaded, and then has forgotten all below the edge.
@@ -45,21 +106,45 @@ impl Partition {
         &mut self,
         function: &str,
         keys: &[Vec<u8>],
-        (lo, edge): (Rank, Rank),
+        span: (Rank, Rank),
         seen: Option<Seen>,
     ) -> Done<Step> {
-        let (count, number) = (keys.len().to_string(), self.number.clone());
-        // A give is the first step: there is none at the other end before.
-        let (part, generation) =
-            seen.map_or(("-".into(), "0".into()), |(part, at)| (part.to_string(), at.to_string()));
-        let args = [number, hex(lo), hex(edge), part, generation];
-        let mut words: Vec<&[u8]> = vec![b"FCALL", function.as_bytes(), count.as_bytes()];
-        words.extend(keys.iter().map(Vec::as_slice));
-        words.extend(args.iter().map(String::as_bytes));
-        let said = self.ask(&words)?.text();
-        read_step(&said)
-            .ok_or_else(|| Fault::new(format!("partition {}: an edge of another form", self.part)))
+        let said = self.try_step(&Asked { function, keys, span, seen, more: None })?;
+        said.map_err(|error| self.explain(&error))
     }
+
+    /// The same; the partition's own words if it refuses.
+    fn try_step(&mut self, it: &Asked) -> Done<Result<Step, String>> {
+        let (count, number) = (it.keys.len().to_string(), self.number.clone());
+        let (part, generation) =
+            it.seen.map_or(("-".into(), "0".into()), |(part, at)| (part.to_string(), at.to_string()));
+        let args = [number, hex(it.span.0), hex(it.span.1), part, generation];
+        let more = it.more.map(|more| more.to_string());
+        let mut words: Vec<&[u8]> = vec![b"FCALL", it.function.as_bytes(), count.as_bytes()];
+        words.extend(it.keys.iter().map(Vec::as_slice));
+        words.extend(args.iter().chain(&more).map(String::as_bytes));
+        let said = match self.try_ask(&words)? {
+            Value::Error(error) => return Ok(Err(error)),
+            said => said.text(),
+        };
+        let step = read_step(&said);
+        let other = || Fault::new(format!("partition {}: an edge of another form", self.part));
+        step.map(Ok).ok_or_else(other)
+    }
+
+    fn read_back(&self, said: Result<Step, String>) -> Done<Back> {
+        match said {
+            Ok(step) => Ok(Back::Done(step)),
+            Err(error) if error == "SQUALL CHANGED" => Ok(Back::Changed),
+            Err(error) => Err(self.explain(&error)),
+        }
+    }
+}
+
+/// The place of a key that is too large, from 0 on, and its size.
+fn read_large(error: &str) -> Option<(usize, u64)> {
+    let (at, size) = error.strip_prefix("SQUALL LARGE ")?.split_once(' ')?;
+    Some((at.parse::<usize>().ok()?.checked_sub(1)?, size.parse().ok()?))
 }
 
 /// An edge, and a generation, which functions of an earlier version don't say.
@@ -78,5 +163,7 @@ mod tests {
         assert_eq!((step.edge, step.generation), (Rank::new(2, 5), 7));
         assert_eq!(read_step("0000000200000005").map(|it| it.generation), Some(0));
         assert!(read_step("x 7").is_none() && read_step("0000000200000005 x").is_none());
+        assert_eq!(read_large("SQUALL LARGE 3 700"), Some((2, 700)));
+        assert!(read_large("SQUALL LARGE 0 700").is_none() && read_large("ERR LARGE 3 700").is_none());
     }
 }

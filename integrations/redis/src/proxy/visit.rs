@@ -14,7 +14,7 @@ use crate::mover::is_own;
 use crate::resp::{push, Value};
 
 /// The partition's own keys, which are no client's.
-const OWN: [&str; 15] = [
+const OWN: [&str; 18] = [
     "squall:number",
     "squall:old",
     "squall:new",
@@ -23,6 +23,9 @@ const OWN: [&str; 15] = [
     "squall:edge",
     "squall:forgot",
     "squall:gone",
+    "squall:put",
+    "squall:arrived",
+    "squall:back",
     "squall:generation",
     "squall:seen",
     "squall:since",
