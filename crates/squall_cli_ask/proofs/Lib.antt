@@ -1,8 +1,8 @@
 pub mod Telling
 mod Gathering
+pub mod Matched
 pub mod Inquired
 pub mod ByLine
-pub mod Refused
 pub mod Streamed
 pub mod Watched
 pub mod Followed

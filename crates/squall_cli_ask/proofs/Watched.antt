@@ -13,7 +13,7 @@ use Rattle.squall_cli_command.specs.declared.form.Form.{Form}
 use Rattle.squall_cli_boards.specs.Answers.{AnswerValue, refusing_plan}
 use Rattle.squall_cli_boards.specs.Plans.{refusal_in}
 use Rattle.squall_board.specs.Boards.{empty_board}
-use Rattle.squall_cli_boards.specs.Courses.{first_course}
+use Rattle.squall_cli_boards.specs.Known.{first_course}
 use Rattle.squall_cli_watch.specs.Watched.{Watches}
 use Rattle.squall_cli_watch.specs.Drawn.{ShowsBars}
 use Rattle.squall_cli_watch.proofs.Watching.{nothing_watched}

@@ -15,7 +15,7 @@ use Rattle.squall_cli_ask.specs.Files.{is_input}
 use Rattle.squall_cli_ask.specs.Reads.{Bytes}
 use Rattle.squall_cli_ask.specs.Told.{status_of}
 use Rattle.squall_cli_ask.specs.Gathered.{AreRead}
-use Rattle.squall_cli_ask.specs.Asked.{AnswersNothing}
+use Rattle.squall_cli_ask.specs.Asked.{AnswersNothing, AnswersNone}
 
 -- the names of the files of a stream
 abbrev pub files_followed : Follow → List (List ℕ)
@@ -39,8 +39,7 @@ AnswersStream stream before after names status =
 -- unless an allocation failed.
 abbrev pub IsFollowed : Stream → Bytes → Bytes → List (List ℕ) → ℕ → Type 0
 IsFollowed stream before after names status = MatchBool (list_any is_input names)
-    (((status ≡ 2) ⊎ (status ≡ 4)) × Appends before.output after.output [] × Consumes before.input after.input [])
-    (AnswersStream stream before after names status ⊎ AnswersNothing before after status)
+    (AnswersNone before after status) (AnswersStream stream before after names status ⊎ AnswersNothing before after status)
 
 -- ---- promptness
 

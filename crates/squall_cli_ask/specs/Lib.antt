@@ -13,7 +13,8 @@ pub use Rattle.squall_cli_words.specs.RouteText
 pub use Rattle.squall_cli_boards.specs.Files as BoardFiles
 pub use Rattle.squall_cli_boards.specs.Answers
 pub use Rattle.squall_cli_boards.specs.Courses
-pub use Rattle.squall_cli_boards.specs.Questions
+pub use Rattle.squall_cli_boards.specs.Inquiries
+pub use Rattle.squall_cli_boards.specs.Known
 pub use Rattle.squall_cli_boards.specs.ReportWords
 pub use Rattle.squall_cli_watch.specs.Watched
 pub use Rattle.squall_cli_watch.specs.Drawn
@@ -22,8 +23,6 @@ pub mod Reads
 pub mod Told
 pub mod Gathered
 pub mod Asked
-pub mod Known
-pub mod Found
 pub mod Keys
 pub mod Answered
 pub mod Written

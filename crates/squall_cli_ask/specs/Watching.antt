@@ -10,7 +10,7 @@ use Rattle.squall_cli_lines.specs.declared.RunFault.{RunFault}
 use Rattle.squall_cli_command.specs.declared.form.Form.{Form}
 use Rattle.squall_cli_boards.specs.Files.{FileValue}
 use Rattle.squall_cli_boards.specs.Answers.{refusing_plan, bytes_at}
-use Rattle.squall_cli_boards.specs.Courses.{first_course}
+use Rattle.squall_cli_boards.specs.Known.{first_course}
 use Rattle.squall_cli_watch.specs.Watched.{AnswersFrames, IsPrompt, Watches}
 use Rattle.squall_cli_watch.specs.Drawn.{ShowsBars}
 use Rattle.squall_cli_ask.specs.Written.{IsRefusal}

@@ -7,8 +7,10 @@ use Rattle.squall_cli_lines.specs.declared.Ended.{Ended}
 use Rattle.squall_cli_lines.specs.declared.Ended.TheVariants.{Fine, Refused}
 use Rattle.squall_cli_lines.specs.declared.RunFault.{RunFault}
 use Rattle.squall_cli_lines.specs.declared.RunFault.TheVariants.{Read, Write, NoMemory}
+use Rattle.squall_cli_command.specs.declared.form.Form.TheVariants.{Lines}
 use Rattle.squall_cli_boards.specs.Files.{FileValue}
-use Rattle.squall_cli_ask.specs.Known.{KnownValue, newest_of}
+use Rattle.squall_cli_boards.specs.Answers.{AnswerValue}
+use Rattle.squall_cli_boards.specs.Known.{KnownValue, newest_of}
 use Rattle.squall_cli_ask.specs.Keys.{keys_script}
 
 -- what was written of the text that refuses a file: all of it; after a write fault a prefix; and after a failed allocation nothing
@@ -23,19 +25,19 @@ IsRefusal (Err NoMemory) line written = written ≡ []
 abbrev pub script_of : KnownValue → List (List ℕ) → Script
 script_of k = keys_script (route k.course (says k.board)) 0
 
--- what was written of the answers to the lines that were read; or of the line that refuses a file, and then no line is read
-abbrev pub AnswersLines : Result KnownValue (List ℕ) → Result Ended RunFault → List ℕ → List ℕ → Type 0
+-- what was written of the answers to the lines that were read; or of what refuses a file, and then no line is read
+abbrev pub AnswersLines : Result KnownValue AnswerValue → Result Ended RunFault → List ℕ → List ℕ → Type 0
 AnswersLines (Ok k) result read written = IsOutcomeOf result (script_of k) read written
-AnswersLines (Err line) result read written = (read ≡ []) × IsRefusal result line written
+AnswersLines (Err refusal) result read written = (read ≡ []) × IsRefusal result refusal.text written
 
 -- `route` without keys: what was written for these files and the bytes that were read
 abbrev pub AnswersKeys : Result Ended RunFault → List FileValue → List ℕ → List ℕ → Type 0
-AnswersKeys result files read written = AnswersLines (newest_of files) result read written
+AnswersKeys result files read written = AnswersLines (newest_of Lines files) result read written
 
 -- the lines that came before the last read were answered before it, if no file is refused
-abbrev pub PromptBy : Result KnownValue (List ℕ) → List ℕ → List ℕ → Type 0
+abbrev pub PromptBy : Result KnownValue AnswerValue → List ℕ → List ℕ → Type 0
 PromptBy (Ok k) read written = IsPrompt (PlaysOnly (script_of k)) read written
-PromptBy (Err line) read written = read ≡ []
+PromptBy (Err refusal) read written = read ≡ []
 
 abbrev pub IsPromptFor : List FileValue → List ℕ → List ℕ → Type 0
-IsPromptFor files read written = PromptBy (newest_of files) read written
+IsPromptFor files read written = PromptBy (newest_of Lines files) read written

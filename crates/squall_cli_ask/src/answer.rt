@@ -1,12 +1,12 @@
-//! Writes the answer to a question about files.
+//! Writes the answer to what is asked of files.
 
-ghost use Rattle.std.specs.Prelude.{◌≢◌, ℕ, List, Err, map, string_bytes};
+ghost use Rattle.std.specs.Prelude.{◌≢◌, ℕ, List, Err};
 ghost use Rattle.squall_cli_device.specs.States.{TookBytes};
 ghost use Rattle.squall_cli_lines.specs.Heeding.{HeedsWrites};
-ghost use Rattle.squall_cli_boards.specs.Questions.{IsAskable};
-ghost use Rattle.squall_cli_ask.specs.Asked.{IsAnswered, IsSaid};
+ghost use Rattle.squall_cli_ask.specs.Asked.{words_asked, IsAnswered, IsSaid};
 
-use squall_cli_boards::{Answer, NamedFile, Question, answer_to};
+use squall_cli_boards::{Answer, NamedFile, answer_to};
+use squall_cli_command::Ask;
 use squall_cli_device::{DeviceFault, Sink};
 use squall_cli_lines::{Ended, RunFault, send};
 use std::alloc::Global;
@@ -21,8 +21,7 @@ fn ending(answer: &Answer) -> Ended
     Ended::Fine
 }
 
-/// Writes the answer to the question about the files. The words are those of the question: keys of
-/// routes, bounds of legs.
+/// Writes the answer to what is asked of the files.
 ///
 /// - `Fine`: the answer is written.
 /// - `Refused`: the answer is written, and it refuses what was given.
@@ -32,21 +31,19 @@ fn ending(answer: &Answer) -> Ended
 /// There is no other fault. A write that failed is always answered so.
 pub fn answer_files<K: Sink>(
     alloc: Global,
-    question: &Question,
-    words: &[String],
+    ask: &Ask,
     files: &[NamedFile],
     writer: &mut K,
 ) -> Result<Ended, RunFault>
-    requires { IsAskable question.now }
-    // What is written is the answer to the question.
+    // What is written is the answer.
     ensures text { (written : List ℕ) × TookBytes (K.state writer.old) (K.state writer.new) written
-        × IsAnswered result question.now (map string_bytes words.now) files.now written }
+        × IsAnswered result ask.now.inquiry (words_asked ask.now) files.now written }
 
     // No fault is that of a read. The writer is the cause of `Write`, and no failed write is passed over.
     ensures unread { result ≢ Err RunFault.Read }
     ensures heeds_writes { HeedsWrites result (K.state writer.old) (K.state writer.new) }
 {
-    let answer = answer_to(alloc, question, words, files)?;
+    let answer = answer_to(alloc, ask.inquiry, &ask.words, files)?;
     match send(writer, answer.text()) {
         Ok(()) => Ok(ending(&answer)),
         Err(DeviceFault) => Err(RunFault::Write),

@@ -1,21 +1,20 @@
 //! Does what is asked of board files.
 
-ghost use Rattle.std.specs.Prelude.{◌≡◌, ◌≢◌, ◌⊎◌, ◌↔◌, ◌<◌, ℕ, List, true, false, map, string_bytes, Contains, None};
+ghost use Rattle.std.specs.Prelude.{◌≡◌, ◌≢◌, ◌⊎◌, ◌↔◌, ◌<◌, ℕ, List, true, false, map, string_bytes, Contains};
 ghost use Rattle.std.specs.List.{list_all, list_any};
 ghost use Rattle.squall_cli_device.specs.States.{FoundEnd, NoReadFails, OutputFails, NoWriteFails};
 ghost use Rattle.squall_cli_lines.specs.Heeding.{InputFails, Says};
-ghost use Rattle.squall_cli_boards.specs.Questions.{IsAskable};
 ghost use Rattle.squall_cli_ask.specs.Files.{is_input};
 ghost use Rattle.squall_cli_ask.specs.Reads.{bytes_at};
 ghost use Rattle.squall_cli_ask.specs.Told.{IsTold, no_report_told};
-ghost use Rattle.squall_cli_ask.specs.Asked.{words_asked, question_asked, files_asked, AnswersWith, IsInquired};
+ghost use Rattle.squall_cli_ask.specs.Asked.{can_be, words_asked, files_asked, IsInquired};
 
 use crate::answer::answer_files;
 use crate::files::Files;
 use crate::messages::{BAD_WORDS, say, tell_fault, tell_outcome};
-use crate::question::{Worded, files_of, question_of};
 use crate::reading::read_files;
-use squall_cli_command::Ask;
+use squall_cli_boards::{is_report, report_files};
+use squall_cli_command::{Ask, Inquiry};
 use squall_cli_device::{Sink, Source};
 use squall_cli_lines::RunFault;
 use std::alloc::Global;
@@ -32,33 +31,23 @@ fn tell_no_report<E: Sink>(err: &mut E) -> u8
     BAD_WORDS
 }
 
-/// Answers the question about the files of these names.
-fn answer_named<F: Files, S: Source, O: Sink, E: Sink>(
-    alloc: Global,
-    asked: &Worded<'_>,
-    names: &[String],
-    files: &mut F,
-    input: &mut S,
-    out: &mut O,
-    err: &mut E,
-) -> u8
-    requires { IsAskable asked.now.question.now }
-    ensures done { AnswersWith (bytes_at (F.known files.old) (S.state input.old) (O.state out.old))
-        (bytes_at (F.known files.new) (S.state input.new) (O.state out.new))
-        asked.now.question.now (map string_bytes asked.now.words.now) (map string_bytes names.now) result }
-    ensures ended { list_any is_input (map string_bytes names.now) ≡ true → result < 2 → FoundEnd (S.state input.old) (S.state input.new) }
-    ensures device { result ≡ 3 → InputFails (S.state input.old) (S.state input.new)
-        ⊎ (OutputFails (O.state out.old) (O.state out.new) ⊎ (list_all is_input (map string_bytes names.now) ≡ false)) }
-    ensures taken { result ≢ 2 }
-    ensures heeds { result ≢ 3 → NoReadFails (S.state input.old) (S.state input.new) × NoWriteFails (O.state out.old) (O.state out.new) }
-    ensures told { (text : List ℕ) × IsTold (Contains (map string_bytes names.now)) result text × Says (E.state err.old) (E.state err.new) text }
+/// Whether what is asked can be: the words of a report have to be one.
+fn can_be(ask: &Ask) -> bool
+    ensures { result ≡ can_be ask.now.inquiry (words_asked ask.now) }
 {
-    match read_files(alloc, names, files, input, err) {
-        Ok(read) => tell_outcome(
-            answer_files(alloc, asked.question, asked.words, &read, out),
-            err,
-        ),
-        Err(status) => status,
+    match ask.inquiry {
+        Inquiry::Report => is_report(&ask.words),
+        _ => true,
+    }
+}
+
+/// The names of the files that are read for it, in their order.
+fn files_of(ask: &Ask) -> &[String]
+    ensures { map string_bytes result.now ≡ files_asked ask.now }
+{
+    match ask.inquiry {
+        Inquiry::Report => report_files(&ask.words),
+        _ => &ask.files,
     }
 }
 
@@ -81,26 +70,23 @@ pub fn answer_inquiry<F: Files, S: Source, O: Sink, E: Sink>(
     out: &mut O,
     err: &mut E,
 ) -> u8
-    ensures done { IsInquired (question_asked ask.now) (words_asked ask.now)
+    ensures done { IsInquired ask.now.inquiry (words_asked ask.now)
         (bytes_at (F.known files.old) (S.state input.old) (O.state out.old)) (bytes_at (F.known files.new) (S.state input.new) (O.state out.new))
         (files_asked ask.now) result }
     ensures ended { list_any is_input (files_asked ask.now) ≡ true → result < 2
         → FoundEnd (S.state input.old) (S.state input.new) }
     ensures device { result ≡ 3 → InputFails (S.state input.old) (S.state input.new) ⊎ (OutputFails (O.state out.old) (O.state out.new)
         ⊎ (list_all is_input (files_asked ask.now) ≡ false)) }
-    ensures bad { result ≢ 4 → (result ≡ 2) ↔ (question_asked ask.now ≡ None) }
+    ensures bad { result ≢ 4 → (result ≡ 2) ↔ (can_be ask.now.inquiry (words_asked ask.now) ≡ false) }
     ensures heeds { result ≢ 3 → NoReadFails (S.state input.old) (S.state input.new) × NoWriteFails (O.state out.old) (O.state out.new) }
     ensures told { (text : List ℕ) × IsTold (Contains (files_asked ask.now)) result text
         × Says (E.state err.old) (E.state err.new) text }
 {
-    match question_of(ask) {
-        Some(question) => {
-            let asked = Worded {
-                question: &question,
-                words: &ask.words,
-            };
-            answer_named(alloc, &asked, files_of(ask), files, input, out, err)
-        }
-        None => tell_no_report(err),
+    if !can_be(ask) {
+        return tell_no_report(err);
+    }
+    match read_files(alloc, files_of(ask), files, input, err) {
+        Ok(read) => tell_outcome(answer_files(alloc, ask, &read, out), err),
+        Err(status) => status,
     }
 }

@@ -9,7 +9,7 @@ ghost use Rattle.squall_cli_lines.specs.Script.{PlaysOnly};
 ghost use Rattle.squall_cli_ask.specs.Keys.{key_or_bad, key_of_words, key_on_line, keys_script};
 ghost use Rattle.squall_cli_ask.specs.Answered.{IsKeyReply};
 
-use crate::known::Known;
+use squall_cli_boards::Known;
 use squall_cli_lines::machine::Machine;
 use squall_cli_lines::words::{next_word, without_cr};
 use squall_cli_lines::{Flow, LONGEST_LINE};

@@ -5,12 +5,12 @@ ghost use Rattle.squall_cli_device.specs.States.{TookBytes, GaveAll, ReadAndWrot
 ghost use Rattle.squall_cli_lines.specs.Heeding.{HeedsReads, HeedsWrites};
 ghost use Rattle.squall_cli_ask.specs.Written.{script_of, AnswersKeys, IsPromptFor, IsRefusal};
 ghost use Rattle.squall_cli_lines.specs.Script.{IsOutcomeOf, IsPrompt, PlaysOnly};
-ghost use Rattle.squall_cli_ask.specs.Found.{known_seen};
+ghost use Rattle.squall_cli_boards.specs.Found.{known_seen};
 
 use crate::keys::Keys;
-use crate::known::{Known, newest_of};
 use crate::laws::keys_are_answered_by_line;
-use squall_cli_boards::{Answer, NamedFile};
+use squall_cli_boards::{Answer, Known, NamedFile, newest_of};
+use squall_cli_command::Form;
 use squall_cli_device::{DeviceFault, Sink, Source};
 use squall_cli_lines::laws::outcome_of_function;
 use squall_cli_lines::{Ended, RunFault, run, send};
@@ -85,7 +85,7 @@ pub fn answer_keys<S: Source, K: Sink>(
     ensures heeds_reads { HeedsReads result (S.state reader.old) (S.state reader.new) }
     ensures heeds_writes { HeedsWrites result (K.state writer.old) (K.state writer.new) }
 {
-    match newest_of(alloc, files) {
+    match newest_of(alloc, Form::Lines, files) {
         Ok(Ok(known)) => answer_lines(alloc, known, reader, writer),
         Ok(Err(answer)) => refuse(&answer, writer),
         Err(_) => Err(RunFault::NoMemory),

@@ -1,3 +1,4 @@
 pub mod Heard
 pub mod PlansRead
+pub mod Refused
 pub mod Routed

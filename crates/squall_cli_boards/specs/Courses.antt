@@ -1,21 +1,18 @@
 -- What is answered of the newest course of two plans and of board files (this project's command line).
-use Rattle.std.specs.Prelude.{◌≡◌, ℕ, List, false}
-use Rattle.squall_plan.specs.declared.range.PlanRange.{PlanRange}
+use Rattle.std.specs.Prelude.{◌≡◌, ℕ, List, false, Result, Ok, Err}
 use Rattle.squall_course.specs.Change.{Change}
 use Rattle.squall_board.specs.Boards.{BoardValue, says}
-use Rattle.squall_board.specs.CourseRoute.{course_of_board}
 use Rattle.squall_board.specs.Route.{route}
 use Rattle.squall_status.specs.declared.text.Shown.{Shown}
 use Rattle.squall_status.specs.Summary.{StatusValue, IsStatusOf}
 use Rattle.squall_status.specs.Texts.{status_text}
 use Rattle.squall_picture.specs.Picture.{IsPictureOf}
-use Rattle.squall_cli_boards.specs.declared.courses.CourseQuestion.{CourseQuestion}
-use Rattle.squall_cli_boards.specs.declared.courses.CourseQuestion.TheVariants as ask
 use Rattle.squall_cli_command.specs.declared.form.Form.{Form}
 use Rattle.squall_cli_command.specs.declared.form.Form.TheVariants.{Lines, Json}
 use Rattle.squall_cli_json.specs.Values.{json_line, json_of_status}
-use Rattle.squall_cli_boards.specs.Files.{FileValue, files_joined}
-use Rattle.squall_cli_boards.specs.Answers.{AnswerValue, answer_with, AnswersIn}
+use Rattle.squall_cli_boards.specs.Files.{FileValue}
+use Rattle.squall_cli_boards.specs.Answers.{AnswerValue, answer_with}
+use Rattle.squall_cli_boards.specs.Known.{KnownValue, newest_of}
 use Rattle.squall_cli_boards.specs.Routes.{routes_answer, legs_answer, span_asked}
 
 -- how far a course has come, as lines or as JSON
@@ -39,25 +36,11 @@ ShowsRoutes words c b a = a ≡ routes_answer (route c (says b)) 1 words
 abbrev pub ShowsLegs : Form → List (List ℕ) → Change → BoardValue → AnswerValue → Type 0
 ShowsLegs form words c b a = a ≡ legs_answer form (route c (says b)) (span_asked words)
 
--- what is answered of a course, as far as a board tells of it; some questions have words
-abbrev pub ShowsCourse : CourseQuestion → List (List ℕ) → Change → BoardValue → AnswerValue → Type 0
-ShowsCourse (ask.Status shown form) words c b a = ShowsStatus form shown c b a
-ShowsCourse ask.Picture words c b a = ShowsPicture c b a
-ShowsCourse ask.Routes words c b a = ShowsRoutes words c b a
-ShowsCourse (ask.Legs form) words c b a = ShowsLegs form words c b a
+-- the answer of the newest course, or what refuses a file
+abbrev pub AnswersKnown : (Change → BoardValue → AnswerValue → Type 0) → Result KnownValue AnswerValue → AnswerValue → Type 0
+AnswersKnown Shows (Ok k) a = Shows k.course k.board a
+AnswersKnown Shows (Err refusal) a = a ≡ refusal
 
--- the form of the answer, which also that of a refusal has
-abbrev pub form_asked : CourseQuestion → Form
-form_asked (ask.Status shown form) = form
-form_asked ask.Picture = Lines
-form_asked ask.Routes = Lines
-form_asked (ask.Legs form) = form
-
--- the first course of two plans
-abbrev pub first_course : List PlanRange → List PlanRange → Change
-first_course old new = record { number = 1; old = old; new = new }
-
--- of two plans and of board files: the newest course of their board, or else the first
-abbrev pub AnswersNewest : CourseQuestion → List (List ℕ) → List FileValue → List PlanRange → List PlanRange → AnswerValue → Type 0
-AnswersNewest question words files old new a =
-    AnswersIn (form_asked question) (λ b. ShowsCourse question words (course_of_board (first_course old new) b) b) (files_joined files) a
+-- the same of files: the first two are plans, and the others board files
+abbrev pub AnswersNewest : Form → (Change → BoardValue → AnswerValue → Type 0) → List FileValue → AnswerValue → Type 0
+AnswersNewest form Shows files a = AnswersKnown Shows (newest_of form files) a

@@ -24,9 +24,11 @@ pub use Rattle.squall_key.specs.Numbers
 pub use Rattle.squall_cli_json.specs.Values
 pub mod Files
 pub mod Answers
+pub mod Known
+pub mod Found
 pub mod Routes
 pub mod Courses
-pub mod Questions
 pub mod Joined
 pub mod Plans
 pub mod ReportWords
+pub mod Inquiries

@@ -40,7 +40,7 @@ impl Answer {
     }
 
     /// The line as an answer that refuses what was given.
-    pub fn refusing(alloc: Global, line: &str) -> Result<Answer, AllocError>
+    pub(crate) fn refusing(alloc: Global, line: &str) -> Result<Answer, AllocError>
         ensures { IfOk result (λ a. a ≡ refusing line.now) }
     {
         Answer::of_text(alloc, line, true)

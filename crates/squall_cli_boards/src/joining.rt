@@ -76,7 +76,10 @@ pub(crate) fn join_all(
 
 /// The board of the files: the join of all boards in them. Or the line that refuses the first file
 /// that has a fault.
-pub fn join_files(alloc: Global, files: &[NamedFile]) -> Result<Result<Board, String>, AllocError>
+pub(crate) fn join_files(
+    alloc: Global,
+    files: &[NamedFile],
+) -> Result<Result<Board, String>, AllocError>
     ensures { IfOk result (λ joined. IsJoined string_bytes joined (board_of_files files.now)) }
 {
     match join_all(alloc, files)? {

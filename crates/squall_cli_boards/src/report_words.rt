@@ -6,13 +6,22 @@ ghost use Rattle.squall_key.specs.Keys.{bound_of};
 ghost use Rattle.squall_cli_lines.specs.Words.{only_word};
 ghost use Rattle.squall_cli_words.specs.Forms.{number_first, cell_first, two_bounds};
 ghost use Rattle.squall_cli_words.specs.ReportLines.{loaded_line, done_line, opened_line, report_line};
-ghost use Rattle.squall_cli_boards.specs.Questions.{IsAskable};
-ghost use Rattle.squall_cli_boards.specs.ReportWords.{report_in, issue_in, issue_numbered, question_in, question_of_report};
-ghost use Rattle.squall_cli_boards.specs.ReportWords.{files_of_report};
+ghost use Rattle.squall_cli_boards.specs.ReportWords.{report_in, issue_in, issue_numbered, named_report, report_asked};
+ghost use Rattle.squall_cli_boards.specs.ReportWords.{is_report, HasNumber, files_of_report};
 
-use crate::question::Question;
 use squall_cli_words::ReportWords;
 use squall_key::{Bound, read_number};
+use squall_report::Report;
+
+/// What the words of a report ask for.
+#[derive(Drop)]
+pub(crate) enum ReportAsked {
+    /// The report that they write.
+    Report(Report),
+    /// The report that the reconfiguration of that number leads from one plan to another, which two
+    /// files hold. The number is at least 1.
+    Issue(u32),
+}
 
 /// The number that the first word writes, and the words after it.
 fn number_first(words: &[String]) -> Option<(u32, &[String])>
@@ -114,26 +123,26 @@ fn words_in(name: &str, rest: &[String]) -> Option<ReportWords>
 }
 
 /// The report that the words write after its name.
-fn report_in(name: &str, rest: &[String]) -> Option<Question>
+fn report_in(name: &str, rest: &[String]) -> Option<ReportAsked>
     ensures { result ≡ report_in name.now (map string_bytes rest.now) }
 {
     let words = words_in(name, rest)?;
     let report = words.report()?;
-    Some(Question::Report(report))
+    Some(ReportAsked::Report(report))
 }
 
 /// The issue of that number. None if the number is 0.
-fn issue_numbered(number: u32) -> Option<Question>
+fn issue_numbered(number: u32) -> Option<ReportAsked>
     ensures { result ≡ issue_numbered number }
 {
     if number == 0 {
         return None;
     }
-    Some(Question::Issue(number))
+    Some(ReportAsked::Issue(number))
 }
 
 /// The issue that the words write after its name.
-fn issue_in(rest: &[String]) -> Option<Question>
+fn issue_in(rest: &[String]) -> Option<ReportAsked>
     ensures { result ≡ issue_in (map string_bytes rest.now) }
 {
     match rest {
@@ -142,9 +151,9 @@ fn issue_in(rest: &[String]) -> Option<Question>
     }
 }
 
-/// The question of the words after a name.
-fn question_in(name: &str, rest: &[String]) -> Option<Question>
-    ensures { result ≡ question_in name.now (map string_bytes rest.now) }
+/// The report of that name, with the words after it.
+fn named_report(name: &str, rest: &[String]) -> Option<ReportAsked>
+    ensures { result ≡ named_report name.now (map string_bytes rest.now) }
 {
     if name == "issued" {
         return issue_in(rest);
@@ -152,18 +161,24 @@ fn question_in(name: &str, rest: &[String]) -> Option<Question>
     report_in(name, rest)
 }
 
-/// The question that the words of a report ask: `loaded N S P LO HI`, `done N S P`, `opened N S` or
-/// `issued N OLD NEW`. OLD and NEW name the files of two plans. None if the words are no report or a
-/// number lies outside its limits. Each word is read by itself: one that is empty or has a blank is
-/// no number.
-pub fn report_question(words: &[String]) -> Option<Question>
-    ensures question { result ≡ question_of_report (map string_bytes words.now) }
-    ensures askable { IfSome result IsAskable }
+/// The report that the words ask for. None if they are no report or a number lies outside its limits.
+pub(crate) fn report_asked(words: &[String]) -> Option<ReportAsked>
+    ensures report { result ≡ report_asked (map string_bytes words.now) }
+    ensures number { IfSome result HasNumber }
 {
     match words {
         [] => None,
-        [name, rest @ ..] => question_in(name.as_str(), rest),
+        [name, rest @ ..] => named_report(name.as_str(), rest),
     }
+}
+
+/// Whether the words are those of a report: `loaded N S P LO HI`, `done N S P`, `opened N S` or
+/// `issued N OLD NEW`. OLD and NEW name the files of two plans. A number outside its limits makes no
+/// report. Each word is read by itself: one that is empty or has a blank is no number.
+pub fn is_report(words: &[String]) -> bool
+    ensures { result ≡ is_report (map string_bytes words.now) }
+{
+    report_asked(words).is_some()
 }
 
 /// The names of the files that the words of a report need: the plans of an issue.

@@ -19,7 +19,8 @@ use Rattle.squall_cli_command.specs.Line.{Job, check, course, run, race, ask, st
 use Rattle.squall_cli_ask.specs.Files.{KnownFile, Unknown, Missing, Holds, Opens, BeginsFile, IsWholeFile, is_input}
 use Rattle.squall_cli_ask.specs.Reads.{Bytes, bytes_of, ReadsFrom, ReadsAll}
 use Rattle.squall_cli_ask.specs.Told.{status_of, IsUnread}
-use Rattle.squall_cli_ask.specs.Asked.{question_of, files_of}
+use Rattle.squall_cli_ask.specs.Asked.{files_of}
+use Rattle.squall_cli_ask.proofs.Matched.{matched_both, matched_true}
 use Rattle.squall_cli_ask.proofs.Inquired.{nothing_inquired}
 use Rattle.squall_cli_ask.proofs.Followed.{nothing_followed, nothing_drawn}
 use Rattle.squall_cli_run.specs.declared.tasks.Purpose.{Purpose}
@@ -29,10 +30,6 @@ use Rattle.squall_cli_run.specs.Tasks.{ShowsCourseWith, IsDone, RunsPromptly, An
 use Rattle.squall_cli_run.specs.Sources.{IsAnswered, NeedsAll, IsDoneBy}
 
 -- ---- nothing is read
-
-matched_both : (t : Bool) (P Q : Type 0) → P → Q → MatchBool t P Q
-matched_both true P Q p q = p
-matched_both false P Q p q = q
 
 begins_nothing : (known : KnownFile) → BeginsFile known []
 begins_nothing Unknown = tt
@@ -58,14 +55,6 @@ pub answered : (p : Purpose) (f f' : List ℕ → KnownFile) (i i' o o' : Option
 answered (purpose.Check form) f f' i i' o o' name read written outcome status e a text from all = (outcome, read, written, e, a, text, from, λ l. all (subst (NeedsAll (purpose.Check form)) e l))
 answered purpose.Run f f' i i' o o' name read written outcome status e a text from all = (outcome, read, written, e, a, text, from, λ l. all (subst (NeedsAll purpose.Run) e l))
 answered purpose.Race f f' i i' o o' name read written outcome status e a text from all = (outcome, read, written, e, a, text, from, λ l. all (subst (NeedsAll purpose.Race) e l))
-
-pub matched_true : (t : Bool) (P Q : Type 0) → t ≡ true → P → MatchBool t P Q
-matched_true true P Q e p = p
-matched_true false P Q e p = absurd (false≢true e)
-
-pub matched_false : (t : Bool) (P Q : Type 0) → t ≡ false → Q → MatchBool t P Q
-matched_false true P Q e q = absurd (false≢true (sym e))
-matched_false false P Q e q = q
 
 held : (bytes all : List ℕ) → Some (Some bytes) ≡ Some (Some all) → bytes ≡ all
 held bytes all e = same_Some bytes all (same_Some (Some bytes) (Some all) e)
@@ -104,7 +93,7 @@ nothing_done f i o (course form old new) status e = (
 )
 nothing_done f i o (run name) status e = (Err NoMemory, [], [], e, Appends-nil o, (0, silence, refl, refl), reads_nothing f f i o o name, λ l. absurd (omega arith))
 nothing_done f i o (race name) status e = (Err NoMemory, [], [], e, Appends-nil o, refl, reads_nothing f f i o o name, λ l. absurd (omega arith))
-nothing_done f i o (ask inquiry words files) status e = nothing_inquired (question_of inquiry words) words f i o (files_of inquiry words files) status e
+nothing_done f i o (ask inquiry words files) status e = nothing_inquired inquiry words f i o (files_of inquiry words files) status e
 nothing_done f i o (stream kind files) status e = nothing_followed kind f i o files status e
 
 pub not_ended : (job : Job) (status : ℕ) → 2 < status → EndsInput job status → ⊥

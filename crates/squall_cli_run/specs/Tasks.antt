@@ -1,5 +1,5 @@
 -- What the program does for a task, and its status (this project's command line).
-use Rattle.std.specs.Prelude.{◌≡◌, ◌⊎◌, ℕ, ◌<◌, List, [], Bool, true, false, ◌&&◌, ◌||◌, None, Result, MatchBool}
+use Rattle.std.specs.Prelude.{◌≡◌, ◌⊎◌, ℕ, ◌<◌, List, [], Bool, true, false, ◌&&◌, ◌||◌, Result, MatchBool}
 use Rattle.std.specs.List.{list_all, list_any}
 use Rattle.std.specs.Io.{StartsWith}
 use Rattle.std.specs.Io.KnownBytes.{Appends, Consumes}
@@ -13,7 +13,7 @@ use Rattle.squall_cli_command.specs.Line.{Job, check, course, run, race, ask, st
 use Rattle.squall_cli_ask.specs.Files.{is_input}
 use Rattle.squall_cli_ask.specs.Reads.{Bytes, ReadsFrom, ReadsAll}
 use Rattle.squall_cli_ask.specs.Told.{status_of}
-use Rattle.squall_cli_ask.specs.Asked.{question_of, files_of, IsInquired}
+use Rattle.squall_cli_ask.specs.Asked.{can_be, files_of, IsInquired}
 use Rattle.squall_cli_ask.specs.Followed.{IsFollowed, FollowsPromptly, DrawsStream}
 use Rattle.squall_cli_scenario.specs.Text.{IsScript}
 use Rattle.squall_cli_run.specs.Output.{check_in, course_in, IsWritten}
@@ -63,7 +63,7 @@ IsDone before after (check form name) status = ChecksWith form before after name
 IsDone before after (course form old new) status = ShowsCourseWith form before after old new status
 IsDone before after (run name) status = RunsWith before after name status
 IsDone before after (race name) status = RacesWith before after name status
-IsDone before after (ask inquiry words files) status = IsInquired (question_of inquiry words) words before after (files_of inquiry words files) status
+IsDone before after (ask inquiry words files) status = IsInquired inquiry words before after (files_of inquiry words files) status
 IsDone before after (stream kind files) status = IsFollowed kind before after files status
 
 -- ---- promptness
@@ -147,7 +147,7 @@ CannotBe (check form name) = ⊥
 CannotBe (course form old new) = ⊥
 CannotBe (run name) = ⊥
 CannotBe (race name) = ⊥
-CannotBe (ask inquiry words files) = question_of inquiry words ≡ None
+CannotBe (ask inquiry words files) = can_be inquiry words ≡ false
 CannotBe (stream kind files) = list_any is_input files ≡ true
 
 -- the words are bad: they have a fault, or they ask for a task that cannot be

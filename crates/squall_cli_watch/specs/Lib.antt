@@ -13,6 +13,7 @@ pub use Rattle.squall_cli_lines.specs.Heeding
 pub use Rattle.squall_cli_json.specs.Values
 pub use Rattle.squall_cli_boards.specs.Files
 pub use Rattle.squall_cli_boards.specs.Courses
+pub use Rattle.squall_cli_boards.specs.Known
 pub mod Bars
 pub mod BarLines
 pub mod Changed

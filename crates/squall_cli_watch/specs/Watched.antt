@@ -21,7 +21,8 @@ use Rattle.squall_cli_lines.specs.declared.Ended.TheVariants.{Fine, Refused}
 use Rattle.squall_cli_lines.specs.declared.RunFault.{RunFault}
 use Rattle.squall_cli_lines.specs.declared.RunFault.TheVariants.{Read, Write, NoMemory}
 use Rattle.squall_cli_boards.specs.Files.{fault_after}
-use Rattle.squall_cli_boards.specs.Courses.{status_in, first_course}
+use Rattle.squall_cli_boards.specs.Courses.{status_in}
+use Rattle.squall_cli_boards.specs.Known.{first_course}
 use Rattle.squall_cli_watch.specs.Changed.{change_in}
 
 -- ---- the status

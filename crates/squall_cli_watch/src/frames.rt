@@ -4,7 +4,7 @@ ghost use Rattle.std.specs.Prelude.{◌≡◌, ℕ, IfOk, Ok, false, length, tru
 ghost use Rattle.squall_board.specs.Boards.{empty_board};
 ghost use Rattle.squall_cli_device.specs.States.{GaveAll, ReadAndWrote};
 ghost use Rattle.squall_cli_lines.specs.Heeding.{HeedsReads, HeedsWrites};
-ghost use Rattle.squall_cli_boards.specs.Courses.{first_course};
+ghost use Rattle.squall_cli_boards.specs.Known.{first_course};
 ghost use Rattle.squall_cli_watch.specs.Drawn.{ShowsBars};
 ghost use Rattle.squall_cli_watch.specs.Drawing.{DrawsOn};
 ghost use Rattle.squall_cli_watch.specs.Taken.{plays};

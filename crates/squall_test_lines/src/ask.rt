@@ -1,6 +1,6 @@
 // What is asked of board files, over readers and writers that work, fail or stop.
+use crate::texts::copies;
 use squall_cli_ask::*;
-use squall_cli_boards::{NamedFile, Question};
 use squall_cli_command::{Ask, Follow, Form, Inquiry, Stream};
 use squall_cli_device::{Reader, Writer};
 use squall_cli_lines::Ended;
@@ -28,15 +28,6 @@ impl Files for TwoFiles {
         }
         None
     }
-}
-
-/// Copies of the texts.
-fn copies(alloc: Global, texts: &[&str]) -> Result<Vec<String>, AllocError> {
-    let mut copies = Vec::new(alloc);
-    for text in texts {
-        copies.push(String::from_str(alloc, text)?)?;
-    }
-    Ok(copies)
 }
 
 /// What an inquiry brings about: the status, the output, and the text on standard error.

@@ -14,4 +14,6 @@ mod language;
 #[cfg(test)]
 mod lines;
 #[cfg(test)]
+mod texts;
+#[cfg(test)]
 mod watch;

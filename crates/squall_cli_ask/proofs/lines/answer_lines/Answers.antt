@@ -1,7 +1,7 @@
 use Rattle.squall_board.specs.Boards.{says}
 use Rattle.squall_board.specs.Route.{route}
 use Rattle.squall_cli_ask.specs.Written.{script_of}
-use Rattle.squall_cli_ask.specs.Found.{known_seen}
+use Rattle.squall_cli_boards.specs.Found.{known_seen}
 use Rattle.squall_cli_ask.proofs.lines.answer_lines.Goals as goal
 
 pub returns-clause-text : goal.returns-clause-text

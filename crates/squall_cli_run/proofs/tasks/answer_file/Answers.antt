@@ -1,6 +1,7 @@
 use Rattle.std.proofs.Common.{sym, ◌∙◌}
 use Rattle.squall_cli_ask.specs.Files.{is_input}
-use Rattle.squall_cli_run.proofs.TaskLemmas.{unopened, answered, matched_true, matched_false, opened_begins, opened_whole}
+use Rattle.squall_cli_ask.proofs.Matched.{matched_true, matched_false}
+use Rattle.squall_cli_run.proofs.TaskLemmas.{unopened, answered, opened_begins, opened_whole}
 use Rattle.squall_cli_run.proofs.tasks.answer_file.Goals as goal
 
 pub returns-in-None-clause-done : goal.returns-in-None-clause-done

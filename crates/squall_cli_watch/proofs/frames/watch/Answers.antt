@@ -3,7 +3,7 @@ use Rattle.std.proofs.KnownBytes.{Appends-nil, Consumes-nil}
 use Rattle.std.proofs.lemmas.Result.{err_from_is_err_and}
 use Rattle.squall_board.specs.Boards.{empty_board}
 use Rattle.squall_cli_device.specs.States.{ReadAndWrote}
-use Rattle.squall_cli_boards.specs.Courses.{first_course}
+use Rattle.squall_cli_boards.specs.Known.{first_course}
 use Rattle.squall_cli_watch.specs.Watched.{AnswersFrames, IsWatchedBy}
 use Rattle.squall_cli_watch.specs.Drawn.{ShowsBars}
 use Rattle.squall_cli_watch.proofs.Watching.{nothing_watched}

@@ -1,0 +1,40 @@
+//! What is answered to an inquiry about files.
+
+ghost use Rattle.std.specs.Prelude.{IfOk, map, string_bytes};
+ghost use Rattle.squall_cli_boards.specs.Inquiries.{IsAnswerTo};
+
+use crate::answer::Answer;
+use crate::boards::{board_answer, digest_answer, merge_answer};
+use crate::courses::{legs_answer, picture_answer, routes_answer, status_answer};
+use crate::exchange::{beyond_answer, cover_answer, repair_answer};
+use crate::file::NamedFile;
+use crate::plans::report_answer;
+use squall_cli_command::Inquiry;
+use squall_status::Shown;
+use std::alloc::{AllocError, Global};
+
+/// The answer to the inquiry about the files, in their order. The words count only for a report, routes
+/// and legs. Words that are no report are refused without a line. It fails only if an allocation fails.
+pub fn answer_to(
+    alloc: Global,
+    inquiry: Inquiry,
+    words: &[String],
+    files: &[NamedFile],
+) -> Result<Answer, AllocError>
+    ensures { IfOk result (λ a. IsAnswerTo inquiry (map string_bytes words.now) files.now a) }
+{
+    match inquiry {
+        Inquiry::Report => report_answer(alloc, words, files),
+        Inquiry::Board(form) => board_answer(alloc, form, files),
+        Inquiry::Status(form) => status_answer(alloc, form, Shown::EachMove, files),
+        Inquiry::Waiting(form) => status_answer(alloc, form, Shown::Waiting, files),
+        Inquiry::Picture => picture_answer(alloc, files),
+        Inquiry::Routes => routes_answer(alloc, words, files),
+        Inquiry::Legs(form) => legs_answer(alloc, form, words, files),
+        Inquiry::Merge => merge_answer(alloc, files),
+        Inquiry::Beyond => beyond_answer(alloc, files),
+        Inquiry::Cover => cover_answer(alloc, files),
+        Inquiry::Digest => digest_answer(alloc, files),
+        Inquiry::Repair => repair_answer(alloc, files),
+    }
+}
