@@ -8,6 +8,8 @@ mod boards;
 #[cfg(test)]
 mod command;
 #[cfg(test)]
+mod devices;
+#[cfg(test)]
 mod event_text;
 #[cfg(test)]
 mod language;

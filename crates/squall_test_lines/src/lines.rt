@@ -1,11 +1,12 @@
 // Runs over readers and writers that give and take one byte, or fail, and the words of lines.
+use crate::devices::Drip;
 use squall_cli_device::{Reader, Writer};
 use squall_cli_lines::machine::Machine;
 use squall_cli_lines::words::{after_blanks, next_word, only_word, without_cr};
 use squall_cli_lines::{Ended, Flow, LONGEST_PIECE, RunFault, next_line, read_all, run};
 use std::alloc::{AllocError, Global};
 use std::io;
-use std::io::{ErrorKind, Read, Write};
+use std::io::{ErrorKind, Write};
 use std::test::Fail;
 
 /// Answers each line that is not empty by its length. A line that begins with `x` is bad.
@@ -62,28 +63,6 @@ impl Machine for Numbers {
         self.line = self.line.saturating_add(1);
         write!(out, "{}\n", self.line)?;
         Ok(Flow::On)
-    }
-}
-
-/// Gives at most this many bytes per read. After some reads it fails once, and then continues.
-#[derive(Drop)]
-struct Drip<'a> {
-    bytes: &'a [u8],
-    most: usize,
-    reads_left: u64,
-}
-
-impl Read for Drip<'_> {
-    fn read(&mut self, buf: &mut [u8]) -> io::Result<usize> {
-        if self.reads_left == 0 {
-            self.reads_left = u64::MAX;
-            return Err(io::Error::from(ErrorKind::Other));
-        }
-        self.reads_left -= 1;
-        let mut piece = self.bytes.get(..self.most).unwrap_or(self.bytes);
-        let count = piece.read(buf)?;
-        self.bytes = self.bytes.get(count..).unwrap_or(b"");
-        Ok(count)
     }
 }
 

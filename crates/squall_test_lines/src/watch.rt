@@ -1,28 +1,16 @@
 // What is written while frames come, over readers and writers that give and take one byte, or fail.
 mod bar;
 
+use crate::devices::{Drip, Narrow};
 use squall_cli_command::Form;
 use squall_cli_device::{Reader, Writer};
 use squall_cli_lines::{Ended, RunFault};
 use squall_cli_watch::watch;
 use squall_plan::Plan;
+use squall_test_example::{NEW, OLD};
 use std::alloc::Global;
 use std::io;
-use std::io::{ErrorKind, Read, Write};
 use std::test::Fail;
-
-/// Partition 1 below 3:0, then 2 below 5:0, then 3 below 9:0, then 4.
-const OLD: &str = concat!(
-    r#"{"plan":[{"part":1,"from":[0,0],"to":[3,0]},{"part":2,"from":[3,0],"to":[5,0]},"#,
-    r#"{"part":3,"from":[5,0],"to":[9,0]},{"part":4,"from":[9,0],"to":"end"}]}"#,
-);
-
-/// From 2:0 to 3:0 the keys of partition 1 go to 3, and from 6:0 to 9:0 those of 3 go to 4.
-const NEW: &str = concat!(
-    r#"{"plan":[{"part":1,"from":[0,0],"to":[2,0]},{"part":2,"from":[3,0],"to":[5,0]},"#,
-    r#"{"part":3,"from":[2,0],"to":[3,0]},{"part":3,"from":[5,0],"to":[6,0]},"#,
-    r#"{"part":4,"from":[6,0],"to":"end"}]}"#,
-);
 
 /// The frame of the opening of sub-plan 0.
 const OPENED: &[u8] = b"SQ\x01\x01\0\0\0\x10\0\0\0\x01\0\0\0\x01\0\0\0\x01\0\0\0\0";
@@ -77,51 +65,6 @@ const OTHER_OBJECTS: &str = concat!(
     "\n",
 );
 
-/// Gives at most this many bytes per read. After some reads it fails once, and then continues.
-#[derive(Drop)]
-struct Drip<'a> {
-    bytes: &'a [u8],
-    most: usize,
-    reads_left: u64,
-}
-
-impl Read for Drip<'_> {
-    fn read(&mut self, buf: &mut [u8]) -> io::Result<usize> {
-        if self.reads_left == 0 {
-            self.reads_left = u64::MAX;
-            return Err(io::Error::from(ErrorKind::Other));
-        }
-        self.reads_left = self.reads_left.saturating_sub(1);
-        let n = self.bytes.len().min(self.most).min(buf.len());
-        let (given, rest) = self.bytes.split_at(n);
-        buf[..n].copy_from_slice(given);
-        self.bytes = rest;
-        Ok(n)
-    }
-}
-
-/// Takes at most one byte per write, and none once its room is full.
-#[derive(Drop)]
-struct Narrow<'a> {
-    taken: &'a mut Vec<u8>,
-    room: usize,
-}
-
-impl Write for Narrow<'_> {
-    fn write(&mut self, buf: &[u8]) -> io::Result<usize> {
-        let n = buf.len().min(self.room).min(1);
-        if self.taken.extend_from_slice(&buf[..n]).is_err() {
-            return Err(io::Error::from(ErrorKind::Other));
-        }
-        self.room -= n;
-        Ok(n)
-    }
-
-    fn flush(&mut self) -> io::Result<()> {
-        Ok(())
-    }
-}
-
 /// How bytes come, and how much is written at most.
 #[derive(Clone, Copy)]
 struct Devices {
@@ -159,6 +102,7 @@ fn watched(
     let mut writer = Writer::new(Narrow {
         taken: &mut taken,
         room: devices.room,
+        is_terminal: false,
     });
     let ended = watch(
         alloc,
@@ -173,183 +117,144 @@ fn watched(
     Some((ended, taken))
 }
 
-/// Whether the bytes bring this end and this text.
-fn brings(
-    alloc: Global,
-    form: Form,
-    bytes: &[&[u8]],
-    devices: Devices,
-    wanted: Result<Ended, RunFault>,
-    answers: &[&str],
-) -> Result<bool, Fail> {
-    let bytes = bytes.concat(alloc)?;
+/// Each frame is answered.
+const DONE_ALL: Result<Ended, RunFault> = Ok(Ended::Fine);
+
+/// The input is refused.
+const REFUSED: Result<Ended, RunFault> = Ok(Ended::Refused);
+
+/// What comes: the frames, and how. What is answered has the form.
+type Came = (Form, &'static [&'static [u8]], Devices);
+
+/// What that brings: the end and the answers.
+type Brought = (Result<Ended, RunFault>, &'static [&'static str]);
+
+/// Whether it brings that.
+fn brings(alloc: Global, came: &Came, brought: &Brought) -> Result<bool, Fail> {
+    let (form, frames, devices) = came;
+    let (wanted, answers) = brought;
+    let bytes = frames.concat(alloc)?;
     let answers = answers.concat(alloc)?;
-    let (ended, text) = watched(alloc, form, &bytes, devices).ok_or("memory")?;
-    Ok(ended == wanted && text.as_slice() == answers.as_bytes())
+    let (ended, text) = watched(alloc, *form, &bytes, *devices).ok_or("memory")?;
+    Ok(ended == *wanted && text.as_slice() == answers.as_bytes())
+}
+
+/// The answers to the three frames, in both forms.
+static ANSWERS: [(Form, Brought); 2] = [
+    (Form::Lines, (DONE_ALL, &[FIRST, OTHERS])),
+    (Form::Json, (DONE_ALL, &[FIRST_OBJECT, OTHER_OBJECTS])),
+];
+
+/// Whether the three frames bring their answers by these devices.
+fn each_brings(alloc: Global, devices: Devices) -> Result<bool, Fail> {
+    let mut right = true;
+    for (form, brought) in &ANSWERS {
+        right &= brings(alloc, &(*form, &[OPENED, LOADED, DONE], devices), brought)?;
+    }
+    Ok(right)
 }
 
 /// How frames are cut into reads changes nothing.
 #[test]
 fn each_frame_is_answered(rt: HostRuntime) -> Result<(), Fail> {
-    let frames = [OPENED, LOADED, DONE];
     for most in [1usize, 7, 24, 25, usize::MAX] {
-        let devices = Devices { most, ..FINE };
-        let fine = Ok(Ended::Fine);
-        assert!(rt;
-            brings(
-                rt.alloc(),
-                Form::Lines,
-                &frames,
-                devices,
-                fine,
-                &[FIRST, OTHERS]
-            )?
-        );
-        assert!(rt;
-            brings(
-                rt.alloc(),
-                Form::Json,
-                &frames,
-                devices,
-                fine,
-                &[FIRST_OBJECT, OTHER_OBJECTS]
-            )?
-        );
+        assert!(rt; each_brings(rt.alloc(), Devices { most, ..FINE })?);
     }
     Ok(())
 }
 
-/// A frame that tells nothing new has no answer. The first frame has one in any case.
-#[test]
-fn nothing_new_is_not_answered(rt: HostRuntime) -> Result<(), Fail> {
-    let frames = [OPENED, OPENED, LOADED, OPENED, LOADED, DONE, DONE];
-    let fine = Ok(Ended::Fine);
-    assert!(rt;
-        brings(
-            rt.alloc(),
-            Form::Lines,
-            &frames,
-            FINE,
-            fine,
-            &[FIRST, OTHERS]
-        )?
-    );
-    assert!(rt;
-        brings(
-            rt.alloc(),
-            Form::Json,
-            &frames,
-            FINE,
-            fine,
-            &[FIRST_OBJECT, OTHER_OBJECTS]
-        )?
-    );
-    Ok(())
-}
+/// The read after that of the first frame fails.
+const UNREAD: Devices = Devices {
+    most: 24,
+    reads: 1,
+    room: usize::MAX,
+};
 
-/// A frame that is broken, one of a digest, and one that is cut end the answers.
+/// Ten bytes are written.
+const FULL: Devices = Devices {
+    most: usize::MAX,
+    reads: u64::MAX,
+    room: 10,
+};
+
+/// The frames, some of which tell nothing new.
+const AGAIN: &[&[u8]] = &[OPENED, OPENED, LOADED, OPENED, LOADED, DONE, DONE];
+
+const MAGIC: &str = "{\"fault\":\"Magic\",\"refused\":\"-\"}\n";
+
+const KIND: &str = "{\"fault\":\"Kind\",\"refused\":\"-\"}\n";
+
+const SHORT: &str = "{\"fault\":\"Short\",\"refused\":\"-\"}\n";
+
+/// What comes, and what it brings.
+static CASES: [(Came, Brought); 16] = [
+    // An input without a byte has no answer.
+    ((Form::Lines, &[], FINE), (DONE_ALL, &[])),
+    ((Form::Json, &[], FINE), (DONE_ALL, &[])),
+    // A frame that tells nothing new has no answer. The first frame has one in any case.
+    ((Form::Lines, AGAIN, FINE), (DONE_ALL, &[FIRST, OTHERS])),
+    (
+        (Form::Json, AGAIN, FINE),
+        (DONE_ALL, &[FIRST_OBJECT, OTHER_OBJECTS]),
+    ),
+    // A frame that is broken, one of a digest, and one that is cut end the answers.
+    (
+        (Form::Lines, &[OPENED, b"SX"], FINE),
+        (REFUSED, &[FIRST, "refused - Magic\n"]),
+    ),
+    (
+        (Form::Json, &[OPENED, b"SX"], FINE),
+        (REFUSED, &[FIRST_OBJECT, MAGIC]),
+    ),
+    (
+        (Form::Lines, &[OPENED, DIGEST], FINE),
+        (REFUSED, &[FIRST, "refused - Kind\n"]),
+    ),
+    (
+        (Form::Json, &[OPENED, DIGEST], FINE),
+        (REFUSED, &[FIRST_OBJECT, KIND]),
+    ),
+    (
+        (Form::Lines, &[OPENED, b"SQ"], FINE),
+        (REFUSED, &[FIRST, "refused - Short\n"]),
+    ),
+    (
+        (Form::Json, &[OPENED, b"SQ"], FINE),
+        (REFUSED, &[FIRST_OBJECT, SHORT]),
+    ),
+    // What comes after a frame that ends the answers has none.
+    (
+        (Form::Lines, &[OPENED, b"SX", DONE], FINE),
+        (REFUSED, &[FIRST, "refused - Magic\n"]),
+    ),
+    (
+        (Form::Lines, &[OPENED, DIGEST, DONE], FINE),
+        (REFUSED, &[FIRST, "refused - Kind\n"]),
+    ),
+    // What comes before a read or a write that fails is answered.
+    (
+        (Form::Lines, &[OPENED, LOADED], UNREAD),
+        (Err(RunFault::Read), &[FIRST]),
+    ),
+    (
+        (Form::Json, &[OPENED, LOADED], UNREAD),
+        (Err(RunFault::Read), &[FIRST_OBJECT]),
+    ),
+    (
+        (Form::Lines, &[OPENED, LOADED], FULL),
+        (Err(RunFault::Write), &["course 1 m"]),
+    ),
+    (
+        (Form::Json, &[OPENED, LOADED], FULL),
+        (Err(RunFault::Write), &["{\"course\":"]),
+    ),
+];
+
 #[test]
-fn faults_end_the_answers(rt: HostRuntime) -> Result<(), Fail> {
-    let alloc = rt.alloc();
-    let refused = Ok(Ended::Refused);
-    let faults: [(&[u8], &str, &str); 3] = [
-        (
-            b"SX",
-            "refused - Magic\n",
-            "{\"fault\":\"Magic\",\"refused\":\"-\"}\n",
-        ),
-        (
-            DIGEST,
-            "refused - Kind\n",
-            "{\"fault\":\"Kind\",\"refused\":\"-\"}\n",
-        ),
-        (
-            b"SQ",
-            "refused - Short\n",
-            "{\"fault\":\"Short\",\"refused\":\"-\"}\n",
-        ),
-    ];
-    for (bytes, line, object) in faults {
-        let frames = [OPENED, bytes];
-        assert!(rt; brings(alloc, Form::Lines, &frames, FINE, refused, &[FIRST, line])?);
-        assert!(rt;
-            brings(
-                alloc,
-                Form::Json,
-                &frames,
-                FINE,
-                refused,
-                &[FIRST_OBJECT, object]
-            )?
-        );
+fn frames_are_answered(rt: HostRuntime) -> Result<(), Fail> {
+    for (came, brought) in &CASES {
+        assert!(rt; brings(rt.alloc(), came, brought)?);
     }
-    Ok(())
-}
-
-/// An input without a byte has no answer. What comes after a frame that ends the answers has none.
-#[test]
-fn nothing_else_is_answered(rt: HostRuntime) -> Result<(), Fail> {
-    let alloc = rt.alloc();
-    assert!(rt; brings(alloc, Form::Lines, &[], FINE, Ok(Ended::Fine), &[])?);
-    assert!(rt; brings(alloc, Form::Json, &[], FINE, Ok(Ended::Fine), &[])?);
-    let refused = Ok(Ended::Refused);
-    assert!(rt;
-        brings(
-            alloc,
-            Form::Lines,
-            &[OPENED, b"SX", DONE],
-            FINE,
-            refused,
-            &[FIRST, "refused - Magic\n"]
-        )?
-    );
-    assert!(rt;
-        brings(
-            alloc,
-            Form::Lines,
-            &[OPENED, DIGEST, DONE],
-            FINE,
-            refused,
-            &[FIRST, "refused - Kind\n"]
-        )?
-    );
-    Ok(())
-}
-
-/// What comes before a read or a write that fails is answered.
-#[test]
-fn devices_that_fail_are_told(rt: HostRuntime) -> Result<(), Fail> {
-    let alloc = rt.alloc();
-    let frames = [OPENED, LOADED];
-    let read = Devices {
-        most: 24,
-        reads: 1,
-        ..FINE
-    };
-    let write = Devices { room: 10, ..FINE };
-    let (unread, unwritten) = (Err(RunFault::Read), Err(RunFault::Write));
-    assert!(rt; brings(alloc, Form::Lines, &frames, read, unread, &[FIRST])?);
-    assert!(rt;
-        brings(
-            alloc,
-            Form::Lines,
-            &frames,
-            write,
-            unwritten,
-            &["course 1 m"]
-        )?
-    );
-    assert!(rt; brings(alloc, Form::Json, &frames, read, unread, &[FIRST_OBJECT])?);
-    assert!(rt;
-        brings(
-            alloc,
-            Form::Json,
-            &frames,
-            write,
-            unwritten,
-            &["{\"course\":"]
-        )?
-    );
     Ok(())
 }
 

@@ -1,13 +1,15 @@
 // Bars that are drawn while frames come, over terminals that take few bytes, or fail.
-use super::{DONE, FIRST, LOADED, NEW, Narrow, OLD, OPENED, OTHERS};
+use super::{DONE, FIRST, LOADED, OPENED, OTHERS};
+use crate::devices::Narrow;
 use squall_cli_command::Form;
 use squall_cli_device::{Reader, Writer};
 use squall_cli_lines::{Ended, RunFault};
 use squall_cli_watch::{Bar, bar_text, watch};
 use squall_plan::Plan;
+use squall_test_example::{NEW, OLD};
 use std::alloc::Global;
 use std::io;
-use std::io::{ErrorKind, IsTerminal, Read, Write};
+use std::io::Read;
 use std::test::Fail;
 
 /// The bar before anything is loaded.
@@ -39,35 +41,6 @@ impl Read for Pieces<'_> {
         let n = piece.len().min(buf.len());
         buf[..n].copy_from_slice(&piece[..n]);
         Ok(n)
-    }
-}
-
-/// Takes at most seven bytes per write, and none once its room is full.
-#[derive(Drop)]
-struct Screen<'a> {
-    taken: &'a mut Vec<u8>,
-    room: usize,
-    is_terminal: bool,
-}
-
-impl Write for Screen<'_> {
-    fn write(&mut self, buf: &[u8]) -> io::Result<usize> {
-        let n = buf.len().min(self.room).min(7);
-        if self.taken.extend_from_slice(&buf[..n]).is_err() {
-            return Err(io::Error::from(ErrorKind::Other));
-        }
-        self.room -= n;
-        Ok(n)
-    }
-
-    fn flush(&mut self) -> io::Result<()> {
-        Ok(())
-    }
-}
-
-impl IsTerminal for Screen<'_> {
-    fn is_terminal(&self) -> bool {
-        self.is_terminal
     }
 }
 
@@ -110,8 +83,9 @@ fn watched(alloc: Global, pieces: &[&[u8]], text_room: usize, room: Room) -> Opt
     let mut writer = Writer::new(Narrow {
         taken: &mut text,
         room: text_room,
+        is_terminal: false,
     });
-    let mut err = Writer::on_stream(Screen {
+    let mut err = Writer::on_stream(Narrow {
         taken: &mut drawn,
         room: room.bytes,
         is_terminal: room.is_terminal,
@@ -131,82 +105,61 @@ fn watched(alloc: Global, pieces: &[&[u8]], text_room: usize, room: Room) -> Opt
 }
 
 /// What is drawn while the three example frames come.
-fn three_bars(alloc: Global) -> Result<String, Fail> {
-    let bars = [NONE, ERASED, NONE, ERASED, QUARTER, ERASED, WHOLE, "\n"];
-    Ok(bars.concat(alloc)?)
-}
+const BARS: &[&str] = &[NONE, ERASED, NONE, ERASED, QUARTER, ERASED, WHOLE, "\n"];
 
-/// Whether the pieces bring this end, this text and these bars on a terminal.
-fn brings(
-    alloc: Global,
-    pieces: &[&[u8]],
-    ended: Ended,
-    answers: &[&str],
-    bars: &[&str],
-) -> Result<bool, Fail> {
+/// What one frame draws.
+const ONE_BAR: &[&str] = &[NONE, ERASED, NONE, "\n"];
+
+/// The first and the last bytes of the frame of the opening.
+const HEAD: &[u8] = b"SQ\x01\x01\0\0\0\x10\0";
+
+const TAIL: &[u8] = b"\0\0\x01\0\0\0\x01\0\0\0\x01\0\0\0\0";
+
+/// What pieces bring on a terminal: the end, the answers and the bars.
+type Brought = (Ended, &'static [&'static str], &'static [&'static str]);
+
+/// Pieces, and what they bring.
+static CASES: [(&[&[u8]], Brought); 5] = [
+    // A bar comes before the first read and after each read that is answered.
+    (&[], (Ended::Fine, &[], &[NONE, "\n"])),
+    (
+        &[OPENED, LOADED, DONE],
+        (Ended::Fine, &[FIRST, OTHERS], BARS),
+    ),
+    // A read that is not answered draws nothing. The bar of a frame comes with its last byte.
+    (
+        &[HEAD, TAIL, OPENED, OPENED],
+        (Ended::Fine, &[FIRST], ONE_BAR),
+    ),
+    // What refuses the input is written above the bar, or at the end of the input below it.
+    (
+        &[OPENED, b"SX"],
+        (
+            Ended::Refused,
+            &[FIRST, "refused - Magic\n"],
+            &[NONE, ERASED, NONE, ERASED, NONE, "\n"],
+        ),
+    ),
+    (
+        &[OPENED, b"SQ"],
+        (Ended::Refused, &[FIRST, "refused - Short\n"], ONE_BAR),
+    ),
+];
+
+/// Whether the pieces bring that.
+fn brings(alloc: Global, pieces: &[&[u8]], brought: &Brought) -> Result<bool, Fail> {
+    let (ended, answers, bars) = brought;
     let answers = answers.concat(alloc)?;
     let bars = bars.concat(alloc)?;
     let watched = watched(alloc, pieces, usize::MAX, TERMINAL).ok_or("memory")?;
-    Ok(watched.is(Ok(ended), answers.as_bytes(), bars.as_bytes()))
+    Ok(watched.is(Ok(*ended), answers.as_bytes(), bars.as_bytes()))
 }
 
-/// A bar comes before the first read and after each read that is answered.
 #[test]
 fn bars_are_drawn(rt: HostRuntime) -> Result<(), Fail> {
-    let alloc = rt.alloc();
-    let bars = three_bars(alloc)?;
-    assert!(rt;
-        brings(
-            alloc,
-            &[OPENED, LOADED, DONE],
-            Ended::Fine,
-            &[FIRST, OTHERS],
-            &[bars.as_str()]
-        )?
-    );
-    assert!(rt; brings(alloc, &[], Ended::Fine, &[], &[NONE, "\n"])?);
-    Ok(())
-}
-
-/// A read that is not answered draws nothing. The bar of a frame comes with its last byte.
-#[test]
-fn nothing_new_is_not_drawn(rt: HostRuntime) -> Result<(), Fail> {
-    let alloc = rt.alloc();
-    let (head, tail) = OPENED.split_at(9);
-    assert!(rt;
-        brings(
-            alloc,
-            &[head, tail, OPENED, OPENED],
-            Ended::Fine,
-            &[FIRST],
-            &[NONE, ERASED, NONE, "\n"]
-        )?
-    );
-    Ok(())
-}
-
-/// What refuses the input is written above the bar, or at the end of the input below it.
-#[test]
-fn refusals_have_lines_of_their_own(rt: HostRuntime) -> Result<(), Fail> {
-    let alloc = rt.alloc();
-    assert!(rt;
-        brings(
-            alloc,
-            &[OPENED, b"SX"],
-            Ended::Refused,
-            &[FIRST, "refused - Magic\n"],
-            &[NONE, ERASED, NONE, ERASED, NONE, "\n"]
-        )?
-    );
-    assert!(rt;
-        brings(
-            alloc,
-            &[OPENED, b"SQ"],
-            Ended::Refused,
-            &[FIRST, "refused - Short\n"],
-            &[NONE, ERASED, NONE, "\n"]
-        )?
-    );
+    for (pieces, brought) in &CASES {
+        assert!(rt; brings(rt.alloc(), pieces, brought)?);
+    }
     Ok(())
 }
 
@@ -216,7 +169,7 @@ fn terminals_that_fail(rt: HostRuntime) -> Result<(), Fail> {
     let alloc = rt.alloc();
     let pieces = [OPENED, LOADED, DONE];
     let answers = [FIRST, OTHERS].concat(alloc)?;
-    let bars = three_bars(alloc)?;
+    let bars = BARS.concat(alloc)?;
     for bytes in [0usize, 1, 57, 58, 100, 500, 510] {
         let room = Room { bytes, ..TERMINAL };
         let shown = bars.as_bytes().get(..bytes).unwrap_or(bars.as_bytes());
@@ -244,7 +197,7 @@ fn others_get_no_bar(rt: HostRuntime) -> Result<(), Fail> {
 #[test]
 fn bars_beside_a_writer_that_fails(rt: HostRuntime) -> Result<(), Fail> {
     let alloc = rt.alloc();
-    let bars = [NONE, ERASED, NONE, "\n"].concat(alloc)?;
+    let bars = ONE_BAR.concat(alloc)?;
     let watched = watched(alloc, &[OPENED, LOADED], 10, TERMINAL).ok_or("memory")?;
     assert!(rt; watched.is(Err(RunFault::Write), b"course 1 m", bars.as_bytes()));
     Ok(())
