@@ -1,6 +1,7 @@
 //! Leaders behind handles between plans whose moves were worked out by hand.
 
 mod feeding;
+mod replay;
 
 use squall_c_leaders::LeaderNode;
 use squall_course::Course;

@@ -4,6 +4,7 @@ mod absorbs;
 mod example;
 mod hears;
 mod legs;
+mod loads;
 mod many;
 mod patches;
 mod searches;
