@@ -3,11 +3,16 @@
 # so the next one gets a new client, and a server that has memory, runs no script and needs no replicas.
 rename test test_as_it_is
 proc test {name code args} {
+    if {[info procs ::attach_as_it_is] eq {} && [info procs ::redis::attach_to_partition] ne {}} {
+        rename attach_to_replication_stream ::attach_as_it_is
+        interp alias {} ::attach_to_replication_stream {} ::redis::attach_to_partition
+    }
     set before $::num_failed
     uplevel 1 [list test_as_it_is $name $code {*}$args]
     if {$::num_failed > $before} {
         catch {reconnect}
         catch {r script kill}
+        catch {r function kill}
         catch {r config set maxmemory 0}
         catch {r config set min-replicas-to-write 0}
     }
@@ -29,6 +34,20 @@ if {[info exists ::env(SQUALL_PARTITIONS)] && $::env(SQUALL_PARTITIONS) ne {}} {
         return $answer
     }
 
+    # A replica is one of the first partition. What defines this is loaded later than this file.
+    proc ::redis::attach_to_partition {} {
+        rename ::srv ::srv_of_proxy
+        proc ::srv {args} {
+            if {[lindex $args end] eq {port}} {return [lindex $::env(SQUALL_PARTITIONS) 0]}
+            return [::srv_of_proxy {*}$args]
+        }
+        set code [catch {::attach_as_it_is} stream]
+        rename ::srv {}
+        rename ::srv_of_proxy ::srv
+        if {$code} {error $stream}
+        return $stream
+    }
+
     # FLUSHALL would also remove what the partitions keep of the course.
     proc ::redis::clear_partitions {} {
         foreach port $::env(SQUALL_PARTITIONS) {
@@ -44,8 +63,10 @@ if {[info exists ::env(SQUALL_PARTITIONS)] && $::env(SQUALL_PARTITIONS) ne {}} {
     }
 
     proc ::redis::of_operator {name argv} {
+        # It would also remove the functions that make a server a partition.
+        if {$name eq {function} && [string tolower [lindex $argv 0]] eq {flush}} {return OK}
         switch $name {
-            config - script {return [::redis::to_partitions [list $name {*}$argv]]}
+            config - function - pfselftest - save - script {return [::redis::to_partitions [list $name {*}$argv]]}
             flushall - flushdb {return [::redis::clear_partitions]}
             default {return OK}
         }
@@ -54,11 +75,12 @@ if {[info exists ::env(SQUALL_PARTITIONS)] && $::env(SQUALL_PARTITIONS) ne {}} {
     proc ::redis::__dispatch__ {id method args} {
         set name [string tolower $method]
         set sub [string tolower [lindex $args 0]]
-        set is_of_operator [expr {$name in {config flushall flushdb} || [list $name $sub] in {{function flush} {script kill}}}]
+        set is_of_operator [expr {$name in {config flushall flushdb function pfselftest save} || [list $name $sub] in {{script flush} {script kill}}}]
         if {!$is_of_operator || [lindex $::redis::addr($id) 1] in $::env(SQUALL_PARTITIONS)} {
             return [::redis::__dispatch_to_proxy__ $id $method {*}$args]
         }
         set answer [::redis::of_operator $name $args]
+        if {$::redis::readraw($id)} {return [::redis::__dispatch_to_proxy__ $id echo $answer]}
         if {$::redis::deferred($id)} {
             # This one is read later, and all that is asked so is answered with OK.
             return [::redis::__dispatch_to_proxy__ $id select 0]

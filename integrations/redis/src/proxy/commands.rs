@@ -155,6 +155,7 @@ pub fn find(name: &[u8]) -> Option<&'static Command> {
 
 const FEW: &str = "wrong number of arguments";
 const NO_KEY: &str = "numkeys should be greater than 0";
+const NO_SET: &str = "at least 1 input key is needed";
 
 /// Where the keys end whose count the word at that index is.
 fn counted<'a>(count: usize, at: usize, word: impl Fn(usize) -> &'a [u8]) -> Result<usize, &'static str> {
@@ -234,7 +235,10 @@ impl Command {
                 (0..0, first..last + 1, step)
             }
             Keys::Counted(at) => match counted(count, at, line.word)? {
-                end if end == at + 1 => return Err(FEW),
+                end if end == at + 1 && self.kind == Kind::SortedSet && self.name != "ZMPOP" => {
+                    return Err(NO_SET)
+                }
+                end if end == at + 1 => return Err(NO_KEY),
                 end => (1..at, at + 1..end, 1),
             },
             Keys::Named(at) => match counted(count, at, line.word)? {
@@ -294,6 +298,12 @@ mod tests {
         assert_eq!(places("BZMPOP 0 1 a MIN"), Ok(vec![3]));
         assert_eq!(places("EVAL x 0 a"), Ok(vec![]));
         assert_eq!(places("COMMAND INFO get"), Ok(vec![]));
+        for line in ["LMPOP 0 a LEFT", "ZMPOP 0 a MIN", "SINTERCARD 0 a", "BZMPOP 0 0 a MIN"] {
+            assert_eq!(places(line), Err(NO_KEY), "{line}");
+        }
+        for line in ["ZUNION 0 a", "ZINTERCARD 0 a", "ZDIFFSTORE d 0 a"] {
+            assert_eq!(places(line), Err(NO_SET), "{line}");
+        }
     }
 
     #[test]

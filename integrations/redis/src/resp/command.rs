@@ -34,7 +34,7 @@ impl Parser {
                     self.left = Some(usize::try_from(count).unwrap_or(0));
                     self.at = next;
                 }
-                Some(_) => return Err(Broken("invalid multibulk length")),
+                Some(_) => return Err(no_length(b'*')),
             }
         }
         while self.left > Some(0) {
@@ -42,7 +42,7 @@ impl Parser {
                 return Ok(false);
             };
             let len = usize::try_from(len).ok().filter(|&len| len <= most);
-            let to = from + len.ok_or(Broken("invalid bulk length"))?;
+            let to = from + len.ok_or(no_length(b'$'))?;
             if bytes.len() < to + 2 {
                 return Ok(false);
             }
@@ -80,6 +80,11 @@ impl Parser {
     }
 }
 
+/// What is wrong with a line that begins with the mark and has no length.
+fn no_length(mark: u8) -> Broken {
+    Broken(if mark == b'*' { "invalid multibulk length" } else { "invalid bulk length" })
+}
+
 /// The number of a line that begins with the mark, and where the next line begins; none if it is cut.
 fn head(bytes: &[u8], at: usize, mark: u8) -> Result<Option<(i64, usize)>, Broken> {
     let Some(rest) = bytes.get(at..).filter(|rest| !rest.is_empty()) else {
@@ -97,7 +102,7 @@ fn head(bytes: &[u8], at: usize, mark: u8) -> Result<Option<(i64, usize)>, Broke
         return Ok(None);
     }
     let count = number(&rest[1..len]).filter(|_| rest[len + 1] == b'\n');
-    let count = count.ok_or(Broken("invalid length"))?;
+    let count = count.ok_or(no_length(mark))?;
     Ok(Some((count, at + len + 2)))
 }
 
@@ -165,6 +170,13 @@ mod tests {
         ] {
             assert!(Parser::default().read(bytes, 100).is_err(), "{bytes:?}");
         }
+    }
+
+    #[test]
+    fn a_length_that_is_none_is_named() {
+        let said = |bytes: &[u8]| Parser::default().read(bytes, 100).unwrap_err().to_string();
+        assert_eq!(said(b"*x\r\n"), "invalid multibulk length");
+        assert_eq!(said(b"*1\r\n$x\r\n"), "invalid bulk length");
     }
 
     #[test]
