@@ -1,5 +1,5 @@
 -- Beside each system of stores there is a run of a world with rows.
-use Rattle.std.proofs.Common.{◌≡◌, ◌≢◌, ℕ, ◌<◌, ◌==◌, Bool, true, false, List, [], ◌∷◌, ◌++◌, length, Result, Ok, Err, Option, None, Some, refl, sym, ap, ◌∙◌, subst, if◌then◌else◌, ⊎_elim, inl, inr, ap₂, le_refl, arith}
+use Rattle.std.proofs.Common.{◌≡◌, ℕ, ◌<◌, ◌==◌, Bool, true, false, List, [], ◌∷◌, ◌++◌, length, Result, Ok, Err, Option, None, Some, refl, sym, ap, ◌∙◌, subst, if◌then◌else◌, ⊎_elim, inl, inr, ap₂, le_refl, arith}
 use Rattle.std.specs.Prelude.{◌⊎◌}
 use Rattle.std.specs.List.{slice_get}
 use Rattle.std.proofs.lemmas.Bool.{cases_Bool, cond-true, cond-false, eq-eqb, eqb-true, ne_eqb, both_ways}
@@ -8,13 +8,12 @@ use Rattle.squall_key.specs.Keys.{top}
 use Rattle.squall_span.specs.Spans.{has, span_has}
 use Rattle.squall_plan.specs.declared.range.PlanRange.{PlanRange}
 use Rattle.squall_course.specs.Change.{Change}
-use Rattle.squall_errand.specs.declared.errand.Reply.TheVariants.{Held}
 use Rattle.squall_protocol.specs.Chunks.{ChunkValue}
 use Rattle.squall_protocol.specs.declared.event.Event.{Event}
-use Rattle.squall_protocol.specs.declared.event.Event.TheVariants.{Give, GiveAt, Load as LoadEvent, Serve}
+use Rattle.squall_protocol.specs.declared.event.Event.TheVariants.{Give, GiveAt, Load as LoadEvent}
 use Rattle.squall_protocol.specs.declared.answer.Answer.{Answer}
 use Rattle.squall_protocol.specs.declared.answer.Answer.TheVariants.{Served}
-use Rattle.squall_protocol.specs.Worlds.{WorldValue, SameWorld, start}
+use Rattle.squall_protocol.specs.Worlds.{WorldValue, start}
 use Rattle.squall_protocol.specs.Steps.{Step}
 use Rattle.squall_protocol.specs.Promises.{IsReached, IsInFlight, Carrier, Carries, Holder, Flight}
 use Rattle.squall_protocol.specs.WorldLaws.{same_world, same_as_itself, reached_step}
@@ -25,16 +24,16 @@ use Rattle.squall_protocol.proofs.Lists.{at_either}
 use Rattle.squall_part.specs.declared.giving.GiveFault.{GiveFault}
 use Rattle.squall_part.specs.Parts.{PartValue, IsPart}
 use Rattle.squall_replay.specs.Calls.{IsSamePart}
-use Rattle.squall_nodes.specs.Standing.{StandsForPart, PartStands}
+use Rattle.squall_nodes.specs.Standing.{PartStands}
 use Rattle.squall_nodes.specs.PartCalls.{give_answer, load_answer, with_chunk}
-use Rattle.squall_nodes.specs.Systems.{SystemValue, first_change, first_system, put_at, with_part, Happens}
+use Rattle.squall_nodes.specs.Systems.{SystemValue, first_change, put_at, with_part}
 use Rattle.squall_nodes.specs.Kept.{CarriesIn}
 use Rattle.squall_nodes.proofs.Rebuilt.{rebuilt_stands}
 use Rattle.squall_nodes.proofs.Systems.{Beside, Follows, part_moved, put_some, goes_on, first_world}
 use Rattle.squall_nodes.proofs.Kept.{to_system, to_world}
 use Rattle.squall_rows.specs.Rows.{RowsValue, KeepsStored, KeepsCarried, carried_row}
 use Rattle.squall_rows.specs.RowSteps.{Act, Outcome, Plain, Ask, Restart, Answered, Ran as RanCommand, Back, PlainStep, RowStep, RowRun}
-use Rattle.squall_rows.specs.OneMap.{with_row, first_map, after_one, after_all, IsMapReply, AreMapReplies, RepliesOfOneMap, RowsOfOneMap}
+use Rattle.squall_rows.specs.OneMap.{with_row, after_all, AreMapReplies, RepliesOfOneMap, RowsOfOneMap}
 use Rattle.squall_rows.specs.Follows.{RowsFollow}
 use Rattle.squall_store.specs.declared.store.Asked.{Asked}
 use Rattle.squall_store.specs.declared.store.Asked.TheVariants.{Ran, NotHeld}

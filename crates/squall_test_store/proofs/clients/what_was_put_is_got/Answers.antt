@@ -1,11 +1,11 @@
-use Rattle.std.proofs.Common.{◌≡◌, ◌≢◌, ℕ, ◌==◌, List, [], ◌∷◌, ◌++◌, refl, sym, ◌∙◌}
-use Rattle.std.specs.Prelude.{Option, Some}
+use Rattle.std.proofs.Common.{◌≡◌, ℕ, ◌==◌, List, [], ◌∷◌, ◌++◌, refl, sym, ◌∙◌}
+use Rattle.std.specs.Prelude.{Some}
 use Rattle.std.proofs.lemmas.Bool.{eq-eqb, ne_eqb, cond-true, cond-false}
 use Rattle.squall_store.specs.declared.command.Command.TheVariants.{Get, Put}
 use Rattle.squall_store.specs.Memory.{run_on}
 use Rattle.squall_store.specs.Systems.{first_rows, AreRepliesOf}
 use Rattle.squall_rows.specs.OneMap.{with_row}
-use Rattle.squall_test_store.specs.Clients.{Row, DoneOnRows, done, AreElsewhere, PutIsGot}
+use Rattle.squall_test_store.specs.Clients.{Row, DoneOnRows, done, AreElsewhere}
 use Rattle.squall_test_store.proofs.clients.what_was_put_is_got.Goals as goal
 
 -- commands on other keys leave the row
