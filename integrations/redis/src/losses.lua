@@ -51,25 +51,31 @@ redis.register_function({
   end,
 })
 
--- PART GENERATION: nothing that was done there before that generation counts from now on.
+-- Nothing that was done at another partition before that generation counts from now on.
+local function drop_before(part, generation)
+  local before = redis.call('HGET', 'squall:since', part)
+  if tonumber(generation) > tonumber(before or 0) then
+    redis.call('HSET', 'squall:since', part, generation)
+  end
+end
+
+-- PART GENERATION: the same, of a partition that is let in with less.
 redis.register_function({
   function_name = 'squall_since',
   flags = { 'allow-oom' },
   callback = function(_, args)
-    local before = redis.call('HGET', 'squall:since', args[1])
-    if tonumber(args[2]) > tonumber(before or 0) then
-      redis.call('HSET', 'squall:since', args[1], args[2])
-    end
+    drop_before(args[1], args[2])
     return redis.status_reply('OK')
   end,
 })
 
--- NUMBER OLD NEW OWN:NEXT:ROWS MOVE..: goes on with what there is. Its generation was OWN when it was looked at,
--- and rises to NEXT; about ROWS rows are lost. Each move has a further word, the rank to which its edge rises at
--- least.
+-- NUMBER OLD NEW OWN:NEXT:ROWS[:PART=GENERATION..] MOVE..: goes on with what there is. Its generation was OWN when it
+-- was looked at, and rises to NEXT; about ROWS rows are lost. Each move has a further word, the rank to which its edge
+-- rises at least. The generations are those of the other partitions. What they have done before does not count here:
+-- this one may have lost that it has refused it.
 redis.register_function('squall_accept', function(_, args)
   local course = known()
-  local own, next, rows = string.match(args[4], '^(%d+):(%d+):(%d+)$')
+  local own, next, rows, others = string.match(args[4], '^(%d+):(%d+):(%d+)([%d:=]*)$')
   if (redis.call('GET', 'squall:generation') or '0') ~= own then
     return refuse('CHANGED')
   elseif tonumber(args[1]) < tonumber(course.number) then
@@ -86,6 +92,11 @@ redis.register_function('squall_accept', function(_, args)
   end
   for at, move in ipairs(known().moves) do
     raise(move, 'edge', 'squall:edge', edges[4 + at])
+  end
+  for part, generation in string.gmatch(others, ':(%d+)=(%d+)') do
+    drop_before(part, generation)
+    -- If that one falls below it, its gives would be refused: so this is found out.
+    see({ part, generation }, 1)
   end
   redis.call('HINCRBY', 'squall:losses', 'times', 1)
   redis.call('HINCRBY', 'squall:losses', 'rows', rows)

@@ -3,7 +3,7 @@
 
 mod partition;
 
-use partition::{moving, Partition};
+use partition::{moving, Partition, BESIDE, IN, OUT as OUT_MOVE};
 
 /// The first key of the move that goes out, and of the one that comes in; a rank in each of them.
 const OUT: &str = "0000000200000000";
@@ -132,4 +132,30 @@ fn a_source_takes_back_what_is_not_loaded() {
     it.call("squall_since", &["3", "60"]);
     assert_eq!(take(&mut it, OUT_FIVE, "7"), "SQUALL BEFORE 3");
     assert_eq!(it.call("squall_take", &["1", OUT, OUT_FIVE, "3", "60", "7"]), "SQUALL COURSE 2");
+}
+
+/// A partition that has lost its keys, and that it has refused a chunk, refuses it once it is let in with less.
+#[test]
+#[ignore = "needs a server"]
+fn what_was_refused_before_a_loss_is_refused() {
+    let mut it = moving();
+    assert_eq!(it.call("squall_back", &["2", INTO, INTO, "4", "72"]), format!("{INTO} 3"));
+    it.ask(&["FLUSHALL"]);
+    it.ask(&["FUNCTION", "LOAD", "REPLACE", squall_redis::GUARD]);
+    it.ask(&["SET", "x", "here"]);
+    let raised = [OUT_MOVE, IN, BESIDE].map(|line| format!("{line} {}", &line[..16]));
+    let head = ["2", "A", "B", "0:50:0:4=73:3=8"];
+    let words: Vec<&str> = head.into_iter().chain(raised.iter().map(String::as_str)).collect();
+    assert_eq!(it.call("squall_accept", &words), "accepted 50");
+    assert_eq!(put(&mut it, "late", FIVE, "72"), "SQUALL BEFORE 4");
+    assert_eq!(it.call("squall_load", &["2", INTO, FIVE, "4", "72"]), "SQUALL BEFORE 4");
+    assert_eq!(it.get(&["0000000500000001"]), "SQUALL PENDING 4");
+    // The source has given it once more, and would be missed with less.
+    assert_eq!(put(&mut it, "late", FIVE, "73"), "put");
+    assert_eq!(it.call("squall_load", &["2", INTO, NINE, "4", "73"]), format!("{NINE} 51"));
+    assert_eq!(
+        (it.ask(&["HGET", "squall:seen", "4"]), it.ask(&["HGET", "squall:seen", "3"])),
+        ("73".into(), "8".into())
+    );
+    assert_eq!((it.get(&[FIVE]).as_str(), it.ask(&["GET", "late"]).as_str()), ("here", "here"));
 }

@@ -224,6 +224,30 @@ test_partitions_of_an_earlier_version() {
   move 2 old new && agrees 3 2 && [ "$(count_wrong 340 '')" -eq 0 ] && move 3 new old && agrees 1 3
 }
 
+# A destination loses its keys without a restart, and that it has refused a chunk which has gone back since. A mover that was
+# asleep meanwhile neither puts nor loads a row of it, once the loss is accepted.
+test_refusal_before_a_loss() {
+  local to at lo=000001f400000000 edge=0000025900000000 own dump
+  deploy || return
+  to=${proxies[0]}
+  for at in $(seq 500 670); do echo "set $at:0 x"; done | redis-cli -p "$to" > "$run/set"
+  redis-cli -p "${servers[2]}" config set proto-max-bulk-len 1mb
+  noise 1500000 | redis-cli -p "$to" -x set 500:0 && names 500:0 || return
+  # What the late mover has given, and knows of it. Another one gives it back.
+  redis-cli -p "${servers[1]}" fcall squall_give 0 2 "$lo" "$edge" | grep -qx "$edge" || return
+  own=$(redis-cli -p "${servers[1]}" get squall:generation)
+  redis-cli -p "${servers[2]}" fcall squall_back 0 2 "$lo" "$lo" 2 "$own" | grep -q "^$lo " || return
+  names 500:0 && redis-cli -p "$to" set 600:0 y | grep -qx OK || return
+  redis-cli -p "${servers[2]}" flushall && refused "partition 3 has come back with less" 2 old new || return
+  move 2 old new --accept-loss 3 > "$run/accepted" 2>&1
+  grep -q "accepted: partition 3 " "$run/accepted" || { cat "$run/accepted"; return 1; }
+  redis-cli -p "${servers[2]}" fcall squall_load 0 2 "$lo" "$edge" 2 "$own" | grep "SQUALL BEFORE 2" || return
+  dump=$(redis-cli --no-raw -p "${servers[1]}" dump 599:0)
+  echo "fcall squall_put 1 599:0 2 0000025700000000 0 $dump 2 $own" | redis-cli -p "${servers[2]}" | grep "SQUALL BEFORE 2" || return
+  agrees 2 2 600:0 && redis-cli -p "$to" get 600:0 | grep -qx y && redis-cli -p "$to" del 500:0 | grep -qx 1 || return
+  move 2 old new && agrees 3 2 600:0 && redis-cli -p "$to" get 600:0 | grep -qx y
+}
+
 # A server that would remove the partition's own keys is refused.
 test_eviction_of_own_keys() {
   deploy && redis-cli -p "${servers[1]}" config set maxmemory-policy allkeys-lru || return

@@ -94,7 +94,10 @@ impl Mover {
         let holds = Holds { part, legs: legs(&self.old)?, moves: &self.moves, edges: &edges };
         self.remove(partitions, &states, &holds, may_remove)?;
         let course = self.beginning(part, survey);
-        partitions[at].accept(&course, &edges, [own.generation, next, loss.rows])?;
+        // The others were asked once they had heard of it: what they do by what the partition said before is refused.
+        let others: Vec<(u32, u64)> =
+            states.iter().filter(|(&it, _)| it != part).map(|(&it, state)| (it, state.generation)).collect();
+        partitions[at].accept(&course, &edges, [own.generation, next, loss.rows], &others)?;
         log::warn(format!("accepted: {loss}"));
         Ok(())
     }
@@ -203,9 +206,17 @@ impl Partition {
         }
     }
 
-    /// Goes on with what it has: its own generation, the next one, and about how many rows are lost.
-    fn accept(&mut self, course: &Beginning, edges: &[Rank], numbers: [u64; 3]) -> Done<()> {
-        let numbers = numbers.map(|it| it.to_string()).join(":");
+    /// Goes on with what it has: its own generation, the next one, and about how many rows are lost. Steps that
+    /// other partitions did before these generations of theirs no longer count: it may have lost that it refuses them.
+    fn accept(
+        &mut self,
+        course: &Beginning,
+        edges: &[Rank],
+        numbers: [u64; 3],
+        others: &[(u32, u64)],
+    ) -> Done<()> {
+        let others = others.iter().map(|(part, generation)| format!(":{part}={generation}"));
+        let numbers = numbers.map(|it| it.to_string()).join(":") + &others.collect::<String>();
         let head = ["FCALL", "squall_accept", "0", &self.number, course.old, course.new, &numbers];
         let mut words: Vec<String> = head.into_iter().map(String::from).collect();
         let moves = course.moves.iter().zip(edges);

@@ -307,7 +307,7 @@ impl Partition {
                  (--init begins course 1, --accept-loss {part} goes on without it)"
             ),
             "BEFORE" => format!(
-                "partition {part}: partition {known} was let in with less meanwhile; start this mover again"
+                "partition {part}: it or partition {known} was let in with less meanwhile; start this mover again"
             ),
             "CHANGED" => format!("partition {part}: another mover has changed it; start this mover again"),
             _ => format!("partition {part}: {said}"),
