@@ -91,7 +91,7 @@ redis.register_function('squall_put', function(keys, args)
   local move = move_at(course, args[2])
   if not move or move.role ~= 'in' then
     return refuse('STRANGER')
-  elseif args[2] < move.edge then
+  elseif args[2] < move.edge or course.pulled[args[2]] then
     return redis.status_reply('loaded')
   end
   local late = before(args[5], args[6]) or of_past(move, args[6])
@@ -121,8 +121,9 @@ redis.register_function({
   end,
 })
 
--- NUMBER LO EDGE PART GENERATION: what the source has given from EDGE on, up to that generation of it, never counts, and
--- its rows are unlinked. EDGE is how far the move is loaded: otherwise nothing changes, and the answer says another one.
+-- NUMBER LO EDGE PART GENERATION [RANK]: what the source has given from EDGE on, up to that generation of it, never counts,
+-- and its rows are unlinked. EDGE is how far the move is loaded: otherwise nothing changes, and the answer says another one.
+-- Nothing changes either if that rank is loaded.
 redis.register_function({
   function_name = 'squall_back',
   flags = { 'allow-oom' },
@@ -132,6 +133,8 @@ redis.register_function({
       return refused
     elseif args[3] ~= move.edge then
       return redis.status_reply(move.edge .. ' 0')
+    elseif args[6] and (args[6] < move.edge or known().pulled[args[6]]) then
+      return refuse('LOADED')
     elseif tonumber(args[5]) < move.put then
       return refuse('CHANGED')
     end

@@ -16,6 +16,8 @@
 -- squall:arrived the rank and the name of each row that was put and is not loaded
 -- squall:back    of a move's LO the generation of its source up to which nothing counts any more that is not loaded: the source
 --                takes it back
+-- squall:pulled  of a rank that has moved ahead of its move's edge how far it is: given, or forgotten:ROWS once the source
+--                has unlinked so many rows of it, or loaded
 --
 -- So that a partition that comes back with less is found out, and no other one forgets what it was told:
 --
@@ -43,13 +45,21 @@ local function read_move(text)
   }
 end
 
+local function read_pulled()
+  local pulled, words = {}, redis.call('HGETALL', 'squall:pulled')
+  for at = 1, #words, 2 do
+    pulled[words[at]] = words[at + 1]
+  end
+  return pulled
+end
+
 local function known()
   if not kept then
     local moves = {}
     for _, text in ipairs(redis.call('LRANGE', 'squall:moves', 0, -1)) do
       moves[#moves + 1] = read_move(text)
     end
-    kept = { number = redis.call('GET', 'squall:number') or '0', moves = moves }
+    kept = { number = redis.call('GET', 'squall:number') or '0', moves = moves, pulled = read_pulled() }
   end
   return kept
 end
@@ -100,9 +110,9 @@ local function say(course, rank)
     return nil
   elseif move.role == 'none' then
     return 'ELSEWHERE ' .. move.peer
-  elseif move.role == 'out' and rank < move.edge then
+  elseif move.role == 'out' and (rank < move.edge or course.pulled[rank]) then
     return 'MOVED ' .. move.peer .. ' ' .. course.number
-  elseif move.role == 'in' and rank >= move.edge then
+  elseif move.role == 'in' and rank >= move.edge and not course.pulled[rank] then
     -- What goes back to its source does not come, until a row of it is put once more.
     return (move.put > move.back and 'PENDING ' or 'ELSEWHERE ') .. move.peer
   end
@@ -172,15 +182,33 @@ redis.register_function({
   end,
 })
 
--- Adds each move as LO HI ROLE PEER EDGE FORGOT to the lines.
+-- Of each move whose keys were pulled their ranks, and how far each is.
+local function pulled_of_moves(course)
+  local all = {}
+  for rank, state in pairs(course.pulled) do
+    local move = move_at(course, rank)
+    if move then
+      all[move] = all[move] or {}
+      all[move][rank] = state
+    end
+  end
+  return all
+end
+
+-- Adds each move as LO HI ROLE PEER EDGE FORGOT RANK.. to the lines. The ranks are those that were loaded ahead of the edge.
 local function with_moves(lines, course)
+  local pulled = pulled_of_moves(course)
   for _, move in ipairs(course.moves) do
-    lines[#lines + 1] = table.concat({ move.lo, move.hi, move.role, move.peer, move.edge, move.forgot }, ' ')
+    local words = { move.lo, move.hi, move.role, move.peer, move.edge, move.forgot }
+    for rank in pairs(move.role == 'in' and pulled[move] or {}) do
+      words[#words + 1] = rank
+    end
+    lines[#lines + 1] = table.concat(words, ' ')
   end
   return lines
 end
 
--- NUMBER [PLAN]: each move of that course as LO HI ROLE PEER EDGE FORGOT, if the course ends at that plan.
+-- NUMBER [PLAN]: each move of that course as LO HI ROLE PEER EDGE FORGOT RANK.., if the course ends at that plan.
 redis.register_function({
   function_name = 'squall_moves',
   flags = { 'no-writes', 'allow-oom' },
@@ -261,7 +289,8 @@ redis.register_function({
 -- Begins it: the same arguments as squall_begin has.
 local function begin(args)
   kept = nil
-  redis.call('DEL', 'squall:moves', 'squall:edge', 'squall:forgot', 'squall:gone', 'squall:put', 'squall:back')
+  redis.call('DEL', 'squall:moves', 'squall:edge', 'squall:forgot', 'squall:gone', 'squall:put', 'squall:back',
+    'squall:pulled')
   redis.call('UNLINK', 'squall:arrived')
   redis.call('MSET', 'squall:number', args[1], 'squall:old', args[2], 'squall:new', args[3])
   for at = 5, #args do
@@ -310,6 +339,22 @@ local function own_move(args, role)
   return not late and move, late
 end
 
+-- What was pulled below a rank is like all else of the move from now on. A source may have back what it has not forgotten, so
+-- it keeps what it knows up to there.
+local function pass(move, edge)
+  local pulled = known().pulled
+  for rank, state in pairs(pulled) do
+    if move.lo <= rank and rank < edge then
+      redis.call('HDEL', 'squall:pulled', rank)
+      pulled[rank] = nil
+      local rows = string.match(state, '^forgotten:(%d+)$')
+      if rows then
+        redis.call('HINCRBY', 'squall:gone', move.lo, rows)
+      end
+    end
+  end
+end
+
 -- Whether it rises.
 local function raise(move, name, key, edge)
   if edge <= move[name] then
@@ -317,6 +362,9 @@ local function raise(move, name, key, edge)
   end
   redis.call('HSET', key, move.lo, edge)
   move[name] = edge
+  if name == 'forgot' or move.role == 'in' then
+    pass(move, edge)
+  end
   return true
 end
 

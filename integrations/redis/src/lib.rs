@@ -27,8 +27,12 @@ pub mod stop;
 pub mod tls;
 
 /// The functions of a partition.
-pub const GUARD: &str =
-    concat!(include_str!("guard.lua"), include_str!("chunk.lua"), include_str!("losses.lua"));
+pub const GUARD: &str = concat!(
+    include_str!("guard.lua"),
+    include_str!("chunk.lua"),
+    include_str!("pull.lua"),
+    include_str!("losses.lua")
+);
 
 /// The user as which a router of the course `number` logs in at a partition.
 pub fn user(number: impl std::fmt::Display) -> String {

@@ -2,15 +2,21 @@
 -- How a partition that comes back with less is found out, and let in all the same. It goes on behind guard.lua.
 
 -- What a partition says of itself: its number, its generation, the course of its fence, the run in which it let
--- routers in, what it has seen of others, and each move as LO HI ROLE PEER EDGE FORGOT GONE.
+-- routers in, what it has seen of others, and each move as LO HI ROLE PEER EDGE FORGOT GONE RANK:STATE.. with the ranks
+-- that were pulled.
 redis.register_function({
   function_name = 'squall_state',
   flags = { 'no-writes', 'allow-oom' },
   callback = function()
     local course, lines = known(), {}
+    local pulled = pulled_of_moves(course)
     for at, move in ipairs(course.moves) do
       local gone = redis.call('HGET', 'squall:gone', move.lo) or '0'
-      lines[at] = table.concat({ move.lo, move.hi, move.role, move.peer, move.edge, move.forgot, gone }, ' ')
+      local words = { move.lo, move.hi, move.role, move.peer, move.edge, move.forgot, gone }
+      for rank, state in pairs(pulled[move] or {}) do
+        words[#words + 1] = rank .. ':' .. state
+      end
+      lines[at] = table.concat(words, ' ')
     end
     local said = { course.number }
     for at, name in ipairs({ 'generation', 'fence', 'run' }) do
@@ -70,9 +76,9 @@ redis.register_function({
 })
 
 -- NUMBER OLD NEW OWN:NEXT:ROWS[:PART=GENERATION..] MOVE..: goes on with what there is. Its generation was OWN when it
--- was looked at, and rises to NEXT; about ROWS rows are lost. Each move has a further word, the rank to which its edge
--- rises at least. The generations are those of the other partitions. What they have done before does not count here:
--- this one may have lost that it has refused it.
+-- was looked at, and rises to NEXT; about ROWS rows are lost. Each move has a further word, EDGE[+RANK..]: the rank to
+-- which its edge rises at least, and those that were given or loaded ahead of it. The generations are those of the other
+-- partitions. What they have done before does not count here: this one may have lost that it has refused it.
 redis.register_function('squall_accept', function(_, args)
   local course = known()
   local own, next, rows, others = string.match(args[4], '^(%d+):(%d+):(%d+)([%d:=]*)$')
@@ -81,9 +87,9 @@ redis.register_function('squall_accept', function(_, args)
   elseif tonumber(args[1]) < tonumber(course.number) then
     return refuse('LATE ' .. course.number)
   end
-  local edges = {}
+  local edges, pulled = {}, {}
   for at = 5, #args do
-    args[at], edges[at] = string.match(args[at], '^(.+) (%x+)$')
+    args[at], edges[at], pulled[at] = string.match(args[at], '^(.+) (%x+)([+%x]*)$')
   end
   if args[1] ~= course.number then
     begin(args)
@@ -92,6 +98,12 @@ redis.register_function('squall_accept', function(_, args)
   end
   for at, move in ipairs(known().moves) do
     raise(move, 'edge', 'squall:edge', edges[4 + at])
+    for rank in string.gmatch(pulled[4 + at], '%x+') do
+      local is_passed = rank < (move.role == 'in' and move.edge or move.forgot)
+      if not is_passed and not known().pulled[rank] then
+        note(move, rank, move.role == 'in' and 'loaded' or 'given')
+      end
+    end
   end
   for part, generation in string.gmatch(others, ':(%d+)=(%d+)') do
     drop_before(part, generation)

@@ -4,7 +4,7 @@
 
 test_guard() {
   run=$work/guard
-  start_redis && SQUALL_REDIS=127.0.0.1:$port cargo test "${cargo[@]}" --features faults --test guard --test chunk --lib \
+  start_redis && SQUALL_REDIS=127.0.0.1:$port cargo test "${cargo[@]}" --features faults --test guard --test chunk --test pull --lib \
     -- --ignored --test-threads 1
 }
 

@@ -127,7 +127,8 @@ mod tests {
     fn state(number: u32, role: Role, edge: u64) -> State {
         let peer = if role == Role::Out { 3 } else { 1 };
         let (lo, hi) = (Rank(100), Rank(200));
-        let stand = Stand { lo, hi, role, peer, edge: Rank(edge), forgot: Rank(100), gone: 0 };
+        let (edge, forgot, pulled) = (Rank(edge), Rank(100), BTreeMap::new());
+        let stand = Stand { lo, hi, role, peer, edge, forgot, gone: 0, pulled };
         let run = Some("first".to_string());
         State { number, generation: 1, fence: number, run, seen: BTreeMap::new(), moves: vec![stand] }
     }

@@ -1,5 +1,6 @@
 //! The moves of one source in a sub-plan, chunk by chunk.
 
+use super::ahead;
 use super::disk::{Disk, Loaded};
 use super::dumps::{dumped, next_block, split, Copied, Put};
 use super::index::{Index, Ranked};
@@ -54,7 +55,7 @@ pub struct Feeder<'a> {
     pub(super) job: &'a Job<'a>,
     pub(super) source: Partition,
     pub(super) dest: Partition,
-    disk: Disk,
+    pub(super) disk: Disk,
     pub(super) index: Index,
     pub(super) sizes: Sizes,
     /// Below it the keys of the move were given, and whether it can't go on.
@@ -75,6 +76,8 @@ impl Job<'_> {
         };
         let mut feeder = self.feeder(moves, first)?;
         self.progress.expect(feeder.index.len());
+        let left = ahead::left(moves, &feeder.source.state()?, self.number);
+        feeder.pull_all(&left)?;
         let (given, loaded) = (feeder.source.state()?, feeder.dest.state()?);
         for it in moves {
             let stands = (given.stand(self.number, it.lo), loaded.stand(self.number, it.lo));
@@ -83,6 +86,7 @@ impl Job<'_> {
             };
             (feeder.given, feeder.is_stuck) = (source.edge, false);
             feeder.finish_back(it, dest.edge)?;
+            feeder.report_ahead(it, dest)?;
             let step = Step { edge: dest.edge, generation: loaded.generation };
             feeder.run(it, source.forgot, step)?;
         }
@@ -102,12 +106,14 @@ impl Job<'_> {
             .filter_map(|it| Some((Move { hi: edge(&given, it.lo)?, ..*it }, edge(&loaded, it.lo)?)))
             .filter(|(it, loaded)| it.hi > *loaded)
             .collect();
-        if missing.is_empty() {
+        let left = ahead::left(moves, &given, self.number);
+        if missing.is_empty() && left.is_empty() {
             return Ok(());
         }
         let mut feeder = self.feeder(moves, first)?;
         // Routers may know of a load that the destination has lost.
         feeder.may_give_back = false;
+        feeder.pull_all(&left)?;
         for (it, loaded) in missing {
             feeder.given = it.hi;
             if !feeder.finish_back(&it, loaded)? {
@@ -118,7 +124,8 @@ impl Job<'_> {
         self.stuck.check(self.number)
     }
 
-    fn feeder(&self, moves: &[Move], first: &Move) -> Done<Feeder<'_>> {
+    /// A feeder of these moves, which have one source and one destination.
+    pub(super) fn feeder(&self, moves: &[Move], first: &Move) -> Done<Feeder<'_>> {
         let (source, mut dest) = (self.open(first.source)?, self.open(first.dest)?);
         Ok(Feeder {
             job: self,
@@ -253,7 +260,7 @@ impl Feeder<'_> {
         Ok(Put { end: span.end, left: None })
     }
 
-    fn report(&mut self, it: &Move, keys: Range<Rank>) -> Done<()> {
+    pub(super) fn report(&mut self, it: &Move, keys: Range<Rank>) -> Done<()> {
         let (number, sub, dest) = (self.job.number, it.sub, it.dest);
         self.job.bus.tell(|router| router.loaded(number, sub, dest, keys))?;
         self.chunks += 1;

@@ -10,7 +10,7 @@ use crate::keymap;
 use squall::Rank;
 
 /// How many keys are looked at in one step, which decides whether they are given. Clients of their server wait meanwhile.
-const LOOKED: usize = 1000;
+pub(super) const LOOKED: usize = 1000;
 
 impl Feeder<'_> {
     /// Gives, copies and loads a chunk: up to where it was put, and how far keys are loaded then. None if its first key
@@ -85,8 +85,12 @@ impl Feeder<'_> {
     }
 
     /// Names a key that can't be moved.
-    fn name(&self, it: &Move, key: &[u8], why: Why) {
-        let is_given = keymap::rank(key) < self.given;
+    pub(super) fn name(&self, it: &Move, key: &[u8], why: Why) {
+        self.name_as(it, key, why, keymap::rank(key) < self.given);
+    }
+
+    /// The same, of one that was given, and that its source could not have back, or not.
+    pub(super) fn name_as(&self, it: &Move, key: &[u8], why: Why, is_given: bool) {
         let (source, dest, key) = (it.source, it.dest, key.to_vec());
         self.job.stuck.name(&Stuck { source, dest, key, why, is_given });
     }

@@ -2,12 +2,13 @@
 
 use super::index::{is_own, scan};
 use super::partition::{Beginning, Partition};
+use super::passed::Passed;
 use super::state::{Role, Stand, State};
 use super::survey::{Sign, Survey};
 use super::Mover;
 use crate::course::{Move, Plan};
 use crate::fault::{Done, Fault};
-use crate::keymap::{self, hex};
+use crate::keymap;
 use crate::log;
 use crate::resp::Value;
 use squall::{Course, Leg, Rank};
@@ -81,23 +82,22 @@ impl Mover {
             states.insert(other.part, other.state()?);
         }
         let are_lost = |it: &Move| losses.contains_key(&it.source) && losses.contains_key(&it.dest);
-        let edges: Vec<Rank> = self
-            .moves
-            .iter()
-            .map(|it| match part == it.source && are_lost(it) && survey.fence() == self.number {
+        let mut passed: Vec<Passed> =
+            self.moves.iter().map(|it| Passed::of(it, part, self.number, &states)).collect();
+        for (it, passed) in self.moves.iter().zip(&mut passed) {
+            if part == it.source && are_lost(it) && survey.fence() == self.number {
                 // Nobody knows which of them routers send to the destination. So all come there before it lets them in.
-                true => it.hi,
-                false => edge(it, part, self.number, &states),
-            })
-            .collect();
+                passed.edge = it.hi;
+            }
+        }
         let may_remove = self.is_vouched(part, survey, losses);
-        let holds = Holds { part, legs: legs(&self.old)?, moves: &self.moves, edges: &edges };
+        let holds = Holds { part, legs: legs(&self.old)?, moves: &self.moves, passed: &passed };
         self.remove(partitions, &states, &holds, may_remove)?;
         let course = self.beginning(part, survey);
         // The others were asked once they had heard of it: what they do by what the partition said before is refused.
         let others: Vec<(u32, u64)> =
             states.iter().filter(|(&it, _)| it != part).map(|(&it, state)| (it, state.generation)).collect();
-        partitions[at].accept(&course, &edges, [own.generation, next, loss.rows], &others)?;
+        partitions[at].accept(&course, &passed, [own.generation, next, loss.rows], &others)?;
         log::warn(format!("accepted: {loss}"));
         Ok(())
     }
@@ -120,7 +120,8 @@ impl Mover {
                 it.shut(state)?;
                 it.remove(state, |rank| may_remove && !holds.has(rank))?
             } else if !pending.is_empty() {
-                it.remove(state, |rank| pending.iter().any(|to| to.edge <= rank && rank < to.hi))?
+                let awaits = |to: &Stand, rank| to.lo <= rank && rank < to.hi && !to.has_passed(rank);
+                it.remove(state, |rank| pending.iter().any(|to| awaits(to, rank)))?
             } else {
                 0
             };
@@ -133,17 +134,6 @@ impl Mover {
     }
 }
 
-/// The rank to which the edge of a move rises at a partition that goes on with less.
-fn edge(it: &Move, part: u32, number: u32, states: &BTreeMap<u32, State>) -> Rank {
-    let of = |part| states.get(part).and_then(|state: &State| state.stand(number, it.lo));
-    let other = match part {
-        _ if part == it.dest => of(&it.source).map(|source| source.forgot),
-        _ if part == it.source => of(&it.dest).map(|dest| dest.edge),
-        _ => None,
-    };
-    other.max(of(&part).map(|own| own.edge)).unwrap_or(it.lo)
-}
-
 /// The ranges of a plan.
 fn legs(plan: &Plan) -> Done<Vec<Leg>> {
     Ok(Course::open(1, &plan.text, &plan.text)?.old_plan())
@@ -154,15 +144,21 @@ struct Holds<'a> {
     part: u32,
     legs: Vec<Leg>,
     moves: &'a [Move],
-    edges: &'a [Rank],
+    passed: &'a [Passed],
 }
 
 impl Holds<'_> {
-    /// Whether it should have one of that rank. What it has given it forgets later.
+    /// Whether it should have one of that rank. It forgets later what it has given below its edge. A rank that was pulled
+    /// from it is the destination's: a row of it is an older one, whose turn may be far off.
     fn has(&self, rank: Rank) -> bool {
         let is_of = |leg: &Leg| leg.part == self.part && leg.lo <= rank && rank < leg.hi;
-        let is_loaded = |(it, edge): (&Move, &Rank)| it.dest == self.part && it.lo <= rank && rank < *edge;
-        self.legs.iter().any(is_of) || self.moves.iter().zip(self.edges).any(is_loaded)
+        let at = self.moves.partition_point(|it| it.lo <= rank).checked_sub(1);
+        let of = at.map(|at| (&self.moves[at], &self.passed[at])).filter(|(it, _)| rank < it.hi);
+        match of {
+            Some((it, passed)) if it.dest == self.part => rank < passed.edge || passed.loaded.contains(&rank),
+            Some((it, passed)) if it.source == self.part => !passed.loaded.contains(&rank),
+            _ => self.legs.iter().any(is_of),
+        }
     }
 }
 
@@ -211,7 +207,7 @@ impl Partition {
     fn accept(
         &mut self,
         course: &Beginning,
-        edges: &[Rank],
+        passed: &[Passed],
         numbers: [u64; 3],
         others: &[(u32, u64)],
     ) -> Done<()> {
@@ -219,8 +215,8 @@ impl Partition {
         let numbers = numbers.map(|it| it.to_string()).join(":") + &others.collect::<String>();
         let head = ["FCALL", "squall_accept", "0", &self.number, course.old, course.new, &numbers];
         let mut words: Vec<String> = head.into_iter().map(String::from).collect();
-        let moves = course.moves.iter().zip(edges);
-        words.extend(moves.map(|(it, edge)| format!("{} {}", self.line(it), hex(*edge))));
+        let moves = course.moves.iter().zip(passed);
+        words.extend(moves.map(|(it, passed)| format!("{} {}", self.line(it), passed.word())));
         match self.ask(&words)?.text().strip_prefix("accepted ") {
             Some(_) => Ok(()),
             None => Err(Fault::new(format!("partition {}: it did not go on", self.part))),
@@ -240,35 +236,13 @@ mod tests {
             Move { lo: Rank(50), hi: Rank(100), source: 1, dest: 2, sub: 0 },
             Move { lo: Rank(200), hi: Rank(300), source: 2, dest: 1, sub: 1 },
         ];
-        let edges = [Rank(60), Rank(250)];
-        let holds = |part| Holds { part, legs: legs.clone(), moves: &moves, edges: &edges };
-        let one: Vec<bool> = [10, 55, 99, 150, 249, 250].map(|rank| holds(1).has(Rank(rank))).to_vec();
-        assert_eq!(one, [true, true, true, false, true, false]);
-        let two: Vec<bool> = [10, 55, 60, 150, 250].map(|rank| holds(2).has(Rank(rank))).to_vec();
-        assert_eq!(two, [false, true, false, true, true]);
-    }
-
-    #[test]
-    fn edges_rise_to_what_the_other_end_knows() {
-        let it = Move { lo: Rank(100), hi: Rank(200), source: 1, dest: 3, sub: 0 };
-        let state = |role, peer, edge, forgot| {
-            let (lo, hi, edge, forgot) = (it.lo, it.hi, Rank(edge), Rank(forgot));
-            State {
-                number: 2,
-                moves: vec![Stand { lo, hi, role, peer, edge, forgot, gone: 0 }],
-                ..State::default()
-            }
-        };
-        let edges = |source, dest| {
-            let states = BTreeMap::from([(1, source), (3, dest)]);
-            [1, 3, 5].map(|part| edge(&it, part, 2, &states).0)
-        };
-        // It has loaded more than the source has forgotten: these rows are its own.
-        assert_eq!(edges(state(Role::Out, 3, 160, 130), state(Role::In, 1, 150, 100)), [160, 150, 100]);
-        assert_eq!(edges(state(Role::Out, 3, 120, 110), state(Role::In, 1, 150, 100)), [150, 150, 100]);
-        assert_eq!(edges(state(Role::Out, 3, 160, 140), state(Role::In, 1, 120, 100)), [160, 140, 100]);
-        assert_eq!(edges(State::default(), state(Role::In, 1, 150, 100)), [150, 150, 100]);
-        assert_eq!(edges(state(Role::Out, 3, 160, 140), State::default()), [160, 140, 100]);
+        // The ranks 70 and 270 were pulled.
+        let passed = [(60, 70), (250, 270)].map(|(edge, ahead)| Passed::with(Rank(edge), &[Rank(ahead)]));
+        let holds = |part| Holds { part, legs: legs.clone(), moves: &moves, passed: &passed };
+        let ranks = [10, 55, 70, 99, 150, 249, 250, 270, 299];
+        let has = |part| ranks.into_iter().filter(|&rank| holds(part).has(Rank(rank))).collect::<Vec<_>>();
+        assert_eq!(has(1), [10, 55, 99, 249, 270]);
+        assert_eq!(has(2), [55, 70, 150, 249, 250, 299]);
     }
 
     #[test]

@@ -1,5 +1,6 @@
 //! The mover: begins a course at each partition, moves its keys chunk by chunk, and reports them.
 
+mod ahead;
 mod disk;
 mod dumps;
 mod entry;
@@ -11,8 +12,11 @@ mod names;
 mod numbers;
 mod pace;
 pub(crate) mod partition;
+mod passed;
 mod patience;
 mod progress;
+mod pull;
+mod pulls;
 mod sizes;
 pub(crate) mod state;
 mod steps;
@@ -59,6 +63,7 @@ pub const USAGE: Usage = Usage {
         "chunk",
         "pause",
         "settle",
+        pull::OPTION,
         "rate",
         "rate-file",
         patience::OPTION,
@@ -109,6 +114,9 @@ pub fn run(args: &Args) -> Done<()> {
     let mover = Mover::new(args, number, plans)?;
     if args.has("dry-run") {
         return mover.preview();
+    }
+    if args.has(pull::OPTION) {
+        return mover.pull(args);
     }
     mover.run(args)
 }

@@ -51,7 +51,7 @@ const RIGHTS: &[&str] = &[
 ];
 
 /// What the user may do who reads what a partition keeps of its course.
-const READS: [&str; 5] = ["%R~squall:*", "+fcall_ro", "+get", "+hget", "+lrange"];
+const READS: [&str; 6] = ["%R~squall:*", "+fcall_ro", "+get", "+hget", "+hgetall", "+lrange"];
 
 /// A partition, as its operator.
 pub struct Partition {
@@ -276,6 +276,11 @@ impl Partition {
     pub fn explain(&self, error: &str) -> Fault {
         let (part, number) = (self.part, &self.number);
         let Some(said) = error.strip_prefix("SQUALL ") else {
+            if error.contains("Function not found") {
+                return Fault::new(format!(
+                    "partition {part} has functions of an earlier version: run the mover of its course first"
+                ));
+            }
             return Fault::new(format!("partition {part}: {error}"));
         };
         let words: Vec<&str> = said.split(' ').collect();
@@ -308,6 +313,11 @@ impl Partition {
             ),
             "BEFORE" => format!(
                 "partition {part}: it or partition {known} was let in with less meanwhile; start this mover again"
+            ),
+            "EARLY" => format!("partition {part}: course {number} has not begun everywhere; start its mover first"),
+            "FULL" => format!(
+                "partition {part}: {known} keys were pulled from there ahead of the mover, and it keeps no more; \
+                 pull others once the mover is past some of them"
             ),
             "CHANGED" => format!("partition {part}: another mover has changed it; start this mover again"),
             _ => format!("partition {part}: {said}"),

@@ -40,6 +40,19 @@ pub struct Stand {
     pub forgot: Rank,
     /// How many rows the source has removed.
     pub gone: u64,
+    /// The ranks that have moved ahead of the edge.
+    pub pulled: BTreeMap<Rank, Pulled>,
+}
+
+/// How far a rank is that moves ahead of the edge.
+#[derive(Clone, Copy, Debug, PartialEq)]
+pub enum Pulled {
+    /// The source has given its keys.
+    Given,
+    /// The destination has loaded its keys, and the source has removed that number of rows.
+    Forgotten(u64),
+    /// The destination has loaded its keys.
+    Loaded,
 }
 
 /// How a partition takes part in a move.
@@ -87,15 +100,25 @@ impl State {
 }
 
 impl Stand {
+    /// Whether a key of that rank was given, at a source, or loaded, at a destination.
+    pub fn has_passed(&self, rank: Rank) -> bool {
+        rank < self.edge || self.pulled.contains_key(&rank)
+    }
+
+    /// The ranks that are so far ahead of the edge.
+    pub fn ahead(&self, is_so_far: fn(&Pulled) -> bool) -> impl Iterator<Item = Rank> + '_ {
+        self.pulled.iter().filter(move |(_, it)| is_so_far(it)).map(|(&rank, _)| rank)
+    }
+
     fn read(line: &str) -> Option<Stand> {
         let words: Vec<&str> = line.split(' ').collect();
-        let &[lo, hi, role, peer, edge, forgot, gone] = &words[..] else {
+        let [lo, hi, role, peer, edge, forgot, gone, pulled @ ..] = &words[..] else {
             return None;
         };
         Some(Stand {
             lo: rank(lo)?,
             hi: rank(hi)?,
-            role: match role {
+            role: match *role {
                 "out" => Role::Out,
                 "in" => Role::In,
                 _ => Role::Beside,
@@ -104,8 +127,20 @@ impl Stand {
             edge: rank(edge)?,
             forgot: rank(forgot)?,
             gone: gone.parse().ok()?,
+            pulled: pulled.iter().map(|word| read_pulled(word)).collect::<Option<_>>()?,
         })
     }
+}
+
+/// A rank and how far it is.
+fn read_pulled(word: &str) -> Option<(Rank, Pulled)> {
+    let (digits, state) = word.split_once(':')?;
+    let pulled = match state {
+        "given" => Pulled::Given,
+        "loaded" => Pulled::Loaded,
+        state => Pulled::Forgotten(state.strip_prefix("forgotten:")?.parse().ok()?),
+    };
+    Some((rank(digits)?, pulled))
 }
 
 impl Life {
@@ -145,8 +180,16 @@ mod tests {
         assert_eq!((state.run.as_deref(), state.seen.get(&3)), (Some("abc"), Some(&9)));
         let stand = state.stand(2, Rank::new(2, 0)).unwrap();
         assert_eq!((stand.role, stand.peer, stand.edge, stand.gone), (Role::Out, 3, Rank::new(2, 5), 7));
-        assert!(state.stand(1, Rank::new(2, 0)).is_none());
+        assert!(state.stand(1, Rank::new(2, 0)).is_none() && stand.pulled.is_empty());
         assert!(State::read(Value::Nil).is_none());
+        let pulled = format!("{line} 0000000200000009:given 0000000200000008:forgotten:3");
+        let stand = Stand::read(&pulled).unwrap();
+        assert_eq!(stand.pulled.get(&Rank::new(2, 8)), Some(&Pulled::Forgotten(3)));
+        assert_eq!(
+            [4, 5, 8, 9].map(|second| stand.has_passed(Rank::new(2, second))),
+            [true, false, true, true]
+        );
+        assert!(Stand::read(&format!("{line} 0000000200000009:gone")).is_none());
     }
 
     #[test]

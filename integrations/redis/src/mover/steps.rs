@@ -8,7 +8,7 @@ use crate::resp::Value;
 use squall::Rank;
 
 /// How many keys are unlinked at once.
-const UNLINKED: usize = 256;
+pub(super) const UNLINKED: usize = 256;
 
 /// How far a step has brought a partition.
 #[derive(Clone, Copy, Debug)]
@@ -20,7 +20,7 @@ pub struct Step {
 }
 
 /// A partition and its generation, as a step at the other end of a move tells it.
-type Seen = (u32, u64);
+pub(super) type Seen = (u32, u64);
 
 /// What becomes of a give.
 pub enum Given {
@@ -39,22 +39,23 @@ pub enum Back {
 }
 
 /// A step that is asked for.
-struct Asked<'a> {
-    function: &'a str,
-    keys: &'a [Vec<u8>],
+pub(super) struct Asked<'a> {
+    pub function: &'a str,
+    pub keys: &'a [Vec<u8>],
     /// The first key of the move, and the edge.
-    span: (Rank, Rank),
+    pub span: (Rank, Rank),
     /// What the other end had done before. Before a give it has done nothing.
-    seen: Option<Seen>,
-    /// A number that the function takes after these.
-    more: Option<u64>,
+    pub seen: Option<Seen>,
+    /// A word that the function takes after these.
+    pub more: Option<String>,
 }
 
 impl Partition {
     /// Gives the keys of the move below the edge, unless one of those that are named has a dump of more bytes.
     pub fn give(&mut self, it: &Move, edge: Rank, keys: &[Vec<u8>], most: u64) -> Done<Given> {
         let span = (it.lo, edge);
-        match self.try_step(&Asked { function: "squall_give", keys, span, seen: None, more: Some(most) })? {
+        let more = Some(most.to_string());
+        match self.try_step(&Asked { function: "squall_give", keys, span, seen: None, more })? {
             Ok(step) => Ok(Given::Below(step)),
             Err(error) => match read_large(&error) {
                 Some((at, size)) if at < keys.len() => Ok(Given::TooLarge(at, size)),
@@ -88,7 +89,7 @@ impl Partition {
     /// Has the keys above the edge again, which it gave up to that generation, and which the destination does not load.
     pub fn take_back(&mut self, it: &Move, edge: Rank, refused: u64, given: u64) -> Done<Back> {
         let (span, seen) = ((it.lo, edge), Some((it.dest, refused)));
-        let more = Some(given);
+        let more = Some(given.to_string());
         let said = self.try_step(&Asked { function: "squall_take", keys: &[], span, seen, more })?;
         self.read_back(said)
     }
@@ -114,22 +115,28 @@ impl Partition {
     }
 
     /// The same; the partition's own words if it refuses.
-    fn try_step(&mut self, it: &Asked) -> Done<Result<Step, String>> {
+    pub(super) fn try_step(&mut self, it: &Asked) -> Done<Result<Step, String>> {
+        let said = match self.say(it)? {
+            Ok(said) => said,
+            Err(error) => return Ok(Err(error)),
+        };
+        let other = || Fault::new(format!("partition {}: an edge of another form", self.part));
+        read_step(&said).map(Ok).ok_or_else(other)
+    }
+
+    /// The partition's answer to a step; its own words if it refuses.
+    pub(super) fn say(&mut self, it: &Asked) -> Done<Result<String, String>> {
         let (count, number) = (it.keys.len().to_string(), self.number.clone());
         let (part, generation) =
             it.seen.map_or(("-".into(), "0".into()), |(part, at)| (part.to_string(), at.to_string()));
         let args = [number, hex(it.span.0), hex(it.span.1), part, generation];
-        let more = it.more.map(|more| more.to_string());
         let mut words: Vec<&[u8]> = vec![b"FCALL", it.function.as_bytes(), count.as_bytes()];
         words.extend(it.keys.iter().map(Vec::as_slice));
-        words.extend(args.iter().chain(&more).map(String::as_bytes));
-        let said = match self.try_ask(&words)? {
-            Value::Error(error) => return Ok(Err(error)),
-            said => said.text(),
-        };
-        let step = read_step(&said);
-        let other = || Fault::new(format!("partition {}: an edge of another form", self.part));
-        step.map(Ok).ok_or_else(other)
+        words.extend(args.iter().chain(&it.more).map(String::as_bytes));
+        Ok(match self.try_ask(&words)? {
+            Value::Error(error) => Err(error),
+            said => Ok(said.text()),
+        })
     }
 
     fn read_back(&self, said: Result<Step, String>) -> Done<Back> {
@@ -142,7 +149,7 @@ impl Partition {
 }
 
 /// The place of a key that is too large, from 0 on, and its size.
-fn read_large(error: &str) -> Option<(usize, u64)> {
+pub(super) fn read_large(error: &str) -> Option<(usize, u64)> {
     let (at, size) = error.strip_prefix("SQUALL LARGE ")?.split_once(' ')?;
     Some((at.parse::<usize>().ok()?.checked_sub(1)?, size.parse().ok()?))
 }

@@ -1,7 +1,8 @@
 //! Which partitions have come back with less than others know of them.
 
 use super::partition::Partition;
-use super::state::{Life, Role, Stand, State};
+use super::pulls;
+use super::state::{Life, Pulled, Role, Stand, State};
 use crate::fault::Done;
 use squall::Rank;
 use std::collections::BTreeMap;
@@ -104,7 +105,10 @@ impl Survey {
         let own = &self.facts[&part];
         own.moves.iter().filter(|it| it.role == Role::In).any(|it| {
             let given = self.facts.get(&it.peer).and_then(|source| source.stand(own.number, it.lo));
-            given.is_some_and(|source| source.edge > it.edge)
+            given.is_some_and(|source| {
+                let mut ahead = source.ahead(|state| *state == Pulled::Given);
+                source.edge > it.edge || ahead.any(|rank| !it.has_passed(rank))
+            })
         })
     }
 
@@ -124,8 +128,10 @@ impl Survey {
         }
         let others = self.claims.iter().filter(|(&other, it)| other != part && it.number >= own.number);
         signs.extend(others.flat_map(|(&other, it)| {
-            it.moves.iter().filter_map(move |stand| {
-                (stand.peer == part).then(|| sign(own, it.number, other, stand)).flatten()
+            let its_moves = it.moves.iter().filter(move |stand| stand.peer == part);
+            its_moves.flat_map(move |stand| {
+                let pulled = pulls::signs(own, it.number, other, stand);
+                sign(own, it.number, other, stand).into_iter().chain(pulled)
             })
         }));
         let has_run = own.run.is_some() && self.is_restarted(part);
@@ -184,7 +190,8 @@ mod tests {
     const LO: Rank = Rank(100);
 
     fn stand(role: Role, peer: u32, edge: u64, forgot: u64) -> Stand {
-        Stand { lo: LO, hi: Rank(200), role, peer, edge: Rank(edge), forgot: Rank(forgot), gone: 7 }
+        let (edge, forgot, pulled) = (Rank(edge), Rank(forgot), BTreeMap::new());
+        Stand { lo: LO, hi: Rank(200), role, peer, edge, forgot, gone: 7, pulled }
     }
 
     fn state(generation: u64, stand: Stand) -> State {
@@ -217,6 +224,13 @@ mod tests {
         let mut it = survey();
         assert!(it.signs(1, 2).is_empty() && it.signs(3, 2).is_empty());
         assert!(it.awaits(3) && !it.awaits(1));
+        it.facts.get_mut(&1).unwrap().moves[0].edge = Rank(140);
+        assert!(!it.awaits(3));
+        // A key that was pulled is on its way, until it is loaded.
+        it.facts.get_mut(&1).unwrap().moves[0].pulled.insert(Rank(170), Pulled::Given);
+        assert!(it.awaits(3) && it.signs(3, 2).is_empty());
+        it.facts.get_mut(&3).unwrap().moves[0].pulled.insert(Rank(170), Pulled::Loaded);
+        assert!(!it.awaits(3) && it.signs(1, 2).is_empty());
         // Another mover has gone on between the two questions.
         *it.facts.get_mut(&1).unwrap() = state(8, stand(Role::Out, 3, 180, 170));
         *it.facts.get_mut(&3).unwrap() = state(12, stand(Role::In, 1, 170, 100));

@@ -7,9 +7,9 @@
 use crate::keymap;
 use crate::resp::Value;
 use squall::Rank;
-use std::collections::HashMap;
+use std::collections::{HashMap, HashSet};
 use std::sync::atomic::{AtomicU64, Ordering::Relaxed};
-use std::sync::{Arc, Mutex, MutexGuard, PoisonError};
+use std::sync::{Arc, Mutex, MutexGuard, PoisonError, RwLock};
 use std::time::{Duration, Instant};
 
 /// The least pause between two questions how far a partition is. It is longer if answers take long: a partition shall
@@ -39,12 +39,28 @@ pub enum Standing {
     Goes,
 }
 
-/// A move, and below which rank its keys were given or loaded when the partition was asked.
+/// A move, below which rank its keys were given or loaded when the partition was asked, and which ranks were loaded ahead
+/// of that.
 struct Way {
     lo: Rank,
     hi: Rank,
     role: Role,
     edge: AtomicU64,
+    pulled: RwLock<HashSet<Rank>>,
+}
+
+impl Way {
+    fn has_loaded(&self, rank: Rank) -> bool {
+        let pulled = || self.pulled.read().unwrap_or_else(PoisonError::into_inner);
+        rank.0 < self.edge.load(Relaxed) || pulled().contains(&rank)
+    }
+
+    /// Takes what was said later of the same move.
+    fn take(&self, said: Way) {
+        self.edge.store(said.edge.into_inner(), Relaxed);
+        let pulled = said.pulled.into_inner().unwrap_or_else(PoisonError::into_inner);
+        *self.pulled.write().unwrap_or_else(PoisonError::into_inner) = pulled;
+    }
 }
 
 /// When a partition was asked how far it is, and when it may be asked again.
@@ -93,7 +109,7 @@ impl Table {
         match self.way(rank) {
             None => Standing::Stays,
             Some(way) if way.role != Role::In => Standing::Goes,
-            Some(way) if rank.0 < way.edge.load(Relaxed) => Standing::Stays,
+            Some(way) if way.has_loaded(rank) => Standing::Stays,
             Some(_) => Standing::Comes,
         }
     }
@@ -146,9 +162,7 @@ impl Tables {
     pub fn take(&self, part: u32, said: Table) -> Arc<Table> {
         let mut all = self.lock();
         if let Some(known) = all.get(&part).filter(|known| known.is_of(&said)) {
-            for (way, said) in known.ways.iter().zip(said.ways) {
-                way.edge.store(said.edge.into_inner(), Relaxed);
-            }
+            known.ways.iter().zip(said.ways).for_each(|(way, said)| way.take(said));
             return known.clone();
         }
         let said = Arc::new(said);
@@ -169,7 +183,7 @@ impl Tables {
     }
 }
 
-/// The move of a text `LO HI ROLE PEER EDGE FORGOT`.
+/// The move of a text `LO HI ROLE PEER EDGE FORGOT RANK..`.
 fn read_way(line: &str) -> Option<Way> {
     let words: Vec<&str> = line.split(' ').collect();
     let rank = |at: usize| u64::from_str_radix(words.get(at)?, 16).ok().map(Rank);
@@ -180,7 +194,8 @@ fn read_way(line: &str) -> Option<Way> {
     };
     let (lo, hi, edge) = (rank(0)?, rank(1)?, rank(4)?);
     debug_assert_eq!(keymap::hex(lo), words[0]);
-    Some(Way { lo, hi, role, edge: AtomicU64::new(edge.0) })
+    let pulled: Option<HashSet<Rank>> = (6..words.len()).map(rank).collect();
+    Some(Way { lo, hi, role, edge: AtomicU64::new(edge.0), pulled: RwLock::new(pulled?) })
 }
 
 #[cfg(test)]
@@ -189,7 +204,11 @@ mod tests {
 
     /// The table of lines whose moves begin at `2:0` and end at `3:0`.
     fn table(role: &str, edge: &str, now: Instant) -> Table {
-        let line = format!("0000000200000000 0000000300000000 {role} 3 {edge} 0000000200000000");
+        with_pulled(role, edge, "", now)
+    }
+
+    fn with_pulled(role: &str, edge: &str, pulled: &str, now: Instant) -> Table {
+        let line = format!("0000000200000000 0000000300000000 {role} 3 {edge} 0000000200000000{pulled}");
         Table::read(2, format!("*1\r\n${}\r\n{line}\r\n", line.len()).as_bytes(), now).unwrap()
     }
 
@@ -208,6 +227,20 @@ mod tests {
             assert_eq!(table.standing(Rank::new(2, 0)), Standing::Goes);
         }
         assert!(Table::read(2, b"-SQUALL COURSE 3\r\n", now).is_none());
+    }
+
+    #[test]
+    fn keys_that_were_pulled_are_believed() {
+        let (now, tables) = (Instant::now(), Tables::default());
+        let table = tables.take(3, table("in", "0000000200000005", now));
+        assert_eq!(table.standing(Rank::new(2, 9)), Standing::Comes);
+        let pulled = " 0000000200000009 0000000200000007";
+        tables.take(3, with_pulled("in", "0000000200000005", pulled, now));
+        let standings = [7, 8, 9].map(|second| table.standing(Rank::new(2, second)));
+        assert_eq!(standings, [Standing::Stays, Standing::Comes, Standing::Stays]);
+        tables.take(3, with_pulled("in", "0000000200000008", " 0000000200000009", now));
+        assert_eq!(table.standing(Rank::new(2, 7)), Standing::Stays);
+        assert!(Table::read(2, b"*1\r\n$3\r\nx y\r\n", now).is_none() && !table.is_loaded());
     }
 
     #[test]

@@ -14,7 +14,7 @@ use crate::mover::is_own;
 use crate::resp::{push, Value};
 
 /// The partition's own keys, which are no client's.
-const OWN: [&str; 18] = [
+const OWN: [&str; 19] = [
     "squall:number",
     "squall:old",
     "squall:new",
@@ -26,6 +26,7 @@ const OWN: [&str; 18] = [
     "squall:put",
     "squall:arrived",
     "squall:back",
+    "squall:pulled",
     "squall:generation",
     "squall:seen",
     "squall:since",

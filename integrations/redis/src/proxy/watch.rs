@@ -11,6 +11,7 @@ use crate::secret::READER;
 use crate::user;
 use squall::{Rank, Router};
 use std::collections::{BTreeMap, HashMap};
+use std::ops::Range;
 use std::sync::{Arc, Condvar, Mutex, MutexGuard, PoisonError};
 use std::thread;
 use std::time::{Duration, Instant};
@@ -193,12 +194,14 @@ impl Eye {
         let mut is_news = !issue.is_empty() && shared.node.learn(&[issue])?;
         let (course, _) = shared.node.course()?;
         if course.number().to_string() == number {
-            let edges: HashMap<Rank, Rank> = said.filter_map(|line| edge(&line)).collect();
+            let loaded: HashMap<Rank, Vec<Range<Rank>>> = said.filter_map(|line| loads(&line)).collect();
             let moves = course.moves();
             let own = moves.iter().filter(|it| it.dest == part);
             let loads = report(|router: &mut Router| {
-                own.filter_map(|it| Some((it, *edges.get(&it.lo).filter(|edge| **edge > it.lo)?)))
-                    .try_for_each(|(it, edge)| router.loaded(course.number(), it.sub, part, it.lo..edge))
+                own.flat_map(|it| {
+                    loaded.get(&it.lo).into_iter().flatten().map(move |keys| (it, keys.clone()))
+                })
+                .try_for_each(|(it, keys)| router.loaded(course.number(), it.sub, part, keys))
             });
             is_news |= shared.node.learn(&loads?)?;
         }
@@ -225,11 +228,16 @@ fn bytes(digits: &str) -> Option<Vec<u8>> {
     pairs.map(|pair| u8::from_str_radix(std::str::from_utf8(pair).ok()?, 16).ok()).collect()
 }
 
-/// The first key of a move of which keys come, and the rank below which they were loaded.
-fn edge(line: &str) -> Option<(Rank, Rank)> {
+/// The first key of a move of which keys come, and the spans of those that were loaded.
+fn loads(line: &str) -> Option<(Rank, Vec<Range<Rank>>)> {
     let words: Vec<&str> = line.split(' ').collect();
     let rank = |at: usize| u64::from_str_radix(words.get(at)?, 16).ok().map(Rank);
-    (*words.get(2)? == "in").then_some((rank(0)?, rank(4)?))
+    if *words.get(2)? != "in" {
+        return None;
+    }
+    let (lo, edge) = (rank(0)?, rank(4)?);
+    let pulled = (6..words.len()).filter_map(rank).map(|rank| rank..Rank(rank.0 + 1));
+    Some((lo, Some(lo..edge).filter(|keys| !keys.is_empty()).into_iter().chain(pulled).collect()))
 }
 
 #[cfg(test)]
@@ -241,7 +249,10 @@ mod tests {
         assert_eq!(bytes("00ff1a"), Some(vec![0, 255, 26]));
         assert_eq!((bytes(""), bytes("0x"), bytes("f")), (Some(Vec::new()), None, Some(vec![15])));
         let line = "0000000200000000 0000000300000000 in 1 0000000200000007 0000000200000000";
-        assert_eq!(edge(line), Some((Rank::new(2, 0), Rank::new(2, 7))));
-        assert_eq!((edge(&line.replace("in", "out")), edge("x")), (None, None));
+        let (lo, seven) = (Rank::new(2, 0), Rank::new(2, 7));
+        assert_eq!(loads(line), Some((lo, vec![lo..seven])));
+        assert_eq!((loads(&line.replace("in", "out")), loads("x")), (None, None));
+        let pulled = line.replace("07 ", "00 ") + " 0000000200000007";
+        assert_eq!(loads(&pulled), Some((lo, vec![seven..Rank::new(2, 8)])));
     }
 }
