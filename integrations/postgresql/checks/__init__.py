@@ -1,0 +1,1 @@
+"""Tests over real servers, and a load that knows each right answer."""
