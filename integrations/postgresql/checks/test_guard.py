@@ -4,13 +4,13 @@ from __future__ import annotations
 
 import io
 import threading
-import time
+from contextlib import closing
 from typing import Any, List
 
 import psycopg2
+from tests.programs import until
 
 from squall import END, Rank
-from squall_postgresql import BusyError
 from squall_postgresql.partition import place_of
 
 from .deploy import execute
@@ -135,13 +135,12 @@ class GuardTest(PartitionsTest):
     def test_a_give_waits_for_statements_in_flight(self) -> None:
         self.begin()
         self.run_words(self.app, "begin", "select squall.guard(10, 1, 'write')", COUNT % 10)
-        with self.assertRaises(BusyError):
-            self.give()
         # A read, and a write of a key that stays, wait for nothing.
         self.run_words(self.other, "begin", "select squall.guard(300, 1, 'write')", COUNT % 300)
         thread = threading.Thread(target=self.give)
         thread.start()
-        time.sleep(0.1)
+        thread.join(0.8)
+        self.assertTrue(thread.is_alive())
         self.run_words(self.app, COUNT % 10, "commit")
         thread.join()
         self.refuses("SQ001", "MOVED 3 2", self.app, "select squall.guard(10, 1, 'write')")
@@ -168,12 +167,19 @@ class GuardTest(PartitionsTest):
         given = self.give()
         name = f"select set_config('squall.claim', '{place_of(Rank(10, 1))}', true)"
         # The server does what the statement selects before what it updates.
-        slow = f"with it as ({COUNT % 10} returning n) select pg_sleep(0.5)"
-        timer = threading.Timer(0.2, self.load, [given])
-        timer.start()
-        self.refuses("SQ001", "AGAIN", self.connect(3), "begin", name, slow)
-        timer.join()
-        self.assertEqual(self.say(self.connect(3), 10, "write", slow), [("",)])
+        slow = f"with it as ({COUNT % 10} returning n) select 1 from pg_advisory_xact_lock(7)"
+        url = self.deployment.addresses[3]
+        with closing(psycopg2.connect(url)) as holds, holds.cursor() as cursor:
+            cursor.execute("select pg_advisory_xact_lock(7)")
+            says = ("SQ001", "AGAIN", self.connect(3), "begin", name, slow)
+            thread = threading.Thread(target=self.refuses, args=says)
+            thread.start()
+            waits = "select from pg_locks where locktype = 'advisory' and not granted"
+            until("the statement waits", lambda: bool(execute(url, waits)))
+            self.load(given)
+            holds.rollback()
+        thread.join()
+        self.assertEqual(self.say(self.connect(3), 10, "write", slow), [(1,)])
         self.assertEqual(self.say(self.connect(3), 10, "read", READ), [(1,)])
 
     def test_one_snapshot_for_all_statements_is_guarded_too(self) -> None:

@@ -52,14 +52,14 @@ class Client:
     def execute(self, key: Rank, mode: str, words: str, values: Sequence[object] = ()) -> Any:
         """The rows that one statement answers, or how many it has changed if it answers none.
 
-        The mode is `read` or `write`. The guard and the statement go to the server together, in
-        one transaction. Raises `AwayError`, `UnknownError`, and any other fault of the statement.
+        The mode is `read` or `write`: a read may be done again if its answer was lost. The key's
+        name and the statement go to the server together, in one transaction. Raises `AwayError`, `UnknownError`, and any other fault of the statement.
         """
 
         def act(connection: Any) -> Any:
             with connection.cursor() as cursor:
-                guarded = "select squall.guard(%s, %s, %s);" + words
-                cursor.execute(guarded, [key.root, key.second, mode, *values])
+                named = "select squall.name_key(%s, %s);" + words
+                cursor.execute(named, [key.root, key.second, *values])
                 return cursor.fetchall() if cursor.description else cursor.rowcount
 
         return self._find(key, act, mode == "read")

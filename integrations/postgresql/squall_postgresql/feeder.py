@@ -2,19 +2,13 @@
 
 from __future__ import annotations
 
-import time
 from typing import Callable, List
 
 from squall import Move, Rank, Span, frame
 
-from .errors import BusyError, LostError
+from .errors import LostError
 from .pace import Pace, Progress
 from .partition import Partition, Step
-
-#: How long statements in flight go on after a step that waited for them in vain.
-_AGAIN = 0.2
-#: How often it waits for them.
-_TRIES = 150
 
 
 class Job:
@@ -29,18 +23,6 @@ class Job:
         self.after: Callable[[str], None] = lambda name: None
         #: Whether a source has failed: the others stop after their chunk.
         self.is_over = False
-
-    def patiently(self, step: Callable[[], Step]) -> Step:
-        """A step that waits for statements in flight, again and again.
-
-        In between it lets others go on, so that one long transaction does not stop them all.
-        """
-        for _ in range(_TRIES):
-            try:
-                return step()
-            except BusyError:
-                time.sleep(_AGAIN)
-        return step()
 
 
 class Feeder:
@@ -78,7 +60,7 @@ class Feeder:
     def _give(self, move: Move) -> Step:
         number, size = self._job.number, self._job.pace.size()
         edge = self._source.chunk_end(number, move.lo, size)
-        step = self._job.patiently(lambda: self._source.give(number, move.lo, edge))
+        step = self._source.give(number, move.lo, edge)
         self._job.after("give")
         return step
 

@@ -7,24 +7,20 @@ set role squall_mover;
 -- Where a key is, by the snapshot of the statement that asks: `HELD N`, or what the guard replies.
 create or replace function squall.look(place bigint) returns text
 language plpgsql stable as $$
-declare
-  course bigint;
-  move squall.moves;
 begin
-  select number into course from squall.state;
-  select * into move from squall.moves m where m.lo <= place order by m.lo desc limit 1;
-  if place < move.hi then
-    return case
-      when move.role = 'none' then 'ELSEWHERE ' || move.peer
-      when move.role = 'out' and place < move.edge then 'MOVED ' || move.peer || ' ' || course
-      when move.role = 'in' and place >= move.edge then 'PENDING ' || move.peer
-      else 'HELD ' || course
-    end;
-  elsif exists (select from squall.legs l where l.lo <= place and place < l.hi) then
-    return 'HELD ' || course;
-  end if;
-  -- The key is not this partition's: who asks knows an earlier course, or a later one.
-  return 'COURSE ' || coalesce(course, 0);
+  return coalesce((
+    select case
+      when m.role = 'none' then 'ELSEWHERE ' || m.peer
+      when m.role = 'out' and place < m.edge then 'MOVED ' || m.peer || ' ' || s.number
+      when m.role = 'in' and place >= m.edge then 'PENDING ' || m.peer
+      when m.role is not null or l.lo is not null then 'HELD ' || s.number
+      -- The key is not this partition's: who asks knows an earlier course, or a later one.
+      else 'COURSE ' || s.number
+    end
+    from squall.state s
+    left join lateral (select * from squall.moves it where it.lo <= place order by it.lo desc limit 1) m on place < m.hi
+    left join lateral (select * from squall.legs it where it.lo <= place order by it.lo desc limit 1) l on place < l.hi
+  ), 'COURSE 0');
 end
 $$;
 
@@ -39,19 +35,18 @@ $$;
 create or replace function squall.look_locked(place bigint) returns text
 language plpgsql volatile as $$
 declare
-  found_slot integer;
+  move squall.moves;
 begin
-  -- No course begins meanwhile, so moves keep their locks.
+  -- No course begins meanwhile, so a move keeps its lock.
   perform pg_advisory_xact_lock_shared(squall.locks(), 0);
-  select m.slot into found_slot from squall.moves m
-    where m.lo = (select max(it.lo) from squall.moves it where it.lo <= place) and place < m.hi and m.role = 'out';
-  if found then
-    perform pg_advisory_xact_lock_shared(squall.locks(), found_slot);
+  select * into move from squall.moves m where m.lo <= place order by m.lo desc limit 1;
+  if move.role = 'out' and place < move.hi then
+    perform pg_advisory_xact_lock_shared(squall.locks(), move.slot);
   end if;
   if current_setting('transaction_isolation') <> 'read committed' then
     -- The snapshot is that of the whole transaction. A lock of a row that has changed since then is an error.
     perform from squall.state for share;
-    perform from squall.moves m where m.slot = found_slot for share;
+    perform from squall.moves m where m.lo = move.lo for share;
   end if;
   return squall.look(place);
 end
@@ -81,20 +76,42 @@ begin
 end
 $$;
 
--- Names a key of the statements that follow in this transaction, and refuses if it is not here. The mode is `read`, or
--- `write`: then the key stays here until the transaction ends.
+-- The place of a key.
+create or replace function squall.checked(root bigint, second bigint) returns bigint
+language plpgsql immutable as $$
+begin
+  if root not between 0 and 4294967294 or second not between 0 and 4294967295 then
+    raise exception '%:% is no key', root, second;
+  end if;
+  return squall.place(root, second);
+end
+$$;
+
+-- Names a key of the statements that follow in this transaction, each of which is guarded by itself.
+create or replace function squall.name_key(root bigint, second bigint) returns void
+language plpgsql volatile as $$
+declare
+  named text := current_setting('squall.claim', true);
+begin
+  perform set_config('squall.claim', concat_ws(' ', nullif(named, ''), squall.checked(root, second)), true);
+end
+$$;
+
+-- The same, and refuses at once if the key is not here. The mode is `read`, or `write`: then the key stays here until the
+-- transaction ends.
 create or replace function squall.guard(root bigint, second bigint, mode text) returns void
 language plpgsql volatile security definer set search_path = pg_catalog, pg_temp as $$
 declare
-  place bigint;
-  named text := current_setting('squall.claim', true);
+  place bigint := squall.checked(root, second);
 begin
-  if root not between 0 and 4294967294 or second not between 0 and 4294967295 or mode not in ('read', 'write') then
-    raise exception 'squall.guard(%, %, %): no key, or no mode', root, second, mode;
+  if mode = 'write' then
+    perform squall.insist(place, squall.look_locked(place));
+  elsif mode = 'read' then
+    perform squall.insist(place, squall.look(place));
+  else
+    raise exception 'the mode is read or write, and not %', mode;
   end if;
-  place := squall.place(root, second);
-  perform squall.insist(place, case mode when 'write' then squall.look_locked(place) else squall.look(place) end);
-  perform set_config('squall.claim', case when named <> '' then named || ' ' || place else place::text end, true);
+  perform squall.name_key(root, second);
 end
 $$;
 
@@ -120,7 +137,7 @@ $$;
 
 -- Refuses a statement that writes, unless it has all keys, and keeps them here until the transaction ends.
 create or replace function squall.may_write() returns boolean
-language plpgsql stable security definer set search_path = pg_catalog, pg_temp as $$
+language plpgsql stable as $$
 declare
   place bigint;
   said text;
@@ -138,7 +155,7 @@ end
 $$;
 
 revoke all on all functions in schema squall from public;
-grant execute on function squall.guard(bigint, bigint, text), squall.may_read(), squall.may_write(),
-  squall.is_claimed(bigint, bigint), squall.place(bigint, bigint) to squall_app;
+grant execute on function squall.guard(bigint, bigint, text), squall.name_key(bigint, bigint), squall.checked(bigint, bigint),
+  squall.may_read(), squall.is_claimed(bigint, bigint), squall.place(bigint, bigint) to squall_app;
 
 reset role;

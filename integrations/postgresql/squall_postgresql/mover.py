@@ -10,7 +10,7 @@ from typing import Callable, Dict, Iterable, List, Mapping, Optional, Type
 
 from squall import Course, Move, frame
 
-from .errors import BusyError, LostError, StepError
+from .errors import LostError, StepError
 from .feeder import Feeder, Job
 from .partition import Partition
 
@@ -96,23 +96,13 @@ class Mover:
                 if said not in ("", "again"):
                     raise StepError(f"{it.name}: {said}")
             for it in all_of_them:
-                self._begin(it, is_first)
+                it.begin(self._course, self._is_fresh(it, is_first))
                 self._job.after("begin")
             if not is_first:
                 issue = self._course.frame()
                 for it in all_of_them:
                     it.tell(self._course.number, issue)
                     self._job.after("tell")
-
-    def _begin(self, it: Partition, is_first: bool) -> None:
-        """It waits for statements in flight that write, as a give does."""
-        is_fresh = self._is_fresh(it, is_first)
-        while True:
-            try:
-                it.begin(self._course, is_fresh)
-                return
-            except BusyError:
-                time.sleep(_AGAIN)
 
     def _is_fresh(self, it: Partition, is_first: bool) -> bool:
         return is_first or it.part not in self._old

@@ -4,16 +4,19 @@ from __future__ import annotations
 
 import io
 import json
+import time
 from contextlib import contextmanager
 from pathlib import Path
-from typing import Any, Dict, Iterator, List, NamedTuple, Sequence, Tuple
+from typing import Any, Callable, Dict, Iterator, List, NamedTuple, Sequence, Tuple, TypeVar
 
 import psycopg2
 from psycopg2 import sql
 
 from squall import Course, Rank, Span
 
-from .errors import StepError, steps_of
+from .errors import BusyError, StepError, steps_of
+
+T = TypeVar("T")
 
 _FILES = ("state", "guard", "steps", "tables")
 #: A place is a rank less this, since bigint has a sign.
@@ -26,12 +29,13 @@ OPTIONS = {
     "keepalives_count": 3,
     "tcp_user_timeout": 10000,
 }
-#: For how long a step keeps statements back that arrive while it waits for those in flight.
-_LOCK_TIMEOUT = "500ms"
 #: A step that was answered is on the disk.
-_SETTINGS = (
-    f"set role squall_mover; set synchronous_commit = on; set lock_timeout = '{_LOCK_TIMEOUT}'"
-)
+_SETTINGS = "set role squall_mover; set synchronous_commit = on"
+#: For how many seconds a step waits for statements in flight, which keeps others back: at first,
+#: and at most. In between it lets others go on for a while, so no long transaction stops them all.
+_WAIT, _MOST_WAIT, _BETWEEN = 0.5, 8.0, 0.2
+#: How often it waits.
+_TRIES = 20
 
 
 def place_of(rank: int) -> int:
@@ -80,6 +84,7 @@ class Partition:
         with steps_of(self.name), self._connection.cursor() as cursor:
             try:
                 cursor.execute(_SETTINGS)
+                self._set_wait(_MOST_WAIT)
             except psycopg2.errors.UndefinedObject as error:
                 raise StepError(f"{self.name} is not set up") from error
         return self
@@ -113,12 +118,9 @@ class Partition:
             for it in course.moves()
         ]
         words = [self.part, course.number, course.old_text(), course.new_text(), is_fresh]
-        (generation,) = self._ask(
-            "select squall.begin(%s, %s, %s, %s, %s, %s, %s)",
-            *words,
-            json.dumps(legs),
-            json.dumps(moves),
-        )
+        words += [json.dumps(legs), json.dumps(moves)]
+        begin = "select squall.begin(%s, %s, %s, %s, %s, %s, %s)"
+        (generation,) = self._patiently(lambda: self._ask(begin, *words))
         return int(generation)
 
     def _legs(self, course: Course) -> List[Any]:
@@ -178,7 +180,8 @@ class Partition:
 
     def give(self, number: int, lo: Rank, edge: Rank) -> Step:
         """Gives the keys of the move below the edge. Raises `BusyError`."""
-        return self._step("select * from squall.give(%s, %s, %s)", number, lo, edge)
+        words = "select * from squall.give(%s, %s, %s)"
+        return self._patiently(lambda: self._step(words, number, lo, edge))
 
     def forget(self, number: int, lo: Rank, edge: Rank, loaded: int) -> Step:
         """Deletes rows that the destination has loaded in that generation."""
@@ -233,6 +236,21 @@ class Partition:
                 )
                 self._tables = cursor.fetchall()
         return self._tables
+
+    def _patiently(self, step: Callable[[], T]) -> T:
+        """A step that waits for statements in flight, again and again. Raises `BusyError`."""
+        seconds = _WAIT
+        for _ in range(_TRIES):
+            self._set_wait(seconds)
+            try:
+                return step()
+            except BusyError:
+                time.sleep(_BETWEEN)
+            seconds = min(2 * seconds, _MOST_WAIT)
+        return step()
+
+    def _set_wait(self, seconds: float) -> None:
+        self._ask("select set_config('lock_timeout', %s, false)", f"{int(seconds * 1000)}ms")
 
     def _step(self, words: str, number: int, lo: Rank, edge: Rank, *more: int) -> Step:
         edge_now, generation = self._ask(words, number, place_of(lo), place_of(edge), *more)
