@@ -2,8 +2,8 @@
 # Runs the tests of integrations/postgresql, for tools/integrations, which reads this file after that of transports/. They
 # start servers on loopback, and end them by their process ids. If the tests are ended, the servers end with them.
 
-partitions=(pg_guard pg_steps pg_mover pg_client)
-long_partitions=()
+partitions=(pg_guard pg_steps pg_mover pg_client pg_check pg_faults)
+long_partitions=(pg_long)
 
 is_partition() {
   [[ " ${partitions[*]} ${long_partitions[*]} " == *" $1 "* ]]
