@@ -4,6 +4,7 @@ from __future__ import annotations
 
 import io
 import threading
+from concurrent.futures import ThreadPoolExecutor
 from contextlib import closing
 from typing import Any, List
 
@@ -169,16 +170,17 @@ class GuardTest(PartitionsTest):
         # The server does what the statement selects before what it updates.
         slow = f"with it as ({COUNT % 10} returning n) select 1 from pg_advisory_xact_lock(7)"
         url = self.deployment.addresses[3]
+        pool = ThreadPoolExecutor(1)
+        self.addCleanup(pool.shutdown)
         with closing(psycopg2.connect(url)) as holds, holds.cursor() as cursor:
             cursor.execute("select pg_advisory_xact_lock(7)")
             says = ("SQ001", "AGAIN", self.connect(3), "begin", name, slow)
-            thread = threading.Thread(target=self.refuses, args=says)
-            thread.start()
-            waits = "select from pg_locks where locktype = 'advisory' and not granted"
+            refused = pool.submit(self.refuses, *says)
+            waits = "select 1 from pg_locks where locktype = 'advisory' and not granted"
             until("the statement waits", lambda: bool(execute(url, waits)))
             self.load(given)
             holds.rollback()
-        thread.join()
+            refused.result()
         self.assertEqual(self.say(self.connect(3), 10, "write", slow), [(1,)])
         self.assertEqual(self.say(self.connect(3), 10, "read", READ), [(1,)])
 

@@ -53,7 +53,8 @@ class Client:
         """The rows that one statement answers, or how many it has changed if it answers none.
 
         The mode is `read` or `write`: a read may be done again if its answer was lost. The key's
-        name and the statement go to the server together, in one transaction. Raises `AwayError`, `UnknownError`, and any other fault of the statement.
+        name and the statement go to the server together, in one transaction. Raises `AwayError`,
+        `UnknownError`, and any other fault of the statement.
         """
 
         def act(connection: Any) -> Any:
