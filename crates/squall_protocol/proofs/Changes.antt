@@ -1,5 +1,5 @@
 -- What a step changes: one of few changes, each of which keeps what holds.
-use Rattle.std.proofs.Common.{◌≡◌, ◌≢◌, ℕ, ◌+◌, ◌-◌, ◌<◌, ◌≤◌, not, true, false, List, [], ◌∷◌, ◌++◌, refl, sym, ap, ap₂, ◌∙◌, subst, arith, le_refl}
+use Rattle.std.proofs.Common.{◌≡◌, ◌≢◌, ℕ, ◌+◌, ◌<◌, ◌≤◌, not, true, false, List, [], ◌∷◌, ◌++◌, refl, sym, ap, ap₂, ◌∙◌, subst, arith, le_refl}
 use Rattle.std.specs.Prelude.{Some, nat_le, nat_lt}
 use Rattle.std.specs.List.{slice_get}
 use Rattle.std.proofs.lemmas.Bool.{both_ways, and_parts, and_from, not_from_false, true_from_ne_false, leb-true, ltb-true}
@@ -19,7 +19,7 @@ use Rattle.squall_protocol.specs.declared.event.Node.{Node}
 use Rattle.squall_protocol.specs.declared.event.Node.TheVariants.{Part}
 use Rattle.squall_protocol.specs.Worlds.{WorldValue, course_at}
 use Rattle.squall_protocol.specs.Knowledge.{part_in, IsCurrent, goes_out, is_left, comes_in, is_missing}
-use Rattle.squall_protocol.specs.Steps.{IsPlan, NoneWanting, after_told, after_open, after_begin, IsGift, after_give, IsArriving, MayLoad, after_load, IsOpenAt}
+use Rattle.squall_protocol.specs.Steps.{IsPlan, NoneWanting, after_told, after_open, after_begin, IsWhereLeft, after_close, IsGift, after_give, IsArriving, MayLoad, after_load, IsOpenAt}
 use Rattle.squall_protocol.proofs.Courses.{count_of, is_moves, incoming_is}
 use Rattle.squall_protocol.proofs.Kept.{Hears, IsNewest, TrueFacts, Kept}
 use Rattle.squall_protocol.proofs.Later.{Later, later_trans, later_by}
@@ -28,7 +28,8 @@ use Rattle.squall_protocol.proofs.Says.{done_true}
 use Rattle.squall_protocol.proofs.Give.{IsLeaving, later_give, keeps_give}
 use Rattle.squall_protocol.proofs.Load.{later_load, keeps_load}
 use Rattle.squall_protocol.proofs.Tell.{keeps_told, keeps_sent}
-use Rattle.squall_protocol.proofs.Open.{all_done, keeps_open}
+use Rattle.squall_protocol.proofs.Open.{all_done, later_open, keeps_open}
+use Rattle.squall_protocol.proofs.Close.{later_close, keeps_close}
 use Rattle.squall_protocol.proofs.Begin.{begun_on, later_begun, keeps_begin}
 
 -- the message is on its way
@@ -38,9 +39,10 @@ after_send w message = record w { messages = w.messages ++ message ∷ [] }
 -- what may become of a world at a step
 pub data WorldChange (w : WorldValue) : WorldValue → Type 0 where
   stays : WorldChange w w
-  opens : NoneWanting w → w.opened ≢ count_of w w.last → WorldChange w (after_open w)
-  begins : (plan : List PlanRange) → w.last < last_number → IsPlan plan → NoneWanting w → w.opened ≡ count_of w w.last → WorldChange w (after_begin w plan)
-  gives : (x : ChunkValue) (first : ℕ) → IsNewest (w.facts (Part x.source)) x.number → (w.facts (Part x.source)).opened x.number ≡ x.sub + 1 → span_has x.span first ≡ true
+  opens : NoneWanting w → w.opened w.last ≢ count_of w w.last → WorldChange w (after_open w)
+  begins : (old new : List PlanRange) → w.last < last_number → IsPlan old → IsPlan new → IsWhereLeft w old → WorldChange w (after_begin w old new)
+  closes : (n p : ℕ) → WorldChange w (after_close w n p)
+  gives : (x : ChunkValue) (first : ℕ) → IsNewest (w.facts (Part x.source)) x.number → (w.facts (Part x.source)).opened x.number ≡ x.sub + 1 → w.closed x.number x.source ≡ false → span_has x.span first ≡ true
       → ((k : ℕ) → span_has x.span k ≡ true → IsLeaving w x k) → WorldChange w (after_give w x)
   loads : (i : ℕ) (x : ChunkValue) → slice_get w.chunks i ≡ Some x → Hears (w.facts (Part x.dest)) x.number → WorldChange w (after_load w x)
   tells : (node : Node) (more : Queries) → TrueFacts w more → WorldChange w (after_told w node more)
@@ -49,20 +51,22 @@ pub data WorldChange (w : WorldValue) : WorldValue → Type 0 where
 -- ---- what follows a change
 
 pub later_change : (w v : WorldValue) → WorldChange w v → Later w v
-later_change w _ stays = later_by w w refl refl (le_refl w.opened) refl refl
-later_change w _ (opens none more) = later_by w (after_open w) refl refl (omega arith) refl refl
-later_change w _ (begins plan number is none over) =
-    later_trans w (begun_on w plan) (after_begin w plan) (later_begun w plan) (later_by (begun_on w plan) (after_begin w plan) refl refl (le_refl 0) refl refl)
-later_change w _ (gives x first newest opened some out) = later_give w x
+later_change w _ stays = later_by w w refl refl refl (λ n. le_refl (w.opened n)) refl refl
+later_change w _ (opens none more) = later_open w
+later_change w _ (begins old new number is_old is_new where_left) =
+    later_trans w (begun_on w old new) (after_begin w old new) (later_begun w old new) (later_by (begun_on w old new) (after_begin w old new) refl refl refl (λ n. le_refl ((begun_on w old new).opened n)) refl refl)
+later_change w _ (closes n p) = later_close w n p
+later_change w _ (gives x first newest opened still some out) = later_give w x
 later_change w _ (loads i x there hears) = later_load w x
-later_change w _ (tells node more true_more) = later_by w (after_told w node more) refl refl (le_refl w.opened) refl refl
-later_change w _ (sends message is_true) = later_by w (after_send w message) refl refl (le_refl w.opened) refl refl
+later_change w _ (tells node more true_more) = later_by w (after_told w node more) refl refl refl (λ n. le_refl (w.opened n)) refl refl
+later_change w _ (sends message is_true) = later_by w (after_send w message) refl refl refl (λ n. le_refl (w.opened n)) refl refl
 
 pub keeps_change : (w v : WorldValue) → Kept w → WorldChange w v → Kept v
 keeps_change w _ kept stays = kept
 keeps_change w _ kept (opens none more) = keeps_open w kept (all_done w none) more
-keeps_change w _ kept (begins plan number is none over) = keeps_begin w plan number is kept (all_done w none) (omega (arith, over))
-keeps_change w _ kept (gives x first newest opened some out) = keeps_give w x first kept newest opened some out
+keeps_change w _ kept (begins old new number is_old is_new where_left) = keeps_begin w old new number is_old is_new kept where_left
+keeps_change w _ kept (closes n p) = keeps_close w n p kept
+keeps_change w _ kept (gives x first newest opened still some out) = keeps_give w x first kept newest opened still some out
 keeps_change w _ kept (loads i x there hears) = keeps_load w i x kept there hears
 keeps_change w _ kept (tells node more true_more) = keeps_told w node more kept true_more
 keeps_change w _ kept (sends message is_true) = keeps_sent w message is_true kept
@@ -83,6 +87,7 @@ gift_change w p x c s first kept current gift some held =
     gives x first
     (subst (λ (y : ℕ × ℕ). IsNewest (w.facts (Part y.0)) y.1) (ap₂ pair (sym gift.source) (sym gift.number)) known.newest)
     (subst (λ (y : ℕ × ℕ). (w.facts (Part y.0)).opened y.1 ≡ x.sub + 1) (ap₂ pair (sym gift.source) (sym gift.number)) (current.1 ∙ ap (λ t. t + 1) (sym gift.sub_plan)))
+    (subst (λ (y : ℕ × ℕ). w.closed y.1 y.0 ≡ false) (ap₂ pair (sym gift.source) (sym gift.number)) current.2)
     some leaving
   where
     pair : ℕ → ℕ → ℕ × ℕ
@@ -123,7 +128,7 @@ pub finish_change : (w : WorldValue) (p s : ℕ) (c : Change) → Kept w → IsO
 finish_change w p s c kept at none =
     let known : NewestCourse w (w.facts (Part p)) c = newest_course w (w.facts (Part p)) c kept.first (kept.facts (Part p)) at.0 in
     tells (Part p) (done_queries (place_at c.number s p)) (done_true w (place_at c.number s p) known.begun (λ k m dest sub.
-    loaded k (subst (λ (d : Change). is_incoming d.old d.new s p k ≡ true) (sym known.same) (incoming_is (w.plan (c.number - 1)) (w.plan c.number) s p k m sub dest))))
+    loaded k (subst (λ (d : Change). is_incoming d.old d.new s p k ≡ true) (sym known.same) (incoming_is (w.old c.number) (w.new c.number) s p k m sub dest))))
   where
     loaded : (k : ℕ) → comes_in (part_in w p) c s k ≡ true → w.loaded c.number p k ≡ true
     loaded k comes = true_from_ne_false (w.loaded c.number p k) (λ f.

@@ -2,19 +2,18 @@
 use Rattle.std.proofs.Common.{◌≡◌, ℕ, ◌+◌, ◌<◌, ◌==◌, ◌||◌, ◌&&◌, not, true, false, [], ◌∷◌, length, refl, sym, ap, ap₂, ◌∙◌, subst, inl, inr, ⊎_elim, arith, le_refl}
 use Rattle.std.specs.Prelude.{Some}
 use Rattle.std.specs.List.{slice_get}
-use Rattle.std.proofs.lemmas.Bool.{both_ways, eqb-true, eq-eqb, and_parts, and_from, and_right, or_cases, or_parts, or_from, or_left, or_right, not-true, not_from_false, false_from_ne_true}
+use Rattle.std.proofs.lemmas.Bool.{both_ways, eqb-true, eq-eqb, and_parts, and_from, and_left, and_right, ne_eqb, or_cases, or_parts, or_from, or_left, or_right, not-true, not_from_false, false_from_ne_true}
 use Rattle.squall_span.specs.Spans.{span_has}
 use Rattle.squall_protocol.specs.Chunks.{ChunkValue}
 use Rattle.squall_protocol.specs.declared.event.Node.TheVariants.{Part}
 use Rattle.squall_protocol.specs.Worlds.{WorldValue}
 use Rattle.squall_protocol.specs.Steps.{after_give}
-use Rattle.squall_protocol.specs.Promises.{opened_of}
 use Rattle.squall_protocol.proofs.Threes.{three}
 use Rattle.squall_protocol.proofs.Courses.{old_owner, new_owner, sub_in, Moves}
 use Rattle.squall_protocol.proofs.Kept.{Hears, IsNewest, IsGiven, IsLoaded, IsSent, HasChunk, Kept}
 use Rattle.squall_span.specs.Spans.{Interval}
 use Rattle.squall_protocol.specs.Chunks.{chunk_with}
-use Rattle.squall_protocol.proofs.Later.{Later, true_later, opened_now}
+use Rattle.squall_protocol.proofs.Later.{Later, true_later}
 use Rattle.squall_protocol.proofs.Lists.{at_front, at_end, at_either}
 use Rattle.squall_protocol.proofs.Places.{newest_is_last, not_given}
 
@@ -29,9 +28,10 @@ pub record IsLeaving (w : WorldValue) (x : ChunkValue) (k : ℕ) : Type 0 where
 pub later_give : (w : WorldValue) (x : ChunkValue) → Later w (after_give w x)
 later_give w x =
     record {
-      plan = λ m h. refl;
+      old = λ m h. refl;
+      new = λ m h. refl;
       last = le_refl w.last;
-      opened = λ e. le_refl w.opened;
+      opened = λ n h. le_refl (w.opened n);
       given = λ m r k h. or_left (w.given m r k) ((m == x.number) && ((r == x.source) && span_has x.span k)) h;
       loaded = λ m r k h. h;
     }
@@ -50,8 +50,10 @@ give_last w s p q span first kept hears opened some out =
     record {
       first = kept.first;
       numbers = kept.numbers;
-      plans = kept.plans;
-      there = kept.there;
+      olds = kept.olds;
+      news = kept.news;
+      old_there = kept.old_there;
+      new_there = kept.new_there;
       held_true = λ m k h.
           let both : (w.held m k ≡ true) × (not ((m == p) && span_has span k) ≡ true) = and_parts (w.held m k) (not ((m == p) && span_has span k)) h in
           let apart : ((m == p) && span_has span k) ≡ false = not-true ((m == p) && span_has span k) both.1 in
@@ -77,14 +79,17 @@ give_last w s p q span first kept hears opened some out =
           let t : ((n == w.last) ≡ true) × ((m == p) ≡ true) × (span_has span k ≡ true) = three (n == w.last) (m == p) (span_has span k) x in
           let o : IsLeaving w (last_chunk w s p q span) k = out k t.2 in
           subst (λ (y : ℕ × ℕ). IsGiven (given_world w s p q span) y.0 y.1 k) (ap₂ pair (sym (eqb-true n w.last t.0)) (sym (eqb-true m p t.1)))
-          (record { first = kept.first; last = le_refl w.last; moves = o.moves; source = o.source; opened = λ _. subst (λ u. u < w.opened) (sym o.sub) below; hears = hears }))
+          (record { first = kept.first; last = le_refl w.last; moves = o.moves; source = o.source; opened = subst (λ u. u < w.opened w.last) (sym o.sub) below; hears = hears }))
           (or_cases (w.given n m k) ((n == w.last) && ((m == p) && span_has span k)) h);
       loaded = λ n m k h. let l : IsLoaded w n m k = kept.loaded n m k h in record { dest = l.dest; given = later.given n (old_owner w n k) k l.given; hears = l.hears };
-      over = kept.over;
-      most = kept.most;
+      left = λ n k a b. ⊎_elim
+          (λ (x : (old_owner w (n + 1) k ≡ new_owner w n k) × (Moves w n k → w.loaded n (old_owner w (n + 1) k) k ≡ true)). inl x)
+          (λ (x : (old_owner w (n + 1) k ≡ old_owner w n k) × Moves w n k × (w.given n (old_owner w (n + 1) k) k ≡ false) × (w.closed n (old_owner w (n + 1) k) ≡ true)).
+          inr (x.0, x.1, or_from (w.given n (old_owner w (n + 1) k) k) ((n == w.last) && ((old_owner w (n + 1) k == p) && span_has span k)) x.2 (and_left (n == w.last) ((old_owner w (n + 1) k == p) && span_has span k) (ne_eqb n w.last (λ e. apart n b e))), x.3))
+          (kept.left n k a b);
       earlier = kept.earlier;
-      facts = λ node. true_later w (given_world w s p q span) (w.facts node) later (kept.facts node) kept.most;
-      messages = λ i message h. true_later w (given_world w s p q span) message later (kept.messages i message h) kept.most;
+      facts = λ node. true_later w (given_world w s p q span) (w.facts node) later (kept.facts node);
+      messages = λ i message h. true_later w (given_world w s p q span) message later (kept.messages i message h);
       some = λ i x h. ⊎_elim
           (λ (a : slice_get w.chunks i ≡ Some x). kept.some i x a)
           (λ (a : (i ≡ length w.chunks) × (last_chunk w s p q span ≡ x)). (first, subst (λ (y : ChunkValue). span_has y.span first ≡ true) a.1 some))
@@ -114,11 +119,14 @@ give_last w s p q span first kept hears opened some out =
     pair : ℕ → ℕ → ℕ × ℕ
     pair a b = (a, b)
 
+    apart : (n : ℕ) → n < w.last → n ≡ w.last → ⊥
+    apart n b e = omega arith
+
     later : Later w (given_world w s p q span)
     later = later_give w (last_chunk w s p q span)
 
-    below : s < w.opened
-    below = let u : s < opened_of w w.last = (kept.facts (Part p)).opened w.last s (omega arith) in let e : opened_of w w.last ≡ w.opened = opened_now w w.last refl in omega arith
+    below : s < w.opened w.last
+    below = (kept.facts (Part p)).opened w.last s (omega arith)
 
     new_sent : (k : ℕ) → span_has span k ≡ true → IsSent (given_world w s p q span) (last_chunk w s p q span) k
     new_sent k x =
@@ -140,12 +148,12 @@ give_last w s p q span first kept hears opened some out =
         both_ways (w.given w.last p k) (not_given w kept p k o.moves o.source o.held)
         (subst (λ (z : ℕ × ℕ). w.given z.0 z.1 k ≡ true) (ap₂ pair n_is p_is) g.given)
 
-pub keeps_give : (w : WorldValue) (x : ChunkValue) (first : ℕ) → Kept w → IsNewest (w.facts (Part x.source)) x.number → (w.facts (Part x.source)).opened x.number ≡ x.sub + 1 → span_has x.span first ≡ true
+pub keeps_give : (w : WorldValue) (x : ChunkValue) (first : ℕ) → Kept w → IsNewest (w.facts (Part x.source)) x.number → (w.facts (Part x.source)).opened x.number ≡ x.sub + 1 → w.closed x.number x.source ≡ false → span_has x.span first ≡ true
     → ((k : ℕ) → span_has x.span k ≡ true → IsLeaving w x k) → Kept (after_give w x)
-keeps_give w x first kept newest opened some out =
+keeps_give w x first kept newest opened gives some out =
     let o : IsLeaving w x first = out first some in
     subst (λ m. Hears (w.facts (Part x.source)) m → (w.facts (Part x.source)).opened m ≡ x.sub + 1 → ((k : ℕ) → span_has x.span k ≡ true → IsLeaving w (chunk_with m x.sub x.source x.dest x.span) k)
     → Kept (after_give w (chunk_with m x.sub x.source x.dest x.span)))
-    (sym (newest_is_last w kept x.number x.source first newest o.moves o.source o.held))
+    (sym (newest_is_last w kept x.number x.source first newest gives o.moves o.source o.held))
     (λ a b d. give_last w x.sub x.source x.dest x.span first kept a b some d)
     newest.0 opened out

@@ -5,7 +5,6 @@ use Rattle.std.specs.List.{slice_get}
 use Rattle.squall_key.specs.Keys.{top}
 use Rattle.squall_span.specs.Spans.{span_has}
 use Rattle.squall_join.specs.declared.flat.Flat.TheVariants.{Unknown, One}
-use Rattle.squall_plan.specs.Ranges.{owner_of}
 use Rattle.squall_report.specs.Issues.{PlanPair}
 use Rattle.squall_report.specs.Cells.{CellPlace}
 use Rattle.squall_report.specs.Queries.{Queries}
@@ -14,9 +13,8 @@ use Rattle.squall_protocol.specs.Known.{last_number}
 use Rattle.squall_protocol.specs.declared.event.Node.{Node}
 use Rattle.squall_protocol.specs.declared.event.Node.TheVariants.{Part}
 use Rattle.squall_protocol.specs.Worlds.{WorldValue, WasBegun, pair_at, is_part}
-use Rattle.squall_protocol.specs.Steps.{IsPlan}
-use Rattle.squall_protocol.specs.Promises.{opened_of}
-use Rattle.squall_protocol.proofs.Courses.{old_owner, new_owner, sub_in, count_of, Moves}
+use Rattle.squall_protocol.specs.Steps.{IsPlan, LeavesAt}
+use Rattle.squall_protocol.proofs.Courses.{old_owner, new_owner, sub_in, Moves}
 
 -- the number is the first course's, or one pair of plans is issued under it
 abbrev pub Hears : Queries → ℕ → Type 0
@@ -32,7 +30,7 @@ pub record TrueFacts (w : WorldValue) (f : Queries) : Type 0 where
   pub done_begun : (c : CellPlace) → f.done c ≡ true → WasBegun w c.number
   pub done : (c : CellPlace) → f.done c ≡ true → (k : ℕ) → Moves w c.number k → new_owner w c.number k ≡ c.part → sub_in w c.number k ≡ c.sub → w.loaded c.number c.part k ≡ true
   pub opened_begun : (n t : ℕ) → t < f.opened n → WasBegun w n
-  pub opened : (n t : ℕ) → t < f.opened n → t < opened_of w n
+  pub opened : (n t : ℕ) → t < f.opened n → t < w.opened n
   pub issued : (n : ℕ) → (f.issued n ≡ Unknown) ⊎ (WasBegun w n × (f.issued n ≡ One (pair_at w n)))
 
 -- who holds a key: its new partition if it stays or is loaded, its old one if it moves and is not given
@@ -47,7 +45,7 @@ pub record IsGiven (w : WorldValue) (n p k : ℕ) : Type 0 where
   pub last : n ≤ w.last
   pub moves : Moves w n k
   pub source : old_owner w n k ≡ p
-  pub opened : n ≡ w.last → sub_in w n k < w.opened
+  pub opened : sub_in w n k < w.opened n
   pub hears : Hears (w.facts (Part p)) n
 
 -- what holds of a key that was loaded
@@ -77,16 +75,17 @@ pub record Kept (w : WorldValue) : Type 0 where
   pub first : 1 ≤ w.last
   pub numbers : w.last ≤ last_number
   -- plans are plans, and their partitions are there
-  pub plans : (n : ℕ) → n ≤ w.last → IsPlan (w.plan n)
-  pub there : (n k : ℕ) → n ≤ w.last → k < top → is_part w (owner_of (w.plan n) k) ≡ true
+  pub olds : (n : ℕ) → n ≤ w.last → IsPlan (w.old n)
+  pub news : (n : ℕ) → n ≤ w.last → IsPlan (w.new n)
+  pub old_there : (n k : ℕ) → n ≤ w.last → k < top → is_part w (old_owner w n k) ≡ true
+  pub new_there : (n k : ℕ) → n ≤ w.last → k < top → is_part w (new_owner w n k) ≡ true
   pub held_true : (p k : ℕ) → w.held p k ≡ true → Holds w p k
   pub held_from : (p k : ℕ) → k < top → Holds w p k → w.held p k ≡ true
   pub given : (n p k : ℕ) → w.given n p k ≡ true → IsGiven w n p k
   pub loaded : (n q k : ℕ) → w.loaded n q k ≡ true → IsLoaded w n q k
-  -- a course is over before the next begins, and a sub-plan before the next is opened
-  pub over : (n k : ℕ) → 1 ≤ n → n < w.last → Moves w n k → w.loaded n (new_owner w n k) k ≡ true
-  pub most : w.opened ≤ count_of w w.last
-  pub earlier : (k : ℕ) → Moves w w.last k → sub_in w w.last k + 1 < w.opened → w.loaded w.last (new_owner w w.last k) k ≡ true
+  -- a course leaves each key where the next one has it at first, and a sub-plan is over before the next is opened
+  pub left : (n k : ℕ) → 1 ≤ n → n < w.last → LeavesAt w n k (old_owner w (n + 1) k)
+  pub earlier : (k : ℕ) → Moves w w.last k → sub_in w w.last k + 1 < w.opened w.last → w.loaded w.last (new_owner w w.last k) k ≡ true
   pub facts : (node : Node) → TrueFacts w (w.facts node)
   pub messages : (i : ℕ) (message : Queries) → slice_get w.messages i ≡ Some message → TrueFacts w message
   -- each chunk has a key, and each given key of a number and source is in exactly one chunk

@@ -15,6 +15,7 @@ pub mod Load
 pub mod Tell
 pub mod Open
 pub mod Begin
+pub mod Close
 pub mod Changes
 pub mod Runs
 pub mod Start
@@ -23,10 +24,12 @@ pub mod Had
 pub mod Routed
 pub mod Served
 pub mod Ends
+pub mod Left
 pub mod Current
 pub mod Firsts
 pub mod Once
 pub mod OneLead
+pub mod OneClose
 pub mod OneGift
 pub mod OneGiftAt
 pub mod OneLoad

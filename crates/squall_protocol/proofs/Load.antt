@@ -1,5 +1,5 @@
 -- Loading a chunk keeps what holds.
-use Rattle.std.proofs.Common.{◌≡◌, ℕ, ◌<◌, ◌≤◌, ◌==◌, ◌||◌, ◌&&◌, not, true, false, refl, sym, ap, ap₂, ◌∙◌, subst, inl, inr, ⊎_elim, arith, le_refl}
+use Rattle.std.proofs.Common.{◌≡◌, ℕ, ◌+◌, ◌<◌, ◌≤◌, ◌==◌, ◌||◌, ◌&&◌, not, true, false, refl, sym, ap, ap₂, ◌∙◌, subst, inl, inr, ⊎_elim, arith, le_refl}
 use Rattle.std.specs.Prelude.{Some}
 use Rattle.std.specs.List.{slice_get}
 use Rattle.std.proofs.lemmas.Bool.{cases_Bool, cases_lt, cases_eq, both_ways, eqb-true, eq-eqb, or_cases, or_left, or_right, not-true, not_from_false}
@@ -18,6 +18,15 @@ use Rattle.squall_protocol.proofs.Later.{Later, true_later}
 use Rattle.squall_protocol.proofs.Told.{true_told, hears_told}
 use Rattle.squall_protocol.proofs.Says.{loaded_true}
 
+-- a key that was given in a course before the last was loaded in it
+pub left_loaded : (w : WorldValue) → Kept w → (n k : ℕ) → 1 ≤ n → n < w.last → w.given n (old_owner w n k) k ≡ true → w.loaded n (new_owner w n k) k ≡ true
+left_loaded w kept n k first less given = ⊎_elim
+    (λ (x : (old_owner w (n + 1) k ≡ new_owner w n k) × (Moves w n k → w.loaded n (old_owner w (n + 1) k) k ≡ true)).
+    let g : IsGiven w n (old_owner w n k) k = kept.given n (old_owner w n k) k given in subst (λ q. w.loaded n q k ≡ true) x.0 (x.1 g.moves))
+    (λ (x : (old_owner w (n + 1) k ≡ old_owner w n k) × Moves w n k × (w.given n (old_owner w (n + 1) k) k ≡ false) × (w.closed n (old_owner w (n + 1) k) ≡ true)).
+    absurd (both_ways (w.given n (old_owner w n k) k) (subst (λ q. w.given n q k ≡ false) x.0 x.2) given))
+    (kept.left n k first less)
+
 -- a key that is in a chunk and not loaded is of the last course
 pub flight_last : (w : WorldValue) → Kept w → (i : ℕ) (chunk : ChunkValue) (k : ℕ) → slice_get w.chunks i ≡ Some chunk → span_has chunk.span k ≡ true → w.loaded chunk.number chunk.dest k ≡ false → chunk.number ≡ w.last
 flight_last w kept i chunk k there inside flying =
@@ -25,16 +34,18 @@ flight_last w kept i chunk k there inside flying =
     let given : IsGiven w chunk.number chunk.source k = kept.given chunk.number chunk.source k sent.given in
     let most : chunk.number ≤ w.last = given.last in
     ⊎_elim
-    (λ (less : chunk.number < w.last). absurd (both_ways (w.loaded chunk.number chunk.dest k) flying (subst (λ q. w.loaded chunk.number q k ≡ true) sent.dest (kept.over chunk.number k given.first less given.moves))))
+    (λ (less : chunk.number < w.last). absurd (both_ways (w.loaded chunk.number chunk.dest k) flying (subst (λ q. w.loaded chunk.number q k ≡ true) sent.dest
+    (left_loaded w kept chunk.number k given.first less (subst (λ p. w.given chunk.number p k ≡ true) (sym sent.source) sent.given)))))
     (λ (more : w.last ≤ chunk.number). omega arith)
     (cases_lt chunk.number w.last)
 
 pub later_load : (w : WorldValue) (chunk : ChunkValue) → Later w (after_load w chunk)
 later_load w chunk =
     record {
-      plan = λ m h. refl;
+      old = λ m h. refl;
+      new = λ m h. refl;
       last = le_refl w.last;
-      opened = λ e. le_refl w.opened;
+      opened = λ n h. le_refl (w.opened n);
       given = λ m r k h. h;
       loaded = λ m r k h. or_left (w.loaded m r k) ((m == chunk.number) && ((r == chunk.dest) && span_has chunk.span k)) h;
     }
@@ -44,8 +55,10 @@ keeps_load w i chunk kept there hears =
     record {
       first = kept.first;
       numbers = kept.numbers;
-      plans = kept.plans;
-      there = kept.there;
+      olds = kept.olds;
+      news = kept.news;
+      old_there = kept.old_there;
+      new_there = kept.new_there;
       held_true = λ m k h. ⊎_elim
           (λ (x : w.held m k ≡ true). ⊎_elim
           (λ (y : (m ≡ new_owner w w.last k) × (Moves w w.last k → w.loaded w.last m k ≡ true)). inl (y.0, λ z. later.loaded w.last m k (y.1 z)))
@@ -89,11 +102,13 @@ keeps_load w i chunk kept there hears =
           subst (λ (y : ℕ × ℕ). IsLoaded (after_load w chunk) y.0 y.1 k) (ap₂ pair (sym (eqb-true n chunk.number t.0)) (sym (eqb-true m chunk.dest t.1)))
           (record { dest = sent.dest; given = subst (λ q. w.given chunk.number q k ≡ true) (sym sent.source) sent.given; hears = hears_on (Part chunk.dest) chunk.number hears }))
           (or_cases (w.loaded n m k) ((n == chunk.number) && ((m == chunk.dest) && span_has chunk.span k)) h);
-      over = λ n k a b d. later.loaded n (new_owner w n k) k (kept.over n k a b d);
-      most = kept.most;
+      left = λ n k a b. ⊎_elim
+          (λ (x : (old_owner w (n + 1) k ≡ new_owner w n k) × (Moves w n k → w.loaded n (old_owner w (n + 1) k) k ≡ true)). inl (x.0, λ m. later.loaded n (old_owner w (n + 1) k) k (x.1 m)))
+          (λ (x : (old_owner w (n + 1) k ≡ old_owner w n k) × Moves w n k × (w.given n (old_owner w (n + 1) k) k ≡ false) × (w.closed n (old_owner w (n + 1) k) ≡ true)). inr x)
+          (kept.left n k a b);
       earlier = λ k a b. later.loaded w.last (new_owner w w.last k) k (kept.earlier k a b);
       facts = true_told (after_load w chunk) w (Part chunk.dest) (loaded_queries (place_at chunk.number chunk.sub chunk.dest) (span_has chunk.span)) all report_true;
-      messages = λ j message h. true_later w (after_load w chunk) message later (kept.messages j message h) kept.most;
+      messages = λ j message h. true_later w (after_load w chunk) message later (kept.messages j message h);
       some = kept.some;
       sent = λ j a h k x. let y : IsSent w a k = kept.sent j a h k x in record { source = y.source; dest = y.dest; sub = y.sub; given = y.given };
       once = kept.once;
@@ -110,7 +125,7 @@ keeps_load w i chunk kept there hears =
     still m k h = or_left (w.held m k) ((m == chunk.dest) && (span_has chunk.span k && not (w.loaded chunk.number chunk.dest k))) h
 
     all : (m : Node) → TrueFacts (after_load w chunk) (w.facts m)
-    all m = true_later w (after_load w chunk) (w.facts m) (later_load w chunk) (kept.facts m) kept.most
+    all m = true_later w (after_load w chunk) (w.facts m) (later_load w chunk) (kept.facts m)
 
     report_true : TrueFacts (after_load w chunk) (loaded_queries (place_at chunk.number chunk.sub chunk.dest) (span_has chunk.span))
     report_true = loaded_true (after_load w chunk) (place_at chunk.number chunk.sub chunk.dest) (span_has chunk.span) (λ k h.

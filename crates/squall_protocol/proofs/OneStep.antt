@@ -1,13 +1,14 @@
 -- To each event there is one answer at most, and one world after it; and so to each list of events.
 use Rattle.std.proofs.Common.{◌≡◌, List, [], ◌∷◌, refl, sym, subst}
 use Rattle.squall_protocol.specs.declared.event.Event.{Event}
-use Rattle.squall_protocol.specs.declared.event.Event.TheVariants.{OpenNext, Begin, Give, GiveAt, Load, Finish, Send, SendPart, Deliver, Route, Serve}
+use Rattle.squall_protocol.specs.declared.event.Event.TheVariants.{OpenNext, Begin, BeginFrom, Close, Give, GiveAt, Load, Finish, Send, SendPart, Deliver, Route, Serve}
 use Rattle.squall_protocol.specs.declared.answer.Answer.{Answer}
 use Rattle.squall_protocol.specs.Worlds.{WorldValue, SameWorld}
 use Rattle.squall_protocol.specs.Steps.{Step, Run}
 use Rattle.squall_protocol.specs.WorldLaws.{same_world}
 use Rattle.squall_protocol.proofs.Once.{Once, agree}
-use Rattle.squall_protocol.proofs.OneLead.{one_open, one_begin}
+use Rattle.squall_protocol.proofs.OneLead.{one_open, one_begin, one_begin_from}
+use Rattle.squall_protocol.proofs.OneClose.{one_close}
 use Rattle.squall_protocol.proofs.OneGift.{one_give}
 use Rattle.squall_protocol.proofs.OneGiftAt.{one_give_at}
 use Rattle.squall_protocol.proofs.OneLoad.{one_load}
@@ -18,6 +19,8 @@ use Rattle.squall_protocol.proofs.OneMessage.{one_send, one_send_part, one_deliv
 pub one_step : (w v u : WorldValue) (e : Event) (a b : Answer) → Step w e a v → Step w e b u → Once a b v u
 one_step w v u OpenNext a b h g = one_open w v u a b h g
 one_step w v u (Begin plan) a b h g = one_begin w v u plan a b h g
+one_step w v u (BeginFrom old new) a b h g = one_begin_from w v u old new a b h g
+one_step w v u (Close p) a b h g = one_close w v u p a b h g
 one_step w v u (Give p most) a b h g = one_give w v u p most a b h g
 one_step w v u (GiveAt p k) a b h g = one_give_at w v u p k a b h g
 one_step w v u (Load i) a b h g = one_load w v u i a b h g

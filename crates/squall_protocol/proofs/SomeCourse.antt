@@ -1,5 +1,5 @@
 -- By what is told truly in a world there is a newest course, and so a route.
-use Rattle.std.proofs.Common.{◌≡◌, ◌⊎◌, ℕ, zero, suc, ◌+◌, ◌-◌, ◌<◌, ◌≤◌, refl, sym, subst, inl, inr, arith}
+use Rattle.std.proofs.Common.{◌≡◌, ◌⊎◌, ℕ, zero, suc, ◌+◌, ◌<◌, ◌≤◌, refl, sym, subst, inl, inr, arith}
 use Rattle.std.specs.Prelude.{Some, None, Option}
 use Rattle.std.proofs.lemmas.Bool.{cases_lt}
 use Rattle.squall_join.specs.declared.flat.Flat.{Flat}
@@ -63,4 +63,4 @@ some_course w f first t =
 pub course_plans : (w : WorldValue) → Kept w → (f : Queries) (c : Change) → NewestCourse w f c → IsPlan c.old × IsPlan c.new
 course_plans w kept f c known =
     let most : c.number ≤ w.last = known.begun.1 in
-    subst (λ (d : Change). IsPlan d.old × IsPlan d.new) (sym known.same) (kept.plans (c.number - 1) (omega arith), kept.plans c.number most)
+    subst (λ (d : Change). IsPlan d.old × IsPlan d.new) (sym known.same) (kept.olds c.number most, kept.news c.number most)

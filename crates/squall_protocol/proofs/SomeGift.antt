@@ -9,12 +9,12 @@ use Rattle.squall_course.specs.Change.{Change}
 use Rattle.squall_course.specs.Subplans.{sub_of}
 use Rattle.squall_protocol.specs.Chunks.{ChunkValue, chunk_with}
 use Rattle.squall_protocol.specs.declared.event.Node.TheVariants.{Part}
-use Rattle.squall_protocol.specs.declared.event.Event.TheVariants.{Give, GiveAt}
-use Rattle.squall_protocol.specs.declared.answer.Answer.TheVariants.{Gave, Refused}
-use Rattle.squall_protocol.specs.declared.answer.Refusal.TheVariants.{NoSuch, NotOpen, NothingLeft, ZeroMax, NotOutgoing, Given, NotHeld}
+use Rattle.squall_protocol.specs.declared.event.Event.TheVariants.{Close, Give, GiveAt}
+use Rattle.squall_protocol.specs.declared.answer.Answer.TheVariants.{Closed, Gave, Refused}
+use Rattle.squall_protocol.specs.declared.answer.Refusal.TheVariants.{NoSuch, NotOpen, Ended, NothingLeft, ZeroMax, NotOutgoing, Given, NotHeld}
 use Rattle.squall_protocol.specs.Worlds.{WorldValue, is_part}
-use Rattle.squall_protocol.specs.Knowledge.{part_in, IsCurrent, NoneOpen, goes_out, is_left}
-use Rattle.squall_protocol.specs.Steps.{IsPlan, IsGift, after_give}
+use Rattle.squall_protocol.specs.Knowledge.{part_in, IsCurrent, NoneOpen, IsClosed, goes_out, is_left}
+use Rattle.squall_protocol.specs.Steps.{IsPlan, IsGift, after_close, after_give}
 use Rattle.squall_protocol.specs.Acts.{HasAnswer}
 use Rattle.squall_protocol.proofs.Changes.{in_span}
 use Rattle.squall_protocol.proofs.Courses.{is_outgoing_so, moves_is, moving_key, single_dest}
@@ -25,21 +25,33 @@ use Rattle.squall_protocol.proofs.SomeCourse.{zero_or_more, some_course, course_
 
 -- ---- the sub-plan opened last
 
--- the newest course that a partition knows, both plans of it, and the sub-plan opened last under it
+-- the newest course that a partition knows, both plans of it, and the sub-plan opened last under it, in which it still gives
 record AtCourse (w : WorldValue) (p : ℕ) : Type 0 where
   course : Change
   sub : ℕ
   current : IsCurrent (part_in w p) course sub
   plans : IsPlan course.old × IsPlan course.new
 
--- there is one, or no sub-plan is opened
-at_course : (w : WorldValue) → Kept w → (p : ℕ) → AtCourse w p ⊎ NoneOpen (part_in w p)
+-- there is one, or no sub-plan is opened, or the partition gives no more
+at_course : (w : WorldValue) → Kept w → (p : ℕ) → AtCourse w p ⊎ (NoneOpen (part_in w p) ⊎ IsClosed (part_in w p))
 at_course w kept p =
     let n = some_course w (w.facts (Part p)) kept.first (kept.facts (Part p)) in
-    elim (zero_or_more ((w.facts (Part p)).opened n.course.number)) [
-      | inl none ↦ inr (n.course, n.by, none)
-      | inr s ↦ inl (record { course = n.course; sub = s.0; current = (n.by, s.1); plans = course_plans w kept (w.facts (Part p)) n.course n.known })
+    elim (cases_Bool (w.closed n.course.number p)) [
+      | inl closed ↦ inr (inr (n.course, n.by, closed))
+      | inr gives ↦ elim (zero_or_more ((w.facts (Part p)).opened n.course.number)) [
+        | inl none ↦ inr (inl (n.course, n.by, none, gives))
+        | inr s ↦ inl (record { course = n.course; sub = s.0; current = (n.by, s.1, gives); plans = course_plans w kept (w.facts (Part p)) n.course n.known })
+      ]
     ]
+
+-- to give no more
+pub some_close : (w : WorldValue) → Kept w → (p : ℕ) → HasAnswer w (Close p)
+some_close w kept p = elim (cases_Bool (is_part w p)) [
+  | inr none ↦ (Refused NoSuch, w, (none, same_as_itself w))
+  | inl there ↦
+      let n = some_course w (w.facts (Part p)) kept.first (kept.facts (Part p)) in
+      (Closed n.course.number, after_close w n.course.number p, (there, (n.course, n.by, refl, same_as_itself (after_close w n.course.number p))))
+]
 
 -- ---- the chunk
 
@@ -90,7 +102,8 @@ pub some_give : (w : WorldValue) → Kept w → (p most : ℕ) → HasAnswer w (
 some_give w kept p most = elim (cases_Bool (is_part w p)) [
   | inr none ↦ (Refused NoSuch, w, (none, same_as_itself w))
   | inl there ↦ elim (at_course w kept p) [
-    | inr none ↦ (Refused NotOpen, w, (there, none, same_as_itself w))
+    | inr (inl none) ↦ (Refused NotOpen, w, (there, none, same_as_itself w))
+    | inr (inr closed) ↦ (Refused Ended, w, (there, closed, same_as_itself w))
     | inl a ↦ elim (least_true (is_left (part_in w p) a.course a.sub) top (left_key w p a)) [
       | inr none ↦ (Refused NothingLeft, w, (there, (a.course, a.sub, a.current, none), same_as_itself w))
       | inl f ↦ give_left w p most a there f
@@ -114,7 +127,8 @@ pub some_give_at : (w : WorldValue) → Kept w → (p k : ℕ) → HasAnswer w (
 some_give_at w kept p k = elim (cases_Bool (is_part w p)) [
   | inr none ↦ (Refused NoSuch, w, (none, same_as_itself w))
   | inl there ↦ elim (at_course w kept p) [
-    | inr none ↦ (Refused NotOpen, w, (there, none, same_as_itself w))
+    | inr (inl none) ↦ (Refused NotOpen, w, (there, none, same_as_itself w))
+    | inr (inr closed) ↦ (Refused Ended, w, (there, closed, same_as_itself w))
     | inl a ↦ elim (cases_Bool (goes_out (part_in w p) a.course a.sub k)) [
       | inr stays ↦ (Refused NotOutgoing, w, (there, (a.course, a.sub, a.current, stays), same_as_itself w))
       | inl out ↦ elim (cases_Bool (w.given a.course.number p k)) [

@@ -1,5 +1,5 @@
 -- A destination to which a chunk comes has an answer.
-use Rattle.std.proofs.Common.{◌≡◌, ◌⊎◌, ℕ, ◌-◌, ◌&&◌, not, Bool, true, false, refl, sym, subst, inl, inr}
+use Rattle.std.proofs.Common.{◌≡◌, ◌⊎◌, ℕ, ◌&&◌, not, Bool, true, false, refl, sym, subst, inl, inr}
 use Rattle.std.specs.Prelude.{Some, None, Option}
 use Rattle.std.specs.List.{slice_get}
 use Rattle.std.proofs.lemmas.Bool.{cases_Bool, cases_lt, both_ways, and_parts, and_from, not-true, not_from_false, true_from_ne_false}
@@ -35,7 +35,7 @@ none_is_some o x e f = cc
 fits : (w : WorldValue) → Kept w → (i : ℕ) (x : ChunkValue) → slice_get w.chunks i ≡ Some x → Carried (course_at w x.number) x
 fits w kept i x there =
     record {
-      moving = λ k has. moves_is (w.plan (x.number - 1)) (w.plan x.number) k (given k has).moves;
+      moving = λ k has. moves_is (w.old x.number) (w.new x.number) k (given k has).moves;
       source = λ k has. (kept.sent i x there k has).source;
       dest = λ k has. (kept.sent i x there k has).dest;
       sub_plan = λ k has. (kept.sent i x there k has).sub;

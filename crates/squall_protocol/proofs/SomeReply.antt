@@ -10,12 +10,12 @@ use Rattle.squall_protocol.specs.declared.event.Node.TheVariants.{Part}
 use Rattle.squall_protocol.specs.declared.event.Event.TheVariants.{Serve}
 use Rattle.squall_protocol.specs.declared.answer.Answer.TheVariants.{Served, Refused}
 use Rattle.squall_protocol.specs.declared.answer.Refusal.TheVariants.{NoSuch}
-use Rattle.squall_protocol.specs.Worlds.{WorldValue, is_part}
+use Rattle.squall_protocol.specs.Worlds.{WorldValue, is_part, course_at, first_course}
 use Rattle.squall_protocol.specs.Knowledge.{PartQueries, part_in, known_by, Knows, GaveUnder, ComesUnder, IsLastGiven, IsLastComing, Serves}
 use Rattle.squall_protocol.specs.Acts.{HasAnswer}
-use Rattle.squall_protocol.proofs.Kept.{Kept}
-use Rattle.squall_protocol.proofs.Known.{known_course}
-use Rattle.squall_protocol.proofs.OneReply.{same_change}
+use Rattle.squall_protocol.proofs.Kept.{Hears, Kept}
+use Rattle.squall_protocol.proofs.Known.{known_course, hears_course, newest_course}
+use Rattle.squall_board.specs.CourseRouteLaws.{one_course}
 use Rattle.squall_protocol.specs.WorldLaws.{same_as_itself}
 use Rattle.squall_protocol.proofs.Search.{Decided, decided_test, decided_both, some_greatest}
 use Rattle.squall_protocol.proofs.SomeCourse.{some_course}
@@ -45,14 +45,14 @@ by_decided p k n c =
     decided_both (moves c.old c.new k ≡ true) ((owner_of c.new k ≡ p.id) × (p.loaded n k ≡ false)) (decided_test (moves c.old c.new k))
     (decided_both (owner_of c.new k ≡ p.id) (p.loaded n k ≡ false) (cases_eq (owner_of c.new k) p.id) (not_loaded (p.loaded n k)))
 
-comes_decided : (p : PartQueries) (k n : ℕ) → Decided (ComesUnder p k n)
-comes_decided p k n = elim (knows_decided p n) [
-  | inr none ↦ inr (λ x. none (x.0, x.1))
-  | inl c ↦ elim (by_decided p k n c.0) [
-    | inl comes ↦ inl (c.0, c.1, comes.0, comes.1.0, comes.1.1)
-    | inr stays ↦ inr (λ x. stays (subst (λ d. ComesBy p k n d) (same_change p n x.0 c.0 x.1 c.1) (x.2, (x.3, x.4))))
-  ]
-]
+-- by the newest course that the partition knows
+comes_decided : (w : WorldValue) → Kept w → (p k n : ℕ) → Decided (ComesUnder (part_in w p) k n)
+comes_decided w kept p k n =
+    let c = some_course w (w.facts (Part p)) kept.first (kept.facts (Part p)) in
+    elim (decided_both (c.course.number ≡ n) (ComesBy (part_in w p) k n c.course) (cases_eq c.course.number n) (by_decided (part_in w p) k n c.course)) [
+      | inl comes ↦ inl (c.course, c.by, comes.0, comes.1.0, comes.1.1.0, comes.1.1.1)
+      | inr stays ↦ inr (λ x. stays (subst (λ d. (d.number ≡ n) × ComesBy (part_in w p) k n d) (one_course (first_course w) (w.facts (Part p)) x.0 c.course x.1 c.by) (x.2, (x.3, (x.4, x.5)))))
+    ]
 
 -- ---- the reply
 
@@ -66,11 +66,20 @@ record LastNumbers (p : PartQueries) (k : ℕ) : Type 0 where
 last_numbers : (w : WorldValue) → Kept w → (p k : ℕ) → LastNumbers (part_in w p) k
 last_numbers w kept p k =
     let g = some_greatest (GaveUnder (part_in w p) k) (gave_decided (part_in w p) k) w.last (λ n x. begun n x.0.0 x.0.1) in
-    let c = some_greatest (ComesUnder (part_in w p) k) (comes_decided (part_in w p) k) w.last (λ n x. begun n x.0 x.1) in
+    let c = some_greatest (ComesUnder (part_in w p) k) (comes_decided w kept p k) w.last (λ n x. newest_begun n x) in
     record { gave = g.0; comes = c.0; is_gave = g.1; is_comes = c.1 }
   where
     begun : (n : ℕ) (c : Change) → Knows (part_in w p) n c → n ≤ w.last
     begun n c knows = (known_course w (w.facts (Part p)) n c kept.first (kept.facts (Part p)) knows).begun.1
+
+    newest_begun : (n : ℕ) → ComesUnder (part_in w p) k n → n ≤ w.last
+    newest_begun n x = subst (λ m. m ≤ w.last) x.2 (newest_course w (w.facts (Part p)) x.0 kept.first (kept.facts (Part p)) x.1).begun.1
+
+-- the partition knows the course by which a key comes in
+comes_known : (w : WorldValue) → Kept w → (p k n : ℕ) → ComesUnder (part_in w p) k n → Knows (part_in w p) n (course_at w n)
+comes_known w kept p k n x =
+    let known = newest_course w (w.facts (Part p)) x.0 kept.first (kept.facts (Part p)) x.1 in
+    hears_course w (w.facts (Part p)) n (kept.facts (Part p)) (subst (λ m. Hears (w.facts (Part p)) m) x.2 known.newest.0)
 
 -- a key that is not held
 away_reply : (w : WorldValue) → Kept w → (p k after : ℕ) → w.held p k ≡ false → (r : Reply) × Serves (part_in w p) k after r
@@ -79,7 +88,7 @@ away_reply w kept p k after away =
     elim (cases_lt l.gave l.comes) [
       | inl awaited ↦ elim l.is_comes.reached [
         | inl none ↦ let bad : ⊥ = omega arith in absurd bad
-        | inr x ↦ (Pending (owner_of x.0.old k), (away, (l.gave, l.comes, l.is_gave, l.is_comes, awaited, (x.0, x.1, refl))))
+        | inr x ↦ (Pending (owner_of (w.old l.comes) k), (away, (l.gave, l.comes, l.is_gave, l.is_comes, awaited, (course_at w l.comes, comes_known w kept p k l.comes x, refl))))
       ]
       | inr le ↦ elim (cases_lt after l.gave) [
         | inl later ↦ elim l.is_gave.reached [

@@ -1,15 +1,15 @@
 -- What holds at the start.
 use Rattle.std.proofs.Common.{◌≡◌, ◌≢◌, ℕ, ◌+◌, ◌<◌, ◌≤◌, ◌==◌, ◌&&◌, true, false, List, [], refl, sym, ◌∙◌, inl, inr, ⊎_elim, arith, true≢false, le_refl}
 use Rattle.std.specs.Prelude.{Some, nat_lt}
-use Rattle.std.specs.List.{slice_get, list_any}
-use Rattle.std.proofs.lemmas.Bool.{cases_eq, eqb-true, eq-eqb, and_parts, and_from, or_left, or_right, cond_both, lt-ltb}
+use Rattle.std.specs.List.{slice_get}
+use Rattle.std.proofs.lemmas.Bool.{cases_eq, eqb-true, eq-eqb, and_parts, and_from, or_left, or_right, lt-ltb}
 use Rattle.squall_key.specs.Keys.{top}
 use Rattle.squall_plan.specs.declared.range.PlanRange.{PlanRange}
 use Rattle.squall_plan.specs.Ranges.{owner_of, names}
 use Rattle.squall_report.specs.Issues.{plan_pair}
 use Rattle.squall_protocol.specs.declared.event.Node.{Node}
 use Rattle.squall_protocol.specs.declared.event.Node.TheVariants.{Leader, Part, Router}
-use Rattle.squall_protocol.specs.Worlds.{WorldValue, start, first_parts, first_facts}
+use Rattle.squall_protocol.specs.Worlds.{WorldValue, start, first_facts}
 use Rattle.squall_protocol.specs.Steps.{IsPlan}
 use Rattle.squall_protocol.specs.Promises.{IsReached}
 use Rattle.squall_protocol.proofs.Courses.{sub_in, named_owner}
@@ -23,10 +23,10 @@ kept_start old new routers old_plan new_plan =
     record {
       first = le_refl 1;
       numbers = omega arith;
-      plans = λ n h. cond_both (n == 0) old new (λ q. IsPlan q) (λ e. old_plan) (λ e. new_plan);
-      there = λ n k h key. cond_both (n == 0) old new (λ q. list_any (λ r. r == owner_of q k) (first_parts old new) ≡ true)
-          (λ e. part_first old new (owner_of old k) old_plan new_plan (or_left (names old (owner_of old k)) (names new (owner_of old k)) (named_owner old k old_plan key)))
-          (λ e. part_first old new (owner_of new k) old_plan new_plan (or_right (names old (owner_of new k)) (names new (owner_of new k)) (named_owner new k new_plan key)));
+      olds = λ n h. old_plan;
+      news = λ n h. new_plan;
+      old_there = λ n k h key. part_first old new (owner_of old k) old_plan new_plan (or_left (names old (owner_of old k)) (names new (owner_of old k)) (named_owner old k old_plan key));
+      new_there = λ n k h key. part_first old new (owner_of new k) old_plan new_plan (or_right (names old (owner_of new k)) (names new (owner_of new k)) (named_owner new k new_plan key));
       held_true = λ p k h. ⊎_elim
           (λ (same : owner_of old k ≡ owner_of new k). inl (sym (holder p k h) ∙ same, λ m. absurd (m same)))
           (λ (moves : owner_of old k ≡ owner_of new k → ⊥). inr (sym (holder p k h), moves, refl))
@@ -40,8 +40,7 @@ kept_start old new routers old_plan new_plan =
           h));
       given = λ n p k h. absurd (true≢false (sym h));
       loaded = λ n p k h. absurd (true≢false (sym h));
-      over = λ n k a b m. absurd (between n a b);
-      most = omega arith;
+      left = λ n k a b. absurd (between n a b);
       earlier = λ k m h. absurd (none (sub_in (start old new routers) 1 k + 1) h);
       facts = true_first;
       messages = λ i message h. absurd (empty i message h);

@@ -17,14 +17,15 @@ keeps_told w node more kept true_more =
     record {
       first = kept.first;
       numbers = kept.numbers;
-      plans = kept.plans;
-      there = kept.there;
+      olds = kept.olds;
+      news = kept.news;
+      old_there = kept.old_there;
+      new_there = kept.new_there;
       held_true = kept.held_true;
       held_from = kept.held_from;
       given = λ n m k h. let g : IsGiven w n m k = kept.given n m k h in record { first = g.first; last = g.last; moves = g.moves; source = g.source; opened = g.opened; hears = hears_on (Part m) n g.hears };
       loaded = λ n m k h. let l : IsLoaded w n m k = kept.loaded n m k h in record { dest = l.dest; given = l.given; hears = hears_on (Part m) n l.hears };
-      over = kept.over;
-      most = kept.most;
+      left = kept.left;
       earlier = kept.earlier;
       facts = λ m. still (told_to w node more m) (true_told w w node more kept.facts true_more m);
       messages = λ i message h. still message (kept.messages i message h);
@@ -35,7 +36,7 @@ keeps_told w node more kept true_more =
     }
   where
     still : (f : Queries) → TrueFacts w f → TrueFacts (after_told w node more) f
-    still f t = true_later w (after_told w node more) f (record { plan = λ m h. refl; last = le_refl w.last; opened = λ e. le_refl w.opened; given = λ m r k h. h; loaded = λ m r k h. h }) t kept.most
+    still f t = true_later w (after_told w node more) f (record { old = λ m h. refl; new = λ m h. refl; last = le_refl w.last; opened = λ n h. le_refl (w.opened n); given = λ m r k h. h; loaded = λ m r k h. h }) t
 
     hears_on : (m : Node) (n : ℕ) → Hears (w.facts m) n → Hears (told_to w node more m) n
     hears_on m n h = hears_told w w node more kept.facts true_more m n h
@@ -45,14 +46,15 @@ keeps_sent w said is_true kept =
     record {
       first = kept.first;
       numbers = kept.numbers;
-      plans = kept.plans;
-      there = kept.there;
+      olds = kept.olds;
+      news = kept.news;
+      old_there = kept.old_there;
+      new_there = kept.new_there;
       held_true = kept.held_true;
       held_from = kept.held_from;
       given = λ n m k h. let g : IsGiven w n m k = kept.given n m k h in record { first = g.first; last = g.last; moves = g.moves; source = g.source; opened = g.opened; hears = g.hears };
       loaded = λ n m k h. let l : IsLoaded w n m k = kept.loaded n m k h in record { dest = l.dest; given = l.given; hears = l.hears };
-      over = kept.over;
-      most = kept.most;
+      left = kept.left;
       earlier = kept.earlier;
       facts = λ m. still (w.facts m) (kept.facts m);
       messages = λ i message h. ⊎_elim
@@ -66,4 +68,4 @@ keeps_sent w said is_true kept =
     }
   where
     still : (f : Queries) → TrueFacts w f → TrueFacts (record w { messages = w.messages ++ said ∷ [] }) f
-    still f t = true_later w (record w { messages = w.messages ++ said ∷ [] }) f (record { plan = λ m h. refl; last = le_refl w.last; opened = λ e. le_refl w.opened; given = λ m r k h. h; loaded = λ m r k h. h }) t kept.most
+    still f t = true_later w (record w { messages = w.messages ++ said ∷ [] }) f (record { old = λ m h. refl; new = λ m h. refl; last = le_refl w.last; opened = λ n h. le_refl (w.opened n); given = λ m r k h. h; loaded = λ m r k h. h }) t

@@ -13,19 +13,20 @@ use Rattle.squall_protocol.specs.Known.{course_under}
 use Rattle.squall_protocol.specs.declared.event.Node.TheVariants.{Part}
 use Rattle.squall_protocol.specs.Worlds.{WorldValue, first_course}
 
--- A partition answers from its number, the first course and its facts. It also answers from whether it holds a key, and whether
--- it gave or loaded the key in the course of a number.
+-- A partition answers from its number, the first course and its facts. It also answers from whether it holds a key, whether it gave
+-- or loaded the key in the course of a number, and whether it gives no more in that course.
 pub record PartQueries : Type 0 where
   pub id : ℕ
   pub first : Change
   pub told : Queries
   pub held : ℕ → Bool
+  pub closed : ℕ → Bool
   pub given : ℕ → ℕ → Bool
   pub loaded : ℕ → ℕ → Bool
 
 -- a partition of the world
 abbrev pub part_in : WorldValue → ℕ → PartQueries
-part_in w p = record { id = p; first = first_course w; told = w.facts (Part p); held = w.held p; given = λ n k. w.given n p k; loaded = λ n k. w.loaded n p k }
+part_in w p = record { id = p; first = first_course w; told = w.facts (Part p); held = w.held p; closed = λ n. w.closed n p; given = λ n k. w.given n p k; loaded = λ n k. w.loaded n p k }
 
 -- ---- courses
 
@@ -37,13 +38,18 @@ known_by first t n = if n == first.number then Some first else course_under n (t
 abbrev pub Knows : PartQueries → ℕ → Change → Type 0
 Knows p n c = known_by p.first p.told n ≡ Some c
 
--- the course is the newest that the partition knows, and the sub-plan the one opened last under it there
+-- the course is the newest that the partition knows, the sub-plan the one opened last under it there, and the partition still gives
+-- in it
 abbrev pub IsCurrent : PartQueries → Change → ℕ → Type 0
-IsCurrent p c s = IsCourseBy p.first p.told c × (p.told.opened c.number ≡ s + 1)
+IsCurrent p c s = IsCourseBy p.first p.told c × (p.told.opened c.number ≡ s + 1) × (p.closed c.number ≡ false)
 
 -- no sub-plan is opened there under the newest course that it knows
 abbrev pub NoneOpen : PartQueries → Type 0
-NoneOpen p = (c : Change) × IsCourseBy p.first p.told c × (p.told.opened c.number ≡ 0)
+NoneOpen p = (c : Change) × IsCourseBy p.first p.told c × (p.told.opened c.number ≡ 0) × (p.closed c.number ≡ false)
+
+-- it gives no more in that course
+abbrev pub IsClosed : PartQueries → Type 0
+IsClosed p = (c : Change) × IsCourseBy p.first p.told c × (p.closed c.number ≡ true)
 
 -- ---- keys
 
@@ -69,11 +75,12 @@ is_missing p c s k = comes_in p c s k && not (p.loaded c.number k)
 abbrev pub GaveUnder : PartQueries → ℕ → ℕ → Type 0
 GaveUnder p k n = ((c : Change) × Knows p n c) × (p.given n k ≡ true)
 
--- the partition knows the course of the number, by which the key comes in, and it is not loaded
+-- the number is that of the newest course that the partition knows, by which the key comes in, and it is not loaded. A key that was
+-- to come in an earlier course and did not comes no more
 abbrev pub ComesUnder : PartQueries → ℕ → ℕ → Type 0
-ComesUnder p k n = (c : Change) × Knows p n c × (moves c.old c.new k ≡ true) × (owner_of c.new k ≡ p.id) × (p.loaded n k ≡ false)
+ComesUnder p k n = (c : Change) × IsCourseBy p.first p.told c × (c.number ≡ n) × (moves c.old c.new k ≡ true) × (owner_of c.new k ≡ p.id) × (p.loaded n k ≡ false)
 
--- the last number under which it gave the key, and the last by which the key comes in and is not loaded, 0 for none
+-- the last number under which it gave the key, and the one by which the key comes in and is not loaded, 0 for none
 abbrev pub IsLastGiven : PartQueries → ℕ → ℕ → Type 0
 IsLastGiven p k g = IsGreatest (GaveUnder p k) g
 

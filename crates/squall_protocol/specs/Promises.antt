@@ -1,5 +1,5 @@
 -- What is promised of each world of a run.
-use Rattle.std.specs.Prelude.{◌≡◌, ◌≢◌, ◌⊎◌, ℕ, ◌+◌, ◌<◌, ◌==◌, true, false, List, Some, if◌then◌else◌}
+use Rattle.std.specs.Prelude.{◌≡◌, ◌≢◌, ◌⊎◌, ℕ, ◌+◌, ◌<◌, true, false, List, Some}
 use Rattle.std.specs.List.{slice_get}
 use Rattle.squall_key.specs.Keys.{top}
 use Rattle.squall_span.specs.Spans.{span_has}
@@ -7,7 +7,6 @@ use Rattle.squall_join.specs.declared.flat.Flat.TheVariants.{Unknown, One}
 use Rattle.squall_plan.specs.declared.range.PlanRange.{PlanRange}
 use Rattle.squall_plan.specs.Ranges.{owner_of}
 use Rattle.squall_course.specs.Change.{Change}
-use Rattle.squall_course.specs.Subplans.{subplan_count}
 use Rattle.squall_course.specs.Moves.{is_incoming}
 use Rattle.squall_report.specs.Cells.{CellPlace}
 use Rattle.squall_report.specs.Queries.{Queries}
@@ -16,7 +15,7 @@ use Rattle.squall_errand.specs.declared.errand.Reply.{Reply}
 use Rattle.squall_errand.specs.declared.errand.Reply.TheVariants.{Held, Moved, Pending, Behind, Elsewhere}
 use Rattle.squall_protocol.specs.Chunks.{ChunkValue}
 use Rattle.squall_protocol.specs.declared.event.Node.{Node}
-use Rattle.squall_protocol.specs.declared.event.Node.TheVariants.{Router}
+use Rattle.squall_protocol.specs.declared.event.Node.TheVariants.{Part, Router}
 use Rattle.squall_protocol.specs.declared.event.Event.{Event}
 use Rattle.squall_protocol.specs.declared.event.Event.TheVariants.{Serve}
 use Rattle.squall_protocol.specs.declared.answer.Answer.{Answer}
@@ -57,10 +56,6 @@ OneCarrier w = (k : ℕ) → k < top → (x : Carrier) × Carries w k x × ((y :
 
 -- ---- true reports
 
--- how many sub-plans of the course of a number were opened: all, once the next is begun
-abbrev pub opened_of : WorldValue → ℕ → ℕ
-opened_of w n = if n == w.last then w.opened else subplan_count (course_at w n).old (course_at w n).new
-
 -- what is told did happen. A key that is told loaded is loaded. If a partition is told to have all keys of a sub-plan, each of
 -- them is loaded there. A sub-plan that is told opened is opened. The numbers of all these were begun. Under a number either
 -- nothing is issued, or the number was begun and both plans of its course are issued. So nothing clashes
@@ -70,7 +65,7 @@ pub record Happened (w : WorldValue) (f : Queries) : Type 0 where
   pub done_begun : (c : CellPlace) → f.done c ≡ true → WasBegun w c.number
   pub done : (c : CellPlace) → f.done c ≡ true → (k : ℕ) → is_incoming (course_at w c.number).old (course_at w c.number).new c.sub c.part k ≡ true → w.loaded c.number c.part k ≡ true
   pub opened_begun : (n t : ℕ) → t < f.opened n → WasBegun w n
-  pub opened : (n t : ℕ) → t < f.opened n → t < opened_of w n
+  pub opened : (n t : ℕ) → t < f.opened n → t < w.opened n
   pub issued : (n : ℕ) → (f.issued n ≡ Unknown) ⊎ (WasBegun w n × (f.issued n ≡ One (pair_at w n)))
 
 -- all that a node was told did happen
@@ -88,7 +83,7 @@ RoutedIsLoaded w =
 abbrev pub OneDestination : WorldValue → Type 0
 OneDestination w =
     (i j k m : ℕ) (a b : ChunkValue) → slice_get w.chunks i ≡ Some a → slice_get w.chunks j ≡ Some b → IsInFlight w a k → IsInFlight w b m → a.source ≡ b.source
-    → (a.dest ≡ b.dest) × (a.number ≡ w.last) × (a.sub + 1 ≡ w.opened)
+    → (a.dest ≡ b.dest) × (a.number ≡ w.last) × (a.sub + 1 ≡ w.opened w.last)
 
 -- the source and the destination of each chunk are there
 abbrev pub ChunksHaveNodes : WorldValue → Type 0
@@ -131,11 +126,20 @@ MovesAreServed w =
 
 -- ---- ends
 
--- a partition that waits for a key gets it: the source that it names holds the key, or a chunk on its way from there has it
+-- the newest course that the partition knows is not the one begun last, and the source gives no more in it
+pub record HasEnded (w : WorldValue) (p source : ℕ) : Type 0 where
+  pub course : Change
+  pub newest : IsCourseBy (first_course w) (w.facts (Part p)) course
+  pub later : course.number < w.last
+  pub closed : w.closed course.number source ≡ true
+
+-- a partition that waits for a key gets it: the source that it names holds the key, or a chunk on its way from there has it. One case
+-- is left: the newest course that the partition knows has ended early. Then that source gives no more in it, and a later course was
+-- begun, of which the partition has yet to hear
 abbrev pub AwaitedComes : WorldValue → Type 0
 AwaitedComes w =
     (p k after source : ℕ) → Serves (part_in w p) k after (Pending source)
-    → (w.held source k ≡ true) ⊎ ((i : ℕ) × (x : ChunkValue) × (slice_get w.chunks i ≡ Some x) × IsInFlight w x k × (x.source ≡ source) × (x.dest ≡ p))
+    → (w.held source k ≡ true) ⊎ (((i : ℕ) × (x : ChunkValue) × (slice_get w.chunks i ≡ Some x) × IsInFlight w x k × (x.source ≡ source) × (x.dest ≡ p)) ⊎ HasEnded w p source)
 
 -- once the course begun last is over, each key is held where its new plan has it
 abbrev pub OverIsThere : WorldValue → Type 0

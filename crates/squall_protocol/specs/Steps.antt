@@ -2,10 +2,10 @@
 -- answer is given.
 use Rattle.std.specs.Prelude.{◌≡◌, ◌≢◌, ℕ, ◌+◌, ◌<◌, ◌≤◌, ◌==◌, ◌&&◌, ◌||◌, ◌⊎◌, not, true, false, List, [], ◌∷◌, ◌++◌, length, Some, None, if◌then◌else◌}
 use Rattle.std.specs.List.{filter, range_with_len, slice_get}
-use Rattle.squall_key.specs.Keys.{part_limit}
+use Rattle.squall_key.specs.Keys.{top, part_limit}
 use Rattle.squall_span.specs.Spans.{span_has, interval}
 use Rattle.squall_plan.specs.declared.range.PlanRange.{PlanRange}
-use Rattle.squall_plan.specs.Ranges.{IsCanonical, AreRanges, names}
+use Rattle.squall_plan.specs.Ranges.{IsCanonical, AreRanges, names, owner_of}
 use Rattle.squall_course.specs.Change.{Change}
 use Rattle.squall_course.specs.Subplans.{subplan_count}
 use Rattle.squall_course.specs.Moves.{is_incoming}
@@ -24,12 +24,12 @@ use Rattle.squall_protocol.specs.Known.{last_number}
 use Rattle.squall_protocol.specs.declared.event.Node.{Node}
 use Rattle.squall_protocol.specs.declared.event.Node.TheVariants.{Leader, Part, Router}
 use Rattle.squall_protocol.specs.declared.event.Event.{Event}
-use Rattle.squall_protocol.specs.declared.event.Event.TheVariants.{OpenNext, Begin, Give, GiveAt, Load, Finish, Send, SendPart, Deliver, Route, Serve}
+use Rattle.squall_protocol.specs.declared.event.Event.TheVariants.{OpenNext, Begin, BeginFrom, Close, Give, GiveAt, Load, Finish, Send, SendPart, Deliver, Route, Serve}
 use Rattle.squall_protocol.specs.declared.answer.Answer.{Answer}
-use Rattle.squall_protocol.specs.declared.answer.Answer.TheVariants.{Opened, Begun, Gave, Loaded, Again, Finished, Sent, Delivered, Routed, Served, Refused}
-use Rattle.squall_protocol.specs.declared.answer.Refusal.TheVariants.{NoSuch, NotDone, NoMore, Running, NoNumber, NotOpen, NothingLeft, ZeroMax, NotOutgoing, Given, NotHeld, Stranger, NotAll, NothingDue, NotKnown}
+use Rattle.squall_protocol.specs.declared.answer.Answer.TheVariants.{Opened, Begun, Closed, Gave, Loaded, Again, Finished, Sent, Delivered, Routed, Served, Refused}
+use Rattle.squall_protocol.specs.declared.answer.Refusal.TheVariants.{NoSuch, NotDone, NoMore, Running, NoNumber, NotOpen, Ended, NothingLeft, ZeroMax, NotOutgoing, Given, NotHeld, Stranger, NotAll, NothingDue, NotKnown}
 use Rattle.squall_protocol.specs.Worlds.{WorldValue, first_course, last_course, same_node, is_part, is_node, SameWorld}
-use Rattle.squall_protocol.specs.Knowledge.{part_in, PartQueries, Knows, IsCurrent, NoneOpen, goes_out, is_left, comes_in, is_missing, Serves}
+use Rattle.squall_protocol.specs.Knowledge.{part_in, PartQueries, Knows, IsCurrent, NoneOpen, IsClosed, goes_out, is_left, comes_in, is_missing, Serves}
 
 -- ---- what a node is told
 
@@ -44,7 +44,7 @@ after_told w node more = record w { facts = told_to w node more }
 
 -- keys come in to the partition in the sub-plan opened last, and the leader was not told that it has all
 pub record IsWanting (w : WorldValue) (s q : ℕ) : Type 0 where
-  pub last : s + 1 ≡ w.opened
+  pub last : s + 1 ≡ w.opened w.last
   pub due : (k : ℕ) × (is_incoming (last_course w).old (last_course w).new s q k ≡ true)
   pub waiting : (w.facts Leader).done (place_at w.last s q) ≡ false
 
@@ -58,14 +58,14 @@ last_count w = subplan_count (last_course w).old (last_course w).new
 
 -- all of them are opened, and the leader waits for no partition
 abbrev pub IsOver : WorldValue → Type 0
-IsOver w = (w.opened ≡ last_count w) × NoneWanting w
+IsOver w = (w.opened w.last ≡ last_count w) × NoneWanting w
 
 abbrev pub after_open : WorldValue → WorldValue
-after_open w = record w { opened = w.opened + 1; facts = told_to w Leader (opened_queries w.last w.opened) }
+after_open w = record w { opened = λ n. if n == w.last then w.opened n + 1 else w.opened n; facts = told_to w Leader (opened_queries w.last (w.opened w.last)) }
 
 -- it opens the next sub-plan of the course begun last, once all partitions that receive keys in the one before have reported
 abbrev pub OpenStep : WorldValue → Answer → WorldValue → Type 0
-OpenStep w (Opened s) v = (s ≡ w.opened) × NoneWanting w × (w.opened ≢ last_count w) × SameWorld v (after_open w)
+OpenStep w (Opened s) v = (s ≡ w.opened w.last) × NoneWanting w × (w.opened w.last ≢ last_count w) × SameWorld v (after_open w)
 OpenStep w (Refused (NotDone s q)) v = IsWanting w s q × ((p : ℕ) → p < q → IsWanting w s p → ⊥) × SameWorld v w
 OpenStep w (Refused NoMore) v = IsOver w × SameWorld v w
 OpenStep w _ v = ⊥
@@ -79,22 +79,60 @@ pub record IsPlan (plan : List PlanRange) : Type 0 where
 abbrev pub new_parts : WorldValue → List PlanRange → List ℕ
 new_parts w plan = filter (λ p. names plan p && not (is_part w p)) (range_with_len 0 part_limit)
 
-abbrev pub after_begin : WorldValue → List PlanRange → WorldValue
-after_begin w plan =
+abbrev pub after_begin : WorldValue → List PlanRange → List PlanRange → WorldValue
+after_begin w old new =
     record w {
-      plan = λ n. if n == w.last + 1 then plan else w.plan n;
+      old = λ n. if n == w.last + 1 then old else w.old n;
+      new = λ n. if n == w.last + 1 then new else w.new n;
       last = w.last + 1;
-      opened = 0;
-      parts = w.parts ++ new_parts w plan;
-      facts = told_to w Leader (issued_queries (w.last + 1) (plan_pair (w.plan w.last) plan));
+      opened = λ n. if n == w.last + 1 then 0 else w.opened n;
+      parts = w.parts ++ new_parts w new;
+      facts = told_to w Leader (issued_queries (w.last + 1) (plan_pair old new));
     }
 
 -- it begins a course from the newest plan to another, once the one before is over; partitions come with the plans that first name them
 abbrev pub BeginStep : WorldValue → List PlanRange → Answer → WorldValue → Type 0
-BeginStep w plan (Begun n parts) v = IsOver w × (w.last < last_number) × IsPlan plan × (n ≡ w.last + 1) × (parts ≡ length (after_begin w plan).parts) × SameWorld v (after_begin w plan)
+BeginStep w plan (Begun n parts) v =
+    IsOver w × (w.last < last_number) × IsPlan plan × (n ≡ w.last + 1) × (parts ≡ length (after_begin w (w.new w.last) plan).parts) × SameWorld v (after_begin w (w.new w.last) plan)
 BeginStep w plan (Refused Running) v = (IsOver w → ⊥) × SameWorld v w
 BeginStep w plan (Refused NoNumber) v = IsOver w × (w.last ≡ last_number) × SameWorld v w
 BeginStep w plan _ v = ⊥
+
+-- ---- an early end
+
+-- the course of the number leaves the key at the partition: its new one, if the key rests or is loaded there, or its old one, if that
+-- has not given the key and gives no more in the course. Once true this stays true, so partitions may be asked one after another
+abbrev pub LeavesAt : WorldValue → ℕ → ℕ → ℕ → Type 0
+LeavesAt w n k p =
+    ((p ≡ owner_of (w.new n) k) × (owner_of (w.old n) k ≢ owner_of (w.new n) k → w.loaded n p k ≡ true))
+    ⊎ ((p ≡ owner_of (w.old n) k) × (owner_of (w.old n) k ≢ owner_of (w.new n) k) × (w.given n p k ≡ false) × (w.closed n p ≡ true))
+
+-- the plan has each key where the course begun last leaves it
+abbrev pub IsWhereLeft : WorldValue → List PlanRange → Type 0
+IsWhereLeft w old = (k : ℕ) → k < top → LeavesAt w w.last k (owner_of old k)
+
+-- the partition holds each key that the plan has at it, and gives no more in the course begun last if such a key moves by it. This is
+-- what a partition finds out by itself
+pub record HoldsOwn (w : WorldValue) (old : List PlanRange) (p : ℕ) : Type 0 where
+  pub held : (k : ℕ) → k < top → owner_of old k ≡ p → w.held p k ≡ true
+  pub closed : (k : ℕ) → k < top → owner_of old k ≡ p → owner_of (w.old w.last) k ≢ owner_of (w.new w.last) k → owner_of (w.old w.last) k ≡ p → w.closed w.last p ≡ true
+
+abbrev pub after_close : WorldValue → ℕ → ℕ → WorldValue
+after_close w n p = record w { closed = λ m q. w.closed m q || ((m == n) && (q == p)) }
+
+-- a partition gives no more in the newest course that it knows
+abbrev pub CloseStep : WorldValue → ℕ → Answer → WorldValue → Type 0
+CloseStep w p (Closed n) v = (is_part w p ≡ true) × ((c : Change) × IsCourseBy (first_course w) (w.facts (Part p)) c × (n ≡ c.number) × SameWorld v (after_close w c.number p))
+CloseStep w p (Refused NoSuch) v = (is_part w p ≡ false) × SameWorld v w
+CloseStep w p _ v = ⊥
+
+-- the leader begins a course from a plan that has each key where the course begun last leaves it, whether or not that is over
+abbrev pub BeginFromStep : WorldValue → List PlanRange → List PlanRange → Answer → WorldValue → Type 0
+BeginFromStep w old new (Begun n parts) v =
+    IsWhereLeft w old × (w.last < last_number) × IsPlan old × IsPlan new × (n ≡ w.last + 1) × (parts ≡ length (after_begin w old new).parts) × SameWorld v (after_begin w old new)
+BeginFromStep w old new (Refused Running) v = (IsWhereLeft w old → ⊥) × SameWorld v w
+BeginFromStep w old new (Refused NoNumber) v = IsWhereLeft w old × (w.last ≡ last_number) × SameWorld v w
+BeginFromStep w old new _ v = ⊥
 
 -- ---- gifts
 
@@ -122,6 +160,7 @@ GiveStep w p most (Gave index x) v =
     × ((c : Change) × (s : ℕ) × IsCurrent (part_in w p) c s × AreFirst (is_left (part_in w p) c s) most x.span × IsGift (part_in w p) c s x) × SameWorld v (after_give w x)
 GiveStep w p most (Refused NoSuch) v = (is_part w p ≡ false) × SameWorld v w
 GiveStep w p most (Refused NotOpen) v = (is_part w p ≡ true) × NoneOpen (part_in w p) × SameWorld v w
+GiveStep w p most (Refused Ended) v = (is_part w p ≡ true) × IsClosed (part_in w p) × SameWorld v w
 GiveStep w p most (Refused NothingLeft) v =
     (is_part w p ≡ true) × ((c : Change) × (s : ℕ) × IsCurrent (part_in w p) c s × ((k : ℕ) → is_left (part_in w p) c s k ≡ false)) × SameWorld v w
 GiveStep w p most (Refused ZeroMax) v =
@@ -137,6 +176,7 @@ GiveAtStep w p k (Gave index x) v =
     × SameWorld v (after_give w x)
 GiveAtStep w p k (Refused NoSuch) v = (is_part w p ≡ false) × SameWorld v w
 GiveAtStep w p k (Refused NotOpen) v = (is_part w p ≡ true) × NoneOpen (part_in w p) × SameWorld v w
+GiveAtStep w p k (Refused Ended) v = (is_part w p ≡ true) × IsClosed (part_in w p) × SameWorld v w
 GiveAtStep w p k (Refused NotOutgoing) v =
     (is_part w p ≡ true) × ((c : Change) × (s : ℕ) × IsCurrent (part_in w p) c s × (goes_out (part_in w p) c s k ≡ false)) × SameWorld v w
 GiveAtStep w p k (Refused Given) v =
@@ -249,6 +289,8 @@ ServeStep w p k after _ v = ⊥
 abbrev pub Step : WorldValue → Event → Answer → WorldValue → Type 0
 Step w OpenNext r v = OpenStep w r v
 Step w (Begin plan) r v = BeginStep w plan r v
+Step w (BeginFrom old new) r v = BeginFromStep w old new r v
+Step w (Close p) r v = CloseStep w p r v
 Step w (Give p most) r v = GiveStep w p most r v
 Step w (GiveAt p k) r v = GiveAtStep w p k r v
 Step w (Load i) r v = LoadStep w i r v

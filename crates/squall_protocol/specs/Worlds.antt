@@ -1,7 +1,7 @@
 -- Worlds: a leader, partitions and routers, and the messages and chunks on their way between them (a leader that starts
 -- reconfigurations, and partitions that give keys and report what they loaded: Squall, SIGMOD 2015; routers, messages that may be
 -- lost, repeated and reordered, and several reconfigurations are this project's).
-use Rattle.std.specs.Prelude.{◌≡◌, ℕ, ◌-◌, ◌==◌, ◌≤◌, ◌&&◌, ◌||◌, nat_lt, Bool, true, false, List, [], if◌then◌else◌}
+use Rattle.std.specs.Prelude.{◌≡◌, ℕ, ◌==◌, ◌≤◌, ◌&&◌, ◌||◌, nat_lt, Bool, true, false, List, []}
 use Rattle.std.specs.List.{filter, list_any, range_with_len}
 use Rattle.squall_key.specs.Keys.{top, part_limit}
 use Rattle.squall_plan.specs.declared.range.PlanRange.{PlanRange}
@@ -18,15 +18,18 @@ abbrev pub most_routers : ℕ
 most_routers = 1000
 
 pub record WorldValue : Type 0 where
-  -- plan n is the new plan of course n, and the old one of course n + 1
-  pub plan : ℕ → List PlanRange
-  -- the number of the course begun last, and how many of its sub-plans are opened
+  -- both plans of the course of a number. The old one says where the keys are when it begins
+  pub old : ℕ → List PlanRange
+  pub new : ℕ → List PlanRange
+  -- the number of the course begun last, and how many sub-plans of the course of a number were opened
   pub last : ℕ
-  pub opened : ℕ
+  pub opened : ℕ → ℕ
   -- the partitions that there are, in the order in which plans first named them
   pub parts : List ℕ
   -- how many routers there are
   pub routers : ℕ
+  -- whether a partition gives no more in the course of a number
+  pub closed : ℕ → ℕ → Bool
   -- whether a partition holds a key; whether it gave it, and whether it loaded it, in the course of a number
   pub held : ℕ → ℕ → Bool
   pub given : ℕ → ℕ → ℕ → Bool
@@ -41,7 +44,7 @@ pub record WorldValue : Type 0 where
 
 -- the course of a number
 abbrev pub course_at : WorldValue → ℕ → Change
-course_at w n = record { number = n; old = w.plan (n - 1); new = w.plan n }
+course_at w n = record { number = n; old = w.old n; new = w.new n }
 
 -- the course with which the world began, and the course begun last
 abbrev pub first_course : WorldValue → Change
@@ -56,7 +59,7 @@ WasBegun w n = (1 ≤ n) × (n ≤ w.last)
 
 -- both plans of the course of a number
 abbrev pub pair_at : WorldValue → ℕ → PlanPair
-pair_at w n = plan_pair (w.plan (n - 1)) (w.plan n)
+pair_at w n = plan_pair (w.old n) (w.new n)
 
 -- ---- its nodes
 
@@ -97,11 +100,13 @@ first_facts old new (Router r) = no_queries
 abbrev pub start : List PlanRange → List PlanRange → ℕ → WorldValue
 start old new routers =
     record {
-      plan = λ n. if n == 0 then old else new;
+      old = λ n. old;
+      new = λ n. new;
       last = 1;
-      opened = 0;
+      opened = λ n. 0;
       parts = first_parts old new;
       routers = routers;
+      closed = λ n p. false;
       held = λ p k. nat_lt k top && (owner_of old k == p);
       given = λ n p k. false;
       loaded = λ n p k. false;
@@ -114,11 +119,13 @@ start old new routers =
 
 -- both worlds agree in each of their parts
 pub record SameWorld (w v : WorldValue) : Type 0 where
-  pub plan : (n : ℕ) → w.plan n ≡ v.plan n
+  pub old : (n : ℕ) → w.old n ≡ v.old n
+  pub new : (n : ℕ) → w.new n ≡ v.new n
   pub last : w.last ≡ v.last
-  pub opened : w.opened ≡ v.opened
+  pub opened : (n : ℕ) → w.opened n ≡ v.opened n
   pub parts : w.parts ≡ v.parts
   pub routers : w.routers ≡ v.routers
+  pub closed : (n p : ℕ) → w.closed n p ≡ v.closed n p
   pub held : (p k : ℕ) → w.held p k ≡ v.held p k
   pub given : (n p k : ℕ) → w.given n p k ≡ v.given n p k
   pub loaded : (n p k : ℕ) → w.loaded n p k ≡ v.loaded n p k

@@ -25,7 +25,8 @@ pub enum Refusal {
     /// All sub-plans are opened, and the last one is done.
     #[error("NoMore")]
     NoMore,
-    /// The course begun last is not over.
+    /// The course begun last is not over; or a key lies elsewhere than in the plan from which a course
+    /// is to begin.
     #[error("Running")]
     Running,
     /// The greatest number is used.
@@ -34,6 +35,9 @@ pub enum Refusal {
     /// As far as the partition knows, the sub-plan is not opened.
     #[error("NotOpen")]
     NotOpen,
+    /// The partition gives no more in the newest course that it knows.
+    #[error("Ended")]
+    Ended,
     /// The partition holds no key that goes out in the sub-plan opened last.
     #[error("NothingLeft")]
     NothingLeft,
@@ -77,6 +81,11 @@ pub enum Answer {
         number: u32,
         /// How many partitions there are now.
         parts: usize,
+    },
+    /// A partition gives no more in a course.
+    Closed {
+        /// Its number.
+        number: u32,
     },
     /// A partition gave keys.
     Gave {

@@ -22,6 +22,10 @@ pub enum Event {
     OpenNext,
     /// The leader begins a course from the newest plan to this one.
     Begin(Plan),
+    /// The leader begins a course to the second plan, from the first, which says where the keys are.
+    BeginFrom(Plan, Plan),
+    /// A partition gives no more in the newest course that it knows.
+    Close(PartId),
     /// A partition gives the first keys that are to go and are still there, at most that many.
     Give(PartId, u64),
     /// A partition gives one key.

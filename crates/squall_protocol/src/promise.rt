@@ -15,8 +15,9 @@ ghost use Rattle.squall_protocol.specs.Promises.{RoutesAreServed, MovesAreServed
 /// A partition to which a router sends a key holds it, waits for it, or has given it and names the
 /// partition to which it went. The partition that is named does the same, or has not heard of that
 /// course yet. A partition that waits for a key gets it: the source that it names holds the key, or a
-/// chunk on its way has it. Once the course begun last is over, each key is where its new plan has
-/// it.
+/// chunk on its way has it. Only a partition that knows a course as its newest which ended early waits
+/// in vain, until it hears of the later one. Once the course begun last is over, each key is where its
+/// new plan has it.
 ///
 /// While there is one course, the first partition holds the key or has given it, and the one that it
 /// names holds it or waits for it.

@@ -7,7 +7,7 @@ use Rattle.squall_key.specs.Keys.{top}
 use Rattle.squall_span.specs.Spans.{span_has}
 use Rattle.squall_protocol.specs.Chunks.{ChunkValue}
 use Rattle.squall_protocol.specs.declared.event.Event.{Event}
-use Rattle.squall_protocol.specs.declared.event.Event.TheVariants.{OpenNext, Begin, Give, GiveAt, Load, Finish, Send, SendPart, Deliver, Route, Serve}
+use Rattle.squall_protocol.specs.declared.event.Event.TheVariants.{OpenNext, Begin, BeginFrom, Close, Give, GiveAt, Load, Finish, Send, SendPart, Deliver, Route, Serve}
 use Rattle.squall_protocol.specs.declared.answer.Answer.{Answer}
 use Rattle.squall_protocol.specs.declared.answer.Answer.TheVariants.{Gave, Loaded, Again, Refused}
 use Rattle.squall_protocol.specs.Worlds.{WorldValue}
@@ -115,6 +115,8 @@ module _ {Row : Type 0} (w : RowsValue Row) (u : WorldValue) where
   follows : OneCarrier w.world → (e : Event) (a : Answer) → Step w.world e a u → Follows e a
   follows one OpenNext a h = (still, refl, (h, stays, flies, tt))
   follows one (Begin plan) a h = (still, refl, (h, stays, flies, tt))
+  follows one (BeginFrom old new) a h = (still, refl, (h, stays, flies, tt))
+  follows one (Close p) a h = (still, refl, (h, stays, flies, tt))
   follows one (Give p most) a h = give_follows p most a h
   follows one (GiveAt p k) a h = give_at_follows p k a h
   follows one (Load i) a h = load_follows one i a h

@@ -7,13 +7,13 @@ use Rattle.squall_plan.specs.declared.range.PlanRange.{PlanRange}
 use Rattle.squall_board.specs.Boards.{BoardValue}
 use Rattle.squall_protocol.specs.declared.event.Node.{Node}
 use Rattle.squall_protocol.specs.declared.event.Event.{Event}
-use Rattle.squall_protocol.specs.declared.event.Event.TheVariants.{OpenNext, Begin, Give, GiveAt, Load, Finish, Send, SendPart, Deliver, Route, Serve}
+use Rattle.squall_protocol.specs.declared.event.Event.TheVariants.{OpenNext, Begin, BeginFrom, Close, Give, GiveAt, Load, Finish, Send, SendPart, Deliver, Route, Serve}
 use Rattle.squall_protocol.specs.declared.answer.Answer.{Answer}
-use Rattle.squall_protocol.specs.declared.answer.Answer.TheVariants.{Opened, Begun, Gave, Loaded, Again, Finished, Sent, Delivered, Routed, Served, Refused}
-use Rattle.squall_protocol.specs.declared.answer.Refusal.TheVariants.{NoSuch, NotDone, NoMore, Running, NoNumber, NotOpen, NothingLeft, ZeroMax, NotOutgoing, Given, NotHeld, Stranger, NotAll, NothingDue, NotKnown}
+use Rattle.squall_protocol.specs.declared.answer.Answer.TheVariants.{Opened, Begun, Closed, Gave, Loaded, Again, Finished, Sent, Delivered, Routed, Served, Refused}
+use Rattle.squall_protocol.specs.declared.answer.Refusal.TheVariants.{NoSuch, NotDone, NoMore, Running, NoNumber, NotOpen, Ended, NothingLeft, ZeroMax, NotOutgoing, Given, NotHeld, Stranger, NotAll, NothingDue, NotKnown}
 use Rattle.squall_protocol.specs.Worlds.{WorldValue}
 use Rattle.squall_protocol.specs.Knowledge.{part_in, goes_out}
-use Rattle.squall_protocol.specs.Steps.{OpenStep, BeginStep, GiveStep, GiveAtStep, LoadStep, FinishStep, SendStep, SendPartStep, DeliverStep, RouteStep, ServeStep}
+use Rattle.squall_protocol.specs.Steps.{OpenStep, BeginStep, BeginFromStep, CloseStep, GiveStep, GiveAtStep, LoadStep, FinishStep, SendStep, SendPartStep, DeliverStep, RouteStep, ServeStep}
 use Rattle.squall_rows.specs.Rows.{RowsValue, KeepsStored, KeepsCarried}
 use Rattle.squall_rows.specs.RowSteps.{MovesRows, PlainStep}
 use Rattle.squall_rows.proofs.Quiet.{HasRows, Quiet, unchanged, quiet_rows}
@@ -32,6 +32,17 @@ begin_quiet w v plan (Begun n parts) h = record { held = h.5.held; loaded = h.5.
 begin_quiet w v plan (Refused Running) h = unchanged w v h.1
 begin_quiet w v plan (Refused NoNumber) h = unchanged w v h.2
 begin_quiet w v plan _ h = absurd h
+
+pub begin_from_quiet : (w v : WorldValue) (old new : List PlanRange) (r : Answer) → BeginFromStep w old new r v → Quiet w v
+begin_from_quiet w v old new (Begun n parts) h = record { held = h.6.held; loaded = h.6.loaded; chunks = h.6.chunks }
+begin_from_quiet w v old new (Refused Running) h = unchanged w v h.1
+begin_from_quiet w v old new (Refused NoNumber) h = unchanged w v h.2
+begin_from_quiet w v old new _ h = absurd h
+
+pub close_quiet : (w v : WorldValue) (p : ℕ) (r : Answer) → CloseStep w p r v → Quiet w v
+close_quiet w v p (Closed n) h = record { held = h.1.3.held; loaded = h.1.3.loaded; chunks = h.1.3.chunks }
+close_quiet w v p (Refused NoSuch) h = unchanged w v h.1
+close_quiet w v p _ h = absurd h
 
 pub finish_quiet : (w v : WorldValue) (p s : ℕ) (r : Answer) → FinishStep w p s r v → Quiet w v
 finish_quiet w v p s (Finished report) h = record { held = h.1.5.held; loaded = h.1.5.loaded; chunks = h.1.5.chunks }
@@ -80,6 +91,7 @@ module _ {Row : Type 0} (w v : RowsValue Row) (m : ℕ → Row) (stored : KeepsS
           (and_parts (goes_out (part_in w.world p) h.2.0 h.2.1 k) (w.world.held p k) (h.2.3.keys k (leb-true x.span.lo k within.0) (ltb-true k x.span.hi within.1))).1
   give_rows p most (Refused NoSuch) h takes = quiet_rows w v m (unchanged w.world v.world h.1) stored carried rows
   give_rows p most (Refused NotOpen) h takes = quiet_rows w v m (unchanged w.world v.world h.2) stored carried rows
+  give_rows p most (Refused Ended) h takes = quiet_rows w v m (unchanged w.world v.world h.2) stored carried rows
   give_rows p most (Refused NothingLeft) h takes = quiet_rows w v m (unchanged w.world v.world h.2) stored carried rows
   give_rows p most (Refused ZeroMax) h takes = quiet_rows w v m (unchanged w.world v.world h.3) stored carried rows
   give_rows p most _ h takes = absurd h
@@ -97,6 +109,7 @@ module _ {Row : Type 0} (w v : RowsValue Row) (m : ℕ → Row) (stored : KeepsS
           subst (λ q. w.world.held q k ≡ true) (sym h.2.7.source) (subst (λ l. w.world.held p l ≡ true) same h.2.5)
   give_at_rows p j (Refused NoSuch) h takes = quiet_rows w v m (unchanged w.world v.world h.1) stored carried rows
   give_at_rows p j (Refused NotOpen) h takes = quiet_rows w v m (unchanged w.world v.world h.2) stored carried rows
+  give_at_rows p j (Refused Ended) h takes = quiet_rows w v m (unchanged w.world v.world h.2) stored carried rows
   give_at_rows p j (Refused NotOutgoing) h takes = quiet_rows w v m (unchanged w.world v.world h.2) stored carried rows
   give_at_rows p j (Refused Given) h takes = quiet_rows w v m (unchanged w.world v.world h.2) stored carried rows
   give_at_rows p j (Refused NotHeld) h takes = quiet_rows w v m (unchanged w.world v.world h.2) stored carried rows
@@ -113,6 +126,8 @@ module _ {Row : Type 0} (w v : RowsValue Row) (m : ℕ → Row) (stored : KeepsS
 pub plain_rows : {Row : Type 0} (w v : RowsValue Row) (m : ℕ → Row) (e : Event) (r : Answer) → PlainStep w e r v → HasRows w m → HasRows v m
 plain_rows w v m OpenNext r h rows = quiet_rows w v m (open_quiet w.world v.world r h.0) h.1 h.2 rows
 plain_rows w v m (Begin plan) r h rows = quiet_rows w v m (begin_quiet w.world v.world plan r h.0) h.1 h.2 rows
+plain_rows w v m (BeginFrom old new) r h rows = quiet_rows w v m (begin_from_quiet w.world v.world old new r h.0) h.1 h.2 rows
+plain_rows w v m (Close p) r h rows = quiet_rows w v m (close_quiet w.world v.world p r h.0) h.1 h.2 rows
 plain_rows w v m (Give p most) r h rows = give_rows w v m h.1 h.2 rows p most r h.0 h.3
 plain_rows w v m (GiveAt p k) r h rows = give_at_rows w v m h.1 h.2 rows p k r h.0 h.3
 plain_rows w v m (Load i) r h rows = load_rows w v m h.1 h.2 rows i r h.0 h.3

@@ -7,10 +7,10 @@ use Rattle.squall_span.specs.Spans.{span_has}
 use Rattle.squall_plan.specs.declared.range.PlanRange.{PlanRange}
 use Rattle.squall_protocol.specs.Chunks.{ChunkValue}
 use Rattle.squall_protocol.specs.declared.event.Event.{Event}
-use Rattle.squall_protocol.specs.declared.event.Event.TheVariants.{OpenNext, Begin, Give, GiveAt, Load, Finish, Send, SendPart, Deliver, Route, Serve}
+use Rattle.squall_protocol.specs.declared.event.Event.TheVariants.{OpenNext, Begin, BeginFrom, Close, Give, GiveAt, Load, Finish, Send, SendPart, Deliver, Route, Serve}
 use Rattle.squall_protocol.specs.declared.answer.Answer.{Answer}
 use Rattle.squall_protocol.specs.declared.answer.Answer.TheVariants.{Gave, Loaded, Again, Refused}
-use Rattle.squall_protocol.specs.declared.answer.Refusal.TheVariants.{NoSuch, NotOpen, NothingLeft, ZeroMax, NotOutgoing, Given, NotHeld, Stranger}
+use Rattle.squall_protocol.specs.declared.answer.Refusal.TheVariants.{NoSuch, NotOpen, Ended, NothingLeft, ZeroMax, NotOutgoing, Given, NotHeld, Stranger}
 use Rattle.squall_protocol.specs.Worlds.{WorldValue, SameWorld, start}
 use Rattle.squall_protocol.specs.Steps.{after_give, after_load, GiveStep, GiveAtStep, LoadStep, Step, Run}
 use Rattle.squall_protocol.specs.Promises.{IsReached}
@@ -20,7 +20,7 @@ use Rattle.squall_protocol.proofs.Start.{kept_always}
 use Rattle.squall_protocol.proofs.Lists.{at_front, at_one}
 use Rattle.squall_rows.specs.Whole.{ChunksLoadWhole}
 use Rattle.squall_rows.proofs.Quiet.{Quiet, unchanged}
-use Rattle.squall_rows.proofs.Plain.{open_quiet, begin_quiet, finish_quiet, send_quiet, send_part_quiet, deliver_quiet, route_quiet, serve_quiet}
+use Rattle.squall_rows.proofs.Plain.{open_quiet, begin_quiet, begin_from_quiet, close_quiet, finish_quiet, send_quiet, send_part_quiet, deliver_quiet, route_quiet, serve_quiet}
 
 -- the chunk in which a loaded key came
 record Came (w : WorldValue) (n q k : ℕ) : Type 0 where
@@ -102,6 +102,7 @@ give_came : (w v : WorldValue) (p most : ℕ) (r : Answer) → GiveStep w p most
 give_came w v p most (Gave i x) h all = gave_came w v x h.3 all
 give_came w v p most (Refused NoSuch) h all = quiet_came w v (unchanged w v h.1) all
 give_came w v p most (Refused NotOpen) h all = quiet_came w v (unchanged w v h.2) all
+give_came w v p most (Refused Ended) h all = quiet_came w v (unchanged w v h.2) all
 give_came w v p most (Refused NothingLeft) h all = quiet_came w v (unchanged w v h.2) all
 give_came w v p most (Refused ZeroMax) h all = quiet_came w v (unchanged w v h.3) all
 give_came w v p most _ h all = absurd h
@@ -110,6 +111,7 @@ give_at_came : (w v : WorldValue) (p k : ℕ) (r : Answer) → GiveAtStep w p k 
 give_at_came w v p k (Gave i x) h all = gave_came w v x h.3 all
 give_at_came w v p k (Refused NoSuch) h all = quiet_came w v (unchanged w v h.1) all
 give_at_came w v p k (Refused NotOpen) h all = quiet_came w v (unchanged w v h.2) all
+give_at_came w v p k (Refused Ended) h all = quiet_came w v (unchanged w v h.2) all
 give_at_came w v p k (Refused NotOutgoing) h all = quiet_came w v (unchanged w v h.2) all
 give_at_came w v p k (Refused Given) h all = quiet_came w v (unchanged w v h.2) all
 give_at_came w v p k (Refused NotHeld) h all = quiet_came w v (unchanged w v h.2) all
@@ -126,6 +128,8 @@ load_came w v i _ h all = absurd h
 step_came : (w v : WorldValue) (e : Event) (r : Answer) → Step w e r v → AllCame w → AllCame v
 step_came w v OpenNext r h all = quiet_came w v (open_quiet w v r h) all
 step_came w v (Begin plan) r h all = quiet_came w v (begin_quiet w v plan r h) all
+step_came w v (BeginFrom old new) r h all = quiet_came w v (begin_from_quiet w v old new r h) all
+step_came w v (Close p) r h all = quiet_came w v (close_quiet w v p r h) all
 step_came w v (Give p most) r h all = give_came w v p most r h all
 step_came w v (GiveAt p k) r h all = give_at_came w v p k r h all
 step_came w v (Load i) r h all = load_came w v i r h all
