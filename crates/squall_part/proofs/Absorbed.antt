@@ -6,13 +6,12 @@ use Rattle.std.proofs.lemmas.Bool.{and_parts, and_from, cases_eq}
 use Rattle.std.proofs.lemmas.List.Folds.{find-append}
 use Rattle.squall_join.specs.declared.flat.Flat.{Flat}
 use Rattle.squall_join.specs.declared.flat.Flat.TheVariants.{Unknown, One, Clash}
-use Rattle.squall_span.specs.Spans.{Interval}
 use Rattle.squall_course.specs.Change.{Change}
 use Rattle.squall_report.specs.Issues.{PlanPair, is_same_pair}
 use Rattle.squall_report.specs.Told.{TellsBoth, both_issued}
 use Rattle.squall_board.specs.Boards.{BoardValue, IsBoard, issued, told, one_issue}
 use Rattle.squall_board.specs.Listed.{AreIssues, IssuesRise, entries_issue, issues_of}
-use Rattle.squall_part.specs.Parts.{PartValue, Log, log_of, IsPart, IsLog, IsHeard, IsBelow, AreRising, known_course, given_in, loaded_in, given_by, loaded_by}
+use Rattle.squall_part.specs.Parts.{PartValue, Log, log_of, IsPart, IsLog, IsHeard, IsBelow, AreRising, known_course, given_in, loaded_in, closed_in, given_by, loaded_by, closed_by}
 use Rattle.squall_protocol.specs.Known.{course_under}
 use Rattle.squall_part.specs.Fresh.{is_unknown, is_new, empty_log, fresh_log, fresh_logs, put_logs}
 use Rattle.squall_part.proofs.Logs.{IsNotIn, eq_refl, eq_differ}
@@ -58,6 +57,14 @@ none_later n (e ∷ es) r = ap (λ x. both_issued x (entries_issue es n)) (one_o
 
 -- ---- the fresh logs
 
+-- nothing was given or loaded, and the log is open
+abbrev IsUntouched : Log → Type 0
+IsUntouched l = (l.given ≡ []) × (l.loaded ≡ []) × (l.closed ≡ false)
+
+-- a look-up finds what one in no log does
+abbrev FindsNothing : Option Log → Type 0
+FindsNothing o = (given_in o ≡ []) × (loaded_in o ≡ []) × (closed_in o ≡ false)
+
 module _ (first : Change) (b : BoardValue) where
   -- a property of the log that an entry brings
   each_fresh : (P : Log → Type 0) (e : ℕ × Flat PlanPair) → ((pair : PlanPair) → e.1 ≡ One pair → is_new first b e.0 ≡ true → P (empty_log e.0 pair)) → AllByRecursion P (fresh_log first b e)
@@ -90,9 +97,9 @@ module _ (first : Change) (b : BoardValue) where
       let no : ⊥ = cc in no))
       (all_to (λ l. entries_issue es l.course.number ≢ Unknown) (λ l. entries_issue (e ∷ es) l.course.number ≢ Unknown) (fresh_logs first b es) (λ l some u. some (unknown_parts (one_issue e.0 e.1 l.course.number) (entries_issue es l.course.number) u).1) (fresh_issued es))
 
-  fresh_empty : (es : List (ℕ × Flat PlanPair)) → AllByRecursion (λ l. (l.given ≡ []) × (l.loaded ≡ [])) (fresh_logs first b es)
+  fresh_empty : (es : List (ℕ × Flat PlanPair)) → AllByRecursion IsUntouched (fresh_logs first b es)
   fresh_empty [] = tt
-  fresh_empty (e ∷ es) = all_append (λ l. (l.given ≡ []) × (l.loaded ≡ [])) (fresh_log first b e) (fresh_logs first b es) (each_fresh (λ l. (l.given ≡ []) × (l.loaded ≡ [])) e (λ pair s t. (refl, refl))) (fresh_empty es)
+  fresh_empty (e ∷ es) = all_append IsUntouched (fresh_log first b e) (fresh_logs first b es) (each_fresh IsUntouched e (λ pair s t. (refl, refl, refl))) (fresh_empty es)
 
   -- later numbers alone
   fresh_later : (n : ℕ) (es : List (ℕ × Flat PlanPair)) → AllByRecursion (λ d. n < d.0) es → IsBelow n (fresh_logs first b es)
@@ -176,28 +183,26 @@ none_there first b n [] h new = refl
 none_there first b n (l ∷ ls) h new =
     ap (λ t. cond t (Some l) (log_of ls n)) (eq_differ l.course.number n (λ e. heard_old first b l.course.number h.0 (ap (is_new first b) e ∙ new))) ∙ none_there first b n ls h.1 new
 
-empty_in : (ls : List Log) (n : ℕ) → AllByRecursion (λ l. (l.given ≡ []) × (l.loaded ≡ [])) ls → (given_in (log_of ls n) ≡ []) × (loaded_in (log_of ls n) ≡ [])
-empty_in [] n a = (refl, refl)
+empty_in : (ls : List Log) (n : ℕ) → AllByRecursion IsUntouched ls → FindsNothing (log_of ls n)
+empty_in [] n a = (refl, refl, refl)
 empty_in (l ∷ ls) n a = by (l.course.number == n) (empty_in ls n a.1)
   where
-    by : (t : Bool) → (given_in (log_of ls n) ≡ []) × (loaded_in (log_of ls n) ≡ []) → (given_in (cond t (Some l) (log_of ls n)) ≡ []) × (loaded_in (cond t (Some l) (log_of ls n)) ≡ [])
+    by : (t : Bool) → FindsNothing (log_of ls n) → FindsNothing (cond t (Some l) (log_of ls n))
     by true rest = a.0
     by false rest = rest
 
 -- ---- the partition after
 
 -- what is looked up in the logs stays where the new ones tell what none tells
-still : (look : Option Log → List Interval) (p : PartValue) (ls : List Log) (n : ℕ) → look (log_of ls n) ≡ look None → look (log_of (p.logs ++ ls) n) ≡ look (log_of p.logs n)
+still : {A : Type 0} (look : Option Log → A) (p : PartValue) (ls : List Log) (n : ℕ) → look (log_of ls n) ≡ look None → look (log_of (p.logs ++ ls) n) ≡ look (log_of p.logs n)
 still look p ls n none = ap look (find-append (λ l. l.course.number == n) p.logs ls) ∙ by (log_of p.logs n)
   where
     by : (o : Option Log) → look (option_or o (log_of ls n)) ≡ look o
     by None = none
     by (Some l) = refl
 
-fresh_is_empty : (p : PartValue) (es : List (ℕ × Flat PlanPair)) (ls : List Log) (n : ℕ) → ls ≡ fresh_logs p.first p.board es → (given_in (log_of ls n) ≡ []) × (loaded_in (log_of ls n) ≡ [])
-fresh_is_empty p es ls n e =
-    let none = empty_in (fresh_logs p.first p.board es) n (fresh_empty p.first p.board es) in
-    (ap (λ x. given_in (log_of x n)) e ∙ none.0, ap (λ x. loaded_in (log_of x n)) e ∙ none.1)
+fresh_is_empty : (p : PartValue) (es : List (ℕ × Flat PlanPair)) (ls : List Log) (n : ℕ) → ls ≡ fresh_logs p.first p.board es → FindsNothing (log_of ls n)
+fresh_is_empty p es ls n e = subst (λ x. FindsNothing (log_of x n)) (sym e) (empty_in (fresh_logs p.first p.board es) n (fresh_empty p.first p.board es))
 
 module _ (p : PartValue) (es : List (ℕ × Flat PlanPair)) (ls : List Log) (n : ℕ) (is : IsPart p) (rise : IssuesRise es) (e : ls ≡ fresh_logs p.first p.board es) where
   found_put : log_of (put_logs ls p.logs) n ≡ log_of (p.logs ++ ls) n
@@ -208,6 +213,9 @@ module _ (p : PartValue) (es : List (ℕ × Flat PlanPair)) (ls : List Log) (n :
 
   pub loaded_still : loaded_in (log_of (put_logs ls p.logs) n) ≡ loaded_by p n
   loaded_still = ap loaded_in found_put ∙ still loaded_in p ls n (fresh_is_empty p es ls n e).1
+
+  pub closed_still : closed_in (log_of (put_logs ls p.logs) n) ≡ closed_by p n
+  closed_still = ap closed_in found_put ∙ still closed_in p ls n (fresh_is_empty p es ls n e).2
 
 module _ (p : PartValue) (d q : BoardValue) (is : IsPart p) (tells : TellsBoth (told q) (told p.board) (told d)) (listed : AreIssues d (issues_of d)) where
   abbrev ls : List Log

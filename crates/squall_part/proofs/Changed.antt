@@ -1,4 +1,4 @@
--- A partition stays one after a report, a gift and a load.
+-- A partition stays one after a report, a gift, a load and the end of a course.
 use Rattle.std.proofs.Common.{◌≡◌, ◌≢◌, ℕ, ◌<◌, ◌≤◌, ◌==◌, Bool, true, false, cond, List, [], ◌∷◌, get_or, set, Some, refl, sym, ap, subst, ◌∙◌}
 use Rattle.std.specs.Prelude.{◌⊎◌}
 use Rattle.std.specs.List.{AllByRecursion}
@@ -12,10 +12,10 @@ use Rattle.squall_report.specs.Issues.{PlanPair}
 use Rattle.squall_report.specs.declared.report.ReportKind.{ReportKind}
 use Rattle.squall_report.specs.Told.{TellsBoth, both_issued, told_by_report, report_issues}
 use Rattle.squall_board.specs.Boards.{BoardValue, IsBoard, issued, told}
-use Rattle.squall_part.specs.Parts.{PartValue, Log, log_with, log_of, IsPart, IsLog, IsHeard, known_to, course_of_part, given_in, loaded_in, given_by, loaded_by, with_given, with_loaded}
+use Rattle.squall_part.specs.Parts.{PartValue, Log, log_of, IsPart, IsLog, IsHeard, known_to, course_of_part, given_in, loaded_in, given_by, loaded_by, with_given, with_loaded, with_closed}
 use Rattle.squall_protocol.specs.Known.{course_under}
 use Rattle.squall_part.specs.Logs.{IsLogAt}
-use Rattle.squall_part.specs.Giving.{after_giving}
+use Rattle.squall_part.specs.Giving.{after_giving, after_close}
 use Rattle.squall_part.proofs.Logs.{apart, edit_at, edit_rising, edit_heard, edit_courses, edit_logs}
 use Rattle.squall_part.proofs.Known.{known_number, log_at}
 use Rattle.squall_part.proofs.Given.{given_here}
@@ -41,17 +41,21 @@ loaded_set (l ∷ ls) n all = by (l.course.number == n) (loaded_set ls n all.1)
 
 -- ---- a gift
 
+-- a log with other keys given, or loaded, and one that is closed
+abbrev pub given_log : List Interval → Log → Log
+given_log keys l = record l { given = keys }
+
+abbrev pub loaded_log : List Interval → Log → Log
+loaded_log keys l = record l { loaded = keys }
+
+abbrev pub closed_log : Log → Log
+closed_log l = record l { closed = true }
+
 pub giving_logs : (p : PartValue) (at : ℕ) (d : Log) (s : Interval) → IsPart p → IsLogAt p.logs (course_of_part p) at
-    → set p.logs at (log_with (get_or p.logs at d).course (insert_span s (get_or p.logs at d).given) (get_or p.logs at d).loaded) ≡ with_given (course_of_part p).number (insert_span s (given_by p (course_of_part p).number)) p.logs
+    → set p.logs at (given_log (insert_span s (get_or p.logs at d).given) (get_or p.logs at d)) ≡ with_given (course_of_part p).number (insert_span s (given_by p (course_of_part p).number)) p.logs
 giving_logs p at d s is place =
-    ap (λ g. set p.logs at (log_with (get_or p.logs at d).course (insert_span s g) (get_or p.logs at d).loaded)) (sym (given_here p at d is place))
-    ∙ edit_at (course_of_part p).number (λ l. log_with l.course (insert_span s (given_by p (course_of_part p).number)) l.loaded) p.logs at d (apart p is) place.within (ap (λ c. c.number) (place.course d))
-
-abbrev given_log : List Interval → Log → Log
-given_log keys l = log_with l.course keys l.loaded
-
-abbrev loaded_log : List Interval → Log → Log
-loaded_log keys l = log_with l.course l.given keys
+    ap (λ g. set p.logs at (given_log (insert_span s g) (get_or p.logs at d))) (sym (given_here p at d is place))
+    ∙ edit_at (course_of_part p).number (given_log (insert_span s (given_by p (course_of_part p).number))) p.logs at d (apart p is) place.within (ap (λ c. c.number) (place.course d))
 
 pub giving_part : (p : PartValue) (s : Interval) → IsPart p → s.lo < s.hi → s.hi ≤ top → IsPart (after_giving p s)
 giving_part p s is lt le =
@@ -70,10 +74,10 @@ giving_part p s is lt le =
 -- ---- a load
 
 pub loading_logs : (p : PartValue) (c : Change) (m at : ℕ) (d : Log) (s : Interval) → IsPart p → known_to p m ≡ Some c → IsLogAt p.logs c at
-    → set p.logs at (log_with (get_or p.logs at d).course (get_or p.logs at d).given (insert_span s (get_or p.logs at d).loaded)) ≡ with_loaded m (insert_span s (loaded_by p m)) p.logs
+    → set p.logs at (loaded_log (insert_span s (get_or p.logs at d).loaded) (get_or p.logs at d)) ≡ with_loaded m (insert_span s (loaded_by p m)) p.logs
 loading_logs p c m at d s is known place =
-    ap (λ g. set p.logs at (log_with (get_or p.logs at d).course (get_or p.logs at d).given (insert_span s g))) (sym (ap loaded_in (log_at p m c at d is known place)))
-    ∙ edit_at m (λ l. log_with l.course l.given (insert_span s (loaded_by p m))) p.logs at d (apart p is) place.within (ap (λ c. c.number) (place.course d) ∙ known_number p m c known)
+    ap (λ g. set p.logs at (loaded_log (insert_span s g) (get_or p.logs at d))) (sym (ap loaded_in (log_at p m c at d is known place)))
+    ∙ edit_at m (loaded_log (insert_span s (loaded_by p m))) p.logs at d (apart p is) place.within (ap (λ c. c.number) (place.course d) ∙ known_number p m c known)
 
 pub loading_part : (p : PartValue) (m : ℕ) (s : Interval) → IsPart p → s.lo < s.hi → s.hi ≤ top
     → IsPart (record p { held = union p.held (minus (s ∷ []) (loaded_by p m)); logs = with_loaded m (insert_span s (loaded_by p m)) p.logs })
@@ -88,6 +92,25 @@ loading_part p m s is lt le =
       heard = edit_heard m (loaded_log keys) (λ l. refl) p.first p.board p.logs is.heard;
       known = λ n c k. edit_courses m (loaded_log keys) (λ l. refl) n p.logs ∙ is.known n c k;
     }
+
+-- ---- the end of a course
+
+pub closing_part : (p : PartValue) → IsPart p → IsPart (after_close p)
+closing_part p is =
+    let n = (course_of_part p).number in
+    record {
+      board = is.board;
+      plans = is.plans;
+      held = is.held;
+      logs = edit_logs n closed_log p.logs (λ l e i. record { plans = i.plans; given = i.given; loaded = i.loaded }) is.logs;
+      rising = edit_rising n closed_log (λ l. refl) p.logs is.rising;
+      heard = edit_heard n closed_log (λ l. refl) p.first p.board p.logs is.heard;
+      known = λ m c k. edit_courses n closed_log (λ l. refl) m p.logs ∙ is.known m c k;
+    }
+
+-- the log of the newest course is closed in its place
+pub closing_logs : (p : PartValue) (at : ℕ) (d : Log) → IsPart p → IsLogAt p.logs (course_of_part p) at → set p.logs at (closed_log (get_or p.logs at d)) ≡ with_closed (course_of_part p).number p.logs
+closing_logs p at d is place = edit_at (course_of_part p).number closed_log p.logs at d (apart p is) place.within (ap (λ c. c.number) (place.course d))
 
 -- ---- a report that issues nothing
 

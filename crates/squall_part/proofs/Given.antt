@@ -12,7 +12,7 @@ use Rattle.squall_course.specs.Change.{Change, ArePlans}
 use Rattle.squall_course.specs.Subplans.{moves, sub_of, subplan_of, dest_of}
 use Rattle.squall_course.proofs.Counted.{key_goes}
 use Rattle.squall_board.specs.BoardLaws.{key_below}
-use Rattle.squall_part.specs.Parts.{PartValue, Log, IsPart, IsLog, course_of_part, given_in, loaded_in, given_by, loaded_by}
+use Rattle.squall_part.specs.Parts.{PartValue, Log, IsPart, IsLog, course_of_part, given_in, loaded_in, closed_in, given_by, loaded_by, closed_by}
 use Rattle.squall_part.specs.Logs.{IsLogAt}
 use Rattle.squall_part.specs.Giving.{is_left, goes_out}
 use Rattle.squall_part.proofs.Logs.{eq_refl, eq_same}
@@ -83,3 +83,6 @@ given_here p at d is place = ap given_in (log_at p (course_of_part p).number (co
 
 pub loaded_here : (p : PartValue) (at : ℕ) (d : Log) → IsPart p → IsLogAt p.logs (course_of_part p) at → loaded_by p (course_of_part p).number ≡ (get_or p.logs at d).loaded
 loaded_here p at d is place = ap loaded_in (log_at p (course_of_part p).number (course_of_part p) at d is (course_known p is) place)
+
+pub closed_here : (p : PartValue) (at : ℕ) (d : Log) → IsPart p → IsLogAt p.logs (course_of_part p) at → closed_by p (course_of_part p).number ≡ (get_or p.logs at d).closed
+closed_here p at d is place = ap closed_in (log_at p (course_of_part p).number (course_of_part p) at d is (course_known p is) place)

@@ -13,7 +13,7 @@ use Rattle.squall_board.specs.Boards.{BoardValue, issued}
 use Rattle.squall_board.specs.Newest.{IsNewest, newest_of}
 use Rattle.squall_board.specs.NewestLaws.{newest_is_greatest}
 use Rattle.squall_board.specs.CourseRoute.{course_by}
-use Rattle.squall_part.specs.Parts.{PartValue, Log, log_of, IsPart, known_to, known_course, course_of_part, given_in, loaded_in, given_by, loaded_by}
+use Rattle.squall_part.specs.Parts.{PartValue, Log, log_with, log_of, IsPart, known_to, known_course, course_of_part, given_in, loaded_in, given_by, loaded_by}
 use Rattle.squall_protocol.specs.Known.{course_under}
 use Rattle.squall_part.specs.Logs.{has_number, IsLogAt}
 use Rattle.squall_part.proofs.Logs.{eq_refl, eq_same, eq_differ, found_at, apart}
@@ -53,9 +53,15 @@ course_at p n c at is known found = record {
 }
   where
     empty : Change → Log
-    empty c = record { course = c; given = []; loaded = [] }
+    empty c = log_with c [] [] false
 
-none_at : (n : ℕ) (logs : List Log) → position (has_number n) logs ≡ None → log_of logs n ≡ None
+-- the log at the place of a number is that number's
+pub found_in : (p : PartValue) (n at : ℕ) (d : Log) → IsPart p → Some at ≡ position (has_number n) p.logs → log_of p.logs n ≡ Some (get_or p.logs at d)
+found_in p n at d is e =
+    let there = position-Some (has_number n) p.logs at d (sym e) in
+    ap (log_of p.logs) (sym (eq_same (get_or p.logs at d).course.number n there.1)) ∙ found_at p.logs at d (apart p is) there.0
+
+pub none_at : (n : ℕ) (logs : List Log) → position (has_number n) logs ≡ None → log_of logs n ≡ None
 none_at n logs e = find_at (has_number n) logs ∙ slice_get_past logs (position_or_len (has_number n) logs) (past (nat_lt (position_or_len (has_number n) logs) (length logs)) refl e)
   where
     past : (b : Bool) → nat_lt (position_or_len (has_number n) logs) (length logs) ≡ b → cond b (Some (position_or_len (has_number n) logs)) None ≡ None → length logs ≤ position_or_len (has_number n) logs

@@ -1,11 +1,11 @@
 -- The last log that passes, looked for from the end of logs that rise.
-use Rattle.std.proofs.Common.{◌≡◌, ℕ, zero, suc, ◌+◌, ◌<◌, ◌≤◌, ◌&&◌, nat_lt, Bool, true, false, cond, List, [], ◌∷◌, ◌++◌, length, get_or, take, Option, None, Some, refl, ap, ◌∙◌, arith}
+use Rattle.std.proofs.Common.{◌≡◌, ℕ, zero, suc, ◌+◌, ◌<◌, ◌&&◌, nat_lt, Bool, true, false, cond, List, [], ◌∷◌, ◌++◌, length, get_or, take, Option, None, Some, refl, ap, ◌∙◌, arith}
 use Rattle.std.specs.List.{AllByRecursion}
 use Rattle.std.proofs.lemmas.List.{take_more}
 use Rattle.std.proofs.lemmas.Bool.Decides.{nat_tests}
 use Rattle.std.proofs.Math.Bool.{and-false}
-use Rattle.squall_part.specs.Parts.{PartValue, Log, IsBelow, AreRising}
-use Rattle.squall_part.specs.Logs.{number_in, later, last_from, last_of, comes, comes_after}
+use Rattle.squall_part.specs.Parts.{Log, IsBelow, AreRising}
+use Rattle.squall_part.specs.Logs.{number_in, later, last_from, last_of}
 
 last_more : (test : Log → Bool) (found : Option Log) (logs : List Log) (l : Log) → last_from test found (logs ++ l ∷ []) ≡ later test (last_from test found logs) l
 last_more test found [] l = refl
@@ -49,30 +49,3 @@ earlier test logs at d lt fails =
     let l = get_or logs at d in
     last_step test logs at d lt
     ∙ ap (λ b. cond b (Some l) (last_of test (take at logs))) (ap (λ b. nat_lt (number_in (last_of test (take at logs))) l.course.number && b) fails ∙ and-false (nat_lt (number_in (last_of test (take at logs))) l.course.number))
-
--- no log up to the number passes
-none_up_to : (p : PartValue) (k after : ℕ) (logs : List Log) → AllByRecursion (λ l. l.course.number ≤ after) logs → last_of (comes_after p k after) logs ≡ None
-none_up_to p k after [] a = refl
-none_up_to p k after (l ∷ ls) a =
-    let below : nat_lt after l.course.number ≡ false = least a.0 in
-    ap (λ o. last_from (comes_after p k after) o ls) (ap (λ b. cond (nat_lt 0 l.course.number && b) (Some l) None) (failed below) ∙ never (nat_lt 0 l.course.number))
-    ∙ none_up_to p k after ls a.1
-  where
-    least : l.course.number ≤ after → nat_lt after l.course.number ≡ false
-    least le = grind (arith, nat_tests)
-
-    failed : nat_lt after l.course.number ≡ false → comes_after p k after l ≡ false
-    failed below = ap (λ b. b && comes p k l) below
-
-    never : (b : Bool) → cond (b && false) (Some l) None ≡ None
-    never true = refl
-    never false = refl
-
-pub up_to : (p : PartValue) (k after : ℕ) (logs : List Log) (at : ℕ) (d : Log) → AreRising logs → at < length logs → (get_or logs at d).course.number ≤ after → last_of (comes_after p k after) (take (at + 1) logs) ≡ None
-up_to p k after logs at d r lt le =
-    let l = get_or logs at d in
-    ap (last_of (comes_after p k after)) (take_more logs at d lt) ∙ none_up_to p k after (take at logs ++ l ∷ []) (all (take at logs) (before logs at d r lt))
-  where
-    all : (ls : List Log) → AllByRecursion (λ l. l.course.number < (get_or logs at d).course.number) ls → AllByRecursion (λ l. l.course.number ≤ after) (ls ++ get_or logs at d ∷ [])
-    all [] a = (le, tt)
-    all (m ∷ ms) a = (omega (arith, a.0, le), all ms a.1)

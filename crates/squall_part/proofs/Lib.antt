@@ -10,6 +10,7 @@ pub mod Served
 pub mod Given
 pub mod Changed
 pub mod Absorbed
+pub mod Closed
 pub mod Steps
 pub mod Replies
 pub mod Gone

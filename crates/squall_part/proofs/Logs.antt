@@ -1,5 +1,5 @@
 -- Logs: where each is found, and how one is changed in its place.
-use Rattle.std.proofs.Common.{◌≡◌, ◌≢◌, ℕ, zero, suc, ◌+◌, ◌<◌, ◌==◌, not, nat_lt, Bool, true, false, cond, List, [], ◌∷◌, length, get_or, set, map, position, None, Some, option_map, refl, sym, ap, subst, ◌∙◌, arith}
+use Rattle.std.proofs.Common.{◌≡◌, ◌≢◌, ℕ, zero, suc, ◌+◌, ◌<◌, ◌==◌, not, nat_lt, Bool, true, false, cond, List, [], ◌∷◌, length, get_or, set, map, position, Option, None, Some, option_map, refl, sym, ap, subst, ◌∙◌, arith}
 use Rattle.std.specs.List.{AllByRecursion, position_or_len}
 use Rattle.std.proofs.lemmas.Bool.Decides.{nat_tests}
 use Rattle.squall_course.specs.Change.{Change}
@@ -113,3 +113,24 @@ edit_logs n f (l ∷ ls) keep h = (by (l.course.number == n) (λ e. keep l (eq_s
     by : (b : Bool) → (b ≡ true → IsLog (f l)) → IsLog (cond b (f l) l)
     by true k = k refl
     by false k = h.0
+
+-- a look-up after the log of a number was changed
+pub edited : (n : ℕ) (f : Log → Log) → ((l : Log) → (f l).course ≡ l.course) → (logs : List Log) (m : ℕ) → log_of (map (edit n f) logs) m ≡ cond (m == n) (option_map f (log_of logs m)) (log_of logs m)
+edited n f same [] m = by (m == n)
+  where
+    nothing : Option Log
+    nothing = None
+
+    by : (b : Bool) → nothing ≡ cond b (option_map f nothing) nothing
+    by true = refl
+    by false = refl
+edited n f same (l ∷ ls) m = ap (λ c. cond (c.number == m) (Some (edit n f l)) (log_of (map (edit n f) ls) m)) (edit_course n f same l) ∙ by (l.course.number == m) refl (edited n f same ls m)
+  where
+    at : (b : Bool) → Some (cond b (f l) l) ≡ cond b (Some (f l)) (Some l)
+    at true = refl
+    at false = refl
+
+    by : (b : Bool) → (l.course.number == m) ≡ b → log_of (map (edit n f) ls) m ≡ cond (m == n) (option_map f (log_of ls m)) (log_of ls m)
+        → cond b (Some (cond (l.course.number == n) (f l) l)) (log_of (map (edit n f) ls) m) ≡ cond (m == n) (option_map f (cond b (Some l) (log_of ls m))) (cond b (Some l) (log_of ls m))
+    by true e rest = ap (λ v. Some (cond (v == n) (f l) l)) (eq_same l.course.number m e) ∙ at (m == n)
+    by false e rest = rest

@@ -1,8 +1,7 @@
 -- What a partition replies, by the last logs that pass.
 use Rattle.std.proofs.Common.{◌≡◌, ℕ, suc, ◌<◌, ◌≤◌, ◌==◌, ◌&&◌, not, Bool, true, false, cond, nat_lt, List, [], ◌∷◌, length, get_or, Option, None, Some, is_some, option_map, refl, sym, ap, subst, ◌∙◌, arith, inl, inr}
 use Rattle.std.specs.Prelude.{◌⊎◌}
-use Rattle.std.proofs.lemmas.Bool.{and_parts, and_from}
-use Rattle.std.proofs.Math.Bool.{and-false}
+use Rattle.std.proofs.lemmas.Bool.{and_parts, and_from, false≢true}
 use Rattle.std.proofs.lemmas.Bool.Decides.{nat_tests}
 use Rattle.std.proofs.lemmas.Option.{same_Some}
 use Rattle.squall_span.specs.Spans.{has}
@@ -10,12 +9,12 @@ use Rattle.squall_plan.specs.Ranges.{owner_of}
 use Rattle.squall_course.specs.Change.{Change}
 use Rattle.squall_course.specs.Subplans.{moves}
 use Rattle.squall_errand.specs.declared.errand.Reply.TheVariants.{Moved, Pending}
-use Rattle.squall_part.specs.Parts.{PartValue, Log, log_of, IsPart, known_to, given_in, loaded_in}
-use Rattle.squall_part.specs.Logs.{number_in, later, last_from, last_of, gave, comes, comes_after}
+use Rattle.squall_part.specs.Parts.{PartValue, Log, log_of, IsPart, known_to, course_of_part, given_in, loaded_in, loaded_by}
+use Rattle.squall_part.specs.Logs.{IsLogAt, number_in, later, last_from, last_of, gave, awaits}
 use Rattle.squall_part.specs.Serving.{GaveUnder, ComesUnder, IsLastGiven, IsLastComing, IsReply}
 use Rattle.squall_protocol.specs.Firsts.{IsGreatest}
 use Rattle.squall_part.proofs.Logs.{AreApart, apart, eq_refl, eq_same, found_at}
-use Rattle.squall_part.proofs.Known.{known_number}
+use Rattle.squall_part.proofs.Known.{known_number, course_known, log_at}
 
 -- ---- the last log that passes
 
@@ -49,62 +48,6 @@ last_least test found (m ∷ ms) n l e t = by (m.course.number == n) (λ e. last
         let up = later_least test found m (subst (λ x. test x ≡ true) (sym s) t) in
         subst (λ x. x.course.number ≤ number_in (last_from test (later test found m) ms)) s (omega (arith, up, last_up test (later test found m) ms))
     by false rest e = rest e
-
--- ---- the last log above a number that passes
-
-never : (x u : Bool) → (x && (u && false)) ≡ false
-never x true = and-false x
-never x false = and-false x
-
--- what was found above the number, and what was found at all
-abbrev Agree : ℕ → Option Log → Option Log → Type 0
-Agree low a b = ((a ≡ None) × (number_in b ≤ low)) ⊎ ((a ≡ b) × (low < number_in b))
-
-abbrev above_test : ℕ → (Log → Bool) → Log → Bool
-above_test low test l = nat_lt low l.course.number && test l
-
-agree_step : (test : Log → Bool) (low : ℕ) (a b : Option Log) (l : Log) → Agree low a b → Agree low (later (above_test low test) a l) (later test b l)
-agree_step test low a b l h = by (nat_lt (number_in a) l.course.number) (nat_lt (number_in b) l.course.number) (nat_lt low l.course.number) (test l) refl refl refl
-  where
-    -- what is found now is above the number, and above what was found there
-    at_once : number_in a < l.course.number → l.course.number ≤ number_in b → low < l.course.number → ⊥
-    at_once up le above = elim h [ inl none ↦ omega (arith, up, le, above, none.1) | inr same ↦ let e = ap number_in same.0 in omega (arith, up, le, e) ]
-
-    found_late : l.course.number ≤ number_in a → number_in b < l.course.number → ⊥
-    found_late le up = elim h [ inl none ↦ let e : number_in a ≡ 0 = ap number_in none.0 in omega (arith, up, le, e) | inr same ↦ let e = ap number_in same.0 in omega (arith, up, le, e) ]
-
-    below : number_in b < l.course.number → l.course.number ≤ low → Agree low a (Some l)
-    below up le = elim h [ inl none ↦ inl (none.0, le) | inr same ↦ absurd (omega (arith, up, le, same.1)) ]
-
-    by : (x y u t : Bool) → nat_lt (number_in a) l.course.number ≡ x → nat_lt (number_in b) l.course.number ≡ y → nat_lt low l.course.number ≡ u → Agree low (cond (x && (u && t)) (Some l) a) (cond (y && t) (Some l) b)
-    by x y u false ex ey eu = subst (λ c. Agree low (cond c (Some l) a) (cond (y && false) (Some l) b)) (sym (never x u)) (subst (λ c. Agree low a (cond c (Some l) b)) (sym (and-false y)) h)
-    by true true true true ex ey eu = inr (refl, grind (arith, nat_tests))
-    by true false true true ex ey eu = absurd (at_once (grind (arith, nat_tests)) (grind (arith, nat_tests)) (grind (arith, nat_tests)))
-    by true true false true ex ey eu = below (grind (arith, nat_tests)) (grind (arith, nat_tests))
-    by true false false true ex ey eu = h
-    by false true u true ex ey eu = absurd (found_late (grind (arith, nat_tests)) (grind (arith, nat_tests)))
-    by false false u true ex ey eu = h
-
-agree_last : (test : Log → Bool) (low : ℕ) (a b : Option Log) (logs : List Log) → Agree low a b → Agree low (last_from (above_test low test) a logs) (last_from test b logs)
-agree_last test low a b [] h = h
-agree_last test low a b (l ∷ ls) h = agree_last test low (later (above_test low test) a l) (later test b l) ls (agree_step test low a b l h)
-
-agree : (p : PartValue) (k low : ℕ) → Agree low (last_of (comes_after p k low) p.logs) (last_of (comes p k) p.logs)
-agree p k low = agree_last (comes p k) low None None p.logs (inl (refl, omega arith))
-
--- the last course above the number by which a key comes in is the last one by which it comes in
-pub comes_later : (p : PartValue) (k low : ℕ) (coming : Option Log) (l : Log) → coming ≡ last_of (comes_after p k low) p.logs → coming ≡ Some l → (last_of (comes p k) p.logs ≡ Some l) × (low < l.course.number)
-comes_later p k low coming l is some = elim (agree p k low) [
-  | inl none ↦ absurd (let bad : Some l ≡ None = sym some ∙ is ∙ none.0 in let no : ⊥ = cc in no)
-  | inr same ↦ let e : last_of (comes p k) p.logs ≡ Some l = sym same.0 ∙ sym is ∙ some in (e, subst (λ o. low < number_in o) e same.1)
-]
-
--- where there is none above the number, it comes in by none above it
-pub comes_no_later : (p : PartValue) (k low : ℕ) (coming : Option Log) → coming ≡ last_of (comes_after p k low) p.logs → coming ≡ None → number_in (last_of (comes p k) p.logs) ≤ low
-comes_no_later p k low coming is none = elim (agree p k low) [
-  | inl least ↦ least.1
-  | inr same ↦ absurd (let e : number_in (last_of (comes p k) p.logs) ≡ 0 = ap number_in (sym same.0 ∙ sym is ∙ none) in omega (arith, same.1, e))
-]
 
 -- what was found passes, and stands at its number
 abbrev Was : (Log → Bool) → List Log → Option Log → Type 0
@@ -176,52 +119,56 @@ not_true : (b : Bool) → not b ≡ true → b ≡ false
 not_true true e = sym e
 not_true false e = refl
 
-last_coming_is : (p : PartValue) (k : ℕ) → IsPart p → IsLastComing p k (number_in (last_of (comes p k) p.logs))
-last_coming_is p k is = greatest (ComesUnder p k) (comes p k) p.logs (apart p is) to from
-  where
-    to : (n : ℕ) → ComesUnder p k n → (l : Log) × (log_of p.logs n ≡ Some l) × (l.course.number ≡ n) × (comes p k l ≡ true)
-    to n r =
-        let g = known_log p n r.0 is r.1 in
-        let c : g.0.course ≡ r.0 = g.2 in
-        let e : g.0.course.number ≡ n = ap (λ c. c.number) g.2 ∙ known_number p n r.0 r.1 in (
-          g.0,
-          g.1,
-          e,
-          and_from (is_some (known_to p g.0.course.number)) _ (ap (λ m. is_some (known_to p m)) e ∙ ap is_some r.1)
-              (and_from (moves g.0.course.old g.0.course.new k) _ (ap (λ c. moves c.old c.new k) c ∙ r.2)
-              (and_from (owner_of g.0.course.new k == p.id) _ (ap (λ x. x == p.id) (ap (λ c. owner_of c.new k) c ∙ r.3) ∙ eq_refl p.id)
-              (ap not (ap (λ o. has (loaded_in o) k) (sym g.1) ∙ r.4)))),
-        )
+-- whether the key comes in by the newest course, and is not loaded
+abbrev comes : PartValue → ℕ → Bool
+comes p k = awaits p.id (course_of_part p) (loaded_by p (course_of_part p).number) k
 
-    from : (l : Log) → log_of p.logs l.course.number ≡ Some l → comes p k l ≡ true → ComesUnder p k l.course.number
-    from l e t =
-        let a = and_parts (is_some (known_to p l.course.number)) _ t in
-        let b = and_parts (moves l.course.old l.course.new k) _ a.1 in
-        let d = and_parts (owner_of l.course.new k == p.id) (not (has l.loaded k)) b.1 in
-        (l.course, course_of_log p l is a.0 e, b.0, eq_same _ _ d.0, ap (λ o. has (loaded_in o) k) e ∙ not_true (has l.loaded k) d.1)
+-- what the log of the newest course says of it
+pub comes_here : (p : PartValue) (k at : ℕ) (d : Log) → IsPart p → IsLogAt p.logs (course_of_part p) at → awaits p.id (get_or p.logs at d).course (get_or p.logs at d).loaded k ≡ comes p k
+comes_here p k at d is place = λ i. awaits p.id (place.course d i) (sym (ap loaded_in (log_at p (course_of_part p).number (course_of_part p) at d is (course_known p is) place)) i) k
+
+pub last_coming_is : (p : PartValue) (k : ℕ) → comes p k ≡ true → IsLastComing p k (course_of_part p).number
+last_coming_is p k t =
+    let a = and_parts (moves (course_of_part p).old (course_of_part p).new k) _ t in
+    let b = and_parts (owner_of (course_of_part p).new k == p.id) (not (has (loaded_by p (course_of_part p).number) k)) a.1 in
+    record { top = λ n r. omega (arith, r.0); reached = inr (refl, a.0, eq_same _ _ b.0, not_true (has (loaded_by p (course_of_part p).number) k) b.1) }
+
+pub none_coming : (p : PartValue) (k : ℕ) → comes p k ≡ false → IsLastComing p k 0
+none_coming p k f = record { top = λ n r. absurd (false≢true (sym f ∙ comes_then n r)); reached = inl refl }
+  where
+    comes_then : (n : ℕ) → ComesUnder p k n → comes p k ≡ true
+    comes_then n r =
+        and_from (moves (course_of_part p).old (course_of_part p).new k) _ r.1
+        (and_from (owner_of (course_of_part p).new k == p.id) _ (ap (λ x. x == p.id) r.2 ∙ eq_refl p.id) (ap not (ap (λ m. has (loaded_by p m) k) (sym r.0) ∙ r.3)))
+
+-- it comes in by no course above the number of the newest
+pub none_later : (p : PartValue) (k after : ℕ) → (course_of_part p).number ≤ after → (c : ℕ) × IsLastComing p k c × (c ≤ after)
+none_later p k after le = by (comes p k) refl
+  where
+    by : (b : Bool) → comes p k ≡ b → (c : ℕ) × IsLastComing p k c × (c ≤ after)
+    by true t = ((course_of_part p).number, last_coming_is p k t, le)
+    by false f = (0, none_coming p k f, omega arith)
 
 -- ---- the replies
 
-last_known : (p : PartValue) (test : Log → Bool) (l : Log) → IsPart p → ((m : Log) → test m ≡ true → is_some (known_to p m.course.number) ≡ true) → last_of test p.logs ≡ Some l → known_to p l.course.number ≡ Some l.course
-last_known p test l is known e = let w : Was test p.logs (Some l) = subst (Was test p.logs) e (was test p.logs (apart p is)) in course_of_log p l is (known l w.0) w.1
+last_known : (p : PartValue) (k : ℕ) (l : Log) → IsPart p → last_of (gave p k) p.logs ≡ Some l → known_to p l.course.number ≡ Some l.course
+last_known p k l is e =
+    let w : Was (gave p k) p.logs (Some l) = subst (Was (gave p k) p.logs) e (was (gave p k) p.logs (apart p is)) in
+    course_of_log p l is (and_parts (is_some (known_to p l.course.number)) (has l.given k) w.0).0 w.1
 
-pub pending : (p : PartValue) (k after source : ℕ) (given coming : Option Log) (l : Log) → IsPart p → has p.held k ≡ false → given ≡ last_of (gave p k) p.logs → coming ≡ last_of (comes p k) p.logs → coming ≡ Some l
+pub pending : (p : PartValue) (k after source : ℕ) (given : Option Log) (l : Log) → IsPart p → has p.held k ≡ false → given ≡ last_of (gave p k) p.logs → l.course ≡ course_of_part p → IsLastComing p k l.course.number
     → number_in given < l.course.number → source ≡ owner_of l.course.old k → IsReply p k after (Pending source)
-pending p k after source given coming l is held g c some lt is-source =
+pending p k after source given l is held g newest coming lt is-source =
     let given-is = subst (λ o. IsLastGiven p k (number_in o)) (sym g) (last_given_is p k is) in
-    let coming-is = subst (λ o. IsLastComing p k (number_in o)) (sym c ∙ some) (last_coming_is p k is) in
-    let known = last_known p (comes p k) l is (λ m t. (and_parts (is_some (known_to p m.course.number)) _ t).0) (sym c ∙ some) in
-    (held, (number_in given, l.course.number, given-is, coming-is, lt, (l.course, known, is-source)))
+    let known = subst (λ (c : Change). known_to p c.number ≡ Some c) (sym newest) (course_known p is) in
+    (held, (number_in given, l.course.number, given-is, coming, lt, (l.course, known, is-source)))
 
-pub moved : (p : PartValue) (k after dest : ℕ) (given coming : Option Log) (l : Log) → IsPart p → has p.held k ≡ false → given ≡ last_of (gave p k) p.logs → coming ≡ last_of (comes p k) p.logs → number_in coming ≤ number_in given
+pub moved : (p : PartValue) (k after dest : ℕ) (given : Option Log) (l : Log) → IsPart p → has p.held k ≡ false → given ≡ last_of (gave p k) p.logs → (c : ℕ) × IsLastComing p k c × (c ≤ number_in given)
     → given ≡ Some l → after < l.course.number → dest ≡ owner_of l.course.new k → IsReply p k after (Moved dest l.course.number)
-moved p k after dest given coming l is held g c le some lt is-dest =
+moved p k after dest given l is held g coming some lt is-dest =
     let given-is = subst (λ o. IsLastGiven p k (number_in o)) (sym g ∙ some) (last_given_is p k is) in
-    let coming-is = subst (λ o. IsLastComing p k (number_in o)) (sym c) (last_coming_is p k is) in
-    let known = last_known p (gave p k) l is (λ m t. (and_parts (is_some (known_to p m.course.number)) _ t).0) (sym g ∙ some) in
-    (held, given-is, (number_in coming, coming-is, subst (λ o. number_in coming ≤ number_in o) some le), lt, (l.course, known, is-dest))
+    (held, given-is, (coming.0, coming.1, subst (λ o. coming.0 ≤ number_in o) some coming.2), lt, (l.course, last_known p k l is (sym g ∙ some), is-dest))
 
-pub behind : (p : PartValue) (k after : ℕ) (given coming : Option Log) → IsPart p → has p.held k ≡ false → given ≡ last_of (gave p k) p.logs → coming ≡ last_of (comes p k) p.logs → number_in coming ≤ number_in given
+pub behind : (p : PartValue) (k after : ℕ) (given : Option Log) → IsPart p → given ≡ last_of (gave p k) p.logs → (c : ℕ) × IsLastComing p k c × (c ≤ number_in given)
     → number_in given ≤ after → (g : ℕ) × (c : ℕ) × IsLastGiven p k g × IsLastComing p k c × (c ≤ g) × (g ≤ after)
-behind p k after given coming is held g c le upto =
-    (number_in given, number_in coming, subst (λ o. IsLastGiven p k (number_in o)) (sym g) (last_given_is p k is), subst (λ o. IsLastComing p k (number_in o)) (sym c) (last_coming_is p k is), le, upto)
+behind p k after given is g coming upto = (number_in given, coming.0, subst (λ o. IsLastGiven p k (number_in o)) (sym g) (last_given_is p k is), coming.1, coming.2, upto)

@@ -1,4 +1,4 @@
--- The steps of a gift and of a load.
+-- The steps of a gift, of a load, and of the end of a course.
 use Rattle.std.proofs.Common.{◌≡◌, ℕ, ◌<◌, ◌≤◌, ◌&&◌, not, Bool, true, false, List, [], ◌∷◌, get_or, set, Result, Ok, Err, None, Some, refl, sym, ap, subst, ◌∙◌}
 use Rattle.std.specs.Prelude.{OnOk, OnErr, IsTrue, ◌↔◌}
 use Rattle.std.proofs.lemmas.Bool.{false≢true}
@@ -11,11 +11,11 @@ use Rattle.squall_course.specs.Moves.{is_incoming}
 use Rattle.squall_report.specs.Told.{TellsBoth, told_by_report}
 use Rattle.squall_board.specs.Boards.{BoardValue, IsBoard, told}
 use Rattle.squall_protocol.specs.Chunks.{ChunkValue, load_report}
-use Rattle.squall_part.specs.Parts.{PartValue, Log, log_with, IsPart, known_to, course_of_part, opened_at, loaded_in, loaded_by}
+use Rattle.squall_part.specs.Parts.{PartValue, Log, IsPart, known_to, course_of_part, opened_at, loaded_in, loaded_by}
 use Rattle.squall_part.specs.Logs.{IsLogAt}
 use Rattle.squall_part.specs.Steps.{IsLoadPlace}
 use Rattle.squall_protocol.specs.Carried.{Carried}
-use Rattle.squall_part.specs.Giving.{after_giving}
+use Rattle.squall_part.specs.Giving.{after_giving, after_close}
 use Rattle.squall_part.specs.Loading.{MayLoad, AllLoaded, SomeMissing, is_missing, done_report, after_finish}
 use Rattle.squall_part.proofs.Known.{log_at}
 use Rattle.squall_part.proofs.Given.{loaded_here}
@@ -26,28 +26,28 @@ use Rattle.squall_report.specs.declared.report.ReportKind.{ReportKind}
 use Rattle.squall_board.specs.Boards.{board_join, report_board}
 use Rattle.squall_part.specs.Loading.{after_load}
 use Rattle.squall_protocol.specs.Firsts.{IsRun}
-use Rattle.squall_part.proofs.Changed.{giving_logs, giving_part, loading_logs, loading_part, told_part}
+use Rattle.squall_part.proofs.Changed.{given_log, loaded_log, closed_log, giving_logs, giving_part, loading_logs, loading_part, closing_logs, closing_part, told_part}
 
 -- ---- a gift
 
 module _ (p : PartValue) (at : ℕ) (l : Log) (s : Interval) (held given : List Interval) (is : IsPart p) (place : IsLogAt p.logs (course_of_part p) at) (l-is : l ≡ get_or p.logs at l) where
-  given_ok : held ≡ without_span s p.held → given ≡ insert_span s l.given → record p { held = held; logs = set p.logs at (log_with l.course given l.loaded) } ≡ after_giving p s
+  given_ok : held ≡ without_span s p.held → given ≡ insert_span s l.given → record p { held = held; logs = set p.logs at (given_log given l) } ≡ after_giving p s
   given_ok h g = λ i. record p {
     held = h i;
-    logs = (ap (λ g. set p.logs at (log_with l.course g l.loaded)) g ∙ ap (λ m. set p.logs at (log_with m.course (insert_span s m.given) m.loaded)) l-is ∙ giving_logs p at l s is place) i;
+    logs = (ap (λ g. set p.logs at (given_log g l)) g ∙ ap (λ m. set p.logs at (given_log (insert_span s m.given) m)) l-is ∙ giving_logs p at l s is place) i;
   }
 
-  pub given_after : {A E : Type 0} (r : Result A E) (q : PartValue) → p ≡ q → OnOk r (held ≡ without_span s p.held) → OnOk r (given ≡ insert_span s l.given) → OnOk r (record p { held = held; logs = set p.logs at (log_with l.course given l.loaded) } ≡ after_giving q s)
+  pub given_after : {A E : Type 0} (r : Result A E) (q : PartValue) → p ≡ q → OnOk r (held ≡ without_span s p.held) → OnOk r (given ≡ insert_span s l.given) → OnOk r (record p { held = held; logs = set p.logs at (given_log given l) } ≡ after_giving q s)
   given_after (Ok x) q same h g = given_ok h g ∙ ap (λ p. after_giving p s) same
   given_after (Err e) q same h g = tt
 
   pub given_valid : {A E : Type 0} (r : Result A E) → s.lo < s.hi → s.hi ≤ top → OnOk r (held ≡ without_span s p.held) → OnOk r (given ≡ insert_span s l.given) → OnErr r ((held ≡ p.held) × (given ≡ l.given))
-      → IsPart (record p { held = held; logs = set p.logs at (log_with l.course given l.loaded) })
+      → IsPart (record p { held = held; logs = set p.logs at (given_log given l) })
   given_valid (Ok x) lt le h g e = subst IsPart (sym (given_ok h g)) (giving_part p s is lt le)
   given_valid (Err x) lt le h g e = subst IsPart (sym same) is
     where
-      same : record p { held = held; logs = set p.logs at (log_with l.course given l.loaded) } ≡ p
-      same = λ i. record p { held = e.0 i; logs = (ap (λ g. set p.logs at (log_with l.course g l.loaded)) e.1 ∙ ap (set p.logs at) l-is ∙ set-get_or p.logs at l) i }
+      same : record p { held = held; logs = set p.logs at (given_log given l) } ≡ p
+      same = λ i. record p { held = e.0 i; logs = (ap (λ g. set p.logs at (given_log g l)) e.1 ∙ ap (set p.logs at) l-is ∙ set-get_or p.logs at l) i }
 
 -- ---- a load
 
@@ -55,19 +55,19 @@ module _ (p : PartValue) (c : ChunkValue) (at : ℕ) (l : Log) (board : BoardVal
   loaded_same : l.loaded ≡ loaded_by p c.number
   loaded_same = ap (λ l. l.loaded) l-is ∙ sym (ap loaded_in (log_at p c.number place.0 at l is place.1 place.2))
 
-  loaded_logs : loaded ≡ insert_span c.span l.loaded → set p.logs at (log_with l.course l.given loaded) ≡ (after_load p c).logs
-  loaded_logs g = ap (λ g. set p.logs at (log_with l.course l.given g)) g ∙ ap (λ m. set p.logs at (log_with m.course m.given (insert_span c.span m.loaded))) l-is ∙ loading_logs p place.0 c.number at l c.span is place.1 place.2
+  loaded_logs : loaded ≡ insert_span c.span l.loaded → set p.logs at (loaded_log loaded l) ≡ (after_load p c).logs
+  loaded_logs g = ap (λ g. set p.logs at (loaded_log g l)) g ∙ ap (λ m. set p.logs at (loaded_log (insert_span c.span m.loaded) m)) l-is ∙ loading_logs p place.0 c.number at l c.span is place.1 place.2
 
   loaded_held : held ≡ union p.held (minus (c.span ∷ []) l.loaded) → held ≡ (after_load p c).held
   loaded_held h = h ∙ ap (λ l. union p.held (minus (c.span ∷ []) l)) loaded_same
 
   loaded_ok : board ≡ board_join p.board (report_board (load_report c)) → held ≡ union p.held (minus (c.span ∷ []) l.loaded) → loaded ≡ insert_span c.span l.loaded
-      → record p { board = board; held = held; logs = set p.logs at (log_with l.course l.given loaded) } ≡ after_load p c
+      → record p { board = board; held = held; logs = set p.logs at (loaded_log loaded l) } ≡ after_load p c
   loaded_ok b h g = λ i. record p { board = b i; held = loaded_held h i; logs = loaded_logs g i }
 
   pub loaded_after : {A E : Type 0} (r : Result A E) (q : PartValue) (s : Interval) (rep : ReportKind PlanPair) → p ≡ q → s ≡ c.span → rep ≡ load_report c
       → OnOk r (board ≡ board_join p.board (report_board rep)) → OnOk r (held ≡ union p.held (minus (s ∷ []) l.loaded)) → OnOk r (loaded ≡ insert_span s l.loaded)
-      → OnOk r (record p { board = board; held = held; logs = set p.logs at (log_with l.course l.given loaded) } ≡ after_load q c)
+      → OnOk r (record p { board = board; held = held; logs = set p.logs at (loaded_log loaded l) } ≡ after_load q c)
   loaded_after (Ok x) q s rep same s-is rep-is b h g =
       loaded_ok (subst (λ m. board ≡ board_join p.board (report_board m)) rep-is b) (subst (λ m. held ≡ union p.held (minus (m ∷ []) l.loaded)) s-is h) (subst (λ m. loaded ≡ insert_span m l.loaded) s-is g)
       ∙ ap (λ p. after_load p c) same
@@ -75,7 +75,7 @@ module _ (p : PartValue) (c : ChunkValue) (at : ℕ) (l : Log) (board : BoardVal
 
   pub loaded_valid : {A E : Type 0} (r : Result A E) (s : Interval) (rep : ReportKind PlanPair) → s ≡ c.span → rep ≡ load_report c → c.span.lo < c.span.hi → c.span.hi ≤ top → OnOk r (IsBoard board) → OnOk r (TellsBoth (told board) (told p.board) (told_by_report rep))
       → OnOk r (held ≡ union p.held (minus (s ∷ []) l.loaded)) → OnOk r (loaded ≡ insert_span s l.loaded) → OnErr r ((board ≡ p.board) × (held ≡ p.held) × (loaded ≡ l.loaded))
-      → IsPart (record p { board = board; held = held; logs = set p.logs at (log_with l.course l.given loaded) })
+      → IsPart (record p { board = board; held = held; logs = set p.logs at (loaded_log loaded l) })
   loaded_valid (Ok x) s rep s-is rep-is lt le valid t h g e =
       let held-is = loaded_held (subst (λ m. held ≡ union p.held (minus (m ∷ []) l.loaded)) s-is h) in
       let logs-is = loaded_logs (subst (λ m. loaded ≡ insert_span m l.loaded) s-is g) in
@@ -83,8 +83,20 @@ module _ (p : PartValue) (c : ChunkValue) (at : ℕ) (l : Log) (board : BoardVal
       (told_part (record p { held = (after_load p c).held; logs = (after_load p c).logs }) board (load_report c) (loading_part p c.number c.span is lt le) valid (subst (λ m. TellsBoth (told board) (told p.board) (told_by_report m)) rep-is t) (λ n. refl))
   loaded_valid (Err x) s rep s-is rep-is lt le valid t h g e = subst IsPart (sym same) is
     where
-      same : record p { board = board; held = held; logs = set p.logs at (log_with l.course l.given loaded) } ≡ p
-      same = λ i. record p { board = e.0 i; held = e.1 i; logs = (ap (λ g. set p.logs at (log_with l.course l.given g)) e.2 ∙ ap (set p.logs at) l-is ∙ set-get_or p.logs at l) i }
+      same : record p { board = board; held = held; logs = set p.logs at (loaded_log loaded l) } ≡ p
+      same = λ i. record p { board = e.0 i; held = e.1 i; logs = (ap (λ g. set p.logs at (loaded_log g l)) e.2 ∙ ap (set p.logs at) l-is ∙ set-get_or p.logs at l) i }
+
+-- ---- the end of a course
+
+module _ (p : PartValue) (at : ℕ) (l : Log) (is : IsPart p) (place : IsLogAt p.logs (course_of_part p) at) (l-is : l ≡ get_or p.logs at l) where
+  closed_ok : record p { logs = set p.logs at (closed_log l) } ≡ after_close p
+  closed_ok = λ i. record p { logs = (ap (λ m. set p.logs at (closed_log m)) l-is ∙ closing_logs p at l is place) i }
+
+  pub closed_after : (q : PartValue) → p ≡ q → record p { logs = set p.logs at (closed_log l) } ≡ after_close q
+  closed_after q same = closed_ok ∙ ap after_close same
+
+  pub closed_valid : IsPart (record p { logs = set p.logs at (closed_log l) })
+  closed_valid = subst IsPart (sym closed_ok) (closing_part p is)
 
 -- ---- where a chunk may be loaded
 

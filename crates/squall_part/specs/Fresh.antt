@@ -19,7 +19,7 @@ is_new first b n = not (n == first.number) && is_unknown (issued b n)
 
 -- the log of a course under which nothing was done
 abbrev pub empty_log : ℕ → PlanPair → Log
-empty_log n pair = log_with (record { number = n; old = pair.old; new = pair.new }) [] []
+empty_log n pair = log_with (record { number = n; old = pair.old; new = pair.new }) [] [] false
 
 -- the log that an issue brings: one if its number is new and it has one pair of plans, else none
 abbrev pub fresh_log : Change → BoardValue → ℕ × Flat PlanPair → List Log

@@ -4,18 +4,22 @@ use Rattle.squall_span.specs.Spans.{Interval, interval, has, insert_span, withou
 use Rattle.squall_course.specs.Subplans.{dest_of}
 use Rattle.squall_course.specs.Moves.{is_outgoing}
 use Rattle.squall_part.specs.declared.giving.GiveFault.{GiveFault}
-use Rattle.squall_part.specs.declared.giving.GiveFault.TheVariants.{NotOpen, NothingLeft, ZeroMax, NotOutgoing, Given, NotHeld, NoMemory}
+use Rattle.squall_part.specs.declared.giving.GiveFault.TheVariants.{NotOpen, Ended, NothingLeft, ZeroMax, NotOutgoing, Given, NotHeld, NoMemory}
 use Rattle.squall_protocol.specs.Chunks.{ChunkValue}
 use Rattle.squall_protocol.specs.Firsts.{AreFirst}
-use Rattle.squall_part.specs.Parts.{PartValue, course_of_part, opened_at, given_by, with_given}
+use Rattle.squall_part.specs.Parts.{PartValue, course_of_part, opened_at, closed_by, given_by, with_given, with_closed}
 
--- the sub-plan is the one opened last under the partition's newest course, as far as it knows
+-- it gives no more in its newest course
+abbrev pub IsClosed : PartValue → Type 0
+IsClosed p = closed_by p (course_of_part p).number ≡ true
+
+-- the partition still gives in its newest course, and the sub-plan is the one opened last under it, as far as it knows
 abbrev pub IsCurrent : PartValue → ℕ → Type 0
-IsCurrent p sub = opened_at p (course_of_part p).number ≡ sub + 1
+IsCurrent p sub = (opened_at p (course_of_part p).number ≡ sub + 1) × (closed_by p (course_of_part p).number ≡ false)
 
--- no sub-plan of that course is opened
+-- it still gives in that course, and no sub-plan of it is opened
 abbrev pub NoneOpen : PartValue → Type 0
-NoneOpen p = opened_at p (course_of_part p).number ≡ 0
+NoneOpen p = (opened_at p (course_of_part p).number ≡ 0) × (closed_by p (course_of_part p).number ≡ false)
 
 -- the key goes out in the sub-plan
 abbrev pub goes_out : PartValue → ℕ → ℕ → Bool
@@ -40,10 +44,15 @@ after_giving p s =
       logs = with_given (course_of_part p).number (insert_span s (given_by p (course_of_part p).number)) p.logs;
     }
 
+-- the partition gives no more in its newest course
+abbrev pub after_close : PartValue → PartValue
+after_close p = record p { logs = with_closed (course_of_part p).number p.logs }
+
 -- the answer to a demand for at most `most` keys; memory is missing only if some key goes out in the sub-plan
 abbrev pub IsGiven : PartValue → ℕ → Result ChunkValue GiveFault → PartValue → Type 0
 IsGiven p most (Ok c) q = (sub : ℕ) × IsCurrent p sub × AreFirst (is_left p sub) most c.span × IsChunkOf p sub c × (q ≡ after_giving p c.span)
 IsGiven p most (Err NotOpen) q = NoneOpen p × (q ≡ p)
+IsGiven p most (Err Ended) q = IsClosed p × (q ≡ p)
 IsGiven p most (Err NothingLeft) q = (sub : ℕ) × IsCurrent p sub × ((k : ℕ) → is_left p sub k ≡ false) × (q ≡ p)
 IsGiven p most (Err ZeroMax) q = (sub : ℕ) × IsCurrent p sub × ((k : ℕ) × (is_left p sub k ≡ true)) × (most ≡ 0) × (q ≡ p)
 IsGiven p most (Err NotOutgoing) q = ⊥
@@ -58,6 +67,7 @@ IsGivenAt p k (Ok c) q =
     (sub : ℕ) × IsCurrent p sub × (goes_out p sub k ≡ true) × (has (given_by p (course_of_part p).number) k ≡ false) × (has p.held k ≡ true)
     × (c.span ≡ interval k (k + 1)) × IsChunkOf p sub c × (q ≡ after_giving p c.span)
 IsGivenAt p k (Err NotOpen) q = NoneOpen p × (q ≡ p)
+IsGivenAt p k (Err Ended) q = IsClosed p × (q ≡ p)
 IsGivenAt p k (Err NothingLeft) q = ⊥
 IsGivenAt p k (Err ZeroMax) q = ⊥
 IsGivenAt p k (Err NotOutgoing) q = (sub : ℕ) × IsCurrent p sub × (goes_out p sub k ≡ false) × (q ≡ p)

@@ -45,11 +45,3 @@ awaits id c loaded k = moves c.old c.new k && ((owner_of c.new k == id) && not (
 -- the set has these keys, and no other
 pub record IsAwaited (id : ℕ) (c : Change) (loaded awaited : List Interval) : Type 0 where
   pub keys : (k : ℕ) → has awaited k ≡ awaits id c loaded k
-
--- by its course, which is known, the key comes in, and it is not loaded
-abbrev pub comes : PartValue → ℕ → Log → Bool
-comes p k l = is_known p l && awaits p.id l.course l.loaded k
-
--- the same, and the course has a number above `after`
-abbrev pub comes_after : PartValue → ℕ → ℕ → Log → Bool
-comes_after p k after l = nat_lt after l.course.number && comes p k l

@@ -1,6 +1,6 @@
 -- What a partition knows and keeps (partitions that hold keys and give them to others: Squall, SIGMOD 2015; that one partition
 -- knows several reconfigurations is this project's).
-use Rattle.std.specs.Prelude.{◌≡◌, ◌≢◌, ℕ, ◌<◌, ◌==◌, ◌⊎◌, List, [], ◌∷◌, map, filter, Option, None, Some, if◌then◌else◌}
+use Rattle.std.specs.Prelude.{◌≡◌, ◌≢◌, ℕ, ◌<◌, ◌==◌, ◌⊎◌, Bool, true, false, List, [], ◌∷◌, map, filter, Option, None, Some, if◌then◌else◌}
 use Rattle.std.specs.Option.{option_map}
 use Rattle.std.specs.List.{find, AllByRecursion}
 use Rattle.squall_join.specs.declared.flat.Flat.TheVariants.{Unknown}
@@ -11,14 +11,15 @@ use Rattle.squall_board.specs.Boards.{BoardValue, IsBoard, empty_board, issued, 
 use Rattle.squall_board.specs.CourseRoute.{course_of_board}
 use Rattle.squall_protocol.specs.Known.{course_under}
 
--- what a partition did under a course: the keys that it gave, and those that it loaded
+-- what a partition did under a course: the keys that it gave, those that it loaded, and whether it gives no more
 pub record Log : Type 0 where
   pub course : Change
   pub given : List Interval
   pub loaded : List Interval
+  pub closed : Bool
 
-abbrev pub log_with : Change → List Interval → List Interval → Log
-log_with course given loaded = record { course = course; given = given; loaded = loaded }
+abbrev pub log_with : Change → List Interval → List Interval → Bool → Log
+log_with course given loaded closed = record { course = course; given = given; loaded = loaded; closed = closed }
 
 -- a partition: its number, its first course, the board of all that it knows, the keys that it holds, and a log for each course
 pub record PartValue : Type 0 where
@@ -60,6 +61,14 @@ abbrev pub loaded_in : Option Log → List Interval
 loaded_in None = []
 loaded_in (Some l) = l.loaded
 
+-- whether it gives no more under the number: it does not, if no such log is kept
+abbrev pub closed_in : Option Log → Bool
+closed_in None = false
+closed_in (Some l) = l.closed
+
+abbrev pub closed_by : PartValue → ℕ → Bool
+closed_by p n = closed_in (log_of p.logs n)
+
 abbrev pub given_by : PartValue → ℕ → List Interval
 given_by p n = given_in (log_of p.logs n)
 
@@ -68,16 +77,23 @@ loaded_by p n = loaded_in (log_of p.logs n)
 
 -- with other keys given, or loaded, under the number
 abbrev pub set_given : ℕ → List Interval → Log → Log
-set_given n keys l = if l.course.number == n then log_with l.course keys l.loaded else l
+set_given n keys l = if l.course.number == n then record l { given = keys } else l
 
 abbrev pub set_loaded : ℕ → List Interval → Log → Log
-set_loaded n keys l = if l.course.number == n then log_with l.course l.given keys else l
+set_loaded n keys l = if l.course.number == n then record l { loaded = keys } else l
 
 abbrev pub with_given : ℕ → List Interval → List Log → List Log
 with_given n keys logs = map (set_given n keys) logs
 
 abbrev pub with_loaded : ℕ → List Interval → List Log → List Log
 with_loaded n keys logs = map (set_loaded n keys) logs
+
+-- with no more to be given under the number
+abbrev pub set_closed : ℕ → Log → Log
+set_closed n l = if l.course.number == n then record l { closed = true } else l
+
+abbrev pub with_closed : ℕ → List Log → List Log
+with_closed n logs = map (set_closed n) logs
 
 -- ---- at first
 
@@ -87,7 +103,7 @@ ranges_of id rs = map (λ r. r.span) (filter (λ r. r.part == id) rs)
 
 -- a partition that has heard nothing: it holds what the old plan gives it
 abbrev pub new_part : ℕ → Change → PartValue
-new_part id first = record { id = id; first = first; board = empty_board; held = ranges_of id first.old; logs = log_with first [] [] ∷ [] }
+new_part id first = record { id = id; first = first; board = empty_board; held = ranges_of id first.old; logs = log_with first [] [] false ∷ [] }
 
 -- ---- what holds of every partition
 

@@ -14,11 +14,14 @@ use Rattle.squall_part.specs.Parts.{PartValue, known_to, course_of_part, given_b
 abbrev pub GaveUnder : PartValue → ℕ → ℕ → Type 0
 GaveUnder p k n = ((c : Change) × (known_to p n ≡ Some c)) × (has (given_by p n) k ≡ true)
 
--- by the course of the number, which it knows, the key comes in, and it is not loaded
+-- the number is that of its newest course, by which the key comes in, and it is not loaded. A key that was to come in an earlier course
+-- and did not comes no more
 abbrev pub ComesUnder : PartValue → ℕ → ℕ → Type 0
-ComesUnder p k n = (c : Change) × (known_to p n ≡ Some c) × (moves c.old c.new k ≡ true) × (owner_of c.new k ≡ p.id) × (has (loaded_by p n) k ≡ false)
+ComesUnder p k n =
+    (n ≡ (course_of_part p).number) × (moves (course_of_part p).old (course_of_part p).new k ≡ true) × (owner_of (course_of_part p).new k ≡ p.id)
+    × (has (loaded_by p n) k ≡ false)
 
--- the last number under which it gave the key, and the last by which the key comes in and is not loaded, 0 for none
+-- the last number under which it gave the key, and the one by which the key comes in and is not loaded, 0 for none
 abbrev pub IsLastGiven : PartValue → ℕ → ℕ → Type 0
 IsLastGiven p k g = IsGreatest (GaveUnder p k) g
 

@@ -1,6 +1,6 @@
 //! What a partition gives to others.
 
-ghost use Rattle.std.specs.Prelude.{◌≡◌, ◌+◌, ◌≤◌, ◌<◌, OnOk, OnErr};
+ghost use Rattle.std.specs.Prelude.{◌≡◌, ℕ, ◌+◌, ◌≤◌, ◌<◌, Err, IfOk, IfErr, OnOk, OnErr};
 ghost use Rattle.squall_key.specs.Keys.{part_limit};
 ghost use Rattle.squall_protocol.specs.Chunks.{chunk_with};
 ghost use Rattle.squall_part.specs.Parts.{course_of_part};
@@ -8,7 +8,7 @@ ghost use Rattle.squall_part.specs.Logs.{IsLogAt};
 ghost use Rattle.squall_part.specs.Steps.{given_on};
 ghost use Rattle.squall_span.specs.Spans.{interval};
 ghost use Rattle.squall_part.specs.declared.giving.GiveFault.TheVariants.{NoMemory};
-ghost use Rattle.squall_part.specs.Giving.{IsGiven, IsGivenAt, after_giving};
+ghost use Rattle.squall_part.specs.Giving.{IsCurrent, IsGiven, IsGivenAt, after_giving};
 
 use crate::moving::hand_over;
 use crate::part::Part;
@@ -24,6 +24,9 @@ pub enum GiveFault {
     /// As far as the partition knows, no sub-plan of its newest course is opened.
     #[error("NotOpen")]
     NotOpen,
+    /// The partition gives no more in its newest course.
+    #[error("Ended")]
+    Ended,
     /// It holds no key that goes out in the sub-plan opened last.
     #[error("NothingLeft")]
     NothingLeft,
@@ -80,6 +83,28 @@ fn span_of(key: Key) -> Span
 }
 
 impl Part {
+    /// The sub-plan opened last of the newest course, if the partition still gives in that course.
+    /// `at` is the place of its log.
+    ///
+    /// `Ended`, `NotOpen`, the first of these that is so.
+    fn giving_sub(&self, at: usize) -> Result<u32, GiveFault>
+        requires { IsLogAt self.now.logs (course_of_part self.now) at }
+        ensures current { IfOk result (λ sub. IsCurrent self.now sub) }
+        ensures limit { IfOk result (λ sub. sub < part_limit) }
+        ensures chunk { IfErr result (λ e. (max : ℕ) → IsGiven self.now max (Err e) self.now) }
+        ensures key { IfErr result (λ e. (key : ℕ) → IsGivenAt self.now key (Err e) self.now) }
+    {
+        self.known();
+        let log = &self.logs[at];
+        if log.closed {
+            return Err(GiveFault::Ended);
+        }
+        let Some(sub) = self.current_sub(log.number()) else {
+            return Err(GiveFault::NotOpen);
+        };
+        Ok(sub)
+    }
+
     /// The chunk of the first keys, at most `max`, that are left in the sub-plan opened last of the
     /// newest course. `at` is the place of its log.
     fn first_chunk(&self, at: usize, max: u64) -> Result<Chunk, GiveFault>
@@ -87,11 +112,9 @@ impl Part {
         ensures { IsGiven self.now max result (given_on self.now result) }
     {
         self.known();
+        let sub = self.giving_sub(at)?;
         let alloc = self.allocator();
         let course = self.logs[at].course();
-        let Some(sub) = self.current_sub(course.number()) else {
-            return Err(GiveFault::NotOpen);
-        };
         let Some(dest) = course.dest(sub, self.id) else {
             return Err(GiveFault::NothingLeft);
         };
@@ -114,11 +137,9 @@ impl Part {
         ensures { IsGivenAt self.now key result (given_on self.now result) }
     {
         self.known();
+        let sub = self.giving_sub(at)?;
         let log = &self.logs[at];
         let course = log.course();
-        let Some(sub) = self.current_sub(course.number()) else {
-            return Err(GiveFault::NotOpen);
-        };
         let owners = course.owners(key);
         if owners.sub != Some(sub) || owners.old != self.id {
             return Err(GiveFault::NotOutgoing);
@@ -147,8 +168,8 @@ impl Part {
     /// them, at most `max`, become a chunk for the partition to which they go. Then it holds them
     /// no longer.
     ///
-    /// `NotOpen`, `NothingLeft`, `ZeroMax`, the first of these that is so; or `NoMemory`. A fault
-    /// leaves the partition unchanged.
+    /// `Ended`, `NotOpen`, `NothingLeft`, `ZeroMax`, the first of these that is so; or `NoMemory`. A
+    /// fault leaves the partition unchanged.
     pub fn give(&mut self, max: u64) -> Result<Chunk, GiveFault>
         ensures answer { IsGiven self.old max result self.new }
     {
@@ -160,8 +181,8 @@ impl Part {
 
     /// Gives one key, as a chunk.
     ///
-    /// `NotOpen`, `NotOutgoing`, `Given`, `NotHeld`, the first of these that is so; or `NoMemory`.
-    /// A fault leaves the partition unchanged.
+    /// `Ended`, `NotOpen`, `NotOutgoing`, `Given`, `NotHeld`, the first of these that is so; or
+    /// `NoMemory`. A fault leaves the partition unchanged.
     pub fn give_at(&mut self, key: Key) -> Result<Chunk, GiveFault>
         ensures answer { IsGivenAt self.old key result self.new }
     {

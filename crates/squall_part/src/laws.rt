@@ -1,12 +1,12 @@
 //! Laws of partitions, each the contract of a function that does little or nothing.
 
-ghost use Rattle.std.specs.Prelude.{◌≡◌, ◌<◌, ◌≤◌, ◌||◌, ℕ, List, true, false, Ok};
+ghost use Rattle.std.specs.Prelude.{◌≡◌, ◌<◌, ◌≤◌, ◌==◌, ◌||◌, ℕ, List, true, false, Ok};
 ghost use Rattle.squall_key.specs.Keys.{top};
 ghost use Rattle.squall_span.specs.Spans.{Interval, span_has, has, IsSet};
 ghost use Rattle.squall_errand.specs.declared.errand.Reply.{Reply};
-ghost use Rattle.squall_part.specs.Parts.{course_of_part, given_by, loaded_by};
+ghost use Rattle.squall_part.specs.Parts.{PartValue, course_of_part, given_by, loaded_by, closed_by};
 ghost use Rattle.squall_protocol.specs.Chunks.{ChunkValue};
-ghost use Rattle.squall_part.specs.Giving.{after_giving};
+ghost use Rattle.squall_part.specs.Giving.{IsClosed, IsGiven, IsGivenAt, after_giving, after_close};
 ghost use Rattle.squall_part.specs.Loading.{IsFresh, after_load, is_new};
 ghost use Rattle.squall_part.specs.Serving.{IsLastGiven, IsLastComing, IsReply};
 
@@ -33,6 +33,17 @@ pub fn given_keys_are_gone(part: &Part)
     ensures held { (s : Interval) (k : ℕ) → s.lo < s.hi → s.hi ≤ top → span_has s k ≡ true → has (after_giving part.now s).held k ≡ false }
     ensures given { (s : Interval) (k : ℕ) → s.lo < s.hi → s.hi ≤ top → span_has s k ≡ true
         → has (given_by (after_giving part.now s) (course_of_part part.now).number) k ≡ true }
+{
+    part.known();
+}
+
+/// A partition that is closed gives nothing, be it asked for many keys or for one. The call `close`
+/// closes the newest course. Of every other number it leaves whether it is closed.
+pub fn closed_partitions_give_nothing(part: &Part)
+    ensures chunks { (most : ℕ) (c : ChunkValue) (q : PartValue) → IsClosed part.now → IsGiven part.now most (Ok c) q → ⊥ }
+    ensures keys { (k : ℕ) (c : ChunkValue) (q : PartValue) → IsClosed part.now → IsGivenAt part.now k (Ok c) q → ⊥ }
+    ensures newest { closed_by (after_close part.now) (course_of_part part.now).number ≡ true }
+    ensures all { (n : ℕ) → closed_by (after_close part.now) n ≡ (n == (course_of_part part.now).number || closed_by part.now n) }
 {
     part.known();
 }

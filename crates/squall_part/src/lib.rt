@@ -23,6 +23,7 @@
 #![tactic(auto)]
 
 mod absorbing;
+mod closing;
 mod finishing;
 mod giving;
 mod knowing;

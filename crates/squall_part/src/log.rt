@@ -1,6 +1,6 @@
 //! What a partition did under one course.
 
-ghost use Rattle.std.specs.Prelude.{◌≡◌, ◌<◌, ◌≤◌, ◌==◌, ◌&&◌, ◌+◌, ℕ, [], ◌∷◌, length, Some, IfOk};
+ghost use Rattle.std.specs.Prelude.{◌≡◌, ◌<◌, ◌≤◌, ◌==◌, ◌&&◌, ◌+◌, ℕ, true, false, [], ◌∷◌, length, Some, IfOk};
 ghost use Rattle.std.specs.Prelude.{IfSome, IfNone, OnOk, OnErr, option_copied, vec_len, vec_capacity};
 ghost use Rattle.std.specs.List.{position, insert as inserted};
 ghost use Rattle.squall_span.specs.Spans.{has, insert_span, union, minus};
@@ -33,6 +33,8 @@ pub(crate) struct Log {
     // The keys that come in to the partition by the course and are not loaded. Once all are loaded
     // it is empty, so a finished course costs a search almost nothing.
     awaited: SpanSet,
+    // Whether the partition gives no more under the course.
+    pub(crate) closed: bool,
 }
 
 impl Model for Log {
@@ -41,7 +43,7 @@ impl Model for Log {
 
     ghost Value = { Log };
 
-    ghost view = { λ l. log_with l.course l.given l.loaded };
+    ghost view = { λ l. log_with l.course l.given l.loaded l.closed };
 
     ghost invariant = { λ l. IsAwaited l.part l.course l.loaded l.awaited };
 }
@@ -67,7 +69,7 @@ impl Log {
         part: PartId,
         course: Shared<Course>,
     ) -> Result<Log, AllocError>
-        ensures { IfOk result (λ l. l ≡ log_with course [] []) }
+        ensures { IfOk result (λ l. l ≡ log_with course [] [] false) }
     {
         let awaited = incoming_keys(alloc, part, course.as_arc())?;
         Ok(Log {
@@ -76,6 +78,7 @@ impl Log {
             given: SpanSet::empty(alloc),
             loaded: SpanSet::empty(alloc),
             awaited,
+            closed: false,
         })
     }
 
@@ -107,6 +110,13 @@ impl Log {
         owners.old != owners.new && owners.new == part && !self.loaded.has(key)
     }
 
+    /// Ends what the partition gives under its course.
+    pub(crate) fn close(&mut self)
+        ensures { self.new ≡ record self.old { closed = true } }
+    {
+        self.closed = true;
+    }
+
     /// Loads the keys of the span. The partition then holds those that were not loaded, and the
     /// board has the report. All of them are loaded, and none is awaited. An error means that an
     /// allocation failed. The log, the board and the keys held are then unchanged.
@@ -122,7 +132,7 @@ impl Log {
         ensures valid { OnOk result (IsBoard board.new) }
         ensures held { OnOk result (held.new ≡ union held.old (minus (span ∷ []) self.old.loaded)) }
         ensures loaded { OnOk result (self.new.loaded ≡ insert_span span self.old.loaded) }
-        ensures same { self.new ≡ log_with self.old.course self.old.given self.new.loaded }
+        ensures same { self.new ≡ log_with self.old.course self.old.given self.new.loaded self.old.closed }
         ensures err { OnErr result ((board.new ≡ board.old) × (held.new ≡ held.old) × (self.new.loaded ≡ self.old.loaded)) }
     {
         self.loaded.known();

@@ -5,7 +5,7 @@ ghost use Rattle.std.specs.Arc.{arc_value};
 ghost use Rattle.std.specs.Option.{option_map};
 ghost use Rattle.squall_board.specs.Takes.{TakesBoard};
 ghost use Rattle.squall_span.specs.Spans.{IsSet};
-ghost use Rattle.squall_part.specs.Parts.{IsPart, new_part, ranges_of, known_to, given_by, loaded_by};
+ghost use Rattle.squall_part.specs.Parts.{IsPart, new_part, ranges_of, known_to, given_by, loaded_by, closed_by};
 
 use crate::log::{Log, put_all_ready};
 use squall_board::{Board, Delta};
@@ -100,6 +100,7 @@ impl Part {
         ensures same { self.new ≡ record self.old { board = self.new.board; logs = self.new.logs } }
         ensures given { (n : ℕ) → given_by self.new n ≡ given_by self.old n }
         ensures loaded { (n : ℕ) → loaded_by self.new n ≡ loaded_by self.old n }
+        ensures closed { (n : ℕ) → closed_by self.new n ≡ closed_by self.old n }
         ensures err { OnErr result (self.new ≡ self.old) }
     {
         self.known();

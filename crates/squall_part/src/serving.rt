@@ -1,10 +1,10 @@
 //! What a partition replies.
 
-ghost use Rattle.std.specs.Prelude.{◌≡◌, ◌<◌, IsTrue, option_copied};
+ghost use Rattle.std.specs.Prelude.{◌≡◌, ℕ, ◌<◌, ◌≤◌, IsTrue, IfSome, IfNone, option_copied};
 ghost use Rattle.squall_plan.specs.Ranges.{owner_of};
 ghost use Rattle.squall_part.specs.Parts.{course_of_part};
-ghost use Rattle.squall_part.specs.Logs.{gave, comes, comes_after, last_of};
-ghost use Rattle.squall_part.specs.Serving.{IsReply};
+ghost use Rattle.squall_part.specs.Logs.{gave, last_of};
+ghost use Rattle.squall_part.specs.Serving.{IsLastComing, IsReply};
 
 use crate::log::{Log, above, number_of};
 use crate::part::Part;
@@ -19,14 +19,6 @@ impl Part {
     {
         // The set comes first: few logs have the key, and the board's search takes longer.
         log.given.has(key) && self.knows(log.number())
-    }
-
-    /// Whether by the log's course, which it knows, the key comes in, and it is not loaded.
-    fn comes(&self, log: &Log, key: Key) -> bool
-        ensures value { result ≡ comes self.now key log.now }
-        ensures number { IsTrue result → 0 < log.now.course.number }
-    {
-        log.awaits(self.id, key) && self.knows(log.number())
     }
 
     /// The log of the last course by which it gave the key. The newest course is tried first, and
@@ -45,24 +37,23 @@ impl Part {
         None
     }
 
-    /// The log of the last course above the number by which the key comes in and is not loaded. The
-    /// newest course is tried first, and none up to the number.
+    /// The log of the newest course, if its number is above the given one, and if by it the key
+    /// comes in and is not loaded. A key that was to come in an earlier course and did not comes no
+    /// more.
     fn last_coming(&self, key: Key, after: u32) -> Option<&Log>
-        ensures { option_copied result ≡ last_of (comes_after self.now key after) self.now.logs }
+        ensures course { IfSome result (λ log. log.now.course ≡ course_of_part self.now) }
+        ensures some { IfSome result (λ log. IsLastComing self.now key log.now.course.number × (after < log.now.course.number)) }
+        ensures none { IfNone result ((c : ℕ) × IsLastComing self.now key c × (c ≤ after)) }
     {
         self.known();
-        let mut at = self.logs.len();
-        while at > 0 {
-            at -= 1;
-            // If nothing was given, all are tried, and no number needs to be read.
-            if after > 0 && self.logs[at].number() <= after {
-                return None;
-            }
-            if self.comes(&self.logs[at], key) {
-                return Some(&self.logs[at]);
-            }
+        let log = &self.logs[self.newest_place()];
+        if log.number() <= after {
+            return None;
         }
-        None
+        if !log.awaits(self.id, key) {
+            return None;
+        }
+        Some(log)
     }
 
     /// The partition of the key by the old plan of the newest course that it knows.
@@ -78,8 +69,8 @@ impl Part {
     /// The reply to whoever asks for the key after following a `Moved` of the number `after` to
     /// this partition. An `after` of 0 says that no move was followed.
     ///
-    /// `Held` if it holds the key. `Pending` if the key comes in by a course later than that under
-    /// which it last gave the key, and is not loaded. `Moved` if it last gave the key under a
+    /// `Held` if it holds the key. `Pending` if the key comes in by the newest course, is not
+    /// loaded, and was not given under that course. `Moved` if it last gave the key under a
     /// number above `after`. `Behind` if `after` lies above every number that it knows. Else
     /// `Elsewhere`. The first of these that is so.
     pub fn serve(&self, key: Key, after: u32) -> Reply

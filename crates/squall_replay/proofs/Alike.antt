@@ -2,6 +2,7 @@
 use Rattle.std.proofs.Common.{◌≡◌, ℕ, ◌<◌, ◌≤◌, sym, ap, subst, ◌∙◌, inl, inr}
 use Rattle.squall_span.specs.Spans.{has}
 use Rattle.squall_plan.specs.Ranges.{owner_of}
+use Rattle.squall_course.specs.Subplans.{moves}
 use Rattle.squall_errand.specs.declared.errand.Reply.{Reply}
 use Rattle.squall_errand.specs.declared.errand.Reply.TheVariants.{Held, Moved, Pending, Behind, Elsewhere}
 use Rattle.squall_protocol.specs.Firsts.{IsGreatest}
@@ -23,6 +24,7 @@ turned p q same = record {
   held = sym same.held;
   given = λ n. sym (same.given n);
   loaded = λ n. sym (same.loaded n);
+  closed = λ n. sym (same.closed n);
 }
 
 one_known : (p q : PartValue) → IsSamePart p q → (n : ℕ) → known_to p n ≡ known_to q n
@@ -32,7 +34,9 @@ gave_too : (p q : PartValue) (k : ℕ) → IsSamePart p q → (n : ℕ) → Gave
 gave_too p q k same n h = ((h.0.0, one_known p q same n ∙ h.0.1), ap (λ v. has v k) (same.given n) ∙ h.1)
 
 comes_too : (p q : PartValue) (k : ℕ) → IsSamePart p q → (n : ℕ) → ComesUnder q k n → ComesUnder p k n
-comes_too p q k same n h = (h.0, one_known p q same n ∙ h.1, h.2, h.3 ∙ sym same.id, ap (λ v. has v k) (same.loaded n) ∙ h.4)
+comes_too p q k same n h =
+    let c = one_course p q same in
+    (h.0 ∙ sym (ap (λ c. c.number) c), ap (λ c. moves c.old c.new k) c ∙ h.1, ap (λ c. owner_of c.new k) c ∙ h.2 ∙ sym same.id, ap (λ v. has v k) (same.loaded n) ∙ h.3)
 
 module _ (p q : PartValue) (same : IsSamePart p q) (k : ℕ) where
   given_last : (g : ℕ) → IsLastGiven q k g → IsLastGiven p k g

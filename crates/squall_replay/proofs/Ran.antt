@@ -1,5 +1,5 @@
 -- What a partition did leads to what its log leads to.
-use Rattle.std.proofs.Common.{◌≡◌, ℕ, List, [], ◌∷◌, Ok, Err, refl, subst}
+use Rattle.std.proofs.Common.{◌≡◌, ℕ, List, [], ◌∷◌, Ok, Err, subst}
 use Rattle.squall_part.specs.declared.giving.GiveFault.{GiveFault}
 use Rattle.squall_part.specs.declared.giving.GiveFault.TheVariants as give
 use Rattle.squall_part.specs.declared.loading.LoadFault.{LoadFault}
@@ -11,7 +11,7 @@ use Rattle.squall_part.specs.Parts.{PartValue, IsPart}
 use Rattle.squall_part.specs.Giving.{IsGiven, IsGivenAt}
 use Rattle.squall_part.specs.Loading.{IsLoaded, IsFinished}
 use Rattle.squall_replay.specs.declared.call.Call.{Call}
-use Rattle.squall_replay.specs.declared.call.Call.TheVariants.{Absorb, Give, GiveAt, Load, Finish}
+use Rattle.squall_replay.specs.declared.call.Call.TheVariants.{Absorb, Give, GiveAt, Load, Finish, Close}
 use Rattle.squall_replay.specs.declared.fault.CallFault.{CallFault}
 use Rattle.squall_replay.specs.declared.fault.CallFault.TheVariants.{Give as NotGiven, Load as NotLoaded, Finish as NotFinished, NoMemory}
 use Rattle.squall_replay.specs.Calls.{Refuses, Leads, IsSamePart, Try, Ran, log_of}
@@ -19,6 +19,7 @@ use Rattle.squall_replay.proofs.Same.{one_log, itself}
 
 gives_not : (p q : PartValue) (most : ℕ) (fault : GiveFault) → IsGiven p most (Err fault) q → q ≡ p
 gives_not p q most give.NotOpen h = h.1
+gives_not p q most give.Ended h = h.1
 gives_not p q most give.NothingLeft h = h.3
 gives_not p q most give.ZeroMax h = h.4
 gives_not p q most give.NotOutgoing h = absurd h
@@ -28,6 +29,7 @@ gives_not p q most give.NoMemory h = h.3
 
 gives_not_at : (p q : PartValue) (k : ℕ) (fault : GiveFault) → IsGivenAt p k (Err fault) q → q ≡ p
 gives_not_at p q k give.NotOpen h = h.1
+gives_not_at p q k give.Ended h = h.1
 gives_not_at p q k give.NothingLeft h = absurd h
 gives_not_at p q k give.ZeroMax h = absurd h
 gives_not_at p q k give.NotOutgoing h = h.3
@@ -58,6 +60,7 @@ refused_stays p q (Load c) (NotLoaded fault) h = loads_not p q c fault h
 refused_stays p q (Load c) _ h = absurd h
 refused_stays p q (Finish sub) (NotFinished fault) h = finishes_not p q sub fault h
 refused_stays p q (Finish sub) _ h = absurd h
+refused_stays p q Close _ h = absurd h
 
 pub logged : (p q : PartValue) (tries : List Try) → Ran p tries q → Leads p (log_of tries) q
 logged p q [] h = ([], h)

@@ -1,5 +1,5 @@
 -- Partitions that no call tells apart answer a call alike, and are such partitions after it.
-use Rattle.std.proofs.Common.{◌≡◌, ℕ, ◌+◌, ◌==◌, ◌&&◌, cond, List, [], ◌∷◌, Some, refl, sym, ap, subst, ◌∙◌, arith}
+use Rattle.std.proofs.Common.{◌≡◌, ℕ, ◌+◌, ◌==◌, ◌&&◌, ◌||◌, cond, List, [], ◌∷◌, Some, refl, sym, ap, subst, ◌∙◌, arith}
 use Rattle.std.proofs.lemmas.Bool.{both_ways}
 use Rattle.std.proofs.lemmas.Option.{same_Some}
 use Rattle.squall_span.specs.Spans.{Interval, has, insert_span, union, minus, without_span}
@@ -12,17 +12,18 @@ use Rattle.squall_board.specs.CourseRoute.{course_of_board}
 use Rattle.squall_protocol.specs.Chunks.{ChunkValue, load_report}
 use Rattle.squall_protocol.specs.Firsts.{AreFirst}
 use Rattle.squall_protocol.proofs.Firsts.{one_first}
-use Rattle.squall_part.specs.Parts.{PartValue, IsPart, course_of_part, known_to, opened_at, given_by, loaded_by}
-use Rattle.squall_part.specs.Giving.{IsCurrent, IsChunkOf, is_left, after_giving}
+use Rattle.squall_part.specs.Parts.{PartValue, IsPart, course_of_part, known_to, opened_at, given_by, loaded_by, closed_by}
+use Rattle.squall_part.specs.Giving.{IsCurrent, IsChunkOf, is_left, after_giving, after_close}
 use Rattle.squall_part.specs.Loading.{SomeMissing, AllLoaded, after_load, after_finish, done_report}
 use Rattle.squall_part.proofs.Known.{course_known}
 use Rattle.squall_part.proofs.Served.{known_log}
+use Rattle.squall_part.proofs.Closed.{closed_then}
 use Rattle.squall_replay.specs.declared.call.Call.{Call}
-use Rattle.squall_replay.specs.declared.call.Call.TheVariants.{Absorb, Give, GiveAt, Load, Finish}
+use Rattle.squall_replay.specs.declared.call.Call.TheVariants.{Absorb, Give, GiveAt, Load, Finish, Close}
 use Rattle.squall_replay.specs.declared.call.Answer.{Answer}
-use Rattle.squall_replay.specs.declared.call.Answer.TheVariants.{Absorbed, Gave, Loaded, Again, Finished}
+use Rattle.squall_replay.specs.declared.call.Answer.TheVariants.{Absorbed, Gave, Loaded, Again, Finished, Closed}
 use Rattle.squall_replay.specs.Calls.{Absorbs, Happens, Replays, Leads, IsSamePart}
-use Rattle.squall_replay.proofs.Edits.{given_with, loaded_with, given_beside, loaded_beside}
+use Rattle.squall_replay.proofs.Edits.{given_with, loaded_with, given_beside, loaded_beside, closed_beside_gift, closed_beside_load, given_beside_close, loaded_beside_close}
 
 -- one answer, and partitions that no call tells apart
 pub record Once (a b : Answer) (r s : PartValue) : Type 0 where
@@ -43,7 +44,7 @@ one_current : (p q : PartValue) (m n : ℕ) → IsSamePart p q → IsCurrent p m
 one_current p q m n same a b =
     let c = one_course p q same in
     let opened : opened_at p (course_of_part p).number ≡ opened_at q (course_of_part q).number = (λ i. opened_count (same.board i) (c i).number) in
-    let more : m + 1 ≡ n + 1 = sym a ∙ opened ∙ b in
+    let more : m + 1 ≡ n + 1 = sym a.0 ∙ opened ∙ b.0 in
     omega (arith, more)
 
 -- ---- gifts
@@ -72,6 +73,7 @@ giving p q s is js same = record {
   held = λ i. without_span s (same.held i);
   given = λ m. here p m is ∙ (λ i. cond (m == number i) (insert_span s (under i)) (same.given m i)) ∙ sym (here q m js);
   loaded = λ m. there p m ∙ same.loaded m ∙ sym (there q m);
+  closed = λ m. ends p m ∙ same.closed m ∙ sym (ends q m);
 }
   where
     number : (course_of_part p).number ≡ (course_of_part q).number
@@ -89,6 +91,9 @@ giving p q s is js same = record {
     there : (a : PartValue) (m : ℕ) → loaded_by (after_giving a s) m ≡ loaded_by a m
     there a m = loaded_beside (course_of_part a).number m (insert_span s (given_by a (course_of_part a).number)) a.logs
 
+    ends : (a : PartValue) (m : ℕ) → closed_by (after_giving a s) m ≡ closed_by a m
+    ends a m = closed_beside_gift (course_of_part a).number m (insert_span s (given_by a (course_of_part a).number)) a.logs
+
 gave : (p q r s : PartValue) (x y : ChunkValue) → IsPart p → IsPart q → IsSamePart p q → x ≡ y → r ≡ after_giving p x.span → s ≡ after_giving q y.span → Once (Gave x) (Gave y) r s
 gave p q r s x y is js same e a b = record {
   answer = ap Gave e;
@@ -105,6 +110,7 @@ loading p q x c d is js known known' same = record {
   held = λ i. union (same.held i) (minus (x.span ∷ []) (same.loaded x.number i));
   given = λ m. there p m ∙ same.given m ∙ sym (there q m);
   loaded = λ m. here p c m is known ∙ (λ i. cond (m == x.number) (insert_span x.span (same.loaded x.number i)) (same.loaded m i)) ∙ sym (here q d m js known');
+  closed = λ m. ends p m ∙ same.closed m ∙ sym (ends q m);
 }
   where
     here : (a : PartValue) (e : Change) (m : ℕ) → IsPart a → known_to a x.number ≡ Some e → loaded_by (after_load a x) m ≡ cond (m == x.number) (insert_span x.span (loaded_by a x.number)) (loaded_by a m)
@@ -114,6 +120,9 @@ loading p q x c d is js known known' same = record {
 
     there : (a : PartValue) (m : ℕ) → given_by (after_load a x) m ≡ given_by a m
     there a m = given_beside x.number m (insert_span x.span (loaded_by a x.number)) a.logs
+
+    ends : (a : PartValue) (m : ℕ) → closed_by (after_load a x) m ≡ closed_by a m
+    ends a m = closed_beside_load x.number m (insert_span x.span (loaded_by a x.number)) a.logs
 
 -- not both: a key is missing, and all are loaded
 not_both : (p q : PartValue) (x : ChunkValue) → ((n : ℕ) → loaded_by p n ≡ loaded_by q n) → SomeMissing p x → AllLoaded q x → ⊥
@@ -132,6 +141,7 @@ finishing p q sub same = record {
   held = same.held;
   given = same.given;
   loaded = same.loaded;
+  closed = same.closed;
 }
 
 absorbing : (p q r s : PartValue) (delta : BoardValue) → IsSamePart p q → Absorbs p delta r → Absorbs q delta s → IsSamePart r s
@@ -142,6 +152,18 @@ absorbing p q r s delta same a b = record {
   held = ap (λ v. v.held) a.same ∙ same.held ∙ sym (ap (λ v. v.held) b.same);
   given = λ n. a.given n ∙ same.given n ∙ sym (b.given n);
   loaded = λ n. a.loaded n ∙ same.loaded n ∙ sym (b.loaded n);
+  closed = λ n. a.closed n ∙ same.closed n ∙ sym (b.closed n);
+}
+
+closing : (p q : PartValue) → IsPart p → IsPart q → IsSamePart p q → IsSamePart (after_close p) (after_close q)
+closing p q is js same = record {
+  id = same.id;
+  first = same.first;
+  board = same.board;
+  held = same.held;
+  given = λ m. given_beside_close (course_of_part p).number m p.logs ∙ same.given m ∙ sym (given_beside_close (course_of_part q).number m q.logs);
+  loaded = λ m. loaded_beside_close (course_of_part p).number m p.logs ∙ same.loaded m ∙ sym (loaded_beside_close (course_of_part q).number m q.logs);
+  closed = λ m. closed_then p m is ∙ (λ i. (m == (one_course p q same i).number) || same.closed m i) ∙ sym (closed_then q m js);
 }
 
 -- ---- one call
@@ -177,6 +199,12 @@ one_call p q r s (Finish sub) (Finished report) (Finished other) is js same h g 
 }
 one_call p q r s (Finish sub) (Finished report) _ is js same h g = absurd g
 one_call p q r s (Finish sub) _ _ is js same h g = absurd h
+one_call p q r s Close (Closed m) (Closed n) is js same h g = record {
+  answer = ap Closed (h.0 ∙ ap (λ c. c.number) (one_course p q same) ∙ sym g.0);
+  part = agree r s (after_close p) (after_close q) h.1 g.1 (closing p q is js same);
+}
+one_call p q r s Close (Closed m) _ is js same h g = absurd g
+one_call p q r s Close _ _ is js same h g = absurd h
 
 -- ---- a log
 
@@ -193,7 +221,7 @@ one_log p q r s (c ∷ cs) (x ∷ xs) (y ∷ ys) is js same h g =
 
 -- no call tells a partition from itself
 pub itself : (p : PartValue) → IsSamePart p p
-itself p = record { id = refl; first = refl; board = refl; held = refl; given = λ n. refl; loaded = λ n. refl }
+itself p = record { id = refl; first = refl; board = refl; held = refl; given = λ n. refl; loaded = λ n. refl; closed = λ n. refl }
 
 -- what a log leads to from one partition is one
 pub one_lead : (p r s : PartValue) (calls : List Call) → IsPart p → Leads p calls r → Leads p calls s → IsSamePart r s

@@ -4,24 +4,26 @@ use Rattle.std.specs.List.{slice_get}
 use Rattle.squall_board.specs.Boards.{BoardValue}
 use Rattle.squall_board.specs.Takes.{TakesBoard}
 use Rattle.squall_part.specs.declared.loading.Load.TheVariants.{Loaded as LoadedNow, Again as LoadedBefore}
-use Rattle.squall_part.specs.Parts.{PartValue, IsPart, given_by, loaded_by}
-use Rattle.squall_part.specs.Giving.{IsGiven, IsGivenAt}
+use Rattle.squall_part.specs.Parts.{PartValue, IsPart, course_of_part, given_by, loaded_by, closed_by}
+use Rattle.squall_part.specs.Giving.{IsGiven, IsGivenAt, after_close}
 use Rattle.squall_part.specs.Loading.{IsLoaded, IsFinished}
 use Rattle.squall_replay.specs.declared.call.Call.{Call}
-use Rattle.squall_replay.specs.declared.call.Call.TheVariants.{Absorb, Give, GiveAt, Load, Finish}
+use Rattle.squall_replay.specs.declared.call.Call.TheVariants.{Absorb, Give, GiveAt, Load, Finish, Close}
 use Rattle.squall_replay.specs.declared.call.Answer.{Answer}
-use Rattle.squall_replay.specs.declared.call.Answer.TheVariants.{Absorbed, Gave, Loaded, Again, Finished}
+use Rattle.squall_replay.specs.declared.call.Answer.TheVariants.{Absorbed, Gave, Loaded, Again, Finished, Closed}
 use Rattle.squall_replay.specs.declared.fault.CallFault.{CallFault}
 use Rattle.squall_replay.specs.declared.fault.CallFault.TheVariants.{Give as NotGiven, Load as NotLoaded, Finish as NotFinished, NoMemory}
 
 -- ---- one call
 
--- the partition has absorbed the delta: its board takes that, and it holds, gave and loaded what it did before
+-- the partition has absorbed the delta: its board takes that, it holds, gave and loaded what it did before, and it is closed under the
+-- same numbers
 pub record Absorbs (p : PartValue) (delta : BoardValue) (q : PartValue) : Type 0 where
   pub takes : TakesBoard p.board delta q.board
   pub same : q ≡ record p { board = q.board; logs = q.logs }
   pub given : (n : ℕ) → given_by q n ≡ given_by p n
   pub loaded : (n : ℕ) → loaded_by q n ≡ loaded_by p n
+  pub closed : (n : ℕ) → closed_by q n ≡ closed_by p n
 
 -- the partition answers the call so, and is the second one then
 abbrev pub Happens : PartValue → Call → Answer → PartValue → Type 0
@@ -36,8 +38,11 @@ Happens p (Load chunk) Again q = IsLoaded p chunk (Ok LoadedBefore) q
 Happens p (Load chunk) _ q = ⊥
 Happens p (Finish sub) (Finished report) q = IsFinished p sub (Ok report) q
 Happens p (Finish sub) _ q = ⊥
+Happens p Close (Closed number) q = (number ≡ (course_of_part p).number) × (q ≡ after_close p)
+Happens p Close _ q = ⊥
 
--- the partition refuses the call for the reason of that very call, and stays as it is; a delta is refused only if there is no memory
+-- the partition refuses the call for the reason of that very call, and stays as it is; a delta is refused only if there is no memory, and
+-- the end of a course never
 abbrev pub Refuses : PartValue → Call → CallFault → PartValue → Type 0
 Refuses p (Absorb delta) NoMemory q = q ≡ p
 Refuses p (Absorb delta) _ q = ⊥
@@ -49,6 +54,7 @@ Refuses p (Load chunk) (NotLoaded fault) q = IsLoaded p chunk (Err fault) q
 Refuses p (Load chunk) _ q = ⊥
 Refuses p (Finish sub) (NotFinished fault) q = IsFinished p sub (Err fault) q
 Refuses p (Finish sub) _ q = ⊥
+Refuses p Close _ q = ⊥
 
 -- ---- a log of calls
 
@@ -91,8 +97,8 @@ log_of ((call, Err fault) ∷ tries) = log_of tries
 
 -- ---- partitions that are one
 
--- no call tells the partitions apart: they have one number, one first course and one board, hold the same keys, and gave and loaded the
--- same keys under each number
+-- no call tells the partitions apart: they have one number, one first course and one board, hold the same keys, gave and loaded the same
+-- keys under each number, and are closed under the same numbers
 pub record IsSamePart (p q : PartValue) : Type 0 where
   pub id : p.id ≡ q.id
   pub first : p.first ≡ q.first
@@ -100,3 +106,4 @@ pub record IsSamePart (p q : PartValue) : Type 0 where
   pub held : p.held ≡ q.held
   pub given : (n : ℕ) → given_by p n ≡ given_by q n
   pub loaded : (n : ℕ) → loaded_by p n ≡ loaded_by q n
+  pub closed : (n : ℕ) → closed_by p n ≡ closed_by q n

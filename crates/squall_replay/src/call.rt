@@ -22,6 +22,8 @@ pub enum Call {
     Load(Chunk),
     /// It finishes the sub-plan.
     Finish(u32),
+    /// It gives no more in its newest course.
+    Close,
 }
 
 /// The answer to a call that the partition did not refuse.
@@ -37,6 +39,8 @@ pub enum Answer {
     Again,
     /// It finished the sub-plan, and reports so.
     Finished(Report),
+    /// It gives no more in the course of that number.
+    Closed(u32),
 }
 
 impl Call {
@@ -59,6 +63,7 @@ impl Call {
                 Load::Again => Ok(Answer::Again),
             },
             Call::Finish(sub) => Ok(Answer::Finished(part.finish(*sub)?)),
+            Call::Close => Ok(Answer::Closed(part.close())),
         }
     }
 }

@@ -1,64 +1,39 @@
-use Rattle.std.proofs.Common.{◌≡◌, ◌+◌, ◌-◌, ◌<◌, ◌≤◌, ◌&&◌, nat_lt, true, false, length, get_or, take, Some, sym, ap, subst, ◌∙◌, rules, arith}
-use Rattle.std.proofs.lemmas.Bool.{and_from}
-use Rattle.std.proofs.Math.Bool.{and-false}
-use Rattle.std.proofs.lemmas.Bool.Decides.{nat_tests}
-use Rattle.std.proofs.lemmas.List.{get_or_default}
-use Rattle.squall_part.specs.Logs.{comes, comes_after, last_of}
-use Rattle.squall_part.specs.Parts.{Log}
-use Rattle.squall_part.proofs.Latest.{latest, earlier, up_to}
+use Rattle.std.proofs.Common.{◌≡◌, ◌≤◌, ◌<◌, true, false, get_or, sym, ap, subst, ◌∙◌, rules, arith}
+use Rattle.squall_course.specs.Change.{Change}
+use Rattle.squall_part.specs.Parts.{Log, course_of_part}
+use Rattle.squall_part.specs.Logs.{awaits}
+use Rattle.squall_part.specs.Serving.{IsLastComing}
+use Rattle.squall_part.proofs.Served.{comes_here, last_coming_is, none_coming, none_later}
 use Rattle.squall_part.proofs.part.Part.last_coming.Goals as goal
-use Rattle.squall_part.proofs.part.Part.last_coming.Goals.{else-after-gt0-via-then-after-gt0+else-number-after, else-after-gt0-via-else-after-gt0}
 
-pub returns-then-number-after : goal.returns-then-number-after
-returns-then-number-after c =
-    let p = c.args.self.now in
-    let at = c.loop-at.at - 1 in
-    let d : Log = c.index.result.now in
-    let up : at + 1 ≡ c.loop-at.at = omega (arith, c.loop-at-test.true) in
-    let within : at < length p.logs = omega (arith, c.loop-at-test.true, c.loop-at.invariant.0) in
-    let here : d ≡ get_or p.logs at d = search rules in
-    let number : d.course.number ≤ c.args.after = omega (arith, c.number.ensures.value, c.if-number-after.true) in
-    sym (up_to p c.args.key c.args.after p.logs at d c.known.ensures.rising within (subst (λ (l : Log). l.course.number ≤ c.args.after) here number))
-    ∙ ap (λ k. last_of (comes_after p c.args.key c.args.after) (take k p.logs)) up ∙ c.loop-at.invariant.1
+pub returns-then-number-after-clause-none : goal.returns-then-number-after-clause-none
+returns-then-number-after-clause-none c =
+    let le : (course_of_part c.args.self.now).number ≤ c.args.after = search rules in
+    none_later c.args.self.now c.args.key c.args.after le
 
-pub returns-then-comes : goal.returns-then-comes
-returns-then-comes c =
+pub returns-then-not-awaits-clause-none : goal.returns-then-not-awaits-clause-none
+returns-then-not-awaits-clause-none c =
     let p = c.args.self.now in
-    let at = c.loop-at.at - 1 in
-    let d : Log = c.index-then-comes.result.now in
-    let up : at + 1 ≡ c.loop-at.at = omega (arith, c.loop-at-test.true) in
-    let within : at < length p.logs = omega (arith, c.loop-at-test.true, c.loop-at.invariant.0) in
-    let here : d ≡ get_or p.logs at d = search rules in
-    let e : Log = c.index-in-loop-at.result.now in
-    let there : e ≡ get_or p.logs at e = search rules in
-    let same : e ≡ d = there ∙ get_or_default p.logs at e d within ∙ sym here in
-    let tried : comes p c.args.key e ≡ true = search rules in
-    let passes = subst (λ (l : Log). comes p c.args.key l ≡ true) same tried in
-    let some = subst (λ (l : Log). 0 < l.course.number) same (c.comes.ensures.number c.if-comes.true) in
-    let later : c.args.after < d.course.number = elim c.else-after-gt0.branch [
-      | else-after-gt0-via-then-after-gt0+else-number-after w ↦
-          let first : w.index.result.now ≡ get_or p.logs at w.index.result.now = search rules in
-          let one : w.index.result.now ≡ d = first ∙ get_or_default p.logs at w.index.result.now d within ∙ sym here in
-          subst (λ (l : Log). c.args.after < l.course.number) one (omega (arith, w.number.ensures.value, w.if-number-after.false))
-      | else-after-gt0-via-else-after-gt0 w ↦ omega (arith, some, w.if-after-gt0.false)
-    ] in
-    let above : nat_lt c.args.after d.course.number ≡ true = grind (arith, nat_tests) in
-    ap Some here
-    ∙ sym (latest (comes_after p c.args.key c.args.after) p.logs at d c.known.ensures.rising within (subst (λ (l : Log). 0 < l.course.number) here some)
-    (ap (comes_after p c.args.key c.args.after) (sym here) ∙ and_from (nat_lt c.args.after d.course.number) (comes p c.args.key d) above passes))
-    ∙ ap (λ k. last_of (comes_after p c.args.key c.args.after) (take k p.logs)) up ∙ c.loop-at.invariant.1
+    let d : Log = c.index-log.result.now in
+    let here : d ≡ get_or p.logs c.newest_place.result d = search rules in
+    let no : awaits p.id d.course d.loaded c.args.key ≡ false = search rules in
+    let none = sym (comes_here p c.args.key c.newest_place.result d c.known.ensures c.newest_place.ensures) ∙ ap (λ (l : Log). awaits p.id l.course l.loaded c.args.key) (sym here) ∙ no in
+    (0, none_coming p c.args.key none, omega arith)
 
-pub loop-at-preserved : goal.loop-at-preserved
-loop-at-preserved c =
+pub returns-clause-course : goal.returns-clause-course
+returns-clause-course c =
     let p = c.args.self.now in
-    let at = c.loop-at.at - 1 in
-    let d : Log = c.index-in-loop-at.result.now in
-    let up : at + 1 ≡ c.loop-at.at = omega (arith, c.loop-at-test.true) in
-    let within : at < length p.logs = omega (arith, c.loop-at-test.true, c.loop-at.invariant.0) in
-    let here : d ≡ get_or p.logs at d = search rules in
-    let fails : comes p c.args.key d ≡ false = search rules in
-    let none : comes_after p c.args.key c.args.after d ≡ false = ap (λ b. nat_lt c.args.after d.course.number && b) fails ∙ and-false (nat_lt c.args.after d.course.number) in (
-      omega (arith, c.loop-at.invariant.0),
-      sym (earlier (comes_after p c.args.key c.args.after) p.logs at d within (ap (comes_after p c.args.key c.args.after) (sym here) ∙ none))
-          ∙ ap (λ k. last_of (comes_after p c.args.key c.args.after) (take k p.logs)) up ∙ c.loop-at.invariant.1,
-    )
+    let d : Log = c.index-log.result.now in
+    let here : d ≡ get_or p.logs c.newest_place.result d = search rules in
+    ap (λ (l : Log). l.course) here ∙ c.newest_place.ensures.course d
+
+pub returns-clause-some : goal.returns-clause-some
+returns-clause-some c =
+    let p = c.args.self.now in
+    let d : Log = c.index-log.result.now in
+    let here : d ≡ get_or p.logs c.newest_place.result d = search rules in
+    let course : d.course ≡ course_of_part p = ap (λ (l : Log). l.course) here ∙ c.newest_place.ensures.course d in
+    let yes : awaits p.id d.course d.loaded c.args.key ≡ true = search rules in
+    let comes = sym (comes_here p c.args.key c.newest_place.result d c.known.ensures c.newest_place.ensures) ∙ ap (λ (l : Log). awaits p.id l.course l.loaded c.args.key) (sym here) ∙ yes in
+    let above : c.args.after < d.course.number = search rules in
+    (subst (λ (x : Change). IsLastComing p c.args.key x.number) (sym course) (last_coming_is p c.args.key comes), above)
