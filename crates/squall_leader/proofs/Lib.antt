@@ -1,3 +1,4 @@
 pub mod Least
 pub mod First
 pub mod Kept
+pub mod Leaving

@@ -1,6 +1,6 @@
 -- The leader, which begins reconfigurations and opens their sub-plans. (That a leader starts a reconfiguration and continues once all
 -- partitions have reported: Squall, SIGMOD 2015. Sub-plans and numbers are this project's.)
-use Rattle.std.specs.Prelude.{◌≡◌, ℕ, ◌+◌, ◌^◌, ◌-◌, ◌<◌, ◌≤◌, zero, suc, not, List, Result, Ok, Err, Option, None, Some}
+use Rattle.std.specs.Prelude.{◌≡◌, ℕ, ◌+◌, ◌<◌, ◌≤◌, zero, suc, not, List, Result, Ok, Err, Option, None, Some}
 use Rattle.std.specs.List.{find}
 use Rattle.squall_plan.specs.declared.range.PlanRange.{PlanRange}
 use Rattle.squall_plan.specs.Ranges.{IsCanonical, AreRanges}
@@ -71,6 +71,21 @@ IsBegun l plan (Err Idle) m = ⊥
 IsBegun l plan (Err (NotDone sub part)) m = ⊥
 IsBegun l plan (Err NoMore) m = ⊥
 IsBegun l plan (Err NoMemory) m = (IsRunning l → ⊥) × (l.last < last_number) × (m ≡ l)
+
+-- the course that leads from one plan to another, under the next number
+abbrev pub course_from : LeaderValue → List PlanRange → List PlanRange → Change
+course_from l old new = record { number = l.last + 1; old = old; new = new }
+
+-- the answer to the call that begins a course from one plan to another, whether or not the course before is over; memory is missing only if
+-- nothing else is in the way
+abbrev pub IsBegunFrom : LeaderValue → List PlanRange → List PlanRange → Result Change LeaderFault → LeaderValue → Type 0
+IsBegunFrom l old new (Ok c) m = (l.last < last_number) × (c ≡ course_from l old new) × (m ≡ after_begin l c)
+IsBegunFrom l old new (Err Running) m = ⊥
+IsBegunFrom l old new (Err NoNumber) m = (l.last ≡ last_number) × (m ≡ l)
+IsBegunFrom l old new (Err Idle) m = ⊥
+IsBegunFrom l old new (Err (NotDone sub part)) m = ⊥
+IsBegunFrom l old new (Err NoMore) m = ⊥
+IsBegunFrom l old new (Err NoMemory) m = (l.last < last_number) × (m ≡ l)
 
 abbrev pub open_report : Change → ℕ → ReportKind PlanPair
 open_report c sub = Opened c.number sub

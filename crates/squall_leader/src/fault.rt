@@ -1,4 +1,5 @@
-//! Why a leader refuses to begin a course or to open a sub-plan.
+//! Why a leader refuses to begin a course or to open a sub-plan, and why there is no plan of where a
+//! course leaves the keys.
 
 ghost use Rattle.std.specs.Prelude.{◌≡◌};
 ghost use Rattle.squall_leader.specs.declared.fault.LeaderFault.TheVariants.{NoMemory};
@@ -41,5 +42,26 @@ impl From<AllocError> for LeaderFault {
 
     fn from(_error: AllocError) -> LeaderFault {
         LeaderFault::NoMemory
+    }
+}
+
+/// Why there is no plan of where a course leaves the keys.
+#[derive(Debug, Drop, Error)]
+pub enum LeftFault {
+    /// The plan would have more than 4096 ranges.
+    #[error("TooMany")]
+    TooMany,
+    /// An allocation failed.
+    #[error("NoMemory")]
+    NoMemory,
+}
+
+impl From<AllocError> for LeftFault {
+    ghost use Rattle.squall_leader.specs.declared.fault.LeftFault.{LeftFault};
+
+    ghost from_gives = { λ _ e. e ≡ LeftFault.NoMemory };
+
+    fn from(_error: AllocError) -> LeftFault {
+        LeftFault::NoMemory
     }
 }

@@ -1,13 +1,15 @@
 //! The leader.
 
-ghost use Rattle.std.specs.Prelude.{◌≡◌, ◌≤◌, ◌↔◌, ◌^◌, ◌-◌, OnOk, OnErr, IfOk, IsTrue};
+ghost use Rattle.std.specs.Prelude.{◌≡◌, ◌<◌, ◌≤◌, ◌↔◌, ◌^◌, ◌+◌, ◌-◌, OnOk, OnErr, IfOk, IfErr, IsTrue};
 ghost use Rattle.std.specs.Result.{result_map_both};
 ghost use Rattle.std.specs.Arc.{arc_value};
 ghost use Rattle.squall_report.specs.declared.report.ReportKind.TheVariants.{Issued};
 ghost use Rattle.squall_report.specs.Issues.{plan_pair};
 ghost use Rattle.squall_board.specs.Takes.{TakesBoard};
 ghost use Rattle.squall_board.specs.Boards.{board_join};
-ghost use Rattle.squall_leader.specs.Leaders.{IsLeader, IsOver, IsRunning, IsBegun, IsOpened, IsFinished, new_leader, after_begin};
+ghost use Rattle.squall_protocol.specs.Known.{last_number};
+ghost use Rattle.squall_leader.specs.declared.fault.LeaderFault.TheVariants.{NoNumber};
+ghost use Rattle.squall_leader.specs.Leaders.{IsLeader, IsOver, IsRunning, IsBegun, IsBegunFrom, IsOpened, IsFinished, new_leader, after_begin};
 ghost use Rattle.squall_leader.specs.Waiting.{IsWaited, IsOpening};
 
 use crate::fault::LeaderFault;
@@ -169,6 +171,37 @@ impl Leader {
         Ok(Report::opened(course.number(), self.opened).unwrap())
     }
 
+    /// The number of the next course, the last one plus 1. `NoNumber` if the greatest is used.
+    fn next_number(&self) -> Result<u32, LeaderFault>
+        ensures ok { IfOk result (λ number. (number ≡ self.now.last + 1) × (self.now.last < last_number)) }
+        ensures err { IfErr result (λ fault. (fault ≡ NoNumber) × (self.now.last ≡ last_number)) }
+    {
+        match self.last.checked_add(1) {
+            Some(number) => Ok(number),
+            None => Err(LeaderFault::NoNumber),
+        }
+    }
+
+    /// Begins the course. The leader's own board takes the report that issues it. An error leaves
+    /// the leader unchanged.
+    fn start(&mut self, course: Arc<Course>) -> Result<Arc<Course>, AllocError>
+        ensures ok { IfOk result (λ given. (arc_value given ≡ arc_value course) × (self.new ≡ after_begin self.old (arc_value course))) }
+        ensures err { OnErr result (self.new ≡ self.old) }
+    {
+        let (number, new) = (course.number(), course.new_plan());
+        let issued = issue_report(self.alloc, number, course.old_plan(), new)?;
+        let newest = new.copied(self.alloc)?;
+        let given = Arc::try_clone(&course)?;
+        self.board.take(&issued)?;
+        // The proof learns that what took a report is a board.
+        self.board.known();
+        self.plan = newest;
+        self.last = number;
+        self.course = Some(Shared::new(course));
+        self.opened = 0;
+        Ok(given)
+    }
+
     /// Begins the reconfiguration that leads from the newest plan to another, under the last number
     /// plus 1. The leader's own board takes the report that issues it.
     ///
@@ -181,21 +214,28 @@ impl Leader {
         if self.is_running() {
             return Err(LeaderFault::Running);
         }
-        let Some(number) = self.last.checked_add(1) else {
-            return Err(LeaderFault::NoNumber);
-        };
+        let number = self.next_number()?;
         let course = new_course(self.alloc, number, &self.plan, plan)?;
-        let given = Arc::try_clone(&course)?;
-        let newest = plan.copied(self.alloc)?;
-        let issued = issue_report(self.alloc, number, &self.plan, plan)?;
-        self.board.take(&issued)?;
-        // The proof learns that what took a report is a board.
-        self.board.known();
-        self.plan = newest;
-        self.last = number;
-        self.course = Some(Shared::new(course));
-        self.opened = 0;
-        Ok(given)
+        Ok(self.start(course)?)
+    }
+
+    /// Begins the reconfiguration that leads from the old plan to the new one, under the last number
+    /// plus 1. The leader's own board takes the report that issues it. The course begun last may
+    /// end early so: it need not be over.
+    ///
+    /// The caller makes sure that the old plan has each key where the course begun last leaves it.
+    /// So each partition holds the keys that the old plan gives it. It has closed the course begun
+    /// last if such a key was to leave it. What was given must be loaded. What each partition
+    /// answers to this stays true, so they may be asked one after another.
+    ///
+    /// `NoNumber` if the greatest number is used. `NoMemory` if an allocation failed or a count of
+    /// owners is full. A fault leaves the leader unchanged.
+    pub fn begin_from(&mut self, old: &Plan, new: &Plan) -> Result<Arc<Course>, LeaderFault>
+        ensures answer { IsBegunFrom self.old old.now new.now (result_map_both (λ course. arc_value course) (λ fault. fault) result) self.new }
+    {
+        let number = self.next_number()?;
+        let course = new_course(self.alloc, number, old, new)?;
+        Ok(self.start(course)?)
     }
 
     /// Opens the next sub-plan of the course begun last. The leader's own board takes the report.
@@ -237,6 +277,13 @@ impl Leader {
         // The proof learns that what took a delta is a board.
         self.board.known();
         merged
+    }
+
+    /// How many sub-plans of the course begun last it has opened; 0 if none is begun.
+    pub fn opened(&self) -> u32
+        ensures { result ≡ self.now.opened }
+    {
+        self.opened
     }
 
     /// What it has heard, and what it reported itself.

@@ -24,7 +24,8 @@
 mod fault;
 pub mod laws;
 mod leader;
+pub mod left;
 mod waiting;
 
-pub use fault::LeaderFault;
+pub use fault::{LeaderFault, LeftFault};
 pub use leader::Leader;
