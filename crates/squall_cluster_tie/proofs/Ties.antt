@@ -31,12 +31,14 @@ same_of a b e = record {
 
 unchanged : (w : WorldValue) → SameWorld w w
 unchanged w = record {
-  plan = λ n. refl;
+  old = λ n. refl;
+  new = λ n. refl;
   last = refl;
-  opened = refl;
+  opened = λ n. refl;
   parts = refl;
   routers = refl;
   held = λ p k. refl;
+  closed = λ n p. refl;
   given = λ n p k. refl;
   loaded = λ n p k. refl;
   facts = λ node. same_of (w.facts node) (w.facts node) refl;

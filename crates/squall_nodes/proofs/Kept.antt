@@ -1,5 +1,5 @@
 -- What is promised of worlds is kept by systems.
-use Rattle.std.proofs.Common.{◌≡◌, ℕ, ◌<◌, ◌≤◌, ◌==◌, true, false, if◌then◌else◌, Option, None, Some, refl, sym, subst, ap, ◌∙◌, inl, inr}
+use Rattle.std.proofs.Common.{◌≡◌, ℕ, ◌<◌, ◌≤◌, true, false, Option, None, Some, refl, sym, subst, ap, ◌∙◌, inl, inr}
 use Rattle.std.specs.List.{slice_get}
 use Rattle.std.proofs.lemmas.Bool.{false≢true}
 use Rattle.std.proofs.lemmas.Option.{same_Some}
@@ -9,13 +9,13 @@ use Rattle.squall_join.specs.declared.flat.Flat.{Flat}
 use Rattle.squall_join.specs.declared.flat.Flat.TheVariants.{Unknown, One}
 use Rattle.squall_course.specs.Change.{Change}
 use Rattle.squall_course.specs.Moves.{is_incoming}
-use Rattle.squall_course.specs.Subplans.{subplan_count}
 use Rattle.squall_report.specs.Issues.{PlanPair}
+use Rattle.squall_report.specs.Queries.{Queries}
 use Rattle.squall_report.specs.QueriesLaws.{same_queries}
 use Rattle.squall_board.specs.Boards.{BoardValue, issued}
 use Rattle.squall_board.specs.BoardQueries.{queries_of}
 use Rattle.squall_board.specs.CourseRoute.{IsCourseBy}
-use Rattle.squall_board.specs.CourseRouteLaws.{board_course}
+use Rattle.squall_board.specs.CourseRouteLaws.{board_course, one_course}
 use Rattle.squall_errand.specs.declared.errand.Reply.{Reply}
 use Rattle.squall_errand.specs.declared.errand.Reply.TheVariants.{Moved, Pending}
 use Rattle.squall_protocol.specs.Chunks.{ChunkValue}
@@ -25,19 +25,20 @@ use Rattle.squall_protocol.specs.declared.event.Event.TheVariants.{Serve}
 use Rattle.squall_protocol.specs.declared.answer.Answer.{Answer}
 use Rattle.squall_protocol.specs.declared.answer.Answer.TheVariants.{Served, Refused}
 use Rattle.squall_protocol.specs.declared.answer.Refusal.TheVariants.{NoSuch}
-use Rattle.squall_protocol.specs.Worlds.{WorldValue, first_course, last_course, course_at, pair_at, is_part}
+use Rattle.squall_protocol.specs.Worlds.{WorldValue, first_course, last_course, pair_at, is_part}
 use Rattle.squall_protocol.specs.Steps.{Step}
-use Rattle.squall_protocol.specs.Promises.{IsReached, Carrier, Carries, IsInFlight, OneCarrier, TrueReports, Happened, opened_of, OneDestination, ChunksHaveNodes, Answers, IsWelcome, IsWelcomeAfter, IsHome, IsDue, RoutedIsLoaded, RoutesAreServed, MovesAreServed, AwaitedComes, OverIsThere, FirstRoutesAreHome, FirstMovesAreDue}
+use Rattle.squall_protocol.specs.Promises.{IsReached, Carrier, Carries, IsInFlight, OneCarrier, TrueReports, Happened, HasEnded, OneDestination, ChunksHaveNodes, Answers, IsWelcome, IsWelcomeAfter, IsHome, IsDue, RoutedIsLoaded, RoutesAreServed, MovesAreServed, AwaitedComes, OverIsThere, FirstRoutesAreHome, FirstMovesAreDue}
 use Rattle.squall_protocol.specs.Promises.Carrier.{Holder, Flight}
 use Rattle.squall_protocol.specs.WorldLaws.{same_as_itself}
-use Rattle.squall_part.specs.Parts.{PartValue}
+use Rattle.squall_part.specs.Parts.{PartValue, course_of_part}
 use Rattle.squall_leader.specs.Leaders.{IsOver}
 use Rattle.squall_router.specs.Routers.{course_of_router, route_of_router}
 use Rattle.squall_nodes.specs.Systems.{SystemValue, first_change}
-use Rattle.squall_nodes.specs.Kept.{IsOnWay, CarriesIn, KeysAreSomewhere, HasLoaded, IsBoardIn, HappenedIn, ReportsAreTrue, RoutedKeysAreLoaded, SourcesFeedOne, ChunksHaveParts, Replies, RoutersAreRight, MovesAreRight, AwaitedKeysCome, KeysAreWhereDue, IsAtFirst, FirstRoutersAreHome, MovesAreDue}
+use Rattle.squall_nodes.specs.Kept.{IsOnWay, CarriesIn, KeysAreSomewhere, HasLoaded, IsBoardIn, HasEndedIn, HappenedIn, ReportsAreTrue, RoutedKeysAreLoaded, SourcesFeedOne, ChunksHaveParts, Replies, RoutersAreRight, MovesAreRight, AwaitedKeysCome, KeysAreWhereDue, IsAtFirst, FirstRoutersAreHome, MovesAreDue}
 use Rattle.squall_nodes.specs.Kept.IsBoardIn.{of_leader, of_part, of_router}
-use Rattle.squall_nodes.proofs.Numbers.{eq_refl}
-use Rattle.squall_nodes.proofs.Gifts.{serves_by_step}
+use Rattle.squall_nodes.specs.Standing.{StandsForPart}
+use Rattle.squall_nodes.proofs.Agree.{facts_seen as part_facts}
+use Rattle.squall_nodes.proofs.Gifts.{course_is, serves_by_step}
 use Rattle.squall_nodes.proofs.Routes.{router_facts, routes_by_step}
 use Rattle.squall_nodes.proofs.Leads.{over_seen}
 use Rattle.squall_nodes.proofs.Systems.{Beside, comes_on, beside_run}
@@ -122,9 +123,6 @@ keys_are_somewhere one old new routers s run k lt =
 
 -- ---- true reports
 
-opened_now : (w : WorldValue) (n t : ℕ) → n ≡ w.last → t < opened_of w n → t < w.opened
-opened_now w n t e lt = subst (λ v. t < v) (ap (λ b. if b then w.opened else subplan_count (course_at w n).old (course_at w n).new) (ap (λ m. n == m) (sym e) ∙ eq_refl n)) lt
-
 happened_in : (w : WorldValue) (s : SystemValue) (first : Change) → Beside first w s → TrueReports w → (b : BoardValue) → IsBoardIn s b → HappenedIn s b
 happened_in w s first beside promise b is = record {
   loaded = λ c k says. has_loaded w s first beside c.part c.number k (here.loaded c k says);
@@ -133,7 +131,7 @@ happened_in w s first beside promise b is = record {
       has_loaded w s first beside c.part c.number k (here.done c says k (subst (λ (p : PlanPair). is_incoming p.old p.new c.sub c.part k ≡ true) same inc));
   opened = λ n t c lt course.
       let one : c.number ≡ w.last = ap (λ (d : Change). d.number) (last_of w s first beside c course) in
-      (subst (λ v. n ≤ v) (sym one) (here.opened_begun n t lt).1, (λ e. subst (λ v. t < v) beside.stands.leader.opened (opened_now w n t (e ∙ one) (here.opened n t lt))));
+      (subst (λ v. n ≤ v) (sym one) (here.opened_begun n t lt).1, (λ e. subst (λ v. t < v) beside.stands.leader.opened (subst (λ m. t < w.opened m) (e ∙ one) (here.opened n t lt))));
   issued = λ n. elim (here.issued n) [
     | inl none ↦ inl none
     | inr one ↦ inr (pair_at w n, one.1, (λ d other at issue. issued_is w d n other (happened w s first beside promise d at) issue))
@@ -203,6 +201,29 @@ moves_are_right promise old new routers s t run come p k after d n b there moved
 
 -- ---- ends
 
+-- a course that ended in the world ended in the system
+has_ended : (w : WorldValue) (s : SystemValue) (first : Change) → Beside first w s → (p source : ℕ) (a : PartValue) → s.parts p ≡ Some a → HasEnded w p source → HasEndedIn s a source
+has_ended w s first b p source a there ended = by (s.parts source) refl
+  where
+    stands : StandsForPart w p a
+    stands = b.stands.parts p a there
+
+    same : ended.course ≡ course_of_part a
+    same = one_course (first_course w) (w.facts (Part p)) ended.course (course_of_part a) ended.newest
+        (subst (λ (x : Change × Queries). IsCourseBy x.0 x.1 (course_of_part a)) (λ i. (sym stands.first i, sym (part_facts w p a stands) i)) (course_is a (b.system.parts p a there)))
+
+    closed : w.closed (course_of_part a).number source ≡ true
+    closed = subst (λ (c : Change). w.closed c.number source ≡ true) same ended.closed
+
+    by : (o : Option PartValue) → s.parts source ≡ o → HasEndedIn s a source
+    by (Some g) is = record {
+      later = λ c course. subst (λ (n : ℕ × ℕ). n.0 < n.1) (λ i. ((same i).number, (sym (last_of w s first b c course) i).number)) ended.later;
+      giver = g;
+      there = is;
+      closed = sym ((b.stands.parts source g is).closed (course_of_part a).number) ∙ closed;
+    }
+    by None gone = absurd (false≢true (sym ((b.stands.absent source gone).closed (course_of_part a).number) ∙ closed))
+
 pub awaited_keys_come : ((w : WorldValue) → IsReached w → AwaitedComes w) → AwaitedKeysCome
 awaited_keys_come promise old new routers s run p k after source a there waits =
     let w = beside_run old new routers s run in
@@ -210,7 +231,8 @@ awaited_keys_come promise old new routers s run p k after source a there waits =
     let x = serves_by_step w.0 p k after a (Pending source) (w.1.stands.parts p a there) (w.1.system.parts p a there) waits in
     elim (promise w.0 w.1.reached p k after source x.1.1) [
       | inl held ↦ inl (to_system w.0 s first w.1 k (Holder source) held)
-      | inr (i, y, at, flight, from, to) ↦ inr (i, y, ap (λ l. slice_get l i) (sym w.1.stands.chunks) ∙ at, on_way w.0 s first w.1 y k flight, from, to)
+      | inr (inl (i, y, at, flight, from, to)) ↦ inr (inl (i, y, ap (λ l. slice_get l i) (sym w.1.stands.chunks) ∙ at, on_way w.0 s first w.1 y k flight, from, to))
+      | inr (inr ended) ↦ inr (inr (has_ended w.0 s first w.1 p source a there ended))
     ]
 
 pub keys_are_where_due : ((w : WorldValue) → IsReached w → OverIsThere w) → KeysAreWhereDue

@@ -1,5 +1,5 @@
 -- Gifts and loads of one partition, as tests.
-use Rattle.std.proofs.Common.{◌≡◌, ℕ, ◌-◌, ◌<◌, ◌≤◌, ◌==◌, Bool, true, false, cond, not, List, [], ◌∷◌, Some, refl, sym, ap, subst, ◌∙◌, arith, inl, inr}
+use Rattle.std.proofs.Common.{◌≡◌, ℕ, ◌-◌, ◌<◌, ◌≤◌, ◌==◌, Bool, true, false, cond, not, List, [], ◌∷◌, map, Option, Some, is_some, refl, sym, ap, subst, ◌∙◌, arith, inl, inr}
 use Rattle.std.specs.Prelude.{◌⊎◌, ◌||◌, ◌&&◌}
 use Rattle.std.specs.List.{AllByRecursion}
 use Rattle.std.proofs.lemmas.Bool.{cases_lt, and_parts}
@@ -24,8 +24,8 @@ use Rattle.squall_part.proofs.Opened.{opened_few}
 use Rattle.squall_board.specs.Boards.{IsBoard, issued, report_board}
 use Rattle.squall_protocol.specs.Chunks.{ChunkValue, load_report}
 use Rattle.squall_protocol.specs.Carried.{Carried}
-use Rattle.squall_part.specs.Parts.{PartValue, Log, log_of, IsPart, IsLog, known_to, course_of_part, opened_at, given_by, loaded_by}
-use Rattle.squall_part.specs.Giving.{IsChunkOf, after_giving, goes_out}
+use Rattle.squall_part.specs.Parts.{PartValue, Log, log_of, IsPart, IsLog, known_to, course_of_part, opened_at, closed_in, given_in, loaded_in, closed_by, given_by, loaded_by, set_given, set_loaded, set_closed, with_closed}
+use Rattle.squall_part.specs.Giving.{IsChunkOf, after_giving, after_close, goes_out}
 use Rattle.squall_part.specs.Loading.{after_load, done_report}
 use Rattle.squall_protocol.specs.Known.{course_under}
 use Rattle.squall_replay.proofs.Edits.{given_with, loaded_with, given_beside, loaded_beside}
@@ -34,7 +34,14 @@ use Rattle.squall_part.proofs.Served.{known_log}
 use Rattle.squall_part.proofs.Changed.{given_set, loaded_set}
 use Rattle.squall_nodes.proofs.Numbers.{eq_same}
 
+true_false : true ≡ false → ⊥
+true_false e = cc
+
 -- ---- a gift
+
+or_true : (a : Bool) → (a || true) ≡ true
+or_true true = refl
+or_true false = refl
 
 or_false : (a : Bool) → (a || false) ≡ a
 or_false true = refl
@@ -60,6 +67,67 @@ given_after_giving a s m k is lt =
 pub loaded_after_giving : (a : PartValue) (s : Interval) (m : ℕ) → loaded_by (after_giving a s) m ≡ loaded_by a m
 loaded_after_giving a s m = loaded_beside (course_of_part a).number m (insert_span s (given_by a (course_of_part a).number)) a.logs
 
+-- what is looked up in the log of a number stays, if logs change in something else
+kept_in : {A : Type 0} (look : Option Log → A) (f : Log → Log) → ((l : Log) → (f l).course ≡ l.course) → ((l : Log) → look (Some (f l)) ≡ look (Some l)) → (logs : List Log) (m : ℕ) → look (log_of (map f logs) m) ≡ look (log_of logs m)
+kept_in look f course same [] m = refl
+kept_in look f course same (l ∷ ls) m = ap (λ (c : Change). look (cond (c.number == m) (Some (f l)) (log_of (map f ls) m))) (course l) ∙ by (l.course.number == m) (kept_in look f course same ls m)
+  where
+    by : (b : Bool) → look (log_of (map f ls) m) ≡ look (log_of ls m) → look (cond b (Some (f l)) (log_of (map f ls) m)) ≡ look (cond b (Some l) (log_of ls m))
+    by true rest = same l
+    by false rest = rest
+
+-- a change of the log of one number keeps what that change keeps
+set_keeps : {A : Type 0} (part : Log → A) (n : ℕ) (f : Log → Log) (l : Log) → part (f l) ≡ part l → part (cond (l.course.number == n) (f l) l) ≡ part l
+set_keeps part n f l same = by (l.course.number == n)
+  where
+    by : (b : Bool) → part (cond b (f l) l) ≡ part l
+    by true = same
+    by false = refl
+
+pub closed_after_giving : (a : PartValue) (s : Interval) (m : ℕ) → closed_by (after_giving a s) m ≡ closed_by a m
+closed_after_giving a s m =
+    let n = (course_of_part a).number in
+    let keys = insert_span s (given_by a n) in
+    kept_in closed_in (set_given n keys) (λ l. set_keeps (λ (d : Log). d.course) n (λ d. record d { given = keys }) l refl) (λ l. set_keeps (λ (d : Log). d.closed) n (λ d. record d { given = keys }) l refl) a.logs m
+
+-- ---- the end of gifts
+
+-- the log of the number is closed, and no other
+closed_at : (n m : ℕ) (logs : List Log) → (is_some (log_of logs m) ≡ true) ⊎ ((m == n) ≡ false) → closed_in (log_of (with_closed n logs) m) ≡ (closed_in (log_of logs m) || (m == n))
+closed_at n m [] (inl some) = absurd (true_false (sym some))
+closed_at n m [] (inr other) = sym other
+closed_at n m (l ∷ ls) known =
+    ap (λ (c : Change). closed_in (cond (c.number == m) (Some (set_closed n l)) (log_of (with_closed n ls) m))) (set_keeps (λ (d : Log). d.course) n (λ d. record d { closed = true }) l refl) ∙ by (l.course.number == m) refl known (λ k. closed_at n m ls k)
+  where
+    here : (b : Bool) → (cond b (record l { closed = true }) l).closed ≡ (l.closed || b)
+    here true = sym (or_true l.closed)
+    here false = sym (or_false l.closed)
+
+    by : (b : Bool) → (l.course.number == m) ≡ b → (is_some (cond b (Some l) (log_of ls m)) ≡ true) ⊎ ((m == n) ≡ false)
+        → ((is_some (log_of ls m) ≡ true) ⊎ ((m == n) ≡ false) → closed_in (log_of (with_closed n ls) m) ≡ (closed_in (log_of ls m) || (m == n)))
+        → closed_in (cond b (Some (set_closed n l)) (log_of (with_closed n ls) m)) ≡ (closed_in (cond b (Some l) (log_of ls m)) || (m == n))
+    by true e known rest = here (l.course.number == n) ∙ ap (λ v. l.closed || (v == n)) (eq_same l.course.number m e)
+    by false e known rest = rest known
+
+pub closed_after_close : (a : PartValue) (m : ℕ) → IsPart a → closed_by (after_close a) m ≡ (closed_by a m || (m == (course_of_part a).number))
+closed_after_close a m is = closed_at (course_of_part a).number m a.logs (by (m == (course_of_part a).number) refl)
+  where
+    by : (b : Bool) → (m == (course_of_part a).number) ≡ b → (is_some (log_of a.logs m) ≡ true) ⊎ ((m == (course_of_part a).number) ≡ false)
+    by true e =
+        let l = known_log a (course_of_part a).number (course_of_part a) is (course_known a is) in
+        inl (ap (λ n. is_some (log_of a.logs n)) (eq_same m (course_of_part a).number e) ∙ ap (λ (o : Option Log). is_some o) l.1)
+    by false e = inr e
+
+pub given_after_close : (a : PartValue) (m : ℕ) → given_by (after_close a) m ≡ given_by a m
+given_after_close a m =
+    let n = (course_of_part a).number in
+    kept_in given_in (set_closed n) (λ l. set_keeps (λ (d : Log). d.course) n (λ d. record d { closed = true }) l refl) (λ l. set_keeps (λ (d : Log). d.given) n (λ d. record d { closed = true }) l refl) a.logs m
+
+pub loaded_after_close : (a : PartValue) (m : ℕ) → loaded_by (after_close a) m ≡ loaded_by a m
+loaded_after_close a m =
+    let n = (course_of_part a).number in
+    kept_in loaded_in (set_closed n) (λ l. set_keeps (λ (d : Log). d.course) n (λ d. record d { closed = true }) l refl) (λ l. set_keeps (λ (d : Log). d.loaded) n (λ d. record d { closed = true }) l refl) a.logs m
+
 -- ---- a load
 
 pub held_after_load : (a : PartValue) (x : ChunkValue) (k : ℕ) → IsPart a → x.span.lo < x.span.hi → has (after_load a x).held k ≡ (has a.held k || (span_has x.span k && not (has (loaded_by a x.number) k)))
@@ -77,6 +145,12 @@ loaded_after_load a x c m k is known lt =
 
 pub given_after_load : (a : PartValue) (x : ChunkValue) (m : ℕ) → given_by (after_load a x) m ≡ given_by a m
 given_after_load a x m = given_beside x.number m (insert_span x.span (loaded_by a x.number)) a.logs
+
+pub closed_after_load : (a : PartValue) (x : ChunkValue) (m : ℕ) → closed_by (after_load a x) m ≡ closed_by a m
+closed_after_load a x m =
+    let n = x.number in
+    let keys = insert_span x.span (loaded_by a n) in
+    kept_in closed_in (set_loaded n keys) (λ l. set_keeps (λ (d : Log). d.course) n (λ d. record d { loaded = keys }) l refl) (λ l. set_keeps (λ (d : Log). d.closed) n (λ d. record d { loaded = keys }) l refl) a.logs m
 
 -- ---- courses
 
@@ -110,9 +184,6 @@ known_low a n c is one known = by (n == a.first.number) refl known
     by false t e = not_unknown (is.board.issues n) e
 
 -- ---- keys that move
-
-true_false : true ≡ false → ⊥
-true_false e = cc
 
 -- the keys of no range have no owner
 owner_high : (rs : List PlanRange) (k : ℕ) → AreRanges rs → top ≤ k → owner_of rs k ≡ 0

@@ -17,6 +17,7 @@ rebuilt_stands w p a c x same = record {
   first = x.first ∙ same.first;
   told = subst (λ board. SameQueries (w.facts (Part p)) (queries_of board)) same.board x.told;
   held = λ k. x.held k ∙ ap (λ s. has s k) same.held;
+  closed = λ n. x.closed n ∙ same.closed n;
   given = λ n k. x.given n k ∙ ap (λ s. has s k) (same.given n);
   loaded = λ n k. x.loaded n k ∙ ap (λ s. has s k) (same.loaded n);
 }

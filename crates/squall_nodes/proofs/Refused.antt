@@ -2,10 +2,10 @@
 use Rattle.std.proofs.Common.{◌≡◌, ℕ, Option, None, Some, subst}
 use Rattle.std.proofs.lemmas.Option.{same_Some, none-some}
 use Rattle.squall_protocol.specs.declared.event.Event.{Event}
-use Rattle.squall_protocol.specs.declared.event.Event.TheVariants.{OpenNext, Begin, Give, GiveAt, Load, Finish, Send, SendPart, Deliver, Route, Serve}
+use Rattle.squall_protocol.specs.declared.event.Event.TheVariants.{OpenNext, Begin, BeginFrom, Close, Give, GiveAt, Load, Finish, Send, SendPart, Deliver, Route, Serve}
 use Rattle.squall_protocol.specs.declared.answer.Answer.TheVariants.{Refused}
 use Rattle.squall_protocol.specs.declared.answer.Refusal.{Refusal}
-use Rattle.squall_protocol.specs.declared.answer.Refusal.TheVariants.{NoSuch, NotDone, NoMore, Running, NoNumber, NotOpen, NothingLeft, ZeroMax, NotOutgoing, Given, NotHeld, Stranger, NotAll, NothingDue, NotKnown}
+use Rattle.squall_protocol.specs.declared.answer.Refusal.TheVariants.{NoSuch, NotDone, NoMore, Running, NoNumber, NotOpen, Ended, NothingLeft, ZeroMax, NotOutgoing, Given, NotHeld, Stranger, NotAll, NothingDue, NotKnown}
 use Rattle.squall_protocol.specs.Worlds.{WorldValue, SameWorld}
 use Rattle.squall_protocol.specs.Steps.{Step}
 use Rattle.squall_protocol.specs.WorldLaws.{same_world}
@@ -18,13 +18,20 @@ refused_same w v OpenNext e step = absurd step
 refused_same w v (Begin plan) Running step = step.1
 refused_same w v (Begin plan) NoNumber step = step.2
 refused_same w v (Begin plan) e step = absurd step
+refused_same w v (BeginFrom old new) Running step = step.1
+refused_same w v (BeginFrom old new) NoNumber step = step.2
+refused_same w v (BeginFrom old new) e step = absurd step
+refused_same w v (Close p) NoSuch step = step.1
+refused_same w v (Close p) e step = absurd step
 refused_same w v (Give p most) NoSuch step = step.1
 refused_same w v (Give p most) NotOpen step = step.2
+refused_same w v (Give p most) Ended step = step.2
 refused_same w v (Give p most) NothingLeft step = step.2
 refused_same w v (Give p most) ZeroMax step = step.3
 refused_same w v (Give p most) e step = absurd step
 refused_same w v (GiveAt p k) NoSuch step = step.1
 refused_same w v (GiveAt p k) NotOpen step = step.2
+refused_same w v (GiveAt p k) Ended step = step.2
 refused_same w v (GiveAt p k) NotOutgoing step = step.2
 refused_same w v (GiveAt p k) Given step = step.2
 refused_same w v (GiveAt p k) NotHeld step = step.2

@@ -4,9 +4,9 @@ use Rattle.std.specs.Prelude.{◌||◌, ◌⊎◌, map}
 use Rattle.std.specs.List.{slice_get, AllByRecursion}
 use Rattle.std.proofs.lemmas.Bool.{false≢true, or_cases}
 use Rattle.std.proofs.lemmas.Option.{same_Some, none-some}
-use Rattle.squall_key.specs.Keys.{part_limit}
+use Rattle.squall_key.specs.Keys.{top, part_limit}
 use Rattle.squall_plan.specs.declared.range.PlanRange.{PlanRange}
-use Rattle.squall_plan.specs.Ranges.{names}
+use Rattle.squall_plan.specs.Ranges.{names, owner_of}
 use Rattle.squall_plan.proofs.Named.{named_low}
 use Rattle.squall_course.specs.Change.{Change, ArePlans}
 use Rattle.squall_course.proofs.Rising.{in_filter}
@@ -21,15 +21,19 @@ use Rattle.squall_protocol.specs.Chunks.{ChunkValue}
 use Rattle.squall_protocol.specs.declared.event.Node.{Node}
 use Rattle.squall_protocol.specs.declared.event.Node.TheVariants.{Leader, Part, Router}
 use Rattle.squall_protocol.specs.declared.event.Event.{Event}
-use Rattle.squall_protocol.specs.declared.event.Event.TheVariants.{OpenNext, Begin, Give, GiveAt, Load as LoadEvent, Finish, SendPart, Deliver}
+use Rattle.squall_protocol.specs.declared.event.Event.TheVariants.{OpenNext, Begin, BeginFrom, Close, Give, GiveAt, Load as LoadEvent, Finish, SendPart, Deliver}
 use Rattle.squall_protocol.specs.declared.answer.Answer.{Answer}
-use Rattle.squall_protocol.specs.declared.answer.Answer.TheVariants.{Sent, Delivered}
-use Rattle.squall_protocol.specs.Worlds.{WorldValue, first_course, is_node, start}
-use Rattle.squall_protocol.specs.Steps.{IsPlan, IsPartOf, Step, Run}
+use Rattle.squall_protocol.specs.declared.answer.Answer.TheVariants.{Closed, Sent, Delivered}
+use Rattle.squall_protocol.specs.Worlds.{WorldValue, first_course, last_course, is_node, start}
+use Rattle.squall_protocol.specs.Steps.{IsPlan, IsPartOf, IsWhereLeft, Step, Run}
 use Rattle.squall_protocol.specs.Promises.{IsReached}
 use Rattle.squall_protocol.specs.WorldLaws.{same_as_itself, reached_start, reached_step, run_more}
+use Rattle.squall_protocol.proofs.Courses.{named_owner}
 use Rattle.squall_protocol.proofs.Parts.{part_first}
-use Rattle.squall_part.specs.Parts.{PartValue, IsPart, new_part}
+use Rattle.squall_protocol.proofs.Left.{each_holds}
+use Rattle.squall_protocol.proofs.Start.{kept_always}
+use Rattle.squall_part.specs.Parts.{PartValue, IsPart, course_of_part, new_part}
+use Rattle.squall_part.specs.Giving.{after_close}
 use Rattle.squall_replay.specs.Calls.{IsSamePart}
 use Rattle.squall_leader.specs.declared.fault.LeaderFault.{LeaderFault}
 use Rattle.squall_leader.specs.Leaders.{LeaderValue, IsLeader, new_leader, after_begin, issue_report}
@@ -37,15 +41,15 @@ use Rattle.squall_router.specs.Routers.{RouterValue, router_with}
 use Rattle.squall_nodes.specs.Standing.{StandsForPart, StandsForLeader, StandsForRouter, IsAbsent, Becomes, PartStands, LeaderStands, RouterStands}
 use Rattle.squall_nodes.specs.PartCalls.{IsMessageOf, with_chunk, give_answer, load_answer, finish_answer}
 use Rattle.squall_nodes.specs.LeaderCalls.{BegunStands, AfterBegin, open_answer, begin_answer}
-use Rattle.squall_nodes.specs.Systems.{SystemValue, first_change, first_system, put_at, with_part, with_leader, with_router, with_message, come, come_to, with_course, Happens, Comes, IsSystem, IsRun, StandsForSystem, SystemsAreWorlds}
-use Rattle.squall_nodes.specs.Systems.Happens.{gives, gives_at, loads, finishes, part_hears, part_says, part_restarts, opens, begins, leader_hears, leader_says, router_hears, router_says}
+use Rattle.squall_nodes.specs.Systems.{SystemValue, first_change, first_system, put_at, with_part, with_leader, with_router, with_message, come, come_to, with_course, HasOwn, IsLeftBy, Happens, Comes, IsSystem, IsRun, StandsForSystem, SystemsAreWorlds}
+use Rattle.squall_nodes.specs.Systems.Happens.{gives, gives_at, loads, closes, finishes, part_hears, part_says, part_restarts, opens, begins, begins_from, leader_hears, leader_says, router_hears, router_says}
 use Rattle.squall_nodes.specs.Systems.Comes.{still, next}
 use Rattle.squall_nodes.proofs.Numbers.{eq_same}
 use Rattle.squall_nodes.proofs.Agree.{same_by, same_self, queries_report}
-use Rattle.squall_nodes.proofs.Gifts.{gives_by_step, gives_at_by_step}
+use Rattle.squall_nodes.proofs.Gifts.{gives_by_step, gives_at_by_step, closes_by_step}
 use Rattle.squall_nodes.proofs.Loads.{loads_by_step, finishes_by_step, absorbs_by_step}
 use Rattle.squall_nodes.proofs.Leads.{opens_by_step, leader_absorbs_by_step}
-use Rattle.squall_nodes.proofs.Begins.{begins_by_step, none_given, none_loaded, told_none}
+use Rattle.squall_nodes.proofs.Begins.{begins_by_step, begins_from_by_step, none_closed, none_given, none_loaded, told_none}
 use Rattle.squall_nodes.proofs.Routes.{router_absorbs_by_step}
 use Rattle.squall_nodes.proofs.Owned.{owned, none_owned}
 use Rattle.squall_nodes.proofs.Rebuilt.{rebuilt_stands}
@@ -201,8 +205,8 @@ said_moved first w s node said beside there part is = (
     plans = beside.plans;
     stands = record {
       leader = let l = beside.stands.leader in record { course = l.course; opened = l.opened; told = l.told };
-      parts = λ p a e. let x = beside.stands.parts p a e in record { there = x.there; limit = x.limit; id = x.id; first = x.first; told = x.told; held = x.held; given = x.given; loaded = x.loaded };
-      absent = λ p e. let x = beside.stands.absent p e in record { gone = x.gone; unnamed = x.unnamed; told = x.told; held = x.held; given = x.given; loaded = x.loaded };
+      parts = λ p a e. let x = beside.stands.parts p a e in record { there = x.there; limit = x.limit; id = x.id; first = x.first; told = x.told; held = x.held; closed = x.closed; given = x.given; loaded = x.loaded };
+      absent = λ p e. let x = beside.stands.absent p e in record { gone = x.gone; unnamed = x.unnamed; told = x.told; held = x.held; closed = x.closed; given = x.given; loaded = x.loaded };
       routers = λ r y e. let x = beside.stands.routers r y e in record { there = x.there; first = x.first; told = x.told };
       chunks = beside.stands.chunks;
       messages = ap (λ ms. ms ++ queries_of said ∷ []) beside.stands.messages ∙ sym (map_append queries_of s.messages (said ∷ []));
@@ -269,6 +273,16 @@ begin_moved : (first : Change) (w v : WorldValue) (s : SystemValue) (plan : List
 begin_moved first w v s plan m (Ok c) beside is reached moved = begun_moved first w v s plan m beside is reached moved
 begin_moved first w v s plan m (Err f) beside is reached moved = leader_moved first w v s m beside is reached moved
 
+-- a plan that has each key where the leader's course leaves it in the system does so in the world
+left_in_world : (first : Change) (w : WorldValue) (s : SystemValue) → Beside first w s → (old : List PlanRange) → IsPlan old → IsLeftBy s old → IsWhereLeft w old
+left_in_world first w s b old old_is left = each_holds w (kept_always w b.reached) old (λ p. record {
+  held = λ k key owner. let a = at p k key owner in (b.stands.parts p a.0 a.1).held k ∙ a.2.held k key owner;
+  closed = λ k key owner moves source. let a = at p k key owner in (b.stands.parts p a.0 a.1).closed w.last ∙ a.2.closed k key owner moves source;
+})
+  where
+    at : (p k : ℕ) → k < top → owner_of old k ≡ p → (a : PartValue) × (s.parts p ≡ Some a) × HasOwn (last_course w) a old p
+    at p k key owner = left (last_course w) b.stands.leader.course p (subst (λ q. names old q ≡ true) owner (named_owner old k old_is key))
+
 -- ---- whatever happens
 
 pub goes_on : (first : Change) (w : WorldValue) (s t : SystemValue) → Beside first w s → Happens first s t → HasNext first w t
@@ -281,6 +295,9 @@ goes_on first w s _ b (gives_at p k a c r there is part) =
 goes_on first w s _ b (loads i x a c r chunk there is part) =
     let v = came w (LoadEvent i) (load_answer r) (PartStands w x.dest c w.chunks) b.reached (loads_by_step w i x a c r (b.stands.parts x.dest a there) (b.system.parts x.dest a there) (ap (λ l. slice_get l i) b.stands.chunks ∙ chunk) is) in
     (v.0, v.3, part_moved first w v.0 s x.dest c w.chunks s.chunks b part b.stands.chunks v.1 v.2)
+goes_on first w s _ b (closes p a there part) =
+    let v = came w (Close p) (Some (Closed (course_of_part a).number)) (PartStands w p (after_close a) w.chunks) b.reached (closes_by_step w p a (b.stands.parts p a there) (b.system.parts p a there)) in
+    (v.0, v.3, part_moved first w v.0 s p (after_close a) w.chunks s.chunks b part b.stands.chunks v.1 v.2)
 goes_on first w s _ b (finishes p sub a c r there is part) =
     let v = came w (Finish p sub) (finish_answer r) (PartStands w p c w.chunks) b.reached (finishes_by_step w p sub a c r (b.stands.parts p a there) (b.system.parts p a there) is) in
     (v.0, v.3, part_moved first w v.0 s p c w.chunks s.chunks b part b.stands.chunks v.1 v.2)
@@ -298,6 +315,10 @@ goes_on first w s _ b (opens m r is valid) =
 goes_on first w s _ b (begins plan m r is valid) =
     let v = came w (Begin plan) (begin_answer w plan r) (AfterBegin w plan r m) b.reached (begins_by_step w plan s.leader m r b.stands.leader b.system.leader valid is) in
     (v.0, v.3, begin_moved first w v.0 s plan m r b valid v.1 v.2)
+goes_on first w s _ b (begins_from old new m r left old_is is valid) =
+    let where_left = left_in_world first w s b old old_is left in
+    let v = came w (BeginFrom old new) (begin_answer w new r) (AfterBegin w new r m) b.reached (begins_from_by_step w old new s.leader m r b.stands.leader b.system.leader valid where_left is) in
+    (v.0, v.3, begin_moved first w v.0 s new m r b valid v.1 v.2)
 goes_on first w s _ b (leader_hears i said message valid) =
     let m = record s.leader { board = board_join s.leader.board said } in
     let v = came w (Deliver i Leader) (Some Delivered) (LeaderStands w m) b.reached (leader_absorbs_by_step w i s.leader said b.stands.leader b.system.leader (all_at IsBoard s.messages i said b.system.messages message) (message_is w s i said b.stands message)) in
@@ -356,6 +377,7 @@ module _ (old new : List PlanRange) (count : ℕ) (old_is : IsPlan old) (new_is 
     first = refl;
     told = subst (SameQueries no_queries) (sym told_none) (same_self no_queries);
     held = λ k. sym (owned p k old old_is.canonical.tiles);
+    closed = λ n. sym (none_closed first p n);
     given = λ n k. sym (none_given first p n k);
     loaded = λ n k. sym (none_loaded first p n k);
   }
@@ -370,6 +392,7 @@ module _ (old new : List PlanRange) (count : ℕ) (old_is : IsPlan old) (new_is 
     unnamed = neither (names old p) (names new p) none;
     told = same_self no_queries;
     held = λ k. sym (owned p k old old_is.canonical.tiles) ∙ none_owned p k old (neither (names old p) (names new p) none);
+    closed = λ n. refl;
     given = λ n k. refl;
     loaded = λ n k. refl;
   }

@@ -17,7 +17,7 @@ use Rattle.squall_errand.specs.declared.errand.Reply.TheVariants.{Moved, Pending
 use Rattle.squall_protocol.specs.Chunks.{ChunkValue}
 use Rattle.squall_protocol.specs.Promises.{Carrier, IsWelcome, IsWelcomeAfter, IsHome, IsDue}
 use Rattle.squall_protocol.specs.Promises.Carrier.{Holder, Flight}
-use Rattle.squall_part.specs.Parts.{PartValue, loaded_by}
+use Rattle.squall_part.specs.Parts.{PartValue, course_of_part, closed_by, loaded_by}
 use Rattle.squall_part.specs.Serving.{IsReply}
 use Rattle.squall_leader.specs.Leaders.{IsFinished}
 use Rattle.squall_router.specs.Routers.{RouterValue, course_of_router, route_of_router}
@@ -111,13 +111,21 @@ MovesAreRight =
 
 -- ---- ends
 
+-- the newest course that the partition knows ended early: the leader's has a greater number, and the source gives no more in it
+pub record HasEndedIn (s : SystemValue) (a : PartValue) (source : ℕ) : Type 0 where
+  pub later : (c : Change) → s.leader.course ≡ Some c → (course_of_part a).number < c.number
+  pub giver : PartValue
+  pub there : s.parts source ≡ Some giver
+  pub closed : closed_by giver (course_of_part a).number ≡ true
+
 -- a partition that waits for a key gets it: the source that it names is there and holds the key, or a chunk on its way from there to it has
--- the key
+-- the key. One case is left: the newest course that it knows ended early, and it has yet to hear of a later one
 abbrev pub AwaitedKeysCome : Type 0
 AwaitedKeysCome =
     (old new : List PlanRange) (routers : ℕ) (s : SystemValue) → IsRun old new routers s
     → (p k after source : ℕ) (a : PartValue) → s.parts p ≡ Some a → IsReply a k after (Pending source)
-    → CarriesIn s k (Holder source) ⊎ ((i : ℕ) × (x : ChunkValue) × (slice_get s.chunks i ≡ Some x) × IsOnWay s x k × (x.source ≡ source) × (x.dest ≡ p))
+    → CarriesIn s k (Holder source)
+    ⊎ (((i : ℕ) × (x : ChunkValue) × (slice_get s.chunks i ≡ Some x) × IsOnWay s x k × (x.source ≡ source) × (x.dest ≡ p)) ⊎ HasEndedIn s a source)
 
 -- once the leader's course is over, each key is held by the partition to which its new plan gives it
 abbrev pub KeysAreWhereDue : Type 0

@@ -9,15 +9,15 @@ use Rattle.squall_report.specs.Issues.{PlanPair}
 use Rattle.squall_board.specs.Boards.{BoardValue, IsBoard, board_join}
 use Rattle.squall_leader.specs.declared.fault.LeaderFault.{LeaderFault}
 use Rattle.squall_leader.specs.declared.fault.LeaderFault.TheVariants.{Running as LeaderRunning, NoNumber as LeaderNoNumber, Idle as LeaderIdle, NotDone as LeaderNotDone, NoMore as LeaderNoMore, NoMemory as LeaderNoMemory}
-use Rattle.squall_leader.specs.Leaders.{LeaderValue, IsLeader, IsOpened, IsBegun}
+use Rattle.squall_leader.specs.Leaders.{LeaderValue, IsLeader, IsOpened, IsBegun, IsBegunFrom}
 use Rattle.squall_protocol.specs.declared.event.Node.TheVariants.{Leader}
-use Rattle.squall_protocol.specs.declared.event.Event.TheVariants.{OpenNext, Begin, Deliver}
+use Rattle.squall_protocol.specs.declared.event.Event.TheVariants.{OpenNext, Begin, BeginFrom, Deliver}
 use Rattle.squall_protocol.specs.declared.answer.Answer.{Answer}
 use Rattle.squall_protocol.specs.declared.answer.Answer.TheVariants.{Opened, Begun, Delivered, Refused}
 use Rattle.squall_protocol.specs.declared.answer.Refusal.{Refusal}
 use Rattle.squall_protocol.specs.declared.answer.Refusal.TheVariants.{NotDone, NoMore, Running, NoNumber}
 use Rattle.squall_protocol.specs.Worlds.{WorldValue, first_course}
-use Rattle.squall_protocol.specs.Steps.{new_parts}
+use Rattle.squall_protocol.specs.Steps.{IsWhereLeft, new_parts}
 use Rattle.squall_part.specs.Parts.{PartValue, new_part}
 use Rattle.squall_router.specs.Routers.{RouterValue}
 use Rattle.squall_nodes.specs.Standing.{StandsForPart, StandsForLeader, StandsForRouter, IsAbsent, LeaderStands, Becomes, refused}
@@ -94,3 +94,9 @@ abbrev pub BeginsByStep : Type 0
 BeginsByStep =
     (w : WorldValue) (plan : List PlanRange) (l m : LeaderValue) (r : Result Change LeaderFault) → StandsForLeader w l → IsLeader l → IsLeader m → IsBegun l plan r m
     → Becomes w (Begin plan) (begin_answer w plan r) (AfterBegin w plan r m)
+
+-- to begin a course from a plan is the world's step, if the plan has each key where the course begun last leaves it
+abbrev pub BeginsFromByStep : Type 0
+BeginsFromByStep =
+    (w : WorldValue) (old new : List PlanRange) (l m : LeaderValue) (r : Result Change LeaderFault) → StandsForLeader w l → IsLeader l → IsLeader m → IsWhereLeft w old → IsBegunFrom l old new r m
+    → Becomes w (BeginFrom old new) (begin_answer w new r) (AfterBegin w new r m)

@@ -8,7 +8,7 @@ use Rattle.squall_board.specs.Boards.{BoardValue, IsBoard, board_join}
 use Rattle.squall_board.specs.BoardQueries.{queries_of}
 use Rattle.squall_errand.specs.declared.errand.Reply.{Reply}
 use Rattle.squall_part.specs.declared.giving.GiveFault.{GiveFault}
-use Rattle.squall_part.specs.declared.giving.GiveFault.TheVariants.{NotOpen as GiveNotOpen, NothingLeft as GiveNothingLeft, ZeroMax as GiveZeroMax, NotOutgoing as GiveNotOutgoing, Given as GiveGiven, NotHeld as GiveNotHeld, NoMemory as GiveNoMemory}
+use Rattle.squall_part.specs.declared.giving.GiveFault.TheVariants.{NotOpen as GiveNotOpen, Ended as GiveEnded, NothingLeft as GiveNothingLeft, ZeroMax as GiveZeroMax, NotOutgoing as GiveNotOutgoing, Given as GiveGiven, NotHeld as GiveNotHeld, NoMemory as GiveNoMemory}
 use Rattle.squall_part.specs.declared.loading.LoadFault.{LoadFault}
 use Rattle.squall_part.specs.declared.loading.LoadFault.TheVariants.{NotOpen as LoadNotOpen, Stranger as LoadStranger, NoMemory as LoadNoMemory}
 use Rattle.squall_part.specs.declared.loading.Load.{Load}
@@ -17,14 +17,14 @@ use Rattle.squall_part.specs.declared.finishing.FinishFault.{FinishFault}
 use Rattle.squall_part.specs.declared.finishing.FinishFault.TheVariants.{NotOpen as FinishNotOpen, NotAll as FinishNotAll, NothingDue as FinishNothingDue, NoMemory as FinishNoMemory}
 use Rattle.squall_protocol.specs.Chunks.{ChunkValue}
 use Rattle.squall_protocol.specs.declared.event.Node.TheVariants.{Part}
-use Rattle.squall_protocol.specs.declared.event.Event.TheVariants.{Give, GiveAt, Load as LoadEvent, Finish, Deliver, Serve}
+use Rattle.squall_protocol.specs.declared.event.Event.TheVariants.{Close, Give, GiveAt, Load as LoadEvent, Finish, Deliver, Serve}
 use Rattle.squall_protocol.specs.declared.answer.Answer.{Answer}
-use Rattle.squall_protocol.specs.declared.answer.Answer.TheVariants.{Gave, Loaded, Again, Finished, Delivered, Served}
+use Rattle.squall_protocol.specs.declared.answer.Answer.TheVariants.{Closed, Gave, Loaded, Again, Finished, Delivered, Served}
 use Rattle.squall_protocol.specs.declared.answer.Refusal.{Refusal}
-use Rattle.squall_protocol.specs.declared.answer.Refusal.TheVariants.{NotOpen, NothingLeft, ZeroMax, NotOutgoing, Given, NotHeld, Stranger, NotAll, NothingDue}
+use Rattle.squall_protocol.specs.declared.answer.Refusal.TheVariants.{NotOpen, Ended, NothingLeft, ZeroMax, NotOutgoing, Given, NotHeld, Stranger, NotAll, NothingDue}
 use Rattle.squall_protocol.specs.Worlds.{WorldValue}
-use Rattle.squall_part.specs.Parts.{PartValue, IsPart, given_by, loaded_by}
-use Rattle.squall_part.specs.Giving.{IsGiven, IsGivenAt}
+use Rattle.squall_part.specs.Parts.{PartValue, IsPart, course_of_part, closed_by, given_by, loaded_by}
+use Rattle.squall_part.specs.Giving.{IsGiven, IsGivenAt, after_close}
 use Rattle.squall_part.specs.Loading.{IsLoaded, IsFinished}
 use Rattle.squall_part.specs.Serving.{IsReply}
 use Rattle.squall_nodes.specs.Standing.{StandsForPart, PartStands, Becomes, refused}
@@ -42,6 +42,7 @@ ServesByStep =
 -- why nothing is given, as a refusal of the world. None if memory was missing
 abbrev pub give_refusal : GiveFault → Option Refusal
 give_refusal GiveNotOpen = Some NotOpen
+give_refusal GiveEnded = Some Ended
 give_refusal GiveNothingLeft = Some NothingLeft
 give_refusal GiveZeroMax = Some ZeroMax
 give_refusal GiveNotOutgoing = Some NotOutgoing
@@ -70,6 +71,11 @@ abbrev pub GivesAtByStep : Type 0
 GivesAtByStep =
     (w : WorldValue) (p k : ℕ) (a b : PartValue) (r : Result ChunkValue GiveFault) → StandsForPart w p a → IsPart a → IsGivenAt a k r b
     → Becomes w (GiveAt p k) (give_answer (length w.chunks) r) (PartStands w p b (with_chunk w.chunks r))
+
+-- to give no more is the world's step, and its answer has the course's number
+abbrev pub ClosesByStep : Type 0
+ClosesByStep =
+    (w : WorldValue) (p : ℕ) (a : PartValue) → StandsForPart w p a → IsPart a → Becomes w (Close p) (Some (Closed (course_of_part a).number)) (PartStands w p (after_close a) w.chunks)
 
 -- ---- loads
 
@@ -123,6 +129,7 @@ pub record HasAbsorbed (a : PartValue) (said : BoardValue) (b : PartValue) : Typ
   pub id : b.id ≡ a.id
   pub first : b.first ≡ a.first
   pub held : b.held ≡ a.held
+  pub closed : (n : ℕ) → closed_by b n ≡ closed_by a n
   pub given : (n : ℕ) → given_by b n ≡ given_by a n
   pub loaded : (n : ℕ) → loaded_by b n ≡ loaded_by a n
 

@@ -17,8 +17,8 @@ use Rattle.squall_protocol.specs.Steps.{Step, last_count}
 -- did not hear
 pub record LagsBehind (w : WorldValue) (l : LeaderValue) : Type 0 where
   pub course : l.course ≡ Some (last_course w)
-  pub opened : l.opened ≤ w.opened
-  pub most : w.opened ≤ last_count w
+  pub opened : l.opened ≤ w.opened w.last
+  pub most : w.opened w.last ≤ last_count w
   pub told : (c : CellPlace) → says l.board (DonePart c) ≡ true → (w.facts Leader).done c ≡ true
 
 -- to open the next sub-plan is to open one that the world's leader has opened, or it is that one's step. It lags behind still, whatever is

@@ -14,13 +14,13 @@ use Rattle.squall_protocol.specs.declared.answer.Answer.TheVariants.{Refused}
 use Rattle.squall_protocol.specs.declared.answer.Refusal.{Refusal}
 use Rattle.squall_protocol.specs.Worlds.{WorldValue, first_course, last_course, same_node, is_part, is_node}
 use Rattle.squall_protocol.specs.Steps.{Step}
-use Rattle.squall_part.specs.Parts.{PartValue, given_by, loaded_by}
+use Rattle.squall_part.specs.Parts.{PartValue, closed_by, given_by, loaded_by}
 use Rattle.squall_leader.specs.Leaders.{LeaderValue}
 use Rattle.squall_router.specs.Routers.{RouterValue}
 
 -- ---- one node
 
--- the value stands for the partition of that number: it is there, and has heard, holds, gave and loaded what the value says
+-- the value stands for the partition of that number: it is there, and has heard, holds, gave, loaded and closed what the value says
 pub record StandsForPart (w : WorldValue) (p : ℕ) (a : PartValue) : Type 0 where
   pub there : is_part w p ≡ true
   pub limit : p < part_limit
@@ -28,13 +28,14 @@ pub record StandsForPart (w : WorldValue) (p : ℕ) (a : PartValue) : Type 0 whe
   pub first : first_course w ≡ a.first
   pub told : SameQueries (w.facts (Part p)) (queries_of a.board)
   pub held : (k : ℕ) → w.held p k ≡ has a.held k
+  pub closed : (n : ℕ) → w.closed n p ≡ closed_by a n
   pub given : (n k : ℕ) → w.given n p k ≡ has (given_by a n) k
   pub loaded : (n k : ℕ) → w.loaded n p k ≡ has (loaded_by a n) k
 
 -- the value stands for the leader: both use the course begun last, opened as many of its sub-plans, and heard the same
 pub record StandsForLeader (w : WorldValue) (l : LeaderValue) : Type 0 where
   pub course : l.course ≡ Some (last_course w)
-  pub opened : w.opened ≡ l.opened
+  pub opened : w.opened w.last ≡ l.opened
   pub told : SameQueries (w.facts Leader) (queries_of l.board)
 
 -- the value stands for the router of that number: it is there, began with the same course, and has heard the same
@@ -43,12 +44,13 @@ pub record StandsForRouter (w : WorldValue) (r : ℕ) (x : RouterValue) : Type 0
   pub first : first_course w ≡ x.first
   pub told : SameQueries (w.facts (Router r)) (queries_of x.board)
 
--- no partition of that number is there. Nothing was held, given, loaded or heard under it, and the first old plan does not name it
+-- no partition of that number is there. Nothing was held, given, loaded, closed or heard under it, and the first old plan does not name it
 pub record IsAbsent (w : WorldValue) (p : ℕ) : Type 0 where
   pub gone : is_part w p ≡ false
   pub unnamed : names (first_course w).old p ≡ false
   pub told : SameQueries (w.facts (Part p)) no_queries
   pub held : (k : ℕ) → w.held p k ≡ false
+  pub closed : (n : ℕ) → w.closed n p ≡ false
   pub given : (n k : ℕ) → w.given n p k ≡ false
   pub loaded : (n k : ℕ) → w.loaded n p k ≡ false
 

@@ -1,9 +1,11 @@
 -- A system: values of nodes, wherever these run, the chunks that partitions gave, and the boards that nodes sent (this project). All that
 -- happens in it are calls of its nodes, with chunks that were given and boards that were sent.
-use Rattle.std.specs.Prelude.{◌≡◌, ℕ, ◌==◌, ◌||◌, ◌⊎◌, nat_lt, Bool, List, [], ◌∷◌, ◌++◌, map, Result, Ok, Err, Option, None, Some, if◌then◌else◌}
+use Rattle.std.specs.Prelude.{◌≡◌, ◌≢◌, ℕ, ◌<◌, ◌==◌, ◌||◌, ◌⊎◌, nat_lt, Bool, true, List, [], ◌∷◌, ◌++◌, map, Result, Ok, Err, Option, None, Some, if◌then◌else◌}
 use Rattle.std.specs.List.{slice_get, AllByRecursion}
 use Rattle.squall_plan.specs.declared.range.PlanRange.{PlanRange}
-use Rattle.squall_plan.specs.Ranges.{names}
+use Rattle.squall_key.specs.Keys.{top}
+use Rattle.squall_span.specs.Spans.{has}
+use Rattle.squall_plan.specs.Ranges.{names, owner_of}
 use Rattle.squall_course.specs.Change.{Change}
 use Rattle.squall_report.specs.declared.report.ReportKind.{ReportKind}
 use Rattle.squall_report.specs.Issues.{PlanPair}
@@ -19,11 +21,11 @@ use Rattle.squall_part.specs.declared.giving.GiveFault.{GiveFault}
 use Rattle.squall_part.specs.declared.loading.LoadFault.{LoadFault}
 use Rattle.squall_part.specs.declared.loading.Load.{Load}
 use Rattle.squall_part.specs.declared.finishing.FinishFault.{FinishFault}
-use Rattle.squall_part.specs.Parts.{PartValue, IsPart, new_part}
-use Rattle.squall_part.specs.Giving.{IsGiven, IsGivenAt}
+use Rattle.squall_part.specs.Parts.{PartValue, IsPart, closed_by, new_part}
+use Rattle.squall_part.specs.Giving.{IsGiven, IsGivenAt, after_close}
 use Rattle.squall_part.specs.Loading.{IsLoaded, IsFinished}
 use Rattle.squall_leader.specs.declared.fault.LeaderFault.{LeaderFault}
-use Rattle.squall_leader.specs.Leaders.{LeaderValue, IsLeader, IsOpened, IsBegun, new_leader, after_begin}
+use Rattle.squall_leader.specs.Leaders.{LeaderValue, IsLeader, IsOpened, IsBegun, IsBegunFrom, new_leader, after_begin}
 use Rattle.squall_router.specs.Routers.{RouterValue, router_with}
 use Rattle.squall_replay.specs.Calls.{IsSamePart}
 use Rattle.squall_nodes.specs.Standing.{StandsForPart, StandsForLeader, StandsForRouter, IsAbsent}
@@ -90,21 +92,33 @@ abbrev pub with_course : SystemValue → Change → List PlanRange → LeaderVal
 with_course s first plan l (Ok c) = record s { leader = l; parts = come s.parts plan first }
 with_course s first plan l (Err f) = record s { leader = l }
 
+-- A partition has what the plan gives it: it holds each such key. If one of them is to leave it by the course, it gives no more in that
+-- course
+pub record HasOwn (c : Change) (a : PartValue) (plan : List PlanRange) (p : ℕ) : Type 0 where
+  pub held : (k : ℕ) → k < top → owner_of plan k ≡ p → has a.held k ≡ true
+  pub closed : (k : ℕ) → k < top → owner_of plan k ≡ p → owner_of c.old k ≢ owner_of c.new k → owner_of c.old k ≡ p → closed_by a c.number ≡ true
+
+-- the plan has each key where the leader's course leaves it: each partition that it names is there, and has what the plan gives it
+abbrev pub IsLeftBy : SystemValue → List PlanRange → Type 0
+IsLeftBy s plan = (c : Change) → s.leader.course ≡ Some c → (p : ℕ) → names plan p ≡ true → (a : PartValue) × (s.parts p ≡ Some a) × HasOwn c a plan p
+
 -- One call of a node, or one message of it, if the system began with this course. A node may send any part of what its board tells: one
 -- report, a delta, a piece, a repair, or all. A partition may die and be rebuilt from the log of its calls: that is another value, which no
 -- call tells apart from the one before. (A leader that is rebuilt is the same value, so that is no event.) Questions change nothing and are
--- left out, and so are calls by which a node hears and that fail for want of memory. `IsPart` and `IsLeader` are the invariants of types,
--- which the calls `known` give
+-- left out, and so are calls by which a node hears and that fail for want of memory. A leader begins from a plan only if partitions have what
+-- the plan gives them. `IsPart` and `IsLeader` are the invariants of types, which the calls `known` give
 pub data Happens (first : Change) (s : SystemValue) : SystemValue → Type 0 where
   gives : (p most : ℕ) (a b : PartValue) (r : Result ChunkValue GiveFault) → s.parts p ≡ Some a → IsGiven a most r b → IsPart b → Happens first s (with_part s p b (with_chunk s.chunks r))
   gives_at : (p k : ℕ) (a b : PartValue) (r : Result ChunkValue GiveFault) → s.parts p ≡ Some a → IsGivenAt a k r b → IsPart b → Happens first s (with_part s p b (with_chunk s.chunks r))
   loads : (i : ℕ) (x : ChunkValue) (a b : PartValue) (r : Result Load LoadFault) → slice_get s.chunks i ≡ Some x → s.parts x.dest ≡ Some a → IsLoaded a x r b → IsPart b → Happens first s (with_part s x.dest b s.chunks)
+  closes : (p : ℕ) (a : PartValue) → s.parts p ≡ Some a → IsPart (after_close a) → Happens first s (with_part s p (after_close a) s.chunks)
   finishes : (p sub : ℕ) (a b : PartValue) (r : Result (ReportKind PlanPair) FinishFault) → s.parts p ≡ Some a → IsFinished a sub r b → IsPart b → Happens first s (with_part s p b s.chunks)
   part_hears : (p i : ℕ) (a b : PartValue) (said : BoardValue) → s.parts p ≡ Some a → slice_get s.messages i ≡ Some said → HasAbsorbed a said b → IsPart b → Happens first s (with_part s p b s.chunks)
   part_says : (p : ℕ) (a : PartValue) (said : BoardValue) → s.parts p ≡ Some a → IsBoard said → IsPartOf (queries_of said) (queries_of a.board) → Happens first s (with_message s said)
   part_restarts : (p : ℕ) (a b : PartValue) → s.parts p ≡ Some a → IsSamePart a b → IsPart b → Happens first s (with_part s p b s.chunks)
   opens : (m : LeaderValue) (r : Result (ReportKind PlanPair) LeaderFault) → IsOpened s.leader r m → IsLeader m → Happens first s (with_leader s m)
   begins : (plan : List PlanRange) (m : LeaderValue) (r : Result Change LeaderFault) → IsBegun s.leader plan r m → IsLeader m → Happens first s (with_course s first plan m r)
+  begins_from : (old new : List PlanRange) (m : LeaderValue) (r : Result Change LeaderFault) → IsLeftBy s old → IsPlan old → IsBegunFrom s.leader old new r m → IsLeader m → Happens first s (with_course s first new m r)
   leader_hears : (i : ℕ) (said : BoardValue) → slice_get s.messages i ≡ Some said → IsLeader (record s.leader { board = board_join s.leader.board said }) → Happens first s (with_leader s (record s.leader { board = board_join s.leader.board said }))
   leader_says : (said : BoardValue) → IsBoard said → IsPartOf (queries_of said) (queries_of s.leader.board) → Happens first s (with_message s said)
   router_hears : (r i : ℕ) (x : RouterValue) (said : BoardValue) → s.routers r ≡ Some x → slice_get s.messages i ≡ Some said → Happens first s (with_router s r (router_with x.first (board_join x.board said)))

@@ -1,7 +1,7 @@
 //! Laws, each the contract of a function that does nothing.
 
-ghost use Rattle.squall_nodes.specs.PartCalls.{ServesByStep, GivesByStep, GivesAtByStep, LoadsByStep, FinishesByStep, AbsorbsByStep};
-ghost use Rattle.squall_nodes.specs.LeaderCalls.{OpensByStep, BeginsByStep, LeaderAbsorbsByStep};
+ghost use Rattle.squall_nodes.specs.PartCalls.{ServesByStep, GivesByStep, GivesAtByStep, ClosesByStep, LoadsByStep, FinishesByStep, AbsorbsByStep};
+ghost use Rattle.squall_nodes.specs.LeaderCalls.{OpensByStep, BeginsByStep, BeginsFromByStep, LeaderAbsorbsByStep};
 ghost use Rattle.squall_nodes.specs.RouterCalls.{RoutesByStep, RouterAbsorbsByStep};
 ghost use Rattle.squall_nodes.specs.Late.{LateRoutesByStep, LateAbsorbsByStep};
 ghost use Rattle.squall_nodes.specs.Resumed.{OpensAgain};
@@ -19,6 +19,7 @@ pub fn a_part_is_a_partition()
     ensures serving { ServesByStep }
     ensures giving { GivesByStep }
     ensures giving_at { GivesAtByStep }
+    ensures closing { ClosesByStep }
     ensures loading { LoadsByStep }
     ensures finishing { FinishesByStep }
     ensures absorbing { AbsorbsByStep }
@@ -28,6 +29,7 @@ pub fn a_part_is_a_partition()
 pub fn a_leader_is_the_leader()
     ensures opening { OpensByStep }
     ensures beginning { BeginsByStep }
+    ensures beginning_from { BeginsFromByStep }
     ensures absorbing { LeaderAbsorbsByStep }
 {}
 

@@ -16,15 +16,15 @@ use Rattle.squall_part.specs.declared.loading.Load.{Load}
 use Rattle.squall_part.specs.declared.loading.LoadFault.{LoadFault}
 use Rattle.squall_part.specs.declared.finishing.FinishFault.{FinishFault}
 use Rattle.squall_part.specs.declared.finishing.FinishFault.TheVariants.{NotOpen, NotAll, NothingDue, NoMemory}
-use Rattle.squall_part.specs.Parts.{PartValue, IsPart, given_by, loaded_by}
-use Rattle.squall_part.specs.Giving.{IsGiven, IsGivenAt}
+use Rattle.squall_part.specs.Parts.{PartValue, IsPart, closed_by, given_by, loaded_by}
+use Rattle.squall_part.specs.Giving.{IsGiven, IsGivenAt, after_close}
 use Rattle.squall_part.specs.Loading.{IsFinished}
 use Rattle.squall_nodes.specs.Systems.{SystemValue, put_at, with_part}
-use Rattle.squall_nodes.specs.Systems.Happens.{finishes, part_hears}
+use Rattle.squall_nodes.specs.Systems.Happens.{closes, finishes, part_hears}
 use Rattle.squall_nodes.proofs.Systems.{put_some}
 use Rattle.squall_store.specs.declared.store.Asked.{Asked}
 use Rattle.squall_store.specs.Stores.{IsAsked, IsAnswered, NewRowsAre, OthersStay}
-use Rattle.squall_store.specs.Systems.{StoresValue, after_command, after_gift, with_store, with_partition, MovesNoKey, done_by, IsStoreIn, IsCalledIn, HasCopies}
+use Rattle.squall_store.specs.Systems.{StoresValue, StoreCall, after_command, after_gift, with_store, with_partition, MovesNoKey, done_by, IsStoreIn, IsCalledIn, HasCopies}
 use Rattle.squall_store.specs.Systems.StoreCall.{asks, gives, gives_at, loads, others}
 use Rattle.squall_store.proofs.Acts.{alike}
 
@@ -111,25 +111,35 @@ finished run row_of sub a b before after r same h part first s p is = (
   record { part = part_put p b s.nodes.parts; has_rows = λ k. is.has_rows k ∙ ap (λ d. row_of d k) (sym same) },
 )
 
+pub closed : {Row Command Reply D : Type 0} (run : Command → Row → Row × Reply) (row_of : D → ℕ → Row) (a b : PartValue) (before after : D)
+    → after ≡ before → b ≡ after_close a → IsPart b
+    → (first : Change) (s : StoresValue Row) (p : ℕ) → IsStoreIn s p a (row_of before) → IsCalledIn run first s [] (with_partition s p b) p b (row_of after)
+closed run row_of a b before after same is_closed part first s p is = (
+  subst (λ c. StoreCall run first s [] (with_partition s p c)) (sym is_closed)
+      (others (with_part s.nodes p (after_close a) s.nodes.chunks) (closes p a is.part (subst IsPart is_closed part)) (same_keys s.nodes p a (after_close a) is.part refl)),
+  record { part = part_put p b s.nodes.parts; has_rows = λ k. is.has_rows k ∙ ap (λ d. row_of d k) (sym same) },
+)
+
 -- what holds anyhow holds after an answer
 pub anyhow : {A E : Type 0} {P : Type 0} (r : Result A E) → P → OnOk r P
 anyhow (Ok x) h = h
 anyhow (Err e) h = tt
 
 pub absorbed : {Row Command Reply D A E : Type 0} (run : Command → Row → Row × Reply) (row_of : D → ℕ → Row) (r : Result A E) (a b : PartValue) (before after : D) (said : BoardValue)
-    → after ≡ before → OnOk r (TakesBoard a.board said b.board) → b ≡ record a { board = b.board; logs = b.logs } → ((n : ℕ) → given_by b n ≡ given_by a n) → ((n : ℕ) → loaded_by b n ≡ loaded_by a n) → OnOk r (IsPart b)
+    → after ≡ before → OnOk r (TakesBoard a.board said b.board) → b ≡ record a { board = b.board; logs = b.logs } → ((n : ℕ) → closed_by b n ≡ closed_by a n) → ((n : ℕ) → given_by b n ≡ given_by a n) → ((n : ℕ) → loaded_by b n ≡ loaded_by a n) → OnOk r (IsPart b)
     → OnOk r ((first : Change) (s : StoresValue Row) (p i : ℕ) → IsStoreIn s p a (row_of before) → slice_get s.nodes.messages i ≡ Some said
     → IsCalledIn run first s [] (with_partition s p b) p b (row_of after))
-absorbed run row_of (Ok x) a b before after said same takes kept given loaded part = λ first s p i is message.
+absorbed run row_of (Ok x) a b before after said same takes kept closed given loaded part = λ first s p i is message.
     let held : b.held ≡ a.held = ap (λ (v : PartValue). v.held) kept in (
       others (with_part s.nodes p b s.nodes.chunks) (part_hears p i a b said is.part message (record {
         board = takes.joined;
         id = ap (λ (v : PartValue). v.id) kept;
         first = ap (λ (v : PartValue). v.first) kept;
         held = held;
+        closed = closed;
         given = given;
         loaded = loaded;
       }) part) (same_keys s.nodes p a b is.part held),
       record { part = part_put p b s.nodes.parts; has_rows = λ k. is.has_rows k ∙ ap (λ d. row_of d k) (sym same) },
     )
-absorbed run row_of (Err e) a b before after said same takes kept given loaded part = tt
+absorbed run row_of (Err e) a b before after said same takes kept closed given loaded part = tt

@@ -254,7 +254,7 @@ module _ {Row Command Reply : Type 0} (run : Command → Row → Row × Reply) (
   }
 
   still_later : Later w.world w.world
-  still_later = later_by w.world w.world refl refl (le_refl w.world.opened) refl refl
+  still_later = later_by w.world w.world refl refl refl (λ n. le_refl (w.world.opened n)) refl refl
 
   given : (p : ℕ) (b : PartValue) (r : Result ChunkValue GiveFault) (e : Event) (o : Option Answer) → IsPart b → MovesOn w e o (GaveRows w p b (s.rows p) r) → on [] (after_gift s p b r)
   given p b r e None is gave = no_act (after_gift s p b r) (has_given w p b r is has_all.nodes.reached (λ i k x key there flight. refl) still_later gave)

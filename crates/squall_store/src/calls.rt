@@ -77,6 +77,16 @@ pub fn load_in<D: Rows>(
     loaded
 }
 
+/// Gives no more, as [`Store::close`] does.
+pub fn close_in<D: Rows>(store: &mut Store<D>) -> u32
+    ensures { (first : Change) (s : StoresValue D.Row) (p : ℕ) → IsStoreIn s p store.old.part (D.row_of store.old.rows)
+        → IsCalledIn D.run first s [] (with_partition s p store.new.part) p store.new.part (D.row_of store.new.rows) }
+{
+    let number = store.close();
+    store.part().known();
+    number
+}
+
 /// Finishes, as [`Store::finish`] does.
 pub fn finish_in<D: Rows>(store: &mut Store<D>, sub: u32) -> Result<Report, FinishFault>
     ensures { (first : Change) (s : StoresValue D.Row) (p : ℕ) → IsStoreIn s p store.old.part (D.row_of store.old.rows)

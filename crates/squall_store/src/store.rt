@@ -3,8 +3,8 @@
 ghost use Rattle.std.specs.Prelude.{◌≡◌, ◌≢◌, ℕ, true, IfOk, OnOk, OnErr, IfSome, IfNone};
 ghost use Rattle.squall_span.specs.Spans.{span_has};
 ghost use Rattle.squall_board.specs.Takes.{TakesBoard};
-ghost use Rattle.squall_part.specs.Parts.{given_by, loaded_by};
-ghost use Rattle.squall_part.specs.Giving.{IsGiven, IsGivenAt};
+ghost use Rattle.squall_part.specs.Parts.{course_of_part, closed_by, given_by, loaded_by};
+ghost use Rattle.squall_part.specs.Giving.{IsGiven, IsGivenAt, after_close};
 ghost use Rattle.squall_part.specs.Loading.{IsFinished};
 ghost use Rattle.squall_store.specs.Stores.{IsAsked, IsAnswered, NewRowsAre, OthersStay, HoldsAll, IsFirstNotHeld};
 
@@ -122,6 +122,16 @@ impl<D: Rows> Store<D> {
         self.part.give_at(key)
     }
 
+    /// Gives no more in the newest course, as the partition does: the answer is that course's number.
+    /// Rows stay.
+    pub fn close(&mut self) -> u32
+        ensures number { result ≡ (course_of_part self.old.part).number }
+        ensures part { self.new.part ≡ after_close self.old.part }
+        ensures rows { self.new.rows ≡ self.old.rows }
+    {
+        self.part.close()
+    }
+
     /// Copies the rows that travel with a chunk that was given. An error means that an allocation
     /// failed.
     pub fn copy(&self, chunk: &Chunk) -> Result<D::Batch, AllocError>
@@ -150,6 +160,7 @@ impl<D: Rows> Store<D> {
     pub fn absorb(&mut self, delta: &Delta) -> Result<(), AllocError>
         ensures takes { OnOk result (TakesBoard self.old.part.board delta.now self.new.part.board) }
         ensures same { self.new.part ≡ record self.old.part { board = self.new.part.board; logs = self.new.part.logs } }
+        ensures closed { (n : ℕ) → closed_by self.new.part n ≡ closed_by self.old.part n }
         ensures given { (n : ℕ) → given_by self.new.part n ≡ given_by self.old.part n }
         ensures loaded { (n : ℕ) → loaded_by self.new.part n ≡ loaded_by self.old.part n }
         ensures err { OnErr result (self.new.part ≡ self.old.part) }

@@ -1,5 +1,5 @@
 -- What a course that is begun does to a world.
-use Rattle.std.proofs.Common.{◌≡◌, ℕ, ◌+◌, ◌-◌, ◌<◌, ◌≤◌, false, cond, ltb, List, [], ◌∷◌, ◌++◌, length, take, get_or, set, Option, Some, None, Result, Ok, Err, sym, ap, subst, ◌∙◌, arith, length-set, length-append}
+use Rattle.std.proofs.Common.{◌≡◌, ℕ, ◌+◌, ◌-◌, ◌<◌, ◌≤◌, ◌↔◌, Bool, IsTrue, false, cond, ltb, List, [], ◌∷◌, ◌++◌, length, take, get_or, set, Option, Some, None, Result, Ok, Err, sym, ap, subst, ◌∙◌, arith, length-set, length-append}
 use Rattle.std.specs.List.{position}
 use Rattle.std.specs.Result.{IsErr}
 use Rattle.std.specs.declared.alloc.AllocError.{AllocError}
@@ -12,24 +12,39 @@ use Rattle.squall_report.specs.declared.report.ReportKind.{ReportKind}
 use Rattle.squall_report.specs.declared.report.ReportKind.TheVariants.{Issued}
 use Rattle.squall_report.specs.Issues.{PlanPair, plan_pair}
 use Rattle.squall_leader.specs.declared.fault.LeaderFault.{LeaderFault}
-use Rattle.squall_leader.specs.Leaders.{LeaderValue, next_course, issue_report}
+use Rattle.squall_leader.specs.Leaders.{LeaderValue, course_from, issue_report}
+use Rattle.squall_leader.specs.Leaders.{IsFinished as IsLeaderFinished}
 use Rattle.squall_protocol.specs.declared.answer.Answer.{Answer}
-use Rattle.squall_protocol.specs.declared.answer.Answer.TheVariants.{Begun}
+use Rattle.squall_protocol.specs.declared.answer.Answer.TheVariants.{Begun, Refused}
+use Rattle.squall_protocol.specs.declared.answer.Refusal.TheVariants.{NoNumber}
 use Rattle.squall_world.specs.declared.peer.Role.TheVariants.{Leader as LeaderRole}
 use Rattle.squall_world.specs.Nets.{PeerValue, NetValue, IsNet, reported, is_part_role, is_part_peer, first_of, newest_of}
 use Rattle.squall_world.specs.Acts.{Begins}
 use Rattle.squall_world.specs.Naming.{AreNoted, AreRoles}
-use Rattle.squall_world.specs.Events.{HasLeader, IsBeginIn, part_peers, named_first}
-use Rattle.squall_world.proofs.Standing.{put_is, leader_there, leader_course, leader_is}
+use Rattle.squall_world.specs.Events.{HasLeader, IsCourseIn, IsDoneIn, IsBeginIn, part_peers, named_first}
+use Rattle.squall_world.proofs.Standing.{put_is, leader_role, leader_there, leader_course, leader_is}
 
 -- where an allocation failed nothing changed
-pub nothing_begun : (n m : NetValue) (plan : List PlanRange) (r : Result Answer AllocError) → IsErr r → m ≡ n → IsBeginIn n plan r m
-nothing_begun n m plan (Ok a) is same = absurd (false≢true is)
-nothing_begun n m plan (Err e) is same = same
+pub nothing_begun : (n m : NetValue) (old plan : List PlanRange) (r : Result Answer AllocError) → IsErr r → m ≡ n → IsCourseIn n old plan r m
+nothing_begun n m old plan (Ok a) is same = absurd (false≢true is)
+nothing_begun n m old plan (Err e) is same = same
+
+-- a leader that says that its course is over
+pub done_is : (n : NetValue) (peer : PeerValue) (over : Bool) → IsNet n → peer ≡ get_or n.peers 0 peer → ((a : LeaderValue) → peer.role ≡ LeaderRole a → IsTrue over ↔ IsLeaderFinished a) → IsTrue over → IsDoneIn n
+done_is n peer over is read tells said =
+    let role = leader_role n peer is read in
+    (peer, is.led.leader, record { there = leader_there n peer is read; role = role }, (tells is.led.leader role).0 said)
+
+-- a course that begins from the newest plan, once the one before is over
+pub begun_after : (n m : NetValue) (old plan : List PlanRange) (r : Result Answer AllocError) → old ≡ (newest_of n).new → IsDoneIn n → IsCourseIn n old plan r m → IsBeginIn n plan r m
+begun_after n m old plan (Ok (Begun number parts)) e done h = (done, subst (λ o. IsCourseIn n o plan (Ok (Begun number parts)) m) e h)
+begun_after n m old plan (Ok (Refused NoNumber)) e done h = (done, subst (λ o. IsCourseIn n o plan (Ok (Refused NoNumber)) m) e h)
+begun_after n m old plan (Ok answer) e done h = absurd h
+begun_after n m old plan (Err x) e done h = h
 
 -- room that was made changes nothing
-pub kept : (n m : NetValue) (courses : List Change) (peers : List PeerValue) → m ≡ record n { courses = courses; peers = peers } → courses ≡ n.courses → peers ≡ n.peers → m ≡ n
-kept n m courses peers is same-courses same-peers = is ∙ λ i. record n { courses = same-courses i; peers = same-peers i }
+pub kept : (n m : NetValue) (courses : List Change) (ended : List ℕ) (peers : List PeerValue) → m ≡ record n { courses = courses; ended = ended; peers = peers } → courses ≡ n.courses → ended ≡ n.ended → peers ≡ n.peers → m ≡ n
+kept n m courses ended peers is same-courses same-ended same-peers = is ∙ λ i. record n { courses = same-courses i; ended = same-ended i; peers = same-peers i }
 
 -- what stands in a list as it was is noted
 pub noted_from : (peers more all : List PeerValue) (from : ℕ) (places seen : List (Option ℕ)) → AreNoted peers places → all ≡ peers ++ more → from ≡ length peers → seen ≡ places → AreNoted (take from all) seen
@@ -45,10 +60,10 @@ counted all peers more q size kept routers is room len same =
     (omega arith, omega arith, omega arith)
 
 -- a leader that refused to begin is as it was
-pub not_begun : (peer q : PeerValue) (plan : List PlanRange) (report : ReportKind PlanPair) (f : LeaderFault) → Begins peer plan report (Err f) q → q ≡ peer
-not_begun peer q plan report f begins = begins.3
+pub not_begun : (peer q : PeerValue) (old plan : List PlanRange) (report : ReportKind PlanPair) (f : LeaderFault) → Begins peer old plan report (Err f) q → q ≡ peer
+not_begun peer q old plan report f begins = begins.3
 
-module _ (n : NetValue) (plan : List PlanRange) (peer q : PeerValue) (is : IsNet n) (read : peer ≡ get_or n.peers 0 peer) (report : ReportKind PlanPair) (c : Change) (begins : Begins peer plan report (Ok c) q) where
+module _ (n : NetValue) (old plan : List PlanRange) (peer q : PeerValue) (is : IsNet n) (read : peer ≡ get_or n.peers 0 peer) (report : ReportKind PlanPair) (c : Change) (begins : Begins peer old plan report (Ok c) q) where
   -- neither the leader before nor the leader after is a partition
   same_places : (p : ℕ) → position (is_part_peer p) (set n.peers 0 q) ≡ position (is_part_peer p) n.peers
   same_places p =
@@ -62,11 +77,11 @@ module _ (n : NetValue) (plan : List PlanRange) (peer q : PeerValue) (is : IsNet
   still_noted = record { length = is.placed.length; each = λ p lt. is.placed.each p lt ∙ ap Some (sym (same_places p)) }
 
   -- the course is begun
-  pub is_begun : (m : NetValue) (parts : List PeerValue) (number count : ℕ) → parts ≡ part_peers (first_of n) (named_first n plan) → AreRoles parts
-      → report ≡ Issued number (plan_pair (newest_of n).new plan) → number ≡ (newest_of n).number + 1
-      → m.courses ≡ n.courses ++ c ∷ [] → m.peers ≡ set n.peers 0 q ++ parts → AreNoted m.peers m.places → m.routers ≡ n.routers → m.messages ≡ n.messages → m.chunks ≡ n.chunks
-      → count + n.routers + 1 ≡ length m.peers → IsBeginIn n plan (Ok (Begun number count)) m
-  is_begun m parts number count nodes valid report-is number-is courses peers noted routers messages chunks counted = (
+  pub is_begun : (m : NetValue) (parts : List PeerValue) (number opened count : ℕ) → parts ≡ part_peers (first_of n) (named_first n plan) → AreRoles parts
+      → report ≡ Issued number (plan_pair old plan) → number ≡ (newest_of n).number + 1
+      → ((a : LeaderValue) → peer.role ≡ LeaderRole a → opened ≡ a.opened) → m.courses ≡ n.courses ++ c ∷ [] → m.ended ≡ n.ended ++ opened ∷ [] → m.peers ≡ set n.peers 0 q ++ parts → AreNoted m.peers m.places → m.routers ≡ n.routers → m.messages ≡ n.messages → m.chunks ≡ n.chunks
+      → count + n.routers + 1 ≡ length m.peers → IsCourseIn n old plan (Ok (Begun number count)) m
+  is_begun m parts number opened count nodes valid report-is number-is opened-is courses ended peers noted routers messages chunks counted = (
     peer,
     a,
     b,
@@ -78,6 +93,7 @@ module _ (n : NetValue) (plan : List PlanRange) (peer q : PeerValue) (is : IsNet
     counted,
     record {
       courses = courses;
+      ended = ended ∙ ap (λ v. n.ended ++ v ∷ []) (opened-is a begins.2);
       peers = peers ∙ λ i. (ap (set n.peers 0) q-is ∙ put_is 0 (reported 0 peer (LeaderRole b) (issue_report c)) n.peers) i ++ nodes i;
       valid = subst AreRoles nodes valid;
       placed = record { length = noted.length; each = noted.each };
@@ -99,8 +115,8 @@ module _ (n : NetValue) (plan : List PlanRange) (peer q : PeerValue) (is : IsNet
       newest : ((newest_of n).new ≡ a.plan) × ((newest_of n).number ≡ a.last)
       newest = (leader_is n peer is read a begins.2).course (newest_of n) (leader_course n peer is read a begins.2)
 
-      c-is : c ≡ next_course a plan
-      c-is = begins.3.2
+      c-is : c ≡ course_from a old plan
+      c-is = begins.3.1
 
       number-a : number ≡ a.last + 1
       number-a = number-is ∙ ap (λ (k : ℕ). k + 1) newest.1
@@ -109,7 +125,7 @@ module _ (n : NetValue) (plan : List PlanRange) (peer q : PeerValue) (is : IsNet
       number-c = number-a ∙ sym (ap (λ (d : Change). d.number) c-is)
 
       own : report ≡ issue_report c
-      own = report-is ∙ (λ i. Issued (number-a i) (plan_pair (newest.0 i) plan)) ∙ ap (λ (d : Change). issue_report d) (sym c-is)
+      own = report-is ∙ (λ i. Issued (number-a i) (plan_pair old plan)) ∙ ap (λ (d : Change). issue_report d) (sym c-is)
 
       q-is : q ≡ reported 0 peer (LeaderRole b) (issue_report c)
       q-is = begins.5 ∙ ap (λ (x : ReportKind PlanPair). reported 0 peer (LeaderRole b) x) own

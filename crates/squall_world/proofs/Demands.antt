@@ -14,17 +14,17 @@ use Rattle.squall_part.specs.declared.finishing.FinishFault.{FinishFault}
 use Rattle.squall_part.specs.declared.finishing.FinishFault.TheVariants.{NoMemory as NoRoomToFinish}
 use Rattle.squall_protocol.specs.Chunks.{ChunkValue}
 use Rattle.squall_part.specs.Parts.{PartValue, IsPart}
-use Rattle.squall_part.specs.Giving.{IsGiven, IsGivenAt}
+use Rattle.squall_part.specs.Giving.{IsGiven, IsGivenAt, after_close}
 use Rattle.squall_part.specs.Loading.{IsLoaded, IsFinished}
 use Rattle.squall_protocol.specs.declared.event.Node.TheVariants.{Part}
 use Rattle.squall_protocol.specs.declared.answer.Answer.{Answer}
-use Rattle.squall_protocol.specs.declared.answer.Answer.TheVariants.{Finished, Loaded as LoadedAnswer, Again as AgainAnswer}
+use Rattle.squall_protocol.specs.declared.answer.Answer.TheVariants.{Closed, Finished, Loaded as LoadedAnswer, Again as AgainAnswer}
 use Rattle.squall_protocol.specs.declared.answer.Refusal.{Refusal}
 use Rattle.squall_world.specs.declared.peer.Role.TheVariants.{Part as PartRole}
 use Rattle.squall_world.specs.Nets.{PeerValue, NetValue, place_of, turned, reported}
-use Rattle.squall_world.specs.Acts.{Gives, Loads, Finishes}
+use Rattle.squall_world.specs.Acts.{Gives, Closes, Loads, Finishes}
 use Rattle.squall_nodes.specs.PartCalls.{give_refusal, load_refusal, finish_refusal}
-use Rattle.squall_world.specs.Events.{HasPart, with_gift, answer_of, IsGiveIn, IsGiveAtIn, IsLoadIn, IsFinishIn}
+use Rattle.squall_world.specs.Events.{HasPart, with_gift, answer_of, IsGiveIn, IsGiveAtIn, IsCloseIn, IsLoadIn, IsFinishIn}
 use Rattle.squall_world.proofs.Standing.{put_is, has_part}
 
 -- a fault that is told as a refusal is no lack of memory, so it is what the node itself answered
@@ -68,6 +68,13 @@ module _ (n m : NetValue) (p at : ℕ) (peer q : PeerValue) (chunks : List Chunk
 
   pub give_at_refused : (k : ℕ) (f : GiveFault) (r : Result Answer AllocError) → answer_of (give_refusal f) r → Gives (λ a r b. IsGivenAt a k r b) peer (Err f) q → chunks ≡ n.chunks → IsGiveAtIn n p k r m
   give_at_refused k f r = give_at_refused_by k f (give_refusal f) r refl
+
+-- ---- the end of gifts
+
+module _ (n m : NetValue) (p at : ℕ) (peer q : PeerValue) (put : m ≡ put_in n at q n.chunks) (place : place_of n (Part p) ≡ Some at) (read : peer ≡ get_or n.peers at peer) where
+  pub closed : (number : ℕ) → Closes peer number q → IsCloseIn n p (Closed number) m
+  closed number (a, role, is, valid, turn) =
+      (at, peer, a, has_part n p at peer place read a role, valid, is, put ∙ λ i. record n { peers = (ap (set n.peers at) turn ∙ put_is at (turned peer (PartRole (after_close a))) n.peers) i })
 
 -- ---- the end of a sub-plan
 

@@ -18,11 +18,12 @@ pub roles_are : (all rs ps : List PeerValue) (leader : PeerValue) → all ≡ le
 roles_are all rs ps leader is a b c = subst AreRoles (sym is) (a, roles_append rs ps b c)
 
 -- the world that these make
-pub first_net : (old new : List PlanRange) (count : ℕ) (m : NetValue) (leader : PeerValue) (c : Change) → c ≡ first_course_of old new → leader ≡ leader_peer old new
+pub first_net : (old new : List PlanRange) (count : ℕ) (m : NetValue) (leader : PeerValue) (c : Change) → m.ended ≡ [] → c ≡ first_course_of old new → leader ≡ leader_peer old new
     → m.courses ≡ c ∷ [] → m.peers ≡ leader ∷ router_peers c count ++ part_peers c (first_parts c.old c.new) → AreRoles m.peers → AreNoted m.peers m.places → m.routers ≡ count → m.messages ≡ [] → m.chunks ≡ []
     → IsFirstNet old new count (first_parts old new) m
-first_net old new count m leader c c-is leader-is courses nodes valid noted routers messages chunks = record {
+first_net old new count m leader c ended c-is leader-is courses nodes valid noted routers messages chunks = record {
   courses = courses ∙ ap (λ (k : Change). k ∷ []) c-is;
+  ended = ended;
   peers = nodes ∙ λ i. leader-is i ∷ router_peers (c-is i) count ++ part_peers (c-is i) (first_parts (c-is i).old (c-is i).new);
   valid = valid;
   placed = record { length = noted.length; each = noted.each };

@@ -14,17 +14,17 @@ use Rattle.squall_protocol.specs.declared.answer.Answer.TheVariants.{Gave, Refus
 use Rattle.squall_protocol.specs.Worlds.{SameWorld}
 use Rattle.squall_protocol.specs.Steps.{after_give, GiveStep, GiveAtStep}
 use Rattle.squall_nodes.specs.PartCalls.{give_refusal}
-use Rattle.squall_nodes.proofs.Partitions.{held_after_giving, given_after_giving, loaded_after_giving}
+use Rattle.squall_nodes.proofs.Partitions.{held_after_giving, closed_after_giving, given_after_giving, loaded_after_giving}
 use Rattle.squall_nodes.proofs.Gifts.{gives_by_step, gives_at_by_step}
 use Rattle.squall_world.specs.declared.peer.Role.TheVariants.{Part as PartRole}
 use Rattle.squall_world.specs.Nets.{PeerValue, NetValue, IsNet, IsPeer, IsRole, turned, with_peer, peer_of, role_board, part_in, leader_in}
-use Rattle.squall_world.specs.Views.{view, part_of, held_by, given_under, loaded_under, opened_by}
+use Rattle.squall_world.specs.Views.{view, part_of, held_by, closed_under, given_under, loaded_under, opened_by}
 use Rattle.squall_world.specs.Events.{HasPart, IsGiveIn, IsGiveAtIn, with_gift}
 use Rattle.squall_world.proofs.Lists.{eq_refl, all_at}
 use Rattle.squall_world.proofs.Nodes.{IsChanged, each_part, no_node}
 use Rattle.squall_world.proofs.History.{IsMore, history_of, history_more, more_turned}
 use Rattle.squall_world.proofs.Kept.{SameKind, changed, changed_net, rest_net}
-use Rattle.squall_world.proofs.Seen.{part_stands, part_found, ids_kept, opened_kept, facts_kept, parts_kept, messages_kept, still, step_to, refused_to}
+use Rattle.squall_world.proofs.Seen.{part_stands, part_found, ids_kept, counts_kept, facts_kept, parts_kept, messages_kept, still, step_to, refused_to}
 
 and_true : (b : Bool) → b ≡ (b && true)
 and_true true = refl
@@ -77,12 +77,14 @@ module _ (n : NetValue) (p at : ℕ) (peer : PeerValue) (a : PartValue) (x : Chu
 
   pub gift_seen : SameWorld (view (with_gift n at peer (after_giving a x.span) x)) (after_give (view n) x)
   gift_seen = record {
-    plan = λ m. refl;
+    old = λ m. refl;
+    new = λ m. refl;
     last = refl;
-    opened = opened_kept n (Part p) at peer giver net ch (ap (λ r. opened_by (leader_in r)) (sym h.role));
+    opened = λ i. counts_kept n (Part p) at peer giver net ch (ap (λ r. opened_by (leader_in r)) (sym h.role)) i;
     parts = ids_kept n (Part p) at peer giver net ch;
     routers = refl;
     held = held;
+    closed = λ m q. parts_kept n (Part p) at peer giver net ch (λ o. closed_under o m) (closed_after_giving a x.span m ∙ ap (λ r. closed_under (part_in r) m) (sym h.role)) q;
     given = given;
     loaded = λ m q k. parts_kept n (Part p) at peer giver net ch (λ o. loaded_under o m k) (ap (λ v. has v k) (loaded_after_giving a x.span m) ∙ ap (λ r. loaded_under (part_in r) m k) (sym h.role)) q;
     facts = λ y. facts_kept n (Part p) at peer giver net ch (ap (λ r. queries_of (role_board r)) (sym h.role)) y;

@@ -82,6 +82,7 @@ pub rest_net : (n : NetValue) (ms : List MessageValue) (cs : List ChunkValue) �
 rest_net n ms cs net h = record {
   some = net.some;
   chain = net.chain;
+  ended = net.ended;
   led = record { peer = net.led.peer; leader = net.led.leader; there = net.led.there; role = net.led.role; course = net.led.course };
   room = net.room;
   routers = λ i some le. let r = net.routers i some le in record { peer = r.peer; router = r.router; there = r.there; role = r.role; first = r.first };
@@ -150,6 +151,7 @@ module _ (n : NetValue) (x : Node) (at : ℕ) (a c : PeerValue) (net : IsNet n) 
       record {
         some = net.some;
         chain = net.chain;
+        ended = net.ended;
         led = led;
         room = subst (λ v. n.routers < v) (sym l) net.room;
         routers = λ i some le. router_at i (net.routers i some le);

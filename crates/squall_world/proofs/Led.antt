@@ -1,5 +1,6 @@
 -- The leader, as it is seen, and after it made a report.
-use Rattle.std.proofs.Common.{◌≡◌, Some, sym, ap, subst, ◌∙◌}
+use Rattle.std.proofs.Common.{◌≡◌, length, Some, sym, ap, subst, ◌∙◌}
+use Rattle.std.specs.List.{slice_get}
 use Rattle.std.proofs.lemmas.Option.{same_Some}
 use Rattle.squall_report.specs.declared.report.ReportKind.{ReportKind}
 use Rattle.squall_report.specs.Issues.{PlanPair}
@@ -15,7 +16,7 @@ use Rattle.squall_world.specs.Events.{HasLeader}
 use Rattle.squall_world.proofs.Lists.{all_at}
 use Rattle.squall_world.proofs.Nodes.{leader_same}
 use Rattle.squall_world.proofs.History.{IsMore, history_of, more_reported}
-use Rattle.squall_world.proofs.Courses.{last_seen}
+use Rattle.squall_world.proofs.Courses.{last_seen, opened_last}
 
 -- the course by which it goes is the one begun last
 pub leads_last : (n : NetValue) (peer : PeerValue) (a : LeaderValue) → IsNet n → HasLeader n peer a → a.course ≡ Some (newest_of n)
@@ -27,7 +28,7 @@ leads_last n peer a net has =
 pub leader_stands : (n : NetValue) (peer : PeerValue) (a : LeaderValue) → IsNet n → HasLeader n peer a → StandsForLeader (view n) a
 leader_stands n peer a net has = record {
   course = leads_last n peer a net has ∙ ap Some (sym (last_seen n net));
-  opened = ap opened_in has.there ∙ ap (λ r. opened_by (leader_in r)) has.role;
+  opened = opened_last n.ended (opened_in (slice_get n.peers 0)) (length n.courses) net.ended ∙ ap opened_in has.there ∙ ap (λ r. opened_by (leader_in r)) has.role;
   told = same_by _ _ (ap facts_of has.there ∙ ap (λ r. queries_of (role_board r)) has.role);
 }
 

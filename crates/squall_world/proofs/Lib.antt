@@ -7,6 +7,7 @@ pub mod History
 pub mod Kept
 pub mod Seen
 pub mod Gifts
+pub mod Closing
 pub mod Outcomes
 pub mod Runs
 pub mod Courses
@@ -16,6 +17,8 @@ pub mod Coming
 pub mod Started
 pub mod Added
 pub mod Beginning
+pub mod Leaving
+pub mod Losing
 pub mod Loads
 pub mod Covered
 pub mod Messages

@@ -20,17 +20,17 @@ use Rattle.squall_protocol.specs.Worlds.{SameWorld}
 use Rattle.squall_protocol.specs.Steps.{after_load, after_told, LoadStep, FinishStep}
 use Rattle.squall_nodes.specs.PartCalls.{load_refusal, finish_refusal}
 use Rattle.squall_nodes.proofs.Agree.{queries_report}
-use Rattle.squall_nodes.proofs.Partitions.{held_after_load, loaded_after_load, given_after_load, span_some, load_board, done_board}
+use Rattle.squall_nodes.proofs.Partitions.{held_after_load, loaded_after_load, closed_after_load, given_after_load, span_some, load_board, done_board}
 use Rattle.squall_nodes.proofs.Loads.{loads_by_step, finishes_by_step}
 use Rattle.squall_world.specs.declared.peer.Role.TheVariants.{Part as PartRole}
 use Rattle.squall_world.specs.Nets.{PeerValue, NetValue, IsNet, reported, with_peer, peer_of, role_board, part_in, leader_in}
-use Rattle.squall_world.specs.Views.{view, part_of, held_by, given_under, loaded_under, opened_by}
+use Rattle.squall_world.specs.Views.{view, part_of, held_by, closed_under, given_under, loaded_under, opened_by}
 use Rattle.squall_world.specs.Events.{HasPart, IsLoadIn, IsFinishIn, with_report}
 use Rattle.squall_world.proofs.Lists.{eq_refl}
 use Rattle.squall_world.proofs.Nodes.{IsChanged, each_part, no_node, first_number}
 use Rattle.squall_world.proofs.History.{IsMore, history_of, more_reported}
 use Rattle.squall_world.proofs.Kept.{SameKind, changed, changed_net}
-use Rattle.squall_world.proofs.Seen.{part_stands, part_found, part_is_there, ids_kept, opened_kept, facts_told, parts_kept, messages_kept, still, step_to, refused_to}
+use Rattle.squall_world.proofs.Seen.{part_stands, part_found, part_is_there, ids_kept, counts_kept, facts_told, parts_kept, messages_kept, still, step_to, refused_to}
 use Rattle.squall_world.proofs.Gifts.{part_valid}
 
 or_none : (b c : Bool) → b ≡ (b || (c && false))
@@ -107,12 +107,14 @@ module _ (n : NetValue) (i at : ℕ) (x : ChunkValue) (peer : PeerValue) (a : Pa
 
   pub load_seen : SameWorld (view (with_report n at peer (PartRole (part_after_load a x)) (load_report x))) (after_load (view n) x)
   load_seen = record {
-    plan = λ m. refl;
+    old = λ m. refl;
+    new = λ m. refl;
     last = refl;
-    opened = opened_kept n (Part x.dest) at peer loader net ch (ap (λ r. opened_by (leader_in r)) (sym h.role));
+    opened = λ i. counts_kept n (Part x.dest) at peer loader net ch (ap (λ r. opened_by (leader_in r)) (sym h.role)) i;
     parts = ids_kept n (Part x.dest) at peer loader net ch;
     routers = refl;
     held = held;
+    closed = λ m q. parts_kept n (Part x.dest) at peer loader net ch (λ o. closed_under o m) (closed_after_load a x m ∙ ap (λ r. closed_under (part_in r) m) (sym h.role)) q;
     given = λ m q k. parts_kept n (Part x.dest) at peer loader net ch (λ o. given_under o m k) (ap (λ v. has v k) (given_after_load a x m) ∙ ap (λ r. given_under (part_in r) m k) (sym h.role)) q;
     loaded = loaded;
     facts = λ y. facts_told n (Part x.dest) at peer loader net ch (queries_by_report (load_report x)) (report_facts n x.dest at peer a (part_after_load a x) (load_report x) net h new refl refl refl board_of_load) y;
@@ -171,12 +173,14 @@ module _ (n : NetValue) (p s at : ℕ) (peer : PeerValue) (a : PartValue) (net :
 
     pub finish_seen : SameWorld (view (with_report n at peer (PartRole (after_finish a s)) (done_report a s))) (after_told (view n) (Part p) (queries_by_report (done_report a s)))
     finish_seen = record {
-      plan = λ m. refl;
+      old = λ m. refl;
+      new = λ m. refl;
       last = refl;
-      opened = opened_kept n (Part p) at peer finisher net ch_f (ap (λ r. opened_by (leader_in r)) (sym h.role));
+      opened = λ i. counts_kept n (Part p) at peer finisher net ch_f (ap (λ r. opened_by (leader_in r)) (sym h.role)) i;
       parts = ids_kept n (Part p) at peer finisher net ch_f;
       routers = refl;
       held = λ q k. parts_kept n (Part p) at peer finisher net ch_f (λ o. held_by o k) (ap (λ r. held_by (part_in r) k) (sym h.role)) q;
+      closed = λ m q. parts_kept n (Part p) at peer finisher net ch_f (λ o. closed_under o m) (ap (λ r. closed_under (part_in r) m) (sym h.role)) q;
       given = λ m q k. parts_kept n (Part p) at peer finisher net ch_f (λ o. given_under o m k) (ap (λ r. given_under (part_in r) m k) (sym h.role)) q;
       loaded = λ m q k. parts_kept n (Part p) at peer finisher net ch_f (λ o. loaded_under o m k) (ap (λ r. loaded_under (part_in r) m k) (sym h.role)) q;
       facts = λ y. facts_told n (Part p) at peer finisher net ch_f (queries_by_report (done_report a s)) (report_facts n p at peer a (after_finish a s) (done_report a s) net h new refl refl refl board_of_done) y;

@@ -19,7 +19,7 @@ use Rattle.squall_protocol.specs.Promises.{Happened, TrueReports}
 use Rattle.squall_world.specs.declared.peer.Role.{Role}
 use Rattle.squall_world.specs.declared.peer.Role.TheVariants.{Leader as LeaderRole, Part as PartRole, Router as RouterRole}
 use Rattle.squall_world.specs.Nets.{PeerValue, NetValue, MessageValue, message_with, IsNet, IsPeer, IsKnowing, IsMessage, IsRole, AreWithin, with_peer, told_from, told_with, news_to, is_behind, place_of, peer_of, role_board, part_in, leader_in}
-use Rattle.squall_world.specs.Views.{view, held_by, given_under, loaded_under, opened_by, facts_of, told_by_message}
+use Rattle.squall_world.specs.Views.{view, held_by, closed_under, given_under, loaded_under, opened_by, facts_of, told_by_message}
 use Rattle.squall_world.specs.Events.{KnowsAll, IsOld, news_of, IsTold, IsHearing, IsSendIn, IsSendPartIn, IsDeliverIn}
 use Rattle.squall_world.proofs.Lists.{all_at, all_append, map_append}
 use Rattle.squall_world.proofs.Nodes.{IsChanged, node_there, no_node, same_is}
@@ -29,7 +29,7 @@ use Rattle.squall_world.proofs.Covered.{part_of, tells_part, told_one, all_cover
 use Rattle.squall_world.proofs.Told.{AreMade, told_is, told_none, told_more, news_is, told_news, told_raised, told_behind, within_more, within_raised, raised_own}
 use Rattle.squall_world.proofs.History.{IsMore, history_of, made_of, board_is, no_fewer}
 use Rattle.squall_world.proofs.Kept.{SameKind, changed, changed_net, rest_net}
-use Rattle.squall_world.proofs.Seen.{peer_there, ids_kept, opened_kept, facts_told, parts_kept, messages_kept, still}
+use Rattle.squall_world.proofs.Seen.{peer_there, ids_kept, counts_kept, facts_told, parts_kept, messages_kept, still}
 
 -- ---- sending
 
@@ -46,12 +46,14 @@ with_message n x net is =
 -- it is seen as what it tells
 message_seen : (n : NetValue) (x : MessageValue) (said : Queries) → told_by_message n x ≡ said → SameWorld (view (record n { messages = n.messages ++ x ∷ [] })) (record (view n) { messages = (view n).messages ++ said ∷ [] })
 message_seen n x said tells = record {
-  plan = λ k. refl;
+  old = λ k. refl;
+  new = λ k. refl;
   last = refl;
-  opened = refl;
+  opened = λ i. refl;
   parts = refl;
   routers = refl;
   held = λ p k. refl;
+  closed = λ k p. refl;
   given = λ k p j. refl;
   loaded = λ k p j. refl;
   facts = λ y. same_self ((view n).facts y);
@@ -130,19 +132,20 @@ record Kept (r s : Role) (d : BoardValue) : Type 0 where
   board : role_board s ≡ board_join (role_board r) d
   opened : opened_by (leader_in s) ≡ opened_by (leader_in r)
   held : (k : ℕ) → held_by (part_in s) k ≡ held_by (part_in r) k
+  closed : (m : ℕ) → closed_under (part_in s) m ≡ closed_under (part_in r) m
   given : (m k : ℕ) → given_under (part_in s) m k ≡ given_under (part_in r) m k
   loaded : (m k : ℕ) → loaded_under (part_in s) m k ≡ loaded_under (part_in r) m k
 
 told_kept : (r s : Role) (d : BoardValue) → IsTold r d s → Kept r s d
-told_kept (LeaderRole a) (LeaderRole b) d t = record { role = t.1; board = ap (λ v. v.board) t.0; opened = ap (λ v. v.opened) t.0; held = λ k. refl; given = λ m k. refl; loaded = λ m k. refl }
+told_kept (LeaderRole a) (LeaderRole b) d t = record { role = t.1; board = ap (λ v. v.board) t.0; opened = ap (λ v. v.opened) t.0; held = λ k. refl; closed = λ m. refl; given = λ m k. refl; loaded = λ m k. refl }
 told_kept (LeaderRole a) (PartRole b) d t = absurd t
 told_kept (LeaderRole a) (RouterRole b) d t = absurd t
 told_kept (PartRole a) (LeaderRole b) d t = absurd t
-told_kept (PartRole a) (PartRole b) d t = record { role = t.4; board = t.0; opened = refl; held = λ k. ap (λ v. has v.held k) t.1; given = λ m k. ap (λ v. has v k) (t.2 m); loaded = λ m k. ap (λ v. has v k) (t.3 m) }
+told_kept (PartRole a) (PartRole b) d t = record { role = t.5; board = t.0; opened = refl; held = λ k. ap (λ v. has v.held k) t.1; closed = t.2; given = λ m k. ap (λ v. has v k) (t.3 m); loaded = λ m k. ap (λ v. has v k) (t.4 m) }
 told_kept (PartRole a) (RouterRole b) d t = absurd t
 told_kept (RouterRole a) (LeaderRole b) d t = absurd t
 told_kept (RouterRole a) (PartRole b) d t = absurd t
-told_kept (RouterRole a) (RouterRole b) d t = record { role = t.1; board = ap (λ v. v.board) t.0; opened = refl; held = λ k. refl; given = λ m k. refl; loaded = λ m k. refl }
+told_kept (RouterRole a) (RouterRole b) d t = record { role = t.1; board = ap (λ v. v.board) t.0; opened = refl; held = λ k. refl; closed = λ m. refl; given = λ m k. refl; loaded = λ m k. refl }
 
 -- ---- a message comes
 
@@ -188,12 +191,14 @@ module _ (n : NetValue) (node : Node) (at : ℕ) (x : MessageValue) (a : PeerVal
 
   pub nothing_seen : IsOld a x → SameWorld (view n) (after_told (view n) node (told_by_message n x))
   nothing_seen old = record {
-    plan = λ k. refl;
+    old = λ k. refl;
+    new = λ k. refl;
     last = refl;
-    opened = refl;
+    opened = λ i. refl;
     parts = refl;
     routers = refl;
     held = λ p k. refl;
+    closed = λ k p. refl;
     given = λ k p j. refl;
     loaded = λ k p j. refl;
     facts = λ y. same_by (facts_of (peer_of n y)) (told_to (view n) node (told_by_message n x) y) (at_node y (same_node y node) refl);
@@ -265,12 +270,14 @@ module _ (n : NetValue) (node : Node) (at : ℕ) (x : MessageValue) (a : PeerVal
 
     pub heard_seen : SameWorld (view (with_peer n at c)) (after_told (view n) node (told_by_message n x))
     heard_seen = record {
-      plan = λ k. refl;
+      old = λ k. refl;
+      new = λ k. refl;
       last = refl;
-      opened = opened_kept n node at a c net ch kept.opened;
+      opened = λ i. counts_kept n node at a c net ch kept.opened i;
       parts = ids_kept n node at a c net ch;
       routers = refl;
       held = λ q k. parts_kept n node at a c net ch (λ o. held_by o k) (kept.held k) q;
+      closed = λ m q. parts_kept n node at a c net ch (λ o. closed_under o m) (kept.closed m) q;
       given = λ m q k. parts_kept n node at a c net ch (λ o. given_under o m k) (kept.given m k) q;
       loaded = λ m q k. parts_kept n node at a c net ch (λ o. loaded_under o m k) (kept.loaded m k) q;
       facts = λ y. facts_told n node at a c net ch (told_by_message n x) (ap queries_of by_message ∙ queries_join (role_board a.role) tells board_a told_board) y;

@@ -6,7 +6,6 @@ use Rattle.std.proofs.lemmas.Bool.{cases_lt}
 use Rattle.std.proofs.lemmas.Bool.Decides.{nat_tests}
 use Rattle.std.proofs.lemmas.Option.{same_Some, none-some}
 use Rattle.squall_key.specs.Keys.{part_limit}
-use Rattle.squall_plan.specs.declared.range.PlanRange.{PlanRange}
 use Rattle.squall_course.specs.Change.{Change}
 use Rattle.squall_router.specs.Routers.{RouterValue}
 use Rattle.squall_part.specs.Parts.{PartValue}
@@ -203,12 +202,12 @@ each_part n p at a c net ch P here other q = each_node n (Part p) at a c net ch 
 
 -- ---- the first course
 
-chain_first : (cs : List Change) (plan : List PlanRange) → 0 < length cs → IsChain 1 plan cs → (slice_index_or cs 0 no_course).number ≡ 1
-chain_first [] plan some chain = absurd (omega arith)
-chain_first (c ∷ cs) plan some chain = chain.0
+chain_first : (cs : List Change) → 0 < length cs → IsChain 1 cs → (slice_index_or cs 0 no_course).number ≡ 1
+chain_first [] some chain = absurd (omega arith)
+chain_first (c ∷ cs) some chain = chain.0
 
 pub first_number : (n : NetValue) → IsNet n → (first_of n).number ≡ 1
-first_number n net = chain_first n.courses (first_of n).old net.some net.chain
+first_number n net = chain_first n.courses net.some net.chain
 
 pub first_seen : (n : NetValue) → IsNet n → first_course (view n) ≡ first_of n
-first_seen n net = λ i. record { number = sym (first_number n net) i; old = (first_of n).old; new = (get_any n.courses 0 (first_of n) no_course net.some i).new }
+first_seen n net = λ i. record { number = sym (first_number n net) i; old = (get_any n.courses 0 (first_of n) no_course net.some i).old; new = (get_any n.courses 0 (first_of n) no_course net.some i).new }

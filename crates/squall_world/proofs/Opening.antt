@@ -1,5 +1,6 @@
 -- The leader opens the next sub-plan.
-use Rattle.std.proofs.Common.{◌≡◌, ℕ, ◌+◌, ◌<◌, ◌≤◌, [], ◌∷◌, None, Some, Ok, Err, refl, sym, ap, subst, ◌∙◌, arith}
+use Rattle.std.proofs.Common.{◌≡◌, ℕ, ◌+◌, ◌<◌, ◌≤◌, [], ◌∷◌, length, None, Some, Ok, Err, refl, sym, ap, subst, ◌∙◌, arith}
+use Rattle.std.specs.List.{slice_get}
 use Rattle.std.proofs.lemmas.Option.{same_Some}
 use Rattle.squall_course.specs.Change.{Change}
 use Rattle.squall_course.specs.Subplans.{subplan_count}
@@ -19,10 +20,11 @@ use Rattle.squall_nodes.specs.LeaderCalls.{open_refusal, opened_sub}
 use Rattle.squall_nodes.proofs.Agree.{queries_report}
 use Rattle.squall_nodes.proofs.Leads.{one_course, opens_by_step}
 use Rattle.squall_world.specs.declared.peer.Role.TheVariants.{Leader as LeaderRole}
-use Rattle.squall_world.specs.Nets.{PeerValue, NetValue, IsNet, role_board, part_in}
-use Rattle.squall_world.specs.Views.{view, opened_in, held_by, given_under, loaded_under}
+use Rattle.squall_world.specs.Nets.{PeerValue, NetValue, IsNet, role_board, leader_in, part_in}
+use Rattle.squall_world.specs.Views.{view, opened_by, opened_in, opened_under, held_by, closed_under, given_under, loaded_under}
 use Rattle.squall_world.specs.Events.{HasLeader, IsOpenIn, with_report}
 use Rattle.squall_world.proofs.Lists.{put_here}
+use Rattle.squall_world.proofs.Courses.{opened_more}
 use Rattle.squall_world.proofs.Nodes.{IsChanged}
 use Rattle.squall_world.proofs.Kept.{SameKind, changed, changed_net}
 use Rattle.squall_world.proofs.Seen.{ids_kept, facts_told, parts_kept, messages_kept, step_to, refused_to}
@@ -76,15 +78,18 @@ module _ (n : NetValue) (peer : PeerValue) (a b : LeaderValue) (c : Change) (s :
       let number : c.number ≡ (view n).last = ap (λ (d : Change). d.number) (one_course (view n) a seen (leader_is n peer a net has) c course) in
       let new = leader_reports peer b (open_report c s) in
       record {
-        plan = λ i. refl;
+        old = λ i. refl;
+        new = λ i. refl;
         last = refl;
-        opened = ap opened_in (put_here 0 new peer n.peers has.there) ∙ o.opened ∙ ap (λ v. v + 1) (sym seen.opened);
+        opened = λ i. ap (λ v. opened_under n.ended v i) (ap opened_in (put_here 0 new peer n.peers has.there) ∙ o.opened ∙ ap (λ v. v + 1) (sym (ap opened_in has.there ∙ ap (λ r. opened_by (leader_in r)) has.role)))
+            ∙ opened_more n.ended (opened_in (slice_get n.peers 0)) (length n.courses) i net.ended;
         parts = ids_kept n Leader 0 peer new net is_changed;
         routers = refl;
         held = λ p k. parts_kept n Leader 0 peer new net is_changed (λ x. held_by x k) (ap (λ x. held_by x k) (sym no_part)) p;
+        closed = λ m p. parts_kept n Leader 0 peer new net is_changed (λ x. closed_under x m) (ap (λ x. closed_under x m) (sym no_part)) p;
         given = λ m p k. parts_kept n Leader 0 peer new net is_changed (λ x. given_under x m k) (ap (λ x. given_under x m k) (sym no_part)) p;
         loaded = λ m p k. parts_kept n Leader 0 peer new net is_changed (λ x. loaded_under x m k) (ap (λ x. loaded_under x m k) (sym no_part)) p;
-        facts = facts_told n Leader 0 peer new net is_changed (opened_queries (view n).last (view n).opened)
+        facts = facts_told n Leader 0 peer new net is_changed (opened_queries (view n).last ((view n).opened (view n).last))
             (ap queries_of o.board ∙ queries_report a.board (open_report c s) (leader_is n peer a net has).board is_board
             ∙ (λ i. joined_queries (queries_of (role_board (sym has.role i))) (opened_queries (number i) ((o.sub ∙ sym seen.opened) i))));
         messages = messages_kept n Leader 0 peer new net is_changed (open_report c s ∷ []) refl n.messages net.messages;

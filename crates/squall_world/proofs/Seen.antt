@@ -20,7 +20,7 @@ use Rattle.squall_nodes.specs.Standing.{StandsForPart, Becomes, refused}
 use Rattle.squall_nodes.proofs.Agree.{same_by, same_refl}
 use Rattle.squall_nodes.proofs.Refused.{refused_step}
 use Rattle.squall_world.specs.Nets.{PeerValue, NetValue, IsNet, place_of, peer_of, at_place, put_at, role_board, first_of, leader_in, part_in, MessageValue, IsMessage, with_peer}
-use Rattle.squall_world.specs.Views.{view, id_of, ids_in, part_of, held_by, given_under, loaded_under, facts_of, opened_by, opened_in, told_by_message}
+use Rattle.squall_world.specs.Views.{view, id_of, ids_in, part_of, held_by, closed_under, given_under, loaded_under, facts_of, opened_by, opened_in, opened_under, told_by_message}
 use Rattle.squall_world.specs.Events.{HasPart}
 use Rattle.squall_world.proofs.Lists.{eq_same, eq_apart, flat_put, put_here, put_there}
 use Rattle.squall_world.proofs.Nodes.{IsChanged, node_there, part_there, part_same, first_seen, each_node, at_part}
@@ -58,6 +58,7 @@ part_stands n p at peer a net h =
       first = first_seen n net ∙ sym there.0;
       told = same_by _ _ (facts_found n p at peer a h);
       held = λ k. ap (λ v. held_by v k) o;
+      closed = λ m. ap (λ v. closed_under v m) o;
       given = λ m k. ap (λ v. given_under v m k) o;
       loaded = λ m k. ap (λ v. loaded_under v m k) o;
     }
@@ -76,6 +77,10 @@ module _ (n : NetValue) (x : Node) (at : ℕ) (a c : PeerValue) (net : IsNet n) 
           let z : 0 ≡ at = eq_same 0 at e in
           ap opened_in (ap (slice_get (put_at at c n.peers)) z ∙ put_here at c a n.peers ch.there) ∙ same ∙ ap opened_in (sym ch.there ∙ ap (slice_get n.peers) (sym z))
       by false e = ap opened_in (put_there at 0 c n.peers (eq_apart 0 at e))
+
+  -- so with the count of each course
+  pub counts_kept : opened_by (leader_in c.role) ≡ opened_by (leader_in a.role) → (i : ℕ) → (view (with_peer n at c)).opened i ≡ (view n).opened i
+  counts_kept same i = ap (λ v. opened_under n.ended v i) (opened_kept same)
 
   here_was : peer_of n x ≡ Some a
   here_was = peer_there n x at a ch.place ch.there

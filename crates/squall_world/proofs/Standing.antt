@@ -109,3 +109,7 @@ module _ (n : NetValue) (peer : PeerValue) (is : IsNet n) (read : peer ≡ get_o
 -- what is read at 0 is the first course
 pub first_read : (n : NetValue) (c : Change) → IsNet n → c ≡ get_or n.courses 0 c → c ≡ first_of n
 first_read n c is read = same_Some c (first_of n) (sym (slice_get-get_or n.courses 0 c is.some ∙ ap Some (sym read)) ∙ slice_get-get_or n.courses 0 no_course is.some)
+
+-- two reads at 0 give one node
+pub read_leader : (n : NetValue) (p q : PeerValue) → IsNet n → p ≡ get_or n.peers 0 p → q ≡ get_or n.peers 0 q → q ≡ p
+read_leader n p q is read-p read-q = read_is n.peers 0 q is.led.peer is.led.there read-q ∙ sym (read_is n.peers 0 p is.led.peer is.led.there read-p)

@@ -28,21 +28,18 @@ use Rattle.squall_protocol.specs.Worlds.{SameWorld, start, first_parts, first_fa
 use Rattle.squall_protocol.specs.WorldLaws.{reached_start}
 use Rattle.squall_world.specs.declared.peer.Role.TheVariants.{Leader as LeaderRole, Router as RouterRole}
 use Rattle.squall_world.specs.Nets.{PeerValue, NetValue, IsNet, IsRole, IsRouterAt, ArePlaced, new_peer, place_of, peer_of, at_place, is_part_peer}
-use Rattle.squall_world.specs.Views.{view, id_of, ids_in, part_of, facts_of, held_by, given_under, loaded_under}
+use Rattle.squall_world.specs.Views.{view, id_of, ids_in, part_of, facts_of, held_by, closed_under, given_under, loaded_under}
 use Rattle.squall_world.specs.Runs.{IsWorld}
 use Rattle.squall_world.specs.Events.{IsFirstNet, first_course_of, first_leader, leader_peer, router_peers, part_peers}
 use Rattle.squall_world.proofs.Lists.{eq_same, flat_append, get_left, place_is}
 use Rattle.squall_nodes.proofs.Agree.{queries_report, same_by}
 use Rattle.squall_world.proofs.History.{IsHistory, IsNew, history_new, history_more, more_reported}
-use Rattle.squall_nodes.proofs.Begins.{none_given, none_loaded}
+use Rattle.squall_nodes.proofs.Begins.{none_closed, none_given, none_loaded}
 use Rattle.squall_nodes.proofs.Owned.{owned}
 use Rattle.squall_world.proofs.Coming.{comer, any_comer, ids_come, comes, comer_stands, comers_new}
 
 below : (a b : ℕ) → nat_lt a b ≡ true → a < b
 below a b e = grind (arith, nat_tests)
-
-not_zero : (i : ℕ) → (suc i == 0) ≡ false
-not_zero i = grind (arith, nat_tests)
 
 -- ---- routers
 
@@ -115,6 +112,7 @@ abbrev net_with : List PlanRange → List PlanRange → ℕ → List (Option ℕ
 net_with old new count places =
     record {
       courses = first_course_of old new ∷ [];
+      ended = [];
       peers = leader_peer old new ∷ (router_peers (first_course_of old new) count ++ part_peers (first_course_of old new) (first_parts old new));
       routers = count;
       places = places;
@@ -123,7 +121,7 @@ net_with old new count places =
     }
 
 net_is : (old new : List PlanRange) (count : ℕ) (m : NetValue) → IsFirstNet old new count (first_parts old new) m → m ≡ net_with old new count m.places
-net_is old new count m is = λ i. record { courses = is.courses i; peers = is.peers i; routers = is.routers i; places = m.places; messages = is.messages i; chunks = is.chunks i }
+net_is old new count m is = λ i. record { courses = is.courses i; ended = is.ended i; peers = is.peers i; routers = is.routers i; places = m.places; messages = is.messages i; chunks = is.chunks i }
 
 module _ (old new : List PlanRange) (count : ℕ) (places : List (Option ℕ)) (plans : ArePlans old new) (valid : AllByRecursion (λ p. IsRole p.role) (net_with old new count places).peers) where
   -- the nodes before the partitions
@@ -192,7 +190,8 @@ module _ (old new : List PlanRange) (count : ℕ) (places : List (Option ℕ)) (
   pub first_net : ArePlaced (net_with old new count places) → IsNet (net_with old new count places)
   first_net placed = record {
     some = omega arith;
-    chain = (refl, refl, plans, tt);
+    chain = (refl, plans, tt);
+    ended = refl;
     led = record { peer = leader_peer old new; leader = first_leader old new; there = refl; role = refl; course = refl };
     room = (let k = front_count in let l = length-append (router_peers (first_course_of old new) count) (part_peers (first_course_of old new) (first_parts old new)) in omega (arith, k, l));
     routers = router_stands;
@@ -233,6 +232,13 @@ module _ (old new : List PlanRange) (count : ℕ) (places : List (Option ℕ)) (
       by : (b : Bool) → list_any (λ q. q == p) (first_parts old new) ≡ b → held_by (part_of (cond b (Some (comer (first_course_of old new) p)) None)) k ≡ (nat_lt k top && (owner_of old k == p))
       by true e = owned p k old plans.old_canonical.tiles
       by false e = sym (unowned (nat_lt k top && (owner_of old k == p)) refl e)
+
+  closed_is : (m p : ℕ) → closed_under (part_of (peer_of (net_with old new count places) (Part p))) m ≡ false
+  closed_is m p = ap (λ o. closed_under (part_of o) m) (peer_is p) ∙ by (list_any (λ q. q == p) (first_parts old new))
+    where
+      by : (b : Bool) → closed_under (part_of (cond b (Some (comer (first_course_of old new) p)) None)) m ≡ false
+      by true = none_closed (first_course_of old new) p m
+      by false = refl
 
   given_is : (m p k : ℕ) → given_under (part_of (peer_of (net_with old new count places) (Part p))) m k ≡ false
   given_is m p k = ap (λ o. given_under (part_of o) m k) (peer_is p) ∙ by (list_any (λ q. q == p) (first_parts old new))
@@ -282,14 +288,20 @@ module _ (old new : List PlanRange) (count : ℕ) (places : List (Option ℕ)) (
   told_first (Part p) = told_none p
   told_first (Router r) = told_router r
 
+  none_either : (t : Bool) → cond {A = ℕ} t 0 0 ≡ 0
+  none_either true = refl
+  none_either false = refl
+
   pub first_world : SameWorld (view (net_with old new count places)) (start old new count)
   first_world = record {
-    plan = plan_is;
+    old = old_is;
+    new = new_is;
     last = refl;
-    opened = refl;
+    opened = none_opened;
     parts = ids_are;
     routers = refl;
     held = held_is;
+    closed = closed_is;
     given = given_is;
     loaded = loaded_is;
     facts = told_first;
@@ -297,10 +309,20 @@ module _ (old new : List PlanRange) (count : ℕ) (places : List (Option ℕ)) (
     chunks = refl;
   }
     where
-      plan_is : (i : ℕ) → (view (net_with old new count places)).plan i ≡ (start old new count).plan i
-      plan_is zero = refl
-      plan_is (suc zero) = refl
-      plan_is (suc (suc i)) = sym (ap (λ b. cond b old new) (not_zero (suc i)))
+      old_is : (i : ℕ) → (view (net_with old new count places)).old i ≡ old
+      old_is zero = refl
+      old_is (suc zero) = refl
+      old_is (suc (suc i)) = refl
+
+      new_is : (i : ℕ) → (view (net_with old new count places)).new i ≡ new
+      new_is zero = refl
+      new_is (suc zero) = refl
+      new_is (suc (suc i)) = refl
+
+      none_opened : (i : ℕ) → (view (net_with old new count places)).opened i ≡ 0
+      none_opened zero = refl
+      none_opened (suc zero) = refl
+      none_opened (suc (suc i)) = none_either (suc i == 0)
 
 -- the leader that is there has begun a course between plans
 plans_of : (old new : List PlanRange) (count : ℕ) (places : List (Option ℕ)) → AllByRecursion (λ p. IsRole p.role) (net_with old new count places).peers → ArePlans old new

@@ -17,25 +17,26 @@ use Rattle.squall_part.specs.declared.loading.LoadFault.{LoadFault}
 use Rattle.squall_part.specs.declared.loading.Load.TheVariants.{Again as LoadAgain, Loaded as LoadLoaded}
 use Rattle.squall_part.specs.declared.finishing.FinishFault.{FinishFault}
 use Rattle.squall_protocol.specs.Chunks.{ChunkValue}
-use Rattle.squall_part.specs.Parts.{PartValue, IsPart, new_part, given_by, loaded_by}
-use Rattle.squall_part.specs.Giving.{IsGiven, IsGivenAt}
+use Rattle.squall_part.specs.Parts.{PartValue, IsPart, course_of_part, new_part, closed_by, given_by, loaded_by}
+use Rattle.squall_part.specs.Giving.{IsGiven, IsGivenAt, after_close}
 use Rattle.squall_part.specs.Loading.{IsLoaded, IsFinished}
 use Rattle.squall_part.specs.Serving.{IsReply}
 use Rattle.squall_leader.specs.declared.fault.LeaderFault.{LeaderFault}
-use Rattle.squall_leader.specs.Leaders.{LeaderValue, IsLeader, IsOpened, IsBegun, IsFinished as IsLeaderFinished, open_report, issue_report, new_leader, after_begin}
+use Rattle.squall_leader.specs.Leaders.{LeaderValue, IsLeader, IsOpened, IsBegunFrom, IsFinished as IsLeaderFinished, open_report, issue_report, new_leader, after_begin}
 use Rattle.squall_protocol.specs.Known.{last_number}
 use Rattle.squall_protocol.specs.Worlds.{first_parts}
 use Rattle.squall_protocol.specs.declared.event.Node.{Node}
 use Rattle.squall_protocol.specs.declared.event.Node.TheVariants.{Part, Router}
 use Rattle.squall_protocol.specs.declared.answer.Answer.{Answer}
-use Rattle.squall_protocol.specs.declared.answer.Answer.TheVariants.{Opened, Begun, Gave, Loaded, Again, Finished, Sent, Delivered, Routed, Served, Refused}
+use Rattle.squall_protocol.specs.declared.answer.Answer.TheVariants.{Opened, Begun, Closed, Gave, Loaded, Again, Finished, Sent, Delivered, Routed, Served, Refused}
 use Rattle.squall_protocol.specs.declared.answer.Refusal.{Refusal}
 use Rattle.squall_protocol.specs.declared.answer.Refusal.TheVariants.{NoSuch, Running, NoNumber, NotKnown}
 use Rattle.squall_nodes.specs.PartCalls.{give_refusal, load_refusal, finish_refusal}
 use Rattle.squall_nodes.specs.LeaderCalls.{open_refusal}
 use Rattle.squall_world.specs.declared.peer.Role.{Role}
 use Rattle.squall_world.specs.declared.peer.Role.TheVariants.{Leader as LeaderRole, Part as PartRole, Router as RouterRole}
-use Rattle.squall_world.specs.Nets.{PeerValue, NetValue, MessageValue, peer_with, new_peer, message_with, role_board, is_behind, news_to, raised, turned, reported, first_of, place_of, with_peer, ArePlaced, IsRole}
+use Rattle.squall_world.specs.Nets.{PeerValue, NetValue, MessageValue, peer_with, new_peer, message_with, role_board, is_behind, news_to, raised, turned, reported, first_of, newest_of, place_of, with_peer, ArePlaced, IsRole}
+use Rattle.squall_world.specs.Acts.{HasKeys}
 
 -- ---- faults as refusals
 
@@ -87,6 +88,16 @@ IsGiveAtIn n p k (Ok (Refused e)) m =
 IsGiveAtIn n p k (Ok _) m = ⊥
 IsGiveAtIn n p k (Err e) m = m ≡ n
 
+-- the partition gives no more in its newest course
+abbrev pub with_closed_part : NetValue → ℕ → PeerValue → PartValue → NetValue
+with_closed_part n at peer part = with_peer n at (turned peer (PartRole (after_close part)))
+
+abbrev pub IsCloseIn : NetValue → ℕ → Answer → NetValue → Type 0
+IsCloseIn n p (Closed number) m =
+    (at : ℕ) × (peer : PeerValue) × (a : PartValue) × HasPart n p at peer a × IsPart (after_close a) × (number ≡ (course_of_part a).number) × (m ≡ with_closed_part n at peer a)
+IsCloseIn n p (Refused e) m = IsNoSuch n (Part p) e m
+IsCloseIn n p _ m = ⊥
+
 -- ---- loads and completions
 
 -- the partition is another now, and made a report
@@ -134,9 +145,10 @@ named_first n plan = filter (λ p. names plan p && not (is_some (place_of n (Par
 abbrev pub part_peers : Change → List ℕ → List PeerValue
 part_peers first ids = map (λ p. new_peer (PartRole (new_part p first))) ids
 
--- a course is begun, and nodes come; the places of all partitions are noted
-pub record IsBegunNet (n : NetValue) (peer : PeerValue) (leader : LeaderValue) (c : Change) (plan : List PlanRange) (m : NetValue) : Type 0 where
+-- a course is begun, after so many sub-plans of the one before were opened, and nodes come; the places of all partitions are noted
+pub record IsBegunNet (n : NetValue) (peer : PeerValue) (opened : ℕ) (leader : LeaderValue) (c : Change) (plan : List PlanRange) (m : NetValue) : Type 0 where
   pub courses : m.courses ≡ n.courses ++ c ∷ []
+  pub ended : m.ended ≡ n.ended ++ opened ∷ []
   pub peers : m.peers ≡ (with_report n 0 peer (LeaderRole leader) (issue_report c)).peers ++ part_peers (first_of n) (named_first n plan)
   pub valid : AllByRecursion (λ p. IsRole p.role) (part_peers (first_of n) (named_first n plan))
   pub placed : ArePlaced m
@@ -144,14 +156,40 @@ pub record IsBegunNet (n : NetValue) (peer : PeerValue) (leader : LeaderValue) (
   pub messages : m.messages ≡ n.messages
   pub chunks : m.chunks ≡ n.chunks
 
+-- the leader begins the next course between two plans, whatever became of the one before
+abbrev pub IsCourseIn : NetValue → List PlanRange → List PlanRange → Result Answer AllocError → NetValue → Type 0
+IsCourseIn n old new (Ok (Begun number parts)) m =
+    (peer : PeerValue) × (a : LeaderValue) × (b : LeaderValue) × (c : Change) × HasLeader n peer a × IsBegunFrom a old new (Ok c) b × IsLeader b × (number ≡ c.number)
+    × (parts + n.routers + 1 ≡ length m.peers) × IsBegunNet n peer a.opened b c new m
+IsCourseIn n old new (Ok (Refused NoNumber)) m = (peer : PeerValue) × (a : LeaderValue) × HasLeader n peer a × (a.last ≡ last_number) × (m ≡ n)
+IsCourseIn n old new (Ok _) m = ⊥
+IsCourseIn n old new (Err e) m = m ≡ n
+
+-- the leader's course is over
+abbrev pub IsDoneIn : NetValue → Type 0
+IsDoneIn n = (peer : PeerValue) × (a : LeaderValue) × HasLeader n peer a × IsLeaderFinished a
+
 abbrev pub IsBeginIn : NetValue → List PlanRange → Result Answer AllocError → NetValue → Type 0
-IsBeginIn n plan (Ok (Begun number parts)) m =
-    (peer : PeerValue) × (a : LeaderValue) × (b : LeaderValue) × (c : Change) × HasLeader n peer a × IsBegun a plan (Ok c) b × IsLeader b × (number ≡ c.number)
-    × (parts + n.routers + 1 ≡ length m.peers) × IsBegunNet n peer b c plan m
 IsBeginIn n plan (Ok (Refused Running)) m = (peer : PeerValue) × (a : LeaderValue) × HasLeader n peer a × (IsLeaderFinished a → ⊥) × (m ≡ n)
-IsBeginIn n plan (Ok (Refused NoNumber)) m = (peer : PeerValue) × (a : LeaderValue) × HasLeader n peer a × IsLeaderFinished a × (a.last ≡ last_number) × (m ≡ n)
-IsBeginIn n plan (Ok _) m = ⊥
+IsBeginIn n plan (Ok answer) m = IsDoneIn n × IsCourseIn n (newest_of n).new plan (Ok answer) m
 IsBeginIn n plan (Err e) m = m ≡ n
+
+-- the partition of the range is there and holds its keys. If one of them is to leave it, it gives no more in the course begun last
+pub record HasRange (n : NetValue) (r : PlanRange) : Type 0 where
+  pub at : ℕ
+  pub peer : PeerValue
+  pub part : PartValue
+  pub has : HasPart n r.part at peer part
+  pub keys : HasKeys (newest_of n) part r
+
+-- so with each range of the plan
+abbrev pub IsLeftIn : NetValue → List PlanRange → Type 0
+IsLeftIn n plan = AllByRecursion (HasRange n) plan
+
+abbrev pub IsBeginFromIn : NetValue → List PlanRange → List PlanRange → Result Answer AllocError → NetValue → Type 0
+IsBeginFromIn n old new (Ok (Refused Running)) m = (IsLeftIn n old → ⊥) × (m ≡ n)
+IsBeginFromIn n old new (Ok answer) m = IsLeftIn n old × IsCourseIn n old new (Ok answer) m
+IsBeginFromIn n old new (Err e) m = m ≡ n
 
 -- ---- messages
 
@@ -181,7 +219,7 @@ IsSendPartIn n node said (Err e) m = m ≡ n
 abbrev pub IsTold : Role → BoardValue → Role → Type 0
 IsTold (LeaderRole a) d (LeaderRole b) = (b ≡ record a { board = board_join a.board d }) × IsLeader b
 IsTold (PartRole a) d (PartRole b) =
-    (b.board ≡ board_join a.board d) × (b ≡ record a { board = b.board; logs = b.logs }) × ((n : ℕ) → given_by b n ≡ given_by a n) × ((n : ℕ) → loaded_by b n ≡ loaded_by a n) × IsPart b
+    (b.board ≡ board_join a.board d) × (b ≡ record a { board = b.board; logs = b.logs }) × ((n : ℕ) → closed_by b n ≡ closed_by a n) × ((n : ℕ) → given_by b n ≡ given_by a n) × ((n : ℕ) → loaded_by b n ≡ loaded_by a n) × IsPart b
 IsTold (RouterRole a) d (RouterRole b) = (b ≡ router_with a.first (board_join a.board d)) × IsRole (RouterRole b)
 IsTold _ d _ = ⊥
 
@@ -239,6 +277,7 @@ router_peers first count = map (λ r. new_peer (RouterRole (router_with first em
 -- a net in which the first course is begun
 pub record IsFirstNet (old new : List PlanRange) (count : ℕ) (ids : List ℕ) (m : NetValue) : Type 0 where
   pub courses : m.courses ≡ first_course_of old new ∷ []
+  pub ended : m.ended ≡ []
   pub peers : m.peers ≡ leader_peer old new ∷ router_peers (first_course_of old new) count ++ part_peers (first_course_of old new) ids
   pub valid : AllByRecursion (λ p. IsRole p.role) m.peers
   pub placed : ArePlaced m

@@ -3,7 +3,6 @@
 use Rattle.std.specs.Prelude.{◌≡◌, ℕ, ◌+◌, ◌-◌, ◌<◌, ◌≤◌, ◌==◌, ◌||◌, nat_lt, Bool, true, false, zero, suc, List, [], ◌∷◌, ◌++◌, length, Option, Some, None, is_some, if◌then◌else◌, slice_index_or, take, drop}
 use Rattle.std.specs.List.{position, slice_get, AllByRecursion}
 use Rattle.squall_key.specs.Keys.{part_limit}
-use Rattle.squall_plan.specs.declared.range.PlanRange.{PlanRange}
 use Rattle.squall_plan.specs.Ranges.{names}
 use Rattle.squall_course.specs.Change.{Change, ArePlans}
 use Rattle.squall_report.specs.declared.report.ReportKind.{ReportKind}
@@ -166,8 +165,9 @@ pub record IsMessage (ps : List PeerValue) (x : MessageValue) : Type 0 where
 -- ---- all of them
 
 pub record NetValue : Type 0 where
-  -- the courses begun, the first at 0
+  -- the courses begun, the first at 0, and how many sub-plans were opened of each but the last
   pub courses : List Change
+  pub ended : List ℕ
   -- the leader, then the routers, then the partitions in the order in which plans named them
   pub peers : List PeerValue
   pub routers : ℕ
@@ -222,10 +222,10 @@ with_peer n at peer = record n { peers = put_at at peer n.peers }
 
 -- ---- what always holds
 
--- courses are numbered one after another from a number on, and each leads from the plan to which the one before led
-abbrev pub IsChain : ℕ → List PlanRange → List Change → Type 0
-IsChain n plan [] = Unit {0}
-IsChain n plan (c ∷ cs) = (c.number ≡ n) × (c.old ≡ plan) × ArePlans c.old c.new × IsChain (n + 1) c.new cs
+-- courses are numbered one after another from a number on, and lead between plans
+abbrev pub IsChain : ℕ → List Change → Type 0
+IsChain n [] = Unit {0}
+IsChain n (c ∷ cs) = (c.number ≡ n) × ArePlans c.old c.new × IsChain (n + 1) cs
 
 -- the node at 0 is a leader, which uses the course begun last
 pub record IsLed (n : NetValue) : Type 0 where
@@ -261,7 +261,8 @@ pub record ArePlaced (n : NetValue) : Type 0 where
 
 pub record IsNet (n : NetValue) : Type 0 where
   pub some : 0 < length n.courses
-  pub chain : IsChain 1 (first_of n).old n.courses
+  pub chain : IsChain 1 n.courses
+  pub ended : length n.courses ≡ length n.ended + 1
   pub led : IsLed n
   pub room : n.routers < length n.peers
   pub routers : (i : ℕ) → 0 < i → i ≤ n.routers → IsRouterAt n i

@@ -1,24 +1,27 @@
 //! What nodes do by themselves.
 
-ghost use Rattle.std.specs.Prelude.{◌≡◌, ◌<◌, ◌↔◌, ◌++◌, ◌∷◌, [], length, IsTrue, OnOk, vec_len, vec_capacity};
+ghost use Rattle.std.specs.Prelude.{◌≡◌, ◌<◌, ◌↔◌, ◌++◌, ◌∷◌, [], length, IsTrue, IfOk, OnOk, vec_len, vec_capacity};
 ghost use Rattle.std.specs.Arc.{arc_value};
+ghost use Rattle.std.specs.List.{list_any};
 ghost use Rattle.std.specs.Result.{result_map_both};
+ghost use Rattle.squall_part.specs.Parts.{PartValue};
 ghost use Rattle.squall_part.specs.Giving.{IsGiven, IsGivenAt};
 ghost use Rattle.squall_leader.specs.Leaders.{LeaderValue, IsFinished};
-ghost use Rattle.squall_world.specs.declared.peer.Role.TheVariants.{Leader as LeaderRole};
+ghost use Rattle.squall_world.specs.declared.peer.Role.TheVariants.{Leader as LeaderRole, Part as PartRole};
 ghost use Rattle.squall_world.specs.Nets.{noted};
-ghost use Rattle.squall_world.specs.Acts.{IsPartPeer, IsLeaderPeer, Gives, Loads, Finishes, Opens, Begins};
+ghost use Rattle.squall_world.specs.Acts.{IsPartPeer, IsLeaderPeer, Gives, Closes, Loads, Finishes, Opens, Begins, HasKeys, Loses, takes};
 
 use crate::counts::{make_room, note};
 use crate::peer::{Peer, Role};
 use crate::reports::again;
-use squall_course::Course;
+use squall_course::{Course, Move};
 use squall_key::Key;
 use squall_leader::LeaderFault;
 use squall_part::{Chunk, FinishFault, GiveFault, Load, LoadFault};
-use squall_plan::Plan;
+use squall_plan::{Plan, PlanRange};
 use squall_report::{Report, ReportKind};
-use std::alloc::AllocError;
+use squall_span::SpanSet;
+use std::alloc::{AllocError, Global};
 use std::sync::Arc;
 
 /// Room for one more report of the node at the place.
@@ -41,6 +44,29 @@ fn keep(reports: &mut Vec<Report>, known: &mut Vec<usize>, at: usize, report: Re
 {
     reports.push_reserved(report);
     note(known, at, reports.len());
+}
+
+/// Whether the move takes keys of the range from its partition.
+fn takes(one: &Move, range: &PlanRange) -> bool
+    ensures { result ≡ takes one.now range.now }
+{
+    one.source == range.part && one.span.lo() < range.span.hi() && range.span.lo() < one.span.hi()
+}
+
+/// Whether one of the moves takes keys of the range from its partition.
+fn any_takes(moves: &[Move], range: &PlanRange) -> bool
+    ensures { result ≡ list_any (λ m. takes m range.now) moves.now }
+{
+    moves.iter().any(|one| takes(one, range))
+}
+
+/// Whether a key of the range is to leave its partition by the course.
+fn loses(course: &Course, range: &PlanRange) -> bool
+    ensures { IsTrue result ↔ Loses course.now range.now }
+{
+    // The proof learns that the range has a key.
+    let _lo = range.span.lo();
+    any_takes(course.moves(), range)
 }
 
 impl Peer {
@@ -69,6 +95,43 @@ impl Peer {
         let given = part.give_at(key);
         part.known();
         given
+    }
+
+    /// A partition gives no more in its newest course, whose number is the answer.
+    pub(crate) fn close(&mut self) -> u32
+        requires { IsPartPeer self.old }
+        ensures { Closes self.old result self.new }
+    {
+        let Role::Part(part) = &mut self.role else {
+            unreachable!();
+        };
+        let number = part.close();
+        // The proof learns that it is a partition still.
+        part.known();
+        number
+    }
+
+    /// Whether a partition holds the keys of the range, and gives no more in the course if one of
+    /// them is to leave it by that.
+    pub(crate) fn has_range(
+        &self,
+        alloc: Global,
+        course: &Course,
+        range: &PlanRange,
+    ) -> Result<bool, AllocError>
+        requires { IsPartPeer self.now }
+        ensures { IfOk result (λ has. (a : PartValue) → self.now.role ≡ PartRole a → IsTrue has ↔ HasKeys course.now a range.now) }
+    {
+        let Role::Part(part) = &self.role else {
+            unreachable!();
+        };
+        let keys = SpanSet::of(alloc, &range.span)?;
+        // The proof learns that the span has keys.
+        keys.known();
+        if !part.held().covers(&keys) {
+            return Ok(false);
+        }
+        Ok(part.closed(course.number()) || !loses(course, range))
     }
 
     /// A partition takes a chunk, and keeps the report that it makes.
@@ -132,16 +195,32 @@ impl Peer {
         leader.finished()
     }
 
-    /// A leader begins a course to the plan, and keeps the report that issues it.
-    pub(crate) fn begin(&mut self, plan: &Plan, report: Report) -> Result<Arc<Course>, LeaderFault>
+    /// How many sub-plans of the course begun last a leader has opened.
+    pub(crate) fn opened(&self) -> u32
+        requires { IsLeaderPeer self.now }
+        ensures { (a : LeaderValue) → self.now.role ≡ LeaderRole a → result ≡ a.opened }
+    {
+        let Role::Leader(leader) = &self.role else {
+            unreachable!();
+        };
+        leader.opened()
+    }
+
+    /// A leader begins a course between the plans, and keeps the report that issues it.
+    pub(crate) fn begin(
+        &mut self,
+        old: &Plan,
+        new: &Plan,
+        report: Report,
+    ) -> Result<Arc<Course>, LeaderFault>
         requires { IsLeaderPeer self.old }
-        ensures { Begins self.old plan.now report (result_map_both (λ course. arc_value course) (λ fault. fault) result) self.new }
+        ensures { Begins self.old old.now new.now report (result_map_both (λ course. arc_value course) (λ fault. fault) result) self.new }
     {
         room(&mut self.reports, &mut self.known, 0)?;
         let Role::Leader(leader) = &mut self.role else {
             unreachable!();
         };
-        let course = leader.begin(plan)?;
+        let course = leader.begin_from(old, new)?;
         leader.known();
         keep(&mut self.reports, &mut self.known, 0, report);
         Ok(course)

@@ -1,11 +1,11 @@
 //! What the leader does.
 
-ghost use Rattle.std.specs.Prelude.{◌≡◌, ◌≤◌, ◌<◌, ◌+◌, ◌++◌, ◌∷◌, [], vec_len, vec_capacity, IfOk};
+ghost use Rattle.std.specs.Prelude.{◌≡◌, ◌≤◌, ◌<◌, ◌+◌, ◌++◌, ◌∷◌, [], vec_len, vec_capacity, IfOk, IsTrue, ◌↔◌};
 ghost use Rattle.std.specs.Arc.{arc_value};
 ghost use Rattle.squall_report.specs.declared.report.ReportKind.TheVariants.{Issued};
 ghost use Rattle.squall_report.specs.Issues.{plan_pair};
 ghost use Rattle.squall_world.specs.Nets.{IsNet, first_of};
-ghost use Rattle.squall_world.specs.Events.{IsOpenIn, IsBeginIn, part_peers, named_first};
+ghost use Rattle.squall_world.specs.Events.{IsOpenIn, IsCourseIn, IsBeginIn, HasRange, IsLeftIn, IsBeginFromIn, part_peers, named_first};
 ghost use Rattle.squall_world.specs.Naming.{AreNoted, AreRoles};
 
 use crate::naming::{PARTS, mark, new_parts, note_places, repeated};
@@ -14,8 +14,8 @@ use crate::peer::Peer;
 use crate::refusal::{not_opened, refused};
 use squall_course::Course;
 use squall_join::Shared;
-use squall_plan::Plan;
-use squall_protocol::{Answer, Refusal};
+use squall_plan::{Plan, PlanRange};
+use squall_protocol::{Answer, Node, Refusal};
 use squall_report::{Issue, Report};
 use std::alloc::{AllocError, Global};
 use std::sync::Arc;
@@ -86,28 +86,27 @@ impl Net {
         new_parts(self.alloc, self.courses[0].as_arc(), &named, &self.places)
     }
 
-    /// The leader begins a course from the newest plan to this one. The partitions that this plan
-    /// is the first to name are added.
-    pub(crate) fn begin(&mut self, plan: &Plan) -> Result<Answer, AllocError>
+    /// The leader begins a course between the plans, whatever became of the one before. The
+    /// partitions that the new plan is the first to name are added.
+    fn begin_course(&mut self, old: &Plan, new: &Plan) -> Result<Answer, AllocError>
         requires { IsNet self.old }
-        ensures { IsBeginIn self.old plan.now result self.new }
+        ensures { IsCourseIn self.old old.now new.now result self.new }
     {
-        if !self.peers[0].finished() {
-            return refused(Refusal::Running);
-        }
-        let newest = self.newest();
-        let Some(number) = newest.number().checked_add(1) else {
+        let Some(number) = self.newest().number().checked_add(1) else {
             return refused(Refusal::NoNumber);
         };
-        let report = issue(self.alloc, number, newest.new_plan(), plan)?;
-        let parts = self.parts_for(plan)?;
+        let report = issue(self.alloc, number, old, new)?;
+        let parts = self.parts_for(new)?;
         self.courses.reserve(1)?;
+        self.ended.reserve(1)?;
         self.peers.reserve(parts.len())?;
-        let course = match self.peers[0].begin(plan, report) {
+        let opened = self.peers[0].opened();
+        let course = match self.peers[0].begin(old, new, report) {
             Ok(course) => course,
-            // The leader is done, and there is a number: no fault is left but a failed allocation.
+            // There is a number: no fault is left but a failed allocation.
             Err(_) => return Err(AllocError),
         };
+        self.ended.push_reserved(opened);
         add(
             &mut self.courses,
             &mut self.peers,
@@ -117,5 +116,56 @@ impl Net {
         );
         let parts = self.peers.len() - 1 - self.routers as usize;
         Ok(Answer::Begun { number, parts })
+    }
+
+    /// The leader begins a course from the newest plan to this one, once the course begun last is
+    /// over.
+    pub(crate) fn begin(&mut self, plan: &Plan) -> Result<Answer, AllocError>
+        requires { IsNet self.old }
+        ensures { IsBeginIn self.old plan.now result self.new }
+    {
+        if !self.peers[0].finished() {
+            return refused(Refusal::Running);
+        }
+        let newest = Arc::try_clone(self.newest_shared())?;
+        self.begin_course(newest.new_plan(), plan)
+    }
+
+    /// Whether the partition of the range is there and holds its keys. If one of them is to leave it
+    /// by the course begun last, it has to give no more in that.
+    fn has_range(&self, range: &PlanRange) -> Result<bool, AllocError>
+        requires { IsNet self.now }
+        ensures { IfOk result (λ has. IsTrue has ↔ HasRange self.now range.now) }
+    {
+        let Some(at) = self.place(Node::Part(range.part)) else {
+            return Ok(false);
+        };
+        self.peers[at].has_range(self.alloc, self.newest(), range)
+    }
+
+    /// Whether this is so of each range of the plan.
+    fn is_left(&self, plan: &Plan) -> Result<bool, AllocError>
+        requires { IsNet self.now }
+        ensures { IfOk result (λ left. IsTrue left ↔ IsLeftIn self.now plan.now) }
+    {
+        for range in plan.ranges() {
+            let has = self.has_range(range)?;
+            if !has {
+                return Ok(false);
+            }
+        }
+        Ok(true)
+    }
+
+    /// The leader begins a course between the plans, if the old one has each key where the course
+    /// begun last leaves it.
+    pub(crate) fn begin_from(&mut self, old: &Plan, new: &Plan) -> Result<Answer, AllocError>
+        requires { IsNet self.old }
+        ensures { IsBeginFromIn self.old old.now new.now result self.new }
+    {
+        if !self.is_left(old)? {
+            return refused(Refusal::Running);
+        }
+        self.begin_course(old, new)
     }
 }

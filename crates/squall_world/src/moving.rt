@@ -3,7 +3,7 @@
 ghost use Rattle.std.specs.Prelude.{◌≡◌, ◌<◌, ◌++◌, ◌∷◌, [], vec_len, vec_capacity};
 ghost use Rattle.squall_protocol.specs.declared.answer.Answer.TheVariants.{Gave};
 ghost use Rattle.squall_world.specs.Nets.{IsNet};
-ghost use Rattle.squall_world.specs.Events.{IsGiveIn, IsGiveAtIn, IsLoadIn, IsFinishIn};
+ghost use Rattle.squall_world.specs.Events.{IsGiveIn, IsGiveAtIn, IsCloseIn, IsLoadIn, IsFinishIn};
 
 use crate::net::Net;
 use crate::refusal::{not_finished, not_given, not_loaded, refused};
@@ -52,6 +52,18 @@ impl Net {
             Ok(chunk) => Ok(gave(&mut self.chunks, chunk)),
             Err(fault) => not_given(fault),
         }
+    }
+
+    /// The partition gives no more in the newest course that it knows.
+    pub(crate) fn close(&mut self, part: PartId) -> Answer
+        requires { IsNet self.old }
+        ensures { IsCloseIn self.old part result self.new }
+    {
+        let Some(at) = self.place(Node::Part(part)) else {
+            return Answer::Refused(Refusal::NoSuch);
+        };
+        let number = self.peers[at].close();
+        Answer::Closed { number }
     }
 
     /// The chunk comes to its destination.

@@ -1,6 +1,7 @@
 //! The nodes of a world, and what is on its way between them.
 
 ghost use Rattle.std.specs.Prelude.{◌≡◌, length};
+ghost use Rattle.std.specs.Arc.{arc_value};
 ghost use Rattle.squall_world.specs.Nets.{IsNet, place_of, newest_of};
 ghost use Rattle.squall_world.specs.Views.{ids_in};
 
@@ -12,6 +13,7 @@ use squall_part::Chunk;
 use squall_protocol::Node;
 use std::alloc::Global;
 use std::marker::Model;
+use std::sync::Arc;
 
 /// The nodes of a world, and what is on its way between them.
 #[derive(Drop)]
@@ -19,6 +21,8 @@ pub(crate) struct Net {
     pub(crate) alloc: Global,
     /// The courses begun, the first at 0.
     pub(crate) courses: Vec<Shared<Course>>,
+    /// How many sub-plans were opened of each course but the last.
+    pub(crate) ended: Vec<u32>,
     /// The leader, then the routers, then the partitions in the order in which plans named them.
     pub(crate) peers: Vec<Peer>,
     /// How many routers there are.
@@ -36,6 +40,7 @@ impl Model for Net {
 
     ghost view = { λ n. record {
       courses = n.courses.items;
+      ended = n.ended.items;
       peers = n.peers.items;
       routers = n.routers;
       places = n.places.items;
@@ -64,6 +69,14 @@ impl Net {
         ensures { result ≡ length (ids_in self.now) }
     {
         self.peers.len() - 1 - self.routers as usize
+    }
+
+    /// The course begun last, to be shared.
+    pub(crate) fn newest_shared(&self) -> &Arc<Course>
+        requires { IsNet self.now }
+        ensures { arc_value result.now ≡ newest_of self.now }
+    {
+        self.courses[self.courses.len() - 1].as_arc()
     }
 
     /// The course begun last.

@@ -25,6 +25,7 @@ pub(crate) fn not_given(fault: GiveFault) -> Result<Answer, AllocError>
 {
     refused(match fault {
         GiveFault::NotOpen => Refusal::NotOpen,
+        GiveFault::Ended => Refusal::Ended,
         GiveFault::NothingLeft => Refusal::NothingLeft,
         GiveFault::ZeroMax => Refusal::ZeroMax,
         GiveFault::NotOutgoing => Refusal::NotOutgoing,

@@ -134,6 +134,7 @@ impl Net {
         Ok(Net {
             alloc,
             courses,
+            ended: Vec::new(alloc),
             peers,
             routers,
             places,

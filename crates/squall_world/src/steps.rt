@@ -3,9 +3,10 @@
 ghost use Rattle.std.specs.Prelude.{◌≡◌, ◌<◌, ◌≤◌, ◌↔◌, ℕ, length, take, IfOk, IfErr, OnOk, OnErr};
 ghost use Rattle.std.specs.Arc.{arc_value};
 ghost use Rattle.squall_world.specs.declared.steps.WorldFault.TheVariants.{NoMemory, TooManyRouters};
+ghost use Rattle.squall_plan.specs.Ranges.{IsCanonical, AreRanges};
 ghost use Rattle.squall_protocol.specs.Worlds.{most_routers, start, SameWorld};
-ghost use Rattle.squall_protocol.specs.Steps.{OpenStep, BeginStep, GiveStep, GiveAtStep, LoadStep, FinishStep, SendStep, SendPartStep};
-ghost use Rattle.squall_protocol.specs.Steps.{DeliverStep, RouteStep, ServeStep, Step};
+ghost use Rattle.squall_protocol.specs.Steps.{OpenStep, BeginStep, BeginFromStep, CloseStep, GiveStep, GiveAtStep, LoadStep, FinishStep};
+ghost use Rattle.squall_protocol.specs.Steps.{SendStep, SendPartStep, DeliverStep, RouteStep, ServeStep, Step};
 ghost use Rattle.squall_protocol.specs.Promises.{IsReached};
 ghost use Rattle.squall_world.specs.Runs.{IsRun};
 ghost use Rattle.squall_world.specs.Views.{view};
@@ -60,6 +61,14 @@ fn first_course(alloc: Global, old: &Plan, new: &Plan) -> Result<Arc<Course>, Al
 {
     let course = Course::first(alloc, old, new)?;
     Ok(Arc::new(alloc, course)?)
+}
+
+/// Changes nothing. A proof learns from it what holds of the ranges of a plan.
+fn know_plan(plan: &Plan)
+    ensures canonical { IsCanonical plan.now }
+    ensures ranges { AreRanges plan.now }
+{
+    let _ranges = plan.ranges();
 }
 
 impl World {
@@ -120,8 +129,29 @@ impl World {
         self.net.begin(plan)
     }
 
+    /// The leader begins a course between these plans, whether or not the course begun last is over:
+    /// `Begun`. The partitions that the new plan is the first to name are added. Refused as `Running`
+    /// if the old plan has a key elsewhere than where the course begun last leaves it. That is so if
+    /// the key's partition does not hold it, or may still give it. Refused as `NoNumber` if the
+    /// greatest number is used.
+    pub fn begin_from(&mut self, old: &Plan, new: &Plan) -> Result<Answer, AllocError>
+        ensures ok { IfOk result (λ answer. BeginFromStep (view self.old) old.now new.now answer (view self.new)) }
+        ensures err { OnErr result (self.new ≡ self.old) }
+    {
+        know_plan(old);
+        self.net.begin_from(old, new)
+    }
+
+    /// The partition gives no more in the newest course that it knows: `Closed`. Refused as `NoSuch`.
+    /// It takes no memory.
+    pub fn close(&mut self, part: PartId) -> Answer
+        ensures { CloseStep (view self.old) part result (view self.new) }
+    {
+        self.net.close(part)
+    }
+
     /// The partition sends the first keys, at most `max`, that are to go in the sub-plan opened
-    /// last: `Gave`. Refused as `NoSuch`, `NotOpen`, `NothingLeft` or `ZeroMax`.
+    /// last: `Gave`. Refused as `NoSuch`, `NotOpen`, `Ended`, `NothingLeft` or `ZeroMax`.
     pub fn give(&mut self, part: PartId, max: u64) -> Result<Answer, AllocError>
         ensures ok { IfOk result (λ answer. GiveStep (view self.old) part max answer (view self.new)) }
         ensures err { OnErr result (self.new ≡ self.old) }
@@ -129,8 +159,8 @@ impl World {
         self.net.give(part, max)
     }
 
-    /// The partition sends one key: `Gave`. Refused as `NoSuch`, `NotOpen`, `NotOutgoing`, `Given` or
-    /// `NotHeld`.
+    /// The partition sends one key: `Gave`. Refused as `NoSuch`, `NotOpen`, `Ended`, `NotOutgoing`,
+    /// `Given` or `NotHeld`.
     pub fn give_at(&mut self, part: PartId, key: Key) -> Result<Answer, AllocError>
         ensures ok { IfOk result (λ answer. GiveAtStep (view self.old) part key answer (view self.new)) }
         ensures err { OnErr result (self.new ≡ self.old) }
@@ -205,6 +235,8 @@ impl World {
         match event {
             Event::OpenNext => self.open_next(),
             Event::Begin(plan) => self.begin(plan),
+            Event::BeginFrom(old, new) => self.begin_from(old, new),
+            Event::Close(part) => Ok(self.close(*part)),
             Event::Give(part, max) => self.give(*part, *max),
             Event::GiveAt(part, key) => self.give_at(*part, *key),
             Event::Load(chunk) => self.load(*chunk),

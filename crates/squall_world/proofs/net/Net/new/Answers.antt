@@ -32,5 +32,5 @@ returns c =
     let places = with_items_is c.in_ok-places.places c.note_places.new.places (c.note_places.ensures.length ∙ sym size) in
     let noted : AreNoted c.in_ok-peers.peers.items c.note_places.new.places = subst (λ (ps : List PeerValue). AreNoted ps c.note_places.new.places) peers c.note_places.ensures in
     let courses = c.in_ok-push.ensures.items ∙ (λ i. c.new-courses.ensures.items i ++ (c.new.ensures ∙ c.in_ok-try_clone.ensures) i ∷ []) in
-    first_net first.old first.new c.args.routers _ c.in_ok-leader.leader first (λ i. record { number = c.requires i; old = first.old; new = first.new }) c.in_ok-leader.ensures.node courses c.in_ok-peers.ensures.nodes c.in_ok-peers.ensures.valid
-    (subst (AreNoted c.in_ok-peers.peers.items) (sym places) noted) refl c.new-2.ensures.items c.new-3.ensures.items
+    first_net first.old first.new c.args.routers _ c.in_ok-leader.leader first c.new-2.ensures.items (λ i. record { number = c.requires i; old = first.old; new = first.new }) c.in_ok-leader.ensures.node courses c.in_ok-peers.ensures.nodes c.in_ok-peers.ensures.valid
+    (subst (AreNoted c.in_ok-peers.peers.items) (sym places) noted) refl c.new-3.ensures.items c.new-4.ensures.items
