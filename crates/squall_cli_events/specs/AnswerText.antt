@@ -12,9 +12,10 @@ use Rattle.squall_protocol.specs.Chunks.{ChunkValue}
 use Rattle.squall_protocol.specs.declared.event.Event.{Event}
 use Rattle.squall_protocol.specs.declared.event.Event.TheVariants as event
 use Rattle.squall_protocol.specs.declared.answer.Answer.{Answer}
-use Rattle.squall_protocol.specs.declared.answer.Answer.TheVariants.{Opened, Begun, Gave, Loaded, Again, Finished, Sent, Delivered, Routed, Served, Refused}
+use Rattle.squall_protocol.specs.declared.answer.Answer.TheVariants.{Opened, Begun, Closed, Gave, Loaded, Again, Finished}
+use Rattle.squall_protocol.specs.declared.answer.Answer.TheVariants.{Sent, Delivered, Routed, Served, Refused}
 use Rattle.squall_protocol.specs.declared.answer.Refusal.{Refusal}
-use Rattle.squall_protocol.specs.declared.answer.Refusal.TheVariants.{NoSuch, NotDone, NoMore, Running, NoNumber, NotOpen, NothingLeft}
+use Rattle.squall_protocol.specs.declared.answer.Refusal.TheVariants.{NoSuch, NotDone, NoMore, Running, NoNumber, NotOpen, Ended, NothingLeft}
 use Rattle.squall_protocol.specs.declared.answer.Refusal.TheVariants.{ZeroMax, NotOutgoing, Given, NotHeld, Stranger, NotAll, NothingDue, NotKnown}
 
 -- why nothing changed
@@ -25,6 +26,7 @@ text_of_refusal NoMore = codes "NoMore"
 text_of_refusal Running = codes "Running"
 text_of_refusal NoNumber = codes "NoNumber"
 text_of_refusal NotOpen = codes "NotOpen"
+text_of_refusal Ended = codes "Ended"
 text_of_refusal NothingLeft = codes "NothingLeft"
 text_of_refusal ZeroMax = codes "ZeroMax"
 text_of_refusal NotOutgoing = codes "NotOutgoing"
@@ -60,6 +62,8 @@ text_of_report (report.Issued number issue) = codes "issued " ++ decimal number
 abbrev pub asked_key : Event → ℕ
 asked_key event.OpenNext = 0
 asked_key (event.Begin plan) = 0
+asked_key (event.BeginFrom old new) = 0
+asked_key (event.Close part) = 0
 asked_key (event.Give part most) = 0
 asked_key (event.GiveAt part key) = key
 asked_key (event.Load chunk) = 0
@@ -74,6 +78,7 @@ asked_key (event.Serve part key after) = key
 abbrev pub text_of_answer : Event → Answer → List ℕ
 text_of_answer e (Opened sub) = codes "opened " ++ decimal sub
 text_of_answer e (Begun number parts) = codes "begun " ++ (decimal number ++ (codes " " ++ decimal parts))
+text_of_answer e (Closed number) = codes "closed " ++ decimal number
 text_of_answer e (Gave index chunk) = text_of_chunk index chunk
 text_of_answer e (Loaded made) = text_of_report made
 text_of_answer e Again = codes "again"

@@ -1,5 +1,5 @@
 -- Events as lines write them (this project's scenario language).
-use Rattle.std.specs.Prelude.{ℕ, ◌^◌, Bool, ◌&&◌, nat_lt, nat_le, List, [], ◌∷◌, length, slice_index, drop}
+use Rattle.std.specs.Prelude.{ℕ, suc, ◌^◌, Bool, ◌&&◌, nat_lt, nat_le, List, [], ◌∷◌, length, slice_index, take, drop}
 use Rattle.std.specs.Prelude.{Option, None, Some, Result, Ok, Err, codes, ◌==◌, if◌then◌else◌}
 use Rattle.std.specs.Option.{option_map, option_and_then}
 use Rattle.std.specs.Str.{bytes_eq, all_ascii_digits}
@@ -12,7 +12,7 @@ use Rattle.squall_plan.specs.Form.{plan_of_text}
 use Rattle.squall_report.specs.declared.report.ReportKind.{ReportKind}
 use Rattle.squall_report.specs.Issues.{PlanPair}
 use Rattle.squall_board.specs.Takes.{board_by}
-use Rattle.squall_cli_lines.specs.Words.{only_word}
+use Rattle.squall_cli_lines.specs.Words.{is_letter, from_first, has_some, only_word}
 use Rattle.squall_cli_words.specs.Forms.{number_first}
 use Rattle.squall_cli_words.specs.declared.reports.ReportWords.{ReportWords}
 use Rattle.squall_cli_words.specs.declared.reports.ReportWords.TheVariants as report
@@ -28,10 +28,12 @@ use Rattle.squall_cli_events.specs.declared.words.EventWords.TheVariants as word
 use Rattle.squall_cli_events.specs.declared.events.Unfit.{Unfit}
 use Rattle.squall_cli_events.specs.declared.events.Unfit.TheVariants.{OverLimit, NoPlan}
 
--- an event as a line writes it, whatever its numbers are; that of `begin` has the text of its plan
+-- an event as a line writes it, whatever its numbers are; that of `begin` has the text of its plan, that of `begin-from` both texts
 pub data EventLine : Type 0 where
   Open : EventLine
   Begin : List ℕ → EventLine
+  BeginFrom : List ℕ → List ℕ → EventLine
+  Close : ℕ → EventLine
   Give : ℕ → ℕ → EventLine
   GiveAt : ℕ → ℕ → EventLine
   Load : ℕ → EventLine
@@ -69,6 +71,28 @@ alone line (word ∷ words) = None
 -- two words, of which the first is a number: the event of what they write
 abbrev pub with_number : (ℕ → List ℕ → Option EventLine) → List (List ℕ) → Option EventLine
 with_number event words = option_and_then (λ (n : ℕ × List (List ℕ)). option_and_then (event n.0) (only_word n.1)) (number_first words)
+
+-- whether the next byte that is no blank is a `{`
+abbrev pub opens_next : List ℕ → Bool
+opens_next bytes = slice_index (from_first is_letter bytes) 0 == 123
+
+-- The length of the first of two texts. It ends with the first `}` after which the next byte that is no blank is a `{`. If there is no
+-- such `}`, the first text is all.
+abbrev pub first_length : List ℕ → ℕ
+first_length [] = 0
+first_length (b ∷ bytes) = if b == 125 && opens_next bytes then 1 else suc (first_length bytes)
+
+-- the second of two texts, without the blanks before it
+abbrev pub second_text : List ℕ → List ℕ
+second_text text = from_first is_letter (drop (first_length text) text)
+
+-- begin-from OLD NEW
+abbrev pub begin_from_line : List ℕ → Option EventLine
+begin_from_line text = if has_some (second_text text) then Some (BeginFrom (take (first_length text) text) (second_text text)) else None
+
+-- close P
+abbrev pub close_line : List (List ℕ) → Option EventLine
+close_line words = option_map Close (option_and_then number_of (only_word words))
 
 -- give P MAX
 abbrev pub give_line : List (List ℕ) → Option EventLine
@@ -117,24 +141,33 @@ serve_words part (word ∷ words) = option_and_then (λ key. option_map (Serve p
 abbrev pub serve_line : List (List ℕ) → Option EventLine
 serve_line words = option_and_then (λ (n : ℕ × List (List ℕ)). serve_words n.0 n.1) (number_first words)
 
--- the event that the first word names: the words after it must have its form, but for `begin`, whose plan is the rest of the line
+-- the event of a message or a request that the first word names
+abbrev pub message_line : List ℕ → List (List ℕ) → Option EventLine
+message_line name words = if bytes_eq name (codes "send") then send_line words
+    else (if bytes_eq name (codes "deliver") then deliver_line words
+    else (if bytes_eq name (codes "route") then route_line words
+    else (if bytes_eq name (codes "serve") then serve_line words
+    else None)))
+
+-- the event that the first word names: the words after it must have its form, but for `begin` and `begin-from`, whose plans are the
+-- rest of the line
 abbrev pub event_line : List ℕ → List (List ℕ) → List ℕ → Option EventLine
 event_line name words text = if bytes_eq name (codes "open") then alone Open words
     else (if bytes_eq name (codes "begin") then Some (Begin text)
+    else (if bytes_eq name (codes "begin-from") then begin_from_line text
+    else (if bytes_eq name (codes "close") then close_line words
     else (if bytes_eq name (codes "give") then give_line words
     else (if bytes_eq name (codes "giveat") then give_at_line words
     else (if bytes_eq name (codes "load") then load_line words
     else (if bytes_eq name (codes "finish") then finish_line words
-    else (if bytes_eq name (codes "send") then send_line words
-    else (if bytes_eq name (codes "deliver") then deliver_line words
-    else (if bytes_eq name (codes "route") then route_line words
-    else (if bytes_eq name (codes "serve") then serve_line words
-    else None)))))))))
+    else message_line name words)))))))
 
 -- what the code keeps of a line
 abbrev pub line_seen : EventWords → EventLine
 line_seen words.Open = Open
 line_seen (words.Begin text) = Begin text.now
+line_seen (words.BeginFrom old new) = BeginFrom old.now new.now
+line_seen (words.Close part) = Close part
 line_seen (words.Give part most) = Give part most
 line_seen (words.GiveAt part key) = GiveAt part key
 line_seen (words.Load chunk) = Load chunk
@@ -171,10 +204,18 @@ abbrev pub begin_of : Result (List PlanRange) PlanFault → Result Event Unfit
 begin_of (Ok plan) = Ok (event.Begin plan)
 begin_of (Err fault) = Err (NoPlan fault)
 
+-- the event that begins a course from the first plan to the second, or the first fault
+abbrev pub begin_from_of : Result (List PlanRange) PlanFault → Result (List PlanRange) PlanFault → Result Event Unfit
+begin_from_of (Ok old) (Ok new) = Ok (event.BeginFrom old new)
+begin_from_of (Ok old) (Err fault) = Err (NoPlan fault)
+begin_from_of (Err fault) new = Err (NoPlan fault)
+
 -- the event of a line, or why it is none
 abbrev pub event_of : EventLine → Result Event Unfit
 event_of Open = Ok event.OpenNext
 event_of (Begin text) = begin_of (plan_of_text text)
+event_of (BeginFrom old new) = begin_from_of (plan_of_text old) (plan_of_text new)
+event_of (Close part) = at_part part (event.Close part)
 event_of (Give part most) = at_part part (event.Give part most)
 event_of (GiveAt part key) = at_part part (event.GiveAt part key)
 event_of (Load chunk) = Ok (event.Load chunk)

@@ -20,6 +20,7 @@ fn add_refusal(why: &Refusal, out: &mut String) -> Result<(), AllocError>
         Refusal::Running => write!(out, "Running"),
         Refusal::NoNumber => write!(out, "NoNumber"),
         Refusal::NotOpen => write!(out, "NotOpen"),
+        Refusal::Ended => write!(out, "Ended"),
         Refusal::NothingLeft => write!(out, "NothingLeft"),
         Refusal::ZeroMax => write!(out, "ZeroMax"),
         Refusal::NotOutgoing => write!(out, "NotOutgoing"),
@@ -85,6 +86,7 @@ fn add_text(event: &Event, answer: &Answer, out: &mut String) -> Result<(), Allo
     match answer {
         Answer::Opened { sub } => write!(out, "opened {sub}"),
         Answer::Begun { number, parts } => write!(out, "begun {number} {parts}"),
+        Answer::Closed { number } => write!(out, "closed {number}"),
         Answer::Gave { index, chunk } => add_chunk(*index, *chunk, out),
         Answer::Loaded(made) => add_report(made, out),
         Answer::Again => write!(out, "again"),

@@ -4,9 +4,9 @@ ghost use Rattle.std.specs.Prelude.{◌≡◌, [], ◌∷◌, IfOk};
 ghost use Rattle.std.specs.Option.{option_map, ok_or};
 ghost use Rattle.squall_protocol.specs.declared.event.Node.{Node};
 ghost use Rattle.squall_protocol.specs.declared.event.Event.{Event};
-ghost use Rattle.squall_protocol.specs.declared.event.Event.TheVariants.{Finish};
+ghost use Rattle.squall_protocol.specs.declared.event.Event.TheVariants.{Finish, GiveAt};
 ghost use Rattle.squall_cli_events.specs.declared.events.Unfit.TheVariants.{OverLimit};
-ghost use Rattle.squall_cli_events.specs.EventLines.{line_seen, at_part, at_sub, at_node, said_of, begin_of, event_of};
+ghost use Rattle.squall_cli_events.specs.EventLines.{line_seen, at_part, at_sub, at_node, said_of, begin_of, begin_from_of, event_of};
 ghost use Rattle.squall_plan.specs.Form.{plan_of_text};
 ghost use Rattle.squall_span.specs.Spans.{span_at};
 ghost use Rattle.squall_cli_words.specs.ReportLines.{load_of};
@@ -15,7 +15,7 @@ ghost use Rattle.squall_board.specs.Takes.{board_by};
 use crate::words::{EventWords, NodeWords};
 use squall_board::Board;
 use squall_cli_words::read_plan;
-use squall_key::{Bound, PART_LIMIT, PartId};
+use squall_key::{Bound, Key, PART_LIMIT, PartId};
 use squall_plan::{Plan, PlanFault};
 use squall_protocol::{Event, Node};
 use squall_report::Report;
@@ -39,6 +39,31 @@ fn begin_event(plan: Result<Plan, PlanFault>) -> Result<Event, Unfit>
         Ok(plan) => Ok(Event::Begin(plan)),
         Err(fault) => Err(Unfit::NoPlan(fault)),
     }
+}
+
+/// The event that begins a course from the first plan to the second.
+fn begin_from_event(
+    old: Result<Plan, PlanFault>,
+    new: Result<Plan, PlanFault>,
+) -> Result<Event, Unfit>
+    ensures { result ≡ begin_from_of old new }
+{
+    let old = match old {
+        Ok(old) => old,
+        Err(fault) => return Err(Unfit::NoPlan(fault)),
+    };
+    let new = match new {
+        Ok(new) => new,
+        Err(fault) => return Err(Unfit::NoPlan(fault)),
+    };
+    Ok(Event::BeginFrom(old, new))
+}
+
+/// That the partition gives the key. None if the partition is above 9999.
+fn give_at_event(part: u32, key: Key) -> Option<Event>
+    ensures { ok_or result OverLimit ≡ at_part part (GiveAt part key) }
+{
+    Some(Event::GiveAt(PartId::new(part)?, key))
 }
 
 /// That the partition has all keys of the sub-plan. None if the partition or the sub-plan is above
@@ -105,6 +130,20 @@ fn begin_line(alloc: Global, text: &[u8]) -> Result<Result<Event, Unfit>, AllocE
     Ok(begin_event(read_plan(alloc, text)?))
 }
 
+/// The event that begins a course from the plan of the one text to that of the other, or why there is
+/// none: the fault of the first, or else that of the second.
+fn begin_from_lines(
+    alloc: Global,
+    old: &[u8],
+    new: &[u8],
+) -> Result<Result<Event, Unfit>, AllocError>
+    ensures { IfOk result (λ event. event ≡ begin_from_of (plan_of_text old.now) (plan_of_text new.now)) }
+{
+    let old = read_plan(alloc, old)?;
+    let new = read_plan(alloc, new)?;
+    Ok(begin_from_event(old, new))
+}
+
 /// The event, or that a number is outside its limits.
 fn within(event: Option<Event>) -> Result<Result<Event, Unfit>, AllocError>
     ensures { IfOk result (λ found. found ≡ ok_or event OverLimit) }
@@ -113,18 +152,18 @@ fn within(event: Option<Event>) -> Result<Result<Event, Unfit>, AllocError>
 }
 
 /// The event of a line, or why it is none; and apart from both a failed allocation, which only the
-/// plan of `begin` and the report of `send` may meet. A router, a chunk or a message may have any
-/// number: one that is not there is for the world to refuse.
+/// plans of `begin` and `begin-from` and the report of `send` may meet. A router, a chunk or a
+/// message may have any number: one that is not there is for the world to refuse.
 pub fn event_of(alloc: Global, words: EventWords) -> Result<Result<Event, Unfit>, AllocError>
     ensures { IfOk result (λ event. event_of (line_seen words.entry) ≡ event) }
 {
     match words {
         EventWords::Open => within(Some(Event::OpenNext)),
         EventWords::Begin(text) => begin_line(alloc, text),
+        EventWords::BeginFrom { old, new } => begin_from_lines(alloc, old, new),
+        EventWords::Close(part) => within(PartId::new(part).map(|part| Event::Close(part))),
         EventWords::Give { part, most } => within(PartId::new(part).map(|p| Event::Give(p, most))),
-        EventWords::GiveAt { part, key } => {
-            within(PartId::new(part).map(|part| Event::GiveAt(part, key)))
-        }
+        EventWords::GiveAt { part, key } => within(give_at_event(part, key)),
         EventWords::Load(chunk) => within(Some(Event::Load(chunk as usize))),
         EventWords::Finish { part, sub } => within(finish_event(part, sub)),
         EventWords::Send(node) => within(node_within(node).map(|node| Event::Send(node))),

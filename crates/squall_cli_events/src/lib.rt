@@ -7,6 +7,7 @@ mod answers;
 mod events;
 mod most;
 mod nodes;
+mod texts;
 mod words;
 
 pub use answers::add_answer;

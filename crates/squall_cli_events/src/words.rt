@@ -3,11 +3,12 @@
 ghost use Rattle.std.specs.Prelude.{◌≡◌};
 ghost use Rattle.std.specs.Option.{option_map};
 ghost use Rattle.squall_cli_lines.specs.Words.{words_of, is_letter, from_first};
-ghost use Rattle.squall_cli_events.specs.EventLines.{SendPart, line_seen, after_of, give_line, give_at_line, load_line, finish_line};
-ghost use Rattle.squall_cli_events.specs.EventLines.{send_line, deliver_line, route_line, serve_line, event_line};
+ghost use Rattle.squall_cli_events.specs.EventLines.{SendPart, line_seen, after_of, begin_from_line, close_line, give_line, give_at_line};
+ghost use Rattle.squall_cli_events.specs.EventLines.{load_line, finish_line, send_line, deliver_line, route_line, serve_line, message_line, event_line};
 
 use crate::most::read_most;
 use crate::nodes::read_node;
+use crate::texts::first_length;
 use squall_cli_lines::words::{after_blanks, next_word, only_word};
 use squall_cli_words::words::{no_word, number_first};
 use squall_cli_words::{ReportWords, report_line};
@@ -31,6 +32,15 @@ pub enum EventWords<'a> {
     Open,
     /// `begin JSON`: the text of the plan.
     Begin(&'a [u8]),
+    /// `begin-from OLD NEW`
+    BeginFrom {
+        /// The text of the plan that says where the keys are.
+        old: &'a [u8],
+        /// The text of the plan to which they go.
+        new: &'a [u8],
+    },
+    /// `close P`: the partition.
+    Close(u32),
     /// `give P MAX`
     Give {
         /// The partition.
@@ -114,6 +124,26 @@ pub enum EventWords<'a> {
         /// The number of the last move that was followed, 0 if none was.
         after: u32,
     },
+}
+
+/// `begin-from OLD NEW`
+fn begin_from_line(text: &[u8]) -> Option<EventWords>
+    ensures { option_map line_seen result ≡ begin_from_line text.now }
+{
+    let (old, rest) = text.split_at(first_length(text));
+    let new = after_blanks(rest);
+    if new.is_empty() {
+        return None;
+    }
+    Some(EventWords::BeginFrom { old, new })
+}
+
+/// `close P`
+fn close_line(rest: &[u8]) -> Option<EventWords<'static>>
+    ensures { option_map line_seen result ≡ close_line (words_of rest.now) }
+{
+    let part = read_number(only_word(rest)?)?;
+    Some(EventWords::Close(part))
 }
 
 /// `give P MAX`
@@ -232,30 +262,10 @@ fn serve_line(rest: &[u8]) -> Option<EventWords<'static>>
     Some(EventWords::Serve { part, key, after })
 }
 
-/// The event that a line writes whose first word is the name. None if the name is that of no event,
-/// or if the rest of the line does not have that event's form.
-pub fn event_line<'a>(name: &[u8], rest: &'a [u8]) -> Option<EventWords<'a>>
-    ensures { option_map line_seen result ≡ event_line name.now (words_of rest.now) (from_first is_letter rest.now) }
+/// The event of a message or a request that the word names: `send`, `deliver`, `route` or `serve`.
+fn message_line(name: &[u8], rest: &[u8]) -> Option<EventWords<'static>>
+    ensures { option_map line_seen result ≡ message_line name.now (words_of rest.now) }
 {
-    if name == b"open".as_slice() {
-        no_word(rest)?;
-        return Some(EventWords::Open);
-    }
-    if name == b"begin".as_slice() {
-        return Some(EventWords::Begin(after_blanks(rest)));
-    }
-    if name == b"give".as_slice() {
-        return give_line(rest);
-    }
-    if name == b"giveat".as_slice() {
-        return give_at_line(rest);
-    }
-    if name == b"load".as_slice() {
-        return load_line(rest);
-    }
-    if name == b"finish".as_slice() {
-        return finish_line(rest);
-    }
     if name == b"send".as_slice() {
         return send_line(rest);
     }
@@ -269,4 +279,37 @@ pub fn event_line<'a>(name: &[u8], rest: &'a [u8]) -> Option<EventWords<'a>>
         return serve_line(rest);
     }
     None
+}
+
+/// The event that a line writes whose first word is the name. None if the name is that of no event,
+/// or if the rest of the line does not have that event's form.
+pub fn event_line<'a>(name: &[u8], rest: &'a [u8]) -> Option<EventWords<'a>>
+    ensures { option_map line_seen result ≡ event_line name.now (words_of rest.now) (from_first is_letter rest.now) }
+{
+    if name == b"open".as_slice() {
+        no_word(rest)?;
+        return Some(EventWords::Open);
+    }
+    if name == b"begin".as_slice() {
+        return Some(EventWords::Begin(after_blanks(rest)));
+    }
+    if name == b"begin-from".as_slice() {
+        return begin_from_line(after_blanks(rest));
+    }
+    if name == b"close".as_slice() {
+        return close_line(rest);
+    }
+    if name == b"give".as_slice() {
+        return give_line(rest);
+    }
+    if name == b"giveat".as_slice() {
+        return give_at_line(rest);
+    }
+    if name == b"load".as_slice() {
+        return load_line(rest);
+    }
+    if name == b"finish".as_slice() {
+        return finish_line(rest);
+    }
+    message_line(name, rest)
 }

@@ -12,9 +12,9 @@ use Rattle.squall_errand.specs.declared.errand.Reply.TheVariants.{Held, Moved, P
 use Rattle.squall_protocol.specs.Chunks.{ChunkValue}
 use Rattle.squall_protocol.specs.declared.event.Event.{Event}
 use Rattle.squall_protocol.specs.declared.answer.Answer.{Answer}
-use Rattle.squall_protocol.specs.declared.answer.Answer.TheVariants.{Opened, Begun, Gave, Loaded, Again, Finished, Sent, Delivered, Routed, Served, Refused}
+use Rattle.squall_protocol.specs.declared.answer.Answer.TheVariants.{Opened, Begun, Closed, Gave, Loaded, Again, Finished, Sent, Delivered, Routed, Served, Refused}
 use Rattle.squall_protocol.specs.declared.answer.Refusal.{Refusal}
-use Rattle.squall_protocol.specs.declared.answer.Refusal.TheVariants.{NoSuch, NotDone, NoMore, Running, NoNumber, NotOpen, NothingLeft, ZeroMax, NotOutgoing, Given, NotHeld, Stranger, NotAll, NothingDue, NotKnown}
+use Rattle.squall_protocol.specs.declared.answer.Refusal.TheVariants.{NoSuch, NotDone, NoMore, Running, NoNumber, NotOpen, Ended, NothingLeft, ZeroMax, NotOutgoing, Given, NotHeld, Stranger, NotAll, NothingDue, NotKnown}
 use Rattle.squall_cli_events.specs.AnswerText.{text_of_refusal, text_of_reply, text_of_chunk, text_of_report, asked_key, text_of_answer, answer_line}
 use Rattle.squall_cli_words.proofs.LineTexts.{no_lf, no_lf-append, decimal_no_lf, key_no_lf, span_no_lf, spells_lf, spells_glued, NotBegun, differs_at, Lacks, lacks_line}
 
@@ -34,6 +34,7 @@ refusal_no_lf NoMore = refl
 refusal_no_lf Running = refl
 refusal_no_lf NoNumber = refl
 refusal_no_lf NotOpen = refl
+refusal_no_lf Ended = refl
 refusal_no_lf NothingLeft = refl
 refusal_no_lf ZeroMax = refl
 refusal_no_lf NotOutgoing = refl
@@ -67,6 +68,7 @@ report_no_lf (report.Issued number issue) = decimal_no_lf number
 answer_no_lf : (e : Event) (answer : Answer) → no_lf (text_of_answer e answer) ≡ true
 answer_no_lf e (Opened sub) = decimal_no_lf sub
 answer_no_lf e (Begun number parts) = numbered_no_lf number (decimal parts) (decimal_no_lf parts)
+answer_no_lf e (Closed number) = decimal_no_lf number
 answer_no_lf e (Gave index chunk) = chunk_no_lf index chunk
 answer_no_lf e (Loaded made) = report_no_lf made
 answer_no_lf e Again = refl
@@ -95,6 +97,7 @@ report_begins (report.Issued number issue) more rest = differs_at 0 (text_of_rep
 answer_begins : (e : Event) (answer : Answer) (more : List ℕ) → NotBegun bad (text_of_answer e answer ++ more)
 answer_begins e (Opened sub) more rest = differs_at 0 (text_of_answer e (Opened sub) ++ more) (bad ++ rest) (λ e. omega (arith, e))
 answer_begins e (Begun number parts) more rest = differs_at 1 (text_of_answer e (Begun number parts) ++ more) (bad ++ rest) (λ e. omega (arith, e))
+answer_begins e (Closed number) more rest = differs_at 0 (text_of_answer e (Closed number) ++ more) (bad ++ rest) (λ e. omega (arith, e))
 answer_begins e (Gave index chunk) more rest = differs_at 0 (text_of_answer e (Gave index chunk) ++ more) (bad ++ rest) (λ e. omega (arith, e))
 answer_begins e (Loaded made) more rest = report_begins made more rest
 answer_begins e Again more rest = differs_at 0 (codes "again" ++ more) (bad ++ rest) (λ e. omega (arith, e))

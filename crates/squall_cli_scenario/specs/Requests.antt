@@ -80,7 +80,7 @@ route_by true name words text = happen_line name words text
 route_by false name words text = route_line words
 
 -- The request that the first word names. The words after it must have its form. But the text of `old`, `new` and `begin` is the rest of
--- the line, and that of `issued` is the rest after its number.
+-- the line, and so are both texts of `begin-from`. That of `issued` is the rest after its number.
 abbrev pub request_by : Bool → List ℕ → List (List ℕ) → List ℕ → Option Request
 request_by in_world name words text = if bytes_eq name (codes "old") then Some (Old text)
     else (if bytes_eq name (codes "new") then Some (New text)

@@ -29,16 +29,19 @@ fn add_lines(out: &mut String) -> Result<(), Fail> {
             number: 2,
             parts: 4,
         },
+        Answer::Closed { number: 2 },
         Answer::Served(Reply::Pending { source: part }),
         Answer::Refused(Refusal::NotDone { sub: 0, part }),
         Answer::Refused(Refusal::NoNumber),
+        Answer::Refused(Refusal::Ended),
         Answer::Refused(Refusal::NotHeld),
     ];
     add_answers(&answers, out)?;
     add_route(part, out)
 }
 
-const LINES: &str = "begun 2 4\npending 3\nno NotDone 0 3\nno NoNumber\nno NotHeld\nroute 2:0 3\n";
+const LINES: &str =
+    "begun 2 4\nclosed 2\npending 3\nno NotDone 0 3\nno NoNumber\nno Ended\nno NotHeld\nroute 2:0 3\n";
 
 #[test]
 fn answers_as_lines(rt: HostRuntime) -> Result<(), Fail> {

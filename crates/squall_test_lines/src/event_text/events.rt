@@ -20,6 +20,13 @@ fn node_numbers(node: Node) -> (u64, u64) {
     }
 }
 
+/// Of each of both plans how many ranges it has, and the partition of the first.
+fn numbers_of_plans(old: &Plan, new: &Plan) -> [u64; 4] {
+    let [old_count, old_part, ..] = numbers_of_plan(old);
+    let [new_count, new_part, ..] = numbers_of_plan(new);
+    [old_count, old_part, new_count, new_part]
+}
+
 /// How many ranges the plan has, and of the first the partition and both bounds.
 fn numbers_of_plan(plan: &Plan) -> [u64; 4] {
     let count = plan.ranges().len() as u64;
@@ -53,6 +60,8 @@ fn numbers_of(event: &Event) -> Told {
     match event {
         Event::OpenNext => ("open", [0; 4]),
         Event::Begin(plan) => ("begin", numbers_of_plan(plan)),
+        Event::BeginFrom(old, new) => ("begin-from", numbers_of_plans(old, new)),
+        Event::Close(part) => ("close", [u64::from(part.get()), 0, 0, 0]),
         Event::Give(part, most) => ("give", [u64::from(part.get()), *most, 0, 0]),
         Event::GiveAt(part, key) => {
             let (root, second) = (u64::from(key.root()), u64::from(key.second()));
@@ -102,13 +111,33 @@ fn told(alloc: Global, name: &str, rest: &str) -> Result<Told, AllocError> {
 }
 
 /// Lines of events, and their numbers.
-static EVENTS: [(&str, &str, [u64; 4]); 23] = [
+static EVENTS: [(&str, &str, [u64; 4]); 28] = [
     ("open", " \t", [0; 4]),
     (
         "begin",
         " {\"plan\":[{\"part\":5,\"from\":[0,0],\"to\":\"end\"}]}",
         [1, 5, 0, 18446744069414584320],
     ),
+    (
+        "begin-from",
+        " {\"plan\":[{\"part\":5,\"from\":[0,0],\"to\":\"end\"}]} {\"plan\":[{\"part\":6,\"from\":[0,0],\"to\":\"end\"}]}",
+        [1, 5, 1, 6],
+    ),
+    (
+        "begin-from",
+        concat!(
+            "\t{\"plan\":[{\"part\":7,\"from\":[0,0],\"to\":[3,0]}, {\"part\":8,\"from\":[3,0],\"to\":\"end\"}] }",
+            " \t {\"plan\":[{\"part\":6,\"from\":[0,0],\"to\":\"end\"}]} ",
+        ),
+        [2, 7, 1, 6],
+    ),
+    (
+        "begin-from",
+        " {\"plan\":[{\"part\":5,\"from\":[0,0],\"to\":\"end\"}]}{\"plan\":[{\"part\":6,\"from\":[0,0],\"to\":\"end\"}],\"note\":\"} {\"}",
+        [1, 5, 1, 6],
+    ),
+    ("close", " 3", [3, 0, 0, 0]),
+    ("close", "\t9999 ", [9999, 0, 0, 0]),
     (
         "give",
         " 3 18446744073709551615",
@@ -149,7 +178,7 @@ fn events(rt: HostRuntime) -> Result<(), Fail> {
 
 /// Names, what follows each, and why none of these lines is an event. A value is over its limit, a
 /// plan is none, the number of words is wrong, or one of them has another form.
-static OTHERS: [(&str, &[&str], &str); 26] = [
+static OTHERS: [(&str, &[&str], &str); 32] = [
     ("give", &[" 10000 1"], "limit"),
     ("giveat", &[" 10000 2:0"], "limit"),
     ("finish", &[" 10000 0", " 3 10000"], "limit"),
@@ -160,6 +189,26 @@ static OTHERS: [(&str, &[&str], &str); 26] = [
     ("serve", &[" 10000 2:0"], "limit"),
     ("begin", &[""], "json"),
     ("begin", &[" {}"], "shape"),
+    (
+        "begin-from",
+        &[
+            "",
+            " {}",
+            " {\"plan\":[{\"part\":5,\"from\":[0,0],\"to\":\"end\"}]}",
+            " {}, {}",
+            " 1 {}",
+        ],
+        "no",
+    ),
+    ("begin-from", &[" {} {", " {}{}", " {} {} {}"], "shape"),
+    ("begin-from", &[" } {", " {\"note\":\"} {\"} {}"], "json"),
+    (
+        "begin-from",
+        &[" {\"plan\":[{\"part\":5,\"from\":[0,0],\"to\":\"end\"}]} {"],
+        "json",
+    ),
+    ("close", &[" 10000"], "limit"),
+    ("close", &["", " 1 2", " p1", " 4294967296"], "no"),
     ("open", &[" 1"], "no"),
     ("give", &["", " 1", " 1 2 3"], "no"),
     (

@@ -27,6 +27,28 @@ fn tolerant_plan(rt: HostRuntime) -> Result<(), Fail> {
     Ok(())
 }
 
+/// Whether the line begins a course from a plan, or an allocation fails.
+fn begins_from(alloc: Global, text: &[u8]) -> bool {
+    let Some(words) = event_line(b"begin-from", text) else {
+        return false;
+    };
+    match event_of(alloc, words) {
+        Ok(Ok(Event::BeginFrom(..))) | Err(_) => true,
+        Ok(_) => false,
+    }
+}
+
+#[test]
+fn tolerant_plans(rt: HostRuntime) -> Result<(), Fail> {
+    assert!(rt;
+        begins_from(
+            rt.alloc(),
+            b" {\"plan\":[{\"part\":5,\"from\":[0,0],\"to\":\"end\"}]} {\"plan\":[{\"part\":6,\"from\":[0,0],\"to\":\"end\"}]}"
+        )
+    );
+    Ok(())
+}
+
 /// Whether the line sends a report, or an allocation fails.
 fn sends(alloc: Global, text: &[u8]) -> bool {
     let Some(words) = event_line(b"send", text) else {
