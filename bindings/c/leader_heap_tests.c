@@ -24,6 +24,10 @@ static uint32_t begin(squall_leader *leader) {
     return squall_leader_begin(leader, bytes_of(NEW), strlen(NEW));
 }
 
+static uint32_t begin_from(squall_leader *leader) {
+    return squall_leader_begin_from(leader, bytes_of(OLD), strlen(OLD), bytes_of(NEW), strlen(NEW));
+}
+
 static uint32_t open_next(squall_leader *leader) {
     uint32_t out[2] = {7, 7};
     uint32_t status = squall_leader_open_next(leader, out, 2);
@@ -153,6 +157,11 @@ static uint32_t gather_repair(squall_leader *leader) {
 
 static void courses_begin(void) {
     refuse_each(idle_leader, begin);
+}
+
+static void courses_begin_from_a_plan(void) {
+    refuse_each(idle_leader, begin_from);
+    refuse_each(busy_leader, begin_from);
 }
 
 static void subplans_open(void) {
@@ -291,6 +300,7 @@ static void calls_that_allocate_nothing(void) {
 
 static const struct test TESTS[] = {
     TEST(courses_begin),
+    TEST(courses_begin_from_a_plan),
     TEST(subplans_open),
     TEST(frames_are_heard),
     TEST(streams_are_heard),

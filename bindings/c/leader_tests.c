@@ -32,6 +32,10 @@ static uint32_t begin(squall_leader *leader, const char *plan) {
     return squall_leader_begin(leader, bytes_of(plan), strlen(plan));
 }
 
+static uint32_t begin_from(squall_leader *leader, const char *old, const char *new_plan) {
+    return squall_leader_begin_from(leader, bytes_of(old), strlen(old), bytes_of(new_plan), strlen(new_plan));
+}
+
 /* The leader hears that the partition is done in the sub-plan. */
 static uint32_t hear_done(squall_leader *leader, uint32_t number, uint32_t sub, uint32_t part) {
     uint8_t frame[64];
@@ -81,6 +85,7 @@ static void numbers_end(void) {
     CHECK(begin(leader, OLD) == SQUALL_OK);
     CHECK(squall_leader_finished(leader) == 1);
     CHECK(begin(leader, NEW) == SQUALL_NO_NUMBER);
+    CHECK(begin_from(leader, OLD, NEW) == SQUALL_NO_NUMBER);
     squall_course *course = begun_by(leader);
     CHECK(squall_course_number(course) == 4294967295u);
     drop_course(course);
@@ -150,6 +155,59 @@ static void what_a_leader_tells(void) {
     drop_leader(leader);
 }
 
+/* Between OLD and NEW: the keys of 2:0 have moved, and those of 6:0 to 8:0 have not. */
+static const char MIDDLE[] =
+    "{\"plan\":[{\"part\":1,\"from\":[0,0],\"to\":[2,0]},{\"part\":2,\"from\":[3,0],\"to\":[5,0]},"
+    "{\"part\":3,\"from\":[2,0],\"to\":[3,0]},{\"part\":3,\"from\":[5,0],\"to\":[9,0]},"
+    "{\"part\":4,\"from\":[9,0],\"to\":\"end\"}]}";
+
+/* A course that is not over ends early: the next one begins where the keys lie then. */
+static void a_course_ends_early(void) {
+    squall_leader *leader = leader_of(OLD, 0);
+    squall_router *router = router_of(1, OLD, NEW);
+    uint32_t out[2] = {7, 7};
+    squall_move moves[2];
+    CHECK(begin(leader, NEW) == SQUALL_OK);
+    CHECK(squall_leader_open_next(leader, out, 2) == SQUALL_OK);
+    CHECK(begin(leader, OLD) == SQUALL_RUNNING);
+    CHECK(begin_from(leader, MIDDLE, NEW) == SQUALL_OK);
+    CHECK(squall_leader_finished(leader) == 0);
+    squall_course *course = begun_by(leader);
+    CHECK(squall_course_number(course) == 2);
+    CHECK(squall_course_moves(course, 0, moves, 2) == 1);
+    CHECK(moves[0].lo == squall_rank(6, 0) && moves[0].hi == squall_rank(9, 0));
+    CHECK(moves[0].source == 3 && moves[0].dest == 4 && moves[0].sub == 0);
+    drop_course(course);
+    hear_course(router, 1, OLD, NEW);
+    hear_course(router, 2, MIDDLE, NEW);
+    CHECK(squall_router_opened(router, 1, 0) == SQUALL_OK && tells_as(leader, router));
+    CHECK(hear_done(leader, 1, 0, 4) == SQUALL_OK);
+    CHECK(squall_leader_open_next(leader, out, 2) == SQUALL_OK && out[0] == 0);
+    CHECK(squall_leader_open_next(leader, out, 2) == SQUALL_NOT_DONE && out[0] == 0 && out[1] == 4);
+    CHECK(hear_done(leader, 2, 0, 4) == SQUALL_OK);
+    CHECK(squall_leader_finished(leader) == 1);
+    CHECK(begin_from(leader, NEW, OLD) == SQUALL_OK);
+    CHECK(begin_from(leader, NEW, NEW) == SQUALL_OK);
+    course = begun_by(leader);
+    CHECK(squall_course_number(course) == 4 && squall_course_subplans(course) == 0);
+    drop_course(course);
+    drop_router(router);
+    drop_leader(leader);
+}
+
+/* The first course too may begin from another plan than the leader was opened with. */
+static void a_first_course_begins_anywhere(void) {
+    squall_leader *leader = leader_of(OLD, 6);
+    squall_leg legs[4];
+    CHECK(begin_from(leader, NEW, OLD) == SQUALL_OK);
+    squall_course *course = begun_by(leader);
+    CHECK(squall_course_number(course) == 7);
+    CHECK(squall_course_new(course, 0, legs, 4) == 4 && legs[0].part == 1 && legs[0].hi == squall_rank(3, 0));
+    CHECK(squall_course_old(course, 0, legs, 1) == 1 && legs[0].part == 1 && legs[0].hi == squall_rank(2, 0));
+    drop_course(course);
+    drop_leader(leader);
+}
+
 static void a_course_is_resumed(void) {
     squall_course *course = (squall_course *)room_of(squall_course_size());
     squall_leader *leader = room_for_leader();
@@ -175,6 +233,7 @@ static void answers_closed(squall_leader *leader) {
     uint32_t out[2] = {7, 7};
     uint8_t frame[8] = {7};
     CHECK(begin(leader, NEW) == SQUALL_CLOSED);
+    CHECK(begin_from(leader, OLD, NEW) == SQUALL_CLOSED && begin_from(leader, "", "") == SQUALL_CLOSED);
     CHECK(squall_leader_open_next(leader, out, 2) == SQUALL_CLOSED && out[0] == 7);
     CHECK(squall_leader_finished(leader) == 0);
     CHECK(squall_leader_hear(leader, frame, sizeof frame) == SQUALL_CLOSED);
@@ -209,14 +268,45 @@ static void leaders_that_are_none(void) {
     drop_course(none);
 }
 
+/* A plan with a gap from 3:0 on, and one whose second entry has a partition that is none. */
+static const char WITH_GAP[] = "{\"plan\":[{\"part\":1,\"from\":[0,0],\"to\":[3,0]}]}";
+static const char BAD_PART[] =
+    "{\"plan\":[{\"part\":1,\"from\":[0,0],\"to\":[3,0]},{\"part\":10000,\"from\":[3,0],\"to\":\"end\"}]}";
+
 static void texts_that_are_no_plans(void) {
     squall_leader *leader = leader_of(OLD, 0);
-    CHECK(begin(leader, "{\"plan\":[{\"part\":1,\"from\":[0,0],\"to\":[3,0]}]}") == SQUALL_NEW_PLAN_GAP);
+    CHECK(begin(leader, WITH_GAP) == SQUALL_NEW_PLAN_GAP);
     CHECK(squall_leader_fault_at(leader) == squall_rank(3, 0));
     CHECK(begin(leader, "{}") == SQUALL_NEW_PLAN_SHAPE);
     CHECK(squall_leader_fault_at(leader) == SQUALL_NO_PLACE);
     CHECK(squall_leader_status(leader) == SQUALL_OK);
     CHECK(begin(leader, NEW) == SQUALL_OK);
+    drop_leader(leader);
+}
+
+/* Of two texts the fault of the first that is no plan is told, and nothing else changes. */
+static void pairs_of_texts_that_are_no_plans(void) {
+    squall_leader *leader = leader_of(OLD, 0);
+    CHECK(begin(leader, NEW) == SQUALL_OK);
+    CHECK(begin_from(leader, WITH_GAP, NEW) == SQUALL_PLAN_GAP);
+    CHECK(squall_leader_fault_at(leader) == squall_rank(3, 0));
+    CHECK(begin_from(leader, BAD_PART, WITH_GAP) == SQUALL_PLAN_BAD_PART);
+    CHECK(squall_leader_fault_at(leader) == 1);
+    CHECK(begin_from(leader, "", WITH_GAP) == SQUALL_PLAN_JSON);
+    CHECK(squall_leader_fault_at(leader) == SQUALL_NO_PLACE);
+    CHECK(begin_from(leader, OLD, WITH_GAP) == SQUALL_NEW_PLAN_GAP);
+    CHECK(squall_leader_fault_at(leader) == squall_rank(3, 0));
+    CHECK(begin_from(leader, OLD, BAD_PART) == SQUALL_NEW_PLAN_BAD_PART);
+    CHECK(squall_leader_fault_at(leader) == 1);
+    CHECK(begin_from(leader, OLD, "{}") == SQUALL_NEW_PLAN_SHAPE);
+    CHECK(squall_leader_fault_at(leader) == SQUALL_NO_PLACE);
+    squall_course *course = begun_by(leader);
+    CHECK(squall_course_number(course) == 1);
+    drop_course(course);
+    CHECK(begin_from(leader, OLD, NEW) == SQUALL_OK);
+    course = begun_by(leader);
+    CHECK(squall_course_number(course) == 2);
+    drop_course(course);
     drop_leader(leader);
 }
 
@@ -397,9 +487,12 @@ static const struct test TESTS[] = {
     TEST(numbers_end),
     TEST(nothing_moves),
     TEST(what_a_leader_tells),
+    TEST(a_course_ends_early),
+    TEST(a_first_course_begins_anywhere),
     TEST(a_course_is_resumed),
     TEST(leaders_that_are_none),
     TEST(texts_that_are_no_plans),
+    TEST(pairs_of_texts_that_are_no_plans),
     TEST(a_standby_catches_up),
     TEST(a_router_follows),
     TEST(what_is_no_frame),

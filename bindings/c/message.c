@@ -54,6 +54,7 @@ static const struct message MESSAGES[] = {
     {78, "keys that come in are missing"},
     {79, "no key comes in, in that sub-plan"},
     {80, "each key of the chunk was loaded before"},
+    {81, "the partition gives no more in its newest course"},
 
     {91, "the course begun last is not over"},
     {92, "the greatest number is used"},

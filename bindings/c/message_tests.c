@@ -50,6 +50,7 @@ static bool is_status(uint32_t number) {
     case SQUALL_NOT_ALL:
     case SQUALL_NOTHING_DUE:
     case SQUALL_LOADED_BEFORE:
+    case SQUALL_ENDED:
     case SQUALL_RUNNING:
     case SQUALL_NO_NUMBER:
     case SQUALL_IDLE:

@@ -90,6 +90,8 @@ static void has_no_partition(squall_part *part) {
     CHECK(squall_part_load(part, &chunk) == SQUALL_CLOSED);
     CHECK(squall_part_fresh(part, &chunk, 0, spans) == SQUALL_CLOSED);
     CHECK(squall_part_finish(part, 0) == SQUALL_CLOSED);
+    CHECK(squall_part_close_course(part) == 0);
+    CHECK(squall_part_course_closed(part, 0) == 0 && squall_part_course_closed(part, 1) == 0);
     CHECK(squall_part_serve(part, 0, 0, &answer) == SQUALL_CLOSED);
     CHECK(is_answer(answer, 7, 7, 7));
     CHECK(squall_part_held(part, 0, spans, 1) == 0);
@@ -269,6 +271,70 @@ static void keys_go_back(void) {
     CHECK(squall_part_loaded(part, 1, 0, spans, 3) == 1 && spans[0].lo == key(2) && spans[0].hi == key(3));
     CHECK(squall_part_given(part, 2, 0, spans, 3) == 1 && spans[0].lo == key(2) && spans[0].hi == key(2) + 1);
     CHECK(squall_part_loaded(part, 2, 0, spans, 3) == 0);
+    drop_part(part);
+    CHECK(blocks == 0);
+}
+
+/* Once the course is closed nothing is given in it, whatever else is so. What comes in is loaded as before. */
+static void a_course_is_closed(void) {
+    squall_part *part = open_part(3);
+    squall_chunk chunk = NO_CHUNK;
+    squall_chunk whole = chunk_of(key(2), key(3));
+    squall_span spans[3];
+    CHECK(squall_part_course_closed(part, 1) == 0);
+    CHECK(squall_part_give_at(part, key(6), &chunk) == SQUALL_OK);
+    chunk = NO_CHUNK;
+    CHECK(squall_part_close_course(part) == 1);
+    for (int repeat = 0; repeat < 2; repeat++) {
+        CHECK(squall_part_course_closed(part, 1) == 1);
+        CHECK(squall_part_course_closed(part, 0) == 0 && squall_part_course_closed(part, 2) == 0);
+        CHECK(squall_part_give(part, 1, &chunk) == SQUALL_ENDED);
+        CHECK(squall_part_give(part, 0, &chunk) == SQUALL_ENDED);
+        CHECK(squall_part_give_at(part, key(7), &chunk) == SQUALL_ENDED);
+        CHECK(squall_part_give_at(part, key(6), &chunk) == SQUALL_ENDED);
+        CHECK(squall_part_give_at(part, key(5), &chunk) == SQUALL_ENDED);
+        CHECK(squall_part_give_at(part, SQUALL_TOP, &chunk) == SQUALL_LIMIT);
+        CHECK(is_chunk(chunk, NO_CHUNK));
+        CHECK(squall_part_close_course(part) == 1);
+    }
+    CHECK(squall_part_load(part, &whole) == SQUALL_OK && squall_part_finish(part, 0) == SQUALL_OK);
+    CHECK(squall_part_held(part, 0, spans, 3) == 3);
+    CHECK(spans[0].lo == key(2) && spans[1].hi == key(6) && spans[2].lo == key(6) + 1 && spans[2].hi == key(9));
+    CHECK(squall_part_given(part, 1, 0, spans, 3) == 1 && spans[0].lo == key(6) && spans[0].hi == key(6) + 1);
+    drop_part(part);
+    CHECK(blocks == 0);
+}
+
+/* A course may be closed before its sub-plan is opened: a gift is answered that it has ended, and a load that
+ * nothing is opened. */
+static void a_course_is_closed_before_it_opens(void) {
+    squall_part *part = part_of(3);
+    squall_chunk chunk = NO_CHUNK;
+    squall_chunk whole = chunk_of(key(2), key(3));
+    CHECK(squall_part_close_course(part) == 1);
+    CHECK(squall_part_give(part, 1, &chunk) == SQUALL_ENDED);
+    CHECK(squall_part_give_at(part, key(6), &chunk) == SQUALL_ENDED);
+    CHECK(squall_part_load(part, &whole) == SQUALL_NOT_OPEN);
+    CHECK(hear_opening(part) == SQUALL_OK);
+    CHECK(squall_part_give(part, 1, &chunk) == SQUALL_ENDED);
+    CHECK(is_chunk(chunk, NO_CHUNK));
+    CHECK(squall_part_load(part, &whole) == SQUALL_OK);
+    drop_part(part);
+    CHECK(blocks == 0);
+}
+
+/* In a newer course it gives again, until that is closed too. */
+static void a_newer_course_is_not_closed(void) {
+    squall_part *part = open_part(3);
+    squall_chunk chunk = chunk_of(key(2), key(3));
+    const squall_chunk back = {key(2), key(2) + 1, 2, 0, 3, 1};
+    CHECK(squall_part_load(part, &chunk) == SQUALL_OK && squall_part_close_course(part) == 1);
+    hear_way_back(part);
+    CHECK(squall_part_course_closed(part, 1) == 1 && squall_part_course_closed(part, 2) == 0);
+    CHECK(squall_part_give(part, 1, &chunk) == SQUALL_OK && is_chunk(chunk, back));
+    CHECK(squall_part_close_course(part) == 2);
+    CHECK(squall_part_course_closed(part, 1) == 1 && squall_part_course_closed(part, 2) == 1);
+    CHECK(squall_part_give(part, 1, &chunk) == SQUALL_ENDED && is_chunk(chunk, back));
     drop_part(part);
     CHECK(blocks == 0);
 }
@@ -618,6 +684,9 @@ static void calls_that_allocate_nothing(void) {
     asked = 0;
     CHECK(squall_part_serve(part, key(5), 0, &answer) == SQUALL_OK);
     CHECK(spans_of(part) == 1);
+    CHECK(squall_part_course_closed(part, 1) == 0);
+    CHECK(squall_part_close_course(part) == 1);
+    CHECK(squall_part_course_closed(part, 1) == 1);
     CHECK(squall_part_frame(part, out, sizeof out) != 0);
     CHECK(asked == 0);
     drop_part(part);
@@ -633,6 +702,9 @@ static const struct test TESTS[] = {
     TEST(chunks_have_limits),
     TEST(a_later_number_is_awaited),
     TEST(keys_go_back),
+    TEST(a_course_is_closed),
+    TEST(a_course_is_closed_before_it_opens),
+    TEST(a_newer_course_is_not_closed),
     TEST(keys_that_never_came),
     TEST(what_a_partition_tells),
     TEST(replies_for_errands),

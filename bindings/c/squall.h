@@ -53,8 +53,8 @@
  * 8. Signals and forks. No function is called in a signal handler, nor, where the program has
  *    threads, in the child of a fork before it executes another program.
  * 9. Stack. The calls that read the text of a plan have 192 KiB of stack, as a text may nest objects:
- *    squall_router_open, squall_router_issued, squall_course_open, squall_leader_open and
- *    squall_leader_begin. Any other call has 64 KiB.
+ *    squall_router_open, squall_router_issued, squall_course_open, squall_leader_open,
+ *    squall_leader_begin and squall_leader_begin_from. Any other call has 64 KiB.
  *
  * What is no matter of these rules: any numbers, any bytes of a plan or a frame, any order of
  * reports and any failed allocation. Each has its answer below.
@@ -91,7 +91,8 @@ enum squall_status {
     SQUALL_NO_DIGEST = 6, /* no digest was heard that could be answered */
     SQUALL_FULL = 7,      /* the router would hear of more than its limit */
 
-    /* Why a text is no plan; of squall_router_open and squall_course_open the old one. */
+    /* Why a text is no plan; of squall_router_open, squall_course_open and squall_leader_begin_from the
+     * old one. */
     SQUALL_PLAN_JSON = 11,
     SQUALL_PLAN_SHAPE = 12,
     SQUALL_PLAN_BAD_PART = 13,
@@ -133,6 +134,7 @@ enum squall_status {
     SQUALL_NOT_ALL = 78,      /* keys that come in are missing */
     SQUALL_NOTHING_DUE = 79,  /* no key comes in, in that sub-plan */
     SQUALL_LOADED_BEFORE = 80, /* each key of the chunk was loaded before */
+    SQUALL_ENDED = 81,         /* the partition gives no more in its newest course */
 
     /* Why a leader does not go on. */
     SQUALL_RUNNING = 91,   /* the course begun last is not over */
@@ -639,6 +641,7 @@ uint32_t squall_part_hear(squall_part *part, const uint8_t *frame, size_t len);
 /* Gives the first keys, at most `max`, of those that go out in the sub-plan opened last and that the
  * partition still holds: writes their chunk to `out`, and holds them no longer. Answers
  *   SQUALL_OK            the chunk is written
+ *   SQUALL_ENDED         squall_part_close_course ended what it gives in its newest course
  *   SQUALL_NOT_OPEN      no sub-plan of its newest course is opened
  *   SQUALL_NOTHING_LEFT  no such key is held
  *   SQUALL_ZERO_MAX      `max` is 0
@@ -648,8 +651,8 @@ uint32_t squall_part_hear(squall_part *part, const uint8_t *frame, size_t len);
 uint32_t squall_part_give(squall_part *part, uint64_t max, squall_chunk *out);
 
 /* Gives the key of that rank, likewise. Answers SQUALL_LIMIT if the rank is no key's; SQUALL_CLOSED; or
- * the first of these that is so: SQUALL_NOT_OPEN, SQUALL_NOT_OUTGOING, SQUALL_GIVEN, SQUALL_NOT_HELD,
- * SQUALL_NO_MEMORY. Allocates. */
+ * the first of these that is so: SQUALL_ENDED, SQUALL_NOT_OPEN, SQUALL_NOT_OUTGOING, SQUALL_GIVEN,
+ * SQUALL_NOT_HELD, SQUALL_NO_MEMORY. Allocates. */
 uint32_t squall_part_give_at(squall_part *part, uint64_t rank, squall_chunk *out);
 
 /* Takes a chunk. Its keys that were not loaded under its number are loaded and held now, and the
@@ -679,6 +682,16 @@ uint32_t squall_part_fresh(const squall_part *part, const squall_chunk *chunk, u
  * SQUALL_NOT_ALL, SQUALL_NOTHING_DUE; or SQUALL_NO_MEMORY. At all but SQUALL_OK nothing changed.
  * squall_frame_done writes the frame of that report. Allocates. */
 uint32_t squall_part_finish(squall_part *part, uint32_t sub);
+
+/* Ends what the partition gives in the newest course that it knows, and answers the number of that course;
+ * 0 if there is no partition. From then on squall_part_give and squall_part_give_at answer SQUALL_ENDED,
+ * until it hears of a newer course. It loads as before. A repeat changes nothing, and answers the same.
+ * Make the call durable before the number is passed on: a log has it too. Allocates nothing. */
+uint32_t squall_part_close_course(squall_part *part);
+
+/* 1 if the partition gives no more under the number, and else 0. It is 0 too if the partition has not heard of
+ * that course, or if there is none. Allocates nothing. */
+uint32_t squall_part_course_closed(const squall_part *part, uint32_t number);
 
 /* Writes the reply to a request for the key of that rank to `out`. The request followed a SQUALL_MOVED of
  * the number `after` to this partition; `after` is 0 if it followed none, and what
@@ -739,8 +752,8 @@ void squall_leader_resume(const squall_course *course, squall_leader *room);
 /* How the opening ended. Never changes. */
 uint32_t squall_leader_status(const squall_leader *leader);
 
-/* Where the plan fault lies that was answered last, of an opening or of squall_leader_begin, as
- * squall_router_fault_at says it. */
+/* Where the plan fault lies that was answered last, of an opening, of squall_leader_begin or
+ * of squall_leader_begin_from, as squall_router_fault_at says it. */
 uint64_t squall_leader_fault_at(const squall_leader *leader);
 
 /* Takes the next bytes of a stream of frames, as squall_router_feed does, and answers as that does. A
@@ -769,6 +782,16 @@ uint32_t squall_leader_hear(squall_leader *leader, const uint8_t *frame, size_t 
  *   SQUALL_CLOSED       there is no leader
  * At all but SQUALL_OK nothing changed but squall_leader_fault_at. Allocates. */
 uint32_t squall_leader_begin(squall_leader *leader, const uint8_t *plan, size_t len);
+
+/* Begins the course from the old plan to the new one, whether or not the course begun last is over, which
+ * may end early so. Its number is the last one plus 1, and the new plan is the newest one then. The caller
+ * makes sure that the old plan has each key where the course begun last leaves it: each partition holds
+ * the keys that the old plan gives it, has closed that course if such a key was to leave it, and what was
+ * given is loaded. Answers as squall_leader_begin does, but never SQUALL_RUNNING, and SQUALL_PLAN_.. if the
+ * text of the old plan is none. At all but SQUALL_OK nothing changed but squall_leader_fault_at.
+ * Allocates. */
+uint32_t squall_leader_begin_from(squall_leader *leader, const uint8_t *old_plan, size_t old_len,
+                                  const uint8_t *new_plan, size_t new_len);
 
 /* Opens the course that the leader began last. squall_course_status then says SQUALL_OK, SQUALL_CLOSED
  * if it has begun none, or SQUALL_NO_MEMORY if the course has more owners than can be counted. The room

@@ -41,7 +41,7 @@ static void nest(int depth, const char *begin, const char *end) {
     strcat(nested, ",\"plan\":[{\"part\":1,\"from\":[0,0],\"to\":\"end\"}]}");
 }
 
-/* The text as the first plan of a leader, and as the plan of its next course. */
+/* The text as the first plan of a leader, as the plan of its next course, and as each plan of those after it. */
 static void lead_by_texts(void) {
     squall_leader *leader = (squall_leader *)room_of(squall_leader_size());
     squall_leader_open(bytes_of(nested), strlen(nested), 0, leader);
@@ -50,6 +50,10 @@ static void lead_by_texts(void) {
     squall_leader_close(leader);
     squall_leader_open(bytes_of(OLD), strlen(OLD), 0, leader);
     status = squall_leader_begin(leader, bytes_of(nested), strlen(nested));
+    CHECK(status == SQUALL_OK || status == SQUALL_NEW_PLAN_JSON);
+    status = squall_leader_begin_from(leader, bytes_of(nested), strlen(nested), bytes_of(nested), strlen(nested));
+    CHECK(status == SQUALL_OK || status == SQUALL_PLAN_JSON);
+    status = squall_leader_begin_from(leader, bytes_of(OLD), strlen(OLD), bytes_of(nested), strlen(nested));
     CHECK(status == SQUALL_OK || status == SQUALL_NEW_PLAN_JSON);
     squall_leader_close(leader);
     free(leader);
@@ -211,6 +215,7 @@ static void *hold(void *room) {
         CHECK(squall_part_give_at(part, squall_rank(6, 2 * i), &chunk) == SQUALL_OK);
     }
     CHECK(squall_part_give(part, UINT64_MAX, &chunk) == SQUALL_OK);
+    CHECK(squall_part_close_course(part) == 1 && squall_part_course_closed(part, 1) == 1);
     CHECK(squall_part_serve(part, squall_rank(6, 0), 0, &answer) == SQUALL_OK);
     CHECK(squall_part_held(part, 0, spans, 4) == 4);
     CHECK(squall_part_given(part, 1, 0, spans, 4) == 4);

@@ -54,6 +54,8 @@ const (
 	ErrNotAll Error = C.SQUALL_NOT_ALL
 	// ErrNothingDue says that no key comes in, in that sub-plan.
 	ErrNothingDue Error = C.SQUALL_NOTHING_DUE
+	// ErrEnded says that the partition gives no more in its newest course, which [Partition.CloseCourse] closed.
+	ErrEnded Error = C.SQUALL_ENDED
 )
 
 // Why a leader does not go on.

@@ -105,7 +105,7 @@ func TestTextsOfErrors(t *testing.T) {
 		74: "the key does not go out in the sub-plan opened last", 75: "the key was given under this course before",
 		76: "the key goes out, and is neither given nor held",
 		77: "no known course brings these keys to this partition so", 78: "keys that come in are missing",
-		79: "no key comes in, in that sub-plan",
+		79: "no key comes in, in that sub-plan", 81: "the partition gives no more in its newest course",
 		91: "the course begun last is not over", 92: "the greatest number is used", 93: "no course is begun",
 		94: "a partition has not reported that it has all keys of the sub-plan opened last",
 		95: "all sub-plans are opened, and the last one is done",

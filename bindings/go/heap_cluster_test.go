@@ -132,13 +132,14 @@ func TestLeadersWithoutMemory(t *testing.T) {
 		open func(*testing.T) *Leader
 		call func(*Leader) error
 	}{
-		"Feed":     {busyLeader, func(l *Leader) error { return l.Feed(frame) }},
-		"Hear":     {busyLeader, func(l *Leader) error { return l.Hear(frame) }},
-		"Begin":    {idleLeader, func(l *Leader) error { return l.Begin(plan) }},
-		"OpenNext": {busyLeader, func(l *Leader) error { _, err := l.OpenNext(); return err }},
-		"Board":    {busyLeader, func(l *Leader) error { _, err := l.Board(); return err }},
-		"Digest":   {busyLeader, func(l *Leader) error { _, err := l.Digest(); return err }},
-		"Repair":   {busyLeader, func(l *Leader) error { _, err := l.Repair(); return err }},
+		"Feed":      {busyLeader, func(l *Leader) error { return l.Feed(frame) }},
+		"Hear":      {busyLeader, func(l *Leader) error { return l.Hear(frame) }},
+		"Begin":     {idleLeader, func(l *Leader) error { return l.Begin(plan) }},
+		"BeginFrom": {busyLeader, func(l *Leader) error { return l.BeginFrom(plan, plan) }},
+		"OpenNext":  {busyLeader, func(l *Leader) error { _, err := l.OpenNext(); return err }},
+		"Board":     {busyLeader, func(l *Leader) error { _, err := l.Board(); return err }},
+		"Digest":    {busyLeader, func(l *Leader) error { _, err := l.Digest(); return err }},
+		"Repair":    {busyLeader, func(l *Leader) error { _, err := l.Repair(); return err }},
 	} {
 		t.Run(name, func(t *testing.T) {
 			see := func(l *Leader) any {
@@ -217,7 +218,8 @@ func TestCallsOfPartitionsAndLeadersThatAllocateNothing(t *testing.T) {
 	spans, err := view.Changes(clone, 0, End)
 	succeed(t, err)
 	if asked() != 0 || len(spans) != 0 || len(partition.Held()) != 2 || len(partition.Loaded(2)) != 1 ||
-		partition.Given(2) != nil || leader.Finished() {
+		partition.Given(2) != nil || leader.Finished() || partition.CloseCourse() != 2 || !partition.CourseClosed(2) ||
+		asked() != 0 {
 		t.Errorf("%d allocations: %v", asked(), spans)
 	}
 	for _, it := range []interface{ Close() error }{partition, leader, router, view, clone, course} {

@@ -168,6 +168,23 @@ func (l *Leader) Begin(plan []byte) error {
 	})
 }
 
+// BeginFrom begins the course from the old plan to the new one, whether or not the course begun last is over,
+// which may end early so. Its number is the last one plus 1, and the new plan is the newest one then.
+// [Leader.Board] sends the report of it.
+//
+// The old plan has to say where the keys are. Each partition holds what that plan gives it. It has closed the course
+// before by [Partition.CloseCourse] if such a key was to leave it. What was given is loaded.
+//
+// Errors: a [PlanError] if a text is no plan, of the first one that is none; [ErrNoNumber] if the greatest number
+// is used; [ErrNoMemory]; [ErrClosed].
+func (l *Leader) BeginFrom(oldPlan, newPlan []byte) error {
+	return l.take(func(at *C.squall_leader) C.uint32_t {
+		oldText, oldSize := bytesOf(oldPlan)
+		newText, newSize := bytesOf(newPlan)
+		return C.squall_leader_begin_from(at, oldText, oldSize, newText, newSize)
+	})
+}
+
 // Course opens the course that the leader began last. It needs the leader no longer. No plan is copied.
 //
 // Errors: [ErrIdle] if no course is begun; [ErrNoMemory]; [ErrClosed].

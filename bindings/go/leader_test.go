@@ -68,6 +68,39 @@ func TestALeaderThereAndBack(t *testing.T) {
 	equals(t, course.Moves(), movesBack)
 }
 
+// middlePlan lies between the example plans: the keys of 2:0 have moved, and those of 6:0 to 8:0 have not.
+var middlePlan = []byte(`{"plan":[{"part":1,"from":[0,0],"to":[2,0]},{"part":3,"from":[2,0],"to":[3,0]},
+{"part":2,"from":[3,0],"to":[5,0]},{"part":3,"from":[5,0],"to":[9,0]},{"part":4,"from":[9,0],"to":"end"}]}`)
+
+// A course that is not over ends early: the next one begins where the keys lie then.
+func TestACourseThatEndsEarly(t *testing.T) {
+	leader, router := leaderOf(t, 0), fresh(t)
+	succeeds(t, leader.Begin(newPlan))
+	opensNext(t, leader, 0, nil)
+	equals(t, leader.Begin(oldPlan), squall.ErrRunning)
+	succeeds(t, leader.BeginFrom(middlePlan, newPlan))
+	equals(t, leader.Finished(), false)
+	led(t, leader, 2, exampleMoves[1:])
+	for _, course := range []*squall.Course{courseOf(t, 1, oldPlan, newPlan), courseOf(t, 2, middlePlan, newPlan)} {
+		frame, err := course.Frame()
+		succeeds(t, err)
+		succeeds(t, router.Hear(frame))
+	}
+	succeeds(t, router.Hear(unhex(openingFrame)))
+	board, err := leader.Board()
+	succeeds(t, err)
+	equals(t, board, boardOf(t, router))
+	opensNext(t, leader, 0, nil)
+	opensNext(t, leader, 0, &squall.NotDoneError{Part: 4, Sub: 0})
+	hearsDone(t, leader, 2, 4)
+	equals(t, leader.Finished(), true)
+	succeeds(t, leader.BeginFrom(newPlan, oldPlan))
+	led(t, leader, 3, movesBack)
+	succeeds(t, leader.BeginFrom(newPlan, newPlan))
+	led(t, leader, 4, nil)
+	equals(t, leader.Finished(), true)
+}
+
 func TestTheErrorOfALeaderThatWaits(t *testing.T) {
 	leader := leaderOf(t, 0)
 	succeeds(t, leader.Begin(newPlan))
@@ -89,6 +122,7 @@ func TestTheLastNumber(t *testing.T) {
 	equals(t, leader.Finished(), true)
 	opensNext(t, leader, 0, squall.ErrNoMore)
 	equals(t, leader.Begin(newPlan), squall.ErrNoNumber)
+	equals(t, leader.BeginFrom(oldPlan, newPlan), squall.ErrNoNumber)
 	led(t, leader, 1<<32-1, nil)
 	equals(t, leaderOf(t, 1<<32-1).Begin(newPlan), squall.ErrNoNumber)
 }
@@ -119,6 +153,10 @@ func TestTextsForLeadersThatAreNoPlans(t *testing.T) {
 		equals(t, []any{none, err}, []any{(*squall.Leader)(nil),
 			&squall.PlanError{Fault: it.fault, Entry: it.entry, Key: it.key}})
 		equals(t, leader.Begin([]byte(it.text)),
+			error(&squall.PlanError{Fault: it.fault, New: true, Entry: it.entry, Key: it.key}))
+		equals(t, leader.BeginFrom([]byte(it.text), nil),
+			error(&squall.PlanError{Fault: it.fault, Entry: it.entry, Key: it.key}))
+		equals(t, leader.BeginFrom(oldPlan, []byte(it.text)),
 			error(&squall.PlanError{Fault: it.fault, New: true, Entry: it.entry, Key: it.key}))
 	}
 	succeeds(t, leader.Begin(newPlan))
@@ -233,8 +271,8 @@ func TestALeaderThatIsClosed(t *testing.T) {
 		_, digestErr := leader.Digest()
 		_, repairErr := leader.Repair()
 		for _, err := range []error{
-			leader.Begin(newPlan), leader.Feed(unhex(loadFrame)), leader.Hear(unhex(loadFrame)),
-			courseErr, boardErr, digestErr, repairErr,
+			leader.Begin(newPlan), leader.BeginFrom(oldPlan, newPlan),
+			leader.Feed(unhex(loadFrame)), leader.Hear(unhex(loadFrame)), courseErr, boardErr, digestErr, repairErr,
 		} {
 			equals(t, err, squall.ErrClosed)
 		}

@@ -165,8 +165,8 @@ func (p *Partition) Hear(frame []byte) error {
 // Give gives the first keys, at most max, of those that go out in the sub-plan opened last and that the
 // partition still holds. It holds them no longer: send their rows and the chunk to its Dest.
 //
-// Errors: [ErrNotOpen] if no sub-plan of its newest course is opened; [ErrNothingLeft] if no such key is held;
-// [ErrZeroMax] if max is 0; [ErrNoMemory]; [ErrClosed].
+// Errors: [ErrEnded] if [Partition.CloseCourse] closed its newest course; [ErrNotOpen] if no sub-plan of that is
+// opened; [ErrNothingLeft] if no such key is held; [ErrZeroMax] if max is 0; [ErrNoMemory]; [ErrClosed].
 func (p *Partition) Give(max uint64) (Chunk, error) {
 	return p.give(func(at *C.squall_part, out *C.squall_chunk) C.uint32_t {
 		return C.squall_part_give(at, C.uint64_t(max), out)
@@ -176,7 +176,8 @@ func (p *Partition) Give(max uint64) (Chunk, error) {
 // GiveAt gives one key, for which a client waits, as [Partition.Give] does.
 //
 // Errors: [ErrLimit] if the rank is no key's; [ErrClosed]. Else the first of these that is so:
-//   - [ErrNotOpen] if no sub-plan of its newest course is opened;
+//   - [ErrEnded] if [Partition.CloseCourse] closed its newest course;
+//   - [ErrNotOpen] if no sub-plan of that is opened;
 //   - [ErrNotOutgoing] if the key does not go out in the sub-plan opened last;
 //   - [ErrGiven] if it was given under this course before;
 //   - [ErrNotHeld] if it is not held;
@@ -243,6 +244,24 @@ func (p *Partition) Fresh(chunk Chunk) ([]Span, error) {
 //   - [ErrNoMemory].
 func (p *Partition) Finish(sub uint32) error {
 	return p.take(func(at *C.squall_part) C.uint32_t { return C.squall_part_finish(at, C.uint32_t(sub)) })
+}
+
+// CloseCourse ends what the partition gives in the newest course that it knows, and returns the number of that
+// course. It returns 0 if the partition is closed. Give and GiveAt return [ErrEnded] then, until it hears of a
+// newer course. It loads as before. A repeat changes nothing, and returns the same. Put the call into the log
+// before the number is passed on.
+func (p *Partition) CloseCourse() uint32 {
+	var number uint32
+	p.use(func(at *C.squall_part) { number = uint32(C.squall_part_close_course(at)) })
+	return number
+}
+
+// CourseClosed says whether the partition gives no more in the course of that number. It is false if it has not
+// heard of the course, or if the partition is closed.
+func (p *Partition) CourseClosed(number uint32) bool {
+	closed := false
+	p.use(func(at *C.squall_part) { closed = C.squall_part_course_closed(at, C.uint32_t(number)) == 1 })
+	return closed
 }
 
 // Serve is the reply to a request for the key, for [Errand.Heed] of the client. `after` is what

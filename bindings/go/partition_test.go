@@ -104,6 +104,58 @@ func TestKeysThatAreNotHeld(t *testing.T) {
 	equals(t, []any{chunk.Number, chunk.Source, chunk.Dest}, []any{uint32(2), squall.Part(3), squall.Part(5)})
 }
 
+// closes checks that the newest course of the partition has that number and is closed, and no later one.
+func closes(t *testing.T, partition *squall.Partition, number uint32) {
+	t.Helper()
+	equals(t, partition.CloseCourse(), number)
+	equals(t, partition.CourseClosed(number), true)
+	equals(t, partition.CourseClosed(number+1), false)
+}
+
+// Once the course is closed nothing is given in it, and what comes in is loaded as before.
+func TestAPartitionThatGivesNoMore(t *testing.T) {
+	partition, six := opened(t, 3), squall.Key(6, 0)
+	_, err := partition.GiveAt(six)
+	succeeds(t, err)
+	equals(t, partition.CourseClosed(1), false)
+	for i := 0; i < 2; i++ {
+		closes(t, partition, 1)
+		givesNone(t, partition, 1, squall.ErrEnded, six+1, squall.ErrEnded)
+		givesNone(t, partition, 0, squall.ErrEnded, six, squall.ErrEnded)
+		givesNone(t, partition, 0, squall.ErrEnded, 0, squall.ErrEnded)
+		givesNone(t, partition, 0, squall.ErrEnded, squall.End, squall.ErrLimit)
+	}
+	equals(t, partition.CourseClosed(0), false)
+	loads(t, partition, chunkOf(two, three), true)
+	succeeds(t, partition.Finish(0))
+	equals(t, partition.Given(1), []squall.Span{span(six, six+1)})
+	equals(t, partition.Held(), []squall.Span{
+		span(two, three), span(squall.Key(5, 0), six), span(six+1, squall.Key(9, 0)),
+	})
+}
+
+// A course is closed before its sub-plan is opened. In a newer one the partition gives again.
+func TestACourseThatEndsBeforeItOpens(t *testing.T) {
+	partition, next := partitionOf(t, 3), courseOf(t, 2, newPlan, oldPlan)
+	closes(t, partition, 1)
+	givesNone(t, partition, 1, squall.ErrEnded, two, squall.ErrEnded)
+	loadsNot(t, partition, chunkOf(two, three), squall.ErrNotOpen)
+	succeeds(t, partition.Hear(unhex(openingFrame)))
+	givesNone(t, partition, 1, squall.ErrEnded, two, squall.ErrEnded)
+	loads(t, partition, chunkOf(two, three), true)
+	frame, err := next.Frame()
+	succeeds(t, err)
+	succeeds(t, partition.Hear(frame))
+	frame, err = squall.FrameOpened(2, 0)
+	succeeds(t, err)
+	succeeds(t, partition.Hear(frame))
+	equals(t, []bool{partition.CourseClosed(1), partition.CourseClosed(2)}, []bool{true, false})
+	gives(t, partition, 1, squall.Chunk{Lo: two, Hi: two + 1, Number: 2, Source: 3, Dest: 1})
+	closes(t, partition, 2)
+	givesNone(t, partition, 1, squall.ErrEnded, two, squall.ErrEnded)
+	equals(t, partition.CourseClosed(1), true)
+}
+
 // loads checks whether some key of the chunk was loaded now.
 func loads(t *testing.T, partition *squall.Partition, chunk squall.Chunk, wanted bool) {
 	t.Helper()
@@ -266,6 +318,7 @@ func TestAPartitionThatIsClosed(t *testing.T) {
 		givesNone(t, partition, 1, squall.ErrClosed, two, squall.ErrClosed)
 		loadsNot(t, partition, chunkOf(two, three), squall.ErrClosed)
 		equals(t, len(partition.Held())+len(partition.Given(1))+len(partition.Loaded(1)), 0)
+		equals(t, []any{partition.CloseCourse(), partition.CourseClosed(1)}, []any{uint32(0), false})
 		succeeds(t, partition.Close())
 	}
 }

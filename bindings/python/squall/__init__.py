@@ -26,6 +26,7 @@ from .course import Course, Move, Place
 from .errand import Errand, Next, Reply
 from .errors import (
     ClosedError,
+    EndedError,
     ForkError,
     FrameError,
     FrameFault,
@@ -72,6 +73,7 @@ __all__ = [
     "ClosedError",
     "Counts",
     "Course",
+    "EndedError",
     "Errand",
     "ForkError",
     "FrameError",

@@ -256,6 +256,9 @@ part_load: Callable[[PartRoom, ChunkRecord], int] = _slow("part_load", _U32, _PA
 part_fresh: Callable[[PartRoom, ChunkRecord, int, SpanRecord], int]
 part_fresh = _slow("part_fresh", _U32, _PART, _CHUNK, _U64, _SPANS)
 part_finish: Callable[[PartRoom, int], int] = _slow("part_finish", _U32, _PART, _U32)
+part_close_course: Callable[[PartRoom], int] = _quick("part_close_course", _U32, _PART)
+part_course_closed: Callable[[PartRoom, int], int]
+part_course_closed = _quick("part_course_closed", _U32, _PART, _U32)
 part_serve: Callable[[PartRoom, int, int, AnswerRecord], int]
 part_serve = _quick("part_serve", _U32, _PART, _U64, _U32, _ANSWER)
 part_held: Callable[[PartRoom, int, Out, int], int]
@@ -294,6 +297,8 @@ leader_hear_kept: Callable[[LeaderRoom, Bytes, int], int]
 leader_hear_kept = _quick("leader_hear", _U32, _LEADER, _ADDRESS, _SIZE)
 leader_begin: Callable[[LeaderRoom, bytes, int], int]
 leader_begin = _slow("leader_begin", _U32, _LEADER, _ADDRESS, _SIZE)
+leader_begin_from: Callable[[LeaderRoom, bytes, int, bytes, int], int]
+leader_begin_from = _slow("leader_begin_from", _U32, _LEADER, _ADDRESS, _SIZE, _ADDRESS, _SIZE)
 leader_course: Callable[[LeaderRoom, CourseRoom], None]
 leader_course = _quick("leader_course", None, _LEADER, _COURSE)
 leader_open_next: Callable[[LeaderRoom, Out, int], int]

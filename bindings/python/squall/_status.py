@@ -7,6 +7,7 @@ from typing import Dict, Optional, Type
 from ._library import message
 from .errors import (
     ClosedError,
+    EndedError,
     FrameError,
     FrameFault,
     FullError,
@@ -56,6 +57,7 @@ _SIMPLE: Dict[int, Type[SquallError]] = {
     77: StrangerError,
     78: NotAllError,
     79: NothingDueError,
+    81: EndedError,
     91: RunningError,
     92: NoNumberError,
     93: IdleError,

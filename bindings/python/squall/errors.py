@@ -142,6 +142,12 @@ class NothingDueError(PartError):
     status = 79
 
 
+class EndedError(PartError):
+    """The partition gives no more in its newest course, which `Part.close_course` closed."""
+
+    status = 81
+
+
 class LeaderError(SquallError):
     """A leader does not go on. Each reason is a class of its own below this."""
 

@@ -107,6 +107,27 @@ class Leader(Hears):
 
         check(*self._undisturbed(steps))
 
+    def begin_from(self, old: PlanText, new: PlanText) -> None:
+        """Begins the course from the old plan to the new one, also if another one is not over.
+
+        That one may end early so. The number of the course is the last one plus 1, and the new plan
+        is the newest one then. `board` has the report of it, and `course` gives it. Other threads
+        run while it reads the plans.
+
+        The old plan has to say where the keys are. Each partition holds what that plan gives it. It
+        has closed the course before if such a key was to leave it. What was given is loaded.
+
+        Raises `PlanError` if a text is no plan, of the first one that is none, `NoNumberError` if
+        the greatest number is used, `NoMemory` and `ClosedError`.
+        """
+        one, other = Plan(old).text, Plan(new).text
+
+        def steps(room: LeaderRoom) -> Tuple[int, int]:
+            status = lib.leader_begin_from(room, one, len(one), other, len(other))
+            return status, lib.leader_fault_at(room)
+
+        check(*self._undisturbed(steps))
+
     def course(self) -> Course:
         """The course that it began last. Nothing is copied.
 

@@ -113,9 +113,10 @@ class Part(Hears):
 
         They are keys that the partition still holds. It holds them no longer.
 
-        Raises `NotOpenError` if no sub-plan of its newest course is opened, `NothingLeftError` if
-        it holds no such key, `ZeroMaxError` if `most` is 0, and `NumberError` if `most` has no 64
-        bits. Raises `NoMemory` and `ClosedError`.
+        Raises `EndedError` if `close_course` closed its newest course, `NotOpenError` if no
+        sub-plan of that is opened, `NothingLeftError` if it holds no such key, `ZeroMaxError` if
+        `most` is 0, and `NumberError` if `most` has no 64 bits. Raises `NoMemory` and
+        `ClosedError`.
         """
         return self._give(lib.part_give, wide(most))
 
@@ -123,8 +124,8 @@ class Part(Hears):
         """Gives one key, as a request needs it now.
 
         Raises `NumberError` if the rank is no key's. Or else the first of these that is so:
-        `NotOpenError`, `NotOutgoingError`, `GivenError` or `NotHeldError`. Raises `NoMemory` and
-        `ClosedError`.
+        `EndedError`, `NotOpenError`, `NotOutgoingError`, `GivenError` or `NotHeldError`. Raises
+        `NoMemory` and `ClosedError`.
         """
         return self._give(lib.part_give_at, rank(key))
 
@@ -170,6 +171,25 @@ class Part(Hears):
         Raises `NumberError` if `sub` has no 32 bits, `NoMemory` and `ClosedError`.
         """
         check(self._ask(lib.part_finish, word(sub)))
+
+    def close_course(self) -> int:
+        """Ends what it gives in the newest course that it knows: the number of that course.
+
+        `give` and `give_at` raise `EndedError` then, until it hears of a newer course. It loads as
+        before. A repeat changes nothing, and returns the same. Put the call into the list before
+        the number is passed on.
+
+        Raises `ClosedError`.
+        """
+        return self._ask(lib.part_close_course)
+
+    def course_closed(self, number: int) -> bool:
+        """Whether it gives no more under the number of a course.
+
+        Not so if it has not heard of the course. Raises `NumberError` if the number has no 32 bits,
+        and `ClosedError`.
+        """
+        return self._ask(lib.part_course_closed, word(number)) == 1
 
     def serve(self, key: int, after: int = 0) -> Answer:
         """The reply to a request for a key, which the client's errand heeds.

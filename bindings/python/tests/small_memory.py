@@ -52,6 +52,7 @@ PART_CALLS: List[Callable[[Part], object]] = [
 
 LEADER_CALLS: List[Callable[[Leader], object]] = [
     lambda it: it.begin(OLD),
+    lambda it: it.begin_from(NEW, OLD),
     lambda it: it.feed(LOAD_FRAME),
     lambda it: it.feed(bytearray(LOAD_FRAME)),
     lambda it: it.hear(LOAD_FRAME),
@@ -220,6 +221,7 @@ class SmallMemory(unittest.TestCase):
             ([lambda it: it.finish(0)], full_part, seen_of_part),
             (LEADER_CALLS, busy_leader, seen_of_leader),
             ([lambda it: it.open_next()], begun_leader, seen_of_leader),
+            ([lambda it: it.begin_from(OLD, NEW)], begun_leader, seen_of_leader),
         ]
         for calls, makes, sees in groups:
             for at, call in enumerate(calls):
@@ -258,6 +260,7 @@ class SmallMemory(unittest.TestCase):
         ASKED.value = 0
         self.assertEqual((len(part.held()), part.given(1), part.loaded(1)), (1, [], []))
         self.assertEqual((part.serve(0).part, leader.finished), (1, False))
+        self.assertEqual((part.close_course(), part.course_closed(1)), (1, True))
         with leader.course() as course:
             self.assertEqual(course.number, 1)
         self.assertEqual(ASKED.value, 0)

@@ -131,6 +131,7 @@ class Threads(unittest.TestCase):
                 lambda: Router(1, text, text),
                 lambda: fresh().issued(2, text),
                 lambda: Leader(text).begin(text),
+                lambda: Leader(text).begin_from(text, text),
                 Plan(text).check,
             )
         finally:

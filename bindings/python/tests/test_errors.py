@@ -25,6 +25,7 @@ SIMPLE = {
     77: (squall.StrangerError, squall.PartError),
     78: (squall.NotAllError, squall.PartError),
     79: (squall.NothingDueError, squall.PartError),
+    81: (squall.EndedError, squall.PartError),
     91: (squall.RunningError, squall.LeaderError),
     92: (squall.NoNumberError, squall.LeaderError),
     93: (squall.IdleError, squall.LeaderError),

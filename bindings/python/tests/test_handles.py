@@ -96,10 +96,13 @@ PART_CALLS: Dict[str, Callable[[Part], object]] = {
     "board": lambda it: it.board(),
     "digest": lambda it: it.digest(),
     "repair": lambda it: it.repair(),
+    "course_closed": lambda it: it.course_closed(1),
+    "close_course": lambda it: it.close_course(),
 }
 # Of a leader that has begun nothing, and has heard a digest. None raises if open.
 LEADER_CALLS: Dict[str, Callable[[Leader], object]] = {
     "begin": lambda it: it.begin(NEW),
+    "begin_from": lambda it: it.begin_from(OLD, NEW),
     "course": lambda it: it.course(),
     "open_next": lambda it: it.open_next(),
     "finished": lambda it: it.finished,

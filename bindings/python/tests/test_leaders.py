@@ -62,6 +62,37 @@ class Leading(unittest.TestCase):
         leader.close()
         self.assertEqual((course.number, course.moves()), (2, BACK))
 
+    def test_a_course_that_ends_early(self) -> None:
+        leader, router = begun(), Router(1, OLD, NEW)
+        leader.open_next()
+        # The keys of 2:0 have moved, and those of 6:0 to 8:0 have not.
+        middle = Plan.of(
+            [
+                (0, key(2), 1),
+                (key(2), key(3), 3),
+                (key(3), key(5), 2),
+                (key(5), key(9), 3),
+                (key(9), END, 4),
+            ]
+        )
+        leader.begin_from(middle, NEW)
+        with leader.course() as course:
+            self.assertEqual((course.number, course.moves()), (2, MOVES[1:]))
+            for sent in [Course(1, OLD, NEW).frame(), frame.opened(1, 0), course.frame()]:
+                router.hear(sent)
+        self.assertEqual(leader.board(), router.board())
+        self.assertEqual((leader.finished, leader.open_next()), (False, 0))
+        done(leader, 2, 0, 4)
+        self.assertTrue(leader.finished)
+        leader.begin_from(NEW, OLD)
+        leader.begin_from(NEW, NEW)
+        self.assertEqual((leader.course().number, leader.finished), (4, True))
+
+    def test_a_first_course_from_another_plan(self) -> None:
+        leader = Leader(OLD, 6)
+        leader.begin_from(NEW, OLD)
+        self.assertEqual((leader.course().number, leader.course().moves()), (7, BACK))
+
     def test_a_course_of_many_subplans(self) -> None:
         # One partition gives keys to each of 300 others.
         leader = Leader(Plan.of([(0, END, 9999)]))
@@ -164,6 +195,7 @@ class Refusals(unittest.TestCase):
         leader.begin(OLD)
         self.refused(NoNumberError, leader, lambda it: it.begin(NEW))
         self.assertEqual(leader.course().number, 4294967295)
+        self.refused(NoNumberError, leader, lambda it: it.begin_from(OLD, NEW))
         self.refused(NoNumberError, Leader(OLD, 4294967295), lambda it: it.begin(NEW))
         for last in [-1, 2**32]:
             with self.assertRaises(NumberError):
@@ -171,11 +203,17 @@ class Refusals(unittest.TestCase):
 
     def test_texts_that_are_no_plans(self) -> None:
         leader = Leader(OLD)
-        calls: List[Callable[[str], object]] = [Leader, leader.begin]
+        calls: List[Callable[[str], object]] = [
+            Leader,
+            leader.begin,
+            lambda it: leader.begin_from(it, "{}"),
+            lambda it: leader.begin_from(OLD, it),
+        ]
         for text, fault, place in NO_PLANS:
             is_bound = fault in (PlanFault.OVERLAP, PlanFault.GAP)
             wanted = (fault, None if is_bound else place, place if is_bound else None)
-            for call, plan, status in zip(calls, [None, "new"], [fault, fault + 20]):
+            plans, statuses = [None, "new", "old", "new"], [fault, fault + 20] * 2
+            for call, plan, status in zip(calls, plans, statuses):
                 with self.subTest(text=text[:60], plan=plan):
                     with self.assertRaises(PlanError) as raised:
                         call(text)

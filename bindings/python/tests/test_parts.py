@@ -232,6 +232,7 @@ class Refusals(unittest.TestCase):
             lambda it: it.finish(2**32),
             lambda it: it.serve(0, 2**32),
             lambda it: it.given(-1),
+            lambda it: it.course_closed(2**32),
             lambda it: it.load(CHUNK._replace(dest=2**32 + 3)),
         ]
         for at, call in enumerate(calls):
@@ -314,6 +315,7 @@ class Logs(unittest.TestCase):
             lambda it: it.hear(Course(2, NEW, OLD).frame()),
             lambda it: it.hear(frame.opened(2, 0)),
             lambda it: it.give(2**32),
+            lambda it: it.close_course(),
         ]
         died = part_of(3)
         answers = [it(died) for it in calls]
@@ -326,6 +328,7 @@ class Logs(unittest.TestCase):
         self.assertEqual([it(part) for it in calls], answers)
         rebuilt = (part.held(), part.given(1), part.given(2), part.loaded(1), part.board())
         self.assertEqual(rebuilt, seen)
+        self.assertEqual([part.course_closed(it) for it in [1, 2]], [False, True])
 
 
 class Threads(unittest.TestCase):

@@ -106,6 +106,9 @@ pub enum PartFault {
     NotAll = 78,
     /// No key comes in, in that sub-plan.
     NothingDue = 79,
+    /// The partition gives no more in its newest course: [`Part::close_course`](crate::Part::close_course)
+    /// ended that.
+    Ended = 81,
 }
 
 /// Why a leader does not go on.
@@ -163,6 +166,7 @@ impl Error {
             77 => Error::Part(PartFault::Stranger),
             78 => Error::Part(PartFault::NotAll),
             79 => Error::Part(PartFault::NothingDue),
+            81 => Error::Part(PartFault::Ended),
             91 => Error::Leader(LeaderFault::Running),
             92 => Error::Leader(LeaderFault::NoNumber),
             93 => Error::Leader(LeaderFault::Idle),

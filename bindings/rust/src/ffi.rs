@@ -276,6 +276,8 @@ unsafe extern "C" {
         out: *mut Span,
     ) -> u32;
     pub(crate) fn squall_part_finish(part: *mut RawPart, sub: u32) -> u32;
+    pub(crate) fn squall_part_close_course(part: *mut RawPart) -> u32;
+    pub(crate) fn squall_part_course_closed(part: *const RawPart, number: u32) -> u32;
     pub(crate) fn squall_part_serve(
         part: *const RawPart,
         rank: u64,
@@ -317,6 +319,13 @@ unsafe extern "C" {
     pub(crate) fn squall_leader_waiting(leader: *const RawLeader) -> usize;
     pub(crate) fn squall_leader_hear(leader: *mut RawLeader, frame: *const u8, len: usize) -> u32;
     pub(crate) fn squall_leader_begin(leader: *mut RawLeader, plan: *const u8, len: usize) -> u32;
+    pub(crate) fn squall_leader_begin_from(
+        leader: *mut RawLeader,
+        old_plan: *const u8,
+        old_len: usize,
+        new_plan: *const u8,
+        new_len: usize,
+    ) -> u32;
     pub(crate) fn squall_leader_course(leader: *const RawLeader, room: *mut RawCourse);
     pub(crate) fn squall_leader_open_next(
         leader: *mut RawLeader,

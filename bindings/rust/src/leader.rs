@@ -129,6 +129,26 @@ impl Leader {
         self.check(unsafe { ffi::squall_leader_begin(leader, plan.as_ptr(), plan.len()) })
     }
 
+    /// Begins the course from the old plan to the new one, whether or not the course begun last is over,
+    /// which may end early so. Its number is the last one plus 1, and the new plan is the newest one
+    /// then. The leader takes the report of it, which is in [`Leader::board`].
+    ///
+    /// The old plan has to say where the keys are. Each partition holds the keys that it gives it, and has
+    /// closed the course before ([`Part::close_course`](crate::Part::close_course)) if such a key was to
+    /// leave it. What was given is loaded.
+    ///
+    /// # Errors
+    ///
+    /// [`Error::OldPlan`] if the old text is no plan; or else [`Error::NewPlan`] if the new one is none.
+    /// [`Error::Leader`]: [`LeaderFault::NoNumber`] if the greatest number is used. [`Error::NoMemory`].
+    pub fn begin_from(&mut self, old: &[u8], new: &[u8]) -> Result<(), Error> {
+        let leader = self.room.get_mut();
+        // SAFETY: the leader was opened, and the slices are readable.
+        self.check(unsafe {
+            ffi::squall_leader_begin_from(leader, old.as_ptr(), old.len(), new.as_ptr(), new.len())
+        })
+    }
+
     /// The course that the leader began last; none if it has begun none. It stays as it is, whatever the
     /// leader does later. Nothing is copied.
     ///

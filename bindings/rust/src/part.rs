@@ -137,8 +137,9 @@ impl Part {
     ///
     /// # Errors
     ///
-    /// [`Error::Part`]: [`NotOpen`](crate::PartFault::NotOpen) if no sub-plan of its newest course is
-    /// opened; [`NothingLeft`](crate::PartFault::NothingLeft) if it holds no such key;
+    /// [`Error::Part`]: [`Ended`](crate::PartFault::Ended) if its newest course was closed by
+    /// [`close_course`](Self::close_course); [`NotOpen`](crate::PartFault::NotOpen) if no sub-plan of it
+    /// is opened; [`NothingLeft`](crate::PartFault::NothingLeft) if it holds no such key;
     /// [`ZeroMax`](crate::PartFault::ZeroMax) if `max` is 0. [`Error::NoMemory`].
     pub fn give(&mut self, max: u64) -> Result<Chunk, Error> {
         let mut chunk = NO_CHUNK;
@@ -152,9 +153,10 @@ impl Part {
     /// # Errors
     ///
     /// [`Error::Limit`] if the rank is no key's. [`Error::Part`] with the first of these that is so:
-    /// [`NotOpen`](crate::PartFault::NotOpen); [`NotOutgoing`](crate::PartFault::NotOutgoing) if the key
-    /// does not go out in the sub-plan opened last; [`Given`](crate::PartFault::Given) if it was given
-    /// before; [`NotHeld`](crate::PartFault::NotHeld) if it is not held. [`Error::NoMemory`].
+    /// [`Ended`](crate::PartFault::Ended); [`NotOpen`](crate::PartFault::NotOpen);
+    /// [`NotOutgoing`](crate::PartFault::NotOutgoing) if the key does not go out in the sub-plan opened
+    /// last; [`Given`](crate::PartFault::Given) if it was given before;
+    /// [`NotHeld`](crate::PartFault::NotHeld) if it is not held. [`Error::NoMemory`].
     pub fn give_at(&mut self, key: Rank) -> Result<Chunk, Error> {
         let mut chunk = NO_CHUNK;
         // SAFETY: the partition was opened, and the place is writable.
@@ -214,6 +216,21 @@ impl Part {
     pub fn finish(&mut self, sub: u32) -> Result<(), Error> {
         // SAFETY: the partition was opened.
         check(unsafe { ffi::squall_part_finish(self.room.get_mut(), sub) })
+    }
+
+    /// Ends what the partition gives in the newest course that it knows, and says the number of that
+    /// course. [`give`](Self::give) and [`give_at`](Self::give_at) answer
+    /// [`Ended`](crate::PartFault::Ended) then, until it hears of a newer course. It loads as before. A
+    /// repeat changes nothing. Write the call to the log before the number is passed on.
+    pub fn close_course(&mut self) -> u32 {
+        // SAFETY: the partition was opened.
+        unsafe { ffi::squall_part_close_course(self.room.get_mut()) }
+    }
+
+    /// Whether the partition gives no more under the number. Not if it has not heard of that course.
+    pub fn course_closed(&self, number: u32) -> bool {
+        // SAFETY: the partition was opened.
+        unsafe { ffi::squall_part_course_closed(self.room.get(), number) == 1 }
     }
 
     /// The reply to a request for the key, which [`Errand::heed`](crate::Errand::heed) takes. `after` is

@@ -211,6 +211,8 @@ fn leaders() -> Result<(), Error> {
     let idle = || Leader::open(OLD, 0);
     let done = frame::done(1, 0, 4)?;
     refuse_each(idle, seen_of_leader, |it| it.begin(NEW))?;
+    refuse_each(idle, seen_of_leader, |it| it.begin_from(OLD, NEW))?;
+    refuse_each(leader, seen_of_leader, |it| it.begin_from(OLD, NEW))?;
     refuse_each(leader, seen_of_leader, |it| it.open_next())?;
     refuse_each(leader, seen_of_leader, |it| it.hear(&done))?;
     refuse_each(leader, seen_of_leader, |it| it.feed(&done))?;

@@ -48,12 +48,49 @@ fn there_and_back() -> Result<(), Error> {
     Ok(())
 }
 
+/// Between the plans of the examples: the keys of 2:0 have moved, and those of 6:0 to 8:0 have not.
+const MIDDLE: &[u8] = br#"{"plan":[
+    {"part":1,"from":[0,0],"to":[2,0]},
+    {"part":3,"from":[2,0],"to":[3,0]},
+    {"part":2,"from":[3,0],"to":[5,0]},
+    {"part":3,"from":[5,0],"to":[9,0]},
+    {"part":4,"from":[9,0],"to":"end"}]}"#;
+
+#[test]
+fn a_course_ends_early() -> Result<(), Error> {
+    let (mut leader, mut router) = (Leader::open(OLD, 0)?, Router::open(1, OLD, NEW)?);
+    leader.begin(NEW)?;
+    assert_eq!(leader.open_next(), Ok(0));
+    assert_eq!(leader.begin(OLD), no(LeaderFault::Running));
+    leader.begin_from(MIDDLE, NEW)?;
+    assert!(!leader.finished());
+    let course = leader.course()?.expect("it has begun one");
+    let moves = course.moves();
+    assert_eq!((course.number(), moves.len()), (2, 1));
+    assert_eq!((moves[0].source, moves[0].dest), (3, 4));
+    assert_eq!((moves[0].lo, moves[0].hi), (key(6), key(9)));
+    router.hear(&Course::open(1, OLD, NEW)?.frame()?)?;
+    router.hear(&frame::opened(1, 0)?)?;
+    router.hear(&course.frame()?)?;
+    assert!(leader.board()?.eq(router.board()?));
+    assert_eq!(leader.open_next(), Ok(0));
+    assert_eq!(leader.open_next(), not_done(4, 0));
+    leader.hear(&frame::done(2, 0, 4)?)?;
+    assert!(leader.finished());
+    leader.begin_from(NEW, OLD)?;
+    leader.begin_from(NEW, NEW)?;
+    assert_eq!(leader.course()?.map(|it| it.number()), Some(4));
+    assert!(leader.finished());
+    Ok(())
+}
+
 #[test]
 fn numbers_end() -> Result<(), Error> {
     let mut leader = Leader::open(OLD, u32::MAX - 1)?;
     leader.begin(OLD)?;
     assert!(leader.finished());
     assert_eq!(leader.begin(NEW), no(LeaderFault::NoNumber));
+    assert_eq!(leader.begin_from(OLD, NEW), no(LeaderFault::NoNumber));
     assert_eq!(leader.course()?.map(|it| it.number()), Some(u32::MAX));
     Ok(())
 }
@@ -79,7 +116,14 @@ fn texts_that_are_no_plans() -> Result<(), Error> {
     let mut leader = Leader::open(OLD, 0)?;
     assert_eq!(leader.begin(GAP), Err(Error::NewPlan(gap)));
     assert_eq!(leader.begin(b""), Err(Error::NewPlan(PlanFault::Json)));
-    leader.begin(NEW)
+    leader.begin(NEW)?;
+    assert_eq!(leader.begin_from(GAP, b""), Err(Error::OldPlan(gap)));
+    let json = PlanFault::Json;
+    assert_eq!(leader.begin_from(b"", GAP), Err(Error::OldPlan(json)));
+    assert_eq!(leader.begin_from(OLD, GAP), Err(Error::NewPlan(gap)));
+    assert_eq!(leader.begin_from(OLD, b""), Err(Error::NewPlan(json)));
+    assert_eq!(leader.course()?.map(|it| it.number()), Some(1));
+    leader.begin_from(OLD, NEW)
 }
 
 #[test]

@@ -124,6 +124,48 @@ fn a_key_that_was_not_loaded_is_not_held() -> Result<(), Error> {
 }
 
 #[test]
+fn a_course_is_closed() -> Result<(), Error> {
+    let mut part = opened(3);
+    part.give_at(key(6))?;
+    assert!(!part.course_closed(1));
+    for _ in 0..2 {
+        assert_eq!(part.close_course(), 1);
+        assert!(part.course_closed(1) && !part.course_closed(0) && !part.course_closed(2));
+        assert_eq!(part.give(1), no(PartFault::Ended));
+        assert_eq!(part.give(0), no(PartFault::Ended));
+        for root in [5, 6, 7] {
+            assert_eq!(part.give_at(key(root)), no(PartFault::Ended));
+        }
+        assert_eq!(part.give_at(Rank::END), Err(Error::Limit));
+    }
+    assert_eq!(part.load(&chunk(key(2), key(3)))?, Loaded::Now);
+    part.finish(0)?;
+    assert_eq!(part.held()[0], span(key(2), key(3)));
+    assert_eq!(part.given(1), [span(key(6), Rank::new(6, 1))]);
+    Ok(())
+}
+
+#[test]
+fn a_course_is_closed_before_it_opens() -> Result<(), Error> {
+    let mut part = fresh(3);
+    assert_eq!(part.close_course(), 1);
+    assert_eq!(part.give(1), no(PartFault::Ended));
+    assert_eq!(part.load(&chunk(key(2), key(3))), no(PartFault::NotOpen));
+    part.hear(&frame::opened(1, 0)?)?;
+    assert_eq!(part.give(1), no(PartFault::Ended));
+    assert_eq!(part.load(&chunk(key(2), key(3)))?, Loaded::Now);
+    // In a newer course it gives again, until that is closed too.
+    part.hear(&Course::open(2, NEW, OLD)?.frame()?)?;
+    part.hear(&frame::opened(2, 0)?)?;
+    assert!(part.course_closed(1) && !part.course_closed(2));
+    assert_eq!(part.give(1)?.number, 2);
+    assert_eq!(part.close_course(), 2);
+    assert_eq!(part.give(1), no(PartFault::Ended));
+    assert!(part.course_closed(1) && part.course_closed(2));
+    Ok(())
+}
+
+#[test]
 fn more_spans_than_a_call_gives() -> Result<(), Error> {
     let (mut source, mut dest) = (opened(1), opened(3));
     for at in 0..200 {
@@ -220,6 +262,7 @@ enum Call {
     GiveAt(Rank),
     Load(Chunk),
     Finish(u32),
+    CloseCourse(u32),
 }
 
 /// Makes the call, and says which chunk was given.
@@ -230,6 +273,7 @@ fn call(part: &mut Part, call: &Call) -> Result<Option<Chunk>, Error> {
         Call::GiveAt(key) => return part.give_at(*key).map(Some),
         Call::Load(chunk) => assert_eq!(part.load(chunk)?, Loaded::Now),
         Call::Finish(sub) => part.finish(*sub)?,
+        Call::CloseCourse(number) => assert_eq!(part.close_course(), *number),
     }
     Ok(None)
 }
@@ -258,6 +302,10 @@ fn a_partition_is_rebuilt_from_its_calls() -> Result<(), Error> {
     assert_eq!(again.loaded(1), part.loaded(1));
     assert!(again.board()?.eq(part.board()?));
     assert_eq!(again.give(u64::MAX)?, part.give(u64::MAX)?);
+    for part in [&mut part, &mut again] {
+        call(part, &Call::CloseCourse(1))?;
+        assert_eq!(part.give(1), no(PartFault::Ended));
+    }
     Ok(())
 }
 
@@ -273,6 +321,7 @@ fn each_fault_has_its_words() {
         PartFault::Stranger,
         PartFault::NotAll,
         PartFault::NothingDue,
+        PartFault::Ended,
     ];
     let mut words: Vec<String> = faults
         .map(|it| Error::Part(it).to_string())

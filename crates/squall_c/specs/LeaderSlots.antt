@@ -12,7 +12,7 @@ use Rattle.squall_c_frames.specs.declared.fault.FrameFault.{FrameFault}
 use Rattle.squall_c_frames.specs.declared.fault.FrameFault.TheVariants.{TooLong, NoMemory as NoMemoryForFrames}
 use Rattle.squall_c_leaders.specs.declared.fault.RepairFault.{RepairFault}
 use Rattle.squall_c_leaders.specs.declared.fault.RepairFault.TheVariants.{NoDigest, TooLong as TooLongForRepair, NoMemory as NoMemoryForRepair}
-use Rattle.squall_c_leaders.specs.Nodes.{NodeValue, new_node, begun_leader, Begins, Opens, HearsFrame, KeepsBoard, KeepsDigest, KeepsRepair, node_after}
+use Rattle.squall_c_leaders.specs.Nodes.{NodeValue, new_node, begun_leader, Begins, BeginsFrom, Opens, HearsFrame, KeepsBoard, KeepsDigest, KeepsRepair, node_after}
 use Rattle.squall_c_leaders.specs.Feeding.{Feeds}
 use Rattle.squall_c.specs.declared.status.Cause.{Cause}
 use Rattle.squall_c.specs.declared.courses.HeldCourse.{HeldCourse}
@@ -153,6 +153,29 @@ leader_begins old (Some n) text new status = BeginsIn old n text new status
 
 abbrev pub LeaderBegins : List ℕ → LeaderSlot → LeaderSlot → ℕ → Type 0
 LeaderBegins text old new status = leader_begins old old.node text new status
+
+-- an old and a new plan, or the fault of the first that has one
+abbrev pub both_plans : Result (List PlanRange) PlanFault → Result (List PlanRange) PlanFault → Result (List PlanRange × List PlanRange) Cause
+both_plans (Err fault) new = Err (cause_of_fault 0 fault)
+both_plans (Ok old) (Err fault) = Err (cause_of_fault in_new_plan fault)
+both_plans (Ok old) (Ok new) = Ok (old, new)
+
+-- a slot after it was to begin a course from one plan to another; or one of the texts is none, and the slot keeps where the fault lies
+abbrev pub begins_plans : LeaderSlot → NodeValue → Result (List PlanRange × List PlanRange) Cause → LeaderSlot → ℕ → Type 0
+begins_plans old n (Ok plans) new status = Answers begin_number (BeginsFrom plans.0 plans.1) old n new status
+begins_plans old n (Err cause) new status = (status ≡ cause.status) × (new ≡ record old { fault_at = cause.at })
+
+-- the same, or an allocation failed and nothing changed
+pub record BeginsFromIn (old : LeaderSlot) (n : NodeValue) (first second : List ℕ) (new : LeaderSlot) (status : ℕ) : Type 0 where
+  pub begins : status ≢ no_memory → begins_plans old n (both_plans (plan_of_text first) (plan_of_text second)) new status
+  pub memory : status ≡ no_memory → new ≡ old
+
+abbrev pub leader_begins_from : LeaderSlot → Option NodeValue → List ℕ → List ℕ → LeaderSlot → ℕ → Type 0
+leader_begins_from old None first second new status = (status ≡ closed) × (new ≡ old)
+leader_begins_from old (Some n) first second new status = BeginsFromIn old n first second new status
+
+abbrev pub LeaderBeginsFrom : List ℕ → List ℕ → LeaderSlot → LeaderSlot → ℕ → Type 0
+LeaderBeginsFrom first second old new status = leader_begins_from old old.node first second new status
 
 -- what the host is told of an opening: the sub-plan, or the one that is not done and the partition that is waited for
 abbrev pub numbers_told : Result ℕ LeaderFault → List ℕ

@@ -1,5 +1,6 @@
 -- Partitions of the C library behind their handles (this project).
 use Rattle.std.specs.Prelude.{◌≡◌, ◌≢◌, ℕ, nat_lt, Bool, true, false, List, [], length, Option, None, Some}
+use Rattle.squall_part.specs.Parts.{closed_by}
 use Rattle.squall_key.specs.Keys.{part_limit}
 use Rattle.squall_course.specs.Change.{Change}
 use Rattle.squall_c_parts.specs.declared.chunks.CChunk.{CChunk}
@@ -7,7 +8,7 @@ use Rattle.squall_c_parts.specs.declared.chunks.CAnswer.{CAnswer}
 use Rattle.squall_c_values.specs.declared.spans.CSpan.{CSpan}
 use Rattle.squall_c_values.specs.Values.{spans_that_fit}
 use Rattle.squall_c_parts.specs.Nodes.{NodeValue, new_node, given_spans, loaded_spans}
-use Rattle.squall_c_parts.specs.PartCalls.{Gives, GivesAt, Loads, Finds, Finishes, Serves}
+use Rattle.squall_c_parts.specs.PartCalls.{Gives, GivesAt, Closes, Loads, Finds, Finishes, Serves}
 use Rattle.squall_c_parts.specs.PartHearing.{HearsFrame}
 use Rattle.squall_c_parts.specs.PartFeeding.{Feeds}
 use Rattle.squall_c_parts.specs.PartFrames.{GathersBoard, GathersDigest, GathersRepair, node_after}
@@ -68,6 +69,23 @@ PartGives most old before new after status = through (λ n m s. Gives most n bef
 
 abbrev pub PartGivesAt : ℕ → PartSlot → CChunk → PartSlot → CChunk → ℕ → Type 0
 PartGivesAt rank old before new after status = through (λ n m s. GivesAt rank n before m after s) (after ≡ before) old old.node new status
+
+-- after it was to close the newest course that it knows; 0 is no course's number
+abbrev pub part_closes : PartSlot → Option NodeValue → PartSlot → ℕ → Type 0
+part_closes old None new number = (number ≡ 0) × (new ≡ old)
+part_closes old (Some n) new number = (m : NodeValue) × Closes n m number × (new ≡ with_node old m)
+
+abbrev pub PartCloses : PartSlot → PartSlot → ℕ → Type 0
+PartCloses old new number = part_closes old old.node new number
+
+-- 1 if it gives no more under the number, and else 0
+abbrev pub one_if : Bool → ℕ
+one_if true = 1
+one_if false = 0
+
+abbrev pub closed_number : Option NodeValue → ℕ → ℕ
+closed_number None number = 0
+closed_number (Some n) number = one_if (closed_by n.part number)
 
 -- after a chunk came to it
 abbrev pub PartLoads : CChunk → PartSlot → PartSlot → ℕ → Type 0

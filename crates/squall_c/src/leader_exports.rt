@@ -8,7 +8,8 @@ ghost use Rattle.squall_c.specs.Handles.{course_at, course_room, course_such};
 ghost use Rattle.squall_c.specs.LeaderHandles.{leader_bytes, leader_room, leader_at, leader_such};
 ghost use Rattle.squall_c_frames.specs.Queues.{room_after, first_length};
 ghost use Rattle.squall_c.specs.LeaderSlots.{IsLeaderOpened, IsLeaderResumedOf, IsCourseBegun, TellsFinished, course_begun};
-ghost use Rattle.squall_c.specs.LeaderSlots.{LeaderHears, LeaderFeeds, LeaderBegins, LeaderOpens, LeaderGathersBoard, LeaderGathersDigest, LeaderGathersRepair};
+ghost use Rattle.squall_c.specs.LeaderSlots.{LeaderHears, LeaderFeeds, LeaderBegins, LeaderBeginsFrom, LeaderOpens};
+ghost use Rattle.squall_c.specs.LeaderSlots.{LeaderGathersBoard, LeaderGathersDigest, LeaderGathersRepair};
 ghost use Rattle.squall_c.specs.LeaderSlots.{frames_of_leader, leader_slot_after, leader_waiting_bytes};
 
 use crate::courses::CourseSlot;
@@ -18,8 +19,8 @@ use crate::leaders::{
     open_leader, resume_leader,
 };
 use crate::leading::{
-    leader_begin, leader_feed, leader_frame, leader_gather_board, leader_gather_digest,
-    leader_gather_repair, leader_hear, leader_open_next, leader_waiting,
+    leader_begin, leader_begin_from, leader_feed, leader_frame, leader_gather_board,
+    leader_gather_digest, leader_gather_repair, leader_hear, leader_open_next, leader_waiting,
 };
 use std::alloc::Global;
 
@@ -140,6 +141,23 @@ pub unsafe extern "C" fn squall_leader_begin(leader: *mut CLeader, plan: &[u8]) 
     ensures* { sem 𝓛 (leader_such leader (λ now. LeaderBegins plan.now s now result)) }
 {
     leader_begin(&mut *(leader as *mut LeaderSlot), plan)
+}
+
+/// Begins the course that leads from the plan of the one text to that of the other, under the last number
+/// plus 1, whether or not the course begun last is over. No memory (1), no leader (3), the fault of the
+/// old text (11 to 18) or of the new one (31 to 38), the greatest number is used (92): then nothing
+/// changes, but that `squall_leader_fault_at` tells where a fault lies.
+#[unsafe(no_mangle)]
+pub unsafe extern "C" fn squall_leader_begin_from(
+    leader: *mut CLeader,
+    old: &[u8],
+    new: &[u8],
+) -> u32
+    ghost s: { LeaderSlot }
+    requires* { sem 𝓛 (leader_at leader s) }
+    ensures* { sem 𝓛 (leader_such leader (λ now. LeaderBeginsFrom old.now new.now s now result)) }
+{
+    leader_begin_from(&mut *(leader as *mut LeaderSlot), old, new)
 }
 
 /// Puts into the room the course that the leader began last; or why there is none, which

@@ -3,18 +3,22 @@
 ghost use Rattle.std.specs.Prelude.{◌≡◌, length, take};
 ghost use Rattle.squall_c_frames.specs.Queues.{room_after, first_length};
 ghost use Rattle.squall_c_values.specs.Rooms.{over};
-ghost use Rattle.squall_c.specs.LeaderSlots.{leader_number, begin_number, open_number, frame_number, repair_number};
+ghost use Rattle.squall_plan.specs.Form.{plan_of_text};
+ghost use Rattle.squall_c.specs.Status.{GivesSeen};
+ghost use Rattle.squall_c.specs.LeaderSlots.{both_plans, leader_number, begin_number, open_number, frame_number, repair_number};
 ghost use Rattle.squall_c.specs.LeaderSlots.{numbers_told, frames_of_leader, leader_slot_after, leader_waiting_bytes};
-ghost use Rattle.squall_c.specs.LeaderSlots.{LeaderHears, LeaderFeeds, LeaderBegins, LeaderOpens, LeaderGathersBoard, LeaderGathersDigest, LeaderGathersRepair};
+ghost use Rattle.squall_c.specs.LeaderSlots.{LeaderHears, LeaderFeeds, LeaderBegins, LeaderBeginsFrom, LeaderOpens};
+ghost use Rattle.squall_c.specs.LeaderSlots.{LeaderGathersBoard, LeaderGathersDigest, LeaderGathersRepair};
 
 use crate::leaders::LeaderSlot;
 use crate::numbers::put_numbers;
 use crate::router::read_plan;
-use crate::status::{CLOSED, IN_NEW_PLAN, NO_DIGEST, NO_MEMORY, OK, TOO_LONG};
+use crate::status::{CLOSED, Cause, IN_NEW_PLAN, IN_OLD_PLAN, NO_DIGEST, NO_MEMORY, OK, TOO_LONG};
 use squall_c_frames::{FrameFault, feed_status, hear_status};
 use squall_c_leaders::{LeaderNode, RepairFault};
 use squall_leader::LeaderFault;
 use squall_plan::Plan;
+use std::alloc::Global;
 
 /// The course begun last is not over.
 const RUNNING: u32 = 91;
@@ -96,6 +100,34 @@ pub(crate) fn leader_begin(slot: &mut LeaderSlot, text: &[u8]) -> u32
     };
     match read_plan(node.allocator(), text, IN_NEW_PLAN) {
         Ok(plan) => begin_number(node.begin(&plan)),
+        Err(cause) => {
+            if cause.status != NO_MEMORY {
+                slot.fault_at = cause.at;
+            }
+            cause.status
+        }
+    }
+}
+
+/// The plans of both texts, or why the first that is no plan is none.
+fn read_plans(alloc: Global, old: &[u8], new: &[u8]) -> Result<(Plan, Plan), Cause>
+    ensures { GivesSeen (λ p. p) result (both_plans (plan_of_text old.now) (plan_of_text new.now)) }
+{
+    let old = read_plan(alloc, old, IN_OLD_PLAN)?;
+    let new = read_plan(alloc, new, IN_NEW_PLAN)?;
+    Ok((old, new))
+}
+
+/// Begins the course from the plan of the one text to that of the other. The fault of the first text that
+/// is no plan, whose place the slot keeps, and else why the leader does not begin it.
+pub(crate) fn leader_begin_from(slot: &mut LeaderSlot, old: &[u8], new: &[u8]) -> u32
+    ensures { LeaderBeginsFrom old.now new.now slot.old slot.new result }
+{
+    let Some(node) = &mut slot.node else {
+        return CLOSED;
+    };
+    match read_plans(node.allocator(), old, new) {
+        Ok((old, new)) => begin_number(node.begin_from(&old, &new)),
         Err(cause) => {
             if cause.status != NO_MEMORY {
                 slot.fault_at = cause.at;

@@ -10,14 +10,14 @@ ghost use Rattle.squall_c.specs.declared.parts.PartSlot.{PartSlot};
 ghost use Rattle.squall_c.specs.Handles.{course_at, part_bytes, part_room, part_at, part_such};
 ghost use Rattle.squall_c.specs.PartSlots.{IsPartOpened, PartHears, PartFeeds, PartGives, PartGivesAt, PartLoads, PartFinds, PartFinishes, PartServes};
 ghost use Rattle.squall_c.specs.PartSlots.{held_in, given_in, loaded_in, PartGathersBoard, PartGathersDigest, PartGathersRepair};
-ghost use Rattle.squall_c.specs.PartSlots.{part_frames, part_after, part_waiting_bytes};
+ghost use Rattle.squall_c.specs.PartSlots.{PartCloses, closed_number, part_frames, part_after, part_waiting_bytes};
 
 use crate::courses::CourseSlot;
 use crate::handles::{CCourse, CPart};
 use crate::parts::{
-    PartSlot, close_part, finish, fresh, give, give_at, given, held, load, loaded, open_part,
-    part_board, part_digest, part_feed, part_frame, part_hear, part_repair, part_status,
-    part_waiting, serve,
+    PartSlot, close_course, close_part, course_closed, finish, fresh, give, give_at, given, held,
+    load, loaded, open_part, part_board, part_digest, part_feed, part_frame, part_hear,
+    part_repair, part_status, part_waiting, serve,
 };
 use squall_c_parts::{CAnswer, CChunk};
 use squall_c_values::CSpan;
@@ -161,6 +161,28 @@ pub unsafe extern "C" fn squall_part_finish(part: *mut CPart, sub: u32) -> u32
     ensures* { sem 𝓛 (part_such part (λ now. PartFinishes sub s now result)) }
 {
     finish(&mut *(part as *mut PartSlot), sub)
+}
+
+/// Ends what the partition gives in the newest course that it knows, and answers the number of that
+/// course: 0 if there is no partition. It loads as before. A repeat changes nothing. It allocates nothing.
+#[unsafe(no_mangle)]
+pub unsafe extern "C" fn squall_part_close_course(part: *mut CPart) -> u32
+    ghost s: { PartSlot }
+    requires* { sem 𝓛 (part_at part s) }
+    ensures* { sem 𝓛 (part_such part (λ now. PartCloses s now result)) }
+{
+    close_course(&mut *(part as *mut PartSlot))
+}
+
+/// 1 if the partition gives no more under the number, and else 0, also if there is no partition. It
+/// allocates nothing.
+#[unsafe(no_mangle)]
+pub unsafe extern "C" fn squall_part_course_closed(part: *const CPart, number: u32) -> u32
+    ghost s: { PartSlot }
+    requires* { sem 𝓛 (part_at part s) }
+    ensures* { sem 𝓛 (part_at part s) ∗ ⌜ result ≡ closed_number s.node number ⌝ }
+{
+    course_closed(&*(part as *const PartSlot), number)
 }
 
 /// Writes the reply to a request for the key of that rank. The request followed a reply "moved" of the

@@ -5,7 +5,7 @@ ghost use Rattle.squall_c_values.specs.Rooms.{over};
 ghost use Rattle.squall_c_frames.specs.Queues.{first_length, room_after};
 ghost use Rattle.squall_c.specs.PartSlots.{no_part, IsPartOpened, PartHears, PartFeeds, PartGives, PartGivesAt, PartLoads, PartFinds, PartFinishes, PartServes};
 ghost use Rattle.squall_c.specs.PartSlots.{held_in, given_in, loaded_in, PartGathersBoard, PartGathersDigest, PartGathersRepair};
-ghost use Rattle.squall_c.specs.PartSlots.{part_frames, part_after, part_waiting_bytes};
+ghost use Rattle.squall_c.specs.PartSlots.{PartCloses, closed_number, part_frames, part_after, part_waiting_bytes};
 
 use crate::courses::CourseSlot;
 use crate::router::may_cross;
@@ -123,6 +123,27 @@ pub(crate) fn fresh(slot: &PartSlot, chunk: &CChunk, from: u64, out: &mut CSpan)
     match &slot.node {
         Some(node) => node.fresh(chunk, from, out),
         None => CLOSED,
+    }
+}
+
+/// Closes the newest course that the partition knows, and answers its number: 0 if there is no
+/// partition.
+pub(crate) fn close_course(slot: &mut PartSlot) -> u32
+    ensures { PartCloses slot.old slot.new result }
+{
+    match &mut slot.node {
+        Some(node) => node.close_course(),
+        None => 0,
+    }
+}
+
+/// 1 if the partition gives no more under the number, and else 0.
+pub(crate) fn course_closed(slot: &PartSlot, number: u32) -> u32
+    ensures { result ≡ closed_number slot.now.node number }
+{
+    match &slot.node {
+        Some(node) if node.closed(number) => 1,
+        _ => 0,
     }
 }
 

@@ -13,7 +13,7 @@ use Rattle.squall_wire.specs.DigestValue.{DigestValue}
 use Rattle.squall_wire.specs.Hearing.{FeedValue, new_feed}
 use Rattle.squall_wire.specs.Messages.{IsMessage, body_of, spell}
 use Rattle.squall_leader.specs.declared.fault.LeaderFault.{LeaderFault}
-use Rattle.squall_leader.specs.Leaders.{LeaderValue, new_leader, after_begin, IsBegun, IsOpened}
+use Rattle.squall_leader.specs.Leaders.{LeaderValue, new_leader, after_begin, IsBegun, IsBegunFrom, IsOpened}
 use Rattle.squall_c_frames.specs.Queues.{frames_after}
 use Rattle.squall_c_frames.specs.declared.fault.FrameFault.{FrameFault}
 use Rattle.squall_c_frames.specs.declared.fault.FrameFault.TheVariants.{TooLong, NoMemory}
@@ -49,6 +49,11 @@ with_leader n l = record n { leader = l }
 abbrev pub Begins : List PlanRange → NodeValue → Result (Unit {0}) LeaderFault → NodeValue → Type 0
 Begins plan n (Ok done) m = (c : Change) × IsBegun n.leader plan (Ok c) m.leader × (m ≡ with_leader n m.leader)
 Begins plan n (Err fault) m = IsBegun n.leader plan (Err fault) m.leader × (m ≡ with_leader n m.leader)
+
+-- a course from one plan to another was begun, or why not; all else is as it was
+abbrev pub BeginsFrom : List PlanRange → List PlanRange → NodeValue → Result (Unit {0}) LeaderFault → NodeValue → Type 0
+BeginsFrom old new n (Ok done) m = (c : Change) × IsBegunFrom n.leader old new (Ok c) m.leader × (m ≡ with_leader n m.leader)
+BeginsFrom old new n (Err fault) m = IsBegunFrom n.leader old new (Err fault) m.leader × (m ≡ with_leader n m.leader)
 
 -- the number is that of the sub-plan that the report says opened
 abbrev pub OpensAs : ReportKind PlanPair → ℕ → Type 0

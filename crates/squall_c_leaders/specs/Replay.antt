@@ -6,12 +6,13 @@ use Rattle.squall_report.specs.declared.report.ReportKind.{ReportKind}
 use Rattle.squall_report.specs.Issues.{PlanPair}
 use Rattle.squall_board.specs.Boards.{BoardValue, board_join}
 use Rattle.squall_leader.specs.declared.fault.LeaderFault.{LeaderFault}
-use Rattle.squall_leader.specs.Leaders.{LeaderValue, IsBegun, IsOpened}
+use Rattle.squall_leader.specs.Leaders.{LeaderValue, IsBegun, IsBegunFrom, IsOpened}
 
--- a call that may change a leader: it absorbs a delta, begins a course to a plan, or opens the next sub-plan
+-- a call that may change a leader: it absorbs a delta, begins a course to a plan, or from one plan to another, or opens the next sub-plan
 pub data LeaderCall : Type 0 where
   Absorbs : BoardValue → LeaderCall
   Begins : List PlanRange → LeaderCall
+  BeginsFrom : List PlanRange → List PlanRange → LeaderCall
   OpensNext : LeaderCall
 
 -- a call, and whether it was done
@@ -22,12 +23,14 @@ Try = LeaderCall × Bool
 abbrev pub IsDone : LeaderValue → LeaderCall → LeaderValue → Type 0
 IsDone l (Absorbs delta) m = m ≡ record l { board = board_join l.board delta }
 IsDone l (Begins plan) m = (c : Change) × IsBegun l plan (Ok c) m
+IsDone l (BeginsFrom old new) m = (c : Change) × IsBegunFrom l old new (Ok c) m
 IsDone l OpensNext m = (report : ReportKind PlanPair) × IsOpened l (Ok report) m
 
 -- the call failed, and left the leader as it says; a delta is not absorbed only if there is no memory for it
 abbrev pub IsFailed : LeaderValue → LeaderCall → LeaderValue → Type 0
 IsFailed l (Absorbs delta) m = m ≡ l
 IsFailed l (Begins plan) m = (fault : LeaderFault) × IsBegun l plan (Err fault) m
+IsFailed l (BeginsFrom old new) m = (fault : LeaderFault) × IsBegunFrom l old new (Err fault) m
 IsFailed l OpensNext m = (fault : LeaderFault) × IsOpened l (Err fault) m
 
 -- the calls, each of which was done, led from one leader to another

@@ -5,7 +5,7 @@ ghost use Rattle.std.specs.Arc.{arc_value};
 ghost use Rattle.std.specs.Option.{option_map};
 ghost use Rattle.squall_report.specs.declared.report.ReportKind.TheVariants.{Opened};
 ghost use Rattle.squall_leader.specs.Leaders.{IsFinished, new_leader};
-ghost use Rattle.squall_c_leaders.specs.Nodes.{new_node, begun_leader, Begins, Opens, OpensAs};
+ghost use Rattle.squall_c_leaders.specs.Nodes.{new_node, begun_leader, Begins, BeginsFrom, Opens, OpensAs};
 
 use squall_c_frames::{Frames, TwinFeed};
 use squall_course::Course;
@@ -97,6 +97,16 @@ impl LeaderNode {
         ensures { Begins plan.now self.old result self.new }
     {
         let course = self.leader.begin(plan)?;
+        self.course = Some(Shared::new(course));
+        Ok(())
+    }
+
+    /// Begins the course that leads from the old plan to the new one, under the last number plus 1, as
+    /// [`Leader::begin_from`]. `NoNumber` or `NoMemory` as that, and then nothing changes.
+    pub fn begin_from(&mut self, old: &Plan, new: &Plan) -> Result<(), LeaderFault>
+        ensures { BeginsFrom old.now new.now self.old result self.new }
+    {
+        let course = self.leader.begin_from(old, new)?;
         self.course = Some(Shared::new(course));
         Ok(())
     }

@@ -12,8 +12,8 @@ use Rattle.squall_part.specs.declared.giving.GiveFault.{GiveFault}
 use Rattle.squall_part.specs.declared.loading.Load.{Load}
 use Rattle.squall_part.specs.declared.loading.LoadFault.{LoadFault}
 use Rattle.squall_part.specs.declared.finishing.FinishFault.{FinishFault}
-use Rattle.squall_part.specs.Parts.{PartValue}
-use Rattle.squall_part.specs.Giving.{IsGiven, IsGivenAt}
+use Rattle.squall_part.specs.Parts.{PartValue, course_of_part}
+use Rattle.squall_part.specs.Giving.{IsGiven, IsGivenAt, after_close}
 use Rattle.squall_part.specs.Loading.{IsLoaded, IsFresh, IsFinished}
 use Rattle.squall_part.specs.Serving.{IsReply}
 use Rattle.squall_c_parts.specs.declared.chunks.CChunk.{CChunk}
@@ -49,6 +49,10 @@ gives_at_if false rank old before new after status = (status ≡ limit) × (new 
 
 abbrev pub GivesAt : ℕ → NodeValue → CChunk → NodeValue → CChunk → ℕ → Type 0
 GivesAt rank old before new after status = gives_at_if (nat_lt rank top) rank old before new after status
+
+-- the partition closes the newest course that it knows, and answers the number of that course
+abbrev pub Closes : NodeValue → NodeValue → ℕ → Type 0
+Closes old new number = (number ≡ (course_of_part old.part).number) × (new ≡ with_part old (after_close old.part))
 
 -- ---- loads
 

@@ -5,7 +5,7 @@ use Rattle.squall_report.specs.declared.report.ReportKind.{ReportKind}
 use Rattle.squall_report.specs.Issues.{PlanPair}
 use Rattle.squall_protocol.specs.Chunks.{ChunkValue}
 use Rattle.squall_part.specs.declared.giving.GiveFault.{GiveFault}
-use Rattle.squall_part.specs.declared.giving.GiveFault.TheVariants.{NotOpen, NothingLeft, ZeroMax, NotOutgoing, Given, NotHeld, NoMemory}
+use Rattle.squall_part.specs.declared.giving.GiveFault.TheVariants.{NotOpen, Ended, NothingLeft, ZeroMax, NotOutgoing, Given, NotHeld, NoMemory}
 use Rattle.squall_part.specs.declared.loading.Load.{Load}
 use Rattle.squall_part.specs.declared.loading.Load.TheVariants.{Again, Loaded}
 use Rattle.squall_part.specs.declared.loading.LoadFault.{LoadFault}
@@ -46,6 +46,7 @@ give_status (Err ZeroMax) = 73
 give_status (Err NotOutgoing) = 74
 give_status (Err Given) = 75
 give_status (Err NotHeld) = 76
+give_status (Err Ended) = 81
 give_status (Err NoMemory) = no_memory
 
 -- of the reason why a chunk is not loaded

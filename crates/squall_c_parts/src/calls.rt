@@ -3,7 +3,8 @@
 ghost use Rattle.std.specs.Prelude.{◌≡◌};
 ghost use Rattle.squall_c_parts.specs.PartStatus.{give_status};
 ghost use Rattle.squall_c_parts.specs.PartCalls.{chunk_after, span_or_none, Gives, GivesAt, LoadsChunk, Loads, FindsFresh, Finds};
-ghost use Rattle.squall_c_parts.specs.PartCalls.{Finishes, Serves};
+ghost use Rattle.squall_part.specs.Parts.{closed_by};
+ghost use Rattle.squall_c_parts.specs.PartCalls.{Closes, Finishes, Serves};
 
 use crate::chunks::{CAnswer, CChunk, c_answer, c_chunk, chunk_in};
 use crate::node::Node;
@@ -54,6 +55,21 @@ impl Node {
             Some(key) => write_gift(&self.part.give_at(key), out),
             None => LIMIT,
         }
+    }
+
+    /// Ends what the partition gives in the newest course that it knows, and answers the number of that
+    /// course. It loads as before.
+    pub fn close_course(&mut self) -> u32
+        ensures { Closes self.old self.new result }
+    {
+        self.part.close()
+    }
+
+    /// Whether the partition gives no more under the number.
+    pub fn closed(&self, number: u32) -> bool
+        ensures { result ≡ closed_by self.now.part number }
+    {
+        self.part.closed(number)
     }
 
     /// Loads the chunk.

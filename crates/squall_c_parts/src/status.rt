@@ -36,6 +36,7 @@ pub(crate) fn give_status(answer: &Result<Chunk, GiveFault>) -> u32
         Err(GiveFault::NotOutgoing) => 74,
         Err(GiveFault::Given) => 75,
         Err(GiveFault::NotHeld) => 76,
+        Err(GiveFault::Ended) => 81,
         Err(GiveFault::NoMemory) => NO_MEMORY,
     }
 }

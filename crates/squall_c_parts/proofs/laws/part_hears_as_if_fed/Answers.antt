@@ -24,6 +24,7 @@ absorbs_nothing p is = record {
   same = refl;
   given = λ n. refl;
   loaded = λ n. refl;
+  closed = λ n. refl;
 }
 
 -- what one message leaves, fed alone
