@@ -1,6 +1,7 @@
 //! Leaders between plans whose moves were worked out by hand.
 
 mod clients;
+mod early;
 mod example;
 mod tolerant;
 
@@ -19,6 +20,8 @@ use std::sync::Arc;
 enum Step {
     /// To lead to the plan of the text.
     Begin(&'static str),
+    /// To lead from the plan of the one text to that of the other.
+    From(&'static str, &'static str),
     /// To open the next sub-plan.
     Open,
     /// To hear that the partition is done in sub-plan 0 of number 1.
@@ -52,6 +55,30 @@ fn write_begun(
 fn begin(alloc: Global, leader: &mut Leader, text: &str, out: &mut String) -> Option<()> {
     let plan = plan(alloc, text)?;
     write_begun(out, leader.begin(&plan)).ok()
+}
+
+/// Begins the course from the plan to that of the text, and writes the same.
+fn begin_with(
+    alloc: Global,
+    leader: &mut Leader,
+    old: &Plan,
+    new: &str,
+    out: &mut String,
+) -> Option<()> {
+    let new = plan(alloc, new)?;
+    write_begun(out, leader.begin_from(old, &new)).ok()
+}
+
+/// Begins the course from the plan of the one text to that of the other, and writes the same.
+fn begin_from(
+    alloc: Global,
+    leader: &mut Leader,
+    old: &str,
+    new: &str,
+    out: &mut String,
+) -> Option<()> {
+    let old = plan(alloc, old)?;
+    begin_with(alloc, leader, &old, new, out)
 }
 
 /// Opens the next sub-plan, and writes what is opened, or the fault.
@@ -109,6 +136,7 @@ fn write_state(leader: &Leader, out: &mut String) -> Result<(), AllocError> {
 fn answer(alloc: Global, leader: &mut Leader, step: Step, out: &mut String) -> Option<()> {
     match step {
         Step::Begin(text) => begin(alloc, leader, text, out)?,
+        Step::From(old, new) => begin_from(alloc, leader, old, new, out)?,
         Step::Open => open(leader, out).ok()?,
         Step::Hear(part) => {
             let heard = hears_done(alloc, leader, part)?;

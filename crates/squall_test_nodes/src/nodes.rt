@@ -8,7 +8,8 @@ use squall_board::Board;
 use squall_key::{Key, PartId};
 use squall_leader::Leader;
 use squall_nodes::calls::{
-    absorb_beside, begin_beside, finish_beside, give_beside, load_beside, open_beside, route_beside,
+    absorb_beside, begin_beside, begin_from_beside, close_beside, finish_beside, give_beside,
+    load_beside, open_beside, route_beside,
 };
 use squall_part::{FinishFault, GiveFault, Part};
 use squall_plan::Plan;
@@ -46,6 +47,13 @@ fn leads(rt: &impl Abort, leader: &mut Leader, new: &Plan) -> Option<()> {
     Some(())
 }
 
+/// The course goes back before it is over.
+fn turns_back(rt: &impl Abort, leader: &mut Leader, old: &Plan) -> Option<()> {
+    let begun = begin_from_beside(leader, old, old).ok()?;
+    holds!(rt; begun.number() == 2);
+    Some(())
+}
+
 /// The same to the new plan.
 fn leads_on(rt: &impl Abort, alloc: Global, leader: &mut Leader) -> Option<()> {
     let new = plan(alloc, NEW)?;
@@ -56,7 +64,8 @@ fn leads_on(rt: &impl Abort, alloc: Global, leader: &mut Leader) -> Option<()> {
 fn leader_leads(rt: &impl Abort, alloc: Global) -> Option<()> {
     let old = plan(alloc, OLD)?;
     let mut leader = Leader::new(alloc, &old).ok()?;
-    leads_on(rt, alloc, &mut leader)
+    leads_on(rt, alloc, &mut leader)?;
+    turns_back(rt, &mut leader, &old)
 }
 
 #[test]
@@ -69,6 +78,8 @@ fn hands_over(rt: &impl Abort, source: &mut Part, dest: &mut Part) -> Option<()>
     holds!(rt; matches!(finish_beside(dest, 0), Err(FinishFault::NotAll(_))));
     let chunk = give_beside(source, u64::MAX).ok()?;
     holds!(rt; matches!(give_beside(source, u64::MAX), Err(GiveFault::NothingLeft)));
+    holds!(rt; close_beside(source) == 1);
+    holds!(rt; matches!(give_beside(source, 1), Err(GiveFault::Ended)));
     load_beside(dest, &chunk).ok()?;
     finish_beside(dest, 0).ok()?;
     Some(())

@@ -67,6 +67,7 @@ fn source_log(alloc: Global) -> Option<Vec<Call>> {
     calls.push(opening(alloc)?).ok()?;
     calls.push(Call::GiveAt(Key::new(2, 7)?)).ok()?;
     calls.push(Call::Give(5)).ok()?;
+    calls.push(Call::Close).ok()?;
     Some(calls)
 }
 
@@ -77,12 +78,16 @@ fn dest_log(alloc: Global) -> Option<Vec<Call>> {
     calls.push(Call::Load(chunk()?)).ok()?;
     calls.push(Call::Load(chunk()?)).ok()?;
     calls.push(Call::Finish(0)).ok()?;
+    calls.push(Call::Close).ok()?;
     Some(calls)
 }
 
-/// Whether both hold the same keys and have one board.
+/// Whether both hold the same keys, have one board, and are closed in course 1.
 fn is_same(one: &Part, other: &Part) -> bool {
-    *one.held() == *other.held() && *one.board() == *other.board()
+    *one.held() == *other.held()
+        && *one.board() == *other.board()
+        && one.closed(1)
+        && other.closed(1)
 }
 
 /// Whether two partitions that the log makes are one, and hold so many keys. None if an allocation
@@ -123,6 +128,7 @@ fn is_answer(call: usize, answer: &Answer) -> bool {
         Answer::Loaded(_) => call == 1,
         Answer::Again => call == 2,
         Answer::Finished(_) => call == 3,
+        Answer::Closed(number) => call == 4 && *number == 1,
         Answer::Gave(_) => false,
     }
 }

@@ -2,7 +2,9 @@
 //! partition 1 to 3, and those from 6:0 up to 9:0 from 3 to 4, each in sub-plan 0. Longer runs are
 //! among the cases of the built program.
 
+mod asked;
 mod clients;
+mod early;
 mod example;
 mod over;
 mod parts;
@@ -101,6 +103,8 @@ fn board(alloc: Global, made: Made) -> Option<Board> {
 enum Call {
     Open,
     Begin(&'static [Range]),
+    BeginFrom(&'static [Range], &'static [Range]),
+    Close(u32),
     Give(u32, u64),
     GiveAt(u32, (u32, u32)),
     Load(usize),
@@ -112,11 +116,25 @@ enum Call {
     Serve(u32, (u32, u32), u32),
 }
 
+/// What the world answers if a course is to begin from the plan.
+fn begins_with(alloc: Global, world: &mut World, old: &Plan, new: &[Range]) -> Option<Answer> {
+    let new = plan(alloc, new)?;
+    world.begin_from(old, &new).ok()
+}
+
+/// What the world answers if a course is to begin from one plan to another.
+fn begins_from(alloc: Global, world: &mut World, old: &[Range], new: &[Range]) -> Option<Answer> {
+    let old = plan(alloc, old)?;
+    begins_with(alloc, world, &old, new)
+}
+
 /// What the world answers to the call. None if an allocation fails.
 fn answer(alloc: Global, world: &mut World, call: Call) -> Option<Answer> {
     match call {
         Call::Open => world.open_next().ok(),
         Call::Begin(ranges) => world.begin(&plan(alloc, ranges)?).ok(),
+        Call::BeginFrom(old, new) => begins_from(alloc, world, old, new),
+        Call::Close(number) => Some(world.close(PartId::new(number)?)),
         Call::Give(number, most) => world.give(PartId::new(number)?, most).ok(),
         Call::GiveAt(number, at) => {
             let key = Key::new(at.0, at.1)?;
@@ -148,6 +166,7 @@ fn said(answer: &Answer) -> Said {
     match answer {
         Answer::Opened { sub } => numbers("opened", (0, *sub, 0)),
         Answer::Begun { number, parts } => numbers("begun", (*parts as u64, *number, 0)),
+        Answer::Closed { number } => numbers("closed", (0, *number, 0)),
         Answer::Gave { index, chunk } => given(*index as u64, chunk),
         Answer::Loaded(report) | Answer::Finished(report) => reported(report),
         Answer::Again => numbers("again", (0, 0, 0)),
@@ -215,6 +234,7 @@ fn refused(refusal: &Refusal) -> Said {
         Refusal::Running => numbers("running", (0, 0, 0)),
         Refusal::NoNumber => numbers("no number", (0, 0, 0)),
         Refusal::NotOpen => numbers("not open", (0, 0, 0)),
+        Refusal::Ended => numbers("ended", (0, 0, 0)),
         Refusal::NothingLeft => numbers("nothing left", (0, 0, 0)),
         Refusal::ZeroMax => numbers("zero max", (0, 0, 0)),
         Refusal::NotOutgoing => numbers("not outgoing", (0, 0, 0)),

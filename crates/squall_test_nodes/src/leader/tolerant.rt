@@ -16,6 +16,8 @@ use std::sync::Arc;
 enum Call {
     /// To begin the course to the new plan.
     Begin,
+    /// To begin the course from the new plan to the old one.
+    From,
     /// To open the next sub-plan.
     Open,
     /// To absorb that partition 3 is done.
@@ -42,6 +44,30 @@ fn begins_to(rt: &impl Abort, alloc: Global, leader: &mut Leader, new: &Plan) ->
 fn begins(rt: &impl Abort, alloc: Global, leader: &mut Leader) -> Option<bool> {
     let new = plan(alloc, NEW)?;
     begins_to(rt, alloc, leader, &new)
+}
+
+/// Whether the course between the plans is begun: there is no other fault than NoMemory.
+fn is_begun_from(rt: &impl Abort, leader: &mut Leader, old: &Plan, new: &Plan) -> bool {
+    let begun = leader.begin_from(old, new);
+    holds!(rt; matches!(begun, Ok(_) | Err(LeaderFault::NoMemory)));
+    begun.is_ok()
+}
+
+/// Whether the course from the plan to the old one is begun. None if an allocation failed before.
+fn begins_between(
+    rt: &impl Abort,
+    alloc: Global,
+    leader: &mut Leader,
+    from: &Plan,
+) -> Option<bool> {
+    let to = plan(alloc, OLD)?;
+    Some(is_begun_from(rt, leader, from, &to))
+}
+
+/// Whether the course from the new plan to the old one is begun.
+fn begins_from(rt: &impl Abort, alloc: Global, leader: &mut Leader) -> Option<bool> {
+    let from = plan(alloc, NEW)?;
+    begins_between(rt, alloc, leader, &from)
 }
 
 /// Whether the next sub-plan is opened: there is no other fault than NoMemory.
@@ -76,6 +102,7 @@ fn absorbs(rt: &impl Abort, alloc: Global, leader: &mut Leader, report: &Report)
 fn is_answered(rt: &impl Abort, alloc: Global, leader: &mut Leader, call: Call) -> Option<bool> {
     match call {
         Call::Begin => begins(rt, alloc, leader),
+        Call::From => begins_from(rt, alloc, leader),
         Call::Open => Some(opens(rt, leader)),
         Call::Hear => {
             let done = Report::done(1, 0, 3)?;
@@ -98,10 +125,11 @@ fn take_all(rt: &impl Abort, alloc: Global, leader: &mut Leader, calls: &[Call])
 /// tried then.
 type Row = (u32, &'static [Call], Call);
 
-const ROWS: [Row; 4] = [
+const ROWS: [Row; 5] = [
     (0, &[], Call::Begin),
     (7, &[], Call::Begin),
     (0, &[Call::Begin], Call::Open),
+    (0, &[Call::Begin, Call::Open], Call::From),
     (0, &[Call::Begin, Call::Open], Call::Hear),
 ];
 

@@ -1,7 +1,8 @@
 //! If an allocation fails a world is unchanged, and so are the arguments.
 
+use crate::world::asked::{ASKED, SIX};
 use crate::world::parts::LOADED;
-use crate::world::{Call, END, NEW, OLD, Range, Said, To, answer, plan, said, world_to};
+use crate::world::{Call, NEW, OLD, Range, Said, To, answer, plan, said, world_to};
 use squall_key::PartId;
 use squall_plan::Plan;
 use squall_world::{Answer, Event, Node, World, WorldFault};
@@ -26,8 +27,15 @@ const MOVING: [Call; 10] = [
 /// Nobody has heard of the second course yet.
 const BEGUN_AGAIN: [Call; 3] = [Call::Begin(&NEW), Call::Open, Call::Send(To::Leader)];
 
-/// A plan with which partitions 5 and 6 come.
-const SIX: [Range; 4] = [(5, 0, 3), (1, 3, 5), (6, 5, 9), (4, 9, END)];
+/// Both partitions that give keys in course 1 are closed, and no key has moved.
+const CLOSED: [Call; 6] = [
+    Call::Open,
+    Call::Send(To::Leader),
+    Call::Deliver(0, To::Part(1)),
+    Call::Deliver(0, To::Part(3)),
+    Call::Close(1),
+    Call::Close(3),
+];
 
 /// The plan to which a world leads, what happened in it, and the calls that are tried then.
 struct Case {
@@ -36,7 +44,7 @@ struct Case {
     tried: &'static [Call],
 }
 
-static CASES: [Case; 10] = [
+static CASES: [Case; 11] = [
     Case {
         new: &NEW,
         before: &[],
@@ -46,6 +54,11 @@ static CASES: [Case; 10] = [
         new: &OLD,
         before: &[],
         tried: &[Call::Begin(&SIX)],
+    },
+    Case {
+        new: &NEW,
+        before: &CLOSED,
+        tried: &[Call::BeginFrom(&OLD, &SIX)],
     },
     Case {
         new: &NEW,
@@ -93,49 +106,6 @@ static CASES: [Case; 10] = [
             Call::Deliver(0, To::Router(0)),
         ],
     },
-];
-
-/// What is asked of a world to see its state: which partition has a key, what each node has heard,
-/// and which messages and chunks there are. The last calls are those of a course that follows.
-static ASKED: [Call; 38] = [
-    Call::Route(0, (2, 0)),
-    Call::Route(0, (2, 5)),
-    Call::Route(0, (6, 0)),
-    Call::Serve(1, (2, 0), 0),
-    Call::Serve(1, (2, 5), 0),
-    Call::Serve(3, (2, 0), 0),
-    Call::Serve(3, (2, 5), 0),
-    Call::Serve(3, (6, 0), 0),
-    Call::Serve(3, (6, 5), 0),
-    Call::Serve(3, (6, 5), 1),
-    Call::Serve(4, (6, 0), 0),
-    Call::Serve(5, (2, 0), 0),
-    Call::Send(To::Leader),
-    Call::Send(To::Router(0)),
-    Call::Send(To::Part(1)),
-    Call::Send(To::Part(2)),
-    Call::Send(To::Part(3)),
-    Call::Send(To::Part(4)),
-    Call::Give(1, 1),
-    Call::Give(3, 2),
-    Call::Give(3, 3),
-    Call::GiveAt(3, (7, 0)),
-    Call::Load(0),
-    Call::Load(1),
-    Call::Load(2),
-    Call::Load(3),
-    Call::Finish(3, 0),
-    Call::Open,
-    Call::Deliver(2, To::Router(0)),
-    Call::Route(0, (2, 0)),
-    Call::Route(0, (2, 5)),
-    Call::Deliver(3, To::Part(4)),
-    Call::Serve(4, (6, 5), 1),
-    Call::Begin(&SIX),
-    Call::Open,
-    Call::Send(To::Leader),
-    Call::Serve(5, (1, 0), 0),
-    Call::Serve(6, (6, 0), 0),
 ];
 
 /// What the world says to the call. None if an allocation fails.
