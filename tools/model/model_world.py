@@ -45,7 +45,9 @@ class Events:
         world, draw = self.world, self.draw
         part, place, most = self.part(), draw.randrange(PLACES), draw.choice([0, 0, 1, 3, 18446744073709551615])
         kind = draw.randrange(9)
-        if kind == 0:
+        if not draw.randrange(200):
+            self.ask(f"close {part}", world.close, part)
+        elif kind == 0:
             self.ask(f"give {part} {most}", world.give, part, most)
         elif kind == 1:
             self.ask(f"giveat {part} {bound(place)}", world.giveat, part, place)
@@ -97,6 +99,8 @@ class Events:
         may be asked again later."""
         word, told = self.ask_for(part, place, after)
         wrong = ["elsewhere", "no", *([] if after else ["behind"])]
+        if word == "pending" and not self.world.comes(part, place, *told):
+            raise AssertionError(f"{part} waits for the key {bound(place)}, which does not come")
         if self.world.last == 1:
             wrong += ["behind", "moved" if after else "pending"]
         if word in wrong or (word == "moved" and told[1] <= after):
@@ -152,7 +156,9 @@ class Events:
     def drive(self):
         """The next sub-plan, or the next course, from its opening to the last report."""
         world, draw, parts = self.world, self.draw, sorted(self.world.held)
-        if world.is_over() == bool(draw.randrange(6)):
+        if not draw.randrange(4):
+            self.turn()
+        elif world.is_over() == bool(draw.randrange(6)):
             plan = draw.plan(7, 2)
             self.ask(f"begin {draw.text(draw.entries(plan))}", world.begin, plan)
         self.ask("open", world.open)
@@ -166,6 +172,21 @@ class Events:
             sub = max(world.opened - 1, 0)
             self.ask(f"finish {part} {sub}", world.finish, part, sub)
             self.tell(f"p{part}", ["l", *([f"r{draw.randrange(world.routers)}"] if world.routers else [])])
+
+
+    def turn(self):
+        """The course begun last ends early: its sources close, mostly, and the next begins from where the keys are."""
+        world, draw = self.world, self.draw
+        for part in sorted(world.held):
+            if draw.randrange(12):
+                self.ask(f"close {part}", world.close, part)
+        for chunk in range(len(world.chunks)):
+            if world.in_flight(world.chunks[chunk]) and draw.randrange(24):
+                self.ask(f"load {chunk}", world.load, chunk)
+        left = world.where_left() if draw.randrange(6) else draw.plan(7, 2)
+        plan = draw.plan(7, 2)
+        texts = [draw.text(draw.entries(it)) for it in (left, plan)]
+        self.ask(f"begin-from {' '.join(texts)}", world.begin_from, left, plan)
 
 
 def world(draw):

@@ -11,8 +11,8 @@ class World:
 
     def __init__(self, old, new, routers):
         self.courses = {1: Course(1, old, new)}
-        self.last, self.opened, self.routers = 1, 0, routers
-        self.held, self.given, self.loaded = {}, {}, {}
+        self.last, self.counts, self.routers = 1, {1: 0}, routers
+        self.held, self.given, self.loaded, self.closed = {}, {}, {}, set()
         self.facts = {"l": Facts(), **{f"r{it}": Facts() for it in range(routers)}}
         self.messages, self.chunks = [], []
         self.add_parts(old, new)
@@ -36,6 +36,11 @@ class World:
     def newest(self, name):
         return self.node(name).newest(self.courses[1])
 
+    @property
+    def opened(self):
+        """How many sub-plans of the course begun last are opened."""
+        return self.counts[self.last]
+
     # ---- the leader
 
     def waited_for(self):
@@ -54,24 +59,54 @@ class World:
         if self.opened == self.courses[self.last].count:
             raise Refused("NoMore")
         self.facts["l"].open(self.last, self.opened)
-        self.opened += 1
+        self.counts[self.last] += 1
         return f"opened {self.opened - 1}"
 
     def begin(self, plan):
         if not self.is_over():
             raise Refused("Running")
-        old = self.courses[self.last].new
-        self.last, self.opened = self.last + 1, 0
+        return self.begun(self.courses[self.last].new, plan)
+
+    def begun(self, old, plan):
+        self.last += 1
+        self.counts[self.last] = 0
         self.courses[self.last] = Course(self.last, old, plan)
         self.add_parts(plan)
         self.facts["l"].issue(self.last, old, plan)
         return f"begun {self.last} {len(self.held)}"
+
+    # ---- a course that ends early
+
+    def is_left(self, place, part):
+        """Whether the course begun last leaves the key at the partition."""
+        course, at = self.courses[self.last], (self.last, part)
+        if part == course.new[place]:
+            return not course.moves(place) or place in self.loaded.get(at, ())
+        return part == course.old[place] and place not in self.given.get(at, ()) and at in self.closed
+
+    def begin_from(self, old, plan):
+        if not all(self.is_left(place, part) for place, part in enumerate(old)):
+            raise Refused("Running")
+        return self.begun(old, plan)
+
+    def close(self, part):
+        course = self.newest(f"p{part}")
+        self.closed.add((course.number, part))
+        return f"closed {course.number}"
+
+    def where_left(self):
+        """Where the keys are, those on their way at their destination."""
+        course = self.courses[self.last]
+        loaded = [self.loaded.get((self.last, part), ()) for part in course.new]
+        return tuple(new if it in keys else old for it, (keys, old, new) in enumerate(zip(loaded, course.old, course.new)))
 
     # ---- keys that go
 
     def going(self, part):
         """The course and the sub-plan by which the partition sends keys on."""
         course = self.newest(f"p{part}")
+        if (course.number, part) in self.closed:
+            raise Refused("Ended")
         opened = self.facts[f"p{part}"].opened.get(course.number, 0)
         if not opened:
             raise Refused("NotOpen")
@@ -170,9 +205,9 @@ class World:
         self.node(name)
         known = [it for it in self.courses if self.knows(name, it)]
         gave = max((it for it in known if place in self.given.get((it, part), ())), default=0)
-        courses = [self.courses[it] for it in known]
-        due = [it for it in courses if it.moves(place) and it.new[place] == part]
-        comes = max((it.number for it in due if place not in self.loaded.get((it.number, part), ())), default=0)
+        newest = self.courses[max(known)]
+        is_due = newest.moves(place) and newest.new[place] == part
+        comes = newest.number if is_due and place not in self.loaded.get((newest.number, part), ()) else 0
         if place in self.held[part]:
             return "held", ()
         if comes > gave:
@@ -198,10 +233,18 @@ class World:
             return "a source feeds one destination at a time"
         if any(chunk[:2] != (self.last, self.opened - 1) for chunk in moving):
             return "keys on their way are of the sub-plan opened last"
+        if self.is_over() and any(place not in self.held[part] for place, part in enumerate(self.courses[self.last].new)):
+            return "once a course is over each key is where its new plan has it"
         for name, facts in self.facts.items():
             if not self.happened(facts):
                 return f"what {name} was told happened"
         return None
+
+    def comes(self, part, place, source):
+        """Whether a key for which the partition waits is at the source or on its way, or its course ended early."""
+        newest = self.newest(f"p{part}").number
+        flying = any(it[2:4] == (source, part) and place in self.in_flight(it) for it in self.chunks)
+        return place in self.held[source] or flying or (newest < self.last and (newest, source) in self.closed)
 
     def may_be_sent(self, router, place, part):
         """Whether the partition to which a router sends the key is the old one, or has loaded it."""
@@ -210,9 +253,8 @@ class World:
 
     def happened(self, facts):
         """Whether all that is told happened."""
-        counts = {it: self.opened if it == self.last else course.count for it, course in self.courses.items()}
         loads = all(keys <= self.loaded.get((cell[0], cell[2]), set()) for cell, keys in facts.loaded.items())
         due = [(self.courses[it].incoming(sub, part), it, part) for it, sub, part in facts.done]
         dones = all(keys <= self.loaded.get((it, part), set()) for keys, it, part in due)
-        opened = all(count <= counts.get(it, 0) for it, count in facts.opened.items())
+        opened = all(count <= self.counts.get(it, 0) for it, count in facts.opened.items())
         return loads and dones and opened and all(it in self.courses for it in facts.issued)
