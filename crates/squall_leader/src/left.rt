@@ -63,6 +63,7 @@ fn leg_at(course: &Course, loaded: &SpanSet, at: Bound) -> PlanRange
 {
     let (is_loaded, until) = stretch(loaded, at);
     let range = side_at(course, is_loaded, at);
+    // The proof learns that the partition's number is at most 9999.
     let _part = range.part.get();
     let hi = range.span.hi().min(until);
     let span = Span::new(at, hi).unwrap_or(range.span);
@@ -128,8 +129,8 @@ fn plan_of(alloc: Global, ranges: &[PlanRange]) -> Result<Plan, LeftFault>
 /// is at its new partition, and any other at its old one.
 ///
 /// `TooMany` if there is no such plan, since it would have more than 4096 ranges. `NoMemory` if an
-/// allocation failed. Each range of the answer, or of those that it is joined of, takes a binary
-/// search in a plan and in the set.
+/// allocation failed. All ranges are made before they are counted: there are at most as many as both
+/// plans have ranges and the set has ends of spans. Each takes a binary search in a plan and in the set.
 pub fn left(alloc: Global, course: &Course, loaded: &SpanSet) -> Result<Plan, LeftFault>
     ensures ok { IfOk result (λ plan. AreLeft course.now loaded.now plan) }
     ensures many { result ≡ Err TooMany → (plan : List PlanRange) → AreLeft course.now loaded.now plan → range_limit < length plan }
