@@ -2,6 +2,8 @@
 
 Some promises speak of an answer at a moment and at every later one. Each world is tested with each answer that was
 given by then, so later worlds test those of earlier ones again.
+
+Where a partition may die, they are promised of those that live. Until a dead one is buried, its keys have no carrier.
 """
 from collections.abc import Iterator
 
@@ -12,7 +14,7 @@ def one_carrier(rules: Rules, world: World) -> Iterator[str]:
     """Each key has exactly one carrier: a partition that holds it, or a chunk on its way."""
     for key in range(rules.keys):
         carriers = sum(it == key for _, it in world.held) + sum(it == key for _, it in world.flying())
-        if carriers != 1:
+        if carriers > 1 or carriers == 0 and world.dead == world.buried:
             yield f"key {key} has {carriers} carriers"
 
 
@@ -70,14 +72,18 @@ def routes_are_served(rules: Rules, world: World) -> Iterator[str]:
     for key in range(rules.keys):
         for number, part in routes(world, key):
             reply = rules.reply(world, part, key, 0)
+            if part in world.dead:
+                continue
             if part not in world.parts or reply.kind not in ("held", "moved", "pending"):
                 yield f"by course {number} key {key} is sent to {part}, which says {reply.kind}"
 
 
 def moves_are_served(rules: Rules, world: World) -> Iterator[str]:
     """The partition that a move names does not send the key elsewhere, and names only later moves."""
-    for number, key in world.given:
+    for number, key in world.given - world.lost:
         part = world.course(number).new[key]
+        if part in world.dead:
+            continue
         reply = rules.reply(world, part, key, number)
         is_back = reply.kind == "moved" and reply.number <= number
         if part not in world.parts or reply.kind == "elsewhere" or is_back:
@@ -86,10 +92,10 @@ def moves_are_served(rules: Rules, world: World) -> Iterator[str]:
 
 def awaited_comes(rules: Rules, world: World) -> Iterator[str]:
     """A key for which a partition waits is at the source that it names or comes from there, or the course has ended."""
-    for part in world.parts:
+    for part in world.living:
         for key in range(rules.keys):
             kind, source, _ = rules.reply(world, part, key, 0)
-            if kind == "pending" and not comes(world, part, key, source):
+            if kind == "pending" and source not in world.dead and not comes(world, part, key, source):
                 yield f"partition {part} waits for key {key}, which does not come from {source}"
 
 
@@ -104,7 +110,7 @@ def comes(world: World, part: int, key: int, source: int) -> bool:
 
 def over_is_there(rules: Rules, world: World) -> Iterator[str]:
     """Once the course begun last is over, each key is held where its new plan has it."""
-    if world.is_over():
+    if world.is_over() and world.dead == world.buried:
         for key in range(rules.keys):
             if (world.courses[-1].new[key], key) not in world.held:
                 yield f"course {world.last} is over, and key {key} is not at {world.courses[-1].new[key]}"
@@ -115,7 +121,7 @@ def first_routes_are_home(rules: Rules, world: World) -> Iterator[str]:
     for key in range(rules.keys) if world.last == 1 else []:
         for _, part in routes(world, key):
             reply = rules.reply(world, part, key, 0)
-            if reply.kind not in ("held", "moved"):
+            if part not in world.dead and reply.kind not in ("held", "moved"):
                 yield f"key {key} is sent to {part}, which says {reply.kind}"
 
 
@@ -124,7 +130,7 @@ def first_moves_are_due(rules: Rules, world: World) -> Iterator[str]:
     for number, key in world.given if world.last == 1 else []:
         part = world.course(number).new[key]
         reply = rules.reply(world, part, key, number)
-        if reply.kind not in ("held", "pending"):
+        if part not in world.dead and reply.kind not in ("held", "pending"):
             yield f"a move names {part}, which says {reply.kind} for key {key}"
 
 

@@ -1,7 +1,7 @@
 """Small worlds, for tools/model/search: what may happen in them, as docs/SCENARIOS.md says, and what partitions reply.
 
-A world has a few partitions and keys. It begins a few courses, each of which may end early. What is left out changes no
-answer:
+A world has a few partitions and keys. It begins a few courses, each of which may end early. Under some variants one of the
+partitions may die for good. What is left out changes no answer:
 - Messages. A partition hears any single fact, in any order, at any time or never. So it may hear less than a board says.
 - What the leader hears. It hears each completion at once, and may still open or begin later.
 - Routers. The promises take each answer that some router could give.
@@ -22,6 +22,9 @@ VARIANTS = {
     "in-flight": "a course may end early while keys are on their way: the next plan has them at their source",
     "in-flight-new": "a course may end early while keys are on their way: the next plan has them at their destination",
     "back": "after an early end the old plan is the old one of the course before, and not where the keys are",
+    "bury": "a partition may die, and the next course gives its keys to others once all refuse what it gave",
+    "bury-late": "the same, but partitions load what it gave later on",
+    "bury-alive": "the same, but it has not died",
 }
 
 # The owner of each key.
@@ -85,6 +88,12 @@ class World(NamedTuple):
     closed: Pairs
     # Completions: the course, the sub-plan and the partition.
     done: frozenset[tuple[int, int, int]]
+    # Partitions that have died, and those of them that are buried: a course was begun without them.
+    dead: frozenset[int] = frozenset()
+    buried: frozenset[int] = frozenset()
+    # Courses and partitions that refuse in them what a dead partition gave. Courses and keys that a burial ended on their way.
+    refused: Pairs = frozenset()
+    lost: Pairs = frozenset()
 
     @property
     def last(self) -> int:
@@ -104,9 +113,14 @@ class World(NamedTuple):
         """The number of the newest course that the partition knows."""
         return max(self.told[part].issued)
 
+    @property
+    def living(self) -> frozenset[int]:
+        """Those of them that have not died."""
+        return self.parts - self.dead
+
     def flying(self) -> Pairs:
         """Courses and keys that are on their way."""
-        return self.given - self.loaded
+        return self.given - self.loaded - self.lost
 
     def is_waiting(self) -> bool:
         """Whether the leader waits for a partition that has not all keys of the sub-plan opened last."""
@@ -147,6 +161,10 @@ class Rules:
     def plans(self) -> list[Plan]:
         """All plans."""
         return list(product(range(self.parts), repeat=self.keys))
+
+    def plans_without(self, dead: frozenset[int]) -> list[Plan]:
+        """All plans that name none of these partitions."""
+        return [plan for plan in self.plans() if dead.isdisjoint(plan)]
 
     def start(self, course: Course) -> World:
         """The world as it begins: each key is where the old plan has it."""
@@ -189,8 +207,9 @@ class Rules:
 
     def steps(self, world: World) -> Iterator[Step]:
         """All that may happen next."""
-        yield from self.leader_steps(world)
-        for part in world.parts:
+        yield from self.bury_steps(world) if world.dead != world.buried else self.leader_steps(world)
+        for part in world.parts if self.variant == "bury-alive" else world.living:
+            yield from self.death_steps(world, part)
             yield from self.close_steps(world, part)
             yield from self.give_steps(world, part)
             yield from self.load_steps(world, part)
@@ -207,7 +226,7 @@ class Rules:
             return
         is_over = world.is_over()
         old = world.courses[-1].new if is_over else self.where_left(world)
-        for plan in self.plans() if old is not None else []:
+        for plan in self.plans_without(world.dead) if old is not None else []:
             begun = world._replace(courses=(*world.courses, course_between(old, plan)))
             yield f"the leader begins course {last + 1}{'' if is_over else ' early'} from {old} to {plan}", begun
 
@@ -232,15 +251,54 @@ class Rules:
         number = world.newest(source) if self.variant == "flag" else world.last
         return self.variant == "no-close" or (number, source) in world.closed
 
+    # ---- burials
+
+    def death_steps(self, world: World, part: int) -> Iterator[Step]:
+        """The partition dies, once in a run, or refuses what a dead one gave in the newest course that it knows."""
+        if self.variant.startswith("bury") and not world.dead:
+            held = world.held if self.variant == "bury-alive" else frozenset(it for it in world.held if it[0] != part)
+            yield f"partition {part} dies", world._replace(dead=frozenset({part}), held=held)
+        number = world.newest(part)
+        if world.dead != world.buried and (number, part) not in world.refused:
+            refused = world.refused | {(number, part)}
+            yield f"partition {part} refuses what a dead one gave in course {number}", world._replace(refused=refused)
+
+    def bury_steps(self, world: World) -> Iterator[Step]:
+        """The leader begins a course that leaves dead partitions out, and each key without a holder gets one.
+
+        All that live give no more in the course before.
+        """
+        may_begin = world.last < self.courses and all((world.last, part) in world.closed for part in world.living)
+        for old in product(*(self.homes_of(world, key) for key in range(self.keys))) if may_begin else []:
+            held = world.held | {(part, key) for key, part in enumerate(old)}
+            lost = world.lost | {(number, key) for number, key in world.given - world.loaded}
+            for plan in self.plans_without(world.dead):
+                courses = (*world.courses, course_between(old, plan))
+                begun = world._replace(courses=courses, held=held, lost=lost, buried=world.dead)
+                yield f"the leader buries {set(world.dead)}: it begins course {world.last + 1} from {old} to {plan}", begun
+
+    def homes_of(self, world: World, key: int) -> frozenset[int]:
+        """Where the next course may have the key: where it is left, or anywhere if it was lost. Nowhere if that is not decided."""
+        course, at = world.courses[-1], (world.last, key)
+        source, dest = course.old[key], course.new[key]
+        is_flying = at in world.given and at not in world.loaded
+        if is_flying and dest not in world.dead:
+            refuses = source in world.dead and (world.last, dest) in world.refused
+            return world.living if refuses else frozenset()
+        left = dest if at in world.loaded else source
+        return frozenset({left}) if (left, key) in world.held else world.living
+
+    # ---- partitions
+
     def close_steps(self, world: World, part: int) -> Iterator[Step]:
         """The partition gives no more in the newest course that it knows.
 
-        No answer depends on it if it has nothing to give there, except under the variant `flag`.
+        No answer depends on it if it has nothing to give there, except under the variant `flag`, and if a partition has died.
         """
         number = world.newest(part)
         keys = [key for key, old in enumerate(world.course(number).old) if old == part]
         gives = any(world.course(number).subs[key] is not None and (number, key) not in world.given for key in keys)
-        if (number, part) not in world.closed and self.variant != "no-close" and (gives or self.variant == "flag"):
+        if (number, part) not in world.closed and self.variant != "no-close" and (gives or self.variant == "flag" or world.dead):
             yield f"partition {part} gives no more in course {number}", world._replace(closed=world.closed | {(number, part)})
 
     def give_steps(self, world: World, part: int) -> Iterator[Step]:
@@ -255,8 +313,10 @@ class Rules:
     def load_steps(self, world: World, part: int) -> Iterator[Step]:
         """The partition loads a key that is on its way there, in any course that it knows."""
         issued, opened = world.told[part]
-        for number, key in world.flying():
+        for number, key in world.given - world.loaded if self.variant == "bury-late" else world.flying():
             course = world.course(number)
+            if (number, part) in world.refused and course.old[key] in world.dead and self.variant != "bury-late":
+                continue
             if course.brings(key, part) and number in issued and course.subs[key] in range(opened[number - 1]):
                 after = world._replace(held=world.held | {(part, key)}, loaded=world.loaded | {(number, key)})
                 yield f"partition {part} loads key {key} of course {number}", after
