@@ -271,6 +271,65 @@ static void plans_as_texts(void) {
     drop_course(course);
 }
 
+/* The plan of where a course leaves the keys: loaded ones are at their new partitions, all others at
+ * their old ones. */
+static void where_a_course_leaves_the_keys(void) {
+    static const char *const LEFT =
+        "{\"plan\":[{\"from\":[0,0],\"part\":1,\"to\":[2,0]},{\"from\":[2,0],\"part\":3,\"to\":[2,5]},"
+        "{\"from\":[2,5],\"part\":1,\"to\":[3,0]},{\"from\":[3,0],\"part\":2,\"to\":[5,0]},"
+        "{\"from\":[5,0],\"part\":3,\"to\":[7,0]},{\"from\":[7,0],\"part\":4,\"to\":\"end\"}]}";
+    /* The spans overlap, the last one has keys that don't move, and they don't rise. */
+    const squall_span loaded[] = {
+        {squall_rank(7, 5), key(9)}, {key(2), squall_rank(2, 5)}, {key(7), key(8)}, {0, key(1)}};
+    squall_course *course = course_of(1, OLD, NEW);
+    uint8_t text[512];
+    uint8_t plan[512];
+    memset(text, 7, sizeof text);
+    size_t len = squall_course_left(course, loaded, 4, text, strlen(LEFT) - 1);
+    CHECK(len == strlen(LEFT) && text[0] == 7);
+    CHECK(squall_course_left(course, loaded, 4, text, sizeof text) == len);
+    CHECK(memcmp(text, LEFT, len) == 0 && text[len] == 7);
+    /* If nothing is loaded that is the old plan, and if all is the new one. */
+    const squall_span all = {0, SQUALL_TOP};
+    len = squall_course_old_text(course, plan, sizeof plan);
+    CHECK(squall_course_left(course, loaded, 0, text, sizeof text) == len && memcmp(text, plan, len) == 0);
+    len = squall_course_new_text(course, plan, sizeof plan);
+    CHECK(squall_course_left(course, &all, 1, text, sizeof text) == len && memcmp(text, plan, len) == 0);
+    /* A span without a key, one that runs backwards, and one that ends above all keys. */
+    const squall_span wrong[] = {{key(2), key(2)}, {key(3), key(2)}, {key(2), SQUALL_TOP + 1}};
+    text[0] = 7;
+    for (size_t i = 0; i < 3; i++) {
+        CHECK(squall_course_left(course, wrong + i, 1, text, sizeof text) == 0 && text[0] == 7);
+    }
+    drop_course(course);
+    course = course_of(0, OLD, NEW);
+    CHECK(squall_course_left(course, loaded, 4, text, sizeof text) == 0 && text[0] == 7);
+    drop_course(course);
+}
+
+/* Every second key below 4096:0 is loaded, of two partitions: so many ranges no plan has. One less fits. */
+static void a_plan_of_too_many_ranges(void) {
+    static squall_span loaded[2048];
+    static uint8_t text[400000];
+    squall_course *course = course_of(1, "{\"plan\":[{\"part\":1,\"from\":[0,0],\"to\":\"end\"}]}",
+                                      "{\"plan\":[{\"part\":2,\"from\":[0,0],\"to\":\"end\"}]}");
+    for (uint32_t i = 0; i < 2048; i++) {
+        loaded[i].lo = key(2 * i + 1);
+        loaded[i].hi = key(2 * i + 2);
+    }
+    CHECK(squall_course_left(course, loaded, 2048, text, sizeof text) == 0);
+    size_t len = squall_course_left(course, loaded, 2047, text, sizeof text);
+    CHECK(len > 4095 * 30 && len <= sizeof text);
+    squall_course *back = (squall_course *)room_of(squall_course_size());
+    const char *home = "{\"plan\":[{\"part\":1,\"from\":[0,0],\"to\":\"end\"}]}";
+    squall_course_open(2, text, len, (const uint8_t *)home, strlen(home), back);
+    squall_leg legs[4096];
+    CHECK(squall_course_status(back) == SQUALL_OK);
+    CHECK(squall_course_old(back, 0, legs, 4096) == 4095);
+    drop_course(back);
+    drop_course(course);
+}
+
 /* ---- where keys stand */
 
 static squall_view *view_of(const squall_router *router) {
@@ -328,6 +387,8 @@ static const struct test TESTS[] = {
     TEST(frames_of_reports),
     TEST(frames_that_a_router_hears),
     TEST(plans_as_texts),
+    TEST(where_a_course_leaves_the_keys),
+    TEST(a_plan_of_too_many_ranges),
     TEST(where_keys_stand),
     TEST(places_without_a_view),
 };

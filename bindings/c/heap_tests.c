@@ -311,6 +311,11 @@ static size_t put_new_text(const squall_course *course, uint8_t *out, size_t roo
     return squall_course_new_text(course, out, room);
 }
 
+static size_t put_left(const squall_course *course, uint8_t *out, size_t room) {
+    const squall_span loaded[2] = {{squall_rank(2, 0), squall_rank(2, 5)}, {squall_rank(6, 0), SQUALL_TOP}};
+    return squall_course_left(course, loaded, 2, out, room);
+}
+
 static size_t put_load(const squall_course *course, uint8_t *out, size_t room) {
     (void)course;
     return squall_frame_loaded(1, 0, 3, squall_rank(2, 0), squall_rank(3, 0), out, room);
@@ -342,8 +347,8 @@ static bool refuse_in_frame(put_frame *put, const squall_course *course, long nu
 }
 
 static void frames_of_reports(void) {
-    static put_frame *const PUTS[] = {put_course, put_old_text, put_new_text, put_load, put_done,
-                                      put_opened};
+    static put_frame *const PUTS[] = {put_course, put_old_text, put_new_text, put_left,
+                                      put_load,   put_done,     put_opened};
     squall_course *course = (squall_course *)room_of(squall_course_size());
     squall_course_open(1, bytes_of(OLD), strlen(OLD), bytes_of(NEW), strlen(NEW), course);
     for (size_t i = 0; i < sizeof PUTS / sizeof PUTS[0]; i++) {

@@ -41,8 +41,9 @@
  *    view before the calls that share it, and those before its close. No function starts a thread,
  *    takes a lock or waits.
  * 5. What is read. A pointer and a length name that many bytes, `ranks` and `count` that many ranks,
- *    and `chunk` one chunk. They are readable and do not change while the call runs. The pointer is
- *    not null, even for length 0, and is aligned as what it points to is.
+ *    `loaded` and `count` that many spans, and `chunk` one chunk. They are readable and do not change
+ *    while the call runs. The pointer is not null, even for length 0, and is aligned as what it points
+ *    to is.
  * 6. Places for answers. A pointer `out` or `parts` and a `room` name that many places, and an `out`
  *    without a `room` names one. They are writable and in no handle's room. The pointer is not null,
  *    even for room 0, and is aligned as what it points to is.
@@ -535,6 +536,13 @@ size_t squall_course_old_text(const squall_course *course, uint8_t *out, size_t 
 
 /* The same of the new plan. */
 size_t squall_course_new_text(const squall_course *course, uint8_t *out, size_t room);
+
+/* The same of the plan of where the course leaves the keys if it ends early: squall_leader_begin_from
+ * begins the next course from it. A key of the `count` spans is loaded, and at its new partition. Any
+ * other is at its old one. The spans may overlap, and come in any order. The answer is also 0 if a span
+ * has no keys or ends above SQUALL_TOP, or if the plan would have more than 4096 ranges. */
+size_t squall_course_left(const squall_course *course, const squall_span *loaded, size_t count,
+                          uint8_t *out, size_t room);
 
 /* Writes the partitions to which keys move in the sub-plan, by rising number, from the one at `from` on,
  * counted from 0, to the front of `out`, as many as there is room for, and answers how many: 0 if there

@@ -183,6 +183,8 @@ static void *look(void *unused) {
     CHECK(squall_course_frame(course, frames, SQUALL_FRAME_BYTES) > 0);
     CHECK(squall_course_old_text(course, frames, SQUALL_FRAME_BYTES) > 0);
     CHECK(squall_course_new_text(course, frames, SQUALL_FRAME_BYTES) > 0);
+    const squall_span loaded = {squall_rank(2, 0), squall_rank(2, 5)};
+    CHECK(squall_course_left(course, &loaded, 1, frames, SQUALL_FRAME_BYTES) > 0);
     squall_errand_start(opened, rank, errand);
     CHECK(squall_errand_heed(errand, SQUALL_HELD, 0, 0) == SQUALL_SERVED);
     squall_errand_close(errand);

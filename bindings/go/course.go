@@ -166,11 +166,34 @@ func (c *Course) NewText() (string, error) {
 	})
 }
 
+// Left is the plan of where the course leaves the keys if it ends early, as a JSON text: [Leader.BeginFrom]
+// begins the next course from it. A key of the spans is loaded, and at its new partition. Any other is at
+// its old one. The spans may overlap, and come in any order.
+//
+// Errors: [ErrLimit] if a span has no keys or ends above [End], or if the plan would have more than 4096
+// ranges; [ErrNoMemory]; [ErrClosed].
+func (c *Course) Left(loaded []Span) (string, error) {
+	// The library takes no null pointer, even for no spans.
+	spans := make([]C.squall_span, 0, len(loaded)+1)
+	for _, it := range loaded {
+		spans = append(spans, C.squall_span{lo: C.uint64_t(it.Lo), hi: C.uint64_t(it.Hi)})
+	}
+	first, count := &spans[:1][0], C.size_t(len(spans))
+	return c.textOr(ErrLimit, func(at *C.squall_course, out *C.uint8_t, room C.size_t) C.size_t {
+		return C.squall_course_left(at, first, count, out, room)
+	})
+}
+
 // text is the text that a call writes, as those of [written] do.
 func (c *Course) text(write func(at *C.squall_course, out *C.uint8_t, room C.size_t) C.size_t) (string, error) {
+	return c.textOr(ErrClosed, write)
+}
+
+// textOr is the same. If there is no text, the error is none.
+func (c *Course) textOr(none error, write func(at *C.squall_course, out *C.uint8_t, room C.size_t) C.size_t) (string, error) {
 	bytes, err := []byte(nil), error(ErrClosed)
 	c.use(func(at *C.squall_course) {
-		bytes, err = written(ErrClosed, func(out *C.uint8_t, room C.size_t) C.size_t { return write(at, out, room) })
+		bytes, err = written(none, func(out *C.uint8_t, room C.size_t) C.size_t { return write(at, out, room) })
 	})
 	return string(bytes), err
 }

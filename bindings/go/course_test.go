@@ -205,6 +205,39 @@ func TestPlansAsTexts(t *testing.T) {
 	equals(t, err, squall.ErrClosed)
 }
 
+func TestWhereACourseLeavesTheKeys(t *testing.T) {
+	course := courseOf(t, 1, oldPlan, newPlan)
+	loaded := []squall.Span{
+		{Lo: squall.Key(7, 0), Hi: squall.End},
+		{Lo: squall.Key(2, 0), Hi: squall.Key(2, 5)},
+		{Lo: squall.Key(7, 0), Hi: squall.Key(8, 0)},
+	}
+	left, err := course.Left(loaded)
+	succeeds(t, err)
+	back := courseOf(t, 2, []byte(left), oldPlan)
+	equals(t, back.Moves(), []squall.Move{
+		{Lo: squall.Key(2, 0), Hi: squall.Key(2, 5), Source: 3, Dest: 1},
+		{Lo: squall.Key(7, 0), Hi: squall.Key(9, 0), Source: 4, Dest: 3},
+	})
+	old, err := course.OldText()
+	succeeds(t, err)
+	left, err = course.Left(nil)
+	succeeds(t, err)
+	equals(t, left, old)
+	// A span without a key, and so many ranges as no plan has.
+	_, err = course.Left([]squall.Span{{Lo: squall.Key(2, 0), Hi: squall.Key(2, 0)}})
+	equals(t, err, squall.ErrLimit)
+	odd := make([]squall.Span, 2048)
+	for i := range odd {
+		odd[i] = squall.Span{Lo: squall.Key(2, uint32(2*i)), Hi: squall.Key(2, uint32(2*i+1))}
+	}
+	_, err = course.Left(odd)
+	equals(t, err, squall.ErrLimit)
+	succeeds(t, course.Close())
+	_, err = course.Left(loaded)
+	equals(t, err, squall.ErrClosed)
+}
+
 func TestACourseThatIsClosed(t *testing.T) {
 	closed := courseOf(t, 1, oldPlan, newPlan)
 	receives(t, closed, 0, 3, 4)

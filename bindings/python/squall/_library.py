@@ -206,6 +206,8 @@ course_old_text: Callable[[CourseRoom, Out, int], int]
 course_old_text = _slow("course_old_text", _SIZE, _COURSE, _ADDRESS, _SIZE)
 course_new_text: Callable[[CourseRoom, Out, int], int]
 course_new_text = _slow("course_new_text", _SIZE, _COURSE, _ADDRESS, _SIZE)
+course_left: Callable[[CourseRoom, Out, int, Out, int], int]
+course_left = _slow("course_left", _SIZE, _COURSE, _SPANS, _SIZE, _ADDRESS, _SIZE)
 course_frame: Callable[[CourseRoom, Out, int], int]
 course_frame = _slow("course_frame", _SIZE, _COURSE, _ADDRESS, _SIZE)
 

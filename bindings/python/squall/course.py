@@ -3,15 +3,15 @@
 from __future__ import annotations
 
 import ctypes
-from typing import Any, Callable, Iterable, List, NamedTuple, Optional, Type, TypeVar
+from typing import Any, Callable, Iterable, List, NamedTuple, Optional, Tuple, Type, TypeVar
 
 from . import _library as lib
 from ._fork import REFUSED, refuse
 from ._handle import Handle
-from ._room import CourseRoom, LegRecord, MoveRecord
+from ._room import CourseRoom, LegRecord, MoveRecord, SpanRecord
 from ._status import check
 from ._written import written
-from .keys import NOWHERE, Leg, Rank, word
+from .keys import NOWHERE, Leg, Rank, rank, word
 from .plan import Plan, PlanText
 
 #: How many moves or ranges one call of C gives, and how many receivers the first one may.
@@ -20,6 +20,7 @@ _AT_ONCE = 256
 _MORE = 8
 
 _NO_MEMORY = 1
+_LIMIT = 2
 
 Record = TypeVar("Record", LegRecord, MoveRecord)
 
@@ -162,6 +163,18 @@ class Course(Handle):
         """The new plan, as `old_text` is the old one."""
         return self._ask(_text, lib.course_new_text)
 
+    def left(self, loaded: Iterable[Tuple[int, int]]) -> str:
+        """The plan of where the course leaves the keys if it ends early, as a JSON text.
+
+        `Leader.begin_from` begins the next course from it. A key of the spans is loaded, and at its
+        new partition. Any other is at its old one. The spans may overlap, and come in any order.
+
+        Raises `NumberError` if a rank has no 64 bits, if a span has no keys or ends above `END`, or
+        if the plan would have more than 4096 ranges. Raises `NoMemory` and `ClosedError`.
+        """
+        spans = [SpanRecord(rank(lo), rank(hi)) for lo, hi in loaded]
+        return self._ask(_left, (SpanRecord * len(spans))(*spans))
+
     def receivers(self, sub: int) -> List[int]:
         """The partitions to which keys move in the sub-plan, by rising number.
 
@@ -191,6 +204,13 @@ def _records(room: CourseRoom, call: Callable[..., int], kind: Type[Record]) -> 
 
 def _text(room: CourseRoom, call: Callable[..., int]) -> str:
     return written(call, room).decode("ascii")
+
+
+def _left(room: CourseRoom, spans: ctypes.Array[SpanRecord]) -> str:
+    text = written(lib.course_left, room, spans, len(spans))
+    if not text:
+        check(_LIMIT)
+    return text.decode("ascii")
 
 
 def _receivers(room: CourseRoom, sub: int) -> List[int]:

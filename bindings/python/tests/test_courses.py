@@ -49,6 +49,25 @@ class Answers(unittest.TestCase):
         self.assertEqual(again.moves(), course.moves())
         self.assertEqual(again.new_text(), course.new_text())
 
+    def test_where_a_course_leaves_the_keys(self) -> None:
+        course = Course(1, OLD, NEW)
+        left = course.left([(key(7), END), (key(2), Rank(2, 5)), (key(7), key(8))])
+        back = Course(2, left, OLD)
+        self.assertEqual(back.moves(), [(key(2), Rank(2, 5), 3, 1, 0), (key(7), key(9), 4, 3, 0)])
+        self.assertEqual(course.left([]), course.old_text())
+        self.assertEqual(course.left([(0, END)]), course.new_text())
+        for wrong in [(key(2), key(2)), (key(3), key(2)), (key(2), END + 1)]:
+            with self.assertRaises(NumberError):
+                course.left([wrong])
+        with self.assertRaises(NumberError):
+            course.left([(-1, key(2))])
+        # Each second key of one partition: no plan has so many ranges.
+        course = Course(1, Plan.of([(0, END, 1)]), Plan.of([(0, END, 2)]))
+        odd = [(it, it + 1) for it in range(1, 4096, 2)]
+        with self.assertRaises(NumberError):
+            course.left(odd)
+        self.assertEqual(len(Course(2, course.left(odd[1:]), OLD).old_plan()), 4095)
+
     def test_a_course_of_two_subplans(self) -> None:
         # The keys of partition 1 go to 2 and to 3, in a sub-plan each; those of 2 go to 1.
         old = Plan.of([(0, key(4), 1), (key(4), END, 2)])

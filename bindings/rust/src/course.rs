@@ -3,7 +3,7 @@
 use crate::error::Error;
 use crate::ffi::{self, RawCourse};
 use crate::frame;
-use crate::key::{Leg, Rank};
+use crate::key::{Leg, Rank, Span};
 use crate::room::Room;
 use crate::told::text_of;
 
@@ -204,6 +204,39 @@ impl Course {
         let bytes = frame::written(Error::NoMemory, |out, room| {
             // SAFETY: the course was opened, and the places are writable.
             unsafe { ffi::squall_course_new_text(self.room.get(), out, room) }
+        })?;
+        Ok(text_of(bytes))
+    }
+
+    /// The plan of where the course leaves the keys if it ends early, as a JSON text:
+    /// [`Leader::begin_from`](crate::Leader::begin_from) begins the next course from it. A key of the spans
+    /// is loaded, and at its new partition. Any other is at its old one. The spans may overlap, and come
+    /// in any order.
+    ///
+    /// ```
+    /// # use squall::{Course, Rank, Span};
+    /// # let old = br#"{"plan":[{"part":1,"from":[0,0],"to":"end"}]}"#;
+    /// # let new = br#"{"plan":[{"part":1,"from":[0,0],"to":[2,0]},{"part":3,"from":[2,0],"to":"end"}]}"#;
+    /// // All keys from 2:0 on move from 1 to 3. Those below 4:0 are loaded.
+    /// let course = Course::open(1, old, new)?;
+    /// let loaded = Span { lo: Rank::new(2, 0), hi: Rank::new(4, 0) };
+    /// let left = course.left(&[loaded])?;
+    /// assert!(left.contains(r#"{"from":[2,0],"part":3,"to":[4,0]}"#));
+    /// // They go back by course 2.
+    /// let back = Course::open(2, left.as_bytes(), old)?;
+    /// assert_eq!((back.moves()[0].source, back.moves()[0].dest), (3, 1));
+    /// # Ok::<(), squall::Error>(())
+    /// ```
+    ///
+    /// # Errors
+    ///
+    /// [`Error::Limit`] if a span has no keys or ends above [`Rank::END`], or if the plan would have more
+    /// than 4096 ranges; [`Error::NoMemory`].
+    pub fn left(&self, loaded: &[Span]) -> Result<String, Error> {
+        let bytes = frame::written(Error::Limit, |out, room| {
+            let (spans, count) = (loaded.as_ptr(), loaded.len());
+            // SAFETY: the course was opened, the spans are readable, and the places are writable.
+            unsafe { ffi::squall_course_left(self.room.get(), spans, count, out, room) }
         })?;
         Ok(text_of(bytes))
     }

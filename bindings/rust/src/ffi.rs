@@ -224,6 +224,13 @@ unsafe extern "C" {
         out: *mut u8,
         room: usize,
     ) -> usize;
+    pub(crate) fn squall_course_left(
+        course: *const RawCourse,
+        loaded: *const Span,
+        count: usize,
+        out: *mut u8,
+        room: usize,
+    ) -> usize;
     pub(crate) fn squall_course_frame(course: *const RawCourse, out: *mut u8, room: usize)
     -> usize;
     pub(crate) fn squall_course_close(course: *mut RawCourse);

@@ -1,8 +1,8 @@
 //! The library as a Rust program sees it. Expected values are those of the worked examples.
 
 use squall::{
-    Course, Error, FrameFault, Leg, Move, Next, Place, PlanFault, Rank, Reply, Router, View, frame,
-    key_of,
+    Course, Error, FrameFault, Leg, Move, Next, Place, PlanFault, Rank, Reply, Router, Span, View,
+    frame, key_of,
 };
 use std::sync::Mutex;
 use std::thread;
@@ -299,6 +299,44 @@ fn the_course_of_the_examples() -> Result<(), Error> {
     let again = Course::open(1, old.as_bytes(), new.as_bytes())?;
     assert_eq!(again.moves(), moves);
     assert_eq!(again.old_text()?, old);
+    Ok(())
+}
+
+#[test]
+fn where_a_course_leaves_the_keys() -> Result<(), Error> {
+    let course = Course::open(1, OLD, NEW)?;
+    let span = |lo, hi| Span { lo, hi };
+    let loaded = [
+        span(key(7), Rank::END),
+        span(key(2), Rank::new(2, 5)),
+        span(key(7), key(8)),
+    ];
+    let left = course.left(&loaded)?;
+    let back = Course::open(2, left.as_bytes(), OLD)?;
+    let moves = [
+        moving(key(2), Rank::new(2, 5), 3, 1),
+        moving(key(7), key(9), 4, 3),
+    ];
+    assert_eq!(back.moves(), moves);
+    assert_eq!(course.left(&[])?, course.old_text()?);
+    assert_eq!(
+        course.left(&[span(Rank(0), Rank::END)])?,
+        course.new_text()?
+    );
+    assert_eq!(course.left(&[span(key(2), key(2))]), Err(Error::Limit));
+    // Each second key of one partition: no plan has so many ranges.
+    let (one, two) = (striped(|_| 1), striped(|_| 2));
+    let course = Course::open(1, one.as_bytes(), two.as_bytes())?;
+    let odd: Vec<Span> = (0..2048)
+        .map(|it| span(Rank(2 * it + 1), Rank(2 * it + 2)))
+        .collect();
+    assert_eq!(course.left(&odd), Err(Error::Limit));
+    assert_eq!(
+        Course::open(2, course.left(&odd[1..])?.as_bytes(), one.as_bytes())?
+            .moves()
+            .len(),
+        2047
+    );
     Ok(())
 }
 

@@ -6,7 +6,7 @@ use Rattle.squall_plan.specs.Form.{plan_of_text}
 use Rattle.squall_course.specs.Change.{Change}
 use Rattle.squall_leader.specs.declared.fault.LeaderFault.{LeaderFault}
 use Rattle.squall_leader.specs.declared.fault.LeaderFault.TheVariants.{Running, NoNumber, Idle, NotDone, NoMore, NoMemory}
-use Rattle.squall_leader.specs.Leaders.{LeaderValue, new_leader, IsFinished}
+use Rattle.squall_leader.specs.Leaders.{new_leader, IsFinished}
 use Rattle.squall_c_values.specs.Rooms.{over}
 use Rattle.squall_c_frames.specs.declared.fault.FrameFault.{FrameFault}
 use Rattle.squall_c_frames.specs.declared.fault.FrameFault.TheVariants.{TooLong, NoMemory as NoMemoryForFrames}
@@ -18,7 +18,7 @@ use Rattle.squall_c.specs.declared.status.Cause.{Cause}
 use Rattle.squall_c.specs.declared.courses.HeldCourse.{HeldCourse}
 use Rattle.squall_c.specs.declared.courses.CourseSlot.{CourseSlot}
 use Rattle.squall_c.specs.declared.leaders.LeaderSlot.{LeaderSlot}
-use Rattle.squall_c.specs.Status.{ok, no_memory, closed, too_long, no_digest, no_place, in_new_plan, plan_status, plan_place, cause_with, cause_of_fault}
+use Rattle.squall_c.specs.Status.{ok, no_memory, closed, too_long, no_digest, no_place, in_new_plan, cause_with, cause_of_fault, plan_or_cause}
 use Rattle.squall_c_frames.specs.FrameStatus.{hear_status, feed_status}
 use Rattle.squall_c.specs.Courses.{IsSlotWith, IsCourseSlot, course_seen}
 
@@ -137,22 +137,24 @@ abbrev pub leader_waiting_bytes : Option NodeValue → ℕ
 leader_waiting_bytes None = 0
 leader_waiting_bytes (Some n) = length n.feed.waiting
 
--- a slot after it was to begin a course to the plan; or its text is none, and the slot keeps where the fault lies
-abbrev pub begins_plan : LeaderSlot → NodeValue → Result (List PlanRange) PlanFault → LeaderSlot → ℕ → Type 0
-begins_plan old n (Ok plan) new status = Answers begin_number (Begins plan) old n new status
-begins_plan old n (Err fault) new status = (status ≡ plan_status in_new_plan fault) × (new ≡ record old { fault_at = plan_place fault })
+-- a slot after a course was to be begun so between the plans; or a text is none, and the slot keeps where the fault lies
+abbrev pub begins_so : {X : Type 0} → (X → NodeValue → Result (Unit {0}) LeaderFault → NodeValue → Type 0) → LeaderSlot → NodeValue → Result X Cause → LeaderSlot → ℕ → Type 0
+begins_so Acts old n (Ok plans) new status = Answers begin_number (Acts plans) old n new status
+begins_so Acts old n (Err cause) new status = (status ≡ cause.status) × (new ≡ record old { fault_at = cause.at })
 
 -- the same, or an allocation failed and nothing changed
-pub record BeginsIn (old : LeaderSlot) (n : NodeValue) (text : List ℕ) (new : LeaderSlot) (status : ℕ) : Type 0 where
-  pub begins : status ≢ no_memory → begins_plan old n (plan_of_text text) new status
+pub record BeginsIn {X : Type 0} (Acts : X → NodeValue → Result (Unit {0}) LeaderFault → NodeValue → Type 0) (old : LeaderSlot) (n : NodeValue) (plans : Result X Cause) (new : LeaderSlot) (status : ℕ) : Type 0 where
+  pub begins : status ≢ no_memory → begins_so Acts old n plans new status
   pub memory : status ≡ no_memory → new ≡ old
 
-abbrev pub leader_begins : LeaderSlot → Option NodeValue → List ℕ → LeaderSlot → ℕ → Type 0
-leader_begins old None text new status = (status ≡ closed) × (new ≡ old)
-leader_begins old (Some n) text new status = BeginsIn old n text new status
+-- the same if there is a leader
+abbrev pub leader_begins : {X : Type 0} → (X → NodeValue → Result (Unit {0}) LeaderFault → NodeValue → Type 0) → LeaderSlot → Option NodeValue → Result X Cause → LeaderSlot → ℕ → Type 0
+leader_begins Acts old None plans new status = (status ≡ closed) × (new ≡ old)
+leader_begins Acts old (Some n) plans new status = BeginsIn Acts old n plans new status
 
+-- a slot after a course was to be begun to the plan of the text
 abbrev pub LeaderBegins : List ℕ → LeaderSlot → LeaderSlot → ℕ → Type 0
-LeaderBegins text old new status = leader_begins old old.node text new status
+LeaderBegins text old new status = leader_begins Begins old old.node (plan_or_cause in_new_plan (plan_of_text text)) new status
 
 -- an old and a new plan, or the fault of the first that has one
 abbrev pub both_plans : Result (List PlanRange) PlanFault → Result (List PlanRange) PlanFault → Result (List PlanRange × List PlanRange) Cause
@@ -160,22 +162,9 @@ both_plans (Err fault) new = Err (cause_of_fault 0 fault)
 both_plans (Ok old) (Err fault) = Err (cause_of_fault in_new_plan fault)
 both_plans (Ok old) (Ok new) = Ok (old, new)
 
--- a slot after it was to begin a course from one plan to another; or one of the texts is none, and the slot keeps where the fault lies
-abbrev pub begins_plans : LeaderSlot → NodeValue → Result (List PlanRange × List PlanRange) Cause → LeaderSlot → ℕ → Type 0
-begins_plans old n (Ok plans) new status = Answers begin_number (BeginsFrom plans.0 plans.1) old n new status
-begins_plans old n (Err cause) new status = (status ≡ cause.status) × (new ≡ record old { fault_at = cause.at })
-
--- the same, or an allocation failed and nothing changed
-pub record BeginsFromIn (old : LeaderSlot) (n : NodeValue) (first second : List ℕ) (new : LeaderSlot) (status : ℕ) : Type 0 where
-  pub begins : status ≢ no_memory → begins_plans old n (both_plans (plan_of_text first) (plan_of_text second)) new status
-  pub memory : status ≡ no_memory → new ≡ old
-
-abbrev pub leader_begins_from : LeaderSlot → Option NodeValue → List ℕ → List ℕ → LeaderSlot → ℕ → Type 0
-leader_begins_from old None first second new status = (status ≡ closed) × (new ≡ old)
-leader_begins_from old (Some n) first second new status = BeginsFromIn old n first second new status
-
+-- the same from the plan of one text to that of another
 abbrev pub LeaderBeginsFrom : List ℕ → List ℕ → LeaderSlot → LeaderSlot → ℕ → Type 0
-LeaderBeginsFrom first second old new status = leader_begins_from old old.node first second new status
+LeaderBeginsFrom first second old new status = leader_begins (λ plans. BeginsFrom plans.0 plans.1) old old.node (both_plans (plan_of_text first) (plan_of_text second)) new status
 
 -- what the host is told of an opening: the sub-plan, or the one that is not done and the partition that is waited for
 abbrev pub numbers_told : Result ℕ LeaderFault → List ℕ

@@ -1,8 +1,9 @@
 -- What a router of the C library says of itself (this project).
-use Rattle.std.specs.Prelude.{◌≡◌, ◌≢◌, ℕ, Bool, List, [], ◌∷◌, length, take, Option, None, Some, Ok, ◌⊎◌}
+use Rattle.std.specs.Prelude.{◌≡◌, ◌≢◌, ◌<◌, ℕ, Bool, List, [], ◌∷◌, length, take, Option, None, Some, Ok, ◌⊎◌}
 use Rattle.squall_plan.specs.declared.range.PlanRange.{PlanRange}
 use Rattle.squall_plan.specs.Form.{plan_of_text}
 use Rattle.squall_plan.specs.PlanText.{text_of_plan}
+use Rattle.squall_plan.specs.Arranged.{range_limit}
 use Rattle.squall_course.specs.Change.{Change}
 use Rattle.squall_report.specs.Facts.{Fact}
 use Rattle.squall_board.specs.Boards.{says, issued}
@@ -15,6 +16,9 @@ use Rattle.squall_status.specs.declared.tally.Tally.{Tally}
 use Rattle.squall_status.specs.Tallies.{HasClashAbove, tally_of}
 use Rattle.squall_c_values.specs.Rooms.{over}
 use Rattle.squall_c_values.specs.ReportFrames.{no_count, room_with}
+use Rattle.squall_c_values.specs.declared.spans.CSpan.{CSpan}
+use Rattle.squall_leader.specs.Left.{AreLeft}
+use Rattle.squall_c_leaders.specs.LeftText.{spans_of, AreSpans, IsLeftText}
 use Rattle.squall_c.specs.declared.courses.HeldCourse.{HeldCourse}
 use Rattle.squall_c.specs.declared.router.Station.{Station}
 
@@ -87,3 +91,19 @@ PutsOldText (Some held) old new count = PutsText (IsPlanText held.course.old) ol
 abbrev pub PutsNewText : Option HeldCourse → List ℕ → List ℕ → ℕ → Type 0
 PutsNewText None old new count = (count ≡ 0) × (new ≡ old)
 PutsNewText (Some held) old new count = PutsText (IsPlanText held.course.new) old new count
+
+-- no plan has each key where the course leaves it if those of the spans are loaded: it would have too many ranges
+abbrev pub IsTooMany : Change → List CSpan → Type 0
+IsTooMany c loaded = (plan : List PlanRange) → AreLeft c (spans_of loaded) plan → range_limit < length plan
+
+-- the text of that plan is written, if the room holds it, and its length answered; or a span is none, or no plan is so; or there
+-- was not the memory for it
+pub record PutsLeft (c : Change) (loaded : List CSpan) (old new : List ℕ) (count : ℕ) : Type 0 where
+  pub put : count ≢ 0 → count ≢ no_count → AreSpans loaded × ((text : List ℕ) × IsLeftText c (spans_of loaded) text × (new ≡ room_with text old) × (count ≡ length text))
+  pub none : count ≡ 0 → (new ≡ old) × ((AreSpans loaded → ⊥) ⊎ IsTooMany c loaded)
+  pub memory : count ≡ no_count → new ≡ old
+
+-- the same if there is a course
+abbrev pub PutsLeftText : Option HeldCourse → List CSpan → List ℕ → List ℕ → ℕ → Type 0
+PutsLeftText None loaded old new count = (count ≡ 0) × (new ≡ old)
+PutsLeftText (Some held) loaded old new count = PutsLeft held.course loaded old new count

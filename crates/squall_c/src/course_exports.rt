@@ -6,7 +6,7 @@ ghost use Rattle.std.specs.Borrow.{sem};
 ghost use Rattle.squall_router.specs.Routers.{course_of_router};
 ghost use Rattle.squall_c.specs.declared.router.RouterSlot.{RouterSlot};
 ghost use Rattle.squall_c.specs.declared.courses.CourseSlot.{CourseSlot};
-ghost use Rattle.squall_c.specs.Telling.{PutsOldText, PutsNewText};
+ghost use Rattle.squall_c.specs.Telling.{PutsOldText, PutsNewText, PutsLeftText};
 ghost use Rattle.squall_c.specs.Handles.{course_bytes, router_at, course_room, course_at, course_such};
 ghost use Rattle.squall_c_values.specs.Rooms.{over};
 ghost use Rattle.squall_c.specs.Courses.{IsCourseOpened, IsCourseOf, number_of, subplans_of};
@@ -19,8 +19,8 @@ use crate::courses::{
 };
 use crate::handles::{CCourse, CRouter};
 use crate::router::RouterSlot;
-use crate::texts::{new_text, old_text};
-use squall_c_values::{CLeg, CMove};
+use crate::texts::{left_text, new_text, old_text};
+use squall_c_values::{CLeg, CMove, CSpan};
 use std::alloc::Global;
 
 /// How many bytes the room of a course has at least. It is aligned to 16.
@@ -219,6 +219,24 @@ pub unsafe extern "C" fn squall_course_new_text(course: *const CCourse, room: &m
     ensures* { sem 𝓛 (course_at course s) ∗ ⌜ PutsNewText s.course room.old room.new result ⌝ }
 {
     new_text(&*(course as *const CourseSlot), room)
+}
+
+/// Puts the text of the plan of where the course leaves the keys, if it ends early, into the room, if
+/// that holds it, and answers how many bytes it has. A key of the spans, which may overlap and come in
+/// any order, is at its new partition, and any other at its old one. The answer is 0 if there is no
+/// course, if a span has no key or ends above all keys, or if the plan would have more than 4096 ranges.
+/// It is the greatest number of its type if an allocation fails. If the room is too short, it stays.
+#[unsafe(no_mangle)]
+pub unsafe extern "C" fn squall_course_left(
+    course: *const CCourse,
+    loaded: &[CSpan],
+    room: &mut [u8],
+) -> usize
+    ghost s: { CourseSlot }
+    requires* { sem 𝓛 (course_at course s) }
+    ensures* { sem 𝓛 (course_at course s) ∗ ⌜ PutsLeftText s.course loaded.now room.old room.new result ⌝ }
+{
+    left_text(&*(course as *const CourseSlot), loaded, room)
 }
 
 /// Drops the course, and gives the room back. It goes with its last handle, and its last router.

@@ -1,15 +1,17 @@
-//! Texts: how far a router's newest course has come, the picture of it, and the plans of a course.
+//! Texts: how far a router's newest course has come, the picture of it, the plans of a course, and the plan of
+//! where a course leaves the keys.
 
 ghost use Rattle.std.specs.Prelude.{◌≡◌, IfOk, length, string_bytes};
 ghost use Rattle.squall_board.specs.Boards.{says};
 ghost use Rattle.squall_c_values.specs.ReportFrames.{room_with};
 ghost use Rattle.squall_c.specs.Telling.{AreLinesOf, IsStatusText, IsPicture, PutsStatus, PutsPicture};
-ghost use Rattle.squall_c.specs.Telling.{IsPlanText, PutsText, PutsOldText, PutsNewText};
+ghost use Rattle.squall_c.specs.Telling.{IsPlanText, PutsText, PutsOldText, PutsNewText, PutsLeft, PutsLeftText};
 
 use crate::courses::CourseSlot;
 use crate::router::{RouterSlot, Station};
 use squall_board::Board;
-use squall_c_values::NO_COUNT;
+use squall_c_leaders::LeftTextFault;
+use squall_c_values::{CSpan, NO_COUNT};
 use squall_course::Course;
 use squall_picture::picture;
 use squall_plan::{Plan, plan_text};
@@ -116,6 +118,29 @@ pub(crate) fn new_text(slot: &CourseSlot, room: &mut [u8]) -> usize
 {
     match &slot.course {
         Some(held) => put_plan(held.alloc, held.course.as_arc().new_plan(), room),
+        None => 0,
+    }
+}
+
+/// Writes the text of the plan of where the course leaves the keys, if those of the spans are loaded, into
+/// the room, if that holds it, and answers how many bytes it has. 0 if a span has no key or ends above all
+/// keys, or if the plan would have too many ranges; `NO_COUNT` if an allocation fails.
+fn put_left(alloc: Global, course: &Course, loaded: &[CSpan], room: &mut [u8]) -> usize
+    ensures { PutsLeft course.now loaded.now room.old room.new result }
+{
+    match squall_c_leaders::left_text(alloc, course, loaded) {
+        Ok(text) => put_bytes(text.as_bytes(), room),
+        Err(LeftTextFault::NoMemory) => NO_COUNT,
+        Err(_) => 0,
+    }
+}
+
+/// The same of the slot's course, and 0 if there is none.
+pub(crate) fn left_text(slot: &CourseSlot, loaded: &[CSpan], room: &mut [u8]) -> usize
+    ensures { PutsLeftText slot.now.course loaded.now room.old room.new result }
+{
+    match &slot.course {
+        Some(held) => put_left(held.alloc, held.course.as_arc(), loaded, room),
         None => 0,
     }
 }

@@ -1,6 +1,10 @@
 -- what the clauses here cite of the crates below
 pub use Rattle.squall_key.specs.Keys
+pub use Rattle.squall_span.specs.Spans
 pub use Rattle.squall_plan.specs.Ranges
+pub use Rattle.squall_plan.specs.Arranged
+pub use Rattle.squall_plan.specs.Form
+pub use Rattle.squall_plan.specs.PlanText
 pub use Rattle.squall_course.specs.Change
 pub use Rattle.squall_report.specs.Issues
 pub use Rattle.squall_board.specs.Boards
@@ -11,10 +15,12 @@ pub use Rattle.squall_wire.specs.DigestValue
 pub use Rattle.squall_wire.specs.Hearing
 pub use Rattle.squall_delta.specs.Pieces
 pub use Rattle.squall_leader.specs.Leaders
+pub use Rattle.squall_leader.specs.Left
 pub use Rattle.squall_c_frames.specs.Queues
 pub use Rattle.squall_c_frames.specs.BoardFrames
 pub use Rattle.squall_c_frames.specs.WholeFrames
 pub use Rattle.squall_c_frames.specs.Joined
+pub mod LeftText
 pub mod Nodes
 pub mod Feeding
 pub mod Replay

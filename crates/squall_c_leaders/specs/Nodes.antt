@@ -1,5 +1,5 @@
 -- What a leader behind a handle is, what it hears and which frames wait (this project).
-use Rattle.std.specs.Prelude.{◌≡◌, ℕ, ◌-◌, List, [], ◌∷◌, Option, None, Some, Result, Ok, Err}
+use Rattle.std.specs.Prelude.{◌≡◌, ℕ, ◌-◌, List, [], Option, None, Some, Result, Ok, Err}
 use Rattle.squall_plan.specs.declared.range.PlanRange.{PlanRange}
 use Rattle.squall_course.specs.Change.{Change}
 use Rattle.squall_report.specs.declared.report.ReportKind.{ReportKind}
@@ -45,21 +45,24 @@ begun_leader c = after_begin (new_leader c.old (c.number - 1)) c
 abbrev pub with_leader : NodeValue → LeaderValue → NodeValue
 with_leader n l = record n { leader = l }
 
--- a course to the plan was begun, or why not; all else is as it was
-abbrev pub Begins : List PlanRange → NodeValue → Result (Unit {0}) LeaderFault → NodeValue → Type 0
-Begins plan n (Ok done) m = (c : Change) × IsBegun n.leader plan (Ok c) m.leader × (m ≡ with_leader n m.leader)
-Begins plan n (Err fault) m = IsBegun n.leader plan (Err fault) m.leader × (m ≡ with_leader n m.leader)
+-- a course was begun so, or the fault says why it was not; nothing but the leader has changed
+abbrev pub BeginsSo : (LeaderValue → Result Change LeaderFault → LeaderValue → Type 0) → NodeValue → Result (Unit {0}) LeaderFault → NodeValue → Type 0
+BeginsSo IsSo n (Ok done) m = (c : Change) × IsSo n.leader (Ok c) m.leader × (m ≡ with_leader n m.leader)
+BeginsSo IsSo n (Err fault) m = IsSo n.leader (Err fault) m.leader × (m ≡ with_leader n m.leader)
 
--- a course from one plan to another was begun, or why not; all else is as it was
+-- a course to the plan was begun so
+abbrev pub Begins : List PlanRange → NodeValue → Result (Unit {0}) LeaderFault → NodeValue → Type 0
+Begins plan n answer m = BeginsSo (λ l begun k. IsBegun l plan begun k) n answer m
+
+-- a course from one plan to another was begun so
 abbrev pub BeginsFrom : List PlanRange → List PlanRange → NodeValue → Result (Unit {0}) LeaderFault → NodeValue → Type 0
-BeginsFrom old new n (Ok done) m = (c : Change) × IsBegunFrom n.leader old new (Ok c) m.leader × (m ≡ with_leader n m.leader)
-BeginsFrom old new n (Err fault) m = IsBegunFrom n.leader old new (Err fault) m.leader × (m ≡ with_leader n m.leader)
+BeginsFrom old new n answer m = BeginsSo (λ l begun k. IsBegunFrom l old new begun k) n answer m
 
 -- the number is that of the sub-plan that the report says opened
 abbrev pub OpensAs : ReportKind PlanPair → ℕ → Type 0
 OpensAs report sub = (number opened : ℕ) → report ≡ Opened number opened → sub ≡ opened
 
--- the next sub-plan was opened, which is the one that the leader counted, or why not; all else is as it was
+-- the next sub-plan was opened, which is the one that the leader counted, or the fault says why it was not; nothing but the leader has changed
 abbrev pub Opens : NodeValue → Result ℕ LeaderFault → NodeValue → Type 0
 Opens n (Ok sub) m = (report : ReportKind PlanPair) × IsOpened n.leader (Ok report) m.leader × (sub ≡ n.leader.opened) × (m ≡ with_leader n m.leader)
 Opens n (Err fault) m = IsOpened n.leader (Err fault) m.leader × (m ≡ with_leader n m.leader)
